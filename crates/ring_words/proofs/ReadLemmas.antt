@@ -38,7 +38,7 @@ shown_none c e = rw e refl
 shown_one : (c : Claim) → c.state ≡ Committed → shown c ≡ c.message ∷ []
 shown_one c e = rw e refl
 
--- the next_place claim lies where the head is
+-- the next claim lies where the head is
 head_at : (C e h : ℕ) (passed rest : List Claim) (c : Claim) (others : List Claim) → 0 < C → span_of c ≤ C → rest ≡ c ∷ others → IsHeadAfter C e passed rest h
     → next_place C h (span_of c) ≡ next_place C (end_of C e passed) (span_of c)
 head_at C e h passed rest c others some short is at =

@@ -1,27 +1,33 @@
 //! The ring with one owner.
-ghost use Rattle.std.specs.Prelude.{◌≡◌, ℕ, ◌+◌, ◌-◌, ◌*◌, ◌/◌, ◌%◌, ◌^◌, ◌<◌, ◌≤◌, ◌↔◌, slice_get, ℤ, pos, ◌≤ℤ◌, ◌≢◌, ◌&&◌, ◌==◌, nat_lt, List, ◌∷◌, length, IfOk, OnOk, OnErr};
+ghost use Rattle.std.specs.Prelude.{◌≡◌, ℕ, ◌+◌, ◌-◌, ◌*◌, ◌/◌, ◌%◌, ◌^◌, ◌<◌, ◌≤◌, ◌↔◌, slice_get, ℤ, pos, ◌≤ℤ◌, ◌≢◌, ◌&&◌, ◌==◌, nat_lt, List, ◌∷◌, length, IfOk, OnOk, OnErr, IsTrue, is_err};
 ghost use Rattle.ring_words.specs.Ring.{head_of, tail_of, Has, IsRing};
 ghost use Rattle.ring_layout.specs.declared.message.Claim.{Claim};
 ghost use Rattle.ring_layout.specs.declared.message.Message.{Message};
 ghost use Rattle.ring_layout.specs.History.{committed_of};
+ghost use Rattle.ring_layout.specs.Places.{IsCapacity};
 ghost use Rattle.ring_layout.specs.Headers.{padding_type};
 ghost use Rattle.ring_words.specs.Reading.{Sees, SeesCommitted, IsBlocked, Leaves, MovesHead};
 ghost use Rattle.ring_words.specs.Read.{Reads, stop_of};
 ghost use Rattle.ring_words.specs.declared.action.Action.{Action};
 ghost use Rattle.ring_words.specs.Refusal.{refusal_of, IsRefusedBy};
 ghost use Rattle.ring_words.specs.Fresh.{fresh, make_refusal_of, IsMadeUnless};
-ghost use Rattle.ring_words.specs.Change.{AppendsClaim, IsAdmitted, written};
+ghost use Rattle.ring_layout.specs.declared.message.ClaimState.TheVariants.{Committed, Aborted};
+ghost use Rattle.ring_words.specs.Open.{ClaimAt, IsOpen, IsOpenIn, fresh_claim};
+ghost use Rattle.ring_words.specs.Change.{AppendsClaim, PutsInto, Settles, opened, written};
+ghost use Rattle.ring_words.specs.Storing.{IsAdmitted};
 
-use crate::appending::{Admission, append};
-use crate::fault::{ClaimFault, MakeFault};
+use crate::appending::{Admission, append_claim, append_message};
+use crate::claim::SoloClaim;
+use crate::fault::{ClaimFault, MakeFault, PutRange};
 use crate::handler::Handler;
 use crate::read_end::{ReadEnd, Stop};
+use crate::settling::{put_bytes, settle};
 use crate::taking::{Settled, settled_at_head, show_at_head, take_at_head};
-use ring_layout::record_descriptor::PADDING_MSG_TYPE_ID;
+use ring_layout::record_descriptor::{HEADER_LENGTH, PADDING_MSG_TYPE_ID};
 use ring_layout::ring_buffer_descriptor::{
     HEAD_CACHE_POSITION_WORD, HEAD_POSITION_WORD, MAX_POSITION, TAIL_POSITION_WORD, TRAILER_WORDS,
 };
-use ring_layout::{is_capacity, max_message, pad_and_span};
+use ring_layout::{ClaimState, is_capacity, max_message, pad_and_span};
 use std::alloc::Global;
 use std::marker::Model;
 
@@ -29,6 +35,15 @@ use std::marker::Model;
 pub struct Positions {
     pub head: u64,
     pub tail: u64,
+}
+
+/// The claim of a record that was admitted.
+fn new_claim(capacity: u32, admission: Admission, type_id: i32, len: usize) -> SoloClaim
+    requires { IsCapacity capacity }
+    ensures { result ≡ record { place = admission.place; index = admission.place % capacity + 8; type_id = type_id; len = len } }
+{
+    let index = (admission.place % u64::from(capacity)) as u32 + HEADER_LENGTH as u32;
+    SoloClaim::new(admission.place, index, type_id, len)
 }
 
 /// A ring of messages with one owner.
@@ -135,20 +150,89 @@ impl SoloRing {
     }
 
     /// Writes a message: it is claimed, stored and committed.
+    ///
+    /// It refuses, in this order, with `BadType` a type id below 1, with `TooLong` a body of more than an eighth of the
+    /// capacity, with `PositionLimit` a record that would end above 2^62, and with `InsufficientCapacity` one that does
+    /// not fit. Then nothing is changed.
     pub fn write(&mut self, type_id: i32, body: &[u8]) -> Result<(), ClaimFault>
         ensures refused { IsRefusedBy (refusal_of self.old type_id (length body.now)) result }
         ensures same { OnErr result (self.new ≡ self.old) }
         ensures claimed { OnOk result (AppendsClaim self.old (written type_id body.now) self.new) }
+        ensures claims { (t : ClaimAt) → IsOpen self.old t → IsOpen self.new t }
     {
         let admission = self.admit(type_id, body.len())?;
-        append(&mut self.words, self.capacity, admission, type_id, body);
+        append_message(&mut self.words, self.capacity, admission, type_id, body);
         Ok(())
     }
 
-    /// States that the ring has a history, and that all histories that it has show the same messages.
+    /// Claims room for a message of `len` bytes, which are 0 until they are `put`. It refuses as `write` does. Several
+    /// claims may be open at once.
+    pub fn claim(&mut self, type_id: i32, len: usize) -> Result<SoloClaim, ClaimFault>
+        ensures refused { IsRefusedBy (refusal_of self.old type_id len) result }
+        ensures same { OnErr result (self.new ≡ self.old) }
+        ensures claimed { OnOk result (AppendsClaim self.old (opened type_id len) self.new) }
+        ensures claim { IfOk result (λ t. t ≡ fresh_claim self.old type_id len) }
+        ensures is_open { IfOk result (IsOpen self.new) }
+        ensures claims { (t : ClaimAt) → IsOpen self.old t → IsOpen self.new t }
+        ensures apart { IfOk result (λ new. (t : ClaimAt) → IsOpen self.old t → t.place ≢ new.place) }
+    {
+        let admission = self.admit(type_id, len)?;
+        append_claim(&mut self.words, self.capacity, admission, type_id, len);
+        Ok(new_claim(self.capacity, admission, type_id, len))
+    }
+
+    /// Puts bytes into an open claim of this ring, from the byte `offset` of its body on. It refuses bytes that do not
+    /// lie inside the body, and then nothing is changed.
+    pub fn put(
+        &mut self,
+        claim: &mut SoloClaim,
+        offset: usize,
+        bytes: &[u8],
+    ) -> Result<(), PutRange>
+        requires { IsOpen self.old claim.old }
+        ensures refused { IsTrue (is_err result) ↔ (claim.old.len < offset + length bytes.now) }
+        ensures same { OnErr result (self.new ≡ self.old) }
+        ensures put { OnOk result (PutsInto self.old claim.old.place offset bytes.now self.new) }
+        ensures claim { claim.new ≡ claim.old }
+        ensures claims { (t : ClaimAt) → IsOpen self.old t → IsOpen self.new t }
+    {
+        let len = claim.len();
+        if offset > len || bytes.len() > len - offset {
+            return Err(PutRange);
+        }
+        put_bytes(&mut self.words, self.capacity, claim, offset, bytes);
+        Ok(())
+    }
+
+    /// Settles an open claim of this ring: the reader is shown its message.
+    pub fn commit(&mut self, claim: SoloClaim)
+        requires { IsOpen self.old claim }
+        ensures settled { Settles self.old claim.place Committed self.new }
+        ensures others { (t : ClaimAt) → IsOpen self.old t → t.place ≢ claim.place → IsOpen self.new t }
+    {
+        settle(
+            &mut self.words,
+            self.capacity,
+            &claim,
+            ClaimState::Committed,
+        );
+    }
+
+    /// Settles an open claim of this ring: the reader passes it.
+    pub fn abort(&mut self, claim: SoloClaim)
+        requires { IsOpen self.old claim }
+        ensures settled { Settles self.old claim.place Aborted self.new }
+        ensures others { (t : ClaimAt) → IsOpen self.old t → t.place ≢ claim.place → IsOpen self.new t }
+    {
+        settle(&mut self.words, self.capacity, &claim, ClaimState::Aborted);
+    }
+
+    /// States that the ring has a history, and that all histories that it has show the same messages and have the same
+    /// open claims. It computes nothing.
     pub fn history_law(&self)
         ensures some { (h : List Claim) × Has self.now h }
         ensures one { (h g : List Claim) → Has self.now h → Has self.now g → committed_of h ≡ committed_of g }
+        ensures claims { (t : ClaimAt) → IsOpen self.now t → (h : List Claim) → Has self.now h → IsOpenIn self.now.capacity (head_of self.now) h t }
     {
         let _ = &self.words;
     }
