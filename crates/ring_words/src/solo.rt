@@ -1,14 +1,13 @@
 //! The ring with one owner.
-ghost use Rattle.std.specs.Prelude.{◌≡◌, ℕ, ◌+◌, ◌-◌, ◌*◌, ◌/◌, ◌%◌, ◌^◌, ◌<◌, ◌≤◌, ◌↔◌, slice_get, ℤ, pos, ◌≤ℤ◌, ◌≢◌, ◌&&◌, ◌==◌, nat_lt, List, ◌∷◌, length, IfOk, OnOk, OnErr, IsTrue, is_err};
-ghost use Rattle.ring_words.specs.Ring.{head_of, tail_of, Has, IsRing};
+ghost use Rattle.std.specs.Prelude.{◌≡◌, ℕ, ◌+◌, ◌-◌, ◌*◌, ◌/◌, ◌%◌, ◌^◌, ◌<◌, ◌≤◌, ◌↔◌, slice_get, ℤ, pos, ◌≤ℤ◌, ◌≢◌, ◌&&◌, ◌==◌, nat_lt, List, ◌∷◌, length, IfOk, OnOk, OnErr, IsTrue, is_err, vec_len};
+ghost use Rattle.ring_words.specs.Ring.{ring, head_of, tail_of, Has, IsRing};
 ghost use Rattle.ring_layout.specs.declared.message.Claim.{Claim};
 ghost use Rattle.ring_layout.specs.declared.message.Message.{Message};
 ghost use Rattle.ring_layout.specs.History.{committed_of};
 ghost use Rattle.ring_layout.specs.Places.{IsCapacity};
 ghost use Rattle.ring_layout.specs.Headers.{padding_type};
 ghost use Rattle.ring_words.specs.Reading.{Sees, SeesCommitted, IsBlocked, Leaves, MovesHead};
-ghost use Rattle.ring_words.specs.Read.{Reads, stop_of};
-ghost use Rattle.ring_words.specs.declared.action.Action.{Action};
+ghost use Rattle.ring_words.specs.Read.{Reads, Controls, stop_of};
 ghost use Rattle.ring_words.specs.Refusal.{refusal_of, IsRefusedBy};
 ghost use Rattle.ring_words.specs.Fresh.{fresh, make_refusal_of, IsMadeUnless};
 ghost use Rattle.ring_layout.specs.declared.message.ClaimState.TheVariants.{Committed, Aborted};
@@ -19,6 +18,7 @@ ghost use Rattle.ring_words.specs.Storing.{IsAdmitted};
 use crate::appending::{Admission, append_claim, append_message};
 use crate::claim::SoloClaim;
 use crate::fault::{ClaimFault, MakeFault, PutRange};
+use crate::action::Action;
 use crate::handler::Handler;
 use crate::read_end::{ReadEnd, Stop};
 use crate::settling::{put_bytes, settle};
@@ -31,6 +31,7 @@ use ring_layout::{ClaimState, is_capacity, max_message, pad_and_span};
 use std::alloc::Global;
 use std::marker::Model;
 
+/// Up to where messages were taken, and up to where room is claimed. Both are running byte counts.
 #[derive(Clone, Copy, Debug, PartialEq, Eq)]
 pub struct Positions {
     pub head: u64,
@@ -66,7 +67,8 @@ impl Model for SoloRing {
 }
 
 impl SoloRing {
-    /// Makes an empty ring that starts at position 0.
+    /// Makes an empty ring that starts at position 0. It refuses with `BadCapacity` a capacity that is no power of two
+    /// from 128 to 2^24, and then with `OutOfMemory`.
     pub fn new(alloc: Global, capacity: u32) -> Result<Self, MakeFault>
         ensures refused { IsMadeUnless (make_refusal_of capacity 0) result }
         ensures fresh { IfOk result (λ ring. ring ≡ fresh capacity 0) }
@@ -74,7 +76,8 @@ impl SoloRing {
         Self::new_at(alloc, capacity, 0)
     }
 
-    /// Makes an empty ring that starts at a multiple of its capacity.
+    /// Makes an empty ring that starts at a multiple of its capacity. It refuses with `BadCapacity`, then with `BadStart` a
+    /// start that is no multiple of the capacity or above 2^62, and then with `OutOfMemory`.
     pub fn new_at(alloc: Global, capacity: u32, start: u64) -> Result<Self, MakeFault>
         ensures refused { IsMadeUnless (make_refusal_of capacity start) result }
         ensures fresh { IfOk result (λ ring. ring ≡ fresh capacity start) }
@@ -100,21 +103,39 @@ impl SoloRing {
         })
     }
 
+    /// Makes a ring of words that are one already: the picture of a history, and its trailer. The scratch has room for the
+    /// longest message. What the words show is for the caller to prove.
+    pub fn from_words(capacity: u32, words: Vec<u64>, scratch: Vec<u8>) -> Self
+        requires ring { IsRing (ring capacity words.items) }
+        requires scratch { vec_len scratch ≡ capacity / 8 }
+        ensures { result ≡ ring capacity words.items }
+    {
+        SoloRing {
+            capacity,
+            words,
+            scratch,
+        }
+    }
+
+    /// The bytes of its buffer.
     pub fn capacity(&self) -> u32
         ensures { result ≡ self.now.capacity }
     {
         self.capacity
     }
 
+    /// A word of the buffer or, behind it, of the trailer.
     pub fn word(&self, index: usize) -> Option<u64>
         ensures { result ≡ slice_get self.now.words index }
     {
         self.words.get(index).copied()
     }
 
+    /// The head and the tail. The head is at most the tail, and that at most the head plus the capacity.
     pub fn positions(&self) -> Positions
         ensures head { result.head ≡ head_of self.now }
         ensures tail { result.tail ≡ tail_of self.now }
+        ensures ring { IsRing self.now }
     {
         let trailer = self.capacity as usize / 8;
         Positions {
@@ -246,13 +267,13 @@ impl SoloRing {
     }
 
     /// Shows the message at the head to the handler.
-    fn show<H: Handler>(&mut self, settled: Settled, handler: &mut H)
+    fn show<H: Handler>(&mut self, settled: Settled, handler: &mut H) -> Action
         requires seen { (h : List Claim) → Has self.old h → Sees self.old h (Some settled) }
         requires message { settled.type_id ≢ padding_type }
         requires ready { H.ready handler.old }
         ensures same { self.new ≡ self.old }
         ensures ready { H.ready handler.new }
-        ensures shown { (m : Message) × (a : Action) × H.step handler.old m handler.new a
+        ensures shown { (m : Message) × H.step handler.old m handler.new result
             × ((c : Claim) (rest : List Claim) → Has self.old (c ∷ rest) → SeesCommitted self.old c settled → c.message ≡ m) }
     {
         show_at_head(
@@ -261,7 +282,7 @@ impl SoloRing {
             &mut self.scratch,
             settled,
             handler,
-        );
+        )
     }
 
     /// Passes the settled record or padding at the head.
@@ -282,7 +303,25 @@ impl SoloRing {
         start < head && head % u64::from(self.capacity) == 0
     }
 
-    /// Reads at most `limit` messages, and takes every action of the handler as `Continue`.
+    /// What a read that began at the head `start` did.
+    fn read_end(&self, start: u64, messages: u32, stopped: Stop) -> ReadEnd
+        requires { start ≤ head_of self.now }
+        ensures messages { result.messages ≡ messages }
+        ensures bytes { start + result.bytes ≡ head_of self.now }
+        ensures stopped { result.stopped ≡ stopped }
+    {
+        ReadEnd {
+            messages,
+            bytes: self.positions().head - start,
+            stopped,
+        }
+    }
+
+    /// Reads at most `limit` messages, and takes every action of the handler as `Continue`. The handler is shown each
+    /// message in a copy.
+    ///
+    /// It stops with `Limit` where `limit` messages were read, else with `Block` where it came to the end of the buffer, else
+    /// with `Unpublished` where no settled record lies at the head. What it passes is set to 0, and then the head moves.
     pub fn read<H: Handler>(&mut self, limit: u32, handler: &mut H) -> ReadEnd
         requires { H.ready handler.old }
         ensures ready { H.ready handler.new }
@@ -290,29 +329,66 @@ impl SoloRing {
         ensures bytes { head_of self.old + result.bytes ≡ head_of self.new }
         ensures stopped { result.stopped ≡ stop_of self.new.capacity limit result.messages (head_of self.new) result.bytes }
         ensures blocked { result.stopped ≡ Stop.Unpublished → (h : List Claim) → Has self.new h → IsBlocked self.new h }
+        ensures claims { (t : ClaimAt) → IsOpen self.old t → IsOpen self.new t }
     {
         let start = self.positions().head;
         let mut messages = 0;
-        let stopped = 'turns: loop {
+        'turns: loop {
             if messages == limit {
-                break Stop::Limit;
+                return self.read_end(start, messages, Stop::Limit);
             }
             if self.is_at_end(start) {
-                break Stop::Block;
+                return self.read_end(start, messages, Stop::Block);
             }
             let Some(settled) = self.settled() else {
-                break Stop::Unpublished;
+                return self.read_end(start, messages, Stop::Unpublished);
             };
             if settled.type_id != PADDING_MSG_TYPE_ID {
                 self.show(settled, handler);
                 messages += 1;
             }
             self.pass(settled);
-        };
-        ReadEnd {
-            messages,
-            bytes: self.positions().head - start,
-            stopped,
+        }
+    }
+
+    /// Reads as `read` does, and heeds the handler's actions: `Abort` leaves the message and stops, `Break` takes it and
+    /// stops, both with `Action`; `Commit` and `Continue` go on. Padding and aborted records that were passed before a
+    /// message is left stay passed.
+    pub fn controlled_read<H: Handler>(&mut self, limit: u32, handler: &mut H) -> ReadEnd
+        requires { H.ready handler.old }
+        ensures ready { H.ready handler.new }
+        ensures controls { Controls H.step limit self.old self.new handler.old handler.new result }
+        ensures bytes { head_of self.old + result.bytes ≡ head_of self.new }
+        ensures blocked { result.stopped ≡ Stop.Unpublished → (h : List Claim) → Has self.new h → IsBlocked self.new h }
+        ensures claims { (t : ClaimAt) → IsOpen self.old t → IsOpen self.new t }
+    {
+        let start = self.positions().head;
+        let mut messages = 0;
+        'turns: loop {
+            if messages == limit {
+                return self.read_end(start, messages, Stop::Limit);
+            }
+            if self.is_at_end(start) {
+                return self.read_end(start, messages, Stop::Block);
+            }
+            let Some(settled) = self.settled() else {
+                return self.read_end(start, messages, Stop::Unpublished);
+            };
+            if settled.type_id == PADDING_MSG_TYPE_ID {
+                self.pass(settled);
+                continue;
+            }
+            match self.show(settled, handler) {
+                Action::Abort => return self.read_end(start, messages, Stop::Action),
+                Action::Break => {
+                    self.pass(settled);
+                    return self.read_end(start, messages + 1, Stop::Action);
+                }
+                Action::Commit | Action::Continue => {
+                    self.pass(settled);
+                    messages += 1;
+                }
+            }
         }
     }
 }
