@@ -1,5 +1,5 @@
 -- Where claims lie. Positions are running byte counts, and C is the capacity of the buffer.
-use Rattle.std.specs.Prelude.{◌≡◌, ℕ, ◌+◌, ◌-◌, ◌/◌, ◌%◌, ◌^◌, ◌≤◌, List, [], ◌∷◌, if◌then◌else◌, nat_le, Bool, ◌&&◌, IsTrue}
+use Rattle.std.specs.Prelude.{ℕ, ◌+◌, ◌-◌, ◌/◌, ◌%◌, ◌^◌, ◌≤◌, List, [], ◌∷◌, if◌then◌else◌, nat_le, Bool, ◌&&◌, IsTrue}
 use Rattle.std.specs.Int.{is_power_of_two}
 use Rattle.ring_layout.specs.History.{Claim, span_of}
 

@@ -10,7 +10,8 @@ use crate::ring_buffer_descriptor::{MAX_CAPACITY, MIN_CAPACITY};
 
 /// Tests whether a ring may have this capacity: a power of two from 128 to 2^24.
 pub fn is_capacity(capacity: u32) -> bool
-    ensures { result ≡ is_capacity capacity }
+    ensures test { result ≡ is_capacity capacity }
+    ensures lawful { IsTrue result ↔ IsCapacity capacity }
 {
     capacity.is_power_of_two() && capacity >= MIN_CAPACITY && capacity <= MAX_CAPACITY
 }

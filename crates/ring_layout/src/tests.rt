@@ -1,4 +1,7 @@
-use crate::{align8, fits, get_byte_word, is_capacity, max_message, pack_header, pad_and_span, put_bytes_word, unpack_header, word_depends_on_one_claim};
+use crate::{
+    align8, fits, get_byte_word, is_capacity, max_message, pack_header, pad_and_span,
+    put_bytes_word, unpack_header, word_depends_on_one_claim,
+};
 
 #[test]
 fn rounds_up_to_eight(rt: HostRuntime) {
@@ -17,17 +20,20 @@ fn packs_length_and_type_id(rt: HostRuntime) {
 
 #[test]
 fn pads_to_the_end_of_the_buffer(rt: HostRuntime) {
-    assert_eq!(rt; pad_and_span(128, 112, 16), (16, 24));
-    assert_eq!(rt; pad_and_span(128, 104, 16), (0, 24));
+    let capacity = 128;
+    assert!(rt; is_capacity(capacity));
+    assert_eq!(rt; pad_and_span(capacity, 112, 16), (16, 24));
+    assert_eq!(rt; pad_and_span(capacity, 104, 16), (0, 24));
 }
 
 #[test]
 fn admits_what_fits(rt: HostRuntime) {
-    assert_eq!(rt; fits(128, 120, 0, 16), false);
-    assert_eq!(rt; fits(128, 120, 0, 0), true);
-    assert_eq!(rt; max_message(128), 16);
-    assert_eq!(rt; is_capacity(128), true);
+    let capacity = 128;
+    assert!(rt; is_capacity(capacity));
     assert_eq!(rt; is_capacity(100), false);
+    assert_eq!(rt; fits(capacity, 120, 0, 16), false);
+    assert_eq!(rt; fits(capacity, 120, 0, 0), true);
+    assert_eq!(rt; max_message(capacity), 16);
     word_depends_on_one_claim();
 }
 

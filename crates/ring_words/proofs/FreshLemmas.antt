@@ -1,5 +1,5 @@
 -- A fresh ring is a ring with no claim.
-use Rattle.std.proofs.Common.{◌≡◌, ℕ, ◌+◌, ◌/◌, ◌%◌, ◌^◌, ◌<◌, ◌≤◌, ◌&&◌, nat_le, true, List, [], length, slice_index, slice_set, replicate, ap, sym, ◌∙◌, arith, get_or-set_other, get_or-set_same}
+use Rattle.std.proofs.Common.{◌≡◌, ℕ, ◌+◌, ◌/◌, ◌%◌, ◌<◌, ◌≤◌, List, [], length, slice_index, slice_set, replicate, ap, sym, ◌∙◌, arith, get_or-set_other, get_or-set_same}
 use Rattle.std.proofs.lemmas.List.{length-set, length-replicate, get_or-replicate}
 use Rattle.std.proofs.lemmas.List.Elements.{All-nil}
 use Rattle.std.proofs.lemmas.Nat.{mod_below}
@@ -8,11 +8,9 @@ use Rattle.std.proofs.Math.Nat.{mod-mod_of_dvd}
 use Rattle.ring_layout.specs.declared.message.Claim.{Claim}
 use Rattle.ring_layout.specs.History.{IsMessage}
 use Rattle.ring_words.specs.Ring.{IsRing, Has, head_of, tail_of}
-use Rattle.ring_layout.specs.Places.{is_capacity, IsCapacity, max_position}
+use Rattle.ring_layout.specs.Places.{IsCapacity, max_position}
 use Rattle.ring_layout.specs.Layout.{tail_index, head_cache_index, head_index}
 use Rattle.ring_words.specs.Fresh.{fresh}
-use Rattle.std.specs.Int.{is_power_of_two}
-use Rattle.std.proofs.lemmas.Bool.{and_parts, leb-true}
 use Rattle.ring_layout.proofs.CapacityLemmas.{capacity_blocks}
 use Rattle.ring_layout.proofs.PictureLemmas.{word_at_none}
 
@@ -73,10 +71,3 @@ module _ (C start : ℕ) (lawful : IsCapacity C) (lap : start % C ≡ 0) (limit 
     limit = omega (arith, tail_is);
     history = ([], has_none);
   }
-
--- what the test of a capacity tells
-pub lawful_from : (C : ℕ) → is_capacity C ≡ true → IsCapacity C
-lawful_from C h =
-    let outer = and_parts (is_power_of_two C && nat_le 128 C) (nat_le C (2 ^ 24)) h in
-    let inner = and_parts (is_power_of_two C) (nat_le 128 C) outer.0 in
-    record { power = inner.0; least = leb-true 128 C inner.1; most = leb-true C (2 ^ 24) outer.1 }
