@@ -1,5 +1,6 @@
 -- What is written is the spelling of a command.
-use Rattle.std.proofs.Common.{◌≡◌, ℕ, ℤ, ◌<◌, List, [], ◌++◌, length, get_or, take, drop, Option, Some, Ok, sym, FitsSigned, to_z, of_z, w32, w64, refl, ap, subst, ◌∙◌, append_assoc}
+use Rattle.std.proofs.Common.{◌≡◌, ℕ, ℤ, ◌<◌, List, [], ◌++◌, length, get_or, take, drop, Option, None, Some, Ok, sym, FitsSigned, to_z, of_z, w32, w64, refl, ap, subst, ◌∙◌, append_assoc}
+use Rattle.std.specs.Prelude.{IfSome}
 use Rattle.std.specs.Int.{Width, to_le_bytes}
 use Rattle.std.proofs.lemmas.Int.{to_z-of_z}
 use Rattle.std.proofs.lemmas.List.{append-nil, take_at}
@@ -7,20 +8,25 @@ use Rattle.std.proofs.lemmas.List.Elements.{All-from_get_or}
 use Rattle.ring_conductor.specs.Field.{AreBytes, u32_field, u64_field, i32_field, i64_field, sized_field}
 use Rattle.ring_conductor.specs.declared.replies.Reply.{Reply}
 use Rattle.ring_conductor.specs.Reply as reply
-use Rattle.ring_conductor.specs.Command.{Instruction, Allocate, Free, Set, AllocateOwned, Close, type_id_of, spelling_of, HasSpelling}
+use Rattle.ring_conductor.specs.Command.{Instruction, Allocate, Free, Set, AllocateOwned, Close, type_id_of, spelling_of, HasSpelling, HasShortTexts}
 use Rattle.ring_conductor.specs.Reading.{command_of, reply_of}
 use Rattle.ring_conductor.specs.Writing.{Writes, Encodes, EncodesReply, over_start}
 use Rattle.ring_conductor.proofs.ReadCommands as commands
 use Rattle.ring_conductor.proofs.ReadReplies as replies
 
-pub encodes : (c : Instruction) (text old new : List ℕ) (result : Option ℕ) → HasSpelling c → text ≡ spelling_of c → Writes text old new result → Encodes c old new result
-encodes c text old new result has e w =
-    let spelled : Writes (spelling_of c) old new result = subst (λ (t : List ℕ). Writes t old new result) e w in
+if_some : {A : Type 0} (o : Option A) (P : Type 0) → P → IfSome o (λ n. P)
+if_some None P p = tt
+if_some (Some x) P p = p
+
+pub encodes : (c : Instruction) (text old new : List ℕ) (result : Option ℕ) → HasShortTexts c → HasSpelling c → text ≡ spelling_of c → Writes text old new result → Encodes c old new result
+encodes c text old new result short has e w =
+    let written : Writes (spelling_of c) old new result = subst (λ (t : List ℕ). Writes t old new result) e w in
     record {
-      fits = (λ some. (has, spelled.fits.0 some), λ h. spelled.fits.1 h.1);
-      len = spelled.len;
-      some = spelled.some;
-      none = spelled.none;
+      fits = (λ some. (short, written.fits.0 some), λ h. written.fits.1 h.1);
+      spelled = if_some result (HasSpelling c) has;
+      len = written.len;
+      some = written.some;
+      none = written.none;
     }
 
 pub are_bytes : (xs : List ℕ) → ((i : ℕ) → get_or xs i 0 < 256) → AreBytes xs
@@ -91,7 +97,7 @@ command_bytes c old new n w = start_of (spelling_of c) old new n w.len w.some
 
 pub command_read_again : (c : Instruction) (old new : List ℕ) (n : ℕ) → Encodes c old new (Some n) → command_of (type_id_of c) (take n new) ≡ Ok c
 command_read_again c old new n w =
-    commands.spelled_again (type_id_of c) (take n new) c (record { has_spelling = (w.fits.0 refl).0; of_type = refl; spelled = sym (command_bytes c old new n w) })
+    commands.spelled_again (type_id_of c) (take n new) c (record { has_spelling = w.spelled; of_type = refl; spelled = sym (command_bytes c old new n w) })
 
 pub reply_bytes : (r : Reply) (old new : List ℕ) (n : ℕ) → EncodesReply r old new n → take n new ≡ reply.spelling_of r
 reply_bytes r old new n w = start_of (reply.spelling_of r) old new n w.len w.written

@@ -1,5 +1,5 @@
 -- What commands are, and the one spelling of each.
-use Rattle.std.specs.Prelude.{◌≡◌, ℕ, ℤ, pos, ◌<◌, ◌^◌, List, ◌++◌, FitsSigned}
+use Rattle.std.specs.Prelude.{◌≡◌, ℕ, ℤ, pos, ◌<◌, ◌^◌, List, ◌++◌, length, FitsSigned}
 use Rattle.std.specs.Int.{w32, w64}
 use Rattle.ring_conductor.specs.declared.commands.Command.{Command}
 use Rattle.ring_conductor.specs.declared.commands.Command.TheVariants as of
@@ -44,6 +44,12 @@ HasSpelling (Set correlation id value) = (correlation < 2 ^ 64) × (id < 2 ^ 32)
 HasSpelling (AllocateOwned correlation type_id owner key label) =
     (correlation < 2 ^ 64) × FitsSigned w32 type_id × (owner < 2 ^ 64) × IsSized key × IsSized label
 HasSpelling (Close correlation owner) = (correlation < 2 ^ 64) × (owner < 2 ^ 64)
+
+-- the key and the label are no longer than a length can say
+abbrev pub HasShortTexts : Instruction → Type 0
+HasShortTexts (Allocate correlation type_id key label) = (length key < 2 ^ 32) × (length label < 2 ^ 32)
+HasShortTexts (AllocateOwned correlation type_id owner key label) = (length key < 2 ^ 32) × (length label < 2 ^ 32)
+HasShortTexts c = Unit {0}
 
 -- a type id and a body are the spelling of a command
 pub record Spells (type_id : ℤ) (body : List ℕ) (c : Instruction) : Type 0 where

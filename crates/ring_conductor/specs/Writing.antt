@@ -1,7 +1,7 @@
 -- What is written over the start of an output.
 use Rattle.std.specs.Prelude.{◌≡◌, ℕ, ◌≤◌, ◌↔◌, List, ◌++◌, length, drop, Option, IsSome, IfSome, IfNone}
 use Rattle.ring_conductor.specs.declared.replies.Reply.{Reply}
-use Rattle.ring_conductor.specs.Command.{Instruction, spelling_of, HasSpelling}
+use Rattle.ring_conductor.specs.Command.{Instruction, spelling_of, HasSpelling, HasShortTexts}
 use Rattle.ring_conductor.specs.Reply as reply
 
 abbrev pub over_start : List ℕ → List ℕ → List ℕ
@@ -14,10 +14,11 @@ pub record Writes (text old new : List ℕ) (result : Option ℕ) : Type 0 where
   pub some : IfSome result (λ n. new ≡ over_start text old)
   pub none : IfNone result (new ≡ old)
 
--- The spelling of a command stands over the start of an output where there is one and it fits.
--- Otherwise nothing was written.
+-- The spelling of a command stands over the start of an output, where it fits and where lengths can say how long
+-- the key and the label are. Otherwise nothing was written.
 pub record Encodes (c : Instruction) (old new : List ℕ) (result : Option ℕ) : Type 0 where
-  pub fits : IsSome result ↔ (HasSpelling c × (length (spelling_of c) ≤ length old))
+  pub fits : IsSome result ↔ (HasShortTexts c × (length (spelling_of c) ≤ length old))
+  pub spelled : IfSome result (λ n. HasSpelling c)
   pub len : IfSome result (λ n. n ≡ length (spelling_of c))
   pub some : IfSome result (λ n. new ≡ over_start (spelling_of c) old)
   pub none : IfNone result (new ≡ old)

@@ -9,6 +9,7 @@ returns c =
     let key : IsSized c.args.key.now = (are_bytes c.args.key.now (λ i. omega (arith, c.type_inv.key i)), c.in_ok-len_field.ensures.fits.0 refl) in
     let label : IsSized c.args.label.now = (are_bytes c.args.label.now (λ i. omega (arith, c.type_inv.label i)), c.in_ok-len_field-2.ensures.fits.0 refl) in
     encodes (Allocate c.args.correlation c.args.type_id c.args.key.now c.args.label.now) _ _ _ _
+    (key.1, label.1)
     (c.ranges.correlation.fits, c.ranges.type_id, key, label)
     (allocate_text c.args.correlation c.args.type_id c.args.key.now c.args.label.now _ _ _ _ (is_u64 _ _ c.to_le_bytes.ensures) (is_i32 _ _ c.ranges.type_id c.to_le_bytes-2.ensures) c.in_ok-len_field.ensures.len c.in_ok-len_field-2.ensures.len)
     c.write_fields.ensures
