@@ -13,6 +13,7 @@ pub data Instruction : Type 0 where
   AllocateOwned : (correlation : ℕ) (type_id : ℤ) (owner : ℕ) (key label : List ℕ) → Instruction
   Close : (correlation owner : ℕ) → Instruction
 
+-- the type id of the message that spells a command
 abbrev pub type_id_of : Instruction → ℤ
 type_id_of (Allocate correlation type_id key label) = pos 1
 type_id_of (Free correlation id) = pos 2
@@ -20,6 +21,7 @@ type_id_of (Set correlation id value) = pos 3
 type_id_of (AllocateOwned correlation type_id owner key label) = pos 4
 type_id_of (Close correlation owner) = pos 5
 
+-- its body: the fields in this order, and nothing more
 abbrev pub spelling_of : Instruction → List ℕ
 spelling_of (Allocate correlation type_id key label) = u64_field correlation ++ i32_field type_id ++ sized_field key ++ sized_field label
 spelling_of (Free correlation id) = u64_field correlation ++ u32_field id
@@ -57,5 +59,6 @@ pub record Spells (type_id : ℤ) (body : List ℕ) (c : Instruction) : Type 0 w
   pub of_type : type_id_of c ≡ type_id
   pub spelled : spelling_of c ≡ body
 
+-- some command has the type id
 abbrev pub IsCommandType : ℤ → Type 0
 IsCommandType type_id = (c : Instruction) × (type_id_of c ≡ type_id)

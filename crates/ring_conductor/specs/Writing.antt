@@ -4,6 +4,7 @@ use Rattle.ring_conductor.specs.declared.replies.Reply.{Reply}
 use Rattle.ring_conductor.specs.Command.{Instruction, spelling_of, HasSpelling, HasShortTexts}
 use Rattle.ring_conductor.specs.Reply as reply
 
+-- the output with the text over its start
 abbrev pub over_start : List ℕ → List ℕ → List ℕ
 over_start text old = text ++ drop (length text) old
 

@@ -6,6 +6,7 @@ ghost use Rattle.ring_conductor.specs.Field.{u32_field};
 ghost use Rattle.ring_conductor.specs.Writing.{Writes};
 
 /// How many bytes the fields have together, where that is no more than the limit.
+#[inline]
 fn joined_len(fields: &[&[u8]], limit: usize) -> Option<usize>
     ensures fits { IsSome result ↔ (length (flat_map (λ field. field.now) fields.now) ≤ limit) }
     ensures len { IfSome result (λ n. n ≡ length (flat_map (λ field. field.now) fields.now)) }
@@ -18,6 +19,7 @@ fn joined_len(fields: &[&[u8]], limit: usize) -> Option<usize>
 }
 
 /// Writes the fields one after the other over the start of the output, where they fit.
+#[inline]
 pub fn write_fields(out: &mut [u8], fields: &[&[u8]]) -> Option<usize>
     ensures { Writes (flat_map (λ field. field.now) fields.now) out.old out.new result }
 {
@@ -32,6 +34,7 @@ pub fn write_fields(out: &mut [u8], fields: &[&[u8]]) -> Option<usize>
 
 /// The length of the bytes as it stands before them, where four bytes can say it.
 #[tactic(auto, unfolding(crate::specs::Field::u32_field))]
+#[inline]
 pub fn len_field(bytes: &[u8]) -> Option<[u8; 4]>
     ensures fits { IsSome result ↔ (length bytes.now < 2 ^ 32) }
     ensures len { IfSome result (λ field. field ≡ u32_field (length bytes.now)) }
