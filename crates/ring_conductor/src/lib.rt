@@ -1,0 +1,20 @@
+//! The conductor's protocol: how commands and replies are spelled as bytes, and read again.
+#![tactic(auto)]
+
+mod commands;
+mod faults;
+mod fields;
+mod laws;
+mod replies;
+
+pub use commands::Command;
+pub use commands::decode::decode_command;
+pub use commands::encode::encode_command;
+pub use faults::Bad;
+pub use laws::{command_round_trip, one_command, one_reply, reply_round_trip};
+pub use replies::Reply;
+pub use replies::decode::decode_reply;
+pub use replies::encode::encode_reply;
+
+#[cfg(test)]
+mod tests;
