@@ -1,4 +1,16 @@
-//! Where records lie, and the definitions that every crate names.
+//! Where records lie in a ring, how their words look, and the definitions that every crate names.
 #![tactic(auto)]
 
 pub mod counter_descriptor;
+mod message;
+mod picture_law;
+mod placement;
+pub mod record_descriptor;
+pub mod ring_buffer_descriptor;
+mod word_bytes;
+
+pub use message::{Claim, ClaimState, Message};
+pub use picture_law::word_depends_on_one_claim;
+pub use placement::{fits, is_capacity, max_message, pad_and_span};
+pub use record_descriptor::{align8, pack_header, unpack_header};
+pub use word_bytes::{get_byte_word, put_bytes_word};

@@ -1,0 +1,30 @@
+-- Headers give their length and type id back.
+use Rattle.std.proofs.Common.{◌≡◌, ℕ, ◌/◌, ◌%◌, ◌^◌, ◌<◌, ap, ◌∙◌, arith, ℤ, pos, negsuc, neg_ℤ, FitsSigned, zero, suc, ◌<ℤ◌, ◌≤ℤ◌}
+use Rattle.std.specs.Int.{cast_signed, cast_unsigned, w32}
+use Rattle.std.proofs.lemmas.Int.{to_z-of_z, ints}
+use Rattle.std.proofs.lemmas.Nat.{mod_low, shr_high}
+use Rattle.ring_layout.specs.Headers.{header}
+
+pub pattern_below : (z : ℤ) → FitsSigned w32 z → cast_unsigned w32 z < 2 ^ 32
+pattern_below (pos n) f = omega (arith, f.sfits)
+pattern_below (negsuc n) f = omega (arith, f.sfits)
+
+pub len_of-header : (len type_id : ℤ) → FitsSigned w32 len → cast_signed w32 (header len type_id % 2 ^ 32) ≡ len
+len_of-header len type_id f = ap (cast_signed w32) (mod_low (cast_unsigned w32 type_id) 32 (cast_unsigned w32 len) (pattern_below len f)) ∙ to_z-of_z w32 len f
+
+pub type_of-header : (len type_id : ℤ) → FitsSigned w32 len → FitsSigned w32 type_id → cast_signed w32 (header len type_id / 2 ^ 32) ≡ type_id
+type_of-header len type_id f g = ap (cast_signed w32) (shr_high (cast_unsigned w32 type_id) 32 (cast_unsigned w32 len) (pattern_below len f)) ∙ to_z-of_z w32 type_id g
+
+pub fits_pos : (n : ℕ) → n < 2 ^ 31 → FitsSigned w32 (pos n)
+fits_pos n h = record { sfits = omega arith }
+
+pub fits_neg : (n : ℕ) → n < 2 ^ 31 → FitsSigned w32 (neg_ℤ (pos n))
+fits_neg zero h = record { sfits = omega arith }
+fits_neg (suc n) h = record { sfits = omega arith }
+
+pub neg_not_above : (n : ℕ) → pos 0 <ℤ neg_ℤ (pos n) → ⊥
+neg_not_above zero h = omega (arith, ints)
+neg_not_above (suc n) h = omega (arith, ints)
+
+pub pos_not_below : (n : ℕ) → 0 < n → pos n ≤ℤ pos 0 → ⊥
+pos_not_below n h k = omega (arith, ints)

@@ -1,0 +1,6 @@
+pub mod Laps
+pub mod PlaceLemmas
+pub mod PictureLemmas
+pub mod WordBytes
+pub mod CapacityLemmas
+pub mod HeaderLemmas

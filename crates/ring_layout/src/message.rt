@@ -1,0 +1,24 @@
+//! Messages and claims as contracts speak of them. No value of these types is made: histories are lists of claims, and the ring has only words.
+use std::collections::LinkedList;
+
+/// A type id and a body of bytes.
+pub struct Message {
+    pub type_id: i32,
+    pub body: LinkedList<u8>,
+}
+
+/// How far a claim is.
+pub enum ClaimState {
+    /// Its room is claimed, and its body may still be written.
+    Open,
+    /// It is shown to the reader.
+    Committed,
+    /// The reader passes it.
+    Aborted,
+}
+
+/// A message with a state.
+pub struct Claim {
+    pub message: Message,
+    pub state: ClaimState,
+}

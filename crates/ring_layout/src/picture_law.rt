@@ -1,0 +1,11 @@
+//! What a word of the picture depends on.
+ghost use Rattle.std.specs.Prelude.{ℕ, List};
+ghost use Rattle.ring_layout.specs.History.{Claim};
+ghost use Rattle.ring_layout.specs.Picture.{ShowsClaim, ShowsNothingElse};
+
+/// States that a word of the picture depends on the one claim, padding or unclaimed room at its position alone. It
+/// computes nothing.
+pub fn word_depends_on_one_claim()
+    ensures claim { (capacity e : ℕ) (front : List Claim) (c : Claim) (back : List Claim) → ShowsClaim capacity e front c back }
+    ensures room { (capacity e : ℕ) (h : List Claim) → ShowsNothingElse capacity e h }
+{}

@@ -1,0 +1,60 @@
+//! The layout of a record, after Agrona's `RecordDescriptor`.
+//!
+//! ```text
+//!    0        4        8                        8 + n    span
+//!   +--------+--------+------------------------+--------+
+//!   | length | type   | message, n bytes       | zeros  |
+//!   +--------+--------+------------------------+--------+
+//!    the header word    length = 8 + n           up to a multiple of 8
+//! ```
+//!
+//! All numbers are little-endian. While a record is claimed and not settled its length is negated; an aborted
+//! record and padding have the type id -1. A header that is not yet stored is 0.
+ghost use Rattle.std.specs.Prelude.{◌≡◌, ◌+◌, ◌-◌, ◌*◌, ◌/◌, ◌%◌, ◌^◌, ◌≤◌, ℤ, FitsSigned};
+ghost use Rattle.std.specs.Int.{cast_signed, w32};
+ghost use Rattle.ring_layout.specs.Headers.{header};
+
+/// The bytes of a header.
+pub const HEADER_LENGTH: usize = 8;
+
+/// Where the length stands in a header, in bytes.
+pub const LENGTH_OFFSET: usize = 0;
+
+/// Where the type id stands in a header, in bytes.
+pub const TYPE_OFFSET: usize = 4;
+
+/// Where the message begins in a record, in bytes.
+pub const ENCODED_MSG_OFFSET: usize = HEADER_LENGTH;
+
+/// Records begin and end at multiples of this many bytes.
+pub const ALIGNMENT: usize = HEADER_LENGTH;
+
+/// The type id of padding and of aborted records.
+pub const PADDING_MSG_TYPE_ID: i32 = -1;
+
+/// Rounds a number of bytes, at most 2^64 - 8, up to a multiple of 8.
+pub fn align8(bytes: u64) -> u64
+    requires { bytes ≤ 2 ^ 64 - 8 }
+    ensures { result ≡ (bytes + 7) / 8 * 8 }
+{
+    (bytes + 7) & !7
+}
+
+/// The header word of a record: the length in the low half, the type id in the high half.
+pub fn pack_header(len: i32, type_id: i32) -> u64
+    ensures { result ≡ header len type_id }
+{
+    u64::from(type_id.cast_unsigned()) << 32 | u64::from(len.cast_unsigned())
+}
+
+/// The length and the type id of a header word. It undoes `pack_header`, and `pack_header` undoes it.
+pub fn unpack_header(word: u64) -> (i32, i32)
+    ensures len { result.0 ≡ cast_signed w32 (word % 2 ^ 32) }
+    ensures type_id { result.1 ≡ cast_signed w32 (word / 2 ^ 32) }
+    ensures packed { header result.0 result.1 ≡ word }
+    ensures unpacked { (len type_id : ℤ) → FitsSigned w32 len → FitsSigned w32 type_id → word ≡ header len type_id → (result.0 ≡ len) × (result.1 ≡ type_id) }
+{
+    let len = (word & 0xffff_ffff) as u32;
+    let type_id = (word >> 32) as u32;
+    (len.cast_signed(), type_id.cast_signed())
+}

@@ -1,0 +1,22 @@
+//! Bytes inside a word, the first one lowest.
+ghost use Rattle.std.specs.Prelude.{◌≡◌, ◌+◌, ◌*◌, ◌/◌, ◌%◌, ◌^◌, ◌<◌, ◌≤◌, length};
+ghost use Rattle.std.specs.Int.{from_le_bytes, to_le_bytes, w64};
+ghost use Rattle.ring_layout.specs.History.{overwritten};
+
+/// The word with these bytes in place of its own from the byte `at` on. The bytes lie inside the word.
+pub fn put_bytes_word(word: u64, at: usize, bytes: &[u8]) -> u64
+    requires { at + length bytes.now ≤ 8 }
+    ensures { result ≡ from_le_bytes w64 (overwritten at bytes.now (to_le_bytes w64 word)) }
+{
+    let mut all = word.to_le_bytes();
+    all[at..at + bytes.len()].copy_from_slice(bytes);
+    u64::from_le_bytes(all)
+}
+
+/// The byte `at` of a word, 0 to 7.
+pub fn get_byte_word(word: u64, at: usize) -> u8
+    requires { at < 8 }
+    ensures { result ≡ word / 2 ^ (8 * at) % 256 }
+{
+    ((word >> (8 * at)) & 0xff) as u8
+}

@@ -1,0 +1,9 @@
+pub mod StoreLemmas
+pub mod ClaimLemmas
+pub mod FreshLemmas
+pub mod HeadLemmas
+pub mod TakeLemmas
+pub mod BodyLemmas
+pub mod ReadLemmas
+pub mod UniqueLemmas
+pub mod MiddleLemmas

@@ -1,0 +1,231 @@
+-- The turns of a read.
+use Rattle.std.proofs.Common.{◌≡◌, ◌≢◌, ℕ, ◌+◌, ◌-◌, ◌%◌, ◌<◌, ◌≤◌, List, [], ◌∷◌, ◌++◌, length, refl, ap, sym, ◌∙◌, subst, arith, inl, inr, ℤ, pos, ◌≤ℤ◌, FitsSigned, to_z, of_z, nat_lt, ◌&&◌, ◌==◌, false}
+use Rattle.std.specs.Int.{w32}
+use Rattle.std.proofs.lemmas.Int.{ints, to_z-of_z}
+use Rattle.std.proofs.lemmas.Bool.{cases_lt, and_cases, ltb-false, eqb-false}
+use Rattle.std.proofs.lemmas.List.{append-nil, append_assoc, length_push}
+use Rattle.std.proofs.lemmas.List.Elements.{All-nil, All-push, All-head}
+use Rattle.std.proofs.lemmas.Nat.{mod_below}
+use Rattle.ring_words.specs.declared.action.Action.{Action}
+use Rattle.ring_words.specs.declared.taking.Settled.{Settled}
+use Rattle.ring_layout.specs.declared.message.Claim.{Claim}
+use Rattle.ring_layout.specs.declared.message.Message.{Message}
+use Rattle.ring_layout.specs.declared.message.ClaimState.TheVariants.{Open, Committed, Aborted}
+use Rattle.ring_layout.specs.History.{IsMessage, shown, committed_of, span_of}
+use Rattle.ring_layout.specs.Places.{room, next_place, end_after, end_of}
+use Rattle.ring_layout.specs.Headers.{padding_type}
+use Rattle.ring_words.specs.Ring.{Ring, Has, IsRing, head_of}
+use Rattle.ring_layout.specs.Handles.{Handles}
+use Rattle.ring_words.specs.Reading.{SeesCommitted, IsAtHead, Leaves, MovesHead}
+use Rattle.ring_words.specs.Read.{Reads, Passes, IsHeadAfter}
+use Rattle.ring_layout.proofs.Laps.{mod_step, mod_room}
+use Rattle.ring_layout.proofs.PlaceLemmas.{next_fixed, span_bounds, end_of-append}
+
+pub Handles-push : {S : Type 0} (step : S → Message → S → Action → Type 0) (s : S) (ms : List Message) (as' : List Action) (u : S) (m : Message) (a : Action) (v : S)
+    → Handles step s ms as' u → step u m v a → Handles step s (ms ++ m ∷ []) (as' ++ a ∷ []) v
+Handles-push {S} step s [] [] u m a v h k = (v, subst (λ (w : S). step w m v a) (sym h) k, refl)
+Handles-push step s [] (b ∷ as') u m a v h k = absurd h
+Handles-push step s (x ∷ ms) [] u m a v h k = absurd h
+Handles-push step s (x ∷ ms) (b ∷ as') u m a v h k = (h.0, h.1, Handles-push step h.0 ms as' u m a v h.2 k)
+
+pub committed_of-append : (xs ys : List Claim) → committed_of (xs ++ ys) ≡ committed_of xs ++ committed_of ys
+committed_of-append [] ys = refl
+committed_of-append (x ∷ xs) ys = ap (λ l. shown x ++ l) (committed_of-append xs ys) ∙ sym (append_assoc (shown x) (committed_of xs) (committed_of ys))
+
+shown_none : (c : Claim) → c.state ≡ Aborted → shown c ≡ []
+shown_none c e = rw e refl
+
+shown_one : (c : Claim) → c.state ≡ Committed → shown c ≡ c.message ∷ []
+shown_one c e = rw e refl
+
+-- the next_place claim lies where the head is
+head_at : (C e h : ℕ) (passed rest : List Claim) (c : Claim) (others : List Claim) → 0 < C → span_of c ≤ C → rest ≡ c ∷ others → IsHeadAfter C e passed rest h
+    → next_place C h (span_of c) ≡ next_place C (end_of C e passed) (span_of c)
+head_at C e h passed rest c others some short is at =
+    elim at as (λ _. next_place C h (span_of c) ≡ next_place C (end_of C e passed) (span_of c)) [
+      | inl same ↦ ap (λ k. next_place C k (span_of c)) same
+      | inr placed ↦
+          let one : c ∷ others ≡ placed.0 ∷ placed.1 = sym is ∙ placed.2 in
+          let claim : c ≡ placed.0 = cc in
+          let there : h ≡ next_place C (end_of C e passed) (span_of c) = placed.3 ∙ ap (λ k. next_place C (end_of C e passed) (span_of k)) (sym claim) in
+          ap (λ k. next_place C k (span_of c)) there ∙ next_fixed C (end_of C e passed) (span_of c) some short
+    ]
+
+-- one turn of a read: at mid, after the messages so far, padding or a claim is passed
+module _ (limit : ℕ) (old mid new : Ring) (h : List Claim) (messages : List Message) (s : Settled) (ok : IsRing mid) (same : mid.capacity ≡ old.capacity)
+    (p : Passes limit old h mid messages) (l : Leaves mid p.rest s new) where
+  c : Claim
+  c = l.0
+
+  some : 0 < old.capacity
+  some = omega (arith, same, ok.capacity.least)
+
+  has_mid : Has mid (l.0 ∷ l.1)
+  has_mid = subst (λ (x : List Claim). Has mid x) l.2 p.left
+
+  lawful : IsMessage mid.capacity l.0.message
+  lawful = All-head (λ (x : Claim). IsMessage mid.capacity x.message) l.0 l.1 has_mid.lawful
+
+  short : span_of l.0 ≤ old.capacity
+  short = omega (arith, lawful.short, span_bounds (length l.0.message.body), ok.capacity.least, same)
+
+  place : next_place old.capacity (head_of mid) (span_of l.0) ≡ next_place old.capacity (end_of old.capacity (head_of old) p.passed) (span_of l.0)
+  place = head_at old.capacity (head_of old) (head_of mid) p.passed p.rest l.0 l.1 some short l.2 p.head
+
+  -- the passed claims with c are the history's front
+  whole_more : h ≡ (p.passed ++ l.0 ∷ []) ++ l.1
+  whole_more = p.whole ∙ ap (λ r. p.passed ++ r) l.2 ∙ sym (append_assoc p.passed (l.0 ∷ []) l.1)
+
+  head_more : IsAtHead mid l.0 → head_of new ≡ head_of mid + span_of l.0 → head_of new ≡ end_of old.capacity (head_of old) (p.passed ++ l.0 ∷ [])
+  head_more at moved =
+      let at' : next_place old.capacity (head_of mid) (span_of l.0) ≡ head_of mid = ap (λ k. next_place k (head_of mid) (span_of l.0)) (sym same) ∙ at in
+      let end : end_after old.capacity (end_of old.capacity (head_of old) p.passed) (span_of l.0) ≡ head_of mid + span_of l.0 = omega (arith, at', place) in
+      moved ∙ sym end ∙ sym (end_of-append old.capacity (head_of old) p.passed (l.0 ∷ []))
+
+  -- padding or an aborted claim
+  pub passes_quiet : s.type_id ≡ padding_type → (length messages ≡ limit → ⊥) → Passes limit old h new messages
+  passes_quiet quiet below =
+      elim l.3 as (λ _. Passes limit old h new messages) [
+        | inl pad ↦ record {
+          passed = p.passed;
+          rest = p.rest;
+          whole = p.whole;
+          settled = p.settled;
+          shown = p.shown;
+          left = pad.1;
+          head = inr (l.0, l.1, l.2, pad.2 ∙ ap (λ k. next_place k (head_of mid) (span_of l.0)) same ∙ place);
+          tight = λ e. absurd (below e);
+        }
+        | inr claim ↦
+            elim claim.0 as (λ _. Passes limit old h new messages) [
+              | inl aborted ↦ record {
+                passed = p.passed ++ l.0 ∷ [];
+                rest = l.1;
+                whole = whole_more;
+                settled = All-push (λ (x : Claim). x.state ≢ Open) p.passed l.0 p.settled (λ e. let bad : Open ≡ Aborted = sym e ∙ aborted.aborted in cc);
+                shown = committed_of-append p.passed (l.0 ∷ []) ∙ ap (λ x. committed_of p.passed ++ (x ++ [])) (shown_none l.0 aborted.aborted) ∙ append-nil (committed_of p.passed) ∙ p.shown;
+                left = claim.1;
+                head = inl (head_more aborted.at_head claim.2);
+                tight = λ e. absurd (below e);
+              }
+              | inr message ↦
+                  let low = lawful.type_id in
+                  let bad : pos 1 ≤ℤ padding_type = rw (sym message.type_id ∙ quiet) at low in absurd (omega (arith, ints, bad))
+            ]
+      ]
+
+  -- a committed claim, whose message m was shown
+  pub passes_message : (m : Message) → (s.type_id ≡ padding_type → ⊥) → ((x : Claim) (r : List Claim) → Has mid (x ∷ r) → SeesCommitted mid x s → x.message ≡ m) → Passes limit old h new (messages ++ m ∷ [])
+  passes_message m loud shows =
+      elim l.3 as (λ _. Passes limit old h new (messages ++ m ∷ [])) [
+        | inl pad ↦ absurd (loud pad.0.type_id)
+        | inr claim ↦
+            elim claim.0 as (λ _. Passes limit old h new (messages ++ m ∷ [])) [
+              | inl aborted ↦ absurd (loud aborted.type_id)
+              | inr message ↦ record {
+                passed = p.passed ++ l.0 ∷ [];
+                rest = l.1;
+                whole = whole_more;
+                settled = All-push (λ (x : Claim). x.state ≢ Open) p.passed l.0 p.settled (λ e. let bad : Open ≡ Committed = sym e ∙ message.committed in cc);
+                shown =
+                    committed_of-append p.passed (l.0 ∷ []) ∙ ap (λ x. committed_of p.passed ++ (x ++ [])) (shown_one l.0 message.committed)
+                    ∙ ap (λ x. x ++ l.0.message ∷ []) p.shown ∙ ap (λ x. messages ++ x ∷ []) (shows l.0 l.1 has_mid message);
+                left = claim.1;
+                head = inl (head_more message.at_head claim.2);
+                tight = λ e. inr (p.passed, l.0, refl, message.committed, head_more message.at_head claim.2);
+              }
+            ]
+      ]
+
+pub moves_none : (r : Ring) → MovesHead r r
+moves_none r = record { capacity = refl; length = refl; trailer = λ i le ne. refl; on = omega arith; within = omega arith }
+
+-- two moves of the head, where the first did not reach the end of the buffer
+pub moves_more : (old mid new : Ring) → 0 < old.capacity → MovesHead old mid → MovesHead mid new → (head_of old < head_of mid → head_of mid % old.capacity ≢ 0) → MovesHead old new
+moves_more old mid new some a b inside =
+    let C : ℕ = old.capacity in
+    let low = mod_below (head_of old) C some in
+    let reach : head_of new ≤ head_of mid + (C - head_of mid % C) = subst (λ (k : ℕ). head_of new ≤ head_of mid + (k - head_of mid % k)) a.capacity b.within in
+    record {
+      capacity = b.capacity ∙ a.capacity;
+      length = b.length ∙ a.length;
+      trailer = λ i le ne. b.trailer i (rw a.capacity le) (rw a.capacity ne) ∙ a.trailer i le ne;
+      on = omega (arith, a.on, b.on);
+      within =
+          elim (cases_lt (head_of old) (head_of mid)) as (λ _. head_of new ≤ head_of old + room C (head_of old)) [
+            | inr none ↦ let same : head_of mid ≡ head_of old = omega (arith, a.on) in rw same at reach
+            | inl some_way ↦
+                elim (cases_lt (head_of mid) (head_of old + (C - head_of old % C))) as (λ _. head_of new ≤ head_of old + room C (head_of old)) [
+                  | inr end ↦
+                      let at_end : head_of mid ≡ head_of old + (C - head_of old % C) = omega (arith, a.within) in
+                      absurd (inside some_way (ap (λ k. k % C) at_end ∙ mod_room C (head_of old) some))
+                  | inl within ↦
+                      let step = mod_step C (head_of old) (head_of mid - head_of old) (omega arith) in
+                      let there : head_of old + (head_of mid - head_of old) ≡ head_of mid = omega arith in
+                      let lap : head_of mid % C ≡ head_of old % C + (head_of mid - head_of old) = ap (λ k. k % C) (sym there) ∙ step in
+                      omega (arith, reach, lap)
+                ]
+          ];
+    }
+
+module _ {S : Type 0} (step : S → Message → S → Action → Type 0) (limit : ℕ) where
+  pub reads_none : (old : Ring) (s : S) → Reads step limit old old s s 0
+  reads_none old s = record {
+    messages = [];
+    actions = [];
+    handled = refl;
+    counted = refl;
+    moves = moves_none old;
+    passes = λ h has. record {
+      passed = [];
+      rest = h;
+      whole = refl;
+      settled = All-nil (λ (x : Claim). x.state ≢ Open);
+      shown = refl;
+      left = has;
+      head = inl refl;
+      tight = λ e. inl (refl, refl);
+    };
+  }
+
+  module _ (old mid new : Ring) (s t : S) (count : ℕ) (settled : Settled) (ok : IsRing mid) (reads : Reads step limit old mid s t count) (below : count ≢ limit)
+      (inside : head_of old < head_of mid → head_of mid % old.capacity ≢ 0) (moved : MovesHead mid new) (left : (h : List Claim) → Has mid h → Leaves mid h settled new) where
+    same : mid.capacity ≡ old.capacity
+    same = reads.moves.capacity
+
+    pub reads_quiet : settled.type_id ≡ padding_type → Reads step limit old new s t count
+    reads_quiet quiet = record {
+      messages = reads.messages;
+      actions = reads.actions;
+      handled = reads.handled;
+      counted = reads.counted;
+      moves = moves_more old mid new (omega (arith, same, ok.capacity.least)) reads.moves moved inside;
+      passes = λ h has.
+          let p = reads.passes h has in
+          passes_quiet limit old mid new h reads.messages settled ok same p (left p.rest p.left) quiet (λ e. below (reads.counted ∙ e));
+    }
+
+    pub reads_message : (m : Message) (a : Action) (u : S) → settled.type_id ≢ padding_type → step t m u a
+        → ((x : Claim) (r : List Claim) → Has mid (x ∷ r) → SeesCommitted mid x settled → x.message ≡ m) → Reads step limit old new s u (count + 1)
+    reads_message m a u loud stepped shows = record {
+      messages = reads.messages ++ m ∷ [];
+      actions = reads.actions ++ a ∷ [];
+      handled = Handles-push step s reads.messages reads.actions t m a u reads.handled stepped;
+      counted = ap (λ k. k + 1) reads.counted ∙ sym (length_push reads.messages m);
+      moves = moves_more old mid new (omega (arith, same, ok.capacity.least)) reads.moves moved inside;
+      passes = λ h has.
+          let p = reads.passes h has in
+          passes_message limit old mid new h reads.messages settled ok same p (left p.rest p.left) m loud shows;
+    }
+
+-- what the test for the end of the buffer tells
+pub inside_from : (C start head : ℕ) → (nat_lt start head && (head % C == 0)) ≡ false → start < head → head % C ≢ 0
+inside_from C start head test lt e =
+    elim (and_cases (nat_lt start head) (head % C == 0) test) as (λ _. ⊥) [
+      | inl h ↦ let bad = ltb-false start head h in omega arith
+      | inr h ↦ eqb-false (head % C) 0 h e
+    ]
+
+-- what the test for padding tells
+pub padding_from : (t : ℤ) → FitsSigned w32 t → of_z w32 t ≡ 4294967295 → t ≡ padding_type
+padding_from t f e = sym (to_z-of_z w32 t f) ∙ ap (to_z w32) e

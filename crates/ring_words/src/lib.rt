@@ -1,0 +1,20 @@
+//! A ring of messages with one owner: the plain ring that every shared ring is compared with.
+#![tactic(auto)]
+
+mod action;
+mod appending;
+mod fault;
+mod handler;
+mod read_end;
+mod solo;
+mod taking;
+mod words;
+
+pub use action::Action;
+pub use fault::{ClaimFault, MakeFault};
+pub use handler::Handler;
+pub use read_end::{ReadEnd, Stop};
+pub use solo::{Positions, SoloRing};
+
+#[cfg(test)]
+mod tests;

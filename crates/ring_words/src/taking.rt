@@ -1,0 +1,93 @@
+//! Records at the head of a ring.
+ghost use Rattle.std.specs.Prelude.{◌≡◌, ◌≢◌, ℕ, ◌+◌, ◌-◌, ◌*◌, ◌/◌, ◌%◌, ◌^◌, ◌<◌, ◌≤◌, List, ◌∷◌, length, slice_index};
+ghost use Rattle.ring_words.specs.Ring.{ring, IsRing, Has, head_of};
+ghost use Rattle.ring_layout.specs.declared.message.Claim.{Claim};
+ghost use Rattle.ring_layout.specs.declared.message.Message.{Message};
+ghost use Rattle.ring_layout.specs.History.{span};
+ghost use Rattle.ring_layout.specs.Headers.{padding_type};
+ghost use Rattle.ring_words.specs.declared.action.Action.{Action};
+ghost use Rattle.ring_words.specs.Reading.{Sees, SeesCommitted, Leaves, MovesHead, IsAtHead};
+
+use crate::handler::Handler;
+use crate::words::{clear, load_body};
+use ring_layout::record_descriptor::HEADER_LENGTH;
+use ring_layout::ring_buffer_descriptor::HEAD_POSITION_WORD;
+use ring_layout::unpack_header;
+
+/// The header of a settled record.
+#[derive(Clone, Copy)]
+pub(crate) struct Settled {
+    pub(crate) len: u32,
+    pub(crate) type_id: i32,
+}
+
+/// The settled record or padding at the head, if there is one.
+pub(crate) fn settled_at_head(words: &[u64], capacity: u32) -> Option<Settled>
+    requires { IsRing (ring capacity words.now) }
+    ensures { (h : List Claim) → Has (ring capacity words.now) h → Sees (ring capacity words.now) h result }
+{
+    let head = words[capacity as usize / 8 + HEAD_POSITION_WORD];
+    let (len, type_id) = unpack_header(words[(head % u64::from(capacity) / 8) as usize]);
+    if len > 0 {
+        Some(Settled {
+            len: len as u32,
+            type_id,
+        })
+    } else {
+        None
+    }
+}
+
+/// Copies the body of the committed record at the head out of the words.
+pub(crate) fn load_at_head(words: &[u64], capacity: u32, body: &mut [u8])
+    requires ring { IsRing (ring capacity words.now) }
+    requires within { head_of (ring capacity words.now) % capacity + span (length body.old) ≤ capacity }
+    ensures { (c : Claim) (rest : List Claim) → Has (ring capacity words.now) (c ∷ rest) → IsAtHead (ring capacity words.now) c
+        → length c.message.body ≡ length body.new → body.new ≡ c.message.body }
+{
+    let head = words[capacity as usize / 8 + HEAD_POSITION_WORD];
+    load_body(words, (head % u64::from(capacity) / 8) as usize + 1, body);
+}
+
+/// Shows the message at the head to the handler, from a copy.
+pub(crate) fn show_at_head<H: Handler>(
+    words: &[u64],
+    capacity: u32,
+    scratch: &mut [u8],
+    settled: Settled,
+    handler: &mut H,
+)
+    requires ring { IsRing (ring capacity words.now) }
+    requires room { length scratch.old ≡ capacity / 8 }
+    requires seen { (h : List Claim) → Has (ring capacity words.now) h → Sees (ring capacity words.now) h (Some settled) }
+    requires message { settled.type_id ≢ padding_type }
+    requires ready { H.ready handler.old }
+    ensures ready { H.ready handler.new }
+    ensures shown { (m : Message) × (a : Action) × H.step handler.old m handler.new a
+        × ((c : Claim) (rest : List Claim) → Has (ring capacity words.now) (c ∷ rest) → SeesCommitted (ring capacity words.now) c settled → c.message ≡ m) }
+{
+    let len = settled.len as usize - HEADER_LENGTH;
+    let body = &mut scratch[..len];
+    load_at_head(words, capacity, body);
+    handler.on_message(settled.type_id, body);
+}
+
+/// Clears the settled record or padding at the head, and moves the head behind it.
+pub(crate) fn take_at_head(words: &mut [u64], capacity: u32, settled: Settled)
+    requires ring { IsRing (ring capacity words.old) }
+    requires seen { (h : List Claim) → Has (ring capacity words.old) h → Sees (ring capacity words.old) h (Some settled) }
+    ensures ring { IsRing (ring capacity words.new) }
+    ensures moves { MovesHead (ring capacity words.old) (ring capacity words.new) }
+    ensures on { head_of (ring capacity words.old) < head_of (ring capacity words.new) }
+    ensures leaves { (h : List Claim) → Has (ring capacity words.old) h → Leaves (ring capacity words.old) h settled (ring capacity words.new) }
+{
+    let trailer = capacity as usize / 8;
+    let head = words[trailer + HEAD_POSITION_WORD];
+    let span = settled.len.next_multiple_of(8);
+    clear(
+        words,
+        (head % u64::from(capacity) / 8) as usize,
+        span as usize / 8,
+    );
+    words[trailer + HEAD_POSITION_WORD] = head + u64::from(span);
+}

@@ -1,0 +1,45 @@
+//! Bodies in a slice of words.
+ghost use Rattle.std.specs.Prelude.{◌≡◌, ℕ, ◌+◌, ◌*◌, ◌/◌, ◌%◌, ◌^◌, ◌<◌, ◌≤◌, length, drop, slice_index};
+ghost use Rattle.std.specs.Int.{from_le_bytes, w64};
+
+/// The first 8 bytes as a little-endian word, with zeros where there are fewer.
+fn first_word(bytes: &[u8]) -> u64
+    ensures { result ≡ from_le_bytes w64 bytes.now }
+{
+    let len = bytes.len().min(8);
+    let mut padded = [0; 8];
+    padded[..len].copy_from_slice(&bytes[..len]);
+    u64::from_le_bytes(padded)
+}
+
+/// Stores a body from the word `at` on, with zeros up to the end of its last word.
+pub(crate) fn store_body(words: &mut [u64], at: usize, body: &[u8])
+    requires { at + (length body.now + 7) / 8 ≤ length words.old }
+    ensures inside { (k : ℕ) → 8 * k < length body.now → slice_index words.new (at + k) ≡ from_le_bytes w64 (drop (8 * k) body.now) }
+    ensures below { (i : ℕ) → i < at → slice_index words.new i ≡ slice_index words.old i }
+    ensures above { (i : ℕ) → at + (length body.now + 7) / 8 ≤ i → slice_index words.new i ≡ slice_index words.old i }
+{
+    for k in 0..body.len().div_ceil(8) {
+        words[at + k] = first_word(&body[8 * k..]);
+    }
+}
+
+/// Copies a body out of the words from `at` on.
+pub(crate) fn load_body(words: &[u64], at: usize, body: &mut [u8])
+    requires { at + (length body.old + 7) / 8 ≤ length words.now }
+    ensures { (k : ℕ) → k < length body.new → slice_index body.new k ≡ slice_index words.now (at + k / 8) / 2 ^ (8 * (k % 8)) % 256 }
+{
+    for (k, byte) in body.iter_mut().enumerate() {
+        *byte = ((words[at + k / 8] >> (8 * (k % 8))) & 0xff) as u8;
+    }
+}
+
+/// Sets `count` words from `at` on to 0.
+pub(crate) fn clear(words: &mut [u64], at: usize, count: usize)
+    requires { at + count ≤ length words.old }
+    ensures inside { (i : ℕ) → at ≤ i → i < at + count → slice_index words.new i ≡ 0 }
+    ensures below { (i : ℕ) → i < at → slice_index words.new i ≡ slice_index words.old i }
+    ensures above { (i : ℕ) → at + count ≤ i → slice_index words.new i ≡ slice_index words.old i }
+{
+    words[at..at + count].fill(0);
+}
