@@ -1,2 +1,2 @@
-pub mod WordBytes
 pub mod RecordLemmas
+pub mod KeptLemmas

@@ -12,7 +12,8 @@ use Rattle.std.proofs.lemmas.List.FromFn.{length-map-range_with_len, get_or-map-
 use Rattle.ring_counters.specs.Counter.{Status, Unused, Allocated, Reclaimed, Metadata, Values, padded, unused_metadata, unused_values, state_of, deadline_of, word_of_bytes, state_word, label_text, metadata_word, value_word}
 use Rattle.ring_counters.specs.Records.{byte_at, bytes_at, status_from, metadata_of, values_of, IsLawful, IsMetadata, SomeMetadata, IsValues, SomeValues}
 use borrow.Rule.Slice.PartMut.{put_mid}
-use Rattle.ring_counters.proofs.WordBytes.{byte_of_word, from_le_bytes-same}
+use Rattle.ring_layout.proofs.HeaderLemmas.{pattern_below}
+use Rattle.ring_layout.proofs.WordBytes.{byte_of_word, from_le_bytes-same}
 
 -- ---- bytes in words
 
@@ -91,10 +92,6 @@ full_label_at a b c d k head label is =
     subst P (sym is) (zeros_behind (a ∷ b ∷ c ∷ d ∷ label) (drop k (replicate 380 0)) (λ i. get_or-drop k (replicate 380 0) i 0 ∙ zero_past 380 (k + i)))
 
 -- ---- words of a metadata record
-
-pub pattern_below : (z : ℤ) → FitsSigned w32 z → cast_unsigned w32 z < 2 ^ 32
-pattern_below (pos n) f = omega (arith, f.sfits)
-pattern_below (negsuc n) f = omega (arith, f.sfits)
 
 pub state_fits : (s : Status) → FitsSigned w32 (state_of s)
 state_fits Unused = record { sfits = omega arith }

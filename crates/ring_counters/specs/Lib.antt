@@ -1,2 +1,4 @@
 pub mod Counter
 pub mod Records
+pub mod Registry
+pub mod Kept

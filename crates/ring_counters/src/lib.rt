@@ -2,5 +2,9 @@
 #![tactic(auto)]
 
 mod bytes;
+mod fault;
 mod metadata;
+mod records;
 mod values_record;
+
+pub use fault::{AllocateRefused, BadId, BadOwner, IdFault, MakeFault, NoShares};

@@ -1,5 +1,5 @@
 use Rattle.std.proofs.Common.{◌∙◌}
-use Rattle.ring_counters.proofs.WordBytes.{from_le_bytes-same, padded_at}
+use Rattle.ring_layout.proofs.WordBytes.{from_le_bytes-same, padded_at}
 use Rattle.ring_counters.proofs.bytes.first_word.Goals as goal
 
 pub returns : goal.returns
