@@ -7,3 +7,5 @@ pub mod ValueWrites
 pub mod ValuesRule
 pub mod Seats
 pub mod Agree
+pub mod Infos
+pub mod Manager

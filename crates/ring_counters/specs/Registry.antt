@@ -1,8 +1,10 @@
 -- The counters as a registry, and what each call changes in it.
-use Rattle.std.specs.Prelude.{◌≡◌, ℕ, zero, suc, ◌+◌, ◌<◌, ◌≤◌, ◌==◌, Bool, true, false, ◌&&◌, nat_lt, nat_le, if◌then◌else◌, ℤ, pos, List, [], ◌∷◌, ◌++◌, map, filter, fold, find, position, length, replicate, slice_set, slice_index_or, Option, Some, None, Result, Ok, Err}
+use Rattle.std.specs.Prelude.{◌≡◌, ℕ, zero, suc, ◌+◌, ◌<◌, ◌≤◌, ◌==◌, Bool, true, false, ◌&&◌, ◌||◌, nat_lt, nat_le, if◌then◌else◌, ℤ, pos, List, [], ◌∷◌, ◌++◌, map, filter, fold, find, position, length, replicate, slice_set, slice_index_or, Option, Some, None, Result, Ok, Err}
 use Rattle.std.specs.List.{list_all, range_with_len}
 use Rattle.ring_counters.specs.declared.fault.AllocateRefused.{AllocateRefused}
 use Rattle.ring_counters.specs.declared.fault.AllocateRefused.TheVariants.{KeyTooLong, LabelTooLong, LabelNotAscii, NoFreeCounter}
+use Rattle.ring_counters.specs.declared.fault.MakeFault.{MakeFault}
+use Rattle.ring_counters.specs.declared.fault.MakeFault.TheVariants.{BadCount}
 use Rattle.ring_counters.specs.declared.fault.IdFault.{IdFault}
 use Rattle.ring_counters.specs.declared.fault.IdFault.TheVariants.{BadId, NotAllocated}
 use Rattle.ring_counters.specs.Counter.{Status, Unused, Allocated, Reclaimed, Counter, padded, unused_counter}
@@ -25,6 +27,10 @@ status_at r id = (counter_at r id).metadata.status
 -- no id was ever used
 abbrev pub fresh_registry : ℕ → ℕ → Registry
 fresh_registry count reuse_ms = record { counters = replicate count unused_counter; freed = []; reuse_ms = reuse_ms }
+
+-- why no counters can be made
+abbrev pub make_refusal_of : ℕ → Option MakeFault
+make_refusal_of count = if count == 0 || nat_lt 4096 count then Some BadCount else None
 
 abbrev pub is_unused : Status → Bool
 is_unused Unused = true
@@ -64,17 +70,22 @@ or_else None other = other
 abbrev pub next_id : Registry → ℕ → Option ℕ
 next_id r now = or_else (due_id r now) (unused_id r)
 
--- the id that an allocation gives, or why it is refused, in the order of the tests
+-- why a key and a label are refused, in the order of the tests
+abbrev pub text_refusal_of : List ℕ → List ℕ → Option AllocateRefused
+text_refusal_of key label =
+    if nat_lt 112 (length key) then Some KeyTooLong
+    else (if nat_lt 380 (length label) then Some LabelTooLong
+    else (if list_all (λ b. nat_lt b 128) label then None
+    else Some LabelNotAscii))
+
+abbrev pub given : Option AllocateRefused → Option ℕ → Result ℕ AllocateRefused
+given (Some fault) id = Err fault
+given None (Some id) = Ok id
+given None None = Err NoFreeCounter
+
+-- the id that an allocation gives, or why it is refused
 abbrev pub allocation_of : Registry → ℕ → List ℕ → List ℕ → Result ℕ AllocateRefused
-allocation_of r now key label =
-    if nat_lt 112 (length key) then Err KeyTooLong
-    else (if nat_lt 380 (length label) then Err LabelTooLong
-    else (if list_all (λ b. nat_lt b 128) label then given (next_id r now)
-    else Err LabelNotAscii))
-  where
-    given : Option ℕ → Result ℕ AllocateRefused
-    given (Some id) = Ok id
-    given None = Err NoFreeCounter
+allocation_of r now key label = given (text_refusal_of key label) (next_id r now)
 
 -- a counter as it is allocated
 abbrev pub new_counter : ℤ → List ℕ → List ℕ → ℕ → ℕ → Counter
@@ -136,9 +147,12 @@ live_ids r = filter (λ id. is_allocated (status_at r id)) (ids_of r)
 abbrev pub live_of : Registry → List (ℕ × Counter)
 live_of r = map (λ id. (id, counter_at r id)) (live_ids r)
 
+abbrev pub is_owned : ℕ → Counter → Bool
+is_owned owner c = is_allocated c.metadata.status && c.values.owner == owner
+
 -- the ids of the allocated counters of an owner, rising
 abbrev pub owned_ids : Registry → ℕ → List ℕ
-owned_ids r owner = filter (λ id. is_allocated (status_at r id) && (counter_at r id).values.owner == owner) (ids_of r)
+owned_ids r owner = filter (λ id. is_owned owner (counter_at r id)) (ids_of r)
 
 -- each counter of an owner is freed, by rising id
 abbrev pub closed_in : Registry → ℕ → ℕ → Registry

@@ -54,3 +54,8 @@ pub struct BadOwner;
 #[derive(Clone, Copy, Debug, PartialEq, Eq, Error)]
 #[error("12 NoShares")]
 pub struct NoShares;
+
+/// There is not enough memory.
+#[derive(Clone, Copy, Debug, PartialEq, Eq, Error)]
+#[error("3 OutOfMemory")]
+pub struct OutOfMemory;

@@ -1,10 +1,14 @@
 //! The counters over vectors of records, and the queue of freed ids.
 ghost use Rattle.std.specs.Prelude.{◌≡◌, ◌≢◌, ℕ, ◌+◌, ◌*◌, ◌^◌, ◌<◌, ◌≤◌, true, false, position, IfOk, IfSome, IfNone, MatchOption, length, replicate, slice_index, slice_set, remove};
-ghost use Rattle.ring_counters.specs.Counter.{Metadata, Values, Counter, Allocated, unused_metadata, unused_values};
-ghost use Rattle.ring_counters.specs.Registry.{Registry, count_of, counter_at, status_at, is_due, is_allocated, next_id, due_id, unused_id, allocated_in, reclaimed_in, with_value, fresh_registry};
+ghost use Rattle.ring_counters.specs.Counter.{Metadata, Values, Counter, Allocated, unused_metadata, unused_values, unused_counter};
+ghost use Rattle.ring_counters.specs.Registry.{Registry, count_of, counter_at, status_at, is_due, is_allocated, next_id, due_id, unused_id, allocated_in, reclaimed_in, with_value, fresh_registry, answer, id_refusal_of, range_refusal_of, is_owned, owned_ids, closed_in, live_of};
+ghost use Rattle.ring_counters.specs.Infos.{IsInfoOf, AreInfos};
 
+use crate::fault::IdFault;
+use crate::info::CounterInfo;
 use crate::metadata::MetadataRecord;
 use crate::values_record::ValueRecord;
+use ring_layout::counter_descriptor::{MAX_KEY_LENGTH, MAX_LABEL_LENGTH, RECORD_ALLOCATED};
 use std::alloc::{AllocError, Global};
 use std::collections::VecDeque;
 use std::marker::Model;
@@ -184,5 +188,103 @@ impl Records {
         ensures { result.now ≡ (counter_at self.now id).values }
     {
         &self.values[id as usize]
+    }
+
+    /// How many ids were ever used: those from 0 up to this one.
+    pub(crate) fn used(&self) -> u32
+        ensures most { result ≤ count_of self.now }
+        ensures unused { (id : ℕ) → result ≤ id → counter_at self.now id ≡ unused_counter }
+    {
+        self.used
+    }
+
+    /// Refuses an id that no counter in use has.
+    pub(crate) fn check_allocated(&self, id: u32) -> Result<(), IdFault>
+        ensures { result ≡ answer (id_refusal_of self.now id) tt }
+    {
+        self.check_range(id)?;
+        if self.is_live(id) {
+            Ok(())
+        } else {
+            Err(IdFault::NotAllocated)
+        }
+    }
+
+    /// Refuses an id that is not below the number of counters.
+    pub(crate) fn check_range(&self, id: u32) -> Result<(), IdFault>
+        ensures { result ≡ answer (range_refusal_of self.now id) tt }
+    {
+        if id < self.count() {
+            Ok(())
+        } else {
+            Err(IdFault::BadId)
+        }
+    }
+
+    /// Whether the counter is in use.
+    fn is_live(&self, id: u32) -> bool
+        requires { id < count_of self.now }
+        ensures { result ≡ is_allocated (status_at self.now id) }
+    {
+        self.metadata(id).state() == RECORD_ALLOCATED
+    }
+
+    /// Whether the counter is in use and has this owner.
+    fn is_owned(&self, id: u32, owner: u64) -> bool
+        requires { id < count_of self.now }
+        ensures { result ≡ is_owned owner (counter_at self.now id) }
+    {
+        self.is_live(id) && self.values(id).owner() == owner
+    }
+
+    /// Frees the counters of an owner, by rising id, and gives their number.
+    pub(crate) fn close(&mut self, now: u64, owner: u64) -> u32
+        requires { now ≤ 2 ^ 62 }
+        ensures freed { result ≡ length (owned_ids self.old owner) }
+        ensures changes { self.new ≡ closed_in self.old now owner }
+    {
+        let mut freed = 0;
+        for id in 0..self.used() {
+            if self.is_owned(id, owner) {
+                self.reclaim(now, id);
+                freed += 1;
+            }
+        }
+        freed
+    }
+
+    /// What a listing says of one counter.
+    fn info(&self, alloc: Global, id: u32) -> Result<CounterInfo, AllocError>
+        requires { id < count_of self.now }
+        ensures { IfOk result (λ info. IsInfoOf id (counter_at self.now id) info) }
+    {
+        let metadata = self.metadata(id);
+        let values = self.values(id);
+        let mut key = [0; MAX_KEY_LENGTH];
+        metadata.key_into(&mut key);
+        let mut label = [0; MAX_LABEL_LENGTH];
+        let len = metadata.label_into(&mut label);
+        Ok(CounterInfo {
+            id,
+            type_id: metadata.type_id(),
+            value: values.value(),
+            registration: values.registration(),
+            owner: values.owner(),
+            key,
+            label: label[..len].to_vec(alloc)?,
+        })
+    }
+
+    /// Lists the counters in use, by rising id.
+    pub(crate) fn live(&self, alloc: Global) -> Result<Vec<CounterInfo>, AllocError>
+        ensures { IfOk result (λ infos. AreInfos infos.items (live_of self.now)) }
+    {
+        let mut infos = Vec::new(alloc);
+        for id in 0..self.used() {
+            if self.is_live(id) {
+                infos.push(self.info(alloc, id)?)?;
+            }
+        }
+        Ok(infos)
     }
 }
