@@ -3,12 +3,12 @@ use Rattle.std.proofs.Common.{◌≡◌, ◌≢◌, ℕ, ℤ, zero, suc, ◌+◌
 use Rattle.std.specs.Prelude.{count_by, Option, Some, None, find, position, remove, not, nat_lt}
 use Rattle.std.specs.List.{position_or_len}
 use Rattle.std.proofs.Math.ListN.{length-set}
-use Rattle.std.proofs.lemmas.Bool.{cases_lt, cases_eq, ne_eqb, eq-eqb, lt-ltb, le-ltb, le-leb, lt-leb, cond-true, cond-false}
+use Rattle.std.proofs.lemmas.Bool.{cases_lt, cases_eq, ne_eqb, eq-eqb, lt-ltb, le-ltb, le-leb, lt-leb, leb-false, cond-true, cond-false}
 use Rattle.std.proofs.lemmas.List.{get_or_past, get_or_default, length-replicate, length_push}
 use Rattle.std.proofs.lemmas.List.Sums.{sum_by-set, count_by-le-length, position_or_len_is}
 use Rattle.ring_counters.specs.Counter.{Status, Unused, Allocated, Reclaimed, Metadata, Values, Counter, unused_metadata, unused_values, unused_counter, deadline_of}
 use Rattle.ring_counters.specs.Registry.{Registry, count_of, counter_at, status_at, is_unused, is_allocated, is_reclaimed, is_due, unused_id, next_id, or_else, without, allocated_in, reclaimed_in, with_value, fresh_registry}
-use Rattle.ring_counters.specs.Kept.{counters_of, IsAbsent, AreDistinct, AreReclaimed, IsKept}
+use Rattle.ring_counters.specs.Kept.{counters_of, IsAbsent, AreDistinct, AreReclaimed, deadline_at, AllDueFrom, AreInOrder, IsKept}
 
 abbrev pub counter : Metadata → Values → Counter
 counter m v = record { metadata = m; values = v }
@@ -201,6 +201,61 @@ without_absent : (id : ℕ) (ids : List ℕ) → IsAbsent id ids → without id 
 without_absent id [] a = refl
 without_absent id (x ∷ ids) a = cond-false _ _ _ (ne_eqb x id a.0) ∙ ap (λ l. x ∷ l) (without_absent id ids a.1)
 
+-- ---- deadlines along the queue
+
+due_from_other : (cs : List Counter) (moment : ℕ) (ids : List ℕ) (id : ℕ) (c : Counter) → IsAbsent id ids → AllDueFrom cs moment ids → AllDueFrom (set cs id c) moment ids
+due_from_other cs moment [] id c a h = tt
+due_from_other cs moment (x ∷ ids) id c a h =
+    let same : deadline_at (set cs id c) x ≡ deadline_at cs x = ap (λ (y : Counter). deadline_of y.metadata.status) (get_or-set_other cs id x c unused_counter a.0) in
+    ((let le : moment ≤ deadline_at cs x = h.0 in omega arith), due_from_other cs moment ids id c a.1 h.1)
+
+order_other : (cs : List Counter) (ids : List ℕ) (id : ℕ) (c : Counter) → IsAbsent id ids → AreInOrder cs ids → AreInOrder (set cs id c) ids
+order_other cs [] id c a h = tt
+order_other cs (x ∷ ids) id c a h =
+    let same : deadline_at (set cs id c) x ≡ deadline_at cs x = ap (λ (y : Counter). deadline_of y.metadata.status) (get_or-set_other cs id x c unused_counter a.0) in
+    (subst (λ d. AllDueFrom (set cs id c) d ids) (sym same) (due_from_other cs (deadline_at cs x) ids id c a.1 h.0), order_other cs ids id c a.1 h.1)
+
+due_from_remove : (cs : List Counter) (moment : ℕ) (ids : List ℕ) (i : ℕ) → AllDueFrom cs moment ids → AllDueFrom cs moment (remove ids i)
+due_from_remove cs moment [] zero h = tt
+due_from_remove cs moment [] (suc i) h = tt
+due_from_remove cs moment (x ∷ ids) zero h = h.1
+due_from_remove cs moment (x ∷ ids) (suc i) h = (h.0, due_from_remove cs moment ids i h.1)
+
+order_remove : (cs : List Counter) (ids : List ℕ) (i : ℕ) → AreInOrder cs ids → AreInOrder cs (remove ids i)
+order_remove cs [] zero h = tt
+order_remove cs [] (suc i) h = tt
+order_remove cs (x ∷ ids) zero h = h.1
+order_remove cs (x ∷ ids) (suc i) h = (due_from_remove cs (deadline_at cs x) ids i h.0, order_remove cs ids i h.1)
+
+due_from_snoc : (cs : List Counter) (moment : ℕ) (ids : List ℕ) (id : ℕ) → AllDueFrom cs moment ids → moment ≤ deadline_at cs id → AllDueFrom cs moment (ids ++ id ∷ [])
+due_from_snoc cs moment [] id h le = (le, tt)
+due_from_snoc cs moment (x ∷ ids) id h le = (h.0, due_from_snoc cs moment ids id h.1 le)
+
+due_from_at : (cs : List Counter) (moment : ℕ) (ids : List ℕ) (i : ℕ) → i < length ids → AllDueFrom cs moment ids → moment ≤ deadline_at cs (get_or ids i 0)
+due_from_at cs moment [] i less h = absurd (omega arith)
+due_from_at cs moment (x ∷ ids) zero less h = h.0
+due_from_at cs moment (x ∷ ids) (suc i) less h = due_from_at cs moment ids i (omega arith) h.1
+
+-- no deadline is before the first, in a queue in order
+pub first_is_least : (cs : List Counter) (ids : List ℕ) (i : ℕ) → i < length ids → AreInOrder cs ids → deadline_at cs (get_or ids 0 0) ≤ deadline_at cs (get_or ids i 0)
+first_is_least cs [] i less h = absurd (omega arith)
+first_is_least cs (x ∷ ids) zero less h = omega arith
+first_is_least cs (x ∷ ids) (suc i) less h = due_from_at cs (deadline_at cs x) ids i (omega arith) h.0
+
+-- one more id whose deadline is not before the last
+order_snoc : (cs : List Counter) (ids : List ℕ) (id : ℕ) → AreInOrder cs ids → (0 < length ids → deadline_at cs (get_or ids (length ids - 1) 0) ≤ deadline_at cs id) → AreInOrder cs (ids ++ id ∷ [])
+order_snoc cs [] id h le = (tt, tt)
+order_snoc cs (x ∷ []) id h le = ((le (omega arith), tt), (tt, tt))
+order_snoc cs (x ∷ y ∷ ids) id h le =
+    let n : ℕ = length ids in
+    let second : suc (suc n) - 1 ≡ suc n = omega arith in
+    let first : suc n - 1 ≡ n = omega arith in
+    let whole : deadline_at cs (get_or (x ∷ y ∷ ids) (suc (suc n) - 1) 0) ≡ deadline_at cs (get_or (y ∷ ids) n 0) = ap (λ k. deadline_at cs (get_or (x ∷ y ∷ ids) k 0)) second in
+    let part : deadline_at cs (get_or (y ∷ ids) (suc n - 1) 0) ≡ deadline_at cs (get_or (y ∷ ids) n 0) = ap (λ k. deadline_at cs (get_or (y ∷ ids) k 0)) first in
+    let there : deadline_at cs (get_or (x ∷ y ∷ ids) (suc (suc n) - 1) 0) ≤ deadline_at cs id = le (omega arith) in
+    let here : deadline_at cs x ≤ deadline_at cs (get_or (y ∷ ids) n 0) = due_from_at cs (deadline_at cs x) (y ∷ ids) n (omega arith) h.0 in
+    (due_from_snoc cs (deadline_at cs x) (y ∷ ids) id h.0 (omega arith), order_snoc cs (y ∷ ids) id h.1 (λ some. omega arith))
+
 -- ---- counts
 
 abbrev one_if : Bool → ℕ
@@ -239,7 +294,7 @@ count_below cs id h not =
 
 -- ---- a registry that is kept
 
-module _ (r : Registry) (room used : ℕ) (h : IsKept r room used) where
+module _ (r : Registry) (room used : ℕ) (ordered : Bool) (h : IsKept r room used ordered) where
   -- an id that was used lies below `used`
   pub below_used : (id : ℕ) → is_unused (status_at r id) ≡ false → id < used
   below_used id was =
@@ -269,7 +324,7 @@ module _ (r : Registry) (room used : ℕ) (h : IsKept r room used) where
         ]
 
   pub kept_reused : (i : ℕ) (c : Counter) → i < length r.freed → c.metadata.status ≡ Allocated
-      → IsKept (record r { counters = set r.counters (get_or r.freed i 0) c; freed = remove r.freed i }) room used
+      → IsKept (record r { counters = set r.counters (get_or r.freed i 0) c; freed = remove r.freed i }) room used ordered
   kept_reused i c less new =
       let id = get_or r.freed i 0 in
       let was : is_reclaimed (status_at r id) ≡ true = reclaimed_at r.counters r.freed i less h.reclaimed in
@@ -285,10 +340,11 @@ module _ (r : Registry) (room used : ℕ) (h : IsKept r room used) where
         in_use = still_used id c known is;
         reclaimed = reclaimed_other r.counters (remove r.freed i) id c (removed_absent r.freed i less h.distinct) (reclaimed_remove r.counters r.freed i h.reclaimed);
         distinct = distinct_remove r.freed i h.distinct;
+        order = λ o. order_other r.counters (remove r.freed i) id c (removed_absent r.freed i less h.distinct) (order_remove r.counters r.freed i (h.order o));
         tally = omega (arith, length-remove r.freed i less, count_less reclaimed_counter r.counters id c inside was (ap is_reclaimed new), h.tally);
       }
 
-  pub kept_begun : (c : Counter) → used < count_of r → c.metadata.status ≡ Allocated → IsKept (record r { counters = set r.counters used c }) room (used + 1)
+  pub kept_begun : (c : Counter) → used < count_of r → c.metadata.status ≡ Allocated → IsKept (record r { counters = set r.counters used c }) room (used + 1) ordered
   kept_begun c less new =
       let n = length-set {A = Counter} r.counters used c in
       let none : is_reclaimed (status_at r used) ≡ false = ap (λ (y : Counter). is_reclaimed y.metadata.status) (h.unused used (omega arith)) in
@@ -304,11 +360,12 @@ module _ (r : Registry) (room used : ℕ) (h : IsKept r room used) where
         ];
         reclaimed = reclaimed_other r.counters r.freed used c (absent_from_status r.counters r.freed used h.reclaimed none) h.reclaimed;
         distinct = h.distinct;
+        order = λ o. order_other r.counters r.freed used c (absent_from_status r.counters r.freed used h.reclaimed none) (h.order o);
         tally = omega (arith, count_same reclaimed_counter r.counters used c less (none ∙ sym (ap is_reclaimed new)), h.tally);
       }
 
   -- a counter in use is changed and stays in use
-  pub kept_changed : (id : ℕ) (c : Counter) → is_allocated (status_at r id) ≡ true → c.metadata.status ≡ status_at r id → IsKept (record r { counters = set r.counters id c }) room used
+  pub kept_changed : (id : ℕ) (c : Counter) → is_allocated (status_at r id) ≡ true → c.metadata.status ≡ status_at r id → IsKept (record r { counters = set r.counters id c }) room used ordered
   kept_changed id c was same =
       let known : is_unused (status_at r id) ≡ false = used_from_allocated (status_at r id) was in
       let none : is_reclaimed (status_at r id) ≡ false = not_reclaimed_from_allocated (status_at r id) was in
@@ -322,6 +379,7 @@ module _ (r : Registry) (room used : ℕ) (h : IsKept r room used) where
         in_use = still_used id c known (ap is_unused same ∙ known);
         reclaimed = reclaimed_other r.counters r.freed id c (absent_from_status r.counters r.freed id h.reclaimed none) h.reclaimed;
         distinct = h.distinct;
+        order = λ o. order_other r.counters r.freed id c (absent_from_status r.counters r.freed id h.reclaimed none) (h.order o);
         tally = omega (arith, count_same reclaimed_counter r.counters id c inside (sym (ap is_reclaimed same)), h.tally);
       }
 
@@ -336,12 +394,36 @@ module _ (r : Registry) (room used : ℕ) (h : IsKept r room used) where
     pub room_for_one : length r.freed < room
     room_for_one = omega (arith, h.tally, count_below r.counters id allocated_inside none_freed, h.room_for_all)
 
-    pub kept_reclaimed : (now : ℕ) → IsKept (reclaimed_in r now id) room used
-    kept_reclaimed now =
+    queue_in_order : (now : ℕ) (d : Counter) → IsAbsent id r.freed → deadline_at (set r.counters id d) id ≡ now + r.reuse_ms
+        → (m : ℕ) → m ≡ length r.freed → (0 < length r.freed → (ordered ≡ true) × (deadline_at r.counters (get_or r.freed (length r.freed - 1) 0) ≤ now + r.reuse_ms)) → AreInOrder (set r.counters id d) (r.freed ++ id ∷ [])
+    queue_in_order now d absent mine m size last =
+        elim (cases_lt 0 (length r.freed)) as (λ _. AreInOrder (set r.counters id d) (r.freed ++ id ∷ [])) [
+          | inl some ↦
+              order_snoc (set r.counters id d) r.freed id (order_other r.counters r.freed id d absent (h.order (last some).0)) (λ _.
+              let end : ℕ = get_or r.freed (length r.freed - 1) 0 in
+              let apart : end ≢ id = absent_at r.freed (length r.freed - 1) id (omega arith) absent in
+              let same : deadline_at (set r.counters id d) end ≡ deadline_at r.counters end =
+                  ap (λ (y : Counter). deadline_of y.metadata.status) (get_or-set_other r.counters id end d unused_counter apart) in
+              omega (arith, (last some).1))
+          | inr none ↦ subst (λ l. AreInOrder (set r.counters id d) (l ++ id ∷ [])) (sym (empty r.freed (omega arith))) (tt, tt)
+        ]
+      where
+        empty : (l : List ℕ) → length l ≡ 0 → l ≡ []
+        empty [] e = refl
+        empty (x ∷ l) e = absurd (omega arith)
+
+    -- the queue stays in order where the new deadline is not before the last
+    pub kept_reclaimed : (now : ℕ) (still : Bool) → (still ≡ true → 0 < length r.freed → (ordered ≡ true) × (deadline_at r.counters (get_or r.freed (length r.freed - 1) 0) ≤ now + r.reuse_ms)) → IsKept (reclaimed_in r now id) room used still
+    kept_reclaimed now still last =
         let c = counter_at r id in
         let d : Counter = record c { metadata = record c.metadata { status = Reclaimed (now + r.reuse_ms) } } in
         let n = length-set {A = Counter} r.counters id d in
         let known : is_unused (status_at r id) ≡ false = used_from_allocated (status_at r id) was in
+        let absent = absent_from_status r.counters r.freed id h.reclaimed none_freed in
+        let mine : deadline_at (set r.counters id d) id ≡ now + r.reuse_ms =
+            ap (λ (y : Counter). deadline_of y.metadata.status) (get_or-set_same r.counters id d unused_counter allocated_inside) in
+        let in_order : (m : ℕ) → m ≡ length r.freed → (0 < length r.freed → (ordered ≡ true) × (deadline_at r.counters (get_or r.freed (length r.freed - 1) 0) ≤ now + r.reuse_ms)) → AreInOrder (set r.counters id d) (r.freed ++ id ∷ []) =
+            queue_in_order now d absent mine in
         record {
           few = omega (arith, n, h.few);
           room_for_all = omega (arith, n, h.room_for_all);
@@ -351,11 +433,12 @@ module _ (r : Registry) (room used : ℕ) (h : IsKept r room used) where
           reclaimed = reclaimed_snoc (set r.counters id d) r.freed id
               (reclaimed_stays r.counters r.freed id d allocated_inside (λ _. refl) h.reclaimed)
               (ap (λ (y : Counter). reclaimed_counter y) (get_or-set_same r.counters id d unused_counter allocated_inside));
-          distinct = distinct_snoc r.freed id h.distinct (absent_from_status r.counters r.freed id h.reclaimed none_freed);
+          distinct = distinct_snoc r.freed id h.distinct absent;
+          order = λ o. in_order (length r.freed) refl (last o);
           tally = omega (arith, length_push r.freed id, count_more reclaimed_counter r.counters id d allocated_inside none_freed refl, h.tally);
         }
 
-pub kept_fresh : (count reuse_ms room : ℕ) → count ≤ 4096 → count ≤ room → IsKept (fresh_registry count reuse_ms) room 0
+pub kept_fresh : (count reuse_ms room : ℕ) → count ≤ 4096 → count ≤ room → IsKept (fresh_registry count reuse_ms) room 0 true
 kept_fresh count reuse_ms room few enough =
     let n = length-replicate {A = Counter} count unused_counter in
     record {
@@ -366,6 +449,7 @@ kept_fresh count reuse_ms room few enough =
       in_use = λ id lo. absurd (omega arith);
       reclaimed = tt;
       distinct = tt;
+      order = λ o. tt;
       tally = omega arith;
     }
   where
@@ -382,14 +466,14 @@ kept_fresh count reuse_ms room few enough =
 abbrev pub registry : List Metadata → List Values → List ℕ → ℕ → Registry
 registry ms vs freed reuse_ms = record { counters = counters_of ms vs; freed = freed; reuse_ms = reuse_ms }
 
-pub record Shows (r : Registry) (ms : List Metadata) (vs : List Values) (queue : List ℕ) (timeout room used : ℕ) : Type 0 where
+pub record Shows (r : Registry) (ms : List Metadata) (vs : List Values) (queue : List ℕ) (timeout room used : ℕ) (ordered : Bool) : Type 0 where
   pub view : registry ms vs queue timeout ≡ r
   pub same : length vs ≡ length ms
-  pub kept : IsKept (registry ms vs queue timeout) room used
+  pub kept : IsKept (registry ms vs queue timeout) room used ordered
 
-module _ (r : Registry) (ms : List Metadata) (vs : List Values) (queue : List ℕ) (timeout room used : ℕ) (s : Shows r ms vs queue timeout room used) where
-  pub shown_kept : IsKept r room used
-  shown_kept = subst (λ (x : Registry). IsKept x room used) s.view s.kept
+module _ (r : Registry) (ms : List Metadata) (vs : List Values) (queue : List ℕ) (timeout room used : ℕ) (ordered : Bool) (s : Shows r ms vs queue timeout room used ordered) where
+  pub shown_kept : IsKept r room used ordered
+  shown_kept = subst (λ (x : Registry). IsKept x room used ordered) s.view s.kept
 
   pub shown_size : length ms ≡ count_of r
   shown_size = sym (length-counters_of ms vs s.same) ∙ ap (λ (x : Registry). count_of x) s.view
@@ -434,18 +518,18 @@ module _ (r : Registry) (ms : List Metadata) (vs : List Values) (queue : List �
             (used_from_reclaimed (status_at r (get_or r.freed i 0)) (reclaimed_at r.counters r.freed i less shown_kept.reclaimed)) in
         omega (arith, shown_size)
 
-    pub reused_kept : (m : Metadata) (v : Values) → m.status ≡ Allocated → (length (set vs id v) ≡ length (set ms id m)) × IsKept (registry (set ms id m) (set vs id v) freed timeout) room used
+    pub reused_kept : (m : Metadata) (v : Values) → m.status ≡ Allocated → (length (set vs id v) ≡ length (set ms id m)) × IsKept (registry (set ms id m) (set vs id v) freed timeout) room used ordered
     reused_kept m v new = (
       same_stored id m v,
-      subst (λ (x : Registry). IsKept x room used)
+      subst (λ (x : Registry). IsKept x room used ordered)
       (sym (stored id m v freed ∙ (λ j. record r { counters = set r.counters (is j) (counter m v); freed = rest j })))
-      (kept_reused r room used shown_kept i (counter m v) less new),
+      (kept_reused r room used ordered shown_kept i (counter m v) less new),
     )
 
   module _ (id : ℕ) (first : unused_id r ≡ Some id) where
     next_used : (used < count_of r) × (used ≡ id)
     next_used =
-        let e = sym (unused_id-kept r room used shown_kept) ∙ first in
+        let e = sym (unused_id-kept r room used ordered shown_kept) ∙ first in
         elim (cases_lt used (count_of r)) as (λ _. (used < count_of r) × (used ≡ id)) [
           | inl less ↦ (less, (let f : Some used ≡ Some id = sym (cond-true _ (Some used) None (lt-ltb used (count_of r) less)) ∙ e in cc))
           | inr more ↦ absurd (let f : None ≡ Some id = sym (cond-false _ (Some used) None (le-ltb used (count_of r) more)) ∙ e in cc)
@@ -463,11 +547,11 @@ module _ (r : Registry) (ms : List Metadata) (vs : List Values) (queue : List �
           freed = (shown_queue ∙ sym (without_absent id r.freed (absent_from_status r.counters r.freed id shown_kept.reclaimed none))) j;
         })
 
-    pub begun_kept : (m : Metadata) (v : Values) → m.status ≡ Allocated → (length (set vs id v) ≡ length (set ms id m)) × IsKept (registry (set ms id m) (set vs id v) queue timeout) room (id + 1)
+    pub begun_kept : (m : Metadata) (v : Values) → m.status ≡ Allocated → (length (set vs id v) ≡ length (set ms id m)) × IsKept (registry (set ms id m) (set vs id v) queue timeout) room (id + 1) ordered
     begun_kept m v new = (
       same_stored id m v,
-      subst (λ (x : Registry). IsKept x room (id + 1)) (sym (stored id m v queue ∙ (λ j. record r { counters = set r.counters id (counter m v); freed = shown_queue j })))
-      (subst (λ k. IsKept (record r { counters = set r.counters k (counter m v) }) room (k + 1)) next_used.1 (kept_begun r room used shown_kept (counter m v) next_used.0 new)),
+      subst (λ (x : Registry). IsKept x room (id + 1) ordered) (sym (stored id m v queue ∙ (λ j. record r { counters = set r.counters id (counter m v); freed = shown_queue j })))
+      (subst (λ k. IsKept (record r { counters = set r.counters k (counter m v) }) room (k + 1) ordered) next_used.1 (kept_begun r room used ordered shown_kept (counter m v) next_used.0 new)),
     )
 
   module _ (id : ℕ) (was : is_allocated (status_at r id) ≡ true) where
@@ -475,7 +559,7 @@ module _ (r : Registry) (ms : List Metadata) (vs : List Values) (queue : List �
     allocated_below = omega (arith, shown_size, inside_from_status r.counters id (used_from_allocated (status_at r id) was))
 
     pub room_left : length queue < room
-    room_left = omega (arith, ap length shown_queue, room_for_one r room used shown_kept id was)
+    room_left = omega (arith, ap length shown_queue, room_for_one r room used ordered shown_kept id was)
 
     reclaimed_as : (m : Metadata) (freed : List ℕ) (now : ℕ) → m ≡ record (counter_at r id).metadata { status = Reclaimed (now + r.reuse_ms) } → freed ≡ r.freed ++ id ∷ []
         → registry (set ms id m) vs freed timeout ≡ reclaimed_in r now id
@@ -486,26 +570,32 @@ module _ (r : Registry) (ms : List Metadata) (vs : List Values) (queue : List �
     reclaimed_shown m freed now is more =
         reclaimed_as m freed now (is ∙ (λ j. record (shown_at id j).metadata { status = Reclaimed (now + (s.view j).reuse_ms) })) (more ∙ ap (λ l. l ++ id ∷ []) shown_queue)
 
-    pub reclaimed_kept : (m : Metadata) (freed : List ℕ) (now : ℕ) → m ≡ record (get_or ms id unused_metadata) { status = Reclaimed (now + timeout) } → freed ≡ queue ++ id ∷ []
-        → (length vs ≡ length (set ms id m)) × IsKept (registry (set ms id m) vs freed timeout) room used
-    reclaimed_kept m freed now is more = (
-      s.same ∙ sym (length-set ms id m),
-      subst (λ (x : Registry). IsKept x room used) (sym (reclaimed_shown m freed now is more)) (kept_reclaimed r room used shown_kept id was now),
-    )
+    pub reclaimed_kept : (m : Metadata) (freed : List ℕ) (now : ℕ) (still : Bool)
+        → (still ≡ true → 0 < length queue → (ordered ≡ true) × (deadline_of (get_or ms (get_or queue (length queue - 1) 0) unused_metadata).status ≤ now + timeout)) → m ≡ record (get_or ms id unused_metadata) { status = Reclaimed (now + timeout) } → freed ≡ queue ++ id ∷ []
+        → (length vs ≡ length (set ms id m)) × IsKept (registry (set ms id m) vs freed timeout) room used still
+    reclaimed_kept m freed now still last is more =
+        let size = ap length shown_queue in
+        let end : deadline_of (get_or ms (get_or queue (length queue - 1) 0) unused_metadata).status ≡ deadline_at r.counters (get_or r.freed (length r.freed - 1) 0) =
+            ap (λ (c : Counter). deadline_of c.metadata.status) (shown_at (get_or queue (length queue - 1) 0)) ∙ (λ i. deadline_at r.counters (get_or (shown_queue i) (size i - 1) 0)) in
+        let wait : timeout ≡ r.reuse_ms = ap (λ (x : Registry). x.reuse_ms) s.view in (
+          s.same ∙ sym (length-set ms id m),
+          subst (λ (x : Registry). IsKept x room used still) (sym (reclaimed_shown m freed now is more))
+          (kept_reclaimed r room used ordered shown_kept id was now still (λ o some. let h = last o (omega arith) in (h.0, omega (arith, h.1)))),
+        )
 
     pub valued_shown : (v : Values) (value : ℤ) → v ≡ record (get_or vs id unused_values) { value = value } → registry ms (set vs id v) queue timeout ≡ with_value r id value
     valued_shown v value is =
         stored_values id v ∙ (λ j. record r { counters = set r.counters id (counter (counter_at r id).metadata ((is ∙ (λ k. record (shown_at id k).values { value = value })) j)) })
 
-    pub valued_kept : (v : Values) (value : ℤ) → v ≡ record (get_or vs id unused_values) { value = value } → (length (set vs id v) ≡ length ms) × IsKept (registry ms (set vs id v) queue timeout) room used
+    pub valued_kept : (v : Values) (value : ℤ) → v ≡ record (get_or vs id unused_values) { value = value } → (length (set vs id v) ≡ length ms) × IsKept (registry ms (set vs id v) queue timeout) room used ordered
     valued_kept v value is = (
       length-set vs id v ∙ s.same,
-      subst (λ (x : Registry). IsKept x room used) (sym (valued_shown v value is))
-      (kept_changed r room used shown_kept id (counter (counter_at r id).metadata (record (counter_at r id).values { value = value })) was refl),
+      subst (λ (x : Registry). IsKept x room used ordered) (sym (valued_shown v value is))
+      (kept_changed r room used ordered shown_kept id (counter (counter_at r id).metadata (record (counter_at r id).values { value = value })) was refl),
     )
 
-pub kept_room : (r : Registry) (room bigger used : ℕ) → bigger ≡ room → IsKept r room used → IsKept r bigger used
-kept_room r room bigger used e h = subst (λ n. IsKept r n used) (sym e) h
+pub kept_room : (r : Registry) (room bigger used : ℕ) (ordered : Bool) → bigger ≡ room → IsKept r room used ordered → IsKept r bigger used ordered
+kept_room r room bigger used ordered e h = subst (λ n. IsKept r n used ordered) (sym e) h
 
 -- ---- the first id that is due
 
@@ -529,24 +619,30 @@ not_due_from_deadline now Unused h = refl
 not_due_from_deadline now Allocated h = refl
 not_due_from_deadline now (Reclaimed d) h = lt-leb d now h
 
+-- where one is not due, none with a later deadline is
+pub later_not_due : (now : ℕ) (s t : Status) → is_reclaimed s ≡ true → is_due now s ≡ false → deadline_of s ≤ deadline_of t → is_due now t ≡ false
+later_not_due now Unused t r e h = absurd (true≢false (sym r))
+later_not_due now Allocated t r e h = absurd (true≢false (sym r))
+later_not_due now (Reclaimed d) t r e h = let after : now < d = leb-false d now e in not_due_from_deadline now t (omega arith)
+
 -- a freed id is that of a reclaimed counter
-module _ (r : Registry) (ms : List Metadata) (vs : List Values) (queue : List ℕ) (timeout room used : ℕ) (s : Shows r ms vs queue timeout room used) (i id : ℕ) (less : i < length queue) (is : id ≡ get_or queue i 0) where
+module _ (r : Registry) (ms : List Metadata) (vs : List Values) (queue : List ℕ) (timeout room used : ℕ) (ordered : Bool) (s : Shows r ms vs queue timeout room used ordered) (i id : ℕ) (less : i < length queue) (is : id ≡ get_or queue i 0) where
   queued : id ≡ get_or r.freed i 0
-  queued = is ∙ ap (λ l. get_or l i 0) (shown_queue r ms vs queue timeout room used s)
+  queued = is ∙ ap (λ l. get_or l i 0) (shown_queue r ms vs queue timeout room used ordered s)
 
   pub queued_reclaimed : is_reclaimed (status_at r id) ≡ true
   queued_reclaimed =
       ap (λ k. is_reclaimed (status_at r k)) queued
-      ∙ reclaimed_at r.counters r.freed i (omega (arith, ap length (shown_queue r ms vs queue timeout room used s))) (shown_kept r ms vs queue timeout room used s).reclaimed
+      ∙ reclaimed_at r.counters r.freed i (omega (arith, ap length (shown_queue r ms vs queue timeout room used ordered s))) (shown_kept r ms vs queue timeout room used ordered s).reclaimed
 
   pub queued_inside : id < length ms
-  queued_inside = omega (arith, shown_size r ms vs queue timeout room used s, inside_from_status r.counters id (used_from_reclaimed (status_at r id) queued_reclaimed))
+  queued_inside = omega (arith, shown_size r ms vs queue timeout room used ordered s, inside_from_status r.counters id (used_from_reclaimed (status_at r id) queued_reclaimed))
 
   module _ (now : ℕ) (m : Metadata) (here : m ≡ get_or ms id m) where
     queued_status : m.status ≡ status_at r (get_or r.freed i 0)
     queued_status =
         ap (λ (x : Metadata). x.status) (here ∙ get_or_default ms id m unused_metadata queued_inside)
-        ∙ ap (λ (c : Counter). c.metadata.status) (shown_at r ms vs queue timeout room used s id)
+        ∙ ap (λ (c : Counter). c.metadata.status) (shown_at r ms vs queue timeout room used ordered s id)
         ∙ ap (status_at r) queued
 
     pub queued_due : deadline_of m.status ≤ now → is_due now (status_at r (get_or r.freed i 0)) ≡ true
@@ -597,8 +693,33 @@ module _ (count reuse_ms : ℕ) (ms : List Metadata) (vs : List Values) (queue :
       let empty : List Counter → Registry = λ cs. record { counters = cs; freed = []; reuse_ms = reuse_ms } in
       (λ i. registry (all_ms i) (all_vs i) (none i) reuse_ms) ∙ ap empty (counters_of-replicate count)
 
-  pub fresh_kept : (room : ℕ) → count ≤ 4096 → count ≤ room → (length vs ≡ length ms) × IsKept (registry ms vs queue reuse_ms) room 0
+  pub fresh_kept : (room : ℕ) → count ≤ 4096 → count ≤ room → (length vs ≡ length ms) × IsKept (registry ms vs queue reuse_ms) room 0 true
   fresh_kept room few enough = (
     ap length all_vs ∙ length-replicate count unused_values ∙ sym (length-replicate count unused_metadata) ∙ sym (ap length all_ms),
-    subst (λ (x : Registry). IsKept x room 0) (sym fresh_shown) (kept_fresh count reuse_ms room few enough),
+    subst (λ (x : Registry). IsKept x room 0 true) (sym fresh_shown) (kept_fresh count reuse_ms room few enough),
   )
+
+-- the queue's ids lie within the records
+module _ (r : Registry) (ms : List Metadata) (vs : List Values) (queue : List ℕ) (timeout room used : ℕ) (ordered : Bool) (s : Shows r ms vs queue timeout room used ordered) where
+  pub all_inside : (k : ℕ) → k < length queue → get_or queue k 0 < length ms
+  all_inside k less = queued_inside r ms vs queue timeout room used ordered s k (get_or queue k 0) less refl
+
+  -- no deadline is before the first, where the queue is in order
+  pub first_deadline : ordered ≡ true → (k : ℕ) → k < length queue → deadline_of (status_at r (get_or r.freed 0 0)) ≤ deadline_of (status_at r (get_or r.freed k 0))
+  first_deadline o k less =
+      let kept = shown_kept r ms vs queue timeout room used ordered s in
+      let size = ap length (shown_queue r ms vs queue timeout room used ordered s) in
+      first_is_least r.counters r.freed k (omega arith) (kept.order o)
+
+  pub rest_not_due : (now end : ℕ) → (0 < length queue → 0 < end)
+      → ((k : ℕ) → end ≤ k → k < length r.freed → deadline_of (status_at r (get_or r.freed 0 0)) ≤ deadline_of (status_at r (get_or r.freed k 0)))
+      → ((k : ℕ) → k < end → is_due now (status_at r (get_or r.freed k 0)) ≡ false) → (k : ℕ) → k < length r.freed → is_due now (status_at r (get_or r.freed k 0)) ≡ false
+  rest_not_due now end some later before k less =
+      let kept = shown_kept r ms vs queue timeout room used ordered s in
+      let size = ap length (shown_queue r ms vs queue timeout room used ordered s) in
+      elim (cases_lt k end) as (λ _. is_due now (status_at r (get_or r.freed k 0)) ≡ false) [
+        | inl near ↦ before k near
+        | inr far ↦
+            later_not_due now (status_at r (get_or r.freed 0 0)) (status_at r (get_or r.freed k 0)) (reclaimed_at r.counters r.freed 0 (omega arith) kept.reclaimed)
+            (before 0 (some (omega arith))) (later k far less)
+      ]

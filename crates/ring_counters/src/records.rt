@@ -1,6 +1,6 @@
 //! The counters over vectors of records, and the queue of freed ids.
-ghost use Rattle.std.specs.Prelude.{◌≡◌, ◌≢◌, ℕ, ◌+◌, ◌*◌, ◌^◌, ◌<◌, ◌≤◌, true, false, position, IfOk, IfSome, IfNone, MatchOption, length, replicate, slice_index, slice_set, remove};
-ghost use Rattle.ring_counters.specs.Counter.{Metadata, Values, Counter, Allocated, unused_metadata, unused_values, unused_counter};
+ghost use Rattle.std.specs.Prelude.{◌≡◌, ◌≢◌, ℕ, ◌+◌, ◌-◌, ◌*◌, ◌^◌, ◌<◌, ◌≤◌, true, false, position, IfOk, IfSome, IfNone, MatchOption, length, replicate, slice_index, slice_index_or, slice_set, remove};
+ghost use Rattle.ring_counters.specs.Counter.{Metadata, Values, Counter, Allocated, deadline_of, unused_metadata, unused_values, unused_counter};
 ghost use Rattle.ring_counters.specs.Registry.{Registry, count_of, counter_at, status_at, is_due, is_allocated, next_id, due_id, unused_id, allocated_in, reclaimed_in, with_value, fresh_registry, answer, id_refusal_of, range_refusal_of, is_owned, owned_ids, closed_in, live_of};
 ghost use Rattle.ring_counters.specs.Infos.{IsInfoOf, AreInfos};
 
@@ -19,6 +19,8 @@ pub(crate) struct Records {
     values: Vec<ValueRecord>,
     /// The freed ids in order of freeing, with room for every id.
     freed: VecDeque<u32>,
+    /// Whether the deadlines never fall along the queue, so that where the first id is not due none is.
+    in_order: bool,
     /// The lowest id that was never used.
     used: u32,
     reuse_ms: u32,
@@ -34,7 +36,7 @@ impl Model for Records {
 
     ghost view = { λ a. record { counters = counters_of a.metadata.items a.values.items; freed = a.freed.items; reuse_ms = a.reuse_ms } };
 
-    ghost invariant = { λ a. (length a.values.items ≡ length a.metadata.items) × IsKept (record { counters = counters_of a.metadata.items a.values.items; freed = a.freed.items; reuse_ms = a.reuse_ms }) (deque_capacity a.freed) a.used };
+    ghost invariant = { λ a. (length a.values.items ≡ length a.metadata.items) × IsKept (record { counters = counters_of a.metadata.items a.values.items; freed = a.freed.items; reuse_ms = a.reuse_ms }) (deque_capacity a.freed) a.used a.in_order };
 }
 
 /// This many metadata records that were never used.
@@ -59,6 +61,22 @@ fn unused_value_records(alloc: Global, count: u32) -> Result<Vec<ValueRecord>, A
     Ok(records)
 }
 
+/// Whether the deadlines along the queue still never fall after one more with this deadline.
+fn stays_in_order(
+    in_order: bool,
+    freed: &VecDeque<u32>,
+    metadata: &[MetadataRecord],
+    deadline: u64,
+) -> bool
+    requires { (k : ℕ) → k < length freed.now.items → slice_index freed.now.items k < length metadata.now }
+    ensures { result ≡ true → 0 < length freed.now.items → (in_order ≡ true) × (deadline_of (slice_index_or metadata.now (slice_index freed.now.items (length freed.now.items - 1)) unused_metadata).status ≤ deadline) }
+{
+    match freed.back() {
+        Some(last) => in_order && metadata[*last as usize].deadline() <= deadline,
+        None => true,
+    }
+}
+
 impl Records {
     pub(crate) fn new(alloc: Global, count: u32, reuse_ms: u32) -> Result<Self, AllocError>
         requires { count ≤ 4096 }
@@ -68,6 +86,7 @@ impl Records {
             metadata: unused_metadata_records(alloc, count)?,
             values: unused_value_records(alloc, count)?,
             freed: VecDeque::with_capacity(alloc, count as usize)?,
+            in_order: true,
             used: 0,
             reuse_ms,
         })
@@ -80,11 +99,24 @@ impl Records {
         self.metadata.len() as u32
     }
 
+    /// How far the queue must be searched for an id that is due: where the deadlines never fall, no further than its first.
+    fn reach(&self) -> usize
+        ensures most { result ≤ length self.now.freed }
+        ensures some { 0 < length self.now.freed → 0 < result }
+        ensures later { (k : ℕ) → result ≤ k → k < length self.now.freed → deadline_of (status_at self.now (slice_index self.now.freed 0)) ≤ deadline_of (status_at self.now (slice_index self.now.freed k)) }
+    {
+        if self.in_order {
+            self.freed.len().min(1)
+        } else {
+            self.freed.len()
+        }
+    }
+
     /// Where the first freed id that is due stands in the queue.
     fn first_due(&self, now: u64) -> Option<usize>
         ensures { result ≡ position (λ id. is_due now (status_at self.now id)) self.now.freed }
     {
-        for at in 0..self.freed.len() {
+        for at in 0..self.reach() {
             if self.metadata[self.freed[at] as usize].deadline() <= now {
                 return Some(at);
             }
@@ -163,8 +195,10 @@ impl Records {
         requires allocated { is_allocated (status_at self.old id) ≡ true }
         ensures { self.new ≡ reclaimed_in self.old now id }
     {
+        let deadline = now + u64::from(self.reuse_ms);
+        self.in_order = stays_in_order(self.in_order, &self.freed, &self.metadata, deadline);
         let record = &mut self.metadata[id as usize];
-        record.reclaim(now + u64::from(self.reuse_ms));
+        record.reclaim(deadline);
         self.freed.push_back_reserved(id);
     }
 
