@@ -1,0 +1,5 @@
+pub mod RecordLemmas
+pub mod KeptLemmas
+pub mod ValueSteps
+pub mod ListingLemmas
+pub mod AgreeLemmas

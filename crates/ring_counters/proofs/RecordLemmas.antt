@@ -1,0 +1,354 @@
+-- The words of a record say what the record is.
+use Rattle.std.proofs.Common.{◌≡◌, ◌≢◌, ℕ, zero, suc, ◌+◌, ◌-◌, ◌*◌, ◌/◌, ◌%◌, ◌^◌, ◌<◌, ◌≤◌, ◌==◌, ℤ, pos, negsuc, FitsSigned, List, [], ◌∷◌, ◌++◌, map, length, drop, take, set, replicate, slice_index, refl, sym, ap, subst, ◌∙◌, arith, inl, inr, get_or, get_or-set_other, get_or-set_same, All}
+use Rattle.std.specs.List.{range_with_len}
+use Rattle.std.proofs.Math.ListN.{length-set}
+use Rattle.std.specs.Int.{Width, cast_signed, cast_unsigned, from_le_bytes, to_le_bytes, w32, w64}
+use Rattle.std.proofs.lemmas.Bool.{cases_lt, cases_eq, lt-ltb, le-ltb, ne_eqb, cond-true, cond-false}
+use Rattle.std.proofs.lemmas.Int.{to_z-of_z}
+use Rattle.std.proofs.lemmas.Nat.{mod_low, shr_high, from_le_bytes-to_le_bytes_4}
+use Rattle.std.proofs.lemmas.List.{ext_get_or, length-append, length-replicate, get_or-drop, get_or_past, get_or_append_left, get_or-append_right, get_or-replicate}
+use Rattle.std.proofs.lemmas.List.Elements.{All-get_or, All-from_get_or}
+use Rattle.std.proofs.lemmas.List.FromFn.{length-map-range_with_len, get_or-map-range_with_len}
+use Rattle.ring_counters.specs.Counter.{Status, Unused, Allocated, Reclaimed, Metadata, Values, padded, unused_metadata, unused_values, state_of, deadline_of, word_of_bytes, state_word, label_text, metadata_word, value_word}
+use Rattle.ring_counters.specs.Records.{byte_at, bytes_at, status_from, metadata_of, values_of, IsLawful, IsMetadata, SomeMetadata, IsValues, SomeValues}
+use borrow.Rule.Slice.PartMut.{put_mid}
+use Rattle.ring_layout.proofs.HeaderLemmas.{pattern_below}
+use Rattle.ring_layout.proofs.WordBytes.{byte_of_word, from_le_bytes-same}
+
+-- ---- bytes in words
+
+unfoldable pub AreSmall : List ℕ → Type 0
+AreSmall bytes = (j : ℕ) → slice_index bytes j < 256
+
+small_from_all : (bytes : List ℕ) → All (λ b. b < 256) bytes → AreSmall bytes
+unfolding AreSmall
+small_from_all bytes all j =
+    elim (cases_lt j (length bytes)) as (λ _. slice_index bytes j < 256) [
+      | inl h ↦ All-get_or (λ (b : ℕ). b < 256) bytes j 0 h all
+      | inr h ↦ omega (arith, get_or_past bytes j 0 h)
+    ]
+
+byte_from_word : (bytes : List ℕ) → AreSmall bytes → (k : ℕ) → word_of_bytes bytes (k / 8) / 2 ^ (8 * (k % 8)) % 256 ≡ slice_index bytes k
+unfolding AreSmall
+byte_from_word bytes small k =
+    byte_of_word (drop (8 * (k / 8)) bytes) (λ j. let e = get_or-drop (8 * (k / 8)) bytes j 0 in omega (arith, e, small (8 * (k / 8) + j))) (k % 8) (omega arith)
+    ∙ get_or-drop (8 * (k / 8)) bytes (k % 8) 0
+    ∙ ap (slice_index bytes) (omega arith)
+
+-- a byte of the words is that of the bytes that they show from the word `at` on
+shown_byte : (words bytes : List ℕ) (at i k : ℕ) → AreSmall bytes → i ≡ 8 * at + k → slice_index words (at + k / 8) ≡ word_of_bytes bytes (k / 8) → byte_at words i ≡ slice_index bytes k
+shown_byte words bytes at i k small e shows =
+    let word : i / 8 ≡ at + k / 8 = omega arith in
+    let rest : i % 8 ≡ k % 8 = omega arith in
+    (λ j. slice_index words (word j) / 2 ^ (8 * rest j) % 256)
+    ∙ ap (λ w. w / 2 ^ (8 * (k % 8)) % 256) shows
+    ∙ byte_from_word bytes small k
+
+zero_past : (m i : ℕ) → slice_index (replicate m 0) i ≡ 0
+zero_past zero i = refl
+zero_past (suc m) zero = refl
+zero_past (suc m) (suc i) = zero_past m i
+
+-- zeros behind the bytes change no byte, and no word
+pub slice_index-padded : (n : ℕ) (bytes : List ℕ) (i : ℕ) → slice_index bytes i ≡ slice_index (padded n bytes) i
+slice_index-padded n bytes i =
+    elim (cases_lt i (length bytes)) as (λ _. slice_index bytes i ≡ slice_index (padded n bytes) i) [
+      | inl h ↦ sym (get_or_append_left bytes (replicate (n - length bytes) 0) 0 i h)
+      | inr h ↦
+          get_or_past bytes i 0 h
+          ∙ sym (zero_past (n - length bytes) (i - length bytes))
+          ∙ sym (get_or-append_right bytes (replicate (n - length bytes) 0) (length bytes) i 0 refl h)
+    ]
+
+-- a word depends on the bytes alone
+pub word_of-same : (xs ys : List ℕ) → ((i : ℕ) → slice_index xs i ≡ slice_index ys i) → (k : ℕ) → word_of_bytes xs k ≡ word_of_bytes ys k
+word_of-same xs ys same k =
+    from_le_bytes-same (drop (8 * k) xs) (drop (8 * k) ys) (λ i h. get_or-drop (8 * k) xs i 0 ∙ same (8 * k + i) ∙ sym (get_or-drop (8 * k) ys i 0))
+
+pub word_of-padded : (n : ℕ) (bytes : List ℕ) (k : ℕ) → word_of_bytes bytes k ≡ word_of_bytes (padded n bytes) k
+word_of-padded n bytes = word_of-same bytes (padded n bytes) (slice_index-padded n bytes)
+
+no_word : (k : ℕ) → word_of_bytes [] k ≡ 0
+no_word zero = refl
+no_word (suc k) = word_of-same [] [] (λ i. refl) (suc k) ∙ from_le_bytes-same (drop (8 * suc k) []) [] (λ i h. get_or-drop (8 * suc k) [] i 0)
+
+pub word_of-zeros : (bytes : List ℕ) → ((i : ℕ) → slice_index bytes i ≡ 0) → (k : ℕ) → word_of_bytes bytes k ≡ 0
+word_of-zeros bytes zeros k = word_of-same bytes [] zeros k ∙ no_word k
+
+-- behind the bytes the words are 0
+pub word_of-past : (bytes : List ℕ) (k : ℕ) → length bytes ≤ 8 * k → word_of_bytes bytes k ≡ 0
+word_of-past bytes k h = from_le_bytes-same (drop (8 * k) bytes) [] (λ i less. get_or-drop (8 * k) bytes i 0 ∙ get_or_past bytes (8 * k + i) 0 (omega arith))
+
+-- what comes behind the bytes is 0, so it may be left out
+zeros_behind : (bytes tail : List ℕ) → ((i : ℕ) → slice_index tail i ≡ 0) → (i : ℕ) → slice_index (bytes ++ tail) i ≡ slice_index bytes i
+zeros_behind [] tail zeros i = zeros i
+zeros_behind (x ∷ bytes) tail zeros zero = refl
+zeros_behind (x ∷ bytes) tail zeros (suc i) = zeros_behind bytes tail zeros i
+
+-- a buffer of zeros after the first four bytes and the label behind them were stored
+pub full_label_at : (a b c d k : ℕ) (head label : List ℕ) → head ≡ a ∷ b ∷ c ∷ d ∷ [] → (i : ℕ) → slice_index (put_mid 4 k (head ++ drop 4 (replicate 384 0)) label) i ≡ slice_index (a ∷ b ∷ c ∷ d ∷ label) i
+full_label_at a b c d k head label is =
+    let P : List ℕ → Type 0 = λ l. (i : ℕ) → slice_index (put_mid 4 k (l ++ drop 4 (replicate 384 0)) label) i ≡ slice_index (a ∷ b ∷ c ∷ d ∷ label) i in
+    subst P (sym is) (zeros_behind (a ∷ b ∷ c ∷ d ∷ label) (drop k (replicate 380 0)) (λ i. get_or-drop k (replicate 380 0) i 0 ∙ zero_past 380 (k + i)))
+
+-- ---- words of a metadata record
+
+pub state_fits : (s : Status) → FitsSigned w32 (state_of s)
+state_fits Unused = record { sfits = omega arith }
+state_fits Allocated = record { sfits = omega arith }
+state_fits (Reclaimed d) = record { sfits = omega arith }
+
+low_of-state_word : (s : Status) (type_id : ℤ) → state_word (state_of s) type_id % 2 ^ 32 ≡ cast_unsigned w32 (state_of s)
+low_of-state_word s type_id = mod_low (cast_unsigned w32 type_id) 32 (cast_unsigned w32 (state_of s)) (pattern_below (state_of s) (state_fits s))
+
+high_of-state_word : (s : Status) (type_id : ℤ) → state_word (state_of s) type_id / 2 ^ 32 ≡ cast_unsigned w32 type_id
+high_of-state_word s type_id = shr_high (cast_unsigned w32 type_id) 32 (cast_unsigned w32 (state_of s)) (pattern_below (state_of s) (state_fits s))
+
+status_from-state : (s : Status) → status_from (cast_unsigned w32 (state_of s)) (deadline_of s) ≡ s
+status_from-state Unused = refl
+status_from-state Allocated = refl
+status_from-state (Reclaimed d) = refl
+
+pub metadata_word-key : (m : Metadata) (k : ℕ) → 2 ≤ k → k < 16 → metadata_word m k ≡ word_of_bytes m.key (k - 2)
+unfolding metadata_word
+metadata_word-key m k lo hi =
+    cond-false _ _ _ (ne_eqb k 0 (λ e. omega arith)) ∙ cond-false _ _ _ (ne_eqb k 1 (λ e. omega arith)) ∙ cond-true _ _ _ (lt-ltb k 16 hi)
+
+pub metadata_word-label : (m : Metadata) (k : ℕ) → 16 ≤ k → metadata_word m k ≡ word_of_bytes (label_text m.label) (k - 16)
+unfolding metadata_word
+metadata_word-label m k lo =
+    cond-false _ _ _ (ne_eqb k 0 (λ e. omega arith)) ∙ cond-false _ _ _ (ne_eqb k 1 (λ e. omega arith)) ∙ cond-false _ _ _ (le-ltb k 16 lo)
+
+module _ (words : List ℕ) (m : Metadata) (h : IsMetadata words m) where
+  pub state_shown : slice_index words 0 ≡ state_word (state_of m.status) m.type_id
+  unfolding metadata_word
+  state_shown = h.shows 0 (omega arith)
+
+  pub deadline_shown : slice_index words 1 ≡ deadline_of m.status
+  unfolding metadata_word
+  deadline_shown = h.shows 1 (omega arith)
+
+  status_decoded : status_from (slice_index words 0 % 2 ^ 32) (slice_index words 1) ≡ m.status
+  status_decoded =
+      (λ i. status_from (state_shown i % 2 ^ 32) (deadline_shown i))
+      ∙ ap (λ state. status_from state (deadline_of m.status)) (low_of-state_word m.status m.type_id)
+      ∙ status_from-state m.status
+
+  pub type_decoded : cast_signed w32 (slice_index words 0 / 2 ^ 32) ≡ m.type_id
+  type_decoded =
+      ap (λ w. cast_signed w32 (w / 2 ^ 32)) state_shown
+      ∙ ap (cast_signed w32) (high_of-state_word m.status m.type_id)
+      ∙ to_z-of_z w32 m.type_id h.lawful.type_id
+
+  pub state_decoded : cast_signed w32 (slice_index words 0 % 2 ^ 32) ≡ state_of m.status
+  state_decoded =
+      ap (λ w. cast_signed w32 (w % 2 ^ 32)) state_shown
+      ∙ ap (cast_signed w32) (low_of-state_word m.status m.type_id)
+      ∙ to_z-of_z w32 (state_of m.status) (state_fits m.status)
+
+  pub key_byte : (k : ℕ) → k < 112 → byte_at words (16 + k) ≡ slice_index m.key k
+  key_byte k lt =
+      let at : 2 + k / 8 - 2 ≡ k / 8 = omega arith in
+      shown_byte words m.key 2 (16 + k) k (small_from_all m.key h.lawful.key) (omega arith)
+      (h.shows (2 + k / 8) (omega arith) ∙ metadata_word-key m (2 + k / 8) (omega arith) (omega arith) ∙ ap (word_of_bytes m.key) at)
+
+  text_word : (k : ℕ) → k < 48 → slice_index words (16 + k) ≡ word_of_bytes (label_text m.label) k
+  text_word k lt =
+      let at : 16 + k - 16 ≡ k = omega arith in
+      h.shows (16 + k) (omega arith) ∙ metadata_word-label m (16 + k) (omega arith) ∙ ap (word_of_bytes (label_text m.label)) at
+
+  text_small : AreSmall (label_text m.label)
+  unfolding AreSmall
+  text_small zero = omega arith
+  text_small (suc zero) = omega arith
+  text_small (suc (suc zero)) = omega arith
+  text_small (suc (suc (suc zero))) = omega arith
+  text_small (suc (suc (suc (suc j)))) = small_from_all m.label h.lawful.label j
+
+  pub label_byte : (k : ℕ) → k < 380 → byte_at words (132 + k) ≡ slice_index m.label k
+  label_byte k lt = shown_byte words (label_text m.label) 16 (132 + k) (suc (suc (suc (suc k)))) text_small (omega arith) (text_word (suc (suc (suc (suc k))) / 8) (omega arith))
+
+  pub length_decoded : slice_index words 16 % 2 ^ 32 ≡ length m.label
+  length_decoded =
+      let n = length m.label in
+      let few : n ≤ 380 = h.lawful.label_length in
+      ap (λ w. w % 2 ^ 32) (text_word 0 (omega arith)) ∙ omega (arith, from_le_bytes-to_le_bytes_4 n (omega arith))
+
+  pub metadata_decoded : metadata_of words ≡ m
+  unfolding metadata_of
+  metadata_decoded =
+      let key : bytes_at words 16 112 ≡ m.key =
+          ext_get_or 0 (bytes_at words 16 112) m.key (length-map-range_with_len (byte_at words) 16 112 ∙ sym h.lawful.key_length)
+          (λ k lt. let lt' : k < 112 = omega (arith, length-map-range_with_len (byte_at words) 16 112) in
+          get_or-map-range_with_len (byte_at words) 16 112 k (16 + k) 0 lt' refl ∙ key_byte k lt') in
+      let n = length m.label in
+      let few : n ≤ 380 = h.lawful.label_length in
+      let label : bytes_at words 132 n ≡ m.label =
+          ext_get_or 0 (bytes_at words 132 n) m.label (length-map-range_with_len (byte_at words) 132 n)
+          (λ k lt. let lt' : k < n = omega (arith, length-map-range_with_len (byte_at words) 132 n) in
+          get_or-map-range_with_len (byte_at words) 132 n k (132 + k) 0 lt' refl ∙ label_byte k (omega arith)) in
+      λ i. record {
+        status = status_decoded i;
+        type_id = type_decoded i;
+        key = key i;
+        label = (ap (bytes_at words 132) length_decoded ∙ label) i;
+      }
+
+-- the words that say m are those of m
+pub metadata_known : (words : List ℕ) (m : Metadata) → metadata_of words ≡ m → SomeMetadata words → IsMetadata words m
+metadata_known words m e h = subst (IsMetadata words) (sym (metadata_decoded words h.0 h.1) ∙ e) h.1
+
+-- ---- words of a value record
+
+module _ (words : List ℕ) (v : Values) (h : IsValues words v) where
+  pub value_decoded : cast_signed w64 (slice_index words 0) ≡ v.value
+  unfolding value_word
+  value_decoded = ap (cast_signed w64) (h.shows 0 (omega arith)) ∙ to_z-of_z w64 v.value h.value
+
+  pub registration_shown : slice_index words 1 ≡ v.registration
+  unfolding value_word
+  registration_shown = h.shows 1 (omega arith)
+
+  pub owner_shown : slice_index words 2 ≡ v.owner
+  unfolding value_word
+  owner_shown = h.shows 2 (omega arith)
+
+  pub values_decoded : values_of words ≡ v
+  unfolding values_of
+  values_decoded = λ i. record { value = value_decoded i; registration = registration_shown i; owner = owner_shown i }
+
+-- the words that say v are those of v
+pub values_known : (words : List ℕ) (v : Values) → values_of words ≡ v → SomeValues words → IsValues words v
+values_known words v e h = subst (IsValues words) (sym (values_decoded words h.0 h.1) ∙ e) h.1
+
+-- a number that a signed type holds, as a call gives it
+pub signed : (w : Width) (z y : ℤ) → z ≡ y → FitsSigned w y → cast_signed w (cast_unsigned w z) ≡ y
+signed w z y e f = ap (λ x. cast_signed w (cast_unsigned w x)) e ∙ to_z-of_z w y f
+
+-- ---- words that a call stores
+
+shows_from : (words : List ℕ) (m : Metadata) → slice_index words 0 ≡ state_word (state_of m.status) m.type_id → slice_index words 1 ≡ deadline_of m.status
+    → ((k : ℕ) → 2 ≤ k → k < 16 → slice_index words k ≡ word_of_bytes m.key (k - 2))
+    → ((k : ℕ) → 16 ≤ k → k < 64 → slice_index words k ≡ word_of_bytes (label_text m.label) (k - 16))
+    → (k : ℕ) → k < 64 → slice_index words k ≡ metadata_word m k
+unfolding metadata_word
+shows_from words m state deadline key label zero h = state
+shows_from words m state deadline key label (suc zero) h = deadline
+shows_from words m state deadline key label (suc (suc k)) h =
+    elim (cases_lt (suc (suc k)) 16) as (λ _. slice_index words (suc (suc k)) ≡ metadata_word m (suc (suc k))) [
+      | inl less ↦ key (suc (suc k)) (omega arith) less ∙ sym (metadata_word-key m (suc (suc k)) (omega arith) less)
+      | inr more ↦ label (suc (suc k)) more h ∙ sym (metadata_word-label m (suc (suc k)) more)
+    ]
+
+pub unused_metadata_shown : IsMetadata (replicate 64 0) unused_metadata
+unused_metadata_shown = record {
+  lawful = record {
+    type_id = record { sfits = omega arith };
+    key_length = refl;
+    key = All-from_get_or (λ (b : ℕ). b < 256) (replicate 112 0) 0 (λ i h. omega (arith, zero_past 112 i));
+    label_length = omega arith;
+    label = All-from_get_or (λ (b : ℕ). b < 256) [] 0 (λ i h. absurd (omega arith));
+  };
+  shows = shows_from (replicate 64 0) unused_metadata refl refl
+      (λ k lo hi. zero_past 64 k ∙ sym (word_of-zeros (replicate 112 0) (zero_past 112) (k - 2)))
+      (λ k lo hi. zero_past 64 k ∙ sym (word_of-zeros (label_text []) (zero_past 4) (k - 16)));
+}
+
+value_word-past : (v : Values) (k : ℕ) → 3 ≤ k → value_word v k ≡ 0
+unfolding value_word
+value_word-past v k h =
+    cond-false _ _ _ (ne_eqb k 0 (λ e. omega arith)) ∙ cond-false _ _ _ (ne_eqb k 1 (λ e. omega arith)) ∙ cond-false _ _ _ (ne_eqb k 2 (λ e. omega arith))
+
+value_word-same : (v : Values) (value : ℤ) (k : ℕ) → value_word (record v { value = value }) (suc k) ≡ value_word v (suc k)
+unfolding value_word
+value_word-same v value k = cond-false _ _ _ (ne_eqb (suc k) 0 (λ e. omega arith)) ∙ sym (cond-false _ _ _ (ne_eqb (suc k) 0 (λ e. omega arith)))
+
+pub unused_values_shown : IsValues (replicate 16 0) unused_values
+unfolding value_word
+unused_values_shown = record { value = record { sfits = omega arith }; shows = λ k h. zero_past 16 k ∙ sym (none k) }
+  where
+    none : (k : ℕ) → value_word unused_values k ≡ 0
+    none zero = refl
+    none (suc zero) = refl
+    none (suc (suc zero)) = refl
+    none (suc (suc (suc k))) = value_word-past unused_values (suc (suc (suc k))) (omega arith)
+
+-- a record after its state and its deadline were stored
+pub reclaimed_shown : (words : List ℕ) (m : Metadata) (state deadline : ℕ) → IsMetadata words m → length words ≡ 64 → state ≡ state_word (negsuc 0) m.type_id
+    → IsMetadata (set (set words 0 state) 1 deadline) (record m { status = Reclaimed deadline })
+reclaimed_shown words m state deadline h len is = record {
+  lawful = record { type_id = h.lawful.type_id; key_length = h.lawful.key_length; key = h.lawful.key; label_length = h.lawful.label_length; label = h.lawful.label };
+  shows =
+    let first : (k : ℕ) → 2 ≤ k → slice_index (set (set words 0 state) 1 deadline) k ≡ slice_index words k =
+        λ k lo. get_or-set_other (set words 0 state) 1 k deadline 0 (λ e. omega arith) ∙ get_or-set_other words 0 k state 0 (λ e. omega arith) in
+    shows_from (set (set words 0 state) 1 deadline) (record m { status = Reclaimed deadline })
+    (get_or-set_other (set words 0 state) 1 0 deadline 0 (λ e. omega arith) ∙ get_or-set_same words 0 state 0 (omega arith) ∙ is)
+    (get_or-set_same (set words 0 state) 1 deadline 0 (omega (arith, length-set {A = ℕ})))
+    (λ k lo hi. first k lo ∙ h.shows k (omega arith) ∙ metadata_word-key m k lo hi)
+    (λ k lo hi. first k (omega arith) ∙ h.shows k hi ∙ metadata_word-label m k lo);
+}
+
+-- a record of zeros after all of an allocated counter was stored
+pub allocated_shown : (type_id : ℤ) (key label text w0 w1 w2 : List ℕ) (state : ℕ) → FitsSigned w32 type_id → AreSmall key → AreSmall label → length key ≤ 112 → length label ≤ 380
+    → state ≡ state_word (pos 1) type_id
+    → w0 ≡ set (set (replicate 64 0) 0 state) 1 (2 ^ 63 - 1)
+    → ((k : ℕ) → 8 * k < length key → slice_index w1 (2 + k) ≡ word_of_bytes key k)
+    → ((i : ℕ) → i < 2 → slice_index w1 i ≡ slice_index w0 i)
+    → ((i : ℕ) → 2 + (length key + 7) / 8 ≤ i → slice_index w1 i ≡ slice_index w0 i)
+    → length text ≡ 384
+    → ((i : ℕ) → slice_index text i ≡ slice_index (label_text label) i)
+    → ((k : ℕ) → 8 * k < length text → slice_index w2 (16 + k) ≡ word_of_bytes text k)
+    → ((i : ℕ) → i < 16 → slice_index w2 i ≡ slice_index w1 i)
+    → IsMetadata w2 record { status = Allocated; type_id = type_id; key = padded 112 key; label = label }
+unfolding AreSmall
+allocated_shown type_id key label text w0 w1 w2 state fits small_key small_label few_key few_label is_state is_w0 inside below above text_length text_is text_inside text_below =
+    let m : Metadata = record { status = Allocated; type_id = type_id; key = padded 112 key; label = label } in
+    record {
+      lawful = record {
+        type_id = fits;
+        key_length = omega (arith, length-append key (replicate (112 - length key) 0), length-replicate {A = ℕ} (112 - length key) 0);
+        key = All-from_get_or (λ (b : ℕ). b < 256) (padded 112 key) 0 (λ i h. omega (arith, slice_index-padded 112 key i, small_key i));
+        label_length = few_label;
+        label = All-from_get_or (λ (b : ℕ). b < 256) label 0 (λ i h. small_label i);
+      };
+      shows = shows_from w2 m
+          (text_below 0 (omega arith) ∙ below 0 (omega arith) ∙ ap (λ l. slice_index l 0) is_w0 ∙ is_state)
+          (text_below 1 (omega arith) ∙ below 1 (omega arith) ∙ ap (λ l. slice_index l 1) is_w0)
+          (λ k lo hi. text_below k hi ∙ key_word k lo hi ∙ word_of-padded 112 key (k - 2))
+          (λ k lo hi.
+              let at : 16 + (k - 16) ≡ k = omega arith in
+              sym (ap (slice_index w2) at) ∙ text_inside (k - 16) (omega arith) ∙ word_of-same text (label_text label) text_is (k - 16));
+    }
+  where
+    blank : (k : ℕ) → 2 ≤ k → slice_index w0 k ≡ 0
+    blank k lo =
+        ap (λ l. slice_index l k) is_w0
+        ∙ get_or-set_other (set (replicate 64 0) 0 state) 1 k (2 ^ 63 - 1) 0 (λ e. omega arith)
+        ∙ get_or-set_other (replicate 64 0) 0 k state 0 (λ e. omega arith)
+        ∙ zero_past 64 k
+
+    key_word : (k : ℕ) → 2 ≤ k → k < 16 → slice_index w1 k ≡ word_of_bytes key (k - 2)
+    key_word k lo hi =
+        elim (cases_lt (8 * (k - 2)) (length key)) as (λ _. slice_index w1 k ≡ word_of_bytes key (k - 2)) [
+          | inl less ↦ (let at : 2 + (k - 2) ≡ k = omega arith in sym (ap (slice_index w1) at) ∙ inside (k - 2) less)
+          | inr more ↦ above k (omega arith) ∙ blank k lo ∙ sym (word_of-past key (k - 2) more)
+        ]
+
+pub allocated_values_shown : (registration owner : ℕ) → IsValues (set (set (replicate 16 0) 1 registration) 2 owner) record { value = pos 0; registration = registration; owner = owner }
+unfolding value_word
+allocated_values_shown registration owner = record { value = record { sfits = omega arith }; shows = λ k h. shown k }
+  where
+    shown : (k : ℕ) → slice_index (set (set (replicate 16 0) 1 registration) 2 owner) k ≡ value_word (record { value = pos 0; registration = registration; owner = owner }) k
+    shown zero = refl
+    shown (suc zero) = refl
+    shown (suc (suc zero)) = refl
+    shown (suc (suc (suc k))) = zero_past 13 k ∙ sym (value_word-past (record { value = pos 0; registration = registration; owner = owner }) (suc (suc (suc k))) (omega arith))
+
+pub set_values_shown : (words : List ℕ) (v : Values) (value : ℤ) (bits : ℕ) → IsValues words v → length words ≡ 16 → FitsSigned w64 value → bits ≡ cast_unsigned w64 value
+    → IsValues (set words 0 bits) (record v { value = value })
+unfolding value_word
+set_values_shown words v value bits h len fits is = record { value = fits; shows = shown }
+  where
+    shown : (k : ℕ) → k < 16 → slice_index (set words 0 bits) k ≡ value_word (record v { value = value }) k
+    shown zero less = get_or-set_same words 0 bits 0 (omega arith) ∙ is
+    shown (suc k) less = get_or-set_other words 0 (suc k) bits 0 (λ e. omega arith) ∙ h.shows (suc k) less ∙ sym (value_word-same v value k)

@@ -1,0 +1,11 @@
+pub mod Counter
+pub mod Records
+pub mod Registry
+pub mod Kept
+pub mod Views
+pub mod ValueWrites
+pub mod ValuesRule
+pub mod Seats
+pub mod Agree
+pub mod Infos
+pub mod Manager

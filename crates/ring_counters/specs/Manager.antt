@@ -1,0 +1,28 @@
+-- What a manager shows.
+use Rattle.std.specs.Prelude.{◌≡◌, ℕ, List}
+use Rattle.ring_counters.specs.declared.rule.ValueWrite.{ValueWrite}
+use Rattle.ring_counters.specs.declared.seats.CounterValues.{CounterValues}
+use Rattle.ring_counters.specs.declared.manager.CountersManager.{CountersManager}
+use Rattle.ring_counters.specs.Registry.{Registry}
+
+-- the counters
+abbrev pub registry_of : CountersManager → Registry
+registry_of m = m.records
+
+-- the list of value writes
+abbrev pub writes_of : CountersManager → List ValueWrite
+writes_of m = m.writer.seat.me.0.seen
+
+-- the shares that are not with readers
+abbrev pub shares_of : CountersManager → ℕ
+shares_of m = m.writer.shares
+
+-- these values are the manager's
+abbrev pub IsManagerOf : CounterValues → CountersManager → Type 0
+IsManagerOf values m = m.writer.seat.table_id ≡ values.table.shared.table_id
+
+-- no value was written, the shares are as before, and it is the manager of the same values
+pub record KeepsValues (old new : CountersManager) : Type 0 where
+  pub same_writes : writes_of new ≡ writes_of old
+  pub same_shares : shares_of new ≡ shares_of old
+  pub same_values : (values : CounterValues) → IsManagerOf values old → IsManagerOf values new

@@ -1,0 +1,34 @@
+-- The seats of the values.
+use Rattle.std.specs.Prelude.{◌≡◌, ℕ, List}
+use Rattle.ring_counters.specs.declared.rule.ValueWrite.{ValueWrite}
+use Rattle.ring_counters.specs.declared.rule.ValueLoad.{ValueLoad}
+use Rattle.ring_counters.specs.declared.seats.CounterValues.{CounterValues}
+use Rattle.ring_counters.specs.declared.seats.ValueWriter.{ValueWriter}
+use Rattle.ring_counters.specs.declared.seats.ValueReader.{ValueReader}
+
+abbrev pub IsWriterOf : CounterValues → ValueWriter → Type 0
+IsWriterOf values writer = writer.seat.table_id ≡ values.table.shared.table_id
+
+-- the reader is one of these values
+abbrev pub IsReaderOf : CounterValues → ValueReader → Type 0
+IsReaderOf values reader = reader.seat.table_id ≡ values.table.shared.table_id
+
+-- the number of ids
+abbrev pub values_count : CounterValues → ℕ
+values_count values = values.table.shared.key
+
+-- the writer's list of value writes
+abbrev pub writer_writes : ValueWriter → List ValueWrite
+writer_writes writer = writer.seat.me.0.seen
+
+-- the writes at the making of the reader
+abbrev pub made_of : ValueReader → List ValueWrite
+made_of reader = reader.seat.me.0.made
+
+-- the writes that the reader has seen
+abbrev pub seen_by : ValueReader → List ValueWrite
+seen_by reader = reader.seat.me.0.seen
+
+-- what the reader loaded, in order
+abbrev pub loads_of : ValueReader → List ValueLoad
+loads_of reader = reader.seat.me.0.loads

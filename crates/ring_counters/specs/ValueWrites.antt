@@ -1,0 +1,22 @@
+-- The values after writes, and what readers load of them.
+use Rattle.std.specs.Prelude.{◌≡◌, ℕ, ◌==◌, ℤ, pos, if◌then◌else◌, List, [], ◌∷◌, ◌++◌}
+use Rattle.ring_counters.specs.declared.rule.ValueWrite.{ValueWrite}
+use Rattle.ring_counters.specs.declared.rule.ValueLoad.{ValueLoad}
+
+-- the value of an id after these writes, where it was this one before them
+abbrev pub value_from : ℤ → ℕ → List ValueWrite → ℤ
+value_from before id [] = before
+value_from before id (w ∷ ws) = value_from (if w.id == id then w.value else before) id ws
+
+-- the value of an id after these writes: its last one, 0 where there is none
+abbrev pub value_after : ℕ → List ValueWrite → ℤ
+value_after id writes = value_from (pos 0) id writes
+
+-- the second list begins with the first
+abbrev pub Begins : List ValueWrite → List ValueWrite → Type 0
+Begins xs ys = (rest : List ValueWrite) × (ys ≡ xs ++ rest)
+
+-- each of these loads gave its id's value after some first part of all writes, and no part is shorter than the one before
+abbrev pub AreLoads : List ValueWrite → List ValueLoad → List ValueWrite → Type 0
+AreLoads made [] all = Begins made all
+AreLoads made (l ∷ ls) all = Begins made l.after × (l.value ≡ value_after l.id l.after) × AreLoads l.after ls all

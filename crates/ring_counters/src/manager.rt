@@ -1,0 +1,19 @@
+//! The counters of one owner, with their values for readers on other threads.
+ghost use Rattle.std.specs.Prelude.{◌≡◌};
+ghost use Rattle.ring_counters.specs.Agree.{Agree};
+ghost use Rattle.ring_counters.specs.Registry.{count_of};
+
+use crate::records::Records;
+use crate::seats::ValueWriter;
+
+/// Counters with labels, keys and owners, in records of words.
+///
+/// The values stand in `CounterValues` too, where readers on other threads load them. A manager belongs to the values that
+/// it was made with; each call that takes values requires those.
+#[derive(Drop)]
+pub struct CountersManager {
+    pub(crate) records: Records,
+    pub(crate) writer: ValueWriter,
+    ghost agree: { Agree records writer.seat.me.0.seen },
+    ghost counts: { writer.seat.table_id.words ≡ count_of records },
+}

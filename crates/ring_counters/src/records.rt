@@ -1,0 +1,324 @@
+//! The counters over vectors of records, and the queue of freed ids.
+ghost use Rattle.std.specs.Prelude.{◌≡◌, ◌≢◌, ℕ, ◌+◌, ◌-◌, ◌*◌, ◌^◌, ◌<◌, ◌≤◌, true, false, position, IfOk, IfSome, IfNone, MatchOption, length, replicate, slice_index, slice_index_or, slice_set, remove};
+ghost use Rattle.ring_counters.specs.Counter.{Metadata, Values, Counter, Allocated, deadline_of, unused_metadata, unused_values, unused_counter};
+ghost use Rattle.ring_counters.specs.Registry.{Registry, count_of, counter_at, status_at, is_due, is_allocated, next_id, due_id, unused_id, allocated_in, reclaimed_in, with_value, fresh_registry, answer, id_refusal_of, range_refusal_of, is_owned, owned_ids, closed_in, live_of};
+ghost use Rattle.ring_counters.specs.Infos.{IsInfoOf, AreInfos};
+
+use crate::fault::IdFault;
+use crate::info::CounterInfo;
+use crate::metadata::MetadataRecord;
+use crate::values_record::ValueRecord;
+use ring_layout::counter_descriptor::{MAX_KEY_LENGTH, MAX_LABEL_LENGTH, RECORD_ALLOCATED};
+use std::alloc::{AllocError, Global};
+use std::collections::VecDeque;
+use std::marker::Model;
+
+#[derive(Drop)]
+pub(crate) struct Records {
+    metadata: Vec<MetadataRecord>,
+    values: Vec<ValueRecord>,
+    /// The freed ids in order of freeing, with room for every id.
+    freed: VecDeque<u32>,
+    /// Whether the deadlines never fall along the queue, so that where the first id is not due none is.
+    in_order: bool,
+    /// The lowest id that was never used.
+    used: u32,
+    reuse_ms: u32,
+}
+
+impl Model for Records {
+    ghost use Rattle.std.specs.Prelude.{◌≡◌, length};
+    ghost use Rattle.std.specs.VecDeque.{deque_capacity};
+    ghost use Rattle.ring_counters.specs.Registry.{Registry};
+    ghost use Rattle.ring_counters.specs.Kept.{counters_of, IsKept};
+
+    ghost Value = { Registry };
+
+    ghost view = { λ a. record { counters = counters_of a.metadata.items a.values.items; freed = a.freed.items; reuse_ms = a.reuse_ms } };
+
+    ghost invariant = { λ a. (length a.values.items ≡ length a.metadata.items) × IsKept (record { counters = counters_of a.metadata.items a.values.items; freed = a.freed.items; reuse_ms = a.reuse_ms }) (deque_capacity a.freed) a.used a.in_order };
+}
+
+/// This many metadata records that were never used.
+fn unused_metadata_records(alloc: Global, count: u32) -> Result<Vec<MetadataRecord>, AllocError>
+    ensures { IfOk result (λ v. v.items ≡ replicate count unused_metadata) }
+{
+    let mut records = Vec::with_capacity(alloc, count as usize)?;
+    for id in 0..count {
+        records.push_reserved(MetadataRecord::unused());
+    }
+    Ok(records)
+}
+
+/// This many value records that were never used.
+fn unused_value_records(alloc: Global, count: u32) -> Result<Vec<ValueRecord>, AllocError>
+    ensures { IfOk result (λ v. v.items ≡ replicate count unused_values) }
+{
+    let mut records = Vec::with_capacity(alloc, count as usize)?;
+    for id in 0..count {
+        records.push_reserved(ValueRecord::unused());
+    }
+    Ok(records)
+}
+
+/// Whether the deadlines along the queue still never fall after one more with this deadline.
+fn stays_in_order(
+    in_order: bool,
+    freed: &VecDeque<u32>,
+    metadata: &[MetadataRecord],
+    deadline: u64,
+) -> bool
+    requires { (k : ℕ) → k < length freed.now.items → slice_index freed.now.items k < length metadata.now }
+    ensures { result ≡ true → 0 < length freed.now.items → (in_order ≡ true) × (deadline_of (slice_index_or metadata.now (slice_index freed.now.items (length freed.now.items - 1)) unused_metadata).status ≤ deadline) }
+{
+    match freed.back() {
+        Some(last) => in_order && metadata[*last as usize].deadline() <= deadline,
+        None => true,
+    }
+}
+
+impl Records {
+    pub(crate) fn new(alloc: Global, count: u32, reuse_ms: u32) -> Result<Self, AllocError>
+        requires { count ≤ 4096 }
+        ensures { IfOk result (λ r. r ≡ fresh_registry count reuse_ms) }
+    {
+        Ok(Records {
+            metadata: unused_metadata_records(alloc, count)?,
+            values: unused_value_records(alloc, count)?,
+            freed: VecDeque::with_capacity(alloc, count as usize)?,
+            in_order: true,
+            used: 0,
+            reuse_ms,
+        })
+    }
+
+    pub(crate) fn count(&self) -> u32
+        ensures count { result ≡ count_of self.now }
+        ensures most { result ≤ 4096 }
+    {
+        self.metadata.len() as u32
+    }
+
+    /// How far the queue must be searched for an id that is due: where the deadlines never fall, no further than its first.
+    fn reach(&self) -> usize
+        ensures most { result ≤ length self.now.freed }
+        ensures some { 0 < length self.now.freed → 0 < result }
+        ensures later { (k : ℕ) → result ≤ k → k < length self.now.freed → deadline_of (status_at self.now (slice_index self.now.freed 0)) ≤ deadline_of (status_at self.now (slice_index self.now.freed k)) }
+    {
+        if self.in_order {
+            self.freed.len().min(1)
+        } else {
+            self.freed.len()
+        }
+    }
+
+    /// Where the first freed id that is due stands in the queue.
+    fn first_due(&self, now: u64) -> Option<usize>
+        ensures { result ≡ position (λ id. is_due now (status_at self.now id)) self.now.freed }
+    {
+        for at in 0..self.reach() {
+            if self.metadata[self.freed[at] as usize].deadline() <= now {
+                return Some(at);
+            }
+        }
+        None
+    }
+
+    /// The lowest id that was never used.
+    fn first_unused(&self) -> Option<u32>
+        ensures id { result ≡ unused_id self.now }
+        ensures inside { IfSome result (λ id. id < count_of self.now) }
+    {
+        if (self.used as usize) < self.metadata.len() {
+            Some(self.used)
+        } else {
+            None
+        }
+    }
+
+    /// Gives the freed id at this place of the queue again.
+    fn reuse(&mut self, at: usize, metadata: MetadataRecord, values: ValueRecord) -> u32
+        requires at { at < length self.old.freed }
+        requires status { metadata.status ≡ Allocated }
+        ensures id { result ≡ slice_index self.old.freed at }
+        ensures inside { result < count_of self.old }
+        ensures changes { self.new.counters ≡ slice_set self.old.counters result (record { metadata = metadata; values = values }) }
+        ensures queue { self.new.freed ≡ remove self.old.freed at }
+        ensures timeout { self.new.reuse_ms ≡ self.old.reuse_ms }
+    {
+        let Some(id) = self.freed.remove(at) else {
+            unreachable!()
+        };
+        self.metadata[id as usize] = metadata;
+        self.values[id as usize] = values;
+        id
+    }
+
+    /// Gives an id for the first time.
+    fn begin(&mut self, id: u32, metadata: MetadataRecord, values: ValueRecord)
+        requires id { unused_id self.old ≡ Some id }
+        requires status { metadata.status ≡ Allocated }
+        ensures { self.new ≡ allocated_in self.old id (record { metadata = metadata; values = values }) }
+    {
+        self.metadata[id as usize] = metadata;
+        self.values[id as usize] = values;
+        self.used = id + 1;
+    }
+
+    /// Gives an id to a counter, if there is one.
+    pub(crate) fn allocate(
+        &mut self,
+        now: u64,
+        metadata: MetadataRecord,
+        values: ValueRecord,
+    ) -> Option<u32>
+        requires { metadata.status ≡ Allocated }
+        ensures id { result ≡ next_id self.old now }
+        ensures some { IfSome result (λ id. (id < count_of self.old) × (self.new ≡ allocated_in self.old id (record { metadata = metadata; values = values }))) }
+        ensures none { IfNone result (self.new ≡ self.old) }
+    {
+        match self.first_due(now) {
+            Some(at) => Some(self.reuse(at, metadata, values)),
+            None => match self.first_unused() {
+                Some(id) => {
+                    self.begin(id, metadata, values);
+                    Some(id)
+                }
+                None => None,
+            },
+        }
+    }
+
+    /// Frees an allocated counter.
+    pub(crate) fn reclaim(&mut self, now: u64, id: u32)
+        requires now { now ≤ 2 ^ 62 }
+        requires allocated { is_allocated (status_at self.old id) ≡ true }
+        ensures { self.new ≡ reclaimed_in self.old now id }
+    {
+        let deadline = now + u64::from(self.reuse_ms);
+        self.in_order = stays_in_order(self.in_order, &self.freed, &self.metadata, deadline);
+        let record = &mut self.metadata[id as usize];
+        record.reclaim(deadline);
+        self.freed.push_back_reserved(id);
+    }
+
+    pub(crate) fn set(&mut self, id: u32, value: i64)
+        requires { is_allocated (status_at self.old id) ≡ true }
+        ensures { self.new ≡ with_value self.old id value }
+    {
+        let record = &mut self.values[id as usize];
+        record.set(value);
+    }
+
+    pub(crate) fn metadata(&self, id: u32) -> &MetadataRecord
+        requires { id < count_of self.now }
+        ensures { result.now ≡ (counter_at self.now id).metadata }
+    {
+        &self.metadata[id as usize]
+    }
+
+    pub(crate) fn values(&self, id: u32) -> &ValueRecord
+        requires { id < count_of self.now }
+        ensures { result.now ≡ (counter_at self.now id).values }
+    {
+        &self.values[id as usize]
+    }
+
+    /// How many ids were ever used: those from 0 up to this one.
+    pub(crate) fn used(&self) -> u32
+        ensures most { result ≤ count_of self.now }
+        ensures unused { (id : ℕ) → result ≤ id → counter_at self.now id ≡ unused_counter }
+    {
+        self.used
+    }
+
+    /// Refuses an id that no counter in use has.
+    pub(crate) fn check_allocated(&self, id: u32) -> Result<(), IdFault>
+        ensures { result ≡ answer (id_refusal_of self.now id) tt }
+    {
+        self.check_range(id)?;
+        if self.is_live(id) {
+            Ok(())
+        } else {
+            Err(IdFault::NotAllocated)
+        }
+    }
+
+    /// Refuses an id that is not below the number of counters.
+    pub(crate) fn check_range(&self, id: u32) -> Result<(), IdFault>
+        ensures { result ≡ answer (range_refusal_of self.now id) tt }
+    {
+        if id < self.count() {
+            Ok(())
+        } else {
+            Err(IdFault::BadId)
+        }
+    }
+
+    /// Whether the counter is in use.
+    fn is_live(&self, id: u32) -> bool
+        requires { id < count_of self.now }
+        ensures { result ≡ is_allocated (status_at self.now id) }
+    {
+        self.metadata(id).state() == RECORD_ALLOCATED
+    }
+
+    /// Whether the counter is in use and has this owner.
+    fn is_owned(&self, id: u32, owner: u64) -> bool
+        requires { id < count_of self.now }
+        ensures { result ≡ is_owned owner (counter_at self.now id) }
+    {
+        self.is_live(id) && self.values(id).owner() == owner
+    }
+
+    /// Frees the counters of an owner, by rising id, and gives their number.
+    pub(crate) fn close(&mut self, now: u64, owner: u64) -> u32
+        requires { now ≤ 2 ^ 62 }
+        ensures freed { result ≡ length (owned_ids self.old owner) }
+        ensures changes { self.new ≡ closed_in self.old now owner }
+    {
+        let mut freed = 0;
+        for id in 0..self.used() {
+            if self.is_owned(id, owner) {
+                self.reclaim(now, id);
+                freed += 1;
+            }
+        }
+        freed
+    }
+
+    /// What a listing says of one counter.
+    fn info(&self, alloc: Global, id: u32) -> Result<CounterInfo, AllocError>
+        requires { id < count_of self.now }
+        ensures { IfOk result (λ info. IsInfoOf id (counter_at self.now id) info) }
+    {
+        let metadata = self.metadata(id);
+        let values = self.values(id);
+        let mut key = [0; MAX_KEY_LENGTH];
+        metadata.key_into(&mut key);
+        let mut label = [0; MAX_LABEL_LENGTH];
+        let len = metadata.label_into(&mut label);
+        Ok(CounterInfo {
+            id,
+            type_id: metadata.type_id(),
+            value: values.value(),
+            registration: values.registration(),
+            owner: values.owner(),
+            key,
+            label: label[..len].to_vec(alloc)?,
+        })
+    }
+
+    /// Lists the counters in use, by rising id.
+    pub(crate) fn live(&self, alloc: Global) -> Result<Vec<CounterInfo>, AllocError>
+        ensures { IfOk result (λ infos. AreInfos infos.items (live_of self.now)) }
+    {
+        let mut infos = Vec::new(alloc);
+        for id in 0..self.used() {
+            if self.is_live(id) {
+                infos.push(self.info(alloc, id)?)?;
+            }
+        }
+        Ok(infos)
+    }
+}

@@ -1,0 +1,113 @@
+//! The steps on the values: store, load, split and join.
+ghost use Rattle.std.specs.Prelude.{◌≡◌, ℕ, ◌+◌, ◌<◌, ◌≤◌, ◌↔◌, List, [], ◌∷◌, ◌++◌, IfOk, IfErr, IsOk};
+ghost use Rattle.ring_counters.specs.declared.rule.ValueWrite.{ValueWrite};
+ghost use Rattle.ring_counters.specs.Views.{value_write, value_load};
+ghost use Rattle.ring_counters.specs.ValueWrites.{value_after, Begins, AreLoads};
+ghost use Rattle.ring_counters.specs.Seats.{IsWriterOf, IsReaderOf, values_count, writer_writes, made_of, seen_by, loads_of};
+
+use crate::fault::{BadId, NoShares};
+use crate::rule::{CutReader, JoinReader, LearnLoads, LoadValue, StoreValue};
+use crate::seats::{CounterValues, ValueReader, ValueWriter};
+use atomic_table::Table;
+use std::alloc::{AllocError, Global};
+
+/// The shares of the values, of which each reader has one.
+const SHARES: u32 = 65536;
+
+impl CounterValues {
+    /// The values of `count` ids, all 0, and their writer.
+    pub(crate) fn new(alloc: Global, count: usize) -> Result<(CounterValues, ValueWriter), AllocError>
+        requires some { 0 < count }
+        requires few { count ≤ 4096 }
+        ensures { IfOk result (λ r. IsWriterOf r.0 r.1 × (values_count r.0 ≡ count) × (writer_writes r.1 ≡ []) × (r.1.shares ≡ 65536)) }
+    {
+        let words = vec![in alloc; 0u64; count]?;
+        let (table, seat) = Table::of_words(alloc, &words, &count)?;
+        Ok((
+            CounterValues { table },
+            ValueWriter {
+                seat,
+                shares: SHARES,
+            },
+        ))
+    }
+
+    /// Stores a value.
+    pub(crate) fn store(&self, writer: &mut ValueWriter, id: u32, value: i64)
+        requires writer { IsWriterOf self.now writer.old }
+        requires id { id < values_count self.now }
+        ensures writer { IsWriterOf self.now writer.new }
+        ensures writes { writer_writes writer.new ≡ writer_writes writer.old ++ value_write id value ∷ [] }
+        ensures shares { writer.new.shares ≡ writer.old.shares }
+    {
+        self.table.shared.store::<StoreValue>(
+            &mut writer.seat,
+            id as usize,
+            value.cast_unsigned(),
+        );
+    }
+
+    /// Loads the value of an id: of one never used 0, of a freed one its last value. It takes one step and no memory.
+    ///
+    /// `BadId` comes where the id is not below the number of counters; the reader then stays as it is.
+    pub fn load(&self, reader: &mut ValueReader, id: u32) -> Result<i64, BadId>
+        requires { IsReaderOf self.now reader.old }
+        ensures reader { IsReaderOf self.now reader.new }
+        ensures in_range { IsOk result ↔ (id < values_count self.now) }
+
+        // The value is the id's after some writes, loaded in this call, and none that the reader has seen is missing.
+        ensures value { IfOk result (λ value. value ≡ value_after id (seen_by reader.new)) }
+        ensures loaded { IfOk result (λ value. loads_of reader.new ≡ loads_of reader.old ++ value_load id value (seen_by reader.new) ∷ []) }
+        ensures later { IfOk result (λ _. Begins (seen_by reader.old) (seen_by reader.new)) }
+        ensures made { made_of reader.new ≡ made_of reader.old }
+        ensures err { IfErr result (λ _. reader.new ≡ reader.old) }
+    {
+        if id as usize >= self.table.word_count() {
+            return Err(BadId);
+        }
+        let word = self
+            .table
+            .shared
+            .load::<LoadValue>(&mut reader.seat, id as usize);
+        Ok(word.cast_signed())
+    }
+
+    /// Makes a reader, which takes one share of the writer's.
+    pub(crate) fn split(&self, writer: &mut ValueWriter) -> Result<ValueReader, NoShares>
+        requires { IsWriterOf self.now writer.old }
+        ensures writer { IsWriterOf self.now writer.new }
+        ensures writes { writer_writes writer.new ≡ writer_writes writer.old }
+        ensures enough { IsOk result ↔ (1 < writer.old.shares) }
+        ensures reader { IfOk result (λ r. IsReaderOf self.now r × (made_of r ≡ writer_writes writer.old) × (seen_by r ≡ writer_writes writer.old) × (loads_of r ≡ [])) }
+        ensures shares { IfOk result (λ _. writer.new.shares + 1 ≡ writer.old.shares) }
+        ensures err { IfErr result (λ _. writer.new ≡ writer.old) }
+    {
+        if writer.shares <= 1 {
+            return Err(NoShares);
+        }
+        let seat = self.table.shared.split_seat::<CutReader>(&mut writer.seat);
+        writer.shares -= 1;
+        Ok(ValueReader { seat })
+    }
+
+    /// Takes a reader back, with its share.
+    pub(crate) fn join(&self, writer: &mut ValueWriter, reader: ValueReader)
+        requires writer { IsWriterOf self.now writer.old }
+        requires reader { IsReaderOf self.now reader }
+        ensures writer { IsWriterOf self.now writer.new }
+        ensures writes { writer_writes writer.new ≡ writer_writes writer.old }
+        ensures shares { writer.new.shares ≡ writer.old.shares + 1 }
+        ensures loads { AreLoads (made_of reader) (loads_of reader) (writer_writes writer.old) }
+    {
+        let ValueReader { seat } = reader;
+        let shares = writer.shares + 1;
+        self.table
+            .shared
+            .join_seat::<JoinReader>(&mut writer.seat, seat);
+        // What the joined reader loaded is told by the next step alone.
+        self.table
+            .shared
+            .load::<LearnLoads>(&mut writer.seat, 0);
+        writer.shares = shares;
+    }
+}

@@ -1,0 +1,117 @@
+//! The layout of a counter's two records, after Agrona's `CountersReader` and `CountersManager`.
+//!
+//! ```text
+//!   A metadata record, 512 bytes, 64 words
+//!
+//!    0        4        8              16                128        132              512
+//!   +--------+--------+--------------+-----------------+----------+----------------+
+//!   | state  | type   | free for     | key,            | label    | label,         |
+//!   |        | id     | reuse from   | 112 bytes       | length   | 380 bytes      |
+//!   +--------+--------+--------------+-----------------+----------+----------------+
+//!   | word 0          | word 1       | words 2 to 15   | words 16 to 63            |
+//!
+//!   A value record, 128 bytes, 16 words
+//!
+//!    0            8              16             24             32                 128
+//!   +------------+--------------+--------------+--------------+--------------------+
+//!   | value      | registration | owner id     | reference id | zeros              |
+//!   |            | id           |              | (always 0)   |                    |
+//!   +------------+--------------+--------------+--------------+--------------------+
+//!   | word 0     | word 1       | word 2       | word 3       | words 4 to 15      |
+//! ```
+//!
+//! All numbers are little-endian; the value is signed. The records of the counter with id n begin n times the record's
+//! length after the start. An unused record is all zeros.
+
+/// The bytes of a metadata record.
+pub const METADATA_LENGTH: usize = 512;
+
+/// The words of a metadata record.
+pub const METADATA_WORDS: usize = METADATA_LENGTH / 8;
+
+/// Where the state stands in a metadata record, in bytes: 32 bits.
+pub const STATE_OFFSET: usize = 0;
+
+/// Where the type id stands in a metadata record, in bytes: 32 bits.
+pub const TYPE_ID_OFFSET: usize = 4;
+
+/// Where the moment stands from which a freed id may be given again, in bytes: 64 bits, milliseconds.
+pub const FREE_FOR_REUSE_DEADLINE_OFFSET: usize = 8;
+
+/// Where the key begins in a metadata record, in bytes.
+pub const KEY_OFFSET: usize = 16;
+
+/// Where the label's length stands in a metadata record, in bytes: 32 bits. The label comes right after it.
+pub const LABEL_OFFSET: usize = 128;
+
+/// The word of the state, its low half, and of the type id, its high half.
+pub const STATE_WORD: usize = STATE_OFFSET / 8;
+
+/// The word of the moment from which a freed id may be given again.
+pub const FREE_FOR_REUSE_DEADLINE_WORD: usize = FREE_FOR_REUSE_DEADLINE_OFFSET / 8;
+
+/// The first word of the key.
+pub const KEY_WORD: usize = KEY_OFFSET / 8;
+
+/// The word of the label's length, its low half, and of the label's first four bytes, its high half.
+pub const LABEL_WORD: usize = LABEL_OFFSET / 8;
+
+/// The most bytes of a key. A shorter one is followed by zeros.
+pub const MAX_KEY_LENGTH: usize = LABEL_OFFSET - KEY_OFFSET;
+
+/// The bytes of the label's length.
+pub const LABEL_LENGTH_BYTES: usize = 4;
+
+/// The bytes of the label's length and the label.
+pub const FULL_LABEL_LENGTH: usize = METADATA_LENGTH - LABEL_OFFSET;
+
+/// The most bytes of a label.
+pub const MAX_LABEL_LENGTH: usize = FULL_LABEL_LENGTH - LABEL_LENGTH_BYTES;
+
+/// The state of a record that was never used.
+pub const RECORD_UNUSED: i32 = 0;
+
+/// The state of the record of a counter in use.
+pub const RECORD_ALLOCATED: i32 = 1;
+
+/// The state of the record of a counter that was freed.
+pub const RECORD_RECLAIMED: i32 = -1;
+
+/// The deadline of a counter in use.
+pub const NOT_FREE_FOR_REUSE: u64 = (1 << 63) - 1;
+
+/// The bytes of a value record.
+pub const COUNTER_LENGTH: usize = 128;
+
+/// The words of a value record.
+pub const COUNTER_WORDS: usize = COUNTER_LENGTH / 8;
+
+/// Where the value stands in a value record, in bytes: 64 bits, signed.
+pub const VALUE_OFFSET: usize = 0;
+
+/// Where the registration id stands in a value record, in bytes: 64 bits.
+pub const REGISTRATION_ID_OFFSET: usize = 8;
+
+/// Where the owner's id stands in a value record, in bytes: 64 bits.
+pub const OWNER_ID_OFFSET: usize = 16;
+
+/// Where the reference id stands in a value record, in bytes: 64 bits, always 0.
+pub const REFERENCE_ID_OFFSET: usize = 24;
+
+/// The word of the value.
+pub const VALUE_WORD: usize = VALUE_OFFSET / 8;
+
+/// The word of the registration id.
+pub const REGISTRATION_ID_WORD: usize = REGISTRATION_ID_OFFSET / 8;
+
+/// The word of the owner's id.
+pub const OWNER_ID_WORD: usize = OWNER_ID_OFFSET / 8;
+
+/// The word of the reference id.
+pub const REFERENCE_ID_WORD: usize = REFERENCE_ID_OFFSET / 8;
+
+/// The most counters that a manager keeps.
+pub const MAX_COUNTERS: u32 = 4096;
+
+/// The latest moment that a caller may hand in, in milliseconds.
+pub const MAX_MOMENT: u64 = 1 << 62;
