@@ -1,0 +1,4 @@
+pub mod PlaceLemmas
+pub mod StoreLemmas
+pub mod SeatLemmas
+pub mod ByteLemmas

@@ -1,0 +1,6 @@
+pub mod Layout
+pub mod Records
+pub mod Runs
+pub mod Rule
+pub mod Steps
+
