@@ -2,3 +2,4 @@ pub mod PlaceLemmas
 pub mod StoreLemmas
 pub mod SeatLemmas
 pub mod ByteLemmas
+pub mod TransmitLemmas
