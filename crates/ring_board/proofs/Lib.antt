@@ -3,3 +3,4 @@ pub mod StoreLemmas
 pub mod SeatLemmas
 pub mod ByteLemmas
 pub mod TransmitLemmas
+pub mod CallLemmas

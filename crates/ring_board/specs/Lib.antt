@@ -3,4 +3,5 @@ pub mod Records
 pub mod Runs
 pub mod Rule
 pub mod Steps
-
+pub mod Refusals
+pub mod Seats

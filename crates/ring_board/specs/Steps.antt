@@ -1,5 +1,5 @@
 -- What each step tells its seat.
-use Rattle.std.specs.Prelude.{◌≡◌, ℕ, ◌+◌, ◌-◌, ◌*◌, ◌/◌, ◌%◌, ◌^◌, ◌<◌, ◌≤◌, suc, if◌then◌else◌, nat_lt, nat_le, ◌==◌, List, [], ◌∷◌, ◌++◌, length, IsTrue, Bool, true, false}
+use Rattle.std.specs.Prelude.{◌≡◌, ℕ, ◌+◌, ◌-◌, ◌*◌, ◌/◌, ◌%◌, ◌^◌, ◌<◌, ◌≤◌, suc, if◌then◌else◌, nat_lt, nat_le, ◌==◌, List, [], ◌∷◌, ◌++◌, length, pos, true, false}
 use Rattle.atomic_table.specs.Table.{Me, Step}
 use Rattle.ring_layout.specs.History.{span}
 use Rattle.ring_layout.specs.Places.{room, max_position}
@@ -55,6 +55,12 @@ written d x = record { before = d.before; place = d.place; message = message_in 
 abbrev pub after_header : Stage → ℕ → Stage
 after_header (Storing d) x = Written (written d x)
 after_header st x = st
+
+-- the record that is written and not sent, where there is one
+abbrev pub record_at : Stage → Record
+record_at (Written r) = r
+record_at (Shown r) = r
+record_at _ = record { before = 0; place = 0; message = record { type_id = pos 0; body = [] } }
 
 abbrev pub after_latest : Stage → Stage
 after_latest (Written r) = Shown r

@@ -1,5 +1,13 @@
 //! A broadcast buffer: one transmitter that never waits, and receivers that learn when they missed something.
 #![tactic(auto)]
 
+mod body_words;
+mod fault;
 mod plays;
+mod seats;
+mod storing;
+mod transmitting;
 mod view;
+
+pub use fault::{Lapped, MakeFault, NoShares, ReceiversOut, SubscribeFault, TransmitFault};
+pub use seats::{BeginRefused, Begun, Board, BoardCloseRefused, ClosedBoard, Filled, Transmitter};
