@@ -1,6 +1,7 @@
 //! The transmitter's calls.
 ghost use Rattle.std.specs.Prelude.{◌≡◌, ℕ, ◌+◌, ◌-◌, ◌*◌, ◌/◌, ◌%◌, ◌^◌, ◌<◌, ◌≤◌, pos, ◌≤ℤ◌, List, [], ◌∷◌, length, IfOk, OnOk, OnErr};
 ghost use Rattle.ring_layout.specs.History.{span};
+ghost use Rattle.ring_layout.specs.Headers.{header};
 ghost use Rattle.ring_layout.specs.Places.{max_position, next_place};
 ghost use Rattle.ring_board.specs.declared.view.Record.{Record};
 ghost use Rattle.ring_board.specs.declared.view.Stage.TheVariants.{Storing, Written};
@@ -21,6 +22,14 @@ use ring_layout::ring_buffer_descriptor::MAX_POSITION;
 struct Spot {
     place: u64,
     end: u64,
+}
+
+/// The header word of a record with this type id and so many bytes of body.
+fn record_header(type_id: i32, len: usize) -> u64
+    requires { len ≤ 2 ^ 24 }
+    ensures { result ≡ header (pos (8 + len)) type_id }
+{
+    pack_header((HEADER_LENGTH + len) as i32, type_id)
 }
 
 impl Transmitter {
@@ -69,6 +78,148 @@ impl Board {
         if tail < place {
             let padding = pack_header((place - tail) as i32, PADDING_MSG_TYPE_ID);
             self.store_padding(seat, tail, padding);
+        }
+    }
+
+    /// Stores a record behind its padding: the body, and then its header.
+    fn store_record(
+        &self,
+        seat: &mut BoardSeat,
+        tail: u64,
+        place: u64,
+        type_id: i32,
+        body: &[u8],
+    )
+        requires seat { seat.old.table_id ≡ self.now.table.shared.table_id }
+        requires stage { seat.old.me.0.stage ≡ drafted (draft tail place (place + span (length body.now)) []) }
+        requires place { place ≡ next_place self.now.capacity tail (span (length body.now)) }
+        requires lawful { (pos 1 ≤ℤ type_id) × (length body.now ≤ self.now.capacity / 8) }
+        requires whole { (tail % 8 ≡ 0) × (place ≤ max_position) }
+        ensures same { (seat.new.table_id ≡ seat.old.table_id) × (seat.new.id ≡ seat.old.id) }
+        ensures written { seat.new.me ≡ (staged seat.old.me.0 (Written (next_record self.now.capacity tail type_id body.now)), seat.old.me.1) }
+    {
+        self.store_gap(seat, tail, place);
+        self.store_body(seat, place, body);
+        let header = record_header(type_id, body.len());
+        self.store_header(seat, place, header);
+    }
+
+    /// Shows a record that is stored, and moves the tail behind it.
+    fn show_record(&self, seat: &mut BoardSeat, place: u64, tail: u64)
+        requires seat { seat.old.table_id ≡ self.now.table.shared.table_id }
+        requires stage { (r : Record) × (seat.old.me.0.stage ≡ Written r) × (place ≡ r.place) × (tail ≡ end r) }
+        ensures same { (seat.new.table_id ≡ seat.old.table_id) × (seat.new.id ≡ seat.old.id) }
+        ensures sent { (r : Record) → seat.old.me.0.stage ≡ Written r → seat.new.me ≡ (sent_on seat.old.me.0 r, seat.old.me.1) }
+    {
+        self.store_latest(seat, place);
+        self.store_tail(seat, tail);
+    }
+
+    /// Transmits a message: appends it to the list that receivers read. It never waits. After a refusal all is as
+    /// before: `BadType` where the type id is below 1, `TooLong` where the body has more bytes than an eighth of the
+    /// capacity, `PositionLimit` where the record would end above 2^62.
+    pub fn transmit(
+        &self,
+        transmitter: &mut Transmitter,
+        type_id: i32,
+        body: &[u8],
+    ) -> Result<(), TransmitFault>
+        requires { IsTransmitterOf self.now transmitter.old }
+        ensures board { IsTransmitterOf self.now transmitter.new }
+        ensures refused { IsRefusedBy (transmit_refusal_of (capacity_of self.now) (tail_of transmitter.old) type_id (length body.now)) result }
+        ensures same { OnErr result (transmitter.new ≡ transmitter.old) }
+        ensures sent { OnOk result (view_of transmitter.new ≡ sent_on (view_of transmitter.old) (next_record (capacity_of self.now) (tail_of transmitter.old) type_id body.now)) }
+    {
+        let tail = transmitter.tail;
+        let Spot { place, end } = self.admit(tail, type_id, body.len())?;
+        let seat = &mut transmitter.seat;
+        self.store_intent(seat, end);
+        self.store_record(seat, tail, place, type_id, body);
+        self.show_record(seat, place, end);
+        transmitter.tail = end;
+        Ok(())
+    }
+
+    /// Begins a transmission of `len` bytes, and stores its intent. The refusals are those of `transmit`, and hand the
+    /// transmitter back.
+    pub fn begin(
+        &self,
+        transmitter: Transmitter,
+        type_id: i32,
+        len: usize,
+    ) -> Result<Begun, BeginRefused>
+        requires { IsTransmitterOf self.now transmitter }
+        ensures refused { IsRefusedAs (refused_with transmitter) (transmit_refusal_of (capacity_of self.now) (tail_of transmitter) type_id len) result }
+        ensures begun { IfOk result (λ b. IsBegunOf self.now b × HasBegun (capacity_of self.now) transmitter type_id len b) }
+    {
+        let Spot { place, end } = match self.admit(transmitter.tail, type_id, len) {
+            Ok(spot) => spot,
+            Err(reason) => {
+                return Err(BeginRefused {
+                    reason,
+                    transmitter,
+                });
+            }
+        };
+        let Transmitter {
+            mut seat,
+            tail,
+            shares,
+        } = transmitter;
+        self.store_intent(&mut seat, end);
+        Ok(Begun {
+            seat,
+            tail,
+            place,
+            end,
+            shares,
+            type_id,
+            len,
+        })
+    }
+
+    /// Stores padding, body and header of a transmission that was begun with this length.
+    pub fn fill(&self, begun: Begun, body: &[u8]) -> Filled
+        requires board { IsBegunOf self.now begun }
+        requires len { length body.now ≡ begun_len begun }
+        ensures board { IsFilledOf self.now result }
+        ensures filled { filled_view result ≡ staged (begun_view begun) (Written (next_record (capacity_of self.now) (begun_tail begun) (begun_type_id begun) body.now)) }
+    {
+        let Begun {
+            mut seat,
+            tail,
+            place,
+            end,
+            shares,
+            type_id,
+            len: _,
+        } = begun;
+        self.store_record(&mut seat, tail, place, type_id, body);
+        Filled {
+            seat,
+            place,
+            next_tail: end,
+            shares,
+        }
+    }
+
+    /// Shows the record to the receivers, and moves the tail behind it.
+    pub fn publish(&self, filled: Filled) -> Transmitter
+        requires { IsFilledOf self.now filled }
+        ensures board { IsTransmitterOf self.now result }
+        ensures sent { view_of result ≡ sent_on (filled_view filled) (filled_record filled) }
+    {
+        let Filled {
+            mut seat,
+            place,
+            next_tail,
+            shares,
+        } = filled;
+        self.show_record(&mut seat, place, next_tail);
+        Transmitter {
+            seat,
+            tail: next_tail,
+            shares,
         }
     }
 }
