@@ -4,3 +4,5 @@ pub mod SeatLemmas
 pub mod ByteLemmas
 pub mod TransmitLemmas
 pub mod CallLemmas
+pub mod PictureLemmas
+pub mod OpeningLemmas

@@ -5,3 +5,4 @@ pub mod Rule
 pub mod Steps
 pub mod Refusals
 pub mod Seats
+pub mod Closing

@@ -17,7 +17,7 @@ pub struct Board {
     pub(crate) words: Vec<u64>,
     pub(crate) capacity: u32,
     ghost key: { table.shared.key.capacity ≡ capacity },
-    ghost wide: { (table.shared.table_id.words ≡ capacity / 8 + 16) × (vec_len words ≡ capacity / 8 + 16) },
+    ghost wide: { (table.shared.table_id.words ≡ capacity / 8 + 16) × (table.shared.table_id.slots ≡ 0) × (vec_len words ≡ capacity / 8 + 16) },
     ghost lawful: { (256 ≤ capacity) × (capacity ≤ 2 ^ 24) × (capacity % 64 ≡ 0) },
 }
 
