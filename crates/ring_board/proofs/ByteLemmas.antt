@@ -48,13 +48,13 @@ words_back zero [] small le = refl
 words_back zero (x ∷ xs) small le = absurd (omega arith)
 words_back (suc k) bytes small le = ⊎_elim
     (λ few. ap (λ l. take (length bytes) (l ++ bytes_of (first_words k (drop 8 bytes)))) (word_of_few bytes small (omega arith))
-        ∙ (take-append-le (length bytes) (padded bytes small) (bytes_of (first_words k (drop 8 bytes))) (let l = length-append bytes (replicate (8 - length bytes) 0) in omega arith)
-        ∙ take-append_seam bytes (replicate (8 - length bytes) 0)))
+    ∙ (take-append-le (length bytes) (padded bytes small) (bytes_of (first_words k (drop 8 bytes))) (let l = length-append bytes (replicate (8 - length bytes) 0) in omega arith)
+    ∙ take-append_seam bytes (replicate (8 - length bytes) 0)))
     (λ more. let rest : List ℕ = drop 8 bytes in let long = length-drop 8 bytes in let front = length-take-le 8 bytes more in
-        ap (λ l. take (length bytes) (l ++ bytes_of (first_words k rest))) (word_of_more bytes small more)
-        ∙ (ap (λ n. take n (take 8 bytes ++ bytes_of (first_words k rest))) (let e : length bytes ≡ length (take 8 bytes) + length rest = omega arith in e)
-        ∙ (take-append-add (take 8 bytes) (bytes_of (first_words k rest)) (length rest)
-        ∙ (ap (λ l. take 8 bytes ++ l) (words_back k rest (λ i. let d = get_or-drop 8 bytes i 0 in let s = small (8 + i) in omega arith) (omega arith)) ∙ take-append-drop 8 bytes))))
+    ap (λ l. take (length bytes) (l ++ bytes_of (first_words k rest))) (word_of_more bytes small more)
+    ∙ (ap (λ n. take n (take 8 bytes ++ bytes_of (first_words k rest))) (let e : length bytes ≡ length (take 8 bytes) + length rest = omega arith in e)
+    ∙ (take-append-add (take 8 bytes) (bytes_of (first_words k rest)) (length rest)
+    ∙ (ap (λ l. take 8 bytes ++ l) (words_back k rest (λ i. let d = get_or-drop 8 bytes i 0 in let s = small (8 + i) in omega arith) (omega arith)) ∙ take-append-drop 8 bytes))))
     (cases_lt (length bytes) 8)
 
 -- Headers ------------------------------------------------------------------

@@ -6,3 +6,6 @@ pub mod TransmitLemmas
 pub mod CallLemmas
 pub mod PictureLemmas
 pub mod OpeningLemmas
+pub mod ShownLemmas
+pub mod LookLemmas
+pub mod ValidateLemmas

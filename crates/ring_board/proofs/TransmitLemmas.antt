@@ -74,9 +74,9 @@ module _ (C e : ℕ) where
       drawn_apart p p8 from to fresh j y on = let l = ran.0 in let roomy = h.roomy in let whole = h.whole in let a = lies_after C (end_of e me.sent) d.before d.place d.end l roomy whole in
           let near = lies_near C (end_of e me.sent) d.before d.place d.end l roomy whole in let so = ran.1 in let w = filled_where d.before d.place d.words j y l.begins_whole p_whole on in
           ⊎_elim (λ (c : (y.0 ≡ d.before) × (d.before < d.place)). let f = c.0 in let g = c.1 in apart y.0 p C roomy whole w.1 p8 (omega arith) (omega arith))
-              (λ (c : (d.place < y.0) × (y.0 < d.place + 8 + 8 * length d.words)). let f = c.0 in let g = c.1 in
-              ⊎_elim (λ (is : p ≡ d.place). λ same. apart p y.0 C roomy whole p8 w.1 (omega arith) (omega arith) (sym same))
-                  (λ (past : d.place + 8 + 8 * length d.words ≤ p). apart y.0 p C roomy whole w.1 p8 (omega arith) (omega arith)) fresh) w.0
+          (λ (c : (d.place < y.0) × (y.0 < d.place + 8 + 8 * length d.words)). let f = c.0 in let g = c.1 in
+          ⊎_elim (λ (is : p ≡ d.place). λ same. apart p y.0 C roomy whole p8 w.1 (omega arith) (omega arith) (sym same))
+          (λ (past : d.place + 8 + 8 * length d.words ≤ p). apart y.0 p C roomy whole w.1 p8 (omega arith) (omega arith)) fresh) w.0
 
       word_in : (x : ℕ) → d.place + 8 + 8 * length d.words < d.end → Kept (index C (d.place + 8 + 8 * length d.words)) x (staged me (Storing (with_words d (x ∷ []))))
       word_in x room = let p : ℕ = d.place + 8 + 8 * length d.words in let l = ran.0 in let roomy = h.roomy in let whole = h.whole in let a = lies_after C (end_of e me.sent) d.before d.place d.end l roomy whole in let b = l.begins in
@@ -189,9 +189,14 @@ module _ (C e : ℕ) where
     pub may_head : (d : Draft) (m : Message) → me.0.stage ≡ Storing d → i ≡ index C d.place → IsMessage C m → words_of m.body ≡ d.words → d.place + span (length m.body) ≡ d.end → x ≡ header_of m
         → Allows (Holds C e) slots id me i (λ _. x) (λ _. PutsHeader (step slots i x 0 none) me x)
     may_head d m eq is lawful words full num s b _ at _ = let h = owner C e s b id me.0 (Storing d) (λ by mine k. k) at eq in let w : View = staged me.0 (after_header me.0.stage x) in
-        let held : written d x ≡ record { before = d.before; place = d.place; message = m } = written_as C d m x h.narrow lawful words num in
-        (w, keeps, tt, moved s id me.1 i (index C d.place) x (header_of m) w (staged me.0 (Written (record { before = d.before; place = d.place; message = m }))) is num
-            (ap (λ (u : Stage). staged me.0 (after_header u x)) eq ∙ ap (λ (r : Record). staged me.0 (Written r)) held) (header_in s id me.0 h d eq m lawful words full), refl)
+        let held : written d x ≡ record { before = d.before; place = d.place; message = m } = written_as C d m x h.narrow lawful words num in (
+          w,
+          keeps,
+          tt,
+          moved s id me.1 i (index C d.place) x (header_of m) w (staged me.0 (Written (record { before = d.before; place = d.place; message = m }))) is num
+              (ap (λ (u : Stage). staged me.0 (after_header u x)) eq ∙ ap (λ (r : Record). staged me.0 (Written r)) held) (header_in s id me.0 h d eq m lawful words full),
+          refl,
+        )
 
     pub may_show : (r : Record) → me.0.stage ≡ Written r → i ≡ C / 8 + 2 → x ≡ r.place → Allows (Holds C e) slots id me i (λ _. x) (λ _. Shows (step slots i x 0 none) me x)
     may_show r eq is num s b _ at _ = let h = owner C e s b id me.0 (Written r) (λ by mine k. k) at eq in let w : View = staged me.0 (after_latest me.0.stage) in

@@ -1,6 +1,7 @@
 -- What each step tells its seat.
 use Rattle.std.specs.Prelude.{◌≡◌, ℕ, ◌+◌, ◌-◌, ◌*◌, ◌/◌, ◌%◌, ◌^◌, ◌<◌, ◌≤◌, suc, if◌then◌else◌, nat_lt, nat_le, ◌==◌, List, [], ◌∷◌, ◌++◌, length, pos, true, false}
 use Rattle.atomic_table.specs.Table.{Me, Step}
+use Rattle.ring_layout.specs.declared.message.Message.{Message}
 use Rattle.ring_layout.specs.History.{span}
 use Rattle.ring_layout.specs.Places.{room, max_position}
 use Rattle.ring_board.specs.declared.view.Load.TheVariants.{Word, Intent, Tail, Latest}
@@ -135,18 +136,18 @@ read_word v i x = record v { stage = read_on v.stage x; log = v.log ++ word_load
 abbrev pub SeesWord : Step (Unit {0}) → Sat → ℕ → Sat → Type 0
 SeesWord st m x m' = m' ≡ (read_word m.0 st.word x, m.1)
 
-abbrev pub copy_of : View → ℕ → List ℕ → Taken
-copy_of v w ws = record { place = v.at; message = message_in w ws; count = v.count }
+abbrev pub copy_of : View → Message → Taken
+copy_of v m = record { place = v.at; message = m; count = v.count }
 
--- the receiver behind a copy
-abbrev pub copied : View → ℕ → List ℕ → View
-copied v w ws = record v { stage = Resting; at = v.at + span (body_len w); next = suc v.next; copies = v.copies ++ copy_of v w ws ∷ [] }
+-- the receiver behind a copy of this message
+abbrev pub copied : View → Message → View
+copied v m = record v { stage = Resting; at = v.at + span (length m.body); next = suc v.next; copies = v.copies ++ copy_of v m ∷ [] }
 
 -- a validation went well
 abbrev pub passed : View → Stage → View
 passed v (Headed w) = staged v (if is_padding w then Padded w else Reading w [])
 passed v (Again w) = staged v (Reading w [])
-passed v (Reading w ws) = copied v w ws
+passed v (Reading w ws) = copied v (message_in w ws)
 passed v st = v
 
 -- an intent was loaded: a place is valid where it lies less than the capacity below

@@ -12,3 +12,6 @@ mod view;
 
 pub use fault::{Lapped, MakeFault, NoShares, ReceiversOut, SubscribeFault, TransmitFault};
 pub use seats::{BeginRefused, Begun, Board, BoardCloseRefused, ClosedBoard, Filled, Transmitter};
+
+#[cfg(test)]
+mod tests;

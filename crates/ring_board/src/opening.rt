@@ -73,11 +73,7 @@ impl Board {
     }
 
     /// Makes a board of a lawful capacity at a lawful start.
-    fn make(
-        alloc: Global,
-        capacity: u32,
-        start: u64,
-    ) -> Result<(Board, Transmitter), AllocError>
+    fn make(alloc: Global, capacity: u32, start: u64) -> Result<(Board, Transmitter), AllocError>
         requires capacity { IsBoardCapacity capacity }
         requires start { (start % capacity ≡ 0) × (start ≤ max_position) }
         ensures board { IfOk result (λ made. (capacity_of made.0 ≡ capacity) × (start_of made.0 ≡ start)) }

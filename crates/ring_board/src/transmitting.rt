@@ -82,14 +82,7 @@ impl Board {
     }
 
     /// Stores a record behind its padding: the body, and then its header.
-    fn store_record(
-        &self,
-        seat: &mut BoardSeat,
-        tail: u64,
-        place: u64,
-        type_id: i32,
-        body: &[u8],
-    )
+    fn store_record(&self, seat: &mut BoardSeat, tail: u64, place: u64, type_id: i32, body: &[u8])
         requires seat { seat.old.table_id ≡ self.now.table.shared.table_id }
         requires stage { seat.old.me.0.stage ≡ drafted (draft tail place (place + span (length body.now)) []) }
         requires place { place ≡ next_place self.now.capacity tail (span (length body.now)) }
