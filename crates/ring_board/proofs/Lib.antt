@@ -9,3 +9,5 @@ pub mod OpeningLemmas
 pub mod ShownLemmas
 pub mod LookLemmas
 pub mod ValidateLemmas
+pub mod ReceiveLemmas
+pub mod PassLemmas

@@ -3,6 +3,7 @@
 
 mod body_words;
 mod fault;
+mod loading;
 mod opening;
 mod plays;
 mod seats;
