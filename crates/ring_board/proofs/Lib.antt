@@ -11,3 +11,4 @@ pub mod LookLemmas
 pub mod ValidateLemmas
 pub mod ReceiveLemmas
 pub mod PassLemmas
+pub mod FoundLemmas

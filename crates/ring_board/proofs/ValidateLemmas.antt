@@ -19,7 +19,7 @@ use Rattle.ring_board.specs.declared.view.Stage.TheVariants.{Spent, Idle, Begun,
 use Rattle.ring_board.specs.Records.{end, words_of, word_count, header_of, announced, body_len, is_padding, message_in}
 use Rattle.ring_board.specs.Runs.{IsCopy, Neighbours, AreRuns}
 use Rattle.ring_board.specs.Rule.{Logged, latest, Receives, IsHeader, Knows, IsBoard, Holds}
-use Rattle.ring_board.specs.Steps.{staged, copy_of, copied, passed, validated, IsSound, IsSoundPadding, IsSoundAt, lapped}
+use Rattle.ring_board.specs.Steps.{staged, copy_of, copied, passed, validated, IsSound, IsSoundAt, lapped}
 use Rattle.ring_board.proofs.PlaceLemmas.{lies_needed, lies_inside, lies_whole, chain_next, chain_last}
 use Rattle.ring_board.proofs.StoreLemmas.{words_long}
 use Rattle.ring_board.proofs.ByteLemmas.{announced_header, header_not_padding, padding_kind, message_back}
@@ -134,7 +134,7 @@ module _ (C e : ℕ) (s : St) (by : ℕ) (mine : View) (h : IsBoard C e by mine 
   pad_header r on w is pads = ⊎_elim (λ c. let k = eqb-true (w / 2 ^ 32) 0xffff_ffff pads in let t = header_not_padding C r.message h.narrow (entry C e s by mine h id v at r v.next on).0.lawful in
       let same = ap (λ (y : ℕ). y / 2 ^ 32) c.1 in absurd (omega arith)) (λ c. c) is
 
-  sound_at : (r : Record) → get_elem? mine.sent v.next ≡ some r → v.capacity ≡ C → (w : ℕ) → v.at ≡ r.place → w ≡ header_of r.message → IsSound v w
+  sound_at : (r : Record) → get_elem? mine.sent v.next ≡ some r → v.capacity ≡ C → (w : ℕ) → v.at ≡ r.place → w ≡ header_of r.message → IsSound v.capacity v.at w
   sound_at r on capacity w there head = let f = (entry C e s by mine h id v at r v.next on).0 in let n : ℕ = length r.message.body in let g = lies_inside C r.before r.before r.place (end r) f.fits h.roomy h.whole in let sh = f.lawful.short in
       let m : v.at % v.capacity ≡ r.place % C = (λ j. there j % capacity j) in let low = h.low in let below = (entry C e s by mine h id v at r v.next on).2 in
       let le = intent_after C e h.roomy h.whole s.words mine.sent mine.stage h.running in let w8 = lies_whole C r.before r.before r.place (end r) f.fits h.roomy h.whole in
@@ -143,9 +143,9 @@ module _ (C e : ℕ) (s : St) (by : ℕ) (mine : View) (h : IsBoard C e by mine 
         whole = omega arith;
       }
 
-  sound_padding : (r : Record) → get_elem? mine.sent v.next ≡ some r → (w : ℕ) → v.at ≡ r.before → r.before < r.place → w ≡ padding_header (r.place - r.before) → IsSoundPadding v w
+  sound_padding : (r : Record) → get_elem? mine.sent v.next ≡ some r → (w : ℕ) → v.at ≡ r.before → r.before < r.place → w ≡ padding_header (r.place - r.before) → v.at + announced w ≤ max_position
   sound_padding r on w there lt head = let f = entry C e s by mine h id v at r v.next on in let so = f.0.fits.some_room in let low = h.low in let below = f.2 in
-      let le = intent_after C e h.roomy h.whole s.words mine.sent mine.stage h.running in let a = ap announced head ∙ padding_announced C e s by mine h id v at r v.next on lt in record { low = omega arith }
+      let le = intent_after C e h.roomy h.whole s.words mine.sent mine.stage h.running in let a = ap announced head ∙ padding_announced C e s by mine h id v at r v.next on lt in omega arith
 
   pub header_checked : (w : ℕ) → v.stage ≡ Headed w → (x i : ℕ) (cs : List (ℕ × (Unit {0}))) → x ≡ here_now → Kept i cs (validated v x)
   header_checked w eq x i cs is = let k = knows C e s by mine h id v at (Headed w) eq in let t = k.2 in let ne = other_seat C e s by mine h id v at (Headed w) eq (λ b. b) in let logs = seen_intent x is in checked x i cs is k.0

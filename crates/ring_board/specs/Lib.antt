@@ -6,3 +6,4 @@ pub mod Steps
 pub mod Refusals
 pub mod Seats
 pub mod Closing
+pub mod Receiving

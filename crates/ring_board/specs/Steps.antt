@@ -154,18 +154,14 @@ passed v st = v
 abbrev pub validated : View → ℕ → View
 validated v x = logged (if nat_lt x (v.at + v.capacity) then passed v v.stage else staged v Behind) (Intent x)
 
--- a validated header is of a message that fits the buffer at the receiver's place
-pub record IsSound (v : View) (w : ℕ) : Type 0 where
-  pub message : (n : ℕ) × (announced w ≡ 8 + n) × (n ≤ v.capacity / 8) × (v.at % v.capacity + span n ≤ v.capacity) × (v.at + span n ≤ max_position)
-  pub whole : v.at % 8 ≡ 0
-
--- a validated header of padding ends at a place of a record
-pub record IsSoundPadding (v : View) (w : ℕ) : Type 0 where
-  pub low : v.at + announced w ≤ max_position
+-- a validated header at a place is of a message that fits the buffer there
+pub record IsSound (C at w : ℕ) : Type 0 where
+  pub message : (n : ℕ) × (announced w ≡ 8 + n) × (n ≤ C / 8) × (at % C + span n ≤ C) × (at + span n ≤ max_position)
+  pub whole : at % 8 ≡ 0
 
 abbrev pub IsSoundAt : View → Stage → Type 0
-IsSoundAt v (Headed w) = (is_padding w ≡ false → IsSound v w) × (is_padding w ≡ true → IsSoundPadding v w)
-IsSoundAt v (Again w) = IsSound v w
+IsSoundAt v (Headed w) = (is_padding w ≡ false → IsSound v.capacity v.at w) × (is_padding w ≡ true → v.at + announced w ≤ max_position)
+IsSoundAt v (Again w) = IsSound v.capacity v.at w
 IsSoundAt v _ = Unit {0}
 
 abbrev pub SeesIntent : Step (Unit {0}) → Sat → ℕ → Sat → Type 0

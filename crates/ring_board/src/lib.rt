@@ -3,9 +3,11 @@
 
 mod body_words;
 mod fault;
+mod found;
 mod loading;
 mod opening;
 mod plays;
+mod receiving;
 mod seats;
 mod storing;
 mod transmitting;

@@ -2,7 +2,7 @@
 ghost use Rattle.std.specs.Prelude.{◌≡◌, ℕ, ◌+◌, ◌*◌, ◌/◌, ◌%◌, ◌^◌, ◌<◌, ◌≤◌, pos, ◌≤ℤ◌, [], length, vec_len};
 ghost use Rattle.ring_layout.specs.History.{IsMessage, span};
 ghost use Rattle.ring_layout.specs.Places.{max_position, next_place};
-ghost use Rattle.ring_board.specs.declared.view.Stage.TheVariants.{Idle, Written};
+ghost use Rattle.ring_board.specs.declared.view.Stage.TheVariants.{Idle, Written, Resting};
 ghost use Rattle.ring_board.specs.Records.{end, end_of};
 ghost use Rattle.ring_board.specs.Steps.{draft, drafted, record_at};
 
@@ -85,4 +85,25 @@ pub struct BoardCloseRefused {
     pub reason: ReceiversOut,
     pub board: Board,
     pub transmitter: Transmitter,
+}
+
+/// A receiver that copies each message out and validates the copy.
+#[derive(Drop)]
+pub struct CopyReceiver {
+    pub(crate) seat: BoardSeat,
+    pub(crate) place: u64,
+    pub(crate) count: u64,
+    pub(crate) scratch: Vec<u8>,
+    ghost rests: { (seat.me.0.stage ≡ Resting) × (seat.me.1 ≡ []) },
+    ghost stands: { (seat.me.0.at ≡ place) × (place ≤ max_position) × (seat.me.0.count ≡ count) },
+    ghost held: { seat.me.0.shares ≡ 1 },
+    ghost room: { vec_len scratch ≡ seat.me.0.capacity / 8 },
+}
+
+/// A message that was copied. Its record lies at `place`, in bytes.
+#[derive(Clone, Copy, Debug)]
+pub struct Copied<'a> {
+    pub place: u64,
+    pub type_id: i32,
+    pub body: &'a [u8],
 }

@@ -1,0 +1,76 @@
+//! How a receiver finds the next record and copies it.
+ghost use Rattle.std.specs.Prelude.{◌≡◌, ℕ, ◌+◌, ◌-◌, ◌*◌, ◌/◌, ◌%◌, ◌^◌, ◌<◌, ◌≤◌, List, [], ◌∷◌, ◌++◌, length, take, nat_le, MatchResult, MatchOption};
+ghost use Rattle.ring_layout.specs.History.{span};
+ghost use Rattle.ring_layout.specs.Places.{max_position};
+ghost use Rattle.ring_board.specs.declared.view.Load.{Load};
+ghost use Rattle.ring_board.specs.declared.view.Stage.TheVariants.{Resting, Padded, Reading};
+ghost use Rattle.ring_board.specs.Records.{announced, body_len, word_count, is_padding, bytes_of};
+ghost use Rattle.ring_board.specs.Steps.{IsSound};
+ghost use Rattle.ring_board.specs.Receiving.{FoundIs, FoundBehind, TookAll, TookNone, GotNothing, GotCopy, GotMiss};
+
+use crate::found::{Found, Front};
+use crate::seats::Board;
+use crate::view::BoardSeat;
+use ring_layout::record_descriptor::{HEADER_LENGTH, unpack_header};
+
+/// The bytes that a header announces, its own among them.
+fn announced(header: u64) -> u64
+    ensures { (result ≡ announced header) × (result < 2 ^ 32) }
+{
+    header & 0xffff_ffff
+}
+
+/// Tests whether a header is of padding.
+fn is_padding(header: u64) -> bool
+    ensures { result ≡ is_padding header }
+{
+    header >> 32 == 0xffff_ffff
+}
+
+impl Board {
+    /// Tests whether an intent has reached a place plus the capacity, so that what was loaded there may be overwritten.
+    fn is_lapped(&self, place: u64, intent: u64) -> bool
+        requires { place ≤ max_position }
+        ensures { result ≡ nat_le (place + self.now.capacity) intent }
+    {
+        intent >= place + u64::from(self.capacity)
+    }
+
+    /// Looks for the next entry.
+    fn find(&self, seat: &mut BoardSeat, place: u64) -> Found
+        requires seat { seat.old.table_id ≡ self.now.table.shared.table_id }
+        requires stage { (seat.old.me.0.stage ≡ Resting) × (seat.old.me.0.at ≡ place) × (seat.old.me.0.capacity ≡ self.now.capacity) × (place ≤ max_position) }
+        ensures same { (seat.new.table_id ≡ seat.old.table_id) × (seat.new.id ≡ seat.old.id) }
+        ensures found { FoundIs result seat.old.me seat.new.me }
+    {
+        let tail = self.load_tail(seat);
+        if tail <= place {
+            return Found::Nothing(tail);
+        }
+        let header = self.load_header(seat, place);
+        let intent = self.check_header(seat);
+        if self.is_lapped(place, intent) {
+            return Found::Missed(place, intent);
+        }
+        if !is_padding(header) {
+            return Found::Entry(place, header);
+        }
+        self.find_behind(seat, place + announced(header))
+    }
+
+    /// The same behind padding.
+    fn find_behind(&self, seat: &mut BoardSeat, place: u64) -> Found
+        requires seat { seat.old.table_id ≡ self.now.table.shared.table_id }
+        requires stage { (w : ℕ) × (seat.old.me.0.stage ≡ Padded w) × (place ≡ seat.old.me.0.at + announced w) × (seat.old.me.0.capacity ≡ self.now.capacity) × (place ≤ max_position) }
+        ensures same { (seat.new.table_id ≡ seat.old.table_id) × (seat.new.id ≡ seat.old.id) }
+        ensures found { FoundBehind result place seat.old.me seat.new.me }
+    {
+        let header = self.load_header_behind(seat, place);
+        let intent = self.check_again(seat);
+        if self.is_lapped(place, intent) {
+            Found::Missed(place, intent)
+        } else {
+            Found::Entry(place, header)
+        }
+    }
+}
