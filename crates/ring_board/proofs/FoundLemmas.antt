@@ -1,9 +1,13 @@
 -- What a receiver's steps put together.
-use Rattle.std.proofs.Common.{◌≡◌, ℕ, ◌+◌, ◌*◌, ◌/◌, ◌%◌, ◌^◌, ◌<◌, ◌≤◌, cond, ltb, Bool, true, false, List, [], ◌∷◌, ◌++◌, refl, sym, ap, ◌∙◌, subst, inl, inr, append_assoc}
+use Rattle.std.proofs.Common.{◌≡◌, ℕ, ◌+◌, ◌*◌, ◌/◌, ◌%◌, ◌^◌, ◌<◌, ◌≤◌, arith, length, length-append, take, drop, cond, ltb, Bool, true, false, List, [], ◌∷◌, ◌++◌, refl, sym, ap, ◌∙◌, subst, inl, inr, append_assoc}
 use Rattle.std.proofs.lemmas.Bool.{lt-ltb}
 use mathlib.Core.Option.{some}
 use lib.ListN.{get_elem?}
 use Rattle.atomic_table.proofs.Lists.{at_longer}
+use Rattle.std.specs.Int.{to_le_bytes, w64}
+use Rattle.std.proofs.lemmas.List.{length-take-le}
+use Rattle.std.proofs.Math.Seq.{take-append_seam}
+use Rattle.ring_layout.specs.History.{overwritten}
 use Rattle.ring_layout.specs.Places.{index}
 use Rattle.ring_board.specs.declared.view.View.{View}
 use Rattle.ring_board.specs.declared.view.Load.{Load}
@@ -12,9 +16,9 @@ use Rattle.ring_board.specs.declared.view.Stage.{Stage}
 use Rattle.ring_board.specs.declared.view.Stage.TheVariants.{Resting, Sure, Headed, Padded, Reading, Behind}
 use Rattle.ring_board.specs.declared.found.Found.{Found}
 use Rattle.ring_board.specs.declared.found.Found.TheVariants.{Nothing, Entry, Missed}
-use Rattle.ring_board.specs.Records.{announced, is_padding}
-use Rattle.ring_board.specs.Steps.{Sat, staged, logged, saw_tail, heard, last_tail, passed, validated}
-use Rattle.ring_board.specs.Receiving.{ComesTo, FoundIs, FoundBehind}
+use Rattle.ring_board.specs.Records.{announced, is_padding, bytes_of}
+use Rattle.ring_board.specs.Steps.{Sat, staged, logged, saw_tail, heard, read_word, word_load, last_tail, passed, validated}
+use Rattle.ring_board.specs.Receiving.{CopiedWords, ComesTo, FoundIs, FoundBehind}
 
 passed_after : (v : View) (st : Stage) (x : ℕ) → v.stage ≡ st → x < v.at + v.capacity → validated v x ≡ logged (passed v st) (Intent x)
 passed_after v st x eq lt = ap (λ (b : Bool). logged (cond b (passed v v.stage) (staged v Behind)) (Intent x)) (lt-ltb x (v.at + v.capacity) lt) ∙ ap (λ (u : Stage). logged (passed v u) (Intent x)) eq
@@ -48,3 +52,28 @@ found_from f m m3 m' st xs p is to h = found_on f m m' st xs p to (subst (λ (u 
 -- the loads up to the padding show its header
 pub padding_seen : (v : View) (C at t w x p : ℕ) → v.capacity ≡ C → v.at ≡ at → is_padding w ≡ true → p ≡ at + announced w → ComesTo v (padding_loads v t (index C at) w x) p
 padding_seen v C at t w x p a b pads to = inr (w, last_tail (v.log ++ Tail t ∷ []) 0, 1, (λ k. some (Word (index (sym a k) (sym b k)) (last_tail (v.log ++ Tail t ∷ []) 0) w)), pads, to ∙ ap (λ (y : ℕ). y + announced w) (sym b))
+
+-- Words that are copied ------------------------------------------------------
+
+bytes_of_snoc : (ws : List ℕ) (x : ℕ) → bytes_of (ws ++ x ∷ []) ≡ bytes_of ws ++ to_le_bytes w64 x
+bytes_of_snoc [] x = refl
+bytes_of_snoc (w ∷ ws) x = ap (λ l. to_le_bytes w64 w ++ l) (bytes_of_snoc ws x) ∙ sym (append_assoc (to_le_bytes w64 w) (bytes_of ws) (to_le_bytes w64 x))
+
+-- the front with a word more
+front_on : (at x : ℕ) (bytes : List ℕ) → at + 8 ≤ length bytes → take (at + 8) (overwritten at (to_le_bytes w64 x) bytes) ≡ take at bytes ++ to_le_bytes w64 x
+front_on at x bytes le = let front : List ℕ = take at bytes ++ to_le_bytes w64 x in let t = length-take-le at bytes (omega arith) in
+    let long : length front ≡ at + 8 = length-append (take at bytes) (to_le_bytes w64 x) ∙ ap (λ (n : ℕ). n + 8) t in
+    ap (λ (n : ℕ). take n (overwritten at (to_le_bytes w64 x) bytes)) (sym long) ∙ take-append_seam front (drop (at + 8) bytes)
+
+-- one word more was copied
+pub copied_on : (w k i x : ℕ) (out out' : List ℕ) (m m1 m2 : Sat) → 8 * k + 8 ≤ length out → CopiedWords w k out m m1 → m2 ≡ (read_word m1.0 i x, m1.1) → out' ≡ overwritten (8 * k) (to_le_bytes w64 x) out → CopiedWords w (k + 1) out' m m2
+copied_on w k i x out out' m m1 m2 room h read put = let ws : List ℕ = h.0 in let loads : List Load = h.1 in let v : View = record m.0 { stage = Reading w ws; log = m.0.log ++ loads } in let l : Load = word_load v i x in (
+  ws ++ x ∷ [],
+  loads ++ l ∷ [],
+  read ∙ (ap (λ (u : Sat). (read_word u.0 i x, u.1)) h.2 ∙ ap (λ (ls : List Load). (record m.0 { stage = Reading w (ws ++ x ∷ []); log = ls }, m.1)) (append_assoc m.0.log loads (l ∷ []))),
+  length-append ws (x ∷ []) ∙ ap (λ (n : ℕ). n + 1) h.3,
+  (λ j. take (more k j) (put j)) ∙ (front_on (8 * k) x out room ∙ (ap (λ (f : List ℕ). f ++ to_le_bytes w64 x) h.4 ∙ sym (bytes_of_snoc ws x))),
+)
+  where
+    more : (n : ℕ) → 8 * (n + 1) ≡ 8 * n + 8
+    more n = omega arith

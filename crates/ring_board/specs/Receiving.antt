@@ -13,7 +13,7 @@ use Rattle.ring_board.specs.declared.view.Load.TheVariants.{Word, Intent, Tail, 
 use Rattle.ring_board.specs.declared.view.Stage.TheVariants.{Resting, Reading, Behind}
 use Rattle.ring_board.specs.declared.found.Found.{Found}
 use Rattle.ring_board.specs.declared.found.Found.TheVariants.{Nothing, Entry, Missed}
-use Rattle.ring_board.specs.Records.{announced, is_padding}
+use Rattle.ring_board.specs.Records.{announced, is_padding, bytes_of}
 use Rattle.ring_board.specs.Steps.{Sat, copied, IsSound}
 
 -- p is the receiver's place, or behind padding whose header is among these loads
@@ -35,6 +35,10 @@ FoundBehind (Missed p x) place m m' = (loads : List Load) × (m' ≡ (record m.0
 -- the message that a header announces, with this body
 abbrev pub message_of : ℕ → List ℕ → Message
 message_of w body = record { type_id = cast_signed w32 (w / 2 ^ 32); body = body }
+
+-- so many words of a body were loaded behind the header w, and their bytes lie at the front of out
+abbrev pub CopiedWords : ℕ → ℕ → List ℕ → Sat → Sat → Type 0
+CopiedWords w count out m m' = (ws : List ℕ) × (loads : List Load) × (m' ≡ (record m.0 { stage = Reading w ws; log = m.0.log ++ loads }, m.1)) × (length ws ≡ count) × (take (8 * count) out ≡ bytes_of ws)
 
 -- a body of len bytes was copied to the front of out, and validated
 abbrev pub TookAll : ℕ → ℕ → List ℕ → Sat → Sat → Type 0

@@ -6,8 +6,9 @@ ghost use Rattle.ring_board.specs.declared.view.Load.{Load};
 ghost use Rattle.ring_board.specs.declared.view.Stage.TheVariants.{Resting, Padded, Reading};
 ghost use Rattle.ring_board.specs.Records.{announced, body_len, word_count, is_padding, bytes_of};
 ghost use Rattle.ring_board.specs.Steps.{IsSound};
-ghost use Rattle.ring_board.specs.Receiving.{FoundIs, FoundBehind, TookAll, TookNone, GotNothing, GotCopy, GotMiss};
+ghost use Rattle.ring_board.specs.Receiving.{FoundIs, FoundBehind, CopiedWords, TookAll, TookNone, GotNothing, GotCopy, GotMiss};
 
+use crate::body_words::put_word;
 use crate::found::{Found, Front};
 use crate::seats::Board;
 use crate::view::BoardSeat;
@@ -71,6 +72,54 @@ impl Board {
             Found::Missed(place, intent)
         } else {
             Found::Entry(place, header)
+        }
+    }
+
+    /// Copies the words of the body behind a validated header to the front of the scratch.
+    fn copy_body(
+        &self,
+        seat: &mut BoardSeat,
+        place: u64,
+        words: usize,
+        scratch: &mut [u8],
+    )
+        requires seat { seat.old.table_id ≡ self.now.table.shared.table_id }
+        requires stage { (w : ℕ) × (seat.old.me.0.stage ≡ Reading w []) × (words ≡ word_count (body_len w)) × (seat.old.me.0.at ≡ place) }
+        requires inside { (place % 8 ≡ 0) × (place % self.now.capacity + 8 + 8 * words ≤ self.now.capacity) }
+        requires room { 8 * words ≤ length scratch.old }
+        ensures same { (seat.new.table_id ≡ seat.old.table_id) × (seat.new.id ≡ seat.old.id) }
+        ensures copied { (w : ℕ) → seat.old.me.0.stage ≡ Reading w [] → CopiedWords w words scratch.new seat.old.me seat.new.me }
+    {
+        let first = self.index(place) + 1;
+        for k in 0..words {
+            let word = self.load_word(seat, first + k);
+            put_word(scratch, 8 * k, word);
+        }
+    }
+
+    /// Copies the body behind a validated header to the front of the scratch and validates again. Or else gives the
+    /// intent that showed that the receiver was lapped.
+    fn take(
+        &self,
+        seat: &mut BoardSeat,
+        place: u64,
+        header: u64,
+        scratch: &mut [u8],
+    ) -> Result<usize, u64>
+        requires seat { seat.old.table_id ≡ self.now.table.shared.table_id }
+        requires stage { (seat.old.me.0.stage ≡ Reading header []) × (seat.old.me.0.at ≡ place) × (seat.old.me.0.capacity ≡ self.now.capacity) }
+        requires sound { IsSound self.now.capacity place header }
+        requires room { length scratch.old ≡ self.now.capacity / 8 }
+        ensures same { (seat.new.table_id ≡ seat.old.table_id) × (seat.new.id ≡ seat.old.id) }
+        ensures took { MatchResult result (λ len. TookAll header len scratch.new seat.old.me seat.new.me × (len ≡ body_len header)) (λ x. TookNone x seat.old.me seat.new.me) }
+    {
+        let len = announced(header) as usize - HEADER_LENGTH;
+        self.copy_body(seat, place, len.div_ceil(8), scratch);
+        let intent = self.check_copy(seat);
+        if self.is_lapped(place, intent) {
+            Err(intent)
+        } else {
+            Ok(len)
         }
     }
 }
