@@ -4,7 +4,7 @@ use Rattle.std.proofs.lemmas.Bool.{lt-ltb}
 use mathlib.Core.Option.{some}
 use lib.ListN.{get_elem?}
 use Rattle.atomic_table.proofs.Lists.{at_longer}
-use Rattle.std.specs.Int.{to_le_bytes, w64}
+use Rattle.std.specs.Int.{cast_signed, w32, to_le_bytes, w64}
 use Rattle.std.proofs.lemmas.List.{length-take-le}
 use Rattle.std.proofs.Math.Seq.{take-append_seam}
 use Rattle.ring_layout.specs.History.{overwritten}
@@ -17,8 +17,8 @@ use Rattle.ring_board.specs.declared.view.Stage.TheVariants.{Resting, Sure, Head
 use Rattle.ring_board.specs.declared.found.Found.{Found}
 use Rattle.ring_board.specs.declared.found.Found.TheVariants.{Nothing, Entry, Missed}
 use Rattle.ring_board.specs.Records.{announced, is_padding, bytes_of}
-use Rattle.ring_board.specs.Steps.{Sat, staged, logged, saw_tail, heard, read_word, word_load, last_tail, passed, validated}
-use Rattle.ring_board.specs.Receiving.{CopiedWords, ComesTo, FoundIs, FoundBehind}
+use Rattle.ring_board.specs.Steps.{Sat, staged, logged, copied, saw_tail, heard, read_word, word_load, last_tail, passed, validated}
+use Rattle.ring_board.specs.Receiving.{message_of, CopiedWords, TookAll, TookNone, GotCopy, GotMiss, ComesTo, FoundIs, FoundBehind}
 
 passed_after : (v : View) (st : Stage) (x : ℕ) → v.stage ≡ st → x < v.at + v.capacity → validated v x ≡ logged (passed v st) (Intent x)
 passed_after v st x eq lt = ap (λ (b : Bool). logged (cond b (passed v v.stage) (staged v Behind)) (Intent x)) (lt-ltb x (v.at + v.capacity) lt) ∙ ap (λ (u : Stage). logged (passed v u) (Intent x)) eq
@@ -77,3 +77,26 @@ copied_on w k i x out out' m m1 m2 room h read put = let ws : List ℕ = h.0 in 
   where
     more : (n : ℕ) → 8 * (n + 1) ≡ 8 * n + 8
     more n = omega arith
+
+-- What the calls answer ------------------------------------------------------
+
+pub took_from : (m m1 m2 : Sat) (p w len : ℕ) (out : List ℕ) → (f : FoundIs (Entry p w) m m1) → TookAll w len out m1 m2 → GotCopy p (cast_signed w32 (w / 2 ^ 32)) (take len out) m m2
+took_from m m1 m2 p w len out f h = let b : List ℕ = take len out in
+    taken_on (subst (λ (u : Sat). TookAll w len out u m2) f.1 h)
+  where
+    taken_on : TookAll w len out (record m.0 { stage = Reading w []; at = p; log = m.0.log ++ f.0 }, m.1) m2 → GotCopy p (cast_signed w32 (w / 2 ^ 32)) (take len out) m m2
+    taken_on k = (
+      f.0 ++ k.0,
+      k.1 ∙ ap (λ (l : List Load). (record (copied (record m.0 { at = p }) (message_of w (take len out))) { log = l }, m.1)) (append_assoc m.0.log f.0 k.0),
+      later_loads m.0 f.0 k.0 p f.2,
+    )
+
+pub missed_from : (m m1 m2 : Sat) (p w x : ℕ) → (f : FoundIs (Entry p w) m m1) → TookNone x m1 m2 → GotMiss p x m m2
+missed_from m m1 m2 p w x f h = missed_on (subst (λ (u : Sat). TookNone x u m2) f.1 h)
+  where
+    missed_on : TookNone x (record m.0 { stage = Reading w []; at = p; log = m.0.log ++ f.0 }, m.1) m2 → GotMiss p x m m2
+    missed_on k = (
+      f.0 ++ k.0,
+      k.1 ∙ ap (λ (l : List Load). (record m.0 { stage = Behind; at = p; log = l }, m.1)) (append_assoc m.0.log f.0 (k.0 ++ Intent x ∷ []) ∙ ap (λ (l : List Load). m.0.log ++ l) (sym (append_assoc f.0 k.0 (Intent x ∷ [])))),
+      k.2,
+    )

@@ -5,5 +5,6 @@ pub mod Rule
 pub mod Steps
 pub mod Refusals
 pub mod Seats
+pub mod Lending
 pub mod Closing
 pub mod Receiving

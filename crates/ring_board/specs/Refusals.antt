@@ -6,6 +6,8 @@ use Rattle.ring_board.specs.declared.fault.MakeFault.{MakeFault}
 use Rattle.ring_board.specs.declared.fault.MakeFault.TheVariants.{BadCapacity, BadStart, OutOfMemory}
 use Rattle.ring_board.specs.declared.fault.TransmitFault.{TransmitFault}
 use Rattle.ring_board.specs.declared.fault.TransmitFault.TheVariants.{BadType, TooLong, PositionLimit}
+use Rattle.ring_board.specs.declared.fault.SubscribeFault.{SubscribeFault}
+use Rattle.ring_board.specs.declared.fault.SubscribeFault.TheVariants as subscribe_fault
 use Rattle.ring_board.specs.Layout.{is_board_capacity}
 
 -- why a board cannot be made, in the order of the tests
@@ -34,3 +36,11 @@ IsRefusedAs error refusal result = MatchOption refusal (IfOk result (λ _. Unit 
 
 abbrev pub IsRefusedBy : {T F : Type 0} → Option F → Result T F → Type 0
 IsRefusedBy refusal result = IsRefusedAs (λ fault. fault) refusal result
+
+-- why a transmitter with so many shares makes no copying receiver
+abbrev pub subscribe_refusal_of : ℕ → Option SubscribeFault
+subscribe_refusal_of shares = if nat_lt 1 shares then None else Some subscribe_fault.NoShares
+
+-- the result is the refusal; where there is none it is Ok, unless memory is wanting
+abbrev pub IsSubscribedUnless : {T : Type 0} → Option SubscribeFault → Result T SubscribeFault → Type 0
+IsSubscribedUnless refusal result = MatchOption refusal (IsOkUnless result subscribe_fault.OutOfMemory) (λ fault. result ≡ Err fault)

@@ -1,5 +1,5 @@
 -- What clauses say of boards and of those who work on them.
-use Rattle.std.specs.Prelude.{◌≡◌, ℕ, ℤ, ◌+◌, ◌/◌, List, [], length}
+use Rattle.std.specs.Prelude.{◌≡◌, ℕ, ℤ, ◌+◌, ◌/◌, List, [], length, Option, Result, MatchResult, MatchOption}
 use Rattle.ring_layout.specs.History.{span}
 use Rattle.ring_layout.specs.Places.{next_place, end_after}
 use Rattle.ring_board.specs.declared.view.Record.{Record}
@@ -11,7 +11,12 @@ use Rattle.ring_board.specs.declared.seats.Transmitter.{Transmitter}
 use Rattle.ring_board.specs.declared.seats.Begun.{Begun}
 use Rattle.ring_board.specs.declared.seats.Filled.{Filled}
 use Rattle.ring_board.specs.declared.seats.BeginRefused.{BeginRefused}
-use Rattle.ring_board.specs.Steps.{staged, draft, drafted, record_at}
+use Rattle.ring_board.specs.declared.seats.CopyReceiver.{CopyReceiver}
+use Rattle.ring_board.specs.declared.seats.Copied.{Copied}
+use Rattle.ring_board.specs.declared.view.Taken.{Taken}
+use Rattle.ring_board.specs.declared.fault.Lapped.{Lapped}
+use Rattle.ring_board.specs.Receiving.{GotNothing, GotCopy, GotLapped}
+use Rattle.ring_board.specs.Steps.{Sat, staged, draft, drafted, record_at}
 
 abbrev pub capacity_of : Board → ℕ
 capacity_of board = board.capacity
@@ -83,3 +88,30 @@ pub record HasBegun (C : ℕ) (t : Transmitter) (type_id : ℤ) (len : ℕ) (b :
 -- the transmitter comes back with the reason
 abbrev pub refused_with : Transmitter → TransmitFault → BeginRefused
 refused_with t reason = record { reason = reason; transmitter = t }
+
+-- Copying receivers --------------------------------------------------------
+
+abbrev pub IsReceiverOf : Board → CopyReceiver → Type 0
+IsReceiverOf board r = (r.seat.table_id ≡ board.table.shared.table_id) × IsViewOf board r.seat.me.0
+
+-- what the receiver knows, with the slots of its seat, which has none
+abbrev pub receiver_seat : CopyReceiver → Sat
+receiver_seat r = r.seat.me
+
+abbrev pub receiver_view : CopyReceiver → View
+receiver_view r = r.seat.me.0
+
+-- where the receiver subscribed
+abbrev pub subscribed_at : CopyReceiver → ℕ
+subscribed_at r = r.seat.me.0.from
+
+abbrev pub copies_of : CopyReceiver → List Taken
+copies_of r = r.seat.me.0.copies
+
+abbrev pub lapped_count_of : CopyReceiver → ℕ
+lapped_count_of r = r.seat.me.0.count
+
+-- what a call of `receive` answered and did
+abbrev pub Received : CopyReceiver → CopyReceiver → Result (Option Copied) Lapped → Type 0
+Received old new result = MatchResult result (λ o. MatchOption o (GotNothing (receiver_seat old) (receiver_seat new)) (λ c. GotCopy c.place c.type_id c.body.now (receiver_seat old) (receiver_seat new)))
+    (λ l. GotLapped l (receiver_seat old) (receiver_seat new))

@@ -18,3 +18,10 @@ pub(crate) struct Front {
     pub(crate) type_id: i32,
     pub(crate) len: usize,
 }
+
+/// A validation that failed, and the intent that showed it.
+#[derive(Clone, Copy)]
+pub(crate) struct Miss {
+    pub(crate) place: u64,
+    pub(crate) intent: u64,
+}

@@ -2,6 +2,7 @@
 #![tactic(auto)]
 
 mod body_words;
+mod copying;
 mod fault;
 mod found;
 mod loading;
@@ -14,7 +15,9 @@ mod transmitting;
 mod view;
 
 pub use fault::{Lapped, MakeFault, NoShares, ReceiversOut, SubscribeFault, TransmitFault};
-pub use seats::{BeginRefused, Begun, Board, BoardCloseRefused, ClosedBoard, Filled, Transmitter};
+pub use seats::{
+    BeginRefused, Begun, Board, BoardCloseRefused, ClosedBoard, Copied, CopyReceiver, Filled, Transmitter,
+};
 
 #[cfg(test)]
 mod tests;

@@ -1,5 +1,6 @@
 //! How a receiver finds the next record and copies it.
 ghost use Rattle.std.specs.Prelude.{◌≡◌, ℕ, ◌+◌, ◌-◌, ◌*◌, ◌/◌, ◌%◌, ◌^◌, ◌<◌, ◌≤◌, List, [], ◌∷◌, ◌++◌, length, take, nat_le, MatchResult, MatchOption};
+ghost use Rattle.std.specs.Int.{cast_signed, w32};
 ghost use Rattle.ring_layout.specs.History.{span};
 ghost use Rattle.ring_layout.specs.Places.{max_position};
 ghost use Rattle.ring_board.specs.declared.view.Load.{Load};
@@ -9,7 +10,7 @@ ghost use Rattle.ring_board.specs.Steps.{IsSound};
 ghost use Rattle.ring_board.specs.Receiving.{FoundIs, FoundBehind, CopiedWords, TookAll, TookNone, GotNothing, GotCopy, GotMiss};
 
 use crate::body_words::put_word;
-use crate::found::{Found, Front};
+use crate::found::{Found, Front, Miss};
 use crate::seats::Board;
 use crate::view::BoardSeat;
 use ring_layout::record_descriptor::{HEADER_LENGTH, unpack_header};
@@ -19,6 +20,13 @@ fn announced(header: u64) -> u64
     ensures { (result ≡ announced header) × (result < 2 ^ 32) }
 {
     header & 0xffff_ffff
+}
+
+/// The type id that a header announces.
+fn announced_type(header: u64) -> i32
+    ensures { result ≡ cast_signed w32 (header / 2 ^ 32) }
+{
+    unpack_header(header).1
 }
 
 /// Tests whether a header is of padding.
@@ -120,6 +128,36 @@ impl Board {
             Err(intent)
         } else {
             Ok(len)
+        }
+    }
+
+    /// Copies the next message to the front of the scratch, if there is one. Or else gives the place and the intent of a
+    /// failed validation.
+    pub(crate) fn attempt(
+        &self,
+        seat: &mut BoardSeat,
+        place: u64,
+        scratch: &mut [u8],
+    ) -> Result<Option<Front>, Miss>
+        requires seat { seat.old.table_id ≡ self.now.table.shared.table_id }
+        requires stage { (seat.old.me.0.stage ≡ Resting) × (seat.old.me.0.at ≡ place) × (seat.old.me.0.capacity ≡ self.now.capacity) × (place ≤ max_position) }
+        requires room { length scratch.old ≡ self.now.capacity / 8 }
+        ensures same { (seat.new.table_id ≡ seat.old.table_id) × (seat.new.id ≡ seat.old.id) }
+        ensures got { MatchResult result (λ o. MatchOption o (GotNothing seat.old.me seat.new.me) (λ f. GotCopy f.place f.type_id (take f.len scratch.new) seat.old.me seat.new.me))
+            (λ m. GotMiss m.place m.intent seat.old.me seat.new.me) }
+        ensures bound { MatchResult result (λ o. MatchOption o (Unit {0}) (λ f. (f.place + span f.len ≤ max_position) × (f.len ≤ length scratch.new))) (λ m. Unit {0}) }
+    {
+        match self.find(seat, place) {
+            Found::Nothing(_) => Ok(None),
+            Found::Missed(place, intent) => Err(Miss { place, intent }),
+            Found::Entry(place, header) => match self.take(seat, place, header, scratch) {
+                Ok(len) => Ok(Some(Front {
+                    place,
+                    type_id: announced_type(header),
+                    len,
+                })),
+                Err(intent) => Err(Miss { place, intent }),
+            },
         }
     }
 }
