@@ -47,7 +47,7 @@ found_from f m m3 m' st xs p is to h = found_on f m m' st xs p to (subst (λ (u 
     found_on (Nothing t) u u' s ys at there k = absurd k
     found_on (Entry q w) u u' s ys at there k = (ys ++ k.0, k.1 ∙ ap (λ (l : List Load). (record u.0 { stage = Reading w []; at = q; log = l }, u.1)) (append_assoc u.0.log ys k.0), later_loads u.0 ys k.0 q (subst (ComesTo u.0 ys) (sym k.2) there), k.3)
     found_on (Missed q x) u u' s ys at there k =
-        (ys ++ k.0, k.1 ∙ ap (λ (l : List Load). (record u.0 { stage = Behind; at = q; log = l }, u.1)) (append_assoc u.0.log ys (k.0 ++ Intent x ∷ []) ∙ ap (λ (l : List Load). u.0.log ++ l) (sym (append_assoc ys k.0 (Intent x ∷ [])))), k.3)
+        (ys ++ k.0, k.1 ∙ ap (λ (l : List Load). (record u.0 { stage = Behind; at = q; log = l }, u.1)) (append_assoc u.0.log ys (k.0 ++ Intent x ∷ []) ∙ ap (λ (l : List Load). u.0.log ++ l) (sym (append_assoc ys k.0 (Intent x ∷ [])))), later_loads u.0 ys k.0 q (subst (ComesTo u.0 ys) (sym k.2) there), k.3)
 
 -- the loads up to the padding show its header
 pub padding_seen : (v : View) (C at t w x p : ℕ) → v.capacity ≡ C → v.at ≡ at → is_padding w ≡ true → p ≡ at + announced w → ComesTo v (padding_loads v t (index C at) w x) p
@@ -98,5 +98,6 @@ missed_from m m1 m2 p w x f h = missed_on (subst (λ (u : Sat). TookNone x u m2)
     missed_on k = (
       f.0 ++ k.0,
       k.1 ∙ ap (λ (l : List Load). (record m.0 { stage = Behind; at = p; log = l }, m.1)) (append_assoc m.0.log f.0 (k.0 ++ Intent x ∷ []) ∙ ap (λ (l : List Load). m.0.log ++ l) (sym (append_assoc f.0 k.0 (Intent x ∷ [])))),
+      later_loads m.0 f.0 k.0 p f.2,
       k.2,
     )

@@ -24,7 +24,7 @@ ComesTo v loads p = (p ≡ v.at) ⊎ ((w : ℕ) × (t : ℕ) × (j : ℕ) × (ge
 abbrev pub FoundIs : Found → Sat → Sat → Type 0
 FoundIs (Nothing t) m m' = (m' ≡ (record m.0 { stage = Resting; log = m.0.log ++ Tail t ∷ [] }, m.1)) × (t ≤ m.0.at)
 FoundIs (Entry p w) m m' = (loads : List Load) × (m' ≡ (record m.0 { stage = Reading w []; at = p; log = m.0.log ++ loads }, m.1)) × ComesTo m.0 loads p × IsSound m.0.capacity p w
-FoundIs (Missed p x) m m' = (loads : List Load) × (m' ≡ (record m.0 { stage = Behind; at = p; log = m.0.log ++ (loads ++ Intent x ∷ []) }, m.1)) × (p + m.0.capacity ≤ x)
+FoundIs (Missed p x) m m' = (loads : List Load) × (m' ≡ (record m.0 { stage = Behind; at = p; log = m.0.log ++ (loads ++ Intent x ∷ []) }, m.1)) × ComesTo m.0 loads p × (p + m.0.capacity ≤ x)
 
 -- the same from behind padding, where the entry lies at p
 abbrev pub FoundBehind : Found → ℕ → Sat → Sat → Type 0
@@ -60,9 +60,9 @@ GotCopy place type_id body m m' = (loads : List Load)
 
 -- the validation at p failed, at the intent x
 abbrev pub GotMiss : ℕ → ℕ → Sat → Sat → Type 0
-GotMiss p x m m' = (loads : List Load) × (m' ≡ (record m.0 { stage = Behind; at = p; log = m.0.log ++ (loads ++ Intent x ∷ []) }, m.1)) × (p + m.0.capacity ≤ x)
+GotMiss p x m m' = (loads : List Load) × (m' ≡ (record m.0 { stage = Behind; at = p; log = m.0.log ++ (loads ++ Intent x ∷ []) }, m.1)) × ComesTo m.0 loads p × (p + m.0.capacity ≤ x)
 
--- the receiver was lapped: the count rose by one, and the place is the latest loaded after the intent that showed it
+-- the receiver was lapped at its place, or behind padding there: the count rose by one, and the place is the latest loaded after the intent that showed it
 abbrev pub GotLapped : Lapped → Sat → Sat → Type 0
-GotLapped l m m' = (loads : List Load) × (k : ℕ) × (x : ℕ) × (l.place + m.0.capacity ≤ l.intent) × (l.count ≡ suc m.0.count)
+GotLapped l m m' = (loads : List Load) × (k : ℕ) × (x : ℕ) × ComesTo m.0 loads l.place × (l.place + m.0.capacity ≤ l.intent) × (l.count ≡ suc m.0.count)
     × (m' ≡ (record m.0 { stage = Resting; at = x; next = k; count = suc m.0.count; log = m.0.log ++ (loads ++ (Intent l.intent ∷ Latest x ∷ [])) }, m.1))
