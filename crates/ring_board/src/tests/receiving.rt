@@ -1,6 +1,9 @@
-ghost use Rattle.ring_board.specs.Seats.{IsTransmitterOf, IsReceiverOf};
+ghost use Rattle.std.specs.Prelude.{◌≡◌, IfOk};
+ghost use Rattle.ring_board.specs.Seats.{IsTransmitterOf, IsReceiverOf, IsBegunOf, begun_len};
 
-use crate::{Board, CopyReceiver, Lapped, ReceiversOut, SubscribeFault, Transmitter};
+use crate::{
+    Begun, Board, CopyReceiver, Lapped, ReceiversOut, SubscribeFault, TransmitFault, Transmitter,
+};
 use std::test::Fail;
 
 /// What a receiver answers: the place, the type id and the length of a copy.
@@ -38,6 +41,17 @@ fn send(board: &Board, transmitter: &mut Transmitter, count: u32, len: usize)
     let len = len.min(32);
     'sends: for _ in 0..count {
         let _ = board.transmit(transmitter, 1, &body[..len]);
+    }
+}
+
+/// Begins a transmission of 24 bytes.
+fn begun(board: &Board, transmitter: Transmitter) -> Result<Begun, TransmitFault>
+    requires { IsTransmitterOf board.now transmitter }
+    ensures { IfOk result (λ b. IsBegunOf board.now b × (begun_len b ≡ 24)) }
+{
+    match board.begin(transmitter, 1, 24) {
+        Ok(begun) => Ok(begun),
+        Err(refused) => Err(refused.reason),
     }
 }
 
@@ -103,9 +117,7 @@ fn an_intent_alone_laps(rt: HostRuntime) -> Result<(), Fail> {
     let (board, mut transmitter) = Board::new(rt.alloc(), 256)?;
     let mut receiver = board.subscribe(rt.alloc(), &mut transmitter)?;
     send(&board, &mut transmitter, 7, 24);
-    let begun = board
-        .begin(transmitter, 1, 24)
-        .map_err(|refused| refused.reason)?;
+    let begun = begun(&board, transmitter)?;
     let lapped = Lapped {
         count: 1,
         place: 0,

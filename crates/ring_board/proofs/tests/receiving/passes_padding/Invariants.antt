@@ -2,4 +2,4 @@ use Rattle.ring_board.specs.Seats.{IsTransmitterOf, IsReceiverOf}
 use Rattle.ring_board.proofs.tests.receiving.passes_padding.Given as goal
 
 abbrev pub invariant-copies : goal.invariant-copies
-invariant-copies l = IsTransmitterOf l.board l.transmitter × IsReceiverOf l.board l.receiver
+invariant-copies g l = IsTransmitterOf l.board l.transmitter × IsReceiverOf l.board l.receiver
