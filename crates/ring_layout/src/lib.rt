@@ -1,6 +1,7 @@
 //! Where records lie in a ring, how their words look, and the definitions that every crate names.
 #![tactic(auto)]
 
+pub mod broadcast_buffer_descriptor;
 pub mod counter_descriptor;
 mod message;
 mod picture_law;

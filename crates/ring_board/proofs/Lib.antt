@@ -1,0 +1,14 @@
+pub mod PlaceLemmas
+pub mod StoreLemmas
+pub mod SeatLemmas
+pub mod ByteLemmas
+pub mod TransmitLemmas
+pub mod CallLemmas
+pub mod PictureLemmas
+pub mod OpeningLemmas
+pub mod ShownLemmas
+pub mod LookLemmas
+pub mod ValidateLemmas
+pub mod ReceiveLemmas
+pub mod PassLemmas
+pub mod FoundLemmas

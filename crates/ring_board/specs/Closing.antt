@@ -1,0 +1,32 @@
+-- A board that was closed.
+use Rattle.std.specs.Prelude.{◌≡◌, ℕ, ◌+◌, ◌-◌, ◌/◌, ◌<◌, ◌==◌, List, length, slice_index, vec_len, Option, Some, None, if◌then◌else◌}
+use Rattle.ring_board.specs.declared.view.Record.{Record}
+use Rattle.ring_board.specs.declared.fault.ReceiversOut.{ReceiversOut}
+use Rattle.ring_board.specs.declared.seats.Board.{Board}
+use Rattle.ring_board.specs.declared.seats.Transmitter.{Transmitter}
+use Rattle.ring_board.specs.declared.seats.ClosedBoard.{ClosedBoard}
+use Rattle.ring_board.specs.declared.seats.BoardCloseRefused.{BoardCloseRefused}
+use Rattle.ring_board.specs.Layout.{intent_index, tail_index, latest_index, all_shares}
+use Rattle.ring_board.specs.Records.{Chain, end_of, last_of, stores_of, IsBoardWord}
+
+-- the words of a board of capacity C that began at e and transmitted this list
+pub record IsClosed (C e : ℕ) (sent : List Record) (ws : List ℕ) : Type 0 where
+  pub places : Chain C e sent
+  pub words : (i : ℕ) → i < C / 8 → IsBoardWord C (stores_of sent) i (slice_index ws i)
+  pub intent : slice_index ws (intent_index C) ≡ end_of e sent
+  pub tail : slice_index ws (tail_index C) ≡ end_of e sent
+  pub latest : slice_index ws (latest_index C) ≡ last_of e sent
+
+abbrev pub closed_words : ClosedBoard → List ℕ
+closed_words c = c.words.items
+
+abbrev pub closed_capacity : ClosedBoard → ℕ
+closed_capacity c = c.capacity
+
+-- why a board is not closed by a transmitter with so many shares
+abbrev pub close_refusal_of : ℕ → Option ReceiversOut
+close_refusal_of shares = if shares == all_shares then None else Some record { receivers = all_shares - shares }
+
+-- board and transmitter come back with the reason
+abbrev pub kept_open : Board → Transmitter → ReceiversOut → BoardCloseRefused
+kept_open board t reason = record { reason = reason; board = board; transmitter = t }

@@ -1,0 +1,10 @@
+pub mod Layout
+pub mod Records
+pub mod Runs
+pub mod Rule
+pub mod Steps
+pub mod Refusals
+pub mod Seats
+pub mod Lending
+pub mod Closing
+pub mod Receiving

@@ -1,0 +1,68 @@
+-- What a receiver's call does to its seat.
+use Rattle.std.specs.Prelude.{◌≡◌, ℕ, ◌+◌, ◌*◌, ◌/◌, ◌%◌, ◌^◌, ◌<◌, ◌≤◌, suc, ℤ, true, false, List, [], ◌∷◌, ◌++◌, length, take, ◌⊎◌}
+use Rattle.std.specs.Int.{cast_signed, w32}
+use mathlib.Core.Option.{some}
+use lib.ListN.{get_elem?}
+use Rattle.ring_layout.specs.declared.message.Message.{Message}
+use Rattle.ring_layout.specs.History.{span}
+use Rattle.ring_layout.specs.Places.{index}
+use Rattle.ring_board.specs.declared.fault.Lapped.{Lapped}
+use Rattle.ring_board.specs.declared.view.View.{View}
+use Rattle.ring_board.specs.declared.view.Load.{Load}
+use Rattle.ring_board.specs.declared.view.Load.TheVariants.{Word, Intent, Tail, Latest}
+use Rattle.ring_board.specs.declared.view.Stage.TheVariants.{Resting, Reading, Behind}
+use Rattle.ring_board.specs.declared.found.Found.{Found}
+use Rattle.ring_board.specs.declared.found.Found.TheVariants.{Nothing, Entry, Missed}
+use Rattle.ring_board.specs.Records.{announced, is_padding, bytes_of}
+use Rattle.ring_board.specs.Steps.{Sat, copied, IsSound}
+
+-- p is the receiver's place, or behind padding whose header is among these loads
+abbrev pub ComesTo : View → List Load → ℕ → Type 0
+ComesTo v loads p = (p ≡ v.at) ⊎ ((w : ℕ) × (t : ℕ) × (j : ℕ) × (get_elem? loads j ≡ some (Word (index v.capacity v.at) t w)) × (is_padding w ≡ true) × (p ≡ v.at + announced w))
+
+-- what looking for the next entry does
+abbrev pub FoundIs : Found → Sat → Sat → Type 0
+FoundIs (Nothing t) m m' = (m' ≡ (record m.0 { stage = Resting; log = m.0.log ++ Tail t ∷ [] }, m.1)) × (t ≤ m.0.at)
+FoundIs (Entry p w) m m' = (loads : List Load) × (m' ≡ (record m.0 { stage = Reading w []; at = p; log = m.0.log ++ loads }, m.1)) × ComesTo m.0 loads p × IsSound m.0.capacity p w
+FoundIs (Missed p x) m m' = (loads : List Load) × (m' ≡ (record m.0 { stage = Behind; at = p; log = m.0.log ++ (loads ++ Intent x ∷ []) }, m.1)) × ComesTo m.0 loads p × (p + m.0.capacity ≤ x)
+
+-- the same from behind padding, where the entry lies at p
+abbrev pub FoundBehind : Found → ℕ → Sat → Sat → Type 0
+FoundBehind (Nothing t) place m m' = ⊥
+FoundBehind (Entry p w) place m m' = (loads : List Load) × (m' ≡ (record m.0 { stage = Reading w []; at = p; log = m.0.log ++ loads }, m.1)) × (p ≡ place) × IsSound m.0.capacity p w
+FoundBehind (Missed p x) place m m' = (loads : List Load) × (m' ≡ (record m.0 { stage = Behind; at = p; log = m.0.log ++ (loads ++ Intent x ∷ []) }, m.1)) × (p ≡ place) × (p + m.0.capacity ≤ x)
+
+-- the message that a header announces, with this body
+abbrev pub message_of : ℕ → List ℕ → Message
+message_of w body = record { type_id = cast_signed w32 (w / 2 ^ 32); body = body }
+
+-- so many words of a body were loaded behind the header w, and their bytes lie at the front of out
+abbrev pub CopiedWords : ℕ → ℕ → List ℕ → Sat → Sat → Type 0
+CopiedWords w count out m m' = (ws : List ℕ) × (loads : List Load) × (m' ≡ (record m.0 { stage = Reading w ws; log = m.0.log ++ loads }, m.1)) × (length ws ≡ count) × (take (8 * count) out ≡ bytes_of ws)
+
+-- a body of len bytes was copied to the front of out, and validated
+abbrev pub TookAll : ℕ → ℕ → List ℕ → Sat → Sat → Type 0
+TookAll w len out m m' = (loads : List Load) × (m' ≡ (record (copied m.0 (message_of w (take len out))) { log = m.0.log ++ loads }, m.1)) × (len ≤ length out)
+
+-- a validation failed at the intent x
+abbrev pub TookNone : ℕ → Sat → Sat → Type 0
+TookNone x m m' = (loads : List Load) × (m' ≡ (record m.0 { stage = Behind; log = m.0.log ++ (loads ++ Intent x ∷ []) }, m.1)) × (m.0.at + m.0.capacity ≤ x)
+
+-- a tail that was loaded is not beyond the place, and nothing else changed
+abbrev pub GotNothing : Sat → Sat → Type 0
+GotNothing m m' = (t : ℕ) × (m' ≡ (record m.0 { stage = Resting; log = m.0.log ++ Tail t ∷ [] }, m.1)) × (t ≤ m.0.at)
+
+-- a copy came: of the record at the place, or behind padding there. The next place is its end
+abbrev pub GotCopy : ℕ → ℤ → List ℕ → Sat → Sat → Type 0
+GotCopy place type_id body m m' = (loads : List Load)
+    × (m' ≡ (record m.0 { stage = Resting; at = place + span (length body); next = suc m.0.next; copies = m.0.copies ++ record { place = place; message = record { type_id = type_id; body = body }; count = m.0.count } ∷ []; log = m.0.log ++ loads }, m.1))
+    × ComesTo m.0 loads place
+
+-- the validation at p failed, at the intent x
+abbrev pub GotMiss : ℕ → ℕ → Sat → Sat → Type 0
+GotMiss p x m m' = (loads : List Load) × (m' ≡ (record m.0 { stage = Behind; at = p; log = m.0.log ++ (loads ++ Intent x ∷ []) }, m.1)) × ComesTo m.0 loads p × (p + m.0.capacity ≤ x)
+
+-- the receiver was lapped at its place, or behind padding there: the count rose by one, and the place is the latest loaded after the intent that showed it
+abbrev pub GotLapped : Lapped → Sat → Sat → Type 0
+GotLapped l m m' = (loads : List Load) × (k : ℕ) × (x : ℕ) × ComesTo m.0 loads l.place × (l.place + m.0.capacity ≤ l.intent) × (l.count ≡ suc m.0.count)
+    × (m' ≡ (record m.0 { stage = Resting; at = x; next = k; count = suc m.0.count; log = m.0.log ++ (loads ++ (Intent l.intent ∷ Latest x ∷ [])) }, m.1))

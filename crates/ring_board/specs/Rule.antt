@@ -1,0 +1,154 @@
+-- The rule of the board: what holds between any two steps.
+use Rattle.std.specs.Prelude.{◌≡◌, ℕ, ◌+◌, ◌-◌, ◌*◌, ◌/◌, ◌%◌, ◌^◌, ◌<◌, ◌≤◌, suc, List, [], ◌∷◌, ◌++◌, length, take, slice_index, ◌⊎◌}
+use mathlib.Core.Option.{some}
+use lib.ListN.{get_elem?}
+use Rattle.atomic_table.specs.Table.{State}
+use Rattle.ring_layout.specs.Places.{index, max_position}
+use Rattle.ring_layout.specs.Headers.{padding_header}
+use Rattle.ring_board.specs.Layout.{intent_index, tail_index, latest_index, board_words, all_shares}
+use Rattle.ring_board.specs.declared.view.Record.{Record}
+use Rattle.ring_board.specs.declared.view.Taken.{Taken}
+use Rattle.ring_board.specs.declared.view.Draft.{Draft}
+use Rattle.ring_board.specs.declared.view.View.{View}
+use Rattle.ring_board.specs.declared.view.Load.{Load}
+use Rattle.ring_board.specs.declared.view.Load.TheVariants.{Word, Intent, Tail, Latest}
+use Rattle.ring_board.specs.declared.view.Stage.{Stage}
+use Rattle.ring_board.specs.declared.view.Stage.TheVariants.{Spent, Idle, Begun, Storing, Written, Shown, Resting, Sure, Headed, Padded, Again, Reading, Behind}
+use Rattle.ring_board.specs.Records.{end, Lies, Follows, Chain, end_of, last_of, words_of, header_of, filled, stores, stores_of, last_at}
+use Rattle.ring_board.specs.Runs.{IsCopy, AreRuns}
+
+-- The transmitter ----------------------------------------------------------
+
+-- the intent of a board that began at e
+abbrev pub intent : ℕ → List Record → Stage → ℕ
+intent e sent (Begun d) = d.end
+intent e sent (Storing d) = d.end
+intent e sent (Written r) = end r
+intent e sent (Shown r) = end r
+intent e sent _ = end_of e sent
+
+abbrev pub latest : ℕ → List Record → Stage → ℕ
+latest e sent (Shown r) = r.place
+latest e sent _ = last_of e sent
+
+-- the list with the record that latest shows
+abbrev pub shown : List Record → Stage → List Record
+shown sent (Shown r) = sent ++ r ∷ []
+shown sent _ = sent
+
+-- all stores in the buffer so far
+abbrev pub so_far : List Record → Stage → List (ℕ × ℕ)
+so_far sent (Storing d) = stores_of sent ++ filled d.before d.place d.words
+so_far sent (Written r) = stores_of sent ++ stores r
+so_far sent (Shown r) = stores_of sent ++ stores r
+so_far sent _ = stores_of sent
+
+-- these stores stand in the words
+abbrev pub Stand : ℕ → List ℕ → List (ℕ × ℕ) → Type 0
+Stand C ws xs = (j : ℕ) (x : ℕ × ℕ) → get_elem? xs j ≡ some x → slice_index ws (index C x.0) ≡ x.1
+
+-- how far the running transmission behind e has come
+abbrev pub Running : ℕ → ℕ → List ℕ → Stage → Type 0
+Running C e ws Idle = Unit {0}
+Running C e ws (Begun d) = Lies C e d.before d.place d.end × (d.before < d.place) × (d.words ≡ [])
+Running C e ws (Storing d) = Lies C e d.before d.place d.end × (d.place + 8 + 8 * length d.words ≤ d.end) × Stand C ws (filled d.before d.place d.words)
+Running C e ws (Written r) = Follows C e r × Stand C ws (stores r)
+Running C e ws (Shown r) = Follows C e r × Stand C ws (stores r)
+Running C e ws _ = ⊥
+
+-- Receivers ----------------------------------------------------------------
+
+-- the next entry lies at the place, or behind a padding there, or is not yet sent
+abbrev pub Before : ℕ → List Record → ℕ → ℕ → Type 0
+Before e all at next = ((r : Record) × (get_elem? all next ≡ some r) × ((at ≡ r.place) ⊎ (at ≡ r.before))) ⊎ ((next ≡ length all) × (at ≡ end_of e all))
+
+-- a first copy would be the entry at the place of subscribing
+abbrev pub Fresh : ℕ → List Record → ℕ → ℕ → Type 0
+Fresh e all at next = ((r : Record) × (get_elem? all next ≡ some r) × (at ≡ r.place)) ⊎ ((all ≡ []) × (next ≡ 0) × (at ≡ e))
+
+-- where a receiver stands, and how its last copy lies to that
+pub record Receives (e : ℕ) (sent all : List Record) (v : View) : Type 0 where
+  pub before : Before e all v.at v.next
+  pub climbs : v.from + v.count ≤ v.at
+  pub past : (i : ℕ) (c : Taken) → get_elem? v.copies i ≡ some c → suc i ≡ length v.copies → (c.count ≤ v.count) × (c.place < v.at)
+      × (c.count ≡ v.count → (k : ℕ) × (r : Record) × (v.next ≡ suc k) × (get_elem? sent k ≡ some r) × IsCopy r c)
+  pub fresh : v.copies ≡ [] → v.count ≡ 0 → (v.at ≡ v.from) × Fresh e all v.at v.next
+
+-- w is the word at the place of a record, or of the padding before it
+abbrev pub IsHeader : Record → ℕ → ℕ → Type 0
+IsHeader r at w = ((at ≡ r.place) × (w ≡ header_of r.message)) ⊎ ((at ≡ r.before) × (r.before < r.place) × (w ≡ padding_header (r.place - r.before)))
+
+module _ (C now : ℕ) (sent : List Record) (at next : ℕ) where
+  abbrev pub Next : (Record → Type 0) → Type 0
+  Next P = (r : Record) × (get_elem? sent next ≡ some r) × P r
+
+  -- what a receiver has loaded is right, or the intent has passed its place
+  abbrev pub Loaded : Stage → Type 0
+  Loaded Resting = Unit {0}
+  Loaded Sure = Next (λ r. (at ≡ r.place) ⊎ ((at ≡ r.before) × (r.before < r.place)))
+  Loaded (Headed w) = Next (λ r. ((at ≡ r.place) ⊎ ((at ≡ r.before) × (r.before < r.place))) × (now < at + C → IsHeader r at w))
+  Loaded (Padded w) = Next (λ r. (at ≡ r.before) × (r.before < r.place) × (w ≡ padding_header (r.place - r.before)))
+  Loaded (Again w) = Next (λ r. (at ≡ r.place) × (now < at + C → w ≡ header_of r.message))
+  Loaded (Reading w ws) = Next (λ r. (at ≡ r.place) × (w ≡ header_of r.message) × (now < at + C → ws ≡ take (length ws) (words_of r.message.body)))
+  Loaded Behind = Next (λ r. at + C ≤ now)
+  Loaded _ = ⊥
+
+-- what the seat j with the view v knows, where the seat `by` is the transmitter's, with the view `mine`
+abbrev pub Knows : ℕ → ℕ → ℕ → View → ℕ → View → Stage → Type 0
+Knows C e by mine j v Spent = Unit {0}
+Knows C e by mine j v Idle = j ≡ by
+Knows C e by mine j v (Begun d) = j ≡ by
+Knows C e by mine j v (Storing d) = j ≡ by
+Knows C e by mine j v (Written r) = j ≡ by
+Knows C e by mine j v (Shown r) = j ≡ by
+Knows C e by mine j v st = (v.capacity ≡ C) × Receives e mine.sent (shown mine.sent mine.stage) v × Loaded C (intent e mine.sent mine.stage) mine.sent v.at v.next st
+
+-- What was loaded ----------------------------------------------------------
+
+-- A counter is not above the present one. A word is that of each position there below the tail seen, or the intent has passed that
+abbrev pub LoadOk : ℕ → ℕ → List Record → Stage → Load → Type 0
+LoadOk C e sent st (Intent x) = x ≤ intent e sent st
+LoadOk C e sent st (Tail x) = x ≤ end_of e sent
+LoadOk C e sent st (Latest x) = x ≤ latest e sent st
+LoadOk C e sent st (Word i t w) = (t ≤ end_of e sent)
+    × ((k : ℕ) (r : Record) → get_elem? sent k ≡ some r → (j : ℕ) (y : ℕ × ℕ) → get_elem? (stores r) j ≡ some y → index C y.0 ≡ i → y.0 < t → intent e sent st < y.0 + C → w ≡ y.1)
+
+abbrev pub Logged : ℕ → ℕ → List Record → Stage → List Load → Type 0
+Logged C e sent st log = (i : ℕ) (l : Load) → get_elem? log i ≡ some l → LoadOk C e sent st l
+
+-- The rule -----------------------------------------------------------------
+
+abbrev pub total_shares : List View → ℕ
+total_shares [] = 0
+total_shares (v ∷ vs) = v.shares + total_shares vs
+
+-- a board of capacity C that began at e. The seat `by` is the transmitter's, and `mine` its view
+pub record IsBoard (C e by : ℕ) (mine : View) (s : State (Unit {0}) View) : Type 0 where
+  pub wide : length s.words ≡ board_words C
+  pub roomy : 256 ≤ C
+  pub narrow : C ≤ 2 ^ 24
+  pub whole : C % 64 ≡ 0
+  pub aligned : e % C ≡ 0
+  pub here : get_elem? s.views by ≡ some mine
+  pub capacity : mine.capacity ≡ C
+  pub started : mine.start ≡ e
+  pub behind : mine.at ≡ end_of e mine.sent
+  pub chain : Chain C e mine.sent
+  pub low : intent e mine.sent mine.stage ≤ max_position
+  pub intent_is : slice_index s.words (intent_index C) ≡ intent e mine.sent mine.stage
+  pub tail_is : slice_index s.words (tail_index C) ≡ end_of e mine.sent
+  pub latest_is : slice_index s.words (latest_index C) ≡ latest e mine.sent mine.stage
+  pub valid : (k : ℕ) (r : Record) → get_elem? mine.sent k ≡ some r → (j : ℕ) (x : ℕ × ℕ) → get_elem? (stores r) j ≡ some x → intent e mine.sent mine.stage < x.0 + C → slice_index s.words (index C x.0) ≡ x.1
+  pub running : Running C (end_of e mine.sent) s.words mine.stage
+  pub exact : (i : ℕ) → i < C / 8 → slice_index s.words i ≡ last_at C (so_far mine.sent mine.stage) i 0
+  pub each_seat : (j : ℕ) (v : View) → get_elem? s.views j ≡ some v → Knows C e by mine j v v.stage
+  pub each_copy : (j : ℕ) (v : View) → get_elem? s.views j ≡ some v → AreRuns mine.sent v.from v.copies
+  pub each_log : (j : ℕ) (v : View) → get_elem? s.views j ≡ some v → Logged C e mine.sent mine.stage v.log
+  pub shares : total_shares s.views ≡ all_shares
+
+abbrev pub Holds : ℕ → ℕ → State (Unit {0}) View → Type 0
+Holds C e s = (by : ℕ) × (mine : View) × IsBoard C e by mine s
+
+-- the view of a new board's transmitter
+abbrev pub opening_view : ℕ → ℕ → View
+opening_view C e = record { stage = Idle; shares = all_shares; capacity = C; start = e; sent = []; from = e; at = e; next = 0; count = 0; copies = []; log = [] }

@@ -1,0 +1,23 @@
+-- What receivers copied, as runs of a transmitted list.
+use Rattle.std.specs.Prelude.{◌≡◌, ℕ, suc, ◌<◌, ◌≤◌, List}
+use mathlib.Core.Option.{some}
+use lib.ListN.{get_elem?}
+use Rattle.ring_board.specs.declared.view.Record.{Record}
+use Rattle.ring_board.specs.declared.view.Taken.{Taken}
+
+-- a copy of this record
+pub record IsCopy (r : Record) (c : Taken) : Type 0 where
+  pub place : c.place ≡ r.place
+  pub message : c.message ≡ r.message
+
+-- one copy next to the other: with equal counts they are of neighbouring records
+pub record Neighbours (sent : List Record) (a b : Taken) : Type 0 where
+  pub rises : a.place < b.place
+  pub counts : a.count ≤ b.count
+  pub joined : a.count ≡ b.count → (k : ℕ) × (r : Record) × (q : Record) × (get_elem? sent k ≡ some r) × (get_elem? sent (suc k) ≡ some q) × IsCopy r a × IsCopy q b
+
+-- copies are runs of the transmitted list, of a receiver that subscribed at the place `from`
+pub record AreRuns (sent : List Record) (from : ℕ) (copies : List Taken) : Type 0 where
+  pub entries : (i : ℕ) (c : Taken) → get_elem? copies i ≡ some c → (k : ℕ) × (r : Record) × (get_elem? sent k ≡ some r) × IsCopy r c
+  pub follow : (i : ℕ) (a b : Taken) → get_elem? copies i ≡ some a → get_elem? copies (suc i) ≡ some b → Neighbours sent a b
+  pub first : (c : Taken) → get_elem? copies 0 ≡ some c → c.count ≡ 0 → c.place ≡ from

@@ -1,0 +1,117 @@
+-- What clauses say of boards and of those who work on them.
+use Rattle.std.specs.Prelude.{◌≡◌, ℕ, ℤ, ◌+◌, ◌/◌, List, [], length, Option, Result, MatchResult, MatchOption}
+use Rattle.ring_layout.specs.History.{span}
+use Rattle.ring_layout.specs.Places.{next_place, end_after}
+use Rattle.ring_board.specs.declared.view.Record.{Record}
+use Rattle.ring_board.specs.declared.view.View.{View}
+use Rattle.ring_board.specs.declared.view.Stage.TheVariants.{Written}
+use Rattle.ring_board.specs.declared.fault.TransmitFault.{TransmitFault}
+use Rattle.ring_board.specs.declared.seats.Board.{Board}
+use Rattle.ring_board.specs.declared.seats.Transmitter.{Transmitter}
+use Rattle.ring_board.specs.declared.seats.Begun.{Begun}
+use Rattle.ring_board.specs.declared.seats.Filled.{Filled}
+use Rattle.ring_board.specs.declared.seats.BeginRefused.{BeginRefused}
+use Rattle.ring_board.specs.declared.seats.CopyReceiver.{CopyReceiver}
+use Rattle.ring_board.specs.declared.seats.Copied.{Copied}
+use Rattle.ring_board.specs.declared.view.Taken.{Taken}
+use Rattle.ring_board.specs.declared.fault.Lapped.{Lapped}
+use Rattle.ring_board.specs.Receiving.{GotNothing, GotCopy, GotLapped}
+use Rattle.ring_board.specs.Steps.{Sat, staged, draft, drafted, record_at}
+
+abbrev pub capacity_of : Board → ℕ
+capacity_of board = board.capacity
+
+-- the position at which a board began
+abbrev pub start_of : Board → ℕ
+start_of board = board.table.shared.key.start
+
+-- The transmitter ----------------------------------------------------------
+
+-- what the transmitter knows: the transmitted list is its part `sent`
+abbrev pub view_of : Transmitter → View
+view_of t = t.seat.me.0
+
+abbrev pub transmitted : Transmitter → List Record
+transmitted t = t.seat.me.0.sent
+
+abbrev pub shares_of : Transmitter → ℕ
+shares_of t = t.seat.me.0.shares
+
+abbrev pub tail_of : Transmitter → ℕ
+tail_of t = t.tail
+
+-- the view is of a seat at this board
+abbrev pub IsViewOf : Board → View → Type 0
+IsViewOf board v = (v.capacity ≡ board.capacity) × (v.start ≡ board.table.shared.key.start)
+
+abbrev pub IsTransmitterOf : Board → Transmitter → Type 0
+IsTransmitterOf board t = (t.seat.table_id ≡ board.table.shared.table_id) × IsViewOf board t.seat.me.0
+
+-- the record that comes next behind a tail
+abbrev pub next_record : ℕ → ℕ → ℤ → List ℕ → Record
+next_record C tail type_id body = record { before = tail; place = next_place C tail (span (length body)); message = record { type_id = type_id; body = body } }
+
+-- A transmission in steps --------------------------------------------------
+
+abbrev pub IsBegunOf : Board → Begun → Type 0
+IsBegunOf board b = (b.seat.table_id ≡ board.table.shared.table_id) × IsViewOf board b.seat.me.0
+
+abbrev pub IsFilledOf : Board → Filled → Type 0
+IsFilledOf board f = (f.seat.table_id ≡ board.table.shared.table_id) × IsViewOf board f.seat.me.0
+
+abbrev pub begun_view : Begun → View
+begun_view b = b.seat.me.0
+
+abbrev pub filled_view : Filled → View
+filled_view f = f.seat.me.0
+
+-- the record that was filled
+abbrev pub filled_record : Filled → Record
+filled_record f = record_at f.seat.me.0.stage
+
+abbrev pub begun_tail : Begun → ℕ
+begun_tail b = b.tail
+
+abbrev pub begun_type_id : Begun → ℤ
+begun_type_id b = b.type_id
+
+abbrev pub begun_len : Begun → ℕ
+begun_len b = b.len
+
+-- the transmitter has begun a transmission of a message of this type id and length
+pub record HasBegun (C : ℕ) (t : Transmitter) (type_id : ℤ) (len : ℕ) (b : Begun) : Type 0 where
+  pub view : begun_view b ≡ staged (view_of t) (drafted (draft (tail_of t) (next_place C (tail_of t) (span len)) (end_after C (tail_of t) (span len)) []))
+  pub tail : begun_tail b ≡ tail_of t
+  pub type_id_given : begun_type_id b ≡ type_id
+  pub len_given : begun_len b ≡ len
+
+-- the transmitter comes back with the reason
+abbrev pub refused_with : Transmitter → TransmitFault → BeginRefused
+refused_with t reason = record { reason = reason; transmitter = t }
+
+-- Copying receivers --------------------------------------------------------
+
+abbrev pub IsReceiverOf : Board → CopyReceiver → Type 0
+IsReceiverOf board r = (r.seat.table_id ≡ board.table.shared.table_id) × IsViewOf board r.seat.me.0
+
+-- what the receiver knows, with the slots of its seat, which has none
+abbrev pub receiver_seat : CopyReceiver → Sat
+receiver_seat r = r.seat.me
+
+abbrev pub receiver_view : CopyReceiver → View
+receiver_view r = r.seat.me.0
+
+-- where the receiver subscribed
+abbrev pub subscribed_at : CopyReceiver → ℕ
+subscribed_at r = r.seat.me.0.from
+
+abbrev pub copies_of : CopyReceiver → List Taken
+copies_of r = r.seat.me.0.copies
+
+abbrev pub lapped_count_of : CopyReceiver → ℕ
+lapped_count_of r = r.seat.me.0.count
+
+-- what a call of `receive` answered and did
+abbrev pub Received : CopyReceiver → CopyReceiver → Result (Option Copied) Lapped → Type 0
+Received old new result = MatchResult result (λ o. MatchOption o (GotNothing (receiver_seat old) (receiver_seat new)) (λ c. GotCopy c.place c.type_id c.body.now (receiver_seat old) (receiver_seat new)))
+    (λ l. GotLapped l (receiver_seat old) (receiver_seat new))

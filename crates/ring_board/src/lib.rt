@@ -1,0 +1,23 @@
+//! A broadcast buffer: one transmitter that never waits, and receivers that learn when they missed something.
+#![tactic(auto)]
+
+mod body_words;
+mod copying;
+mod fault;
+mod found;
+mod loading;
+mod opening;
+mod plays;
+mod receiving;
+mod seats;
+mod storing;
+mod transmitting;
+mod view;
+
+pub use fault::{Lapped, MakeFault, NoShares, ReceiversOut, SubscribeFault, TransmitFault};
+pub use seats::{
+    BeginRefused, Begun, Board, BoardCloseRefused, ClosedBoard, Copied, CopyReceiver, Filled, Transmitter,
+};
+
+#[cfg(test)]
+mod tests;

@@ -1,0 +1,3 @@
+mod receiving;
+mod threads;
+mod transmitting;

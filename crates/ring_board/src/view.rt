@@ -1,0 +1,103 @@
+//! What a seat at the board's table knows. No value of these types is made, but of the shape.
+use atomic_table::{Seat, Table, TableRule};
+use ring_layout::Message;
+use std::alloc::Global;
+use std::collections::LinkedList;
+
+/// A transmitted message. Its transmission began at `before`, with padding up to `place`, where its record lies.
+pub struct Record {
+    pub before: u64,
+    pub place: u64,
+    pub message: Message,
+}
+
+/// A running transmission, which is to end at `end`, with the words of the body that are stored.
+pub struct Draft {
+    pub before: u64,
+    pub place: u64,
+    pub end: u64,
+    pub words: LinkedList<u64>,
+}
+
+/// What a receiver copied, and how often it was lapped before.
+pub struct Taken {
+    pub place: u64,
+    pub message: Message,
+    pub count: u64,
+}
+
+/// A load of the buffer, with its index, the tail seen last and the word, or of one of the three counters.
+pub enum Load {
+    Word(u64, u64, u64),
+    Intent(u64),
+    Tail(u64),
+    Latest(u64),
+}
+
+/// How far a call has come.
+pub enum Stage {
+    /// The seat was joined into another.
+    Spent,
+    /// The transmitter, between two transmissions.
+    Idle,
+    /// The intent is stored, and the padding header not yet.
+    Begun(Draft),
+    /// The intent and the padding header, where there is one, are stored.
+    Storing(Draft),
+    /// The header is stored.
+    Written(Record),
+    /// Latest is stored.
+    Shown(Record),
+    /// A receiver between two calls.
+    Resting,
+    /// It loaded a tail beyond its place.
+    Sure,
+    /// It loaded this header.
+    Headed(u64),
+    /// It loaded this header of a padding, and validated.
+    Padded(u64),
+    /// It loaded this header behind a padding.
+    Again(u64),
+    /// It loaded these words behind a validated header.
+    Reading(u64, LinkedList<u64>),
+    /// A validation failed.
+    Behind,
+}
+
+/// What a seat knows. The transmitter has the list `sent`. A receiver subscribed at `from`, is at `at`, where the
+/// entry `next` of that list comes next, was lapped `count` times, and has its copies. Each has a log of its loads.
+pub struct View {
+    pub stage: Stage,
+    pub shares: u64,
+    pub capacity: u64,
+    pub start: u64,
+    pub sent: LinkedList<Record>,
+    pub from: u64,
+    pub at: u64,
+    pub next: u64,
+    pub count: u64,
+    pub copies: LinkedList<Taken>,
+    pub log: LinkedList<Load>,
+}
+
+/// The capacity of a board in bytes, and the position at which it began.
+#[derive(Drop)]
+pub struct Shape {
+    pub capacity: u32,
+    pub start: u64,
+}
+
+/// What holds between any two steps.
+pub struct BoardRule;
+
+impl TableRule<(), View, Shape> for BoardRule {
+    ghost use Rattle.ring_board.specs.Rule.{Holds, opening_view};
+
+    ghost holds = { λ k s. Holds k.capacity k.start s };
+
+    ghost first = { λ k. opening_view k.capacity k.start };
+}
+
+pub type BoardTable = Table<(), View, Shape, BoardRule, Global>;
+
+pub type BoardSeat = Seat<(), View>;
