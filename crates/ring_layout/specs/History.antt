@@ -36,4 +36,4 @@ committed_of (c ∷ h) = shown c ++ committed_of h
 
 -- the bytes with these in place of their own from `at` on
 abbrev pub overwritten : ℕ → List ℕ → List ℕ → List ℕ
-overwritten at bytes body = take at body ++ bytes ++ drop (at + length bytes) body
+overwritten at bytes body = take at body ++ (bytes ++ drop (at + length bytes) body)

@@ -1,4 +1,4 @@
-//! Messages and claims as contracts speak of them. No value of these types is made: histories are lists of claims, and the ring has only words.
+//! Messages and claims as contracts speak of them. No value of a message or a claim is made: histories are lists of claims, and a ring has only words.
 use std::collections::LinkedList;
 
 /// A type id and a body of bytes.
@@ -8,6 +8,7 @@ pub struct Message {
 }
 
 /// How far a claim is.
+#[derive(Clone, Copy, Debug, PartialEq, Eq)]
 pub enum ClaimState {
     /// Its room is claimed, and its body may still be written.
     Open,

@@ -11,7 +11,8 @@ use Rattle.ring_layout.specs.Picture.{word_at, IsPicture}
 use Rattle.ring_words.specs.Ring.{Ring, ring, Has, IsRing, head_of, tail_of}
 use Rattle.ring_layout.specs.Layout.{head_index, tail_index}
 use Rattle.ring_layout.specs.Places.{max_position}
-use Rattle.ring_words.specs.Change.{Stores, AppendsClaim, IsAdmitted, written}
+use Rattle.ring_words.specs.Change.{AppendsClaim}
+use Rattle.ring_words.specs.Storing.{Stores, IsAdmitted}
 use Rattle.ring_layout.proofs.Laps.{apart}
 use Rattle.ring_layout.proofs.CapacityLemmas.{capacity_blocks}
 use Rattle.ring_layout.proofs.PlaceLemmas.{next_le, end_of-append, end_of_aligned}
@@ -126,15 +127,15 @@ tail_aligned r ok =
 pub free_of : (r : Ring) → IsRing r → (p : ℕ) → p % 8 ≡ 0 → tail_of r ≤ p → p < head_of r + r.capacity → slice_index r.words (p % r.capacity / 8) ≡ 0
 free_of r ok p p8 tp lt = free_behind r ok.history.0 ok.history.1 p p8 (omega (arith, ok.order)) tp lt
 
--- what storing an admitted message and then the tail does
-pub appended : (r : Ring) (type_id : ℤ) (body w : List ℕ) (place end : ℕ) → IsRing r → IsMessage r.capacity (written type_id body).message → IsAdmitted r (length body) place end
-    → Stores r.capacity (tail_of r) (written type_id body) r.words w
-    → AppendsClaim r (written type_id body) (ring r.capacity (slice_set w (tail_index r.capacity) end)) × IsRing (ring r.capacity (slice_set w (tail_index r.capacity) end))
+-- what storing an admitted claim and then the tail does
+pub appended : (r : Ring) (c : Claim) (w : List ℕ) (place end : ℕ) → IsRing r → IsMessage r.capacity c.message → IsAdmitted r (length c.message.body) place end
+    → Stores r.capacity (tail_of r) c r.words w
+    → AppendsClaim r c (ring r.capacity (slice_set w (tail_index r.capacity) end)) × IsRing (ring r.capacity (slice_set w (tail_index r.capacity) end))
 unfolding claimed
-appended r type_id body w place end ok m a s =
-    let is : end ≡ end_after r.capacity (tail_of r) (span_of (written type_id body)) = omega (arith, a.is_place, a.is_end) in
-    let fits : end_after r.capacity (tail_of r) (span_of (written type_id body)) ≤ head_of r + r.capacity = rw (sym is) a.fits in
-    let limit : end_after r.capacity (tail_of r) (span_of (written type_id body)) ≤ max_position = rw (sym is) a.limit in
-    subst (λ (e : ℕ). AppendsClaim r (written type_id body) (ring r.capacity (slice_set w (tail_index r.capacity) e)) × IsRing (ring r.capacity (slice_set w (tail_index r.capacity) e)))
+appended r c w place end ok m a s =
+    let is : end ≡ end_after r.capacity (tail_of r) (span_of c) = omega (arith, a.is_place, a.is_end) in
+    let fits : end_after r.capacity (tail_of r) (span_of c) ≤ head_of r + r.capacity = rw (sym is) a.fits in
+    let limit : end_after r.capacity (tail_of r) (span_of c) ≤ max_position = rw (sym is) a.limit in
+    subst (λ (e : ℕ). AppendsClaim r c (ring r.capacity (slice_set w (tail_index r.capacity) e)) × IsRing (ring r.capacity (slice_set w (tail_index r.capacity) e)))
     (sym is)
-    (claims r (written type_id body) w ok m fits limit s, is_ring_claimed r (written type_id body) w ok m fits limit s)
+    (claims r c w ok m fits limit s, is_ring_claimed r c w ok m fits limit s)

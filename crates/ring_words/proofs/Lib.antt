@@ -1,5 +1,6 @@
 pub mod StoreLemmas
 pub mod ClaimLemmas
+pub mod AppendLemmas
 pub mod FreshLemmas
 pub mod HeadLemmas
 pub mod TakeLemmas
@@ -7,3 +8,6 @@ pub mod BodyLemmas
 pub mod ReadLemmas
 pub mod UniqueLemmas
 pub mod MiddleLemmas
+pub mod OpenLemmas
+pub mod PutLemmas
+pub mod SettleLemmas

@@ -1,20 +1,27 @@
 -- One claim of a history is replaced by one of the same span.
-use Rattle.std.proofs.Common.{◌≡◌, ℕ, ◌+◌, ◌-◌, ◌/◌, ◌%◌, ◌<◌, ◌≤◌, List, [], ◌∷◌, ◌++◌, length, slice_index, ap, sym, ◌∙◌, subst, arith, ◌⊎◌, inl, inr, pos, All, refl, slice_set, get_or-set_other, get_or-set_same}
+use Rattle.std.proofs.Common.{◌≡◌, ℕ, ◌+◌, ◌-◌, ◌*◌, ◌/◌, ◌%◌, ◌<◌, ◌≤◌, List, [], ◌∷◌, ◌++◌, length, drop, slice_index, ap, sym, ◌∙◌, subst, arith, ◌⊎◌, inl, inr, pos, All, refl, slice_set, get_or-set_other, get_or-set_same}
 use Rattle.std.proofs.lemmas.List.{length-set}
 use Rattle.std.proofs.lemmas.Nat.{mod_below}
 use Rattle.std.proofs.lemmas.Bool.{cases_lt, cases_eq, ne_eqb, cond-false}
 use Rattle.std.proofs.lemmas.List.Elements.{All-append, All-cons, All-tail, All-head, All-nil}
 use Rattle.ring_words.specs.Ring.{Ring, ring, Has, IsRing, head_of, tail_of}
+use Rattle.ring_words.specs.Open.{ClaimAt, IsOpen, IsOpenClaim, IsOpenIn}
+use Rattle.ring_words.specs.Change.{ChangesClaim, changed_at}
+use Rattle.ring_words.specs.Storing.{HoldsBody}
+use Rattle.ring_words.proofs.OpenLemmas.{Stands, open_stands, open_replaced, changed_at_there}
+use Rattle.ring_words.proofs.UniqueLemmas.{open_in_each}
+use Rattle.ring_words.proofs.StoreLemmas.{record_inside}
+use Rattle.std.specs.Int.{from_le_bytes, w64}
 use Rattle.ring_layout.specs.Layout.{head_index, tail_index}
 use Rattle.ring_layout.specs.declared.message.Claim.{Claim}
-use Rattle.ring_layout.specs.declared.message.ClaimState.{ClaimState}
-use Rattle.ring_layout.specs.History.{IsMessage, span_of}
-use Rattle.ring_layout.specs.Places.{next_place, end_after, end_of}
+use Rattle.ring_layout.specs.declared.message.ClaimState.TheVariants.{Open}
+use Rattle.ring_layout.specs.History.{IsMessage, span, span_of}
+use Rattle.ring_layout.specs.Places.{index, next_place, place_behind, end_after, end_of}
 use Rattle.ring_layout.specs.Picture.{word_at, claim_word, IsPicture}
 use Rattle.ring_layout.specs.Headers.{header, header_of, padding_type}
-use Rattle.ring_layout.proofs.PlaceLemmas.{next_le, next_aligned, end_of-append, end_of_le, end_of_aligned, span_bounds}
+use Rattle.ring_layout.proofs.PlaceLemmas.{next_le, next_within, next_aligned, end_of-append, end_of_le, end_of_aligned, span_bounds}
 use Rattle.ring_layout.proofs.CapacityLemmas.{capacity_blocks}
-use Rattle.ring_layout.proofs.Laps.{apart}
+use Rattle.ring_layout.proofs.Laps.{index_step, index_outside}
 use Rattle.ring_layout.proofs.PictureLemmas.{word_at-append_before, word_at-append_after, word_at_padding, word_at_padding_header, word_at_record, word_at_rest}
 
 module _ (C e : ℕ) (front back : List Claim) (c d : Claim) (same : span_of c ≡ span_of d) where
@@ -99,43 +106,175 @@ has_replaced r front back c d new same lawful has s =
       picture = subst (λ (k : ℕ). IsPicture (slice_index new) C k (front ++ d ∷ back)) (sym head) picture;
     }
 
--- the settled header of a claim is stored: commit and abort
-pub settles : (r : Ring) (front back : List Claim) (c : Claim) (s : ClaimState) (place : ℕ) → IsRing r → Has r (front ++ c ∷ back)
-    → place ≡ next_place r.capacity (end_of r.capacity (head_of r) front) (span_of c)
-    → Replaces r front c (record { message = c.message; state = s }) (slice_set r.words (place % r.capacity / 8) (header_of (record { message = c.message; state = s })))
-settles r front back c s place ok has is =
+-- where a claim of the ring lies
+pub record Lies (r : Ring) (c : Claim) (place : ℕ) : Type 0 where
+  pub aligned : place % 8 ≡ 0
+  pub from : head_of r ≤ place
+  pub reach : place + span_of c ≤ head_of r + r.capacity
+  pub within : place % r.capacity + span_of c ≤ r.capacity
+
+pub lies : (r : Ring) (front back : List Claim) (c : Claim) (place : ℕ) → IsRing r → Has r (front ++ c ∷ back) → place_behind r.capacity (head_of r) front c ≡ place → Lies r c place
+lies r front back c place ok has is =
     let C : ℕ = r.capacity in
     let e : ℕ = head_of r in
     let q : ℕ = end_of C e front in
-    let d : Claim = record { message = c.message; state = s } in
     let some : 0 < C = omega (arith, ok.capacity.least) in
     let c8 : C % 8 ≡ 0 = omega (arith, capacity_blocks C ok.capacity) in
     let q8 = end_of_aligned C e front some c8 ok.aligned in
-    let aligned : place % 8 ≡ 0 = rw is (next_aligned C q (span_of c) some c8 q8) in
-    let low = mod_below place C some in
-    let bounds = span_bounds (length c.message.body) in
-    let from : e ≤ place = omega (arith, is, end_of_le C e front, next_le C q (span_of c)) in
+    let lawful = All-head (λ (x : Claim). IsMessage C x.message) c back (All-drop-front (λ (x : Claim). IsMessage C x.message) front (c ∷ back) has.lawful) in
+    let short : span_of c ≤ C = omega (arith, lawful.short, span_bounds (length c.message.body), ok.capacity.least) in
     let whole : end_of C (end_after C q (span_of c)) back ≡ tail_of r = sym (end_of-append C e front (c ∷ back)) ∙ has.ends in
-    let reach : place + span_of c ≤ e + C = omega (arith, is, whole, end_of_le C (end_after C q (span_of c)) back, ok.room) in
-    let fits : place % C / 8 < length r.words = omega (arith, ok.length, c8) in
     record {
-      length = length-set r.words _ _;
-      trailer = λ i le. get_or-set_other r.words (place % C / 8) i _ 0 (λ z. omega (arith, c8));
-      inside = λ p p8 le lt.
-          elim (cases_eq p place) as (λ _. slice_index (slice_set r.words (place % C / 8) (header_of d)) (p % C / 8) ≡ claim_word d (p - next_place C q (span_of c))) [
-            | inl here ↦
-                let none : p - next_place C q (span_of c) ≡ 0 = omega (arith, is) in
-                ap (λ k. slice_index (slice_set r.words (place % C / 8) (header_of d)) (k % C / 8)) here
-                ∙ get_or-set_same r.words (place % C / 8) (header_of d) 0 fits ∙ sym (ap (claim_word d) none)
-            | inr other ↦
-                let some_way : p - next_place C q (span_of c) ≡ 0 → ⊥ = λ z. other (omega (arith, is)) in
-                get_or-set_other r.words (place % C / 8) (p % C / 8) _ 0 (λ z. other (apart C e p place some c8 p8 aligned (omega (arith, is)) (omega (arith, is, reach)) from (omega (arith, reach, bounds)) z))
-                ∙ has.picture p p8 (omega (arith, is)) (omega (arith, is, reach))
-                ∙ word_inside C e front back c d refl p le lt
-                ∙ cond-false _ _ _ (ne_eqb (p - next_place C q (span_of c)) 0 some_way) ∙ sym (cond-false _ _ _ (ne_eqb (p - next_place C q (span_of c)) 0 some_way))
-          ];
-      outside = λ p p8 le lt out.
-          get_or-set_other r.words (place % C / 8) (p % C / 8) _ 0 (λ z.
-          let here = apart C e p place some c8 p8 aligned le lt from (omega (arith, reach, bounds)) z in
-          elim out as (λ _. ⊥) [ inl b ↦ omega (arith, is, here) | inr b ↦ omega (arith, is, here, bounds) ]);
+      aligned = ap (λ n. n % 8) (sym is) ∙ next_aligned C q (span_of c) some c8 q8;
+      from = omega (arith, is, end_of_le C e front, next_le C q (span_of c));
+      reach = omega (arith, is, whole, end_of_le C (end_after C q (span_of c)) back, ok.room);
+      within = let w = next_within C q (span_of c) some short in let lap : place % C ≡ next_place C q (span_of c) % C = ap (λ n. n % C) (sym is) in omega (arith, w, lap);
+    }
+
+-- the words of the ring hold the claim's body
+pub holds : (r : Ring) (front back : List Claim) (c : Claim) (place : ℕ) → IsRing r → Has r (front ++ c ∷ back) → place_behind r.capacity (head_of r) front c ≡ place
+    → HoldsBody r.words (index r.capacity place + 1) c.message.body
+holds r front back c place ok has is = λ k lt.
+    let C : ℕ = r.capacity in
+    let c8 : C % 8 ≡ 0 = omega (arith, capacity_blocks C ok.capacity) in
+    let l = lies r front back c place ok has is in
+    let bounds = span_bounds (length c.message.body) in
+    let p : ℕ = place + 8 * (k + 1) in
+    let a8 = l.aligned in
+    let step : index C p ≡ index C place + 1 + k = index_step C place (k + 1) c8 a8 (omega (arith, l.within, bounds)) ∙ omega arith in
+    let offset : p - place_behind C (head_of r) front c ≡ 8 * (k + 1) = omega (arith, is) in
+    let back_to : 8 * (k + 1) - 8 ≡ 8 * k = omega arith in
+    ap (slice_index r.words) (sym step)
+    ∙ has.picture p (omega arith) (omega (arith, l.from)) (omega (arith, l.reach, bounds))
+    ∙ word_inside C (head_of r) front back c c refl p (omega (arith, is)) (omega (arith, is, bounds))
+    ∙ ap (claim_word c) offset
+    ∙ cond-false _ _ _ (ne_eqb (8 * (k + 1)) 0 (λ z. omega arith))
+    ∙ ap (λ n. from_le_bytes w64 (drop n c.message.body)) back_to
+
+-- new has the words of the changed claim where the open claim t lies, and else the words of the ring
+pub record Rewrites (r : Ring) (t : ClaimAt) (change : Claim → Claim) (new : List ℕ) : Type 0 where
+  pub same_span : (c : Claim) → length c.message.body ≡ t.len → span_of c ≡ span_of (change c)
+  pub is_lawful : (c : Claim) → length c.message.body ≡ t.len → IsMessage r.capacity c.message → IsMessage r.capacity (change c).message
+  pub same_length : length new ≡ length r.words
+  pub header_word : (c : Claim) → c.state ≡ Open → c.message.type_id ≡ t.type_id → length c.message.body ≡ t.len → slice_index r.words (index r.capacity t.place) ≡ header_of c
+      → slice_index new (index r.capacity t.place) ≡ header_of (change c)
+  pub body_words : (c : Claim) → length c.message.body ≡ t.len → IsMessage r.capacity c.message → HoldsBody r.words (index r.capacity t.place + 1) c.message.body
+      → HoldsBody new (index r.capacity t.place + 1) (change c).message.body
+  pub others : (i : ℕ) → (i < index r.capacity t.place) ⊎ (index r.capacity t.place + span t.len / 8 ≤ i) → slice_index new i ≡ slice_index r.words i
+
+module _ (r : Ring) (t : ClaimAt) (change : Claim → Claim) (new : List ℕ) (ok : IsRing r) (is_open : IsOpen r t) (w : Rewrites r t change new) where
+  some : 0 < r.capacity
+  some = omega (arith, ok.capacity.least)
+
+  c8 : r.capacity % 8 ≡ 0
+  c8 = omega (arith, capacity_blocks r.capacity ok.capacity)
+
+  -- each history has the claim
+  stands : (h : List Claim) → Has r h → Stands r.capacity (head_of r) h t
+  stands h has = open_stands r.capacity (head_of r) h t (open_in_each r t h ok is_open has)
+
+  module _ (h : List Claim) (has : Has r h) (s : Stands r.capacity (head_of r) h t) where
+    has' : Has r (s.front ++ s.claim ∷ s.back)
+    has' = subst (λ (l : List Claim). Has r l) s.whole has
+
+    lawful : IsMessage r.capacity s.claim.message
+    lawful = All-head (λ (x : Claim). IsMessage r.capacity x.message) s.claim s.back (All-drop-front (λ (x : Claim). IsMessage r.capacity x.message) s.front (s.claim ∷ s.back) has'.lawful)
+
+    there : Lies r s.claim t.place
+    there = lies r s.front s.back s.claim t.place ok has' s.is.at_place
+
+    header_there : slice_index r.words (index r.capacity t.place) ≡ header_of s.claim
+    header_there =
+        let C : ℕ = r.capacity in
+        let bounds = span_bounds (length s.claim.message.body) in
+        let is = s.is.at_place in
+        let none : t.place - place_behind C (head_of r) s.front s.claim ≡ 0 = omega (arith, is) in
+        has'.picture t.place there.aligned there.from (omega (arith, there.reach, bounds))
+        ∙ word_inside C (head_of r) s.front s.back s.claim s.claim refl t.place (omega (arith, is)) (omega (arith, is, bounds))
+        ∙ ap (claim_word s.claim) none
+
+    replaces : Replaces r s.front s.claim (change s.claim) new
+    replaces =
+        let C : ℕ = r.capacity in
+        let is = s.is.at_place in
+        let n : ℕ = span_of s.claim in
+        let size : span t.len ≡ n = ap span (sym s.is.len) in
+        let bounds = span_bounds (length s.claim.message.body) in
+        let same = w.same_span s.claim s.is.len in
+        let a8 = there.aligned in
+        let header = w.header_word s.claim s.is.is_open s.is.type_id s.is.len header_there in
+        let body = w.body_words s.claim s.is.len lawful (holds r s.front s.back s.claim t.place ok has' is) in
+        record {
+          length = w.same_length;
+          trailer = λ i le. w.others i (inr (omega (arith, size, there.within, bounds, c8)));
+          inside = λ p p8 le lt.
+              record_inside C t.place (change s.claim) new c8 a8 (omega (arith, there.within, same)) header body p p8 (omega (arith, is)) (omega (arith, is, same))
+              ∙ ap (λ k. claim_word (change s.claim) (p - k)) (sym is);
+          outside = λ p p8 le lt out.
+              let far : (p < t.place) ⊎ (t.place + n ≤ p) = elim out as (λ _. (p < t.place) ⊎ (t.place + n ≤ p)) [ inl b ↦ inl (omega (arith, is)) | inr b ↦ inr (omega (arith, is)) ] in
+              let index_out = index_outside C (head_of r) t.place n p some c8 a8 p8 bounds.0 there.within there.from there.reach le lt far in
+              w.others (index C p) (elim index_out as (λ _. (index C p < index C t.place) ⊎ (index C t.place + span t.len / 8 ≤ index C p)) [ inl b ↦ inl b | inr b ↦ inr (omega (arith, size)) ]);
+        }
+
+    has_replaced_there : Has (ring r.capacity new) (s.front ++ change s.claim ∷ s.back)
+    has_replaced_there = has_replaced r s.front s.back s.claim (change s.claim) new (w.same_span s.claim s.is.len) (w.is_lawful s.claim s.is.len lawful) has' replaces
+
+    changed_is : changed_at r.capacity (head_of r) t.place change h ≡ s.front ++ change s.claim ∷ s.back
+    changed_is = (λ i. changed_at r.capacity (head_of r) (sym s.is.at_place i) change (s.whole i)) ∙ changed_at_there r.capacity (head_of r) s.front s.claim s.back change
+
+    pub has_changed : Has (ring r.capacity new) (changed_at r.capacity (head_of r) t.place change h)
+    has_changed = subst (λ (l : List Claim). Has (ring r.capacity new) l) (sym changed_is) has_replaced_there
+
+  trailer : (i : ℕ) → r.capacity / 8 ≤ i → slice_index new i ≡ slice_index r.words i
+  trailer = (replaces is_open.history is_open.has (stands is_open.history is_open.has)).trailer
+
+  head_same : head_of (ring r.capacity new) ≡ head_of r
+  head_same = trailer (head_index r.capacity) (omega arith)
+
+  tail_same : tail_of (ring r.capacity new) ≡ tail_of r
+  tail_same = trailer (tail_index r.capacity) (omega arith)
+
+  pub changes : ChangesClaim r t.place change (ring r.capacity new)
+  changes = record { capacity = refl; length = w.same_length; trailer = trailer; history = λ h has. has_changed h has (stands h has) }
+
+  pub is_ring_changed : IsRing (ring r.capacity new)
+  is_ring_changed = record {
+    capacity = ok.capacity;
+    length = w.same_length ∙ ok.length;
+    aligned = ap (λ n. n % 8) head_same ∙ ok.aligned;
+    order = omega (arith, head_same, tail_same, ok.order);
+    room = omega (arith, head_same, tail_same, ok.room);
+    limit = omega (arith, tail_same, ok.limit);
+    history = (changed_at r.capacity (head_of r) t.place change is_open.history, has_changed is_open.history is_open.has (stands is_open.history is_open.has));
+  }
+
+  -- another open claim stays open, and this one too where the change leaves it open
+  pub stays : (d : ClaimAt) → ((c : Claim) (e : ℕ) → length c.message.body ≡ t.len → next_place r.capacity e (span_of c) ≡ t.place → IsOpenClaim r.capacity e c d → IsOpenClaim r.capacity e (change c) d)
+      → IsOpen r d → IsOpen (ring r.capacity new) d
+  stays d keeps o =
+      let s = stands o.history o.has in
+      let at = subst (λ (l : List Claim). IsOpenIn r.capacity (head_of r) l d) s.whole o.is_open in
+      let now = open_replaced r.capacity (head_of r) s.front s.claim (change s.claim) s.back d (w.same_span s.claim s.is.len) (keeps s.claim (end_of r.capacity (head_of r) s.front) s.is.len s.is.at_place) at in
+      record {
+        index = o.index;
+        history = s.front ++ change s.claim ∷ s.back;
+        has = has_replaced_there o.history o.has s;
+        is_open = subst (λ (k : ℕ). IsOpenIn r.capacity k (s.front ++ change s.claim ∷ s.back) d) (sym head_same) now;
+      }
+
+-- where an open claim lies in the buffer
+pub record OpenLies (r : Ring) (t : ClaimAt) : Type 0 where
+  pub short : t.len ≤ r.capacity / 8
+  pub within : index r.capacity t.place + span t.len / 8 ≤ r.capacity / 8
+
+pub open_lies : (r : Ring) (t : ClaimAt) → IsRing r → IsOpen r t → OpenLies r t
+open_lies r t ok o =
+    let s = open_stands r.capacity (head_of r) o.history t o.is_open in
+    let has' = subst (λ (l : List Claim). Has r l) s.whole o.has in
+    let lawful = All-head (λ (x : Claim). IsMessage r.capacity x.message) s.claim s.back (All-drop-front (λ (x : Claim). IsMessage r.capacity x.message) s.front (s.claim ∷ s.back) has'.lawful) in
+    let l = lies r s.front s.back s.claim t.place ok has' s.is.at_place in
+    let size : span t.len ≡ span_of s.claim = ap span (sym s.is.len) in
+    record {
+      short = omega (arith, lawful.short, s.is.len);
+      within = omega (arith, l.within, size, capacity_blocks r.capacity ok.capacity, span_bounds (length s.claim.message.body));
     }

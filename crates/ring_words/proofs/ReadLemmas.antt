@@ -1,10 +1,10 @@
 -- The turns of a read.
-use Rattle.std.proofs.Common.{◌≡◌, ◌≢◌, ℕ, ◌+◌, ◌-◌, ◌%◌, ◌<◌, ◌≤◌, List, [], ◌∷◌, ◌++◌, length, refl, ap, sym, ◌∙◌, subst, arith, inl, inr, ℤ, pos, ◌≤ℤ◌, FitsSigned, to_z, of_z, nat_lt, ◌&&◌, ◌==◌, false}
+use Rattle.std.proofs.Common.{◌≡◌, ◌≢◌, ℕ, ◌+◌, ◌-◌, ◌%◌, ◌<◌, ◌≤◌, List, [], ◌∷◌, ◌++◌, length, refl, ap, sym, ◌∙◌, subst, arith, inl, inr, ℤ, pos, ◌≤ℤ◌, FitsSigned, to_z, of_z, nat_lt, ◌&&◌, ◌==◌, false, All, Some}
 use Rattle.std.specs.Int.{w32}
 use Rattle.std.proofs.lemmas.Int.{ints, to_z-of_z}
 use Rattle.std.proofs.lemmas.Bool.{cases_lt, and_cases, ltb-false, eqb-false}
 use Rattle.std.proofs.lemmas.List.{append-nil, append_assoc, length_push}
-use Rattle.std.proofs.lemmas.List.Elements.{All-nil, All-push, All-head}
+use Rattle.std.proofs.lemmas.List.Elements.{All-nil, All-push, All-head, All-tail, All-cons}
 use Rattle.std.proofs.lemmas.Nat.{mod_below}
 use Rattle.ring_words.specs.declared.action.Action.{Action}
 use Rattle.ring_words.specs.declared.taking.Settled.{Settled}
@@ -16,8 +16,13 @@ use Rattle.ring_layout.specs.Places.{room, next_place, end_after, end_of}
 use Rattle.ring_layout.specs.Headers.{padding_type}
 use Rattle.ring_words.specs.Ring.{Ring, Has, IsRing, head_of}
 use Rattle.ring_layout.specs.Handles.{Handles}
-use Rattle.ring_words.specs.Reading.{SeesCommitted, IsAtHead, Leaves, MovesHead}
-use Rattle.ring_words.specs.Read.{Reads, Passes, IsHeadAfter}
+use Rattle.ring_words.specs.Reading.{Sees, SeesCommitted, IsAtHead, Leaves, MovesHead}
+use Rattle.ring_words.specs.Read.{Reads, Passes, IsHeadAfter, GoesOn, IsNext, WentOn, Broke, Aborts, stop_of}
+use Rattle.ring_words.specs.Open.{ClaimAt, IsOpen, IsOpenIn}
+use Rattle.ring_words.specs.declared.action.Action.TheVariants.{Abort, Break, Commit, Continue}
+use Rattle.ring_words.specs.declared.read_end.ReadEnd.{ReadEnd}
+use Rattle.ring_words.specs.declared.read_end.Stop.{Stop}
+use Rattle.ring_words.proofs.OpenLemmas.{open_after}
 use Rattle.ring_layout.proofs.Laps.{mod_step, mod_room}
 use Rattle.ring_layout.proofs.PlaceLemmas.{next_fixed, span_bounds, end_of-append}
 
@@ -38,7 +43,7 @@ shown_none c e = rw e refl
 shown_one : (c : Claim) → c.state ≡ Committed → shown c ≡ c.message ∷ []
 shown_one c e = rw e refl
 
--- the next_place claim lies where the head is
+-- the next claim lies where the head is
 head_at : (C e h : ℕ) (passed rest : List Claim) (c : Claim) (others : List Claim) → 0 < C → span_of c ≤ C → rest ≡ c ∷ others → IsHeadAfter C e passed rest h
     → next_place C h (span_of c) ≡ next_place C (end_of C e passed) (span_of c)
 head_at C e h passed rest c others some short is at =
@@ -216,6 +221,108 @@ module _ {S : Type 0} (step : S → Message → S → Action → Type 0) (limit 
       passes = λ h has.
           let p = reads.passes h has in
           passes_message limit old mid new h reads.messages settled ok same p (left p.rest p.left) m loud shows;
+    }
+
+-- the same of a read that the handler lets go on
+module _ {S : Type 0} (step : S → Message → S → Action → Type 0) (limit : ℕ) where
+  abbrev pub ReadsOn : Ring → Ring → S → S → ℕ → Type 0
+  ReadsOn old new s t count = (r : Reads step limit old new s t count) × All GoesOn r.actions
+
+  pub reads_on_none : (old : Ring) (s : S) → ReadsOn old old s s 0
+  unfolding reads_none
+  reads_on_none old s = (reads_none step limit old s, All-nil GoesOn)
+
+  module _ (old mid new : Ring) (s t : S) (count : ℕ) (settled : Settled) (ok : IsRing mid) (reads : ReadsOn old mid s t count) (below : count ≢ limit)
+      (inside : head_of old < head_of mid → head_of mid % old.capacity ≢ 0) (moved : MovesHead mid new) (left : (h : List Claim) → Has mid h → Leaves mid h settled new) where
+    pub reads_on_quiet : settled.type_id ≡ padding_type → ReadsOn old new s t count
+    unfolding reads_quiet
+    reads_on_quiet quiet = (reads_quiet step limit old mid new s t count settled ok reads.0 below inside moved left quiet, reads.1)
+
+    module _ (m : Message) (a : Action) (u : S) (loud : settled.type_id ≢ padding_type) (stepped : step t m u a)
+        (shows : (x : Claim) (r : List Claim) → Has mid (x ∷ r) → SeesCommitted mid x settled → x.message ≡ m) where
+      pub reads_on_message : GoesOn a → ReadsOn old new s u (count + 1)
+      unfolding reads_message
+      reads_on_message goes = (reads_message step limit old mid new s t count settled ok reads.0 below inside moved left m a u loud stepped shows, All-push GoesOn reads.0.actions a reads.1 goes)
+
+      -- the message was the last
+      pub broke : (end : ReadEnd) → a ≡ Break → end.messages ≡ count + 1 → end.stopped ≡ Stop.Action → Broke step limit old new s u end
+      unfolding reads_message
+      broke end is n stop =
+          let r = reads_message step limit old mid new s t count settled ok reads.0 below inside moved left m a u loud stepped shows in
+          record {
+            reads = record { messages = r.messages; actions = r.actions; handled = r.handled; counted = n ∙ r.counted; moves = r.moves; passes = r.passes };
+            before = reads.0.actions;
+            went_on = reads.1;
+            broke = ap (λ x. reads.0.actions ++ x ∷ []) is;
+            stopped = stop;
+          }
+
+-- a message at the head is the next
+pub next_is : (r : Ring) (m : Message) (s : Settled) → (s.type_id ≡ padding_type → ⊥) → ((h : List Claim) → Has r h → Sees r h (Some s))
+    → ((x : Claim) (rest : List Claim) → Has r (x ∷ rest) → SeesCommitted r x s → x.message ≡ m) → IsNext r m
+next_is r m s loud sees shows = λ h has.
+    let seen = sees h has in
+    elim seen.3 as (λ _. (c : Claim) × (rest : List Claim) × (h ≡ c ∷ rest) × (c.state ≡ Committed) × (c.message ≡ m) × IsAtHead r c) [
+      | inl pad ↦ absurd (loud pad.type_id)
+      | inr claim ↦ elim claim as (λ _. (c : Claim) × (rest : List Claim) × (h ≡ c ∷ rest) × (c.state ≡ Committed) × (c.message ≡ m) × IsAtHead r c) [
+        | inl aborted ↦ absurd (loud aborted.type_id)
+        | inr message ↦ (seen.0, seen.1, seen.2, message.committed, shows seen.0 seen.1 (subst (λ (l : List Claim). Has r l) seen.2 has) message, message.at_head)
+      ]
+    ]
+
+short_all : (C : ℕ) (h : List Claim) → 128 ≤ C → All (λ (x : Claim). IsMessage C x.message) h → All (λ (x : Claim). span_of x ≤ C) h
+short_all C [] low lawful = All-nil (λ (x : Claim). span_of x ≤ C)
+short_all C (c ∷ h) low lawful =
+    let m = All-head (λ (x : Claim). IsMessage C x.message) c h lawful in
+    All-cons (λ (x : Claim). span_of x ≤ C) c h (omega (arith, m.short, span_bounds (length c.message.body))) (short_all C h low (All-tail (λ (x : Claim). IsMessage C x.message) c h lawful))
+
+-- open claims stay
+pub reads_keeps : {S : Type 0} (step : S → Message → S → Action → Type 0) (limit : ℕ) (old new : Ring) (s u : S) (count : ℕ) → IsRing old → Reads step limit old new s u count → (t : ClaimAt) → IsOpen old t → IsOpen new t
+reads_keeps step limit old new s u count ok reads t o =
+    let p = reads.passes o.history o.has in
+    let C : ℕ = old.capacity in
+    let same : new.capacity ≡ old.capacity = reads.moves.capacity in
+    let lawful : All (λ (x : Claim). IsMessage C x.message) p.rest = subst (λ (k : ℕ). All (λ (x : Claim). IsMessage k x.message) p.rest) same p.left.lawful in
+    let at = subst (λ (l : List Claim). IsOpenIn C (head_of old) l t) p.whole o.is_open in
+    let left = open_after C (head_of old) (head_of new) p.passed p.rest t (omega (arith, ok.capacity.least)) (short_all C p.rest ok.capacity.least lawful) p.settled p.head at in
+    record {
+      index = o.index ∙ ap (λ n. t.place % n + 8) (sym same);
+      history = p.rest;
+      has = p.left;
+      is_open = subst (λ (k : ℕ). IsOpenIn k (head_of new) p.rest t) (sym same) left;
+    }
+
+-- an action that is neither Abort nor Break
+pub goes_on : (a : Action) → a ≢ Abort → a ≢ Break → GoesOn a
+goes_on Abort na nb = absurd (na refl)
+goes_on Break na nb = absurd (nb refl)
+goes_on Commit na nb = tt
+goes_on Continue na nb = tt
+
+-- the handler let each message go
+pub went_on : {S : Type 0} (step : S → Message → S → Action → Type 0) (limit : ℕ) (old new : Ring) (s u : S) (n : ℕ) (end : ReadEnd) → ReadsOn step limit old new s u n → end.messages ≡ n
+    → end.stopped ≡ stop_of new.capacity limit end.messages (head_of new) end.bytes → WentOn step limit old new s u end
+went_on step limit old new s u n end on is stop =
+    let r = on.0 in
+    record {
+      reads = record { messages = r.messages; actions = r.actions; handled = r.handled; counted = is ∙ r.counted; moves = r.moves; passes = r.passes };
+      went_on = on.1;
+      stopped = stop;
+    }
+
+-- or it left one more
+pub aborts : {S : Type 0} (step : S → Message → S → Action → Type 0) (limit : ℕ) (old new : Ring) (s u v : S) (n : ℕ) (m : Message) (a : Action) (end : ReadEnd) → ReadsOn step limit old new s u n → end.messages ≡ n
+    → a ≡ Abort → step u m v a → IsNext new m → end.stopped ≡ Stop.Action → Aborts step limit old new s v end
+aborts step limit old new s u v n m a end on is abort stepped next stop =
+    let r = on.0 in
+    record {
+      before = u;
+      reads = record { messages = r.messages; actions = r.actions; handled = r.handled; counted = is ∙ r.counted; moves = r.moves; passes = r.passes };
+      went_on = on.1;
+      message = m;
+      aborted = subst (λ (x : Action). step u m v x) abort stepped;
+      next = next;
+      stopped = stop;
     }
 
 -- what the test for the end of the buffer tells

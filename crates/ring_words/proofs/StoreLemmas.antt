@@ -9,7 +9,7 @@ use Rattle.ring_layout.specs.History.{span_of}
 use Rattle.ring_layout.specs.Places.{next_place}
 use Rattle.ring_layout.specs.Picture.{word_at, claim_word}
 use Rattle.ring_layout.specs.Headers.{header, header_of, padding_type}
-use Rattle.ring_words.specs.Change.{Stores}
+use Rattle.ring_words.specs.Storing.{Stores}
 use Rattle.ring_layout.proofs.Laps.{index_step, index_outside, apart}
 use Rattle.ring_layout.proofs.PlaceLemmas.{next_le, next_within, next_aligned, span_bounds}
 use Rattle.ring_layout.proofs.PictureLemmas.{word_at_padding, word_at_padding_header, word_at_record}

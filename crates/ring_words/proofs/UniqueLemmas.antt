@@ -1,6 +1,8 @@
--- Histories with one picture have one list of committed messages.
-use Rattle.std.proofs.Common.{◌≡◌, ℕ, ◌+◌, ◌-◌, ◌*◌, ◌/◌, ◌%◌, ◌^◌, ◌<◌, ◌≤◌, List, [], ◌∷◌, ◌++◌, length, drop, slice_index, refl, ap, sym, ◌∙◌, arith, ◌⊎◌, inl, inr, All, ℤ, pos, neg_ℤ, nat_abs, ◌≤ℤ◌, zero, suc}
+-- Histories with one picture show the same messages and have the same open claims.
+use Rattle.std.proofs.Common.{◌≡◌, ℕ, ◌+◌, ◌-◌, ◌*◌, ◌/◌, ◌%◌, ◌^◌, ◌<◌, ◌≤◌, List, [], ◌∷◌, ◌++◌, length, drop, slice_index, refl, ap, sym, ◌∙◌, subst, arith, ◌⊎◌, inl, inr, All, ℤ, pos, neg_ℤ, nat_abs, ◌≤ℤ◌, zero, suc}
 use Rattle.ring_words.specs.Ring.{Ring, IsRing, Has, head_of}
+use Rattle.ring_words.specs.Open.{ClaimAt, IsOpen, IsOpenClaim, IsOpenIn}
+use Rattle.ring_words.proofs.OpenLemmas.{open_past_padding, open_before_padding}
 use Rattle.ring_layout.specs.Places.{IsCapacity}
 use Rattle.ring_layout.proofs.CapacityLemmas.{capacity_blocks}
 use Rattle.std.proofs.lemmas.Nat.{mod_below}
@@ -62,12 +64,20 @@ abs_neg (suc k) = refl
 
 -- what a header word tells of its claim
 Told : Claim → ℕ → Type 0
-Told c w = ((c.state ≡ Open) × (len_word w ≡ neg_ℤ (pos (8 + length c.message.body))))
+Told c w = ((c.state ≡ Open) × (len_word w ≡ neg_ℤ (pos (8 + length c.message.body))) × (type_word w ≡ c.message.type_id))
     ⊎ (((c.state ≡ Committed) × (len_word w ≡ pos (8 + length c.message.body)) × (type_word w ≡ c.message.type_id))
     ⊎ ((c.state ≡ Aborted) × (len_word w ≡ pos (8 + length c.message.body)) × (type_word w ≡ padding_type)))
 
 abbrev Lawful : ℕ → List Claim → Type 0
 Lawful C h = All (λ (x : Claim). IsMessage C x.message) h
+
+-- they show the same messages and have the same open claims
+pub record Alike (C e : ℕ) (h g : List Claim) : Type 0 where
+  pub messages : committed_of h ≡ committed_of g
+  pub claims : (t : ClaimAt) → (IsOpenIn C e h t → IsOpenIn C e g t) × (IsOpenIn C e g t → IsOpenIn C e h t)
+
+turned : (C e : ℕ) (h g : List Claim) → Alike C e h g → Alike C e g h
+turned C e h g a = record { messages = sym a.messages; claims = λ t. ((a.claims t).1, (a.claims t).0) }
 
 module _ (C : ℕ) (cap : IsCapacity C) where
   c8 : C % 8 ≡ 0
@@ -84,7 +94,11 @@ module _ (C : ℕ) (cap : IsCapacity C) where
   told c w m e =
       let small : 8 + length c.message.body < 2 ^ 31 = omega (arith, m.short, cap.most) in
       elim (state_cases c.state) as (λ _. Told c w) [
-        | inl s ↦ inl (s, ap (λ n. cast_signed w32 (n % 2 ^ 32)) (e ∙ header_open c s) ∙ len_of-header (neg_ℤ (pos (8 + length c.message.body))) c.message.type_id (fits_neg (8 + length c.message.body) small))
+        | inl s ↦ inl (
+          s,
+          ap (λ n. cast_signed w32 (n % 2 ^ 32)) (e ∙ header_open c s) ∙ len_of-header (neg_ℤ (pos (8 + length c.message.body))) c.message.type_id (fits_neg (8 + length c.message.body) small),
+          ap (λ n. cast_signed w32 (n / 2 ^ 32)) (e ∙ header_open c s) ∙ type_of-header (neg_ℤ (pos (8 + length c.message.body))) c.message.type_id (fits_neg (8 + length c.message.body) small) m.type_fits,
+        )
         | inr o ↦ elim o as (λ _. Told c w) [
           | inl s ↦ inr (inl (
             s,
@@ -144,6 +158,24 @@ module _ (C : ℕ) (cap : IsCapacity C) where
         ]
       ]
 
+  -- an open one of them is the other too
+  same_open : (e : ℕ) (c d : Claim) (t : ClaimAt) (w : ℕ) → next_place C e (span_of c) ≡ next_place C e (span_of d) → length c.message.body ≡ length d.message.body → Told c w → Told d w → IsOpenClaim C e c t → IsOpenClaim C e d t
+  unfolding Told
+  same_open e c d t w place len p q here =
+      elim p as (λ _. IsOpenClaim C e d t) [
+        | inl k ↦ elim q as (λ _. IsOpenClaim C e d t) [
+          | inl j ↦ record { at_place = sym place ∙ here.at_place; is_open = j.0; type_id = sym j.2 ∙ k.2 ∙ here.type_id; len = sym len ∙ here.len }
+          | inr j ↦ elim j as (λ _. IsOpenClaim C e d t) [
+            | inl i ↦ absurd (neg_ne _ _ (sym k.1 ∙ i.1) (omega arith))
+            | inr i ↦ absurd (neg_ne _ _ (sym k.1 ∙ i.1) (omega arith))
+          ]
+        ]
+        | inr k ↦ elim k as (λ _. IsOpenClaim C e d t) [
+          | inl i ↦ let bad : Open ≡ Committed = sym here.is_open ∙ i.0 in absurd cc
+          | inr i ↦ let bad : Open ≡ Aborted = sym here.is_open ∙ i.0 in absurd cc
+        ]
+      ]
+
   -- the words of the two histories from e on are the same
   abbrev Same : ℕ → List Claim → List Claim → Type 0
   Same e h g = (end_of C e h ≡ end_of C e g) × ((p : ℕ) → p % 8 ≡ 0 → e ≤ p → word_at C e h p ≡ word_at C e g p)
@@ -167,7 +199,7 @@ module _ (C : ℕ) (cap : IsCapacity C) where
   -- both histories go on with a claim at q
   both : (e q : ℕ) (c d : Claim) (h g : List Claim) → q % 8 ≡ 0 → e ≤ q → IsMessage C c.message → IsMessage C d.message
       → next_place C e (span_of c) ≡ q → next_place C e (span_of d) ≡ q → Same e (c ∷ h) (d ∷ g)
-      → ((r : ℕ) → r % 8 ≡ 0 → Same r h g → committed_of h ≡ committed_of g) → committed_of (c ∷ h) ≡ committed_of (d ∷ g)
+      → ((r : ℕ) → r % 8 ≡ 0 → Same r h g → Alike C r h g) → Alike C e (c ∷ h) (d ∷ g)
   both e q c d h g q8 le m l at at' same rest =
       let w : ℕ = word_at C e (c ∷ h) q in
       let p = told c w m (head_here e q c h at) in
@@ -183,7 +215,21 @@ module _ (C : ℕ) (cap : IsCapacity C) where
             ap (λ k. word_at C k h r) (sym end) ∙ sym (word_at_rest C e r c h (omega (arith, end))) ∙ same.1 r r8 (omega arith)
             ∙ word_at_rest C e r d g (omega (arith, end')) ∙ ap (λ k. word_at C k g r) end',
       ) in
-      (λ i. same_shown c d w m l p p' body i ++ rest (q + span_of c) (omega (arith, bounds)) left i)
+      let more = rest (q + span_of c) (omega (arith, bounds)) left in
+      let place : next_place C e (span_of c) ≡ next_place C e (span_of d) = at ∙ sym at' in
+      record {
+        messages = λ i. same_shown c d w m l p p' body i ++ more.messages i;
+        claims = λ t. (
+          λ o. elim o as (λ _. IsOpenIn C e (d ∷ g) t) [
+            | inl here ↦ inl (same_open e c d t w place len p p' here)
+            | inr there ↦ inr (subst (λ (k : ℕ). IsOpenIn C k g t) (sym end') ((more.claims t).0 (subst (λ (k : ℕ). IsOpenIn C k h t) end there)))
+          ],
+          λ o. elim o as (λ _. IsOpenIn C e (c ∷ h) t) [
+            | inl here ↦ inl (same_open e d c t w (sym place) (sym len) p' p here)
+            | inr there ↦ inr (subst (λ (k : ℕ). IsOpenIn C k h t) (sym end) ((more.claims t).1 (subst (λ (k : ℕ). IsOpenIn C k g t) end' there)))
+          ],
+        );
+      }
 
   -- the words behind padding, as seen from the padding's end
   skip : (e q : ℕ) (c : Claim) (h : List Claim) → IsMessage C c.message → next_place C e (span_of c) ≡ q → (end_of C q (c ∷ h) ≡ end_of C e (c ∷ h)) × ((p : ℕ) → q ≤ p → word_at C q (c ∷ h) p ≡ word_at C e (c ∷ h) p)
@@ -202,7 +248,7 @@ module _ (C : ℕ) (cap : IsCapacity C) where
   -- where one history has padding up to q, the other has an aborted claim of the same length
   padded : (e q : ℕ) (c d : Claim) (h g : List Claim) → e % 8 ≡ 0 → IsMessage C c.message → IsMessage C d.message
       → next_place C e (span_of c) ≡ q → e < q → next_place C e (span_of d) ≡ e → Same e (c ∷ h) (d ∷ g)
-      → ((r : ℕ) → r % 8 ≡ 0 → Same r (c ∷ h) g → committed_of (c ∷ h) ≡ committed_of g) → committed_of (c ∷ h) ≡ committed_of (d ∷ g)
+      → ((r : ℕ) → r % 8 ≡ 0 → Same r (c ∷ h) g → Alike C r (c ∷ h) g) → Alike C e (c ∷ h) (d ∷ g)
   unfolding Told len_word type_word
   padded e q c d h g e8 m l at lt at' same rest =
       let q8 : q % 8 ≡ 0 = let a = next_aligned C e (span_of c) nonzero c8 e8 in omega (arith, a, at) in
@@ -214,9 +260,9 @@ module _ (C : ℕ) (cap : IsCapacity C) where
       sym (same.1 e e8 (omega arith)) ∙ word_at_padding_header C e c h (omega (arith, at)) ∙ ap (λ k. header (pos (k - e)) padding_type) at in
       let len : cast_signed w32 (w % 2 ^ 32) ≡ pos pad = ap (λ n. cast_signed w32 (n % 2 ^ 32)) here ∙ len_of-header (pos pad) padding_type (fits_pos pad small) in
       let type_id : cast_signed w32 (w / 2 ^ 32) ≡ padding_type = ap (λ n. cast_signed w32 (n / 2 ^ 32)) here ∙ type_of-header (pos pad) padding_type (fits_pos pad small) record { sfits = omega arith } in
-      elim (told d w l (head_here e e d g at')) as (λ _. committed_of (c ∷ h) ≡ committed_of (d ∷ g)) [
+      elim (told d w l (head_here e e d g at')) as (λ _. Alike C e (c ∷ h) (d ∷ g)) [
         | inl k ↦ absurd (neg_ne _ _ (sym k.1 ∙ len) (omega arith))
-        | inr o ↦ elim o as (λ _. committed_of (c ∷ h) ≡ committed_of (d ∷ g)) [
+        | inr o ↦ elim o as (λ _. Alike C e (c ∷ h) (d ∷ g)) [
           | inl k ↦ absurd (no_padding_type d.message l (sym k.2 ∙ type_id))
           | inr k ↦
               let size : 8 + length d.message.body ≡ pad = ap nat_abs (sym k.1 ∙ len) in
@@ -226,15 +272,27 @@ module _ (C : ℕ) (cap : IsCapacity C) where
                 skipped.0 ∙ same.0 ∙ ap (λ r. end_of C r g) end,
                 λ p p8 le. skipped.1 p le ∙ same.1 p p8 (omega arith) ∙ word_at_rest C e p d g (omega (arith, end)) ∙ ap (λ r. word_at C r g p) end,
               ) in
-              rest q q8 left ∙ sym (ap (λ x. x ++ committed_of g) (shown_at d Aborted k.0))
+              let more = rest q q8 left in
+              record {
+                messages = more.messages ∙ sym (ap (λ x. x ++ committed_of g) (shown_at d Aborted k.0));
+                claims = λ t. (
+                  λ o. inr (subst (λ (r : ℕ). IsOpenIn C r g t) (sym end) ((more.claims t).0 (subst (λ (r : ℕ). IsOpenIn C r (c ∷ h) t) at (open_past_padding C e c h t nonzero (short c m) o)))),
+                  λ o. elim o as (λ _. IsOpenIn C e (c ∷ h) t) [
+                    | inl here ↦ let bad : Open ≡ Aborted = sym here.is_open ∙ k.0 in absurd cc
+                    | inr there ↦
+                        open_before_padding C e c h t nonzero (short c m)
+                        (subst (λ (r : ℕ). IsOpenIn C r (c ∷ h) t) (sym at) ((more.claims t).1 (subst (λ (r : ℕ). IsOpenIn C r g t) end there)))
+                  ],
+                );
+              }
         ]
       ]
 
   flip : (e : ℕ) (h g : List Claim) → Same e h g → Same e g h
   flip e h g s = (sym s.0, λ p p8 le. sym (s.1 p p8 le))
 
-  pub unique : (n e : ℕ) (h g : List Claim) → length h + length g ≤ n → e % 8 ≡ 0 → Lawful C h → Lawful C g → Same e h g → committed_of h ≡ committed_of g
-  unique n e [] [] le e8 lh lg same = refl
+  pub unique : (n e : ℕ) (h g : List Claim) → length h + length g ≤ n → e % 8 ≡ 0 → Lawful C h → Lawful C g → Same e h g → Alike C e h g
+  unique n e [] [] le e8 lh lg same = record { messages = refl; claims = λ t. ((λ o. o), (λ o. o)) }
   unique n e [] (d ∷ g) le e8 lh lg same = absurd (omega (arith, same.0, next_le C e (span_of d), span_bounds (length d.message.body), end_of_le C (end_after C e (span_of d)) g))
   unique n e (c ∷ h) [] le e8 lh lg same = absurd (omega (arith, same.0, next_le C e (span_of c), span_bounds (length c.message.body), end_of_le C (end_after C e (span_of c)) h))
   unique zero e (c ∷ h) (d ∷ g) le e8 lh lg same = absurd (omega arith)
@@ -244,26 +302,26 @@ module _ (C : ℕ) (cap : IsCapacity C) where
       let l = All-head P d g lg in
       let ce = next_le C e (span_of c) in
       let de = next_le C e (span_of d) in
-      elim (cases_lt e (next_place C e (span_of c))) as (λ _. committed_of (c ∷ h) ≡ committed_of (d ∷ g)) [
-        | inl pc ↦ elim (cases_lt e (next_place C e (span_of d))) as (λ _. committed_of (c ∷ h) ≡ committed_of (d ∷ g)) [
+      elim (cases_lt e (next_place C e (span_of c))) as (λ _. Alike C e (c ∷ h) (d ∷ g)) [
+        | inl pc ↦ elim (cases_lt e (next_place C e (span_of d))) as (λ _. Alike C e (c ∷ h) (d ∷ g)) [
           | inl pd ↦
               let one : next_place C e (span_of d) ≡ next_place C e (span_of c) = omega (arith, next_cases C e (span_of c), next_cases C e (span_of d)) in
               both e (next_place C e (span_of c)) c d h g (next_aligned C e (span_of c) nonzero c8 e8) ce m l refl one same (λ r r8 s. unique n r h g (omega arith) r8 (All-tail P c h lh) (All-tail P d g lg) s)
           | inr pd ↦
               padded e (next_place C e (span_of c)) c d h g e8 m l refl pc (omega arith) same (λ r r8 s. unique n r (c ∷ h) g (omega arith) r8 lh (All-tail P d g lg) s)
         ]
-        | inr pc ↦ elim (cases_lt e (next_place C e (span_of d))) as (λ _. committed_of (c ∷ h) ≡ committed_of (d ∷ g)) [
+        | inr pc ↦ elim (cases_lt e (next_place C e (span_of d))) as (λ _. Alike C e (c ∷ h) (d ∷ g)) [
           | inl pd ↦
-              sym (padded e (next_place C e (span_of d)) d c g h e8 l m refl pd (omega arith) (flip e (c ∷ h) (d ∷ g) same)
-              (λ r r8 s. sym (unique n r h (d ∷ g) (omega arith) r8 (All-tail P c h lh) lg (flip r (d ∷ g) h s))))
+              turned C e (d ∷ g) (c ∷ h) (padded e (next_place C e (span_of d)) d c g h e8 l m refl pd (omega arith) (flip e (c ∷ h) (d ∷ g) same)
+              (λ r r8 s. turned C r h (d ∷ g) (unique n r h (d ∷ g) (omega arith) r8 (All-tail P c h lh) lg (flip r (d ∷ g) h s))))
           | inr pd ↦
               both e e c d h g e8 (omega arith) m l (omega arith) (omega arith) same (λ r r8 s. unique n r h g (omega arith) r8 (All-tail P c h lh) (All-tail P d g lg) s)
         ]
       ]
 
--- all histories of a ring show the same messages
-pub one_list : (r : Ring) (h g : List Claim) → IsRing r → Has r h → Has r g → committed_of h ≡ committed_of g
-one_list r h g ok a b =
+-- all histories of a ring do
+pub alike : (r : Ring) (h g : List Claim) → IsRing r → Has r h → Has r g → Alike r.capacity (head_of r) h g
+alike r h g ok a b =
     unique r.capacity ok.capacity (length h + length g) (head_of r) h g (omega arith) ok.aligned a.lawful b.lawful (
       a.ends ∙ sym b.ends,
       λ p p8 le. elim (cases_lt p (head_of r + r.capacity)) as (λ _. word_at r.capacity (head_of r) h p ≡ word_at r.capacity (head_of r) g p) [
@@ -272,3 +330,7 @@ one_list r h g ok a b =
             word_at_past r.capacity (head_of r) p h (omega (arith, a.ends, ok.room)) ∙ sym (word_at_past r.capacity (head_of r) p g (omega (arith, b.ends, ok.room)))
       ],
     )
+
+-- a claim that is open in one history is open in each
+pub open_in_each : (r : Ring) (t : ClaimAt) (h : List Claim) → IsRing r → IsOpen r t → Has r h → IsOpenIn r.capacity (head_of r) h t
+open_in_each r t h ok o has = ((alike r o.history h ok o.has has).claims t).0 o.is_open

@@ -1,35 +1,34 @@
--- What a call changes.
-use Rattle.std.specs.Prelude.{◌≡◌, ◌≢◌, ℕ, ◌+◌, ◌/◌, ◌%◌, ◌<◌, ◌≤◌, ℤ, List, [], ◌∷◌, ◌++◌, length, slice_index}
+-- What a call changes: the events of a ring.
+use Rattle.std.specs.Prelude.{◌≡◌, ◌≢◌, ℕ, ◌+◌, ◌/◌, ◌≤◌, ℤ, List, [], ◌∷◌, ◌++◌, length, replicate, slice_index, if◌then◌else◌, ◌==◌}
 use Rattle.ring_layout.specs.declared.message.Claim.{Claim}
-use Rattle.ring_layout.specs.declared.message.ClaimState.TheVariants.{Committed}
-use Rattle.ring_layout.specs.History.{span, span_of}
+use Rattle.ring_layout.specs.declared.message.ClaimState.{ClaimState}
+use Rattle.ring_layout.specs.declared.message.ClaimState.TheVariants.{Open, Committed}
+use Rattle.ring_layout.specs.History.{span_of, overwritten}
 use Rattle.ring_layout.specs.Places.{next_place, end_after}
-use Rattle.ring_layout.specs.Picture.{word_at}
-use Rattle.ring_words.specs.Ring.{Ring, Has, head_of, tail_of}
 use Rattle.ring_layout.specs.Layout.{tail_index}
-use Rattle.ring_layout.specs.Places.{max_position}
+use Rattle.ring_words.specs.Ring.{Ring, Has, head_of, tail_of}
 
--- a claim with a message of this type id and body, settled
+-- a fresh claim with this type id and length: its body is zeros
+abbrev pub opened : ℤ → ℕ → Claim
+opened type_id len = record { message = record { type_id = type_id; body = replicate len 0 }; state = Open }
+
+-- a claim with a message of this type id and body, committed
 abbrev pub written : ℤ → List ℕ → Claim
 written type_id body = record { message = record { type_id = type_id; body = body }; state = Committed }
 
--- a claim of this length is admitted: it has a lawful length, fits, and ends at a lawful position
-pub record IsAdmitted (r : Ring) (len place end : ℕ) : Type 0 where
-  pub short : len ≤ r.capacity / 8
-  pub is_place : place ≡ next_place r.capacity (tail_of r) (span len)
-  pub is_end : end ≡ place + span len
-  pub fits : end ≤ head_of r + r.capacity
-  pub limit : end ≤ max_position
+-- the claim with this state
+abbrev pub settled_as : ClaimState → Claim → Claim
+settled_as state c = record { message = c.message; state = state }
 
--- an index of a position from `from` on and before `to`
-abbrev pub IsBetween : ℕ → ℕ → ℕ → ℕ → Type 0
-IsBetween C from to i = (p : ℕ) × (p % 8 ≡ 0) × (from ≤ p) × (p < to) × (p % C / 8 ≡ i)
+-- the claim with these bytes in its body from the offset on
+abbrev pub put_into : ℕ → List ℕ → Claim → Claim
+put_into offset bytes c = record { message = record { type_id = c.message.type_id; body = overwritten offset bytes c.message.body }; state = c.state }
 
--- new has the words of a claim that comes after the tail, and the other words of old
-pub record Stores (C tail : ℕ) (c : Claim) (old new : List ℕ) : Type 0 where
-  pub length : length new ≡ length old
-  pub inside : (p : ℕ) → p % 8 ≡ 0 → tail ≤ p → p < end_after C tail (span_of c) → slice_index new (p % C / 8) ≡ word_at C tail (c ∷ []) p
-  pub outside : (i : ℕ) → (IsBetween C tail (end_after C tail (span_of c)) i → ⊥) → slice_index new i ≡ slice_index old i
+-- of claims that come after e the one at this place is changed
+abbrev pub changed_at : ℕ → ℕ → ℕ → (Claim → Claim) → List Claim → List Claim
+changed_at C e place change [] = []
+changed_at C e place change (c ∷ h) =
+    (if next_place C e (span_of c) == place then change c else c) ∷ changed_at C (end_after C e (span_of c)) place change h
 
 -- the claim comes to the end of each history that the ring has; of the trailer only the tail changes
 pub record AppendsClaim (old : Ring) (c : Claim) (new : Ring) : Type 0 where
@@ -39,3 +38,18 @@ pub record AppendsClaim (old : Ring) (c : Claim) (new : Ring) : Type 0 where
   pub tail : tail_of new ≡ end_after old.capacity (tail_of old) (span_of c)
   pub trailer : (i : ℕ) → old.capacity / 8 ≤ i → i ≢ tail_index old.capacity → slice_index new.words i ≡ slice_index old.words i
   pub history : (h : List Claim) → Has old h → Has new (h ++ c ∷ [])
+
+-- the claim at this place is changed in each history that the ring has; the trailer stays, and with it head and tail
+pub record ChangesClaim (old : Ring) (place : ℕ) (change : Claim → Claim) (new : Ring) : Type 0 where
+  pub capacity : new.capacity ≡ old.capacity
+  pub length : length new.words ≡ length old.words
+  pub trailer : (i : ℕ) → old.capacity / 8 ≤ i → slice_index new.words i ≡ slice_index old.words i
+  pub history : (h : List Claim) → Has old h → Has new (changed_at old.capacity (head_of old) place change h)
+
+-- bytes are put into the claim at this place
+abbrev pub PutsInto : Ring → ℕ → ℕ → List ℕ → Ring → Type 0
+PutsInto old place offset bytes new = ChangesClaim old place (put_into offset bytes) new
+
+-- the claim at this place is settled
+abbrev pub Settles : Ring → ℕ → ClaimState → Ring → Type 0
+Settles old place state new = ChangesClaim old place (settled_as state) new

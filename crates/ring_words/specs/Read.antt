@@ -1,6 +1,8 @@
 -- What a read does.
 use Rattle.std.specs.Prelude.{◌≡◌, ◌≢◌, ◌⊎◌, ℕ, ◌%◌, ◌==◌, ◌&&◌, nat_lt, List, [], ◌∷◌, ◌++◌, length, All, if◌then◌else◌}
 use Rattle.ring_words.specs.declared.action.Action.{Action}
+use Rattle.ring_words.specs.declared.action.Action.TheVariants.{Abort, Break, Commit, Continue}
+use Rattle.ring_words.specs.declared.read_end.ReadEnd.{ReadEnd}
 use Rattle.ring_words.specs.declared.read_end.Stop.{Stop}
 use Rattle.ring_words.specs.declared.read_end.Stop.TheVariants.{Limit, Block, Unpublished}
 use Rattle.ring_layout.specs.declared.message.Claim.{Claim}
@@ -10,7 +12,7 @@ use Rattle.ring_layout.specs.History.{committed_of, span_of}
 use Rattle.ring_layout.specs.Places.{next_place, end_of}
 use Rattle.ring_words.specs.Ring.{Ring, Has, head_of}
 use Rattle.ring_layout.specs.Handles.{Handles}
-use Rattle.ring_words.specs.Reading.{MovesHead}
+use Rattle.ring_words.specs.Reading.{IsAtHead, MovesHead}
 
 -- the head is the end of the claims passed or, where padding follows, the place of the next claim
 abbrev pub IsHeadAfter : ℕ → ℕ → List Claim → List Claim → ℕ → Type 0
@@ -48,3 +50,42 @@ stop_of C limit messages head bytes =
     if messages == limit then Limit
     else (if (head % C == 0) && nat_lt 0 bytes then Block
     else Unpublished)
+
+-- an action after which a controlled read goes on
+abbrev pub GoesOn : Action → Type 0
+GoesOn Abort = ⊥
+GoesOn Break = ⊥
+GoesOn Commit = Unit {0}
+GoesOn Continue = Unit {0}
+
+-- the message m lies at the head of each history that the ring has
+abbrev pub IsNext : Ring → Message → Type 0
+IsNext r m = (h : List Claim) → Has r h → (c : Claim) × (rest : List Claim) × (h ≡ c ∷ rest) × (c.state ≡ Committed) × (c.message ≡ m) × IsAtHead r c
+
+-- the handler let the read go on after each message
+pub record WentOn {S : Type 0} (step : S → Message → S → Action → Type 0) (limit : ℕ) (old new : Ring) (s t : S) (end : ReadEnd) : Type 0 where
+  pub reads : Reads step limit old new s t end.messages
+  pub went_on : All GoesOn reads.actions
+  pub stopped : end.stopped ≡ stop_of new.capacity limit end.messages (head_of new) end.bytes
+
+-- it stopped the read by Break at the last message, which was taken
+pub record Broke {S : Type 0} (step : S → Message → S → Action → Type 0) (limit : ℕ) (old new : Ring) (s t : S) (end : ReadEnd) : Type 0 where
+  pub reads : Reads step limit old new s t end.messages
+  pub before : List Action
+  pub went_on : All GoesOn before
+  pub broke : reads.actions ≡ before ++ Break ∷ []
+  pub stopped : end.stopped ≡ Stop.Action
+
+-- it stopped the read by Abort at one message more, which was left
+pub record Aborts {S : Type 0} (step : S → Message → S → Action → Type 0) (limit : ℕ) (old new : Ring) (s t : S) (end : ReadEnd) : Type 0 where
+  pub before : S
+  pub reads : Reads step limit old new s before end.messages
+  pub went_on : All GoesOn reads.actions
+  pub message : Message
+  pub aborted : step before message t Abort
+  pub next : IsNext new message
+  pub stopped : end.stopped ≡ Stop.Action
+
+-- a read that the handler controls
+abbrev pub Controls : {S : Type 0} → (S → Message → S → Action → Type 0) → ℕ → Ring → Ring → S → S → ReadEnd → Type 0
+Controls step limit old new s t end = WentOn step limit old new s t end ⊎ (Broke step limit old new s t end ⊎ Aborts step limit old new s t end)

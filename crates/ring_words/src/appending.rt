@@ -1,13 +1,14 @@
 //! Storing a record behind the tail.
-ghost use Rattle.std.specs.Prelude.{◌≡◌, ℕ, ◌+◌, ◌/◌, ◌%◌, ◌^◌, ◌<◌, ◌≤◌, pos, ◌≤ℤ◌, length, slice_index};
+ghost use Rattle.std.specs.Prelude.{◌≡◌, ℕ, ◌+◌, ◌-◌, ◌*◌, ◌/◌, ◌%◌, ◌^◌, ◌<◌, ◌≤◌, pos, neg_ℤ, ◌≤ℤ◌, length, slice_index, slice_set};
 ghost use Rattle.ring_layout.specs.History.{span};
-ghost use Rattle.ring_layout.specs.Places.{next_place};
+ghost use Rattle.ring_layout.specs.Places.{IsCapacity, index, next_place};
 ghost use Rattle.ring_words.specs.Ring.{ring, IsRing, tail_of};
-ghost use Rattle.ring_words.specs.Change.{Stores, AppendsClaim, IsAdmitted, written};
+ghost use Rattle.ring_words.specs.Change.{AppendsClaim, opened, written};
+ghost use Rattle.ring_words.specs.Storing.{IsAdmitted, padded};
 
 use crate::words::store_body;
 use ring_layout::pack_header;
-use ring_layout::record_descriptor::PADDING_MSG_TYPE_ID;
+use ring_layout::record_descriptor::{HEADER_LENGTH, PADDING_MSG_TYPE_ID};
 use ring_layout::ring_buffer_descriptor::TAIL_POSITION_WORD;
 
 /// Where a record may go: it is claimed from `tail` on, lies at `place` and ends at `end`.
@@ -18,40 +19,47 @@ pub(crate) struct Admission {
     pub(crate) end: u64,
 }
 
-/// Stores a committed record and the padding before it.
-pub(crate) fn store_record(
-    words: &mut [u64],
-    capacity: u64,
-    admission: Admission,
-    type_id: i32,
-    body: &[u8],
-)
-    requires blocks { capacity % 8 ≡ 0 }
-    requires nonzero { 0 < capacity }
-    requires most { capacity ≤ 2 ^ 24 }
-    requires aligned { admission.tail % 8 ≡ 0 }
-    requires place { admission.place ≡ next_place capacity admission.tail (span (length body.now)) }
-    requires end { admission.end ≡ admission.place + span (length body.now) }
-    requires short { span (length body.now) ≤ capacity }
-    requires fits { admission.end ≤ admission.tail + capacity }
+/// Stores the header of the padding before a record, if it has any, and the record's own.
+fn store_headers(words: &mut [u64], capacity: u32, admission: Admission, header: u64)
+    requires capacity { IsCapacity capacity }
+    requires order { admission.tail ≤ admission.place }
+    requires near { admission.place ≤ admission.tail + capacity }
     requires room { capacity / 8 ≤ length words.old }
-    requires free { (p : ℕ) → p % 8 ≡ 0 → admission.tail ≤ p → p < admission.tail + capacity → p < admission.end → slice_index words.old (p % capacity / 8) ≡ 0 }
-    ensures { Stores capacity admission.tail (written type_id body.now) words.old words.new }
+    ensures { words.new ≡ slice_set (padded capacity admission.tail admission.place words.old) (index capacity admission.place) header }
 {
     let Admission { tail, place, .. } = admission;
+    let capacity = u64::from(capacity);
     if place > tail {
         words[(tail % capacity / 8) as usize] = pack_header(
             (place - tail) as i32,
             PADDING_MSG_TYPE_ID,
         );
     }
-    let at = (place % capacity / 8) as usize;
-    words[at] = pack_header((8 + body.len()) as i32, type_id);
-    store_body(words, at + 1, body);
+    words[(place % capacity / 8) as usize] = header;
+}
+
+/// Appends an open claim to the words of a ring. The words behind the tail are 0, and so is its body.
+pub(crate) fn append_claim(
+    words: &mut [u64],
+    capacity: u32,
+    admission: Admission,
+    type_id: i32,
+    len: usize,
+)
+    requires ring { IsRing (ring capacity words.old) }
+    requires type_id { pos 1 ≤ℤ type_id }
+    requires tail { admission.tail ≡ tail_of (ring capacity words.old) }
+    requires admitted { IsAdmitted (ring capacity words.old) len admission.place admission.end }
+    ensures claimed { AppendsClaim (ring capacity words.old) (opened type_id len) (ring capacity words.new) }
+    ensures ring { IsRing (ring capacity words.new) }
+{
+    let header = pack_header(-((HEADER_LENGTH + len) as i32), type_id);
+    store_headers(words, capacity, admission, header);
+    words[capacity as usize / 8 + TAIL_POSITION_WORD] = admission.end;
 }
 
 /// Appends a committed record to the words of a ring.
-pub(crate) fn append(
+pub(crate) fn append_message(
     words: &mut [u64],
     capacity: u32,
     admission: Admission,
@@ -65,6 +73,9 @@ pub(crate) fn append(
     ensures claimed { AppendsClaim (ring capacity words.old) (written type_id body.now) (ring capacity words.new) }
     ensures ring { IsRing (ring capacity words.new) }
 {
-    store_record(words, u64::from(capacity), admission, type_id, body);
+    let header = pack_header((HEADER_LENGTH + body.len()) as i32, type_id);
+    store_headers(words, capacity, admission, header);
+    let at = (admission.place % u64::from(capacity) / 8) as usize;
+    store_body(words, at + 1, body);
     words[capacity as usize / 8 + TAIL_POSITION_WORD] = admission.end;
 }

@@ -3,15 +3,18 @@
 
 mod action;
 mod appending;
+mod claim;
 mod fault;
 mod handler;
 mod read_end;
+mod settling;
 mod solo;
 mod taking;
 mod words;
 
 pub use action::Action;
-pub use fault::{ClaimFault, MakeFault};
+pub use claim::SoloClaim;
+pub use fault::{ClaimFault, MakeFault, PutRange};
 pub use handler::Handler;
 pub use read_end::{ReadEnd, Stop};
 pub use solo::{Positions, SoloRing};

@@ -5,9 +5,9 @@ ghost use Rattle.ring_layout.specs.declared.message.Claim.{Claim};
 ghost use Rattle.ring_layout.specs.declared.message.Message.{Message};
 ghost use Rattle.ring_layout.specs.History.{span};
 ghost use Rattle.ring_layout.specs.Headers.{padding_type};
-ghost use Rattle.ring_words.specs.declared.action.Action.{Action};
 ghost use Rattle.ring_words.specs.Reading.{Sees, SeesCommitted, Leaves, MovesHead, IsAtHead};
 
+use crate::action::Action;
 use crate::handler::Handler;
 use crate::words::{clear, load_body};
 use ring_layout::record_descriptor::HEADER_LENGTH;
@@ -56,20 +56,20 @@ pub(crate) fn show_at_head<H: Handler>(
     scratch: &mut [u8],
     settled: Settled,
     handler: &mut H,
-)
+) -> Action
     requires ring { IsRing (ring capacity words.now) }
     requires room { length scratch.old ≡ capacity / 8 }
     requires seen { (h : List Claim) → Has (ring capacity words.now) h → Sees (ring capacity words.now) h (Some settled) }
     requires message { settled.type_id ≢ padding_type }
     requires ready { H.ready handler.old }
     ensures ready { H.ready handler.new }
-    ensures shown { (m : Message) × (a : Action) × H.step handler.old m handler.new a
+    ensures shown { (m : Message) × H.step handler.old m handler.new result
         × ((c : Claim) (rest : List Claim) → Has (ring capacity words.now) (c ∷ rest) → SeesCommitted (ring capacity words.now) c settled → c.message ≡ m) }
 {
     let len = settled.len as usize - HEADER_LENGTH;
     let body = &mut scratch[..len];
     load_at_head(words, capacity, body);
-    handler.on_message(settled.type_id, body);
+    handler.on_message(settled.type_id, body)
 }
 
 /// Clears the settled record or padding at the head, and moves the head behind it.

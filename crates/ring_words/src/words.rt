@@ -1,6 +1,10 @@
 //! Bodies in a slice of words.
-ghost use Rattle.std.specs.Prelude.{◌≡◌, ℕ, ◌+◌, ◌*◌, ◌/◌, ◌%◌, ◌^◌, ◌<◌, ◌≤◌, length, drop, slice_index};
+ghost use Rattle.std.specs.Prelude.{◌≡◌, ℕ, ◌+◌, ◌*◌, ◌/◌, ◌%◌, ◌^◌, ◌<◌, ◌≤◌, List, All, length, slice_index};
 ghost use Rattle.std.specs.Int.{from_le_bytes, w64};
+ghost use Rattle.ring_layout.specs.History.{overwritten};
+ghost use Rattle.ring_words.specs.Storing.{HoldsBody};
+
+use ring_layout::put_bytes_word;
 
 /// The first 8 bytes as a little-endian word, with zeros where there are fewer.
 fn first_word(bytes: &[u8]) -> u64
@@ -15,12 +19,29 @@ fn first_word(bytes: &[u8]) -> u64
 /// Stores a body from the word `at` on, with zeros up to the end of its last word.
 pub(crate) fn store_body(words: &mut [u64], at: usize, body: &[u8])
     requires { at + (length body.now + 7) / 8 ≤ length words.old }
-    ensures inside { (k : ℕ) → 8 * k < length body.now → slice_index words.new (at + k) ≡ from_le_bytes w64 (drop (8 * k) body.now) }
+    ensures inside { HoldsBody words.new at body.now }
     ensures below { (i : ℕ) → i < at → slice_index words.new i ≡ slice_index words.old i }
     ensures above { (i : ℕ) → at + (length body.now + 7) / 8 ≤ i → slice_index words.new i ≡ slice_index words.old i }
 {
     for k in 0..body.len().div_ceil(8) {
         words[at + k] = first_word(&body[8 * k..]);
+    }
+}
+
+/// Puts bytes into a body that stands in the words from `at` on, from its byte `offset` on.
+pub(crate) fn overwrite_body(words: &mut [u64], at: usize, offset: usize, bytes: &[u8])
+    requires { at + (offset + length bytes.now + 7) / 8 ≤ length words.old }
+    ensures inside { (body : List ℕ) → All (λ b. b < 256) body → offset + length bytes.now ≤ length body
+        → HoldsBody words.old at body → HoldsBody words.new at (overwritten offset bytes.now body) }
+    ensures below { (i : ℕ) → i < at → slice_index words.new i ≡ slice_index words.old i }
+    ensures above { (i : ℕ) → at + (offset + length bytes.now + 7) / 8 ≤ i → slice_index words.new i ≡ slice_index words.old i }
+{
+    let mut done = 0;
+    while done < bytes.len() {
+        let (word, byte) = (at + (offset + done) / 8, (offset + done) % 8);
+        let count = (8 - byte).min(bytes.len() - done);
+        words[word] = put_bytes_word(words[word], byte, &bytes[done..done + count]);
+        done += count;
     }
 }
 

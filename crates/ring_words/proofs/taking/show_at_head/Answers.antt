@@ -33,7 +33,6 @@ returns-clause-shown g c =
     let fits : FitsSigned w32 c.args.settled.type_id = search rules in
     let type_id = to_z-of_z w32 c.args.settled.type_id fits in (
       record { type_id = to_z w32 (of_z w32 c.args.settled.type_id); body = c.load_at_head.new.body },
-      c.on_message.result,
       c.on_message.ensures.step,
       λ claim rest has sees. message_ext claim.message (to_z w32 (of_z w32 c.args.settled.type_id)) c.load_at_head.new.body (type_id ∙ sees.type_id)
           (c.load_at_head.ensures claim rest has sees.at_head (let l : length claim.message.body ≡ length c.load_at_head.new.body = omega (arith, sees.len, len, c.load_at_head.auto.body) in l)),

@@ -3,7 +3,7 @@ use Rattle.std.specs.Int.{w32}
 use Rattle.ring_words.specs.Ring.{Ring, head_of, Has}
 use Rattle.ring_layout.specs.declared.message.Claim.{Claim}
 use Rattle.ring_words.specs.Reading.{Sees, Leaves, MovesHead}
-use Rattle.ring_words.proofs.ReadLemmas.{reads_none, reads_quiet, reads_message, inside_from, padding_from}
+use Rattle.ring_words.proofs.ReadLemmas.{reads_none, reads_quiet, reads_message, reads_keeps, inside_from, padding_from}
 use Rattle.ring_words.proofs.solo.SoloRing.read.Goals as goal
 use Rattle.ring_words.proofs.solo.SoloRing.read.Goals.{then-settled, else-settled}
 
@@ -34,7 +34,7 @@ turns-preserved g c =
       | then-settled w ↦ let t = w.if-settled.true in let e = w.show.ensures.shown in (
         rw (w.handler-is, w.messages-is) (
             reads_message g.H.Handler.step c.args.limit old mid new c.args.handler.now c.turns.handler c.turns.messages settled c.in-Some.ensures.ring inv.0
-            c.if-messages-limit.false inside moved left e.0 e.1 w.show.new.handler (λ p. t (ap (of_z w32) p)) e.2 e.3
+            c.if-messages-limit.false inside moved left e.0 w.show.result w.show.new.handler (λ p. t (ap (of_z w32) p)) e.1 e.2
             ),
         inv.1,
         omega (arith, w.messages-is, inv.2, c.if-messages-limit.false),
@@ -57,3 +57,12 @@ turns-smaller g c =
     let on : head_of c.turns.self < head_of c.pass.new.self = subst (λ (r : Ring). head_of r < head_of c.pass.new.self) same c.pass.ensures.on in
     let moves = (turns-preserved g c).0.moves in
     omega (arith, on, moves.within)
+
+pub returns-then-messages-limit-clause-claims : goal.returns-then-messages-limit-clause-claims
+returns-then-messages-limit-clause-claims g c = reads_keeps g.H.Handler.step c.args.limit c.args.self.now c.turns.self c.args.handler.now c.turns.handler c.turns.messages c.positions-start.ensures.ring c.turns.invariant.0
+
+pub returns-then-is_at_end-clause-claims : goal.returns-then-is_at_end-clause-claims
+returns-then-is_at_end-clause-claims g c = reads_keeps g.H.Handler.step c.args.limit c.args.self.now c.turns.self c.args.handler.now c.turns.handler c.turns.messages c.positions-start.ensures.ring c.turns.invariant.0
+
+pub returns-in_default-clause-claims : goal.returns-in_default-clause-claims
+returns-in_default-clause-claims g c = reads_keeps g.H.Handler.step c.args.limit c.args.self.now c.turns.self c.args.handler.now c.turns.handler c.turns.messages c.positions-start.ensures.ring c.turns.invariant.0
