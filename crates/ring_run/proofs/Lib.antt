@@ -1,1 +1,2 @@
+mod ClaimsLemmas
 mod TextLemmas

@@ -1,3 +1,4 @@
+pub mod Claims
 pub mod Faults
 pub mod Lines
 pub mod Text

@@ -8,6 +8,7 @@ mod help;
 mod input;
 mod line;
 mod lines;
+mod loose_ring;
 mod options;
 mod printer;
 mod runner;

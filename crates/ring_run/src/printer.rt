@@ -1,19 +1,24 @@
 //! Handlers of the runner.
+ghost use Rattle.std.specs.Prelude.{◌≡◌, drop, slice_index_or};
+ghost use Rattle.ring_words.specs.declared.action.Action.TheVariants.{Continue};
+
 use ring_words::{Action, Handler};
 use std::alloc::{AllocError, Global};
 
-/// Prints a line for each message.
+/// Prints a line for each message, and answers with the given actions, one for each message, and then with `Continue`.
 #[derive(Drop)]
-pub struct Printer {
+pub struct Printer<'a> {
     alloc: Global,
+    actions: &'a [Action],
     text: String,
     wants_memory: bool,
 }
 
-impl Printer {
-    pub fn new(alloc: Global) -> Self {
+impl<'a> Printer<'a> {
+    pub fn new(alloc: Global, actions: &'a [Action]) -> Self {
         Printer {
             alloc,
+            actions,
             text: String::new(alloc),
             wants_memory: false,
         }
@@ -27,21 +32,29 @@ impl Printer {
         Ok(self.text)
     }
 
-    fn print(&mut self, type_id: i32, body: &[u8]) -> Result<(), AllocError> {
+    fn print(&mut self, type_id: i32, body: &[u8]) -> Result<(), AllocError>
+        ensures { self.new.actions.now ≡ self.old.actions.now }
+    {
         let digits = hex_word(self.alloc, body)?;
         let line = format!(in self.alloc; "message {type_id} {digits}\n")?;
         self.text.push_str(line.as_str())
     }
 }
 
-impl Handler for Printer {
-    ghost step = { λ _ _ _ _. Unit {0} };
+impl Handler for Printer<'_> {
+    ghost step = { λ old _ new action. (action ≡ slice_index_or old.actions.now 0 Continue) × (new.actions.now ≡ drop 1 old.actions.now) };
 
     fn on_message(&mut self, type_id: i32, body: &[u8]) -> Action {
         if self.print(type_id, body).is_err() {
             self.wants_memory = true;
         }
-        Action::Continue
+        match self.actions {
+            [] => Action::Continue,
+            [action, rest @ ..] => {
+                self.actions = rest;
+                *action
+            }
+        }
     }
 }
 
@@ -50,7 +63,7 @@ impl Handler for Printer {
 pub struct Ignore;
 
 impl Handler for Ignore {
-    ghost step = { λ _ _ _ _. Unit {0} };
+    ghost step = { λ _ _ _ action. action ≡ Continue };
 
     fn on_message(&mut self, _type_id: i32, _body: &[u8]) -> Action {
         Action::Continue
@@ -58,7 +71,7 @@ impl Handler for Ignore {
 }
 
 /// Bytes as lower-case hexadecimal digits, or `-` for none.
-pub fn hex_word(alloc: Global, bytes: &[u8]) -> Result<String, AllocError> {
+fn hex_word(alloc: Global, bytes: &[u8]) -> Result<String, AllocError> {
     if bytes.is_empty() {
         return String::from_str(alloc, "-");
     }

@@ -1,4 +1,5 @@
 mod bad_lines;
+mod claims;
 mod examples;
 mod fakes;
 mod input_output;

@@ -1,13 +1,38 @@
 //! The words of a line.
-ghost use Rattle.std.specs.Prelude.{◌≡◌, [], ◌∷◌, List, ℕ, IfOk, MatchOption, MatchResult, OnErr, IfErr};
+ghost use Rattle.std.specs.Prelude.{◌≡◌, [], ◌∷◌, List, ℕ, IfOk, IfSome, map, MatchOption, MatchResult, OnErr, IfErr};
 ghost use Rattle.ring_run.specs.Text.{words_of};
-ghost use Rattle.ring_run.specs.Words.{SpellsBy, SpellsBytes};
+ghost use Rattle.ring_run.specs.Words.{SpellsActions, SpellsBy, SpellsBytes, letter_of};
 
 use crate::cut::{index_of, index_of_other};
 use crate::fault::LineFault;
+use ring_words::Action;
 use std::alloc::Global;
 use std::str;
 use std::str::FromStr;
+
+/// The action that a letter stands for.
+fn action_of(letter: u8) -> Option<Action>
+    ensures { IfSome result (λ action. letter_of action ≡ letter) }
+{
+    match letter {
+        b'a' => Some(Action::Abort),
+        b'b' => Some(Action::Break),
+        b'c' => Some(Action::Commit),
+        b'n' => Some(Action::Continue),
+        _ => None,
+    }
+}
+
+/// The actions that letters stand for.
+fn actions_of(alloc: Global, letters: &[u8]) -> Result<Vec<Action>, LineFault>
+    ensures { IfOk result (λ actions. map letter_of actions.items ≡ letters.now) }
+{
+    let mut actions = Vec::new(alloc);
+    for letter in letters {
+        actions.push(action_of(*letter).ok_or(LineFault::Bad)?)?;
+    }
+    Ok(actions)
+}
 
 /// The words of a line that were not taken yet.
 #[derive(Drop)]
@@ -66,6 +91,17 @@ impl<'a> Words<'a> {
             return Ok(Vec::new(alloc));
         }
         Ok(hex::decode(alloc, word)?)
+    }
+
+    /// Takes actions: a letter for each of them, or `-` for none.
+    pub fn actions(&mut self, alloc: Global) -> Result<Vec<Action>, LineFault>
+        ensures { IfOk result (λ actions. (word : List ℕ) × (words_of self.old.rest.now ≡ word ∷ words_of self.new.rest.now) × SpellsActions word actions.items) }
+    {
+        let word = self.word()?;
+        if word == b"-".as_slice() {
+            return Ok(Vec::new(alloc));
+        }
+        actions_of(alloc, word)
     }
 
     /// Tests that no word is left.
