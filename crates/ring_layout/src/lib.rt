@@ -13,3 +13,6 @@ pub use picture_law::word_depends_on_one_claim;
 pub use placement::{fits, is_capacity, max_message, pad_and_span};
 pub use record_descriptor::{align8, pack_header, unpack_header};
 pub use word_bytes::{get_byte_word, put_bytes_word};
+
+#[cfg(test)]
+mod tests;

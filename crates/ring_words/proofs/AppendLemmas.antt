@@ -16,11 +16,11 @@ use Rattle.ring_layout.proofs.Laps.{index_step, apart}
 use Rattle.ring_layout.proofs.PlaceLemmas.{next_le, next_within, next_aligned, span_bounds}
 use Rattle.ring_layout.proofs.WordBytes.{from_le_bytes-same}
 use Rattle.ring_layout.proofs.HeaderLemmas.{fits_neg}
-use Rattle.ring_words.specs.Ring.{Ring, ring, IsRing, head_of, tail_of}
+use Rattle.ring_words.specs.Ring.{Ring, ring, IsRing, tail_of}
 use Rattle.ring_words.specs.Change.{AppendsClaim, opened, written}
-use Rattle.ring_words.specs.Storing.{IsAdmitted, Stores, padded}
+use Rattle.ring_words.specs.Storing.{IsAdmitted, padded}
 use Rattle.ring_words.proofs.ClaimLemmas.{appended, tail_aligned, free_of}
-use Rattle.ring_words.proofs.StoreLemmas.{Steps, stores}
+use Rattle.ring_words.proofs.StoreLemmas.{stores}
 
 pub length-padded : (C tail place : ℕ) (ws : List ℕ) → length (padded C tail place ws) ≡ length ws
 length-padded C tail place ws =

@@ -1,7 +1,5 @@
 -- One claim of a history is replaced by one of the same span.
-use Rattle.std.proofs.Common.{◌≡◌, ℕ, ◌+◌, ◌-◌, ◌*◌, ◌/◌, ◌%◌, ◌<◌, ◌≤◌, List, [], ◌∷◌, ◌++◌, length, drop, slice_index, ap, sym, ◌∙◌, subst, arith, ◌⊎◌, inl, inr, pos, All, refl, slice_set, get_or-set_other, get_or-set_same}
-use Rattle.std.proofs.lemmas.List.{length-set}
-use Rattle.std.proofs.lemmas.Nat.{mod_below}
+use Rattle.std.proofs.Common.{◌≡◌, ℕ, ◌+◌, ◌-◌, ◌*◌, ◌/◌, ◌%◌, ◌<◌, ◌≤◌, List, [], ◌∷◌, ◌++◌, length, drop, slice_index, ap, sym, ◌∙◌, subst, arith, ◌⊎◌, inl, inr, pos, All, refl}
 use Rattle.std.proofs.lemmas.Bool.{cases_lt, cases_eq, ne_eqb, cond-false}
 use Rattle.std.proofs.lemmas.List.Elements.{All-append, All-cons, All-tail, All-head, All-nil}
 use Rattle.ring_words.specs.Ring.{Ring, ring, Has, IsRing, head_of, tail_of}

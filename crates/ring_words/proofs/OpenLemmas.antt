@@ -1,11 +1,11 @@
 -- Open claims of a history: where they lie, and what they keep when the history changes.
-use Rattle.std.proofs.Common.{◌≡◌, ◌≢◌, ℕ, ℤ, ◌+◌, ◌%◌, ◌<◌, ◌≤◌, List, [], ◌∷◌, ◌++◌, length, replicate, refl, ap, sym, ◌∙◌, subst, arith, ◌⊎◌, inl, inr, All, if◌then◌else◌, ◌==◌}
-use Rattle.std.proofs.lemmas.Bool.{cases_eq, eq-eqb, ne_eqb, cond-true, cond-false}
+use Rattle.std.proofs.Common.{◌≡◌, ◌≢◌, ℕ, ℤ, ◌+◌, ◌%◌, ◌<◌, ◌≤◌, List, [], ◌∷◌, ◌++◌, length, replicate, refl, ap, sym, ◌∙◌, subst, arith, inl, inr, All, ◌==◌}
+use Rattle.std.proofs.lemmas.Bool.{eq-eqb, ne_eqb, cond-true, cond-false}
 use Rattle.std.proofs.lemmas.List.{length-replicate}
 use Rattle.std.proofs.lemmas.List.Elements.{All-head, All-tail}
 use Rattle.ring_layout.specs.declared.message.Claim.{Claim}
 use Rattle.ring_layout.specs.declared.message.ClaimState.TheVariants.{Open}
-use Rattle.ring_layout.specs.History.{IsMessage, span, span_of}
+use Rattle.ring_layout.specs.History.{span, span_of}
 use Rattle.ring_layout.specs.Places.{next_place, place_behind, end_after, end_of}
 use Rattle.ring_layout.proofs.PlaceLemmas.{next_le, next_fixed, span_bounds, end_of_le}
 use Rattle.ring_words.specs.Ring.{Ring, IsRing, head_of, tail_of}

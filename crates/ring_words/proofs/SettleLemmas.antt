@@ -1,17 +1,13 @@
 -- What settling an open claim, and putting bytes into it, does to the words.
-use Rattle.std.proofs.Common.{◌≡◌, ◌≢◌, ◌⊎◌, ℕ, ◌+◌, ◌-◌, ◌*◌, ◌/◌, ◌%◌, ◌<◌, ◌≤◌, List, [], ◌∷◌, ◌++◌, length, take, drop, slice_index, slice_set, refl, ap, sym, ◌∙◌, arith, inl, inr, All, pos, neg_ℤ, get_or-set_other, get_or-set_same}
+use Rattle.std.proofs.Common.{◌≡◌, ◌≢◌, ℕ, ◌+◌, ◌/◌, ◌<◌, ◌≤◌, List, length, slice_index, slice_set, refl, ap, sym, ◌∙◌, arith, inl, inr, All, pos, neg_ℤ, get_or-set_other, get_or-set_same}
 use Rattle.std.proofs.lemmas.List.{length-set}
-use Rattle.std.proofs.lemmas.List.Elements.{All-get_or, All-from_get_or}
-use Rattle.std.proofs.lemmas.Bool.{cases_lt}
 use Rattle.std.proofs.lemmas.Nat.{mod_below}
 use Rattle.ring_layout.specs.declared.message.Claim.{Claim}
 use Rattle.ring_layout.specs.declared.message.ClaimState.{ClaimState}
-use Rattle.ring_layout.specs.declared.message.ClaimState.TheVariants.{Open}
-use Rattle.ring_layout.specs.History.{IsMessage, span, overwritten}
+use Rattle.ring_layout.specs.History.{span, overwritten}
 use Rattle.ring_layout.specs.Places.{index, next_place}
 use Rattle.ring_layout.specs.Headers.{header, header_of}
-use Rattle.ring_layout.proofs.CapacityLemmas.{capacity_blocks}
-use Rattle.ring_layout.proofs.WordBytes.{length-overwritten, overwritten_before, overwritten_inside, overwritten_behind}
+use Rattle.ring_layout.proofs.WordBytes.{length-overwritten}
 use Rattle.ring_words.specs.Ring.{Ring, IsRing}
 use Rattle.ring_words.specs.Open.{ClaimAt, IsOpenClaim}
 use Rattle.ring_words.specs.Change.{put_into, settled_as}

@@ -1,5 +1,5 @@
 -- What a call changes: the events of a ring.
-use Rattle.std.specs.Prelude.{◌≡◌, ◌≢◌, ℕ, ◌+◌, ◌/◌, ◌≤◌, ℤ, List, [], ◌∷◌, ◌++◌, length, replicate, slice_index, if◌then◌else◌, ◌==◌}
+use Rattle.std.specs.Prelude.{◌≡◌, ◌≢◌, ℕ, ◌/◌, ◌≤◌, ℤ, List, [], ◌∷◌, ◌++◌, length, replicate, slice_index, if◌then◌else◌, ◌==◌}
 use Rattle.ring_layout.specs.declared.message.Claim.{Claim}
 use Rattle.ring_layout.specs.declared.message.ClaimState.{ClaimState}
 use Rattle.ring_layout.specs.declared.message.ClaimState.TheVariants.{Open, Committed}

@@ -1,11 +1,8 @@
-use Rattle.std.proofs.Common.{◌≡◌, ℕ, ◌+◌, List, pos, neg_ℤ, to_z, of_z, slice_set, subst, sym, arith, ap, ◌∙◌}
-use Rattle.std.specs.Int.{w32}
-use Rattle.std.proofs.lemmas.Int.{to_z-of_z, to_z_pos}
-use Rattle.std.proofs.lemmas.List.Elements.{All-from_get_or}
-use Rattle.ring_layout.specs.History.{IsMessage, span}
-use Rattle.ring_layout.specs.Headers.{header, header_of}
+use Rattle.std.proofs.Common.{◌≡◌, ℕ, List, slice_set, subst, sym, arith, ◌∙◌}
+use Rattle.ring_layout.specs.History.{span}
+use Rattle.ring_layout.specs.Headers.{header_of}
 use Rattle.ring_layout.specs.Layout.{tail_index}
-use Rattle.ring_layout.proofs.PlaceLemmas.{next_le, span_bounds}
+use Rattle.ring_layout.proofs.PlaceLemmas.{next_le}
 use Rattle.ring_words.specs.Ring.{Ring, ring, IsRing, tail_of}
 use Rattle.ring_words.specs.Change.{AppendsClaim, opened}
 use Rattle.ring_words.proofs.AppendLemmas.{appended_empty, headed_is, opened_lawful, opened_header, length-opened, zero_words}

@@ -1,4 +1,4 @@
-use Rattle.std.proofs.Common.{◌≡◌, ◌-◌, ◌/◌, List, ℕ, slice_set, subst, sym, ap, ◌∙◌, arith}
+use Rattle.std.proofs.Common.{◌≡◌, ◌-◌, ◌/◌, List, ℕ, slice_set, subst, sym, ap, arith}
 use Rattle.ring_layout.specs.Places.{index}
 use Rattle.ring_words.specs.Ring.{Ring, ring, IsRing}
 use Rattle.ring_words.specs.Open.{ClaimAt, IsOpen}

@@ -1,9 +1,6 @@
-use Rattle.std.proofs.Common.{◌≡◌, ℤ, ◌+◌, ℕ, pos, length, to_z, of_z, FitsSigned, sym, ap, ◌∙◌, arith, inl, inr, rules}
+use Rattle.std.proofs.Common.{◌≡◌, ℤ, ◌+◌, pos, length, to_z, FitsSigned, sym, ap, ◌∙◌, arith, inl, inr, rules}
 use Rattle.std.specs.Int.{w32}
 use Rattle.std.proofs.lemmas.Int.{to_z-of_z, to_z_pos}
-use Rattle.ring_layout.specs.declared.message.Claim.{Claim}
-use Rattle.ring_layout.specs.declared.message.ClaimState.{ClaimState}
-use Rattle.ring_layout.specs.declared.message.ClaimState.TheVariants.{Open, Committed, Aborted}
 use Rattle.ring_layout.specs.Headers.{header, header_of, padding_type}
 use Rattle.ring_words.specs.Change.{settled_as}
 use Rattle.ring_words.proofs.HeadLemmas.{header_committed, header_aborted}

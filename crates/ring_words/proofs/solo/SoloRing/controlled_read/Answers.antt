@@ -1,10 +1,9 @@
-use Rattle.std.proofs.Common.{rules, ◌≡◌, ◌≢◌, ◌%◌, ◌<◌, List, Some, FitsSigned, of_z, arith, sym, ap, subst, ◌∙◌, inl, inr, refl}
+use Rattle.std.proofs.Common.{rules, ◌≢◌, ◌%◌, ◌<◌, List, Some, FitsSigned, of_z, arith, sym, ap, subst, ◌∙◌, inl, inr}
 use Rattle.std.specs.Int.{w32}
 use Rattle.ring_layout.specs.declared.message.Claim.{Claim}
 use Rattle.ring_layout.specs.Headers.{padding_type}
-use Rattle.ring_words.specs.Ring.{Ring, IsRing, head_of, Has}
-use Rattle.ring_words.specs.Open.{ClaimAt, IsOpen}
-use Rattle.ring_words.specs.declared.action.Action.{Action}
+use Rattle.ring_words.specs.Ring.{Ring, head_of, Has}
+use Rattle.ring_words.specs.Open.{IsOpen}
 use Rattle.ring_words.specs.Read.{GoesOn, IsNext}
 use Rattle.ring_words.specs.Reading.{Sees, Leaves, MovesHead}
 use Rattle.ring_words.proofs.ReadLemmas.{ReadsOn, reads_on_none, reads_on_quiet, reads_on_message, reads_keeps, went_on, broke, aborts, next_is, inside_from, padding_from}
@@ -43,10 +42,9 @@ turns-preserved-then-settled g c =
     let test = sym c.is_at_end.ensures ∙ c.if-is_at_end.false in
     let inside : head_of old < head_of mid → head_of mid % old.capacity ≢ 0 =
     λ lt. rw (sym inv.0.0.moves.capacity) (inside_from mid.capacity c.positions-start.result.head (head_of mid) test (omega (arith, inv.1))) in
-    let fits : FitsSigned w32 settled.type_id = search rules in
-    (
+    let fits : FitsSigned w32 settled.type_id = search rules in (
       reads_on_quiet g.H.Handler.step c.args.limit c.args.self.now mid c.pass.new.self c.args.handler.now c.turns.handler c.turns.messages settled c.in-Some.ensures.ring inv.0
-      c.if-messages-limit.false inside c.pass.ensures.moves c.pass.ensures.leaves (padding_from settled.type_id fits c.if-settled.true),
+          c.if-messages-limit.false inside c.pass.ensures.moves c.pass.ensures.leaves (padding_from settled.type_id fits c.if-settled.true),
       inv.1,
       inv.2,
       inv.3,
@@ -74,7 +72,7 @@ turns-preserved g c =
     let e = c.show.ensures.shown in
     let goes : GoesOn c.show.result = elim c.in-Commit.is as (λ _. GoesOn c.show.result) [ inl e ↦ subst GoesOn (sym e) tt | inr e ↦ subst GoesOn (sym e) tt ] in (
       reads_on_message g.H.Handler.step c.args.limit c.args.self.now mid new c.args.handler.now c.turns.handler c.turns.messages settled c.in-Some.ensures.ring inv.0
-      c.if-messages-limit.false inside moved left e.0 c.show.result c.show.new.handler loud e.1 e.2 goes,
+          c.if-messages-limit.false inside moved left e.0 c.show.result c.show.new.handler loud e.1 e.2 goes,
       inv.1,
       omega (arith, inv.2, c.if-messages-limit.false),
       c.show.ensures.ready,
