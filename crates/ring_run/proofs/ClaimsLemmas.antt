@@ -1,0 +1,85 @@
+-- How the claims of a ring stay open.
+use Rattle.std.proofs.Common.{◌≡◌, ◌≢◌, ℕ, ◌+◌, ◌<◌, ◌≤◌, List, [], ◌∷◌, ◌++◌, length, get_or, set, Option, Some, None, refl, sym, ◌∙◌, ap, subst, arith, rules, ◌⊎◌, inl, inr, get_or-set_same, get_or-set_other}
+use Rattle.std.proofs.lemmas.Bool.{cases_lt}
+use Rattle.std.proofs.lemmas.List.{get_or_append_left, get_or_push, get_or_past, length-append}
+use Rattle.ring_words.specs.Ring.{Ring}
+use Rattle.ring_words.specs.Open.{ClaimAt, IsOpen}
+use Rattle.ring_run.specs.Claims.{HasClaim, AreOpen}
+
+-- there are no claims at first
+pub none_open : (r : Ring) → AreOpen r []
+none_open r = record {
+  open_in = λ i t has. let clash : None ≡ Some t = sym (get_or_past [] i None (omega arith)) ∙ has in absurd cc;
+  apart = λ i j s t differ has. let clash : None ≡ Some s = sym (get_or_past [] i None (omega arith)) ∙ has in absurd cc;
+}
+
+-- a step after which the open claims of the ring are still open
+pub still_open : (old new : Ring) (claims : List (Option ClaimAt)) → AreOpen old claims → ((t : ClaimAt) → IsOpen old t → IsOpen new t) → AreOpen new claims
+still_open old new claims are keeps = record { open_in = λ i t has. keeps t (are.open_in i t has); apart = are.apart }
+
+-- a claim of the list with one more is one of the list, or that one
+in_pushed : (claims : List (Option ClaimAt)) (t s : ClaimAt) (i : ℕ) → HasClaim (claims ++ Some t ∷ []) i s → HasClaim claims i s ⊎ ((i ≡ length claims) × (t ≡ s))
+in_pushed claims t s i has =
+    elim (cases_lt i (length claims)) as (λ _. HasClaim claims i s ⊎ ((i ≡ length claims) × (t ≡ s))) [
+      | inl within ↦ inl (sym (get_or_append_left claims (Some t ∷ []) None i within) ∙ has)
+      | inr past ↦
+          elim (cases_lt (length claims) i) as (λ _. HasClaim claims i s ⊎ ((i ≡ length claims) × (t ≡ s))) [
+            | inl beyond ↦
+                let long : length (claims ++ Some t ∷ []) ≡ length claims + 1 = length-append claims (Some t ∷ []) in
+                let clash : None ≡ Some s = sym (get_or_past (claims ++ Some t ∷ []) i None (omega (arith, long, beyond))) ∙ has in absurd cc
+            | inr last ↦
+                let at : length claims ≡ i = omega (arith, past, last) in
+                let same : Some t ≡ Some s = sym (get_or_push claims (Some t) None i at) ∙ has in inr (sym at, cc)
+          ]
+    ]
+
+-- one more claim
+pub one_more_open : (old new : Ring) (claims : List (Option ClaimAt)) (t : ClaimAt) → AreOpen old claims → ((s : ClaimAt) → IsOpen old s → IsOpen new s) → IsOpen new t
+    → ((s : ClaimAt) → IsOpen old s → s.place ≢ t.place) → AreOpen new (claims ++ Some t ∷ [])
+one_more_open old new claims t are keeps is_open elsewhere = record { open_in = in_new; apart = apart }
+  where
+    in_new : (i : ℕ) (s : ClaimAt) → HasClaim (claims ++ Some t ∷ []) i s → IsOpen new s
+    in_new i s has =
+        elim (in_pushed claims t s i has) as (λ _. IsOpen new s) [
+          | inl before ↦ keeps s (are.open_in i s before)
+          | inr last ↦ subst (IsOpen new) last.1 is_open
+        ]
+
+    apart : (i j : ℕ) (a b : ClaimAt) → i ≢ j → HasClaim (claims ++ Some t ∷ []) i a → HasClaim (claims ++ Some t ∷ []) j b → a.place ≢ b.place
+    apart i j a b differ has_a has_b =
+        elim (in_pushed claims t a i has_a) as (λ _. a.place ≢ b.place) [
+          | inl first ↦
+              elim (in_pushed claims t b j has_b) as (λ _. a.place ≢ b.place) [
+                | inl second ↦ are.apart i j a b differ first second
+                | inr last ↦ subst (λ c. a.place ≢ c.place) last.1 (elsewhere a (are.open_in i a first))
+              ]
+          | inr last_a ↦
+              elim (in_pushed claims t b j has_b) as (λ _. a.place ≢ b.place) [
+                | inl second ↦ subst (λ c. c.place ≢ b.place) last_a.1 (λ e. elsewhere b (are.open_in j b second) (sym e))
+                | inr last_b ↦ absurd (differ (last_a.0 ∙ sym last_b.0))
+              ]
+        ]
+
+-- a claim of the list without one is another one of the list
+in_taken : (claims : List (Option ClaimAt)) (k : ℕ) (t s : ClaimAt) (i : ℕ) → HasClaim claims k t → HasClaim (set claims k None) i s → (i ≢ k) × HasClaim claims i s
+in_taken claims k t s i had has = (other, sym (get_or-set_other claims k i None None other) ∙ has)
+  where
+    within : k < length claims
+    within =
+        elim (cases_lt k (length claims)) as (λ _. k < length claims) [
+          | inl inside ↦ inside
+          | inr past ↦ let clash : None ≡ Some t = sym (get_or_past claims k None past) ∙ had in absurd cc
+        ]
+
+    other : i ≢ k
+    other e =
+        let here : HasClaim (set claims k None) k s = subst (λ n. HasClaim (set claims k None) n s) e has in
+        let clash : None ≡ Some s = sym (get_or-set_same claims k None None within) ∙ here in absurd cc
+
+-- a claim is settled and taken from the list
+pub one_less_open : (old new : Ring) (claims : List (Option ClaimAt)) (k : ℕ) (t : ClaimAt) → AreOpen old claims → HasClaim claims k t
+    → ((s : ClaimAt) → IsOpen old s → s.place ≢ t.place → IsOpen new s) → AreOpen new (set claims k None)
+one_less_open old new claims k t are had others = record {
+  open_in = λ i s has. let was = in_taken claims k t s i had has in others s (are.open_in i s was.1) (are.apart i k s t was.0 was.1 had);
+  apart = λ i j a b differ has_a has_b. are.apart i j a b differ (in_taken claims k t a i had has_a).1 (in_taken claims k t b j had has_b).1;
+}

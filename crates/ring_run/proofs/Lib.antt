@@ -1,0 +1,2 @@
+mod ClaimsLemmas
+mod TextLemmas

@@ -1,0 +1,30 @@
+-- What the words of a line ask for.
+use Rattle.std.specs.Prelude.{◌≡◌, ℕ, List, [], ◌∷◌, codes}
+use Rattle.ring_run.specs.declared.call.Call.{Call}
+use Rattle.ring_run.specs.declared.call.Call.TheVariants.{Write, Claim, Put, Commit, Abort, Read, Control, Positions}
+use Rattle.ring_run.specs.declared.line.Line.{Line}
+use Rattle.ring_run.specs.declared.line.Line.TheVariants as line
+use Rattle.ring_run.specs.Text.{IsBlank}
+use Rattle.ring_run.specs.Words.{SpellsActions, SpellsUnsigned, SpellsI32, SpellsBytes}
+
+-- the words ask for this call
+abbrev pub AsksFor : Call → List (List ℕ) → Type 0
+AsksFor (Write type_id body) words = (type_word body_word : List ℕ) × (words ≡ codes "write" ∷ type_word ∷ body_word ∷ [])
+    × SpellsI32 type_word type_id × SpellsBytes body_word body.items
+AsksFor (Claim type_id len) words = (type_word len_word : List ℕ) × (words ≡ codes "claim" ∷ type_word ∷ len_word ∷ [])
+    × SpellsI32 type_word type_id × SpellsUnsigned 64 len_word len
+AsksFor (Put number offset bytes) words = (number_word offset_word bytes_word : List ℕ)
+    × (words ≡ codes "put" ∷ number_word ∷ offset_word ∷ bytes_word ∷ [])
+    × SpellsUnsigned 64 number_word number × SpellsUnsigned 64 offset_word offset × SpellsBytes bytes_word bytes.items
+AsksFor (Commit number) words = (number_word : List ℕ) × (words ≡ codes "commit" ∷ number_word ∷ []) × SpellsUnsigned 64 number_word number
+AsksFor (Abort number) words = (number_word : List ℕ) × (words ≡ codes "abort" ∷ number_word ∷ []) × SpellsUnsigned 64 number_word number
+AsksFor (Control limit actions) words = (limit_word action_word : List ℕ) × (words ≡ codes "control" ∷ limit_word ∷ action_word ∷ [])
+    × SpellsUnsigned 32 limit_word limit × SpellsActions action_word actions.items
+AsksFor Positions words = words ≡ codes "positions" ∷ []
+AsksFor (Read limit) words = (limit_word : List ℕ) × (words ≡ codes "read" ∷ limit_word ∷ []) × SpellsUnsigned 32 limit_word limit
+
+-- the words are this line
+abbrev pub IsLine : Line → List (List ℕ) → Type 0
+IsLine line.Nothing words = IsBlank words
+IsLine (line.Call call) words = AsksFor call words
+IsLine line.End words = words ≡ codes "end" ∷ []

@@ -1,0 +1,46 @@
+//! The texts of the help.
+
+pub const ABOUT: &str =
+    "Runs a scenario on rings of messages: reads it from standard input and prints what each line gave.";
+
+pub const RING: &str = "Bytes of the ring: a power of two, 128 to 16777216";
+
+pub const BOARD: &str = "Bytes of the broadcast buffer: a power of two, 256 to 16777216";
+
+pub const COMMANDS: &str = "Bytes of the ring for commands: a power of two, 128 to 16777216";
+
+pub const REPLIES: &str =
+    "Bytes of the broadcast buffer for replies: a power of two, 256 to 16777216";
+
+pub const COUNTERS: &str = "Number of counters, 1 to 4096";
+
+pub const REUSE_MS: &str = "Milliseconds after which the id of a freed counter may be given again";
+
+pub const SCENARIO: &str = "\
+A scenario is a text with one call on each line, executed in order:
+
+  write TYPE HEX   writes a message with a type id of 1 to 2147483647
+                   and a body in hexadecimal digits, or `-` for no bytes
+  read LIMIT       reads at most LIMIT messages and prints each of them
+  end              prints how many messages were read and how many are
+                   left; each scenario ends so
+  # TEXT           a comment
+
+A call that the ring refuses prints `refused`, and the scenario goes on.
+A line that is none of these ends the run with `fault: 25 BadLine`.
+
+For example the scenario
+
+  write 7 48656c6c6f
+  read 10
+  end
+
+prints
+
+  ok
+  message 7 48656c6c6f
+  read 1 bytes 16 stopped unpublished
+  end messages 1 left 0
+
+Status: 0 where the scenario ended by `end`, 1 after a fault, 2 where the
+command line was refused.";

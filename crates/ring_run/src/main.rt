@@ -1,0 +1,49 @@
+//! Runs a scenario on rings of messages: it reads lines on standard input and writes on standard output.
+#![tactic(auto)]
+
+mod call;
+mod cut;
+mod fault;
+mod help;
+mod input;
+mod line;
+mod lines;
+mod loose_ring;
+mod options;
+mod printer;
+mod runner;
+mod scenario;
+#[cfg(test)]
+mod tests;
+mod words;
+
+use fault::RunFault;
+use scenario::run_scenario;
+use std::env;
+use std::process::ExitCode;
+
+fn main(rt: HostRuntime) -> ExitCode {
+    match run(&rt) {
+        Ok(code) => code,
+        Err(fault) => {
+            let _ = eprintln!(rt; "fault: {fault}");
+            ExitCode::FAILURE
+        }
+    }
+}
+
+/// Parses the arguments and runs the scenario.
+fn run(rt: &HostRuntime) -> Result<ExitCode, RunFault> {
+    let alloc = rt.alloc();
+    let arguments = env::args(rt).map_err(|_| RunFault::OutOfMemory)?;
+    let words: Vec<String> = arguments.collect(alloc)?;
+    let options = match options::parse(alloc, words.as_slice()) {
+        Ok(options) => options,
+        Err(error) => {
+            let _ = error.print(rt);
+            return Ok(ExitCode::from(error.exit_code() as u8));
+        }
+    };
+    run_scenario(rt, alloc, &options, &mut rt.stdin(), &mut rt.stdout())?;
+    Ok(ExitCode::SUCCESS)
+}

@@ -1,0 +1,165 @@
+//! What a run holds, and what its calls print.
+ghost use Rattle.std.specs.Prelude.{◌≡◌, true, IsOkUnless};
+ghost use Rattle.ring_layout.specs.Places.{is_capacity};
+
+use crate::call::Call;
+use crate::fault::{LineFault, RunFault};
+use crate::loose_ring::{Claimed, LooseRing};
+use crate::options::Options;
+use crate::printer::{Ignore, Printer};
+use ring_words::{Action, MakeFault, Positions, ReadEnd, Stop};
+use std::alloc::{AllocError, Global};
+use std::fmt::Display;
+
+/// What a run holds.
+#[derive(Drop)]
+pub struct Runner {
+    alloc: Global,
+    loose: LooseRing,
+    messages: u64,
+}
+
+/// What `end` tells.
+#[derive(Clone, Copy, Debug, PartialEq, Eq)]
+pub struct Ended {
+    /// How many messages the reads consumed.
+    pub messages: u64,
+    /// How many messages were left.
+    pub left: u64,
+}
+
+impl Runner {
+    /// Makes the parts that the options describe.
+    pub fn new(alloc: Global, options: &Options) -> Result<Self, RunFault>
+        requires { is_capacity options.now.ring ≡ true }
+        ensures { IsOkUnless result RunFault.OutOfMemory }
+    {
+        let loose = LooseRing::new(alloc, options.ring).map_err(from_make)?;
+        Ok(Runner {
+            alloc,
+            loose,
+            messages: 0,
+        })
+    }
+
+    /// Executes a call, and gives the lines that it prints.
+    pub fn execute(&mut self, call: Call) -> Result<String, LineFault> {
+        let text = match call {
+            Call::Write { type_id, body } => self.write(type_id, body.as_slice())?,
+            Call::Claim { type_id, len } => self.claim(type_id, len)?,
+            Call::Put {
+                number,
+                offset,
+                bytes,
+            } => self.put(number, offset, bytes.as_slice())?,
+            Call::Commit { number } => {
+                self.loose.commit(number).ok_or(LineFault::Bad)?;
+                self.ok()?
+            }
+            Call::Abort { number } => {
+                self.loose.abort(number).ok_or(LineFault::Bad)?;
+                self.ok()?
+            }
+            Call::Read { limit } => self.read(limit)?,
+            Call::Control { limit, actions } => self.control(limit, actions.as_slice())?,
+            Call::Positions => self.positions()?,
+        };
+        Ok(text)
+    }
+
+    fn ok(&self) -> Result<String, AllocError> {
+        String::from_str(self.alloc, "ok\n")
+    }
+
+    fn refused<F: Display + Drop>(&self, fault: F) -> Result<String, AllocError> {
+        format!(in self.alloc; "refused {fault}\n")
+    }
+
+    fn write(&mut self, type_id: i32, body: &[u8]) -> Result<String, AllocError> {
+        match self.loose.write(type_id, body) {
+            Ok(()) => self.ok(),
+            Err(fault) => self.refused(fault),
+        }
+    }
+
+    fn claim(&mut self, type_id: i32, len: usize) -> Result<String, AllocError> {
+        match self.loose.claim(type_id, len)? {
+            Ok(Claimed { number, index }) => format!(in self.alloc;
+                "claim {number} index {index}\n"
+            ),
+            Err(fault) => self.refused(fault),
+        }
+    }
+
+    fn put(&mut self, number: usize, offset: usize, bytes: &[u8]) -> Result<String, LineFault> {
+        match self.loose.put(number, offset, bytes).ok_or(LineFault::Bad)? {
+            Ok(()) => Ok(self.ok()?),
+            Err(fault) => Ok(self.refused(fault)?),
+        }
+    }
+
+    fn read(&mut self, limit: u32) -> Result<String, AllocError> {
+        let mut printer = Printer::new(self.alloc, &[]);
+        let end = self.loose.read(limit, &mut printer);
+        self.read_text(printer, end)
+    }
+
+    fn control(&mut self, limit: u32, actions: &[Action]) -> Result<String, AllocError> {
+        let mut printer = Printer::new(self.alloc, actions);
+        let end = self.loose.controlled_read(limit, &mut printer);
+        self.read_text(printer, end)
+    }
+
+    /// Counts the messages of a read, and gives its lines.
+    fn read_text(&mut self, printer: Printer, end: ReadEnd) -> Result<String, AllocError> {
+        self.messages = self.messages.saturating_add(u64::from(end.messages));
+        let stop = stop_name(end.stopped);
+        let last = format!(in self.alloc;
+            "read {} bytes {} stopped {stop}\n",
+            end.messages, end.bytes
+        )?;
+        let mut text = printer.into_text()?;
+        text.push_str(last.as_str())?;
+        Ok(text)
+    }
+
+    fn positions(&self) -> Result<String, AllocError> {
+        let Positions { head, tail } = self.loose.positions();
+        format!(in self.alloc; "head {head} tail {tail}\n")
+    }
+
+    /// Aborts the open claims, and counts the messages that are left.
+    pub fn close(mut self) -> Ended {
+        self.loose.abort_all();
+        let mut left = 0u64;
+        for _ in 0..u64::MAX {
+            let end = self.loose.read(u32::MAX, &mut Ignore);
+            left = left.saturating_add(u64::from(end.messages));
+            if end.stopped == Stop::Unpublished {
+                break;
+            }
+        }
+        Ended {
+            messages: self.messages,
+            left,
+        }
+    }
+}
+
+fn from_make(fault: MakeFault) -> RunFault
+    ensures { fault ≡ MakeFault.OutOfMemory → result ≡ RunFault.OutOfMemory }
+{
+    match fault {
+        MakeFault::OutOfMemory => RunFault::OutOfMemory,
+        MakeFault::BadCapacity | MakeFault::BadStart => RunFault::BadCapacity,
+    }
+}
+
+fn stop_name(stop: Stop) -> &'static str {
+    match stop {
+        Stop::Limit => "limit",
+        Stop::Block => "block",
+        Stop::Unpublished => "unpublished",
+        Stop::Action => "action",
+    }
+}

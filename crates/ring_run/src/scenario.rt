@@ -1,0 +1,99 @@
+//! Runs a scenario.
+ghost use Rattle.std.specs.Prelude.{◌≡◌, false, IfSome, OnOk, IfErr};
+ghost use Rattle.ring_layout.specs.Places.{is_capacity};
+ghost use Rattle.ring_run.specs.Faults.{IsEarly};
+ghost use Rattle.ring_run.specs.Text.{lines_of, AllBlank, IsEnded, TakesEnd};
+
+use crate::fault::RunFault;
+use crate::input::read_input;
+use crate::line::Line;
+use crate::lines::Lines;
+use crate::options::Options;
+use crate::runner::{Ended, Runner};
+use std::alloc::Global;
+use std::io::{Read, Write};
+
+/// Reads a scenario whole, executes its lines in order, and writes what each of them gives.
+pub fn run_scenario<R: AllocGlobal, I: Read, O: Write>(
+    _rt: &R,
+    alloc: Global,
+    options: &Options,
+    reader: &mut I,
+    writer: &mut O,
+) -> Result<(), RunFault>
+    // The last line that is no blank one is `end`.
+    ensures ended { OnOk result (IfSome (I.remaining reader.old) IsEnded) }
+
+    // A bad capacity is found before anything is read, and nothing else is called so.
+    ensures capacity { is_capacity options.now.ring ≡ false → (result ≡ Err RunFault.BadCapacity) × (reader.new ≡ reader.old) }
+    ensures only_then { result ≡ Err RunFault.BadCapacity → is_capacity options.now.ring ≡ false }
+
+    // Nothing is written before the input was read.
+    ensures silent { IfErr result (λ fault. IsEarly fault → writer.new ≡ writer.old) }
+{
+    options.test()?;
+    let mut runner = Runner::new(alloc, options)?;
+    let input = read_input(alloc, reader)?;
+    let mut lines = Lines::of(input.as_slice());
+    let outcome = run_to_end(alloc, &mut runner, &mut lines, writer);
+    let ended = runner.close();
+    outcome?;
+    write_end(alloc, ended, writer)?;
+    rest_is_blank(alloc, &mut lines)
+}
+
+/// Executes the lines before the line `end`, and takes that line.
+fn run_to_end<O: Write>(
+    alloc: Global,
+    runner: &mut Runner,
+    lines: &mut Lines,
+    writer: &mut O,
+) -> Result<(), RunFault>
+    ensures end { OnOk result (TakesEnd lines.old.rest.now lines.new.rest.now) }
+    ensures late { IfErr result (λ fault. ¬ IsEarly fault) }
+{
+    while let Some(text) = lines.next_line() {
+        let number = lines.taken();
+        match Line::parse(alloc, text).map_err(|fault| fault.at(number))? {
+            Line::Nothing => {}
+            Line::Call(call) => {
+                let output = runner.execute(call).map_err(|fault| fault.at(number))?;
+                write_text(writer, output.as_str())?;
+            }
+            Line::End => return Ok(()),
+        }
+    }
+    Err(RunFault::BadLine {
+        line: lines.taken() + 1,
+    })
+}
+
+/// Tests that the lines behind `end` have no words but comments.
+fn rest_is_blank(alloc: Global, lines: &mut Lines) -> Result<(), RunFault>
+    ensures blank { OnOk result (AllBlank (lines_of lines.old.rest.now)) }
+    ensures late { IfErr result (λ fault. ¬ IsEarly fault) }
+{
+    while let Some(text) = lines.next_line() {
+        let number = lines.taken();
+        match Line::parse(alloc, text).map_err(|fault| fault.at(number))? {
+            Line::Nothing => {}
+            Line::Call(_) | Line::End => return Err(RunFault::BadLine { line: number }),
+        }
+    }
+    Ok(())
+}
+
+fn write_end<O: Write>(alloc: Global, ended: Ended, writer: &mut O) -> Result<(), RunFault>
+    ensures late { IfErr result (λ fault. ¬ IsEarly fault) }
+{
+    let text = format!(in alloc; "end messages {} left {}\n", ended.messages, ended.left)?;
+    write_text(writer, text.as_str())
+}
+
+fn write_text<O: Write>(writer: &mut O, text: &str) -> Result<(), RunFault>
+    ensures late { IfErr result (λ fault. ¬ IsEarly fault) }
+{
+    writer
+        .write_all(text.as_bytes())
+        .map_err(|_| RunFault::OutputUnwritten)
+}
