@@ -1,0 +1,13 @@
+pub mod StagedPlaces
+pub mod BodyWords
+pub mod StagedWords
+pub mod Histories
+pub mod OwnerLemmas
+pub mod ReachLemmas
+pub mod HeaderReads
+pub mod Sums
+pub mod Seating
+pub mod Memories
+pub mod Loading
+pub mod Claiming
+pub mod Storing
