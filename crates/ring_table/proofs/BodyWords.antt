@@ -110,8 +110,8 @@ pub bytes_of-with_word : (body : List ℕ) (at word : ℕ) → All (λ b. b < 25
 unfolding part
 bytes_of-with_word body at word bytes =
     All-append (λ b. b < 256) (take at body ++ part at word body) _
-      (All-append (λ b. b < 256) (take at body) _ (All-take (λ b. b < 256) at body bytes) (All-take (λ b. b < 256) (length body - at) (to_le_bytes w64 word) (bytes_of_word word)))
-      (All-drop (λ b. b < 256) (at + length (part at word body)) body bytes)
+    (All-append (λ b. b < 256) (take at body) _ (All-take (λ b. b < 256) at body bytes) (All-take (λ b. b < 256) (length body - at) (to_le_bytes w64 word) (bytes_of_word word)))
+    (All-drop (λ b. b < 256) (at + length (part at word body)) body bytes)
 
 -- zeros
 pub body_word-zeros : (n at : ℕ) → body_word (replicate n 0) at ≡ 0

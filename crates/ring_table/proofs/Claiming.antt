@@ -105,28 +105,34 @@ module _ (C start : ℕ) where
         keeps,
         tt,
         appends s.words s.views r id v at wanted.type_id wanted.len old new (sym hit ∙ is) rich claimable,
-        (refl, λ said same. let e : wanted ≡ said = some-injective wanted said same in record {
-          hit = λ _ i. with_claim (fresh (sym cap i) old (e i).type_id (e i).len) new v;
-          behind = λ _. end_below s.words s.views r id v at old (sym hit ∙ is);
-          miss = λ other. absurd (other hit);
-          later = omega arith;
-          position = record { aligned = omega arith; limit = omega arith };
-          sole = at_sole;
-        }),
+        (
+          refl,
+          λ said same. let e : wanted ≡ said = some-injective wanted said same in record {
+            hit = λ _ i. with_claim (fresh (sym cap i) old (e i).type_id (e i).len) new v;
+            behind = λ _. end_below s.words s.views r id v at old (sym hit ∙ is);
+            miss = λ other. absurd (other hit);
+            later = omega arith;
+            position = record { aligned = omega arith; limit = omega arith };
+            sole = at_sole;
+          },
+        ),
       ))
       (λ missed. (
         logged (tail_index C) n (with_producer (with_tail n v.producer) v),
         keeps,
         tt,
         sees C start s.words s.views r id (tail_index C) v at n v.producer.seen_head _ (omega arith) (omega arith) k.head_seen,
-        (refl, λ said same. record {
-          hit = λ hit. absurd (missed hit);
-          behind = λ hit. absurd (missed hit);
-          miss = λ _. ap (λ c. logged (tail_index c) n (with_producer (with_tail n v.producer) v)) (sym cap);
-          later = omega arith;
-          position = record { aligned = omega arith; limit = omega arith };
-          sole = at_sole;
-        }),
+        (
+          refl,
+          λ said same. record {
+            hit = λ hit. absurd (missed hit);
+            behind = λ hit. absurd (missed hit);
+            miss = λ _. ap (λ c. logged (tail_index c) n (with_producer (with_tail n v.producer) v)) (sym cap);
+            later = omega arith;
+            position = record { aligned = omega arith; limit = omega arith };
+            sole = at_sole;
+          },
+        ),
       ))
 
   -- a sole producer knows the tail, so it may store it
@@ -135,18 +141,20 @@ module _ (C start : ℕ) where
   moves_own_tail slots id me cap new type_id n all claimable s r wide at small =
       let v : View = me.0 in
       let old : ℕ = v.producer.seen_tail in
-      let old_is = sole_sees_top s.views id v (staged_end start (all_of r.hist)) r.seated.shares r.seated.latest at all in
-      (
+      let old_is = sole_sees_top s.views id v (staged_end start (all_of r.hist)) r.seated.shares r.seated.latest at all in (
         with_claim (fresh C old type_id n) new v,
         keeps,
         tt,
         appends s.words s.views r id v at type_id n old new old_is (omega arith) claimable,
-        (refl, record {
-          type_id = type_id;
-          len = n;
-          message = subst (λ c. IsMessage c (blank type_id n)) (sym cap) claimable.message;
-          new_tail = subst (λ c. new ≡ end_after c old (span n)) (sym cap) claimable.new_tail;
-          view = λ i. with_claim (fresh (sym cap i) old type_id n) new v;
-          behind = end_below s.words s.views r id v at old old_is;
-        }),
+        (
+          refl,
+          record {
+            type_id = type_id;
+            len = n;
+            message = subst (λ c. IsMessage c (blank type_id n)) (sym cap) claimable.message;
+            new_tail = subst (λ c. new ≡ end_after c old (span n)) (sym cap) claimable.new_tail;
+            view = λ i. with_claim (fresh (sym cap i) old type_id n) new v;
+            behind = end_below s.words s.views r id v at old old_is;
+          },
+        ),
       )

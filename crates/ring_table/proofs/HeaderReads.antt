@@ -136,19 +136,19 @@ leads C s e (c ∷ cs) got w cap e8 h r is lo hi =
     let e_low = mod_below e C (omega arith) in
     let e_mod = mod_aligned C e c8 e8 in
     let now_at_place = λ (at : s ≡ place).
-        at_header C s e c cs c.stage w most h.0.message (subst (λ k. k % C + a ≤ C) (sym (at ∙ place_is)) (next_within C e a (omega arith) (omega arith))) at refl
-        (sym is ∙ here c cs s (omega arith) ∙ staged_word-header c s at) lo hi in
+    at_header C s e c cs c.stage w most h.0.message (subst (λ k. k % C + a ≤ C) (sym (at ∙ place_is)) (next_within C e a (omega arith) (omega arith))) at refl
+    (sym is ∙ here c cs s (omega arith) ∙ staged_word-header c s at) lo hi in
     ⊎_elim (λ alt.
-      let at_e : s ≡ e = alt.0 in
-      subst (λ g. Leads C s e (c ∷ cs) g w) (sym alt.1)
-      (⊎_elim
-        (λ t. let stays : next_place C e a ≡ e = t.1 in now_at_place (omega arith))
-        (λ t.
-        let wraps : next_place C e a ≡ e + room C e = t.1 in
-        let same_mod : s % C ≡ e % C = ap (λ k. k % C) at_e in
-        at_padding C s e c cs w most (omega arith) (omega arith) (omega arith) (omega arith) (omega arith)
-        (sym is ∙ here c cs s (omega arith) ∙ staged_word-padding c s (omega arith) (omega arith)) lo hi)
-        (next_cases C e a)))
+    let at_e : s ≡ e = alt.0 in
+    subst (λ g. Leads C s e (c ∷ cs) g w) (sym alt.1)
+    (⊎_elim
+    (λ t. let stays : next_place C e a ≡ e = t.1 in now_at_place (omega arith))
+    (λ t.
+    let wraps : next_place C e a ≡ e + room C e = t.1 in
+    let same_mod : s % C ≡ e % C = ap (λ k. k % C) at_e in
+    at_padding C s e c cs w most (omega arith) (omega arith) (omega arith) (omega arith) (omega arith)
+    (sym is ∙ here c cs s (omega arith) ∙ staged_word-padding c s (omega arith) (omega arith)) lo hi)
+    (next_cases C e a)))
     (⊎_elim (λ alt. subst (λ g. Leads C s e (c ∷ cs) g w) (sym alt.2) (now_at_place alt.0))
     (λ alt.
     let later : List PlacedMessage = alt.1.0 in

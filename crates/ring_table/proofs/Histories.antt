@@ -115,8 +115,7 @@ module _ (id p : ℕ) (f : StagedClaim → StagedClaim) where
     pub placed_edited : (e : ℕ) (h : OwnedHistory) → MayReplaceAt C p f h → ArePlaced C e (all_of h) → ArePlaced C e (all_of (edited id p f h))
     placed_edited e [] may h = tt
     placed_edited e (x ∷ xs) may h =
-        let same = kept_by_edit x (may 0 x refl) in
-        (
+        let same = kept_by_edit x (may 0 x refl) in (
           record { from = same.from ∙ h.0.from; place = same.place ∙ h.0.place ∙ ap (next_place C e) (sym same.same_span); message = same.message h.0.message },
           subst (λ k. ArePlaced C k (all_of (edited id p f xs))) (sym (claim_end-edited x (may 0 x refl))) (placed_edited (claim_end x.1) xs (λ i. may (suc i)) h.1),
         )

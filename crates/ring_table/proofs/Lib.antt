@@ -11,3 +11,12 @@ pub mod Memories
 pub mod Loading
 pub mod Claiming
 pub mod Storing
+pub mod Consuming
+pub mod ServiceLemmas
+pub mod Serving
+pub mod RestLemmas
+pub mod Opening
+pub mod Seats
+pub mod Closing
+pub mod Calls
+pub mod HeaderCalls

@@ -69,20 +69,22 @@ module _ (C start : ℕ) where
       let head_below = bounds.1 in
       let limit = r.memory.limit in
       let least = r.lawful.capacity.least in
-      let aligned : top % 8 ≡ 0 = end_aligned C start (all_of r.hist) (omega arith) (capacity_aligned C r.lawful.capacity) (start_aligned C start r.lawful) r.memory.placed in
-      (
+      let aligned : top % 8 ≡ 0 = end_aligned C start (all_of r.hist) (omega arith) (capacity_aligned C r.lawful.capacity) (start_aligned C start r.lawful) r.memory.placed in (
         logged (tail_index C) n (with_producer (with_tail n v.producer) v),
         keeps,
         tt,
         sees s.words s.views r id (tail_index C) v at n v.producer.seen_head _ (omega arith) (omega arith) k.head_seen,
-        (refl, record {
-          view = ap (λ c. logged (tail_index c) n (with_producer (with_tail n v.producer) v)) (sym cap);
-          later = omega arith;
-          above_head = omega arith;
-          position = record { aligned = omega arith; limit = omega arith };
-          sole = λ all. is ∙ sym (sole_sees_top s.views id v top r.seated.shares r.seated.latest at all);
-          rising = subst AreRising (sym k.claims) (rising_owned_by C start id r.hist r.memory.placed);
-        }),
+        (
+          refl,
+          record {
+            view = ap (λ c. logged (tail_index c) n (with_producer (with_tail n v.producer) v)) (sym cap);
+            later = omega arith;
+            above_head = omega arith;
+            position = record { aligned = omega arith; limit = omega arith };
+            sole = λ all. is ∙ sym (sole_sees_top s.views id v top r.seated.shares r.seated.latest at all);
+            rising = subst AreRising (sym k.claims) (rising_owned_by C start id r.hist r.memory.placed);
+          },
+        ),
       )
 
   pub loads_head : (slots id : ℕ) (me : Mine) → me.0.capacity ≡ C → Allows Ok slots id me (head_index C) (λ n. n) (λ n me'. (me'.1 ≡ me.1) × LoadsHead me.0.capacity me.0 n me'.0)
@@ -99,19 +101,21 @@ module _ (C start : ℕ) where
       let head_below = bounds.1 in
       let aligned = bounds.2 in
       let limit = r.memory.limit in
-      let room = r.memory.room in
-      (
+      let room = r.memory.room in (
         logged (head_index C) n (with_producer (with_head n v.producer) v),
         keeps,
         tt,
         sees s.words s.views r id (head_index C) v at v.producer.seen_tail n _ (omega arith) k.tail_seen (omega arith),
-        (refl, record {
-          view = ap (λ c. logged (head_index c) n (with_producer (with_head n v.producer) v)) (sym cap);
-          later = omega arith;
-          near = omega arith;
-          position = record { aligned = omega arith; limit = omega arith };
-          sole = λ all. let e = sole_sees_top s.views id v top r.seated.shares r.seated.latest at all in omega arith;
-        }),
+        (
+          refl,
+          record {
+            view = ap (λ c. logged (head_index c) n (with_producer (with_head n v.producer) v)) (sym cap);
+            later = omega arith;
+            near = omega arith;
+            position = record { aligned = omega arith; limit = omega arith };
+            sole = λ all. let e = sole_sees_top s.views id v top r.seated.shares r.seated.latest at all in omega arith;
+          },
+        ),
       )
 
   -- where a claim of a view lies that is not settled
@@ -146,8 +150,7 @@ module _ (C start : ℕ) where
       let n : ℕ = slice_index s.words i in
       let k = r.seated.each id v at in
       let h : OwnedHistory = r.hist in
-      let m = r.memory in
-      (
+      let m = r.memory in (
         logged i n v,
         keeps,
         tt,
@@ -156,21 +159,21 @@ module _ (C start : ℕ) where
           refl,
           refl,
           (λ nth c o has is_open o8 lt same.
-            let st = stands s.words s.views r id v at nth c has (λ z. subst IsSettled is_open z) in
-            let padded = st.lies.padded in
-            let below = st.lies.below in
-            let behind = st.behind_scan in
-            let place8 = st.place_aligned in
-            let from = m.clears_from in
-            let to = m.clears_to in
-            let room = m.room in
-            let p : ℕ = c.place + 8 + o in
-            let len : ℕ = length c.message.body in
-            ap (λ z. get_or s.words z 0) (sym same ∙ ap (λ z. index z p) cap)
-            ∙ m.shows p (omega arith) (omega arith) (omega arith)
-            ∙ ap (λ b. cond b 0 (staged_word_at (all_of h) p)) (le-ltb p r.consumer.cleared (omega arith))
-            ∙ word_of_claim C start h st.nth (id, c) p m.placed st.there (omega arith) (omega arith)
-            ∙ staged_word-stored c p o (subst IsStored (sym is_open) tt) refl),
+              let st = stands s.words s.views r id v at nth c has (λ z. subst IsSettled is_open z) in
+              let padded = st.lies.padded in
+              let below = st.lies.below in
+              let behind = st.behind_scan in
+              let place8 = st.place_aligned in
+              let from = m.clears_from in
+              let to = m.clears_to in
+              let room = m.room in
+              let p : ℕ = c.place + 8 + o in
+              let len : ℕ = length c.message.body in
+              ap (λ z. get_or s.words z 0) (sym same ∙ ap (λ z. index z p) cap)
+              ∙ m.shows p (omega arith) (omega arith) (omega arith)
+              ∙ ap (λ b. cond b 0 (staged_word_at (all_of h) p)) (le-ltb p r.consumer.cleared (omega arith))
+              ∙ word_of_claim C start h st.nth (id, c) p m.placed st.there (omega arith) (omega arith)
+              ∙ staged_word-stored c p o (subst IsStored (sym is_open) tt) refl),
           subst AreRising (sym k.claims) (rising_owned_by C start id h m.placed),
         ),
       )

@@ -46,19 +46,19 @@ module _ (C start : ℕ) (law : IsLawful C start) where
     -- a word that is neither a record's nor the tail nor the head
     pub memory_elsewhere : (cs : List StagedClaim) → IsMemory C start words cs consumer → (i value : ℕ) → C / 8 ≤ i → i ≢ tail_index C → i ≢ head_index C → (beats : List ℕ) → IsMemory C start (set words i value) cs (record consumer { heartbeats = beats })
     memory_elsewhere cs m i value far not_tail not_head beats = record {
-        wide = length-set words i value ∙ m.wide;
-        placed = m.placed;
-        tail_is = get_or-set_other words i (tail_index C) value 0 (λ e. not_tail (sym e)) ∙ m.tail_is;
-        limit = m.limit;
-        room = m.room;
-        head_is = get_or-set_other words i (head_index C) value 0 (λ e. not_head (sym e)) ∙ m.head_is;
-        took = m.took;
-        passed = m.passed;
-        clears_from = m.clears_from;
-        clears_to = m.clears_to;
-        clears_words = m.clears_words;
-        shows = λ p p8 p0 p1. get_or-set_other words i (index C p) value 0 (λ e. not_inside p i far (sym e)) ∙ m.shows p p8 p0 p1;
-      }
+      wide = length-set words i value ∙ m.wide;
+      placed = m.placed;
+      tail_is = get_or-set_other words i (tail_index C) value 0 (λ e. not_tail (sym e)) ∙ m.tail_is;
+      limit = m.limit;
+      room = m.room;
+      head_is = get_or-set_other words i (head_index C) value 0 (λ e. not_head (sym e)) ∙ m.head_is;
+      took = m.took;
+      passed = m.passed;
+      clears_from = m.clears_from;
+      clears_to = m.clears_to;
+      clears_words = m.clears_words;
+      shows = λ p p8 p0 p1. get_or-set_other words i (index C p) value 0 (λ e. not_inside p i far (sym e)) ∙ m.shows p p8 p0 p1;
+    }
 
     -- a word that is neither the cache nor the correlation counter nor the heartbeat, while the head does not fall
     pub service_elsewhere : (n : ℕ) → IsService C words consumer n → (i value : ℕ) → i ≢ head_cache_index C → i ≢ correlation_index C → i ≢ heartbeat_index C → (consumer' : ConsumerView) → consumer.head ≤ consumer'.head → consumer'.heartbeats ≡ consumer.heartbeats → IsService C (set words i value) consumer' n

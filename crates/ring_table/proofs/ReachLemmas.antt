@@ -49,8 +49,8 @@ reach_edited C id p f s e (x ∷ xs) got may un r =
     let rest = reach_edited C id p f s (claim_end x.1) xs a.1.0 (λ i. may (suc i)) (λ i. un (suc i)) a.1.2 in
     let moved = subst (λ k. Reaches s k (all_of (edited id p f xs)) a.1.0) (sym (claim_end-edited id p f C x (may 0 x refl))) rest in
     inr (inr (edited_one_cases id p f (λ c. IsSettled c.stage × ((later : List PlacedMessage) × (got ≡ shown_at c.stage (placed_message c) ++ later) × Reaches s (claim_end (edited_one id p f x).1) (all_of (edited id p f xs)) later)) x
-      (λ _ at. absurd ((un 0 x refl at).0 a.0))
-      (a.0, (a.1.0, a.1.1, moved)))))) r
+    (λ _ at. absurd ((un 0 x refl at).0 a.0))
+    (a.0, (a.1.0, a.1.1, moved)))))) r
 
 -- a claim that is not settled lies behind what was passed
 pub not_passed : (C s e : ℕ) (h : OwnedHistory) (got : List PlacedMessage) (i : ℕ) (x : ℕ × StagedClaim) → ArePlaced C e (all_of h) → Reaches s e (all_of h) got → get_elem? h i ≡ some x → (IsSettled x.1.stage → ⊥)
@@ -113,27 +113,27 @@ shows_body C s e (c ∷ cs) got k m at pos c8 e8 h r g lt =
     let bounds = reach_bounds C s (claim_end c) cs a.1.0 h.1 a.1.2 in
     let above = bounds.0 in
     ⊎_elim
-      (λ (same : placed_message c ≡ m). subst (λ (z : PlacedMessage). at < length z.message.body → ShowsBody s e (c ∷ cs) z at) same
-      (λ l.
-      let q : ℕ = c.place + 8 + at in
-      let n : ℕ = length c.message.body in
-      record {
-        above = omega arith;
-        below = omega arith;
-        aligned = aligned.0;
-        word = ap (λ b. cond b (staged_word c q) (staged_word_at cs q)) (lt-ltb q (claim_end c) (omega arith)) ∙ staged_word-stored c q at (stored_of c.stage a.0) refl;
-      }) lt)
-      (λ (t : (k' : ℕ) × (get_elem? a.1.0 k' ≡ some m)).
-      let q : ℕ = m.place + 8 + at in
-      let v = shows_body C s (claim_end c) cs a.1.0 t.0 m at pos c8 aligned.1 h.1 a.1.2 t.1 lt in
-      let v_above = v.above in
-      record {
-        above = omega arith;
-        below = v.below;
-        aligned = v.aligned;
-        word = ap (λ b. cond b (staged_word c q) (staged_word_at cs q)) (le-ltb q (claim_end c) (omega arith)) ∙ v.word;
-      })
-      (shown_cases c.stage (placed_message c) m got a.1.0 k a.1.1 g))) r
+    (λ (same : placed_message c ≡ m). subst (λ (z : PlacedMessage). at < length z.message.body → ShowsBody s e (c ∷ cs) z at) same
+    (λ l.
+    let q : ℕ = c.place + 8 + at in
+    let n : ℕ = length c.message.body in
+    record {
+      above = omega arith;
+      below = omega arith;
+      aligned = aligned.0;
+      word = ap (λ b. cond b (staged_word c q) (staged_word_at cs q)) (lt-ltb q (claim_end c) (omega arith)) ∙ staged_word-stored c q at (stored_of c.stage a.0) refl;
+    }) lt)
+    (λ (t : (k' : ℕ) × (get_elem? a.1.0 k' ≡ some m)).
+    let q : ℕ = m.place + 8 + at in
+    let v = shows_body C s (claim_end c) cs a.1.0 t.0 m at pos c8 aligned.1 h.1 a.1.2 t.1 lt in
+    let v_above = v.above in
+    record {
+      above = omega arith;
+      below = v.below;
+      aligned = v.aligned;
+      word = ap (λ b. cond b (staged_word c q) (staged_word_at cs q)) (le-ltb q (claim_end c) (omega arith)) ∙ v.word;
+    })
+    (shown_cases c.stage (placed_message c) m got a.1.0 k a.1.1 g))) r
 
 -- ---- back before the last message
 

@@ -54,13 +54,13 @@ module _ (top : ℕ) (hist : OwnedHistory) (reader : ℕ) (consumer : ConsumerVi
   pub knows_seeing : (id : ℕ) (v : View) → Knows top hist reader consumer n id v → (tail head : ℕ) (log : List (ℕ × ℕ)) → tail ≤ top → head ≤ consumer.head
       → Knows top hist reader consumer n id (record v { producer = record v.producer { seen_tail = tail; seen_head = head }; log = log })
   knows_seeing id v k tail head log t h = record {
-      claims = k.claims;
-      tail_seen = t;
-      head_seen = h;
-      idle = λ none. record { claims = (k.idle none).claims; draws = (k.idle none).draws };
-      served = k.served;
-      consumes = k.consumes;
-    }
+    claims = k.claims;
+    tail_seen = t;
+    head_seen = h;
+    idle = λ none. record { claims = (k.idle none).claims; draws = (k.idle none).draws };
+    served = k.served;
+    consumes = k.consumes;
+  }
 
   -- one seat steps, and the history, the consumer and the draws go on
   pub reseated : (views : List View) → IsSeated top hist reader consumer n views → (id : ℕ) (v : View) → get_elem? views id ≡ some v
@@ -73,30 +73,30 @@ module _ (top : ℕ) (hist : OwnedHistory) (reader : ℕ) (consumer : ConsumerVi
       → ((x : ℕ) → times_drawn x w.producer + once_below x n ≡ times_drawn x v.producer + once_below x n')
       → IsSeated top' hist' reader consumer' n' (set views id w)
   reseated views s id v at top' hist' consumer' n' w own others rich outside latest drawn = record {
-      each = each_after_set (Knows top hist reader consumer n) (Knows top' hist' reader consumer' n') views id w own others s.each;
-      nobody = λ j past.
-          let past' : length views ≤ j = subst (λ m. m ≤ j) (length-set views id w) past in
-          let here = at_below views id v at in
-          outside j (λ e. omega arith) ∙ s.nobody j past';
-      shares =
-          (let before : ℕ = total shares_of views in
-          let after : ℕ = total shares_of (set views id w) in
-          let exchange : after + v.producer.shares ≡ before + w.producer.shares = total-set shares_of views id v w at in
-          let sum : before ≡ 65536 = s.shares in
-          let done : after ≡ 65536 = omega arith in
-          done);
-      latest = latest;
-      once = λ x.
-          let f = λ (z : View). times_drawn x z.producer in
-          let before : ℕ = total f views in
-          let after : ℕ = total f (set views id w) in
-          let old : ℕ = times_drawn x v.producer in
-          let new : ℕ = times_drawn x w.producer in
-          let was : ℕ = once_below x n in
-          let is : ℕ = once_below x n' in
-          let exchange : after + old ≡ before + new = total-set f views id v w at in
-          let sum : before ≡ was = s.once x in
-          let step : new + was ≡ old + is = drawn x in
-          let done : after ≡ is = omega arith in
-          done;
-    }
+    each = each_after_set (Knows top hist reader consumer n) (Knows top' hist' reader consumer' n') views id w own others s.each;
+    nobody = λ j past.
+        let past' : length views ≤ j = subst (λ m. m ≤ j) (length-set views id w) past in
+        let here = at_below views id v at in
+        outside j (λ e. omega arith) ∙ s.nobody j past';
+    shares =
+        (let before : ℕ = total shares_of views in
+        let after : ℕ = total shares_of (set views id w) in
+        let exchange : after + v.producer.shares ≡ before + w.producer.shares = total-set shares_of views id v w at in
+        let sum : before ≡ 65536 = s.shares in
+        let done : after ≡ 65536 = omega arith in
+        done);
+    latest = latest;
+    once = λ x.
+        let f = λ (z : View). times_drawn x z.producer in
+        let before : ℕ = total f views in
+        let after : ℕ = total f (set views id w) in
+        let old : ℕ = times_drawn x v.producer in
+        let new : ℕ = times_drawn x w.producer in
+        let was : ℕ = once_below x n in
+        let is : ℕ = once_below x n' in
+        let exchange : after + old ≡ before + new = total-set f views id v w at in
+        let sum : before ≡ was = s.once x in
+        let step : new + was ≡ old + is = drawn x in
+        let done : after ≡ is = omega arith in
+        done;
+  }

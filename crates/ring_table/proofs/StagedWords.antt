@@ -38,6 +38,10 @@ staged_word-body c p at e =
     cond-false _ _ _ (le-ltb p c.place (omega arith))
     ∙ ap (masked_record c.stage) (cond-false _ _ _ (ne_eqb offset 0 some) ∙ ap (λ k. from_le_bytes w64 (drop k c.message.body)) there)
 
+pub staged_word-record : (c : StagedClaim) (p : ℕ) → c.place ≤ p → staged_word c p ≡ masked_record c.stage (claim_word (claim_of c) (p - c.place))
+unfolding staged_word
+staged_word-record c p le = cond-false _ _ _ (le-ltb p c.place le)
+
 -- the same once the header is stored
 pub staged_word-stored : (c : StagedClaim) (p at : ℕ) → IsStored c.stage → p ≡ c.place + 8 + at → staged_word c p ≡ body_word c.message.body at
 staged_word-stored c p at stored e = staged_word-body c p at e ∙ unmasked c.stage (body_word c.message.body at) stored
@@ -78,19 +82,19 @@ same_padding c d p from place lt same = dite (ℕ_discrete p c.from)
 pub staged_word-staged : (c : StagedClaim) (t : Stage) (p : ℕ) → p % 8 ≡ 0 → c.place % 8 ≡ 0 → p ≢ c.place → ((word : ℕ) → masked_record t word ≡ masked_record c.stage word)
     → (p ≡ c.from → masked_padding t (padding_header (c.place - c.from)) ≡ masked_padding c.stage (padding_header (c.place - c.from))) → staged_word (staged t c) p ≡ staged_word c p
 staged_word-staged c t p p8 place8 ne masks pads = elim (cases_lt p c.place) as (λ _. staged_word (staged t c) p ≡ staged_word c p) [
-    | inl in_padding ↦ same_padding c (staged t c) p refl refl in_padding pads
-    | inr in_record ↦ staged_word-body (staged t c) p (p - c.place - 8) (omega arith) ∙ masks (body_word c.message.body (p - c.place - 8)) ∙ sym (staged_word-body c p (p - c.place - 8) (omega arith))
-  ]
+  | inl in_padding ↦ same_padding c (staged t c) p refl refl in_padding pads
+  | inr in_record ↦ staged_word-body (staged t c) p (p - c.place - 8) (omega arith) ∙ masks (body_word c.message.body (p - c.place - 8)) ∙ sym (staged_word-body c p (p - c.place - 8) (omega arith))
+]
 
 -- a claim whose header is stored at last shows zeros in its body, and elsewhere the same
 pub staged_word-opened : (c : StagedClaim) (type_id : ℤ) (n p : ℕ) → p % 8 ≡ 0 → c.place % 8 ≡ 0 → p ≢ c.place → c.stage ≡ Padded → staged_word (opened type_id n c) p ≡ staged_word c p
 staged_word-opened c type_id n p p8 place8 ne is = elim (cases_lt p c.place) as (λ _. staged_word (opened type_id n c) p ≡ staged_word c p) [
-    | inl in_padding ↦ same_padding c (opened type_id n c) p refl refl in_padding (λ _. ap (λ t. masked_padding t (padding_header (c.place - c.from))) (sym is))
-    | inr in_record ↦
-        let at : ℕ = p - c.place - 8 in
-        staged_word-body (opened type_id n c) p at (omega arith) ∙ body_word-zeros n at
-        ∙ sym (staged_word-body c p at (omega arith) ∙ ap (λ t. masked_record t (body_word c.message.body at)) is)
-  ]
+  | inl in_padding ↦ same_padding c (opened type_id n c) p refl refl in_padding (λ _. ap (λ t. masked_padding t (padding_header (c.place - c.from))) (sym is))
+  | inr in_record ↦
+      let at : ℕ = p - c.place - 8 in
+      staged_word-body (opened type_id n c) p at (omega arith) ∙ body_word-zeros n at
+      ∙ sym (staged_word-body c p at (omega arith) ∙ ap (λ t. masked_record t (body_word c.message.body at)) is)
+]
 
 -- the header depends on the body's length alone
 header_by : ClaimState → ℤ → ℕ → ℕ
@@ -119,9 +123,9 @@ staged_word-written c at word p le place8 a8 p8 ne =
       | inr in_record ↦ dite (ℕ_discrete p c.place)
           (λ same. staged_word-header d p same ∙ ap (masked_record c.stage) (header_of-written c at word le) ∙ sym (staged_word-header c p same))
           (λ other.
-            let o : ℕ = p - c.place - 8 in
-            let there : p ≡ c.place + 8 + o = omega arith in
-            staged_word-body d p o there
-            ∙ ap (masked_record c.stage) (body_word-with_word_other c.message.body at o word le a8 (omega arith) (λ same. ne (omega arith)))
-            ∙ sym (staged_word-body c p o there))
+          let o : ℕ = p - c.place - 8 in
+          let there : p ≡ c.place + 8 + o = omega arith in
+          staged_word-body d p o there
+          ∙ ap (masked_record c.stage) (body_word-with_word_other c.message.body at o word le a8 (omega arith) (λ same. ne (omega arith)))
+          ∙ sym (staged_word-body c p o there))
     ]

@@ -76,10 +76,10 @@ module _ (C start : ℕ) where
       let placed' = placed_edited id p f C start h may_all m.placed in
       let is_here = edited_one_here id p f c refl in
       let word_now : staged_word_at (all_of h') q ≡ value =
-          word_of_claim C start h' st.nth (edited_one id p f (id, c)) q placed' (get-edited id p f h st.nth (id, c) st.there)
-            (subst (λ (z : StagedClaim). z.from ≤ q) (sym is_here) (let same = may.from in omega arith))
-            (subst (λ (z : StagedClaim). q < claim_end z) (sym is_here) (let place = may.place in let long = may.same_span in omega arith))
-          ∙ ap (λ (z : StagedClaim). staged_word z q) is_here ∙ word in
+      word_of_claim C start h' st.nth (edited_one id p f (id, c)) q placed' (get-edited id p f h st.nth (id, c) st.there)
+      (subst (λ (z : StagedClaim). z.from ≤ q) (sym is_here) (let same = may.from in omega arith))
+      (subst (λ (z : StagedClaim). q < claim_end z) (sym is_here) (let place = may.place in let long = may.same_span in omega arith))
+      ∙ ap (λ (z : StagedClaim). staged_word z q) is_here ∙ word in
       let inside = index_inside C start r.lawful q in
       record {
         lawful = r.lawful;
@@ -146,8 +146,7 @@ module _ (C start : ℕ) where
       let un_c : IsSettled c.stage → ⊥ = λ z. un (subst IsSettled is z) in
       let st = stands C start s.words s.views r id v at k c has un_c in
       let padded = st.lies.padded in
-      let place8 = st.place_aligned in
-      (
+      let place8 = st.place_aligned in (
         with_claims (changed c.place f v.producer.claims) v,
         keeps,
         tt,
@@ -155,10 +154,10 @@ module _ (C start : ℕ) where
         (
           refl,
           (λ k' c' has' is' same.
-            let un_c' : IsSettled c'.stage → ⊥ = λ z. un (subst IsSettled is' z) in
-            let st' = stands C start s.words s.views r id v at k' c' has' un_c' in
-            let padded' = st'.lies.padded in
-            ap (λ p. with_claims (changed p f v.producer.claims) v) (sym (same_place s.words s.views r id v cap at k k' c c' has has' un_c un_c' c.place c'.place place8 st'.place_aligned padded (omega arith) (inl (omega arith)) padded' (omega arith) (inl (omega arith)) same).0)),
+              let un_c' : IsSettled c'.stage → ⊥ = λ z. un (subst IsSettled is' z) in
+              let st' = stands C start s.words s.views r id v at k' c' has' un_c' in
+              let padded' = st'.lies.padded in
+              ap (λ p. with_claims (changed p f v.producer.claims) v) (sym (same_place s.words s.views r id v cap at k k' c c' has has' un_c un_c' c.place c'.place place8 st'.place_aligned padded (omega arith) (inl (omega arith)) padded' (omega arith) (inl (omega arith)) same).0)),
           rising s.words s.views r id v at,
         ),
       )
@@ -180,8 +179,7 @@ module _ (C start : ℕ) where
       let v : View = me.0 in
       let un : IsSettled c.stage → ⊥ = λ z. subst IsSettled is z in
       let st = stands C start s.words s.views r id v at k c has un in
-      let place8 = st.place_aligned in
-      (
+      let place8 = st.place_aligned in (
         with_claims (changed c.place (staged Padded) v.producer.claims) v,
         keeps,
         tt,
@@ -193,29 +191,39 @@ module _ (C start : ℕ) where
         (
           refl,
           (λ k' c' has' is' same.
-            let un' : IsSettled c'.stage → ⊥ = λ z. subst IsSettled is' z in
-            let st' = stands C start s.words s.views r id v at k' c' has' un' in
-            let padded' = st'.lies.padded in
-            ap (λ p. with_claims (changed p (staged Padded) v.producer.claims) v) (sym (same_place s.words s.views r id v cap at k k' c c' has has' un un' c.from c'.from st.from_aligned st'.from_aligned (omega arith) (omega arith) (inr is) (omega arith) (omega arith) (inr is') same).0)),
+              let un' : IsSettled c'.stage → ⊥ = λ z. subst IsSettled is' z in
+              let st' = stands C start s.words s.views r id v at k' c' has' un' in
+              let padded' = st'.lies.padded in
+              ap (λ p. with_claims (changed p (staged Padded) v.producer.claims) v) (sym (same_place s.words s.views r id v cap at k k' c c' has has' un un' c.from c'.from st.from_aligned st'.from_aligned (omega arith) (omega arith) (inr is) (omega arith) (omega arith) (inr is') same).0)),
           rising s.words s.views r id v at,
         ),
       )
 
   -- the claimed header fixes type id and length
-  pub opens : (slots id : ℕ) (me : Mine) → me.0.capacity ≡ C → (k : ℕ) (c : StagedClaim) (type_id : ℤ) (n : ℕ) → C ≤ 2 ^ 24 → HasClaim me.0 k c → c.stage ≡ Padded → span n ≡ staged_span c → IsMessage C (blank type_id n)
-      → Allows (Ok C start) slots id me (index C c.place) (λ _. open_header type_id n) (λ _ me'. (me'.1 ≡ me.1) × StoresClaimed (index C c.place) (open_header type_id n) me.0 me'.0 × AreRising me.0.producer.claims)
-  opens slots id me cap k c type_id n big has is long lawful s r wide at small =
+  pub opens : (slots id : ℕ) (me : Mine) → me.0.capacity ≡ C → (k : ℕ) (c : StagedClaim) (type_id : ℤ) (n value : ℕ) → value ≡ open_header type_id n → C ≤ 2 ^ 24 → HasClaim me.0 k c → c.stage ≡ Padded → span n ≡ staged_span c → IsMessage C (blank type_id n)
+      → Allows (Ok C start) slots id me (index C c.place) (λ _. value) (λ _ me'. (me'.1 ≡ me.1) × StoresClaimed (index C c.place) value me.0 me'.0 × AreRising me.0.producer.claims)
+  opens slots id me cap k c type_id n value value_is big has is long lawful s r wide at small =
       let zeros : length (blank type_id n).body ≡ n = length-replicate n 0 in
       let short : n ≤ C / 8 = omega (arith, lawful.short) in
-      let t = header_step Padded (λ z. z) (opened type_id n) slots id me cap k c (open_header type_id n) has is
-          (record { from = refl; place = refl; same_span = ap span zeros ∙ long; message = λ _. lawful })
-          (λ e. cc)
-          (staged_word-header (opened type_id n c) c.place refl ∙ ap (open_header type_id) zeros)
-          (λ p p8 place8 ne. staged_word-opened c type_id n p p8 place8 ne is) s r wide at small in
-      (t.0, t.1, t.2, t.3, (t.4.0, (λ type_id' n' fits' small' same.
-        let types = one_type type_id n type_id' n' lawful.type_fits (omega arith) fits' small' same in
-        let lengths = one_length type_id n type_id' n' (omega arith) small' same in
-        subst (λ (z : ℤ × ℕ). Changes Padded (λ d. d.place) (opened z.0 z.1) (index C c.place) me.0 t.0) (λ i. (types i, lengths i)) t.4.1), t.4.2))
+      let t = header_step Padded (λ z. z) (opened type_id n) slots id me cap k c value has is
+      (record { from = refl; place = refl; same_span = ap span zeros ∙ long; message = λ _. lawful })
+      (λ e. cc)
+      (staged_word-header (opened type_id n c) c.place refl ∙ ap (open_header type_id) zeros ∙ sym value_is)
+      (λ p p8 place8 ne. staged_word-opened c type_id n p p8 place8 ne is) s r wide at small in (
+        t.0,
+        t.1,
+        t.2,
+        t.3,
+        (
+          t.4.0,
+          (λ type_id' n' fits' small' same.
+              let same' = sym value_is ∙ same in
+              let types = one_type type_id n type_id' n' lawful.type_fits (omega arith) fits' small' same' in
+              let lengths = one_length type_id n type_id' n' (omega arith) small' same' in
+              subst (λ (z : ℤ × ℕ). Changes Padded (λ d. d.place) (opened z.0 z.1) (index C c.place) me.0 t.0) (λ i. (types i, lengths i)) t.4.1),
+          t.4.2,
+        ),
+      )
 
   pub puts : (slots id : ℕ) (me : Mine) → me.0.capacity ≡ C → (k : ℕ) (c : StagedClaim) (o value : ℕ) → HasClaim me.0 k c → TakesWord o value c → value < 2 ^ 64
       → Allows (Ok C start) slots id me (index C (c.place + 8 + o)) (λ _. value) (λ _ me'. (me'.1 ≡ me.1) × StoresBody (index C (c.place + 8 + o)) value me.0 me'.0 × AreRising me.0.producer.claims)
@@ -229,8 +237,7 @@ module _ (C start : ℕ) where
       let n : ℕ = length c.message.body in
       let o8 = takes.aligned in
       let lt : o < n = takes.inside in
-      let long = length-with_word o value c.message.body (omega arith) in
-      (
+      let long = length-with_word o value c.message.body (omega arith) in (
         with_claims (changed c.place (written o value) v.producer.claims) v,
         keeps,
         tt,
@@ -247,17 +254,17 @@ module _ (C start : ℕ) where
         (
           refl,
           (λ k' c' o' has' is' o8' lt' same.
-            let un' : IsSettled c'.stage → ⊥ = λ z. subst IsSettled is' z in
-            let st' = stands C start s.words s.views r id v at k' c' has' un' in
-            let padded' = st'.lies.padded in
-            let place8' = st'.place_aligned in
-            let n' : ℕ = length c'.message.body in
-            let q' : ℕ = c'.place + 8 + o' in
-            let one = same_place s.words s.views r id v cap at k k' c c' has has' un un' q q' (omega arith) (omega arith) (omega arith) (omega arith) (inl (omega arith)) (omega arith) (omega arith) (inl (omega arith)) same in
-            let places : c'.place ≡ c.place = one.0 in
-            let positions : q' ≡ q = one.1 in
-            let offsets : o ≡ o' = omega arith in
-            λ i. with_claims (changed (sym places i) (written (offsets i) value) v.producer.claims) v),
+              let un' : IsSettled c'.stage → ⊥ = λ z. subst IsSettled is' z in
+              let st' = stands C start s.words s.views r id v at k' c' has' un' in
+              let padded' = st'.lies.padded in
+              let place8' = st'.place_aligned in
+              let n' : ℕ = length c'.message.body in
+              let q' : ℕ = c'.place + 8 + o' in
+              let one = same_place s.words s.views r id v cap at k k' c c' has has' un un' q q' (omega arith) (omega arith) (omega arith) (omega arith) (inl (omega arith)) (omega arith) (omega arith) (inl (omega arith)) same in
+              let places : c'.place ≡ c.place = one.0 in
+              let positions : q' ≡ q = one.1 in
+              let offsets : o ≡ o' = omega arith in
+              λ i. with_claims (changed (sym places i) (written (offsets i) value) v.producer.claims) v),
           rising s.words s.views r id v at,
         ),
       )

@@ -6,6 +6,7 @@ pub mod Services
 pub mod Views
 pub mod Rule
 pub mod Seats
+pub mod Closed
 pub mod ProducerSteps
 pub mod ConsumerSteps
 pub mod ServiceSteps

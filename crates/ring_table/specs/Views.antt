@@ -97,13 +97,13 @@ producer_alone v = record { capacity = v.capacity; log = []; producer = new_prod
 -- what one producer has that took another in
 abbrev pub both_producers : ProducerView → ProducerView → ProducerView
 both_producers p q = record {
-    shares = p.shares + q.shares;
-    claims = interleaved p.claims q.claims;
-    seen_tail = max p.seen_tail q.seen_tail;
-    seen_head = max p.seen_head q.seen_head;
-    service = p.service;
-    joined = p.joined ++ q.service ∷ q.joined;
-  }
+  shares = p.shares + q.shares;
+  claims = interleaved p.claims q.claims;
+  seen_tail = max p.seen_tail q.seen_tail;
+  seen_head = max p.seen_head q.seen_head;
+  service = p.service;
+  joined = p.joined ++ q.service ∷ q.joined;
+}
 
 abbrev pub with_producer_of : View → View → View
 with_producer_of v w = with_producer (both_producers v.producer w.producer) v
