@@ -24,6 +24,7 @@ closes C start words views r id v at all consumes =
     (λ (t : (u : View) × (get_elem? views j ≡ some u)). sym (r.seated.each j t.0 t.1).claims ∙ (idle j t.0 ne t.1).claims)
     (λ (past : length views ≤ j). r.seated.nobody j past) (there_or_past views j)) in
     record {
+      lawful = r.lawful;
       drawn = r.drawn;
       memory = subst (λ (z : List StagedClaim × ConsumerView). IsMemory C start words z.0 z.1) (λ i. (sym whole i, sym mine i)) r.memory;
       service = subst (λ (z : ConsumerView). IsService C words z r.drawn) (sym mine) r.service;
@@ -32,11 +33,11 @@ closes C start words views r id v at all consumes =
       sees_tail = sole_sees_top views id v (staged_end start (all_of r.hist)) r.seated.shares r.seated.latest at all ∙ ap (staged_end start) (sym whole);
     }
 
-pub leaves_rest : (C start : ℕ) (words : List ℕ) (v : View) → 128 ≤ C → IsClosed C start words v → AreStored v.producer.claims → v.consumer.cleared ≡ v.consumer.head → LeavesRest C words v
-leaves_rest C start words v big closed stored none_cleared =
+pub leaves_rest : (C start : ℕ) (words : List ℕ) (v : View) → IsClosed C start words v → AreStored v.producer.claims → v.consumer.cleared ≡ v.consumer.head → LeavesRest C words v
+leaves_rest C start words v closed stored none_cleared =
     let m = closed.memory in
     let head : ℕ = v.consumer.head in
-    let t = splits C head start v.producer.claims v.consumer.taken big m.placed m.took in
+    let t = splits C head start v.producer.claims v.consumer.taken closed.lawful.capacity.least m.placed m.took in
     let left : List StagedClaim = restarted head t.rest in
     let left_stored : AreStored left = stored_rest head t.taken t.rest (subst AreStored t.whole stored) in
     let same = claims_of-restarted head t.rest in

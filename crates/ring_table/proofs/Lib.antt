@@ -20,3 +20,4 @@ pub mod Seats
 pub mod Closing
 pub mod Calls
 pub mod HeaderCalls
+pub mod LawLemmas

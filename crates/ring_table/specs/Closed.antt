@@ -7,7 +7,7 @@ use Rattle.ring_table.specs.Staged.{StagedClaim, claims_of, ArePlaced, staged_en
 use Rattle.ring_table.specs.Passing.{AreSettled, placed_committed_of}
 use Rattle.ring_table.specs.Services.{times_drawn, once_below, AreServed}
 use Rattle.ring_table.specs.Views.{View}
-use Rattle.ring_table.specs.Rule.{IsMemory, IsService}
+use Rattle.ring_table.specs.Rule.{IsLawful, IsMemory, IsService}
 
 pub record IsFresh (C start : ℕ) (words : List ℕ) : Type 0 where
   pub wide : length words ≡ ring_words C
@@ -20,6 +20,7 @@ pub record IsFresh (C start : ℕ) (words : List ℕ) : Type 0 where
 
 -- The words of a ring whose producers and consumer were joined into one seat, and that seat's view. It has all claims and all draws
 pub record IsClosed (C start : ℕ) (words : List ℕ) (v : View) : Type 0 where
+  pub lawful : IsLawful C start
   pub drawn : ℕ
   pub memory : IsMemory C start words v.producer.claims v.consumer
   pub service : IsService C words v.consumer drawn

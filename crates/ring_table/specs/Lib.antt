@@ -7,6 +7,7 @@ pub mod Views
 pub mod Rule
 pub mod Seats
 pub mod Closed
+pub mod OpenClaims
 pub mod ProducerSteps
 pub mod ConsumerSteps
 pub mod ServiceSteps

@@ -2,6 +2,7 @@
 #![tactic(auto)]
 
 mod claim;
+mod laws;
 mod plays;
 mod rule;
 mod steps;
@@ -9,6 +10,10 @@ mod table;
 mod view;
 
 pub use claim::{PlacedMessage, Stage, StagedClaim};
+pub use laws::{
+    last_claim_stands_last, newest_claim_changes_alone, open_claims_are_counted,
+    stored_claims_show_one_picture,
+};
 pub use rule::RingRule;
 pub use steps::consumer::{
     clear_word, load_body_word, load_first_header, load_next_header, store_head, store_head_before,

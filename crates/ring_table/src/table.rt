@@ -5,7 +5,8 @@ ghost use Rattle.ring_layout.specs.Layout.{ring_words};
 ghost use Rattle.ring_layout.specs.Places.{max_position};
 ghost use Rattle.ring_table.specs.Rule.{IsLawful};
 ghost use Rattle.ring_table.specs.Views.{first_view};
-ghost use Rattle.ring_table.specs.Closed.{IsClosed, IsFresh};
+ghost use Rattle.ring_table.specs.Closed.{IsClosed, IsFresh, LeavesRest};
+ghost use Rattle.ring_table.specs.OpenClaims.{open_count};
 
 use crate::rule::RingRule;
 use crate::steps::RingSeat;
@@ -55,6 +56,9 @@ pub fn close(table: RingTable, seat: RingSeat) -> Closed<Wanted, Global>
     ensures slot_count { slots_len result.slots ≡ table.shared.table_id.slots }
     ensures full { IsFull result.words }
     ensures closed { IsClosed table.shared.key.capacity table.shared.key.start (slots_items result.words) seat.me.0 }
+
+    // Where no claim is open and no read is running, the words are the picture of what the reader left.
+    ensures rest { open_count seat.me.0.producer.claims ≡ 0 → seat.me.0.consumer.cleared ≡ seat.me.0.consumer.head → LeavesRest table.shared.key.capacity (slots_items result.words) seat.me.0 }
 {
     table.close_with(seat)
 }
