@@ -158,6 +158,7 @@ module _ (C start : ℕ) where
       let t : (low ≡ len) × (high ≡ cast_unsigned w32 type_id) = (ap (λ k. k % 2 ^ 32) e ∙ low_half (pos len) type_id (fits_pos len small), ap (λ k. k / 2 ^ 32) e ∙ high_half (pos len) type_id (fits_pos len small)) in t in
       let no_length = λ (none : ¬ ((0 < low) × (low < 2 ^ 31))).
       let told : Told (now q got) = record {
+        capacity = refl;
         padding = λ len some small e. let t = halves len padding_type small e in let len_is = t.0 in absurd (none (omega arith, omega arith));
         message = λ len type_id some small fits other e. let t = halves len type_id small e in let len_is = t.0 in absurd (none (omega arith, omega arith));
         unpublished = λ len type_id _ _ _ _. ap (λ c. with_scan (index c q) n q got v) (sym cap);
@@ -176,6 +177,7 @@ module _ (C start : ℕ) where
       let bounds = reach_bounds C far start (all_of h) got m.placed on in
       let below = bounds.1 in
       let told : Told (now far got) = record {
+        capacity = refl;
         padding = λ len some small e.
             let halves_are = halves len padding_type small e in
             record {
@@ -192,6 +194,7 @@ module _ (C start : ℕ) where
       let bounds = reach_bounds C far start (all_of h) all m.placed found.reaches in
       let below = bounds.1 in
       let told : Told (now far all) = record {
+        capacity = refl;
         padding = λ len some small e. let halves_are = halves len padding_type small e in absurd (other halves_are.1);
         message = λ len type_id some small fits not_pad e.
             let halves_are = halves len type_id small e in

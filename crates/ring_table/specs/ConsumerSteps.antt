@@ -38,6 +38,7 @@ pub record FindsMessage (C scan : ℕ) (got : List PlacedMessage) (v : View) (n 
 
 -- what a header at the position `scan` tells a read that has come there and got these messages
 pub record LoadsHeader (C scan : ℕ) (got : List PlacedMessage) (v : View) (n : ℕ) (w : View) : Type 0 where
+  pub capacity : w.capacity ≡ v.capacity
   pub padding : (len : ℕ) → 0 < len → len < 2 ^ 31 → n ≡ header (pos len) padding_type → PassesPadding C scan got v n len w
   pub message : (len : ℕ) (type_id : ℤ) → 0 < len → len < 2 ^ 31 → FitsSigned w32 type_id → type_id ≢ padding_type → n ≡ header (pos len) type_id → FindsMessage C scan got v n len type_id w
   pub unpublished : (len type_id : ℤ) → FitsSigned w32 len → FitsSigned w32 type_id → len ≤ℤ pos 0 → n ≡ header len type_id → w ≡ with_scan (index C scan) n scan got v

@@ -14,8 +14,9 @@ pub record IsSeatOf (id : TableId) (key : Key) (capacity : ℕ) (s : Seat Wanted
   pub view_is : s.me.0.capacity ≡ capacity
   pub lawful : IsCapacity capacity
 
--- the same seat, with the same slots
+-- the same seat, with the same slots, of a ring of the same capacity
 pub record IsSameSeat (old new : Seat Wanted View) : Type 0 where
   pub table : new.table_id ≡ old.table_id
   pub id : new.id ≡ old.id
   pub slots : new.me.1 ≡ old.me.1
+  pub capacity : new.me.0.capacity ≡ old.me.0.capacity

@@ -24,3 +24,6 @@ pub returns-clause-told : goal.returns-clause-told
 returns-clause-told c =
     let me : Mine = c.args.consumer.now.me in
     subst (λ (z : ℕ × ℕ). LoadsHeader z.0 z.1 me.0.consumer.got me.0 c.load.result c.load.new.seat.me.0) (λ i. (c.requires.seat.view_is i, c.requires.scan i)) c.load.ensures.2.1
+
+pub returns-clause-seat : goal.returns-clause-seat
+returns-clause-seat c = record { table = c.load.ensures.0; id = c.load.ensures.1; slots = c.load.ensures.2.0; capacity = c.load.ensures.2.1.capacity }

@@ -1,3 +1,5 @@
+use Rattle.std.proofs.Common.{ap}
+use Rattle.ring_table.specs.Views.{View}
 use Rattle.std.proofs.Common.{◌≡◌, ◌+◌, ◌%◌, ◌^◌, arith, subst}
 use Rattle.ring_table.specs.ProducerSteps.{LoadsHead}
 use Rattle.ring_table.specs.ProducerSteps.{Mine}
@@ -14,3 +16,6 @@ load-requires c =
       at_index c.args.ring.now.key c.args.capacity _ _ _ s.key_is _ _ c.trailer_word.ensures (λ n. n) (λ n me'. (me'.1 ≡ me.1) × LoadsHead me.0.capacity me.0 n me'.0)
           (loads_head c.args.capacity c.args.ring.now.key.start _ _ me s.view_is),
     )
+
+pub returns-clause-seat : goal.returns-clause-seat
+returns-clause-seat c = record { table = c.load.ensures.0; id = c.load.ensures.1; slots = c.load.ensures.2.0; capacity = ap (λ (v : View). v.capacity) (c.load.ensures.2.1.view) }

@@ -1,3 +1,5 @@
+use Rattle.std.proofs.Common.{ap}
+use Rattle.ring_table.specs.Views.{View}
 use Rattle.std.proofs.Common.{◌≡◌, ℕ, subst}
 use Rattle.ring_table.specs.Staged.{AreRising}
 use Rattle.ring_table.specs.Views.{logged}
@@ -18,3 +20,6 @@ load-requires c =
 
 pub returns-clause-told : goal.returns-clause-told
 returns-clause-told c = subst (λ i. LoadsOwn i c.args.producer.now.me.0 c.load.result) c.word_at.ensures c.load.ensures.2.2
+
+pub returns-clause-seat : goal.returns-clause-seat
+returns-clause-seat c = record { table = c.load.ensures.0; id = c.load.ensures.1; slots = c.load.ensures.2.0; capacity = ap (λ (v : View). v.capacity) (c.load.ensures.2.1) }

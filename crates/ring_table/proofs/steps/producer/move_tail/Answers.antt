@@ -1,7 +1,9 @@
-use Rattle.std.proofs.Common.{◌≡◌, ℕ, eqb, arith, subst}
+use Rattle.std.proofs.Common.{◌≡◌, ℕ, ap, eqb, arith, subst}
+use mathlib.Core.Logic.{dite}
 use mathlib.Core.Option.{some}
+use native.Mathlib.Decide.{ℕ_discrete}
 use prog.Atomic.{either}
-use Rattle.ring_table.specs.Views.{Wanted}
+use Rattle.ring_table.specs.Views.{View, Wanted}
 use Rattle.ring_table.specs.ProducerSteps.{Mine, MovesTail}
 use Rattle.ring_table.proofs.Calls.{at_index, in_trailer}
 use Rattle.ring_table.proofs.Claiming.{moves_tail}
@@ -24,3 +26,10 @@ pub returns-clause-told : goal.returns-clause-told
 returns-clause-told c =
     let told = c.compare_exchange_with.ensures.2.1 c.args.wanted (λ _. some c.args.wanted) in
     subst (λ (k : ℕ). MovesTail k c.args.old c.args.new c.args.wanted c.args.producer.now.me.0 c.compare_exchange_with.result c.compare_exchange_with.new.seat.me.0) c.requires.seat.view_is told
+
+pub returns-clause-seat : goal.returns-clause-seat
+returns-clause-seat c =
+    let h = c.compare_exchange_with.ensures in
+    let told = h.2.1 c.args.wanted (λ _. some c.args.wanted) in
+    let capacity_of = λ (v : View). v.capacity in
+    record { table = h.0; id = h.1; slots = h.2.0; capacity = dite (ℕ_discrete c.compare_exchange_with.result c.args.old) (λ hit. ap capacity_of (told.hit hit)) (λ missed. ap capacity_of (told.miss missed)) }

@@ -28,3 +28,6 @@ returns-clause-view c =
     let v : View = c.args.producer.now.me.0 in
     c.store.ensures.2.1 h.nth h.claim c.args.at h.there h.holds.stage h.holds.aligned h.holds.inside ((λ i. index (s.view_is i) (h.at_place i + 8 + c.args.at)) ∙ sym c.word_at.ensures)
     ∙ ap (λ p. with_claims (changed p (written c.args.at c.args.word) v.producer.claims) v) h.at_place
+
+pub returns-clause-seat : goal.returns-clause-seat
+returns-clause-seat c = record { table = c.store.ensures.0; id = c.store.ensures.1; slots = c.store.ensures.2.0; capacity = ap (λ (v : View). v.capacity) (returns-clause-view c) }

@@ -40,3 +40,6 @@ returns-clause-view c =
     let small : 8 + c.args.wanted.len < 2 ^ 31 = omega arith in
     after_change Padded (λ c. c.place) (opened c.args.wanted.type_id c.args.wanted.len) c.args.capacity _ c.args.place c.args.producer.now.me.0 _ _ h s.view_is h.holds.stage (c.word_at.ensures ∙ ap (index c.args.capacity) (sym h.at_place))
     (c.store.ensures.2.1 c.args.wanted.type_id c.args.wanted.len c.requires.message.type_fits small (packs_open c.pack_header-header.result c.args.wanted.len c.args.wanted.type_id small c.requires.message.type_fits c.pack_header-header.ensures))
+
+pub returns-clause-seat : goal.returns-clause-seat
+returns-clause-seat c = record { table = c.store.ensures.0; id = c.store.ensures.1; slots = c.store.ensures.2.0; capacity = ap (λ (v : View). v.capacity) (returns-clause-view c) }

@@ -30,3 +30,6 @@ pub returns-clause-view : goal.returns-clause-view
 returns-clause-view c =
     let h = c.requires.claim in
     after_change Moved (λ c. c.from) (staged Padded) c.args.capacity _ c.args.place c.args.producer.now.me.0 _ _ h c.requires.seat.view_is h.holds.stage (c.word_at.ensures ∙ ap (index c.args.capacity) (sym h.holds.from_is)) c.store.ensures.2.1
+
+pub returns-clause-seat : goal.returns-clause-seat
+returns-clause-seat c = record { table = c.store.ensures.0; id = c.store.ensures.1; slots = c.store.ensures.2.0; capacity = ap (λ (v : View). v.capacity) (returns-clause-view c) }
