@@ -1,0 +1,160 @@
+-- The moves of the tail keep the rule.
+use Rattle.std.proofs.Common.{◌≡◌, ◌≢◌, ℕ, ◌+◌, ◌%◌, ◌≤◌, ◌<◌, ℤ, List, [], ◌∷◌, ◌++◌, eqb, set, slice_index, sym, refl, ap, ◌∙◌, subst, length, length-set, get_or-set_same, arith}
+use mathlib.Core.Option.{none, some, some-injective}
+use lib.ListN.{get_elem?}
+use prog.Atomic.{either}
+use Rattle.atomic_table.specs.Table.{State, Step, step, keeps, Allows}
+use Rattle.atomic_table.proofs.Lists.{exchanged, set_here}
+use Rattle.std.proofs.lemmas.List.{length-replicate}
+use Rattle.ring_layout.specs.History.{IsMessage, span}
+use Rattle.ring_layout.specs.Places.{next_place, end_after, max_position}
+use Rattle.ring_layout.specs.Layout.{tail_index}
+use Rattle.ring_layout.proofs.PlaceLemmas.{next_le, next_aligned}
+use Rattle.ring_table.specs.Staged.{StagedClaim, claim_end, staged_end, LiesAfter}
+use Rattle.ring_table.specs.Changes.{blank, fresh}
+use Rattle.ring_table.specs.Owners.{OwnedHistory, all_of, owned_by}
+use Rattle.ring_table.specs.Services.{times_drawn, once_below}
+use Rattle.ring_table.specs.Views.{View, Wanted, logged, with_producer, with_tail, with_claim}
+use Rattle.ring_table.specs.Rule.{Knows, Kept}
+use Rattle.ring_table.specs.ProducerSteps.{Mine, IsPosition, EndBelow, IsClaimable, MovesTail, MovesOwnTail}
+use Rattle.ring_table.proofs.StagedPlaces.{capacity_aligned, start_aligned, lies_in, end_aligned}
+use Rattle.ring_table.proofs.StagedWords.{staged_word-fresh}
+use Rattle.ring_table.proofs.Histories.{staged_end-append, owned_by-append, owned_by-append_other, owned_at}
+use Rattle.ring_table.proofs.Sums.{at_below}
+use Rattle.ring_table.proofs.Seating.{sole_sees_top, reseated}
+use Rattle.ring_table.proofs.Memories.{memory_appended, service_elsewhere}
+use Rattle.ring_table.proofs.Loading.{Ok, May, sees}
+
+module _ (C start : ℕ) where
+  -- a claim of n bytes joins the history at its end, where the tail is
+  appends : (words : List ℕ) (views : List View) (r : Kept C start words views) (id : ℕ) (v : View) → get_elem? views id ≡ some v → (type_id : ℤ) (n old new : ℕ) → old ≡ staged_end start (all_of r.hist) → 0 < v.producer.shares → IsClaimable C old new type_id n v.producer.seen_head
+      → Kept C start (set words (tail_index C) new) (set views id (with_claim (fresh C old type_id n) new v))
+  appends words views r id v at type_id n old new old_is rich claimable =
+      let h : OwnedHistory = r.hist in
+      let c : StagedClaim = fresh C old type_id n in
+      let x : ℕ × StagedClaim = (id, c) in
+      let w : View = with_claim c new v in
+      let k = r.seated.each id v at in
+      let top : ℕ = staged_end start (all_of h) in
+      let long : length c.message.body ≡ n = length-replicate n 0 in
+      let new_is : new ≡ claim_end c = claimable.new_tail ∙ ap (λ z. next_place C old (span n) + span z) (sym long) in
+      let tops : staged_end start (all_of (h ++ x ∷ [])) ≡ new = staged_end-append start h x ∙ sym new_is in
+      let grows : top ≤ new = (let on = next_le C old (span n) in let tail = claimable.new_tail in omega arith) in
+      let least = r.lawful.capacity.least in
+      let head_seen = k.head_seen in
+      let room = claimable.room in
+      let limit = claimable.limit in
+      let tail_seen : v.producer.seen_tail ≤ top = k.tail_seen in
+      record {
+        lawful = r.lawful;
+        hist = h ++ x ∷ [];
+        reader = r.reader;
+        consumer = r.consumer;
+        drawn = r.drawn;
+        memory = memory_appended C start r.lawful words r.consumer h r.memory x new
+            (record { from = old_is; place = ap (λ z. next_place C old (span z)) (sym long) ∙ ap (λ e. next_place C e (span (length c.message.body))) old_is; message = claimable.message })
+            new_is limit (omega arith) (λ p p8. staged_word-fresh C old type_id n p);
+        service = service_elsewhere C start r.lawful words r.consumer r.drawn r.service (tail_index C) new (λ e. omega arith) (λ e. omega arith) (λ e. omega arith) r.consumer (omega arith) refl;
+        seated = reseated top h r.reader r.consumer r.drawn views r.seated id v at (staged_end start (all_of (h ++ x ∷ []))) (h ++ x ∷ []) r.consumer r.drawn w
+            (record {
+              claims = ap (λ l. l ++ c ∷ []) k.claims ∙ sym (owned_by-append id h c);
+              tail_seen = subst (λ z. new ≤ z) (sym tops) (omega arith);
+              head_seen = k.head_seen;
+              idle = λ none. absurd (omega arith);
+              served = k.served;
+              consumes = k.consumes;
+            })
+            (λ j u ne f. record {
+              claims = f.claims ∙ sym (owned_by-append_other j id h c ne);
+              tail_seen = (let seen : u.producer.seen_tail ≤ top = f.tail_seen in subst (λ z. u.producer.seen_tail ≤ z) (sym tops) (omega arith));
+              head_seen = f.head_seen;
+              idle = f.idle;
+              served = f.served;
+              consumes = f.consumes;
+            })
+            refl
+            (λ j ne. owned_by-append_other j id h c ne)
+            (record { seat = id; view = w; there = set_here views id w (at_below views id v at); rich = rich; sees = sym tops })
+            (λ x. refl);
+      }
+
+  -- the claims of a view end at or below the tail
+  end_below : (words : List ℕ) (views : List View) (r : Kept C start words views) (id : ℕ) (v : View) → get_elem? views id ≡ some v → (old : ℕ) → old ≡ staged_end start (all_of r.hist) → EndBelow old v.producer.claims
+  end_below words views r id v at old old_is k c has =
+      let own = owned_at id r.hist k c (subst (λ l. get_elem? l k ≡ some c) (r.seated.each id v at).claims has) in
+      let below = (lies_in C start r.hist own.0 (id, c) r.memory.placed own.1).below in
+      omega arith
+
+  pub moves_tail : (slots id : ℕ) (me : Mine) → me.0.capacity ≡ C → (old new : ℕ) (wanted : Wanted) → 0 < me.0.producer.shares → IsClaimable C old new wanted.type_id wanted.len me.0.producer.seen_head
+      → Allows (Ok C start) slots id me (tail_index C) (λ n. either (eqb n old) new n) (λ n me'. (me'.1 ≡ me.1) × ((said : Wanted) → some wanted ≡ some said → MovesTail me.0.capacity old new said me.0 n me'.0))
+  moves_tail slots id me cap old new wanted rich claimable s r wide at small =
+      let v : View = me.0 in
+      let n : ℕ = slice_index s.words (tail_index C) in
+      let top : ℕ = staged_end start (all_of r.hist) in
+      let is : n ≡ top = r.memory.tail_is in
+      let k = r.seated.each id v at in
+      let tail_seen = k.tail_seen in
+      let limit = r.memory.limit in
+      let least = r.lawful.capacity.least in
+      let aligned : top % 8 ≡ 0 = end_aligned C start (all_of r.hist) (omega arith) (capacity_aligned C r.lawful.capacity) (start_aligned C start r.lawful) r.memory.placed in
+      let told : Mine → Type 0 = λ me'. (me'.1 ≡ me.1) × ((said : Wanted) → some wanted ≡ some said → MovesTail me.0.capacity old new said me.0 n me'.0) in
+      let at_sole = λ (all : v.producer.shares ≡ 65536). is ∙ sym (sole_sees_top s.views id v top r.seated.shares r.seated.latest at all) in
+      exchanged n old new (May C start s (tail_index C) id me told)
+      (λ hit. (
+        with_claim (fresh C old wanted.type_id wanted.len) new v,
+        keeps,
+        tt,
+        appends s.words s.views r id v at wanted.type_id wanted.len old new (sym hit ∙ is) rich claimable,
+        (
+          refl,
+          λ said same. let e : wanted ≡ said = some-injective wanted said same in record {
+            hit = λ _ i. with_claim (fresh (sym cap i) old (e i).type_id (e i).len) new v;
+            behind = λ _. end_below s.words s.views r id v at old (sym hit ∙ is);
+            miss = λ other. absurd (other hit);
+            later = omega arith;
+            position = record { aligned = omega arith; limit = omega arith };
+            sole = at_sole;
+          },
+        ),
+      ))
+      (λ missed. (
+        logged (tail_index C) n (with_producer (with_tail n v.producer) v),
+        keeps,
+        tt,
+        sees C start s.words s.views r id (tail_index C) v at n v.producer.seen_head _ (omega arith) (omega arith) k.head_seen,
+        (
+          refl,
+          λ said same. record {
+            hit = λ hit. absurd (missed hit);
+            behind = λ hit. absurd (missed hit);
+            miss = λ _. ap (λ c. logged (tail_index c) n (with_producer (with_tail n v.producer) v)) (sym cap);
+            later = omega arith;
+            position = record { aligned = omega arith; limit = omega arith };
+            sole = at_sole;
+          },
+        ),
+      ))
+
+  -- a sole producer knows the tail, so it may store it
+  pub moves_own_tail : (slots id : ℕ) (me : Mine) → me.0.capacity ≡ C → (new : ℕ) (type_id : ℤ) (n : ℕ) → me.0.producer.shares ≡ 65536 → IsClaimable C me.0.producer.seen_tail new type_id n me.0.producer.seen_head
+      → Allows (Ok C start) slots id me (tail_index C) (λ _. new) (λ _ me'. (me'.1 ≡ me.1) × MovesOwnTail me.0.capacity new me.0 me'.0)
+  moves_own_tail slots id me cap new type_id n all claimable s r wide at small =
+      let v : View = me.0 in
+      let old : ℕ = v.producer.seen_tail in
+      let old_is = sole_sees_top s.views id v (staged_end start (all_of r.hist)) r.seated.shares r.seated.latest at all in (
+        with_claim (fresh C old type_id n) new v,
+        keeps,
+        tt,
+        appends s.words s.views r id v at type_id n old new old_is (omega arith) claimable,
+        (
+          refl,
+          record {
+            type_id = type_id;
+            len = n;
+            message = subst (λ c. IsMessage c (blank type_id n)) (sym cap) claimable.message;
+            new_tail = subst (λ c. new ≡ end_after c old (span n)) (sym cap) claimable.new_tail;
+            view = λ i. with_claim (fresh (sym cap i) old type_id n) new v;
+            behind = end_below s.words s.views r id v at old old_is;
+          },
+        ),
+      )

@@ -1,0 +1,55 @@
+-- What the last state of a closed ring says.
+use Rattle.std.proofs.Common.{◌≡◌, ◌≢◌, ℕ, ◌+◌, ◌≤◌, ◌<◌, List, [], ◌∷◌, ◌++◌, cond, ltb, true, slice_index, sym, refl, ap, ◌∙◌, subst, ⊎_elim, length, le-ltb, arith}
+use mathlib.Core.Option.{some}
+use lib.ListN.{get_elem?}
+use Rattle.ring_layout.specs.Places.{index, end_of}
+use Rattle.ring_layout.specs.Picture.{word_at}
+use Rattle.ring_table.specs.Staged.{StagedClaim, AreStored, claims_of, staged_word_at, staged_end}
+use Rattle.ring_table.specs.Owners.{all_of, owned_by}
+use Rattle.ring_table.specs.Services.{total, times_drawn, once_below, AreServed}
+use Rattle.ring_table.specs.Views.{ConsumerView, View}
+use Rattle.ring_table.specs.Rule.{IsMemory, IsService, Kept}
+use Rattle.ring_table.specs.Closed.{IsClosed, restarted, LeavesRest}
+use Rattle.ring_table.proofs.OwnerLemmas.{owned_by-sole}
+use Rattle.ring_table.proofs.RestLemmas.{end_of-claims_of, staged_word_at-claims_of, splits, stored_rest, claims_of-restarted}
+use Rattle.ring_table.proofs.Sums.{there_or_past, total-sole}
+use Rattle.ring_table.proofs.Seating.{others_poor, sole_sees_top}
+
+pub closes : (C start : ℕ) (words : List ℕ) (views : List View) → Kept C start words views → (id : ℕ) (v : View) → get_elem? views id ≡ some v → v.producer.shares ≡ 65536 → v.consumes ≡ true → IsClosed C start words v
+closes C start words views r id v at all consumes =
+    let own = r.seated.each id v at in
+    let mine = (own.consumes consumes).1 in
+    let idle = λ (j : ℕ) (u : View) (ne : j ≢ id) (there : get_elem? views j ≡ some u). (r.seated.each j u there).idle (others_poor views id j v u r.seated.shares at all ne there) in
+    let whole : v.producer.claims ≡ all_of r.hist = own.claims ∙ owned_by-sole id r.hist (λ j ne. ⊎_elim
+    (λ (t : (u : View) × (get_elem? views j ≡ some u)). sym (r.seated.each j t.0 t.1).claims ∙ (idle j t.0 ne t.1).claims)
+    (λ (past : length views ≤ j). r.seated.nobody j past) (there_or_past views j)) in
+    record {
+      lawful = r.lawful;
+      drawn = r.drawn;
+      memory = subst (λ (z : List StagedClaim × ConsumerView). IsMemory C start words z.0 z.1) (λ i. (sym whole i, sym mine i)) r.memory;
+      service = subst (λ (z : ConsumerView). IsService C words z r.drawn) (sym mine) r.service;
+      once = λ x. sym (total-sole (λ (z : View). times_drawn x z.producer) views id v at (λ j u ne there. (idle j u ne there).draws x)) ∙ r.seated.once x;
+      served = subst (λ (z : ConsumerView). AreServed r.drawn z.heartbeats (v.producer.service ∷ v.producer.joined)) (sym mine) own.served;
+      sees_tail = sole_sees_top views id v (staged_end start (all_of r.hist)) r.seated.shares r.seated.latest at all ∙ ap (staged_end start) (sym whole);
+    }
+
+pub leaves_rest : (C start : ℕ) (words : List ℕ) (v : View) → IsClosed C start words v → AreStored v.producer.claims → v.consumer.cleared ≡ v.consumer.head → LeavesRest C words v
+leaves_rest C start words v closed stored none_cleared =
+    let m = closed.memory in
+    let head : ℕ = v.consumer.head in
+    let t = splits C head start v.producer.claims v.consumer.taken closed.lawful.capacity.least m.placed m.took in
+    let left : List StagedClaim = restarted head t.rest in
+    let left_stored : AreStored left = stored_rest head t.taken t.rest (subst AreStored t.whole stored) in
+    let same = claims_of-restarted head t.rest in
+    record {
+      taken = t.taken;
+      rest = t.rest;
+      whole = t.whole;
+      settled = t.settled;
+      messages = t.messages;
+      placed = t.placed;
+      end_is = m.tail_is ∙ sym t.ends ∙ sym (end_of-claims_of C head left t.placed) ∙ ap (end_of C head) same;
+      picture = λ p p8 p0 p1.
+          m.shows p p8 p0 p1 ∙ ap (λ b. cond b 0 (staged_word_at v.producer.claims p)) (le-ltb p v.consumer.cleared (omega arith))
+          ∙ t.words p p0 ∙ staged_word_at-claims_of C head left p t.placed left_stored ∙ ap (λ l. word_at C head l p) same;
+    }

@@ -1,0 +1,171 @@
+-- A header of positive length leads a read on.
+use Rattle.std.proofs.Common.{◌≡◌, ◌≢◌, ℕ, zero, suc, ◌+◌, ◌-◌, ◌*◌, ◌/◌, ◌%◌, ◌^◌, ◌≤◌, ◌<◌, ◌⊎◌, ℤ, ◌≤ℤ◌, pos, negsuc, neg_ℤ, FitsSigned, List, [], ◌∷◌, ◌++◌, cond, sym, refl, ap, ◌∙◌, subst, inl, inr, ⊎_elim, length, lt-ltb, le-ltb, append_assoc, arith}
+use Rattle.std.specs.Int.{cast_unsigned, w32}
+use Rattle.std.proofs.lemmas.Int.{ints}
+use Rattle.std.proofs.lemmas.Nat.{mod_low, shr_high, mod_below}
+use Rattle.ring_layout.specs.declared.message.Message.{Message}
+use Rattle.ring_layout.specs.declared.message.ClaimState.TheVariants.{Open, Committed, Aborted}
+use Rattle.ring_layout.specs.History.{IsMessage, span}
+use Rattle.ring_layout.specs.Places.{IsCapacity, next_place, room}
+use Rattle.ring_layout.specs.Headers.{header, header_of, padding_header, padding_type}
+use Rattle.ring_layout.proofs.Laps.{mod_aligned}
+use Rattle.ring_layout.proofs.PlaceLemmas.{next_cases, next_le, next_within}
+use Rattle.ring_layout.proofs.HeaderLemmas.{pattern_below, fits_pos, fits_neg}
+use Rattle.ring_table.specs.Staged.{StagedClaim, PlacedMessage, Stage, Moved, Padded, Stored, claim_of, staged_span, claim_end, masked_padding, masked_record, staged_word, staged_word_at, ArePlaced}
+use Rattle.ring_table.specs.Passing.{IsSettled, placed_message, shown_at, Reaches}
+use Rattle.ring_table.specs.ConsumerSteps.{rounded}
+use Rattle.ring_table.proofs.StagedPlaces.{claim_aligned, capacity_aligned}
+use Rattle.ring_table.proofs.StagedWords.{staged_word-header, staged_word-padding}
+use Rattle.ring_table.proofs.ReachLemmas.{reach_bounds}
+
+-- the two halves of a header
+pub low_half : (len type_id : ℤ) → FitsSigned w32 len → header len type_id % 2 ^ 32 ≡ cast_unsigned w32 len
+low_half len type_id fits = mod_low (cast_unsigned w32 type_id) 32 (cast_unsigned w32 len) (pattern_below len fits)
+
+pub high_half : (len type_id : ℤ) → FitsSigned w32 len → header len type_id / 2 ^ 32 ≡ cast_unsigned w32 type_id
+high_half len type_id fits = shr_high (cast_unsigned w32 type_id) 32 (cast_unsigned w32 len) (pattern_below len fits)
+
+pub negated_above : (n : ℕ) → 0 < n → n < 2 ^ 31 → 2 ^ 31 ≤ cast_unsigned w32 (neg_ℤ (pos n))
+negated_above zero some small = absurd (omega arith)
+negated_above (suc n) some small = omega arith
+
+-- what a type id of a message is as bits
+type_below : (type_id : ℤ) → pos 1 ≤ℤ type_id → FitsSigned w32 type_id → cast_unsigned w32 type_id < 2 ^ 31
+type_below (pos n) one fits = omega (arith, fits.sfits)
+type_below (negsuc n) one fits = absurd (omega (arith, ints))
+
+-- the message of a header whose high half is not padding's
+pub record FindsAt (C s e : ℕ) (cs : List StagedClaim) (got : List PlacedMessage) (len bits : ℕ) : Type 0 where
+  pub message : Message
+  pub len_is : 8 + length message.body ≡ len
+  pub type_is : cast_unsigned w32 message.type_id ≡ bits
+  pub lawful : IsMessage C message
+  pub reaches : Reaches (s + rounded len) e cs (got ++ (record { place = s; message = message }) ∷ [])
+
+-- where the header w, whose length is positive, leads
+pub record Leads (C s e : ℕ) (cs : List StagedClaim) (got : List PlacedMessage) (w : ℕ) : Type 0 where
+  pub padding : w / 2 ^ 32 ≡ 2 ^ 32 - 1 → Reaches (s + rounded (w % 2 ^ 32)) e cs got
+  pub message : w / 2 ^ 32 ≢ 2 ^ 32 - 1 → FindsAt C s e cs got (w % 2 ^ 32) (w / 2 ^ 32)
+  pub within : s % C + rounded (w % 2 ^ 32) ≤ C
+
+at_end : (e : ℕ) (cs : List StagedClaim) → Reaches e e cs []
+at_end e [] = (refl, refl)
+at_end e (c ∷ cs) = inl (refl, refl)
+
+-- the header at the place of the claim
+at_header : (C s e : ℕ) (c : StagedClaim) (cs : List StagedClaim) (t : Stage) (w : ℕ) → C ≤ 2 ^ 24 → IsMessage C c.message → s % C + staged_span c ≤ C → s ≡ c.place → c.stage ≡ t
+    → w ≡ masked_record t (header_of (claim_of (record { from = c.from; place = c.place; message = c.message; stage = t }))) → 0 < w % 2 ^ 32 → w % 2 ^ 32 < 2 ^ 31 → Leads C s e (c ∷ cs) [] w
+at_header C s e c cs Moved w big m inner at is eq lo hi = absurd (omega arith)
+at_header C s e c cs Padded w big m inner at is eq lo hi = absurd (omega arith)
+at_header C s e c cs (Stored Open) w big m inner at is eq lo hi =
+    let n : ℕ = length c.message.body in
+    let short : n ≤ C / 8 = m.short in
+    let low : w % 2 ^ 32 ≡ cast_unsigned w32 (neg_ℤ (pos (8 + n))) = ap (λ k. k % 2 ^ 32) eq ∙ low_half (neg_ℤ (pos (8 + n))) c.message.type_id (fits_neg (8 + n) (omega arith)) in
+    let far = negated_above (8 + n) (omega arith) (omega arith) in
+    absurd (omega arith)
+at_header C s e c cs (Stored Committed) w big m inner at is eq lo hi =
+    let n : ℕ = length c.message.body in
+    let short : n ≤ C / 8 = m.short in
+    let fits = fits_pos (8 + n) (omega arith) in
+    let len : w % 2 ^ 32 ≡ 8 + n = ap (λ k. k % 2 ^ 32) eq ∙ low_half (pos (8 + n)) c.message.type_id fits in
+    let bits : w / 2 ^ 32 ≡ cast_unsigned w32 c.message.type_id = ap (λ k. k / 2 ^ 32) eq ∙ high_half (pos (8 + n)) c.message.type_id fits in
+    let type_bits = type_below c.message.type_id m.type_id m.type_fits in
+    let goes : s + rounded (w % 2 ^ 32) ≡ claim_end c = omega arith in
+    record {
+      padding = λ pad. absurd (omega arith);
+      message = λ _. record {
+        message = c.message;
+        len_is = sym len;
+        type_is = sym bits;
+        lawful = m;
+        reaches = subst (λ k. Reaches k e (c ∷ cs) ((record { place = s; message = c.message }) ∷ [])) (sym goes)
+            (inr (inr (subst IsSettled (sym is) tt, ([], subst (λ t'. (record { place = s; message = c.message }) ∷ [] ≡ shown_at t' (placed_message c) ++ []) (sym is) (λ i. (record { place = at i; message = c.message }) ∷ []), at_end (claim_end c) cs))));
+      };
+      within = omega arith;
+    }
+at_header C s e c cs (Stored Aborted) w big m inner at is eq lo hi =
+    let n : ℕ = length c.message.body in
+    let short : n ≤ C / 8 = m.short in
+    let fits = fits_pos (8 + n) (omega arith) in
+    let len : w % 2 ^ 32 ≡ 8 + n = ap (λ k. k % 2 ^ 32) eq ∙ low_half (pos (8 + n)) padding_type fits in
+    let bits : w / 2 ^ 32 ≡ 2 ^ 32 - 1 = ap (λ k. k / 2 ^ 32) eq ∙ high_half (pos (8 + n)) padding_type fits in
+    let goes : s + rounded (w % 2 ^ 32) ≡ claim_end c = omega arith in
+    record {
+      padding = λ _. subst (λ k. Reaches k e (c ∷ cs) []) (sym goes) (inr (inr (subst IsSettled (sym is) tt, ([], subst (λ t'. [] ≡ shown_at t' (placed_message c) ++ []) (sym is) refl, at_end (claim_end c) cs))));
+      message = λ other. absurd (other bits);
+      within = omega arith;
+    }
+
+-- the padding's header before the claim
+at_padding : (C s e : ℕ) (c : StagedClaim) (cs : List StagedClaim) (w : ℕ) → C ≤ 2 ^ 24 → s ≡ c.from → s < c.place → c.place ≤ s + C → (c.place - s) % 8 ≡ 0 → s % C + (c.place - s) ≤ C
+    → w ≡ masked_padding c.stage (padding_header (c.place - c.from)) → 0 < w % 2 ^ 32 → w % 2 ^ 32 < 2 ^ 31 → Leads C s e (c ∷ cs) [] w
+at_padding C s e c cs w big at lt near eight inner eq lo hi = by_stage c.stage refl eq
+  where
+    stored : w ≡ padding_header (c.place - c.from) → c.stage ≢ Moved → Leads C s e (c ∷ cs) [] w
+    stored is moved =
+        let n : ℕ = c.place - c.from in
+        let fits = fits_pos n (omega arith) in
+        let len : w % 2 ^ 32 ≡ n = ap (λ k. k % 2 ^ 32) is ∙ low_half (pos n) padding_type fits in
+        let bits : w / 2 ^ 32 ≡ 2 ^ 32 - 1 = ap (λ k. k / 2 ^ 32) is ∙ high_half (pos n) padding_type fits in
+        let goes : s + rounded (w % 2 ^ 32) ≡ c.place = omega arith in
+        record { padding = λ _. inr (inl (goes, moved, refl)); message = λ other. absurd (other bits); within = omega arith }
+
+    by_stage : (t : Stage) → c.stage ≡ t → w ≡ masked_padding t (padding_header (c.place - c.from)) → Leads C s e (c ∷ cs) [] w
+    by_stage Moved is eq' = absurd (omega arith)
+    by_stage Padded is eq' = stored eq' (λ moved. cc)
+    by_stage (Stored t) is eq' = stored eq' (λ moved. cc)
+
+here : (c : StagedClaim) (cs : List StagedClaim) (p : ℕ) → p < claim_end c → staged_word_at (c ∷ cs) p ≡ staged_word c p
+here c cs p lt = ap (λ b. cond b (staged_word c p) (staged_word_at cs p)) (lt-ltb p (claim_end c) lt)
+
+pub leads : (C s e : ℕ) (cs : List StagedClaim) (got : List PlacedMessage) (w : ℕ) → IsCapacity C → e % 8 ≡ 0 → ArePlaced C e cs → Reaches s e cs got → staged_word_at cs s ≡ w
+    → 0 < w % 2 ^ 32 → w % 2 ^ 32 < 2 ^ 31 → Leads C s e cs got w
+leads C s e [] got w cap e8 h r is lo hi = absurd (let none : 0 ≡ w = is in omega arith)
+leads C s e (c ∷ cs) got w cap e8 h r is lo hi =
+    let least = cap.least in
+    let most = cap.most in
+    let c8 = capacity_aligned C cap in
+    let a : ℕ = staged_span c in
+    let n : ℕ = length c.message.body in
+    let short : n ≤ C / 8 = h.0.message.short in
+    let place : ℕ = c.place in
+    let from_is : c.from ≡ e = h.0.from in
+    let place_is : place ≡ next_place C e a = h.0.place in
+    let aligned = claim_aligned C e c (omega arith) c8 e8 h.0.place in
+    let place8 = aligned.0 in
+    let e_low = mod_below e C (omega arith) in
+    let e_mod = mod_aligned C e c8 e8 in
+    let now_at_place = λ (at : s ≡ place).
+    at_header C s e c cs c.stage w most h.0.message (subst (λ k. k % C + a ≤ C) (sym (at ∙ place_is)) (next_within C e a (omega arith) (omega arith))) at refl
+    (sym is ∙ here c cs s (omega arith) ∙ staged_word-header c s at) lo hi in
+    ⊎_elim (λ alt.
+    let at_e : s ≡ e = alt.0 in
+    subst (λ g. Leads C s e (c ∷ cs) g w) (sym alt.1)
+    (⊎_elim
+    (λ t. let stays : next_place C e a ≡ e = t.1 in now_at_place (omega arith))
+    (λ t.
+    let wraps : next_place C e a ≡ e + room C e = t.1 in
+    let same_mod : s % C ≡ e % C = ap (λ k. k % C) at_e in
+    at_padding C s e c cs w most (omega arith) (omega arith) (omega arith) (omega arith) (omega arith)
+    (sym is ∙ here c cs s (omega arith) ∙ staged_word-padding c s (omega arith) (omega arith)) lo hi)
+    (next_cases C e a)))
+    (⊎_elim (λ alt. subst (λ g. Leads C s e (c ∷ cs) g w) (sym alt.2) (now_at_place alt.0))
+    (λ alt.
+    let later : List PlacedMessage = alt.1.0 in
+    let bounds = reach_bounds C s (claim_end c) cs later h.1 alt.1.2 in
+    let above = bounds.0 in
+    let t = leads C s (claim_end c) cs later w cap aligned.1 h.1 alt.1.2 (sym (ap (λ b. cond b (staged_word c s) (staged_word_at cs s)) (le-ltb s (claim_end c) above)) ∙ is) lo hi in
+    record {
+      padding = λ pad. inr (inr (alt.0, (later, alt.1.1, t.padding pad)));
+      message = λ other.
+          let found = t.message other in
+          let m : PlacedMessage = record { place = s; message = found.message } in
+          record {
+            message = found.message;
+            len_is = found.len_is;
+            type_is = found.type_is;
+            lawful = found.lawful;
+            reaches = inr (inr (alt.0, (later ++ m ∷ [], ap (λ l. l ++ m ∷ []) alt.1.1 ∙ append_assoc (shown_at c.stage (placed_message c)) later (m ∷ []), found.reaches)));
+          };
+      within = t.within;
+    })) r

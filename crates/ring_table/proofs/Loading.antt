@@ -1,0 +1,179 @@
+-- A producer's loads keep the rule.
+use Rattle.std.proofs.Common.{◌≡◌, ◌≢◌, ℕ, ◌+◌, ◌%◌, ◌≤◌, ◌<◌, ◌⊎◌, List, [], ◌∷◌, ◌++◌, cond, set, get_or, slice_index, sym, refl, ap, ◌∙◌, subst, length, le-ltb, arith, max}
+use mathlib.Core.Option.{none, some}
+use lib.ListN.{get_elem?}
+use Rattle.atomic_table.specs.Table.{State, Step, step, keeps, Allows, Act, Valid, stepped, carried_after}
+use Rattle.ring_layout.specs.declared.message.ClaimState.TheVariants.{Open}
+use Rattle.ring_layout.specs.Places.{index, max_position}
+use Rattle.ring_layout.specs.Layout.{tail_index, head_index}
+use Rattle.ring_table.specs.Staged.{StagedClaim, Moved, Stored, IsStored, AreRising, claim_end, staged_word, staged_word_at, body_word, staged_end}
+use Rattle.ring_table.specs.Owners.{OwnedHistory, all_of, owned_by}
+use Rattle.ring_table.specs.Passing.{IsSettled}
+use Rattle.ring_table.specs.Services.{times_drawn, once_below}
+use Rattle.ring_table.specs.Views.{View, Wanted, ProducerView, ConsumerView, logged, with_producer, with_tail, with_head}
+use Rattle.ring_table.specs.Rule.{Knows, IsSeated, Kept}
+use Rattle.ring_table.specs.ProducerSteps.{Mine, IsPosition, LoadsTail, LoadsHead, HasClaim, LoadsOwn}
+use Rattle.ring_table.proofs.StagedPlaces.{capacity_aligned, start_aligned, lies_in, LiesIn, end_aligned, places_aligned, word_of_claim}
+use Rattle.ring_table.proofs.StagedWords.{staged_word-stored}
+use Rattle.ring_table.proofs.Histories.{owned_at}
+use Rattle.ring_table.proofs.OwnerLemmas.{rising_owned_by}
+use Rattle.ring_table.proofs.ReachLemmas.{not_passed}
+use Rattle.ring_table.proofs.Sums.{set_own}
+use Rattle.ring_table.proofs.Seating.{sole_sees_top, sees_top_after, knows_seeing, reseated}
+use Rattle.ring_table.proofs.Memories.{head_bounds}
+
+module _ (C start : ℕ) where
+  abbrev pub Ok : State Wanted View → Type 0
+  Ok s = Kept C start s.words s.views
+
+  -- what a step may do with the number found there
+  abbrev pub May : State Wanted View → ℕ → ℕ → Mine → (Mine → Type 0) → ℕ → Type 0
+  May s i id me then value = (w : View) × (a : Act Wanted) × Valid s.homes me.1 a × Ok (stepped s i value id me.1 w a) × then (w, carried_after me.1 a)
+
+  -- the words stay, and one view changes
+  pub looked : (words : List ℕ) (views : List View) (r : Kept C start words views) (id i : ℕ) (v w : View) → get_elem? views id ≡ some v
+      → Knows (staged_end start (all_of r.hist)) r.hist r.reader r.consumer r.drawn id w → w.producer.shares ≡ v.producer.shares → v.producer.seen_tail ≤ w.producer.seen_tail → ((x : ℕ) → times_drawn x w.producer ≡ times_drawn x v.producer)
+      → Kept C start (set words i (slice_index words i)) (set views id w)
+  looked words views r id i v w at knows rich later drawn =
+      let top : ℕ = staged_end start (all_of r.hist) in
+      let seen = knows.tail_seen in
+      subst (λ l. Kept C start l (set views id w)) (sym (set_own words i)) record {
+        lawful = r.lawful;
+        hist = r.hist;
+        reader = r.reader;
+        consumer = r.consumer;
+        drawn = r.drawn;
+        memory = r.memory;
+        service = r.service;
+        seated = reseated top r.hist r.reader r.consumer r.drawn views r.seated id v at top r.hist r.consumer r.drawn w knows (λ j u ne k. k) rich (λ j ne. refl)
+            (sees_top_after views id v w top top at rich refl (λ e. omega arith) r.seated.latest)
+            (λ x. ap (λ (k : ℕ). k + once_below x r.drawn) (drawn x));
+      }
+
+  -- a seat loads, and sees a later tail or head
+  pub sees : (words : List ℕ) (views : List View) (r : Kept C start words views) (id i : ℕ) (v : View) → get_elem? views id ≡ some v → (tail head : ℕ) (log : List (ℕ × ℕ)) → v.producer.seen_tail ≤ tail → tail ≤ staged_end start (all_of r.hist) → head ≤ r.consumer.head
+      → Kept C start (set words i (slice_index words i)) (set views id (record v { producer = record v.producer { seen_tail = tail; seen_head = head }; log = log }))
+  sees words views r id i v at tail head log later t h =
+      looked words views r id i v _ at (knows_seeing (staged_end start (all_of r.hist)) r.hist r.reader r.consumer r.drawn id v (r.seated.each id v at) tail head log t h) refl later (λ x. refl)
+
+  pub loads_tail : (slots id : ℕ) (me : Mine) → me.0.capacity ≡ C → Allows Ok slots id me (tail_index C) (λ n. n) (λ n me'. (me'.1 ≡ me.1) × LoadsTail me.0.capacity me.0 n me'.0)
+  loads_tail slots id me cap s r wide at small =
+      let v : View = me.0 in
+      let n : ℕ = slice_index s.words (tail_index C) in
+      let top : ℕ = staged_end start (all_of r.hist) in
+      let is : n ≡ top = r.memory.tail_is in
+      let k = r.seated.each id v at in
+      let tail_seen = k.tail_seen in
+      let head_seen = k.head_seen in
+      let bounds = head_bounds C start r.lawful s.words r.consumer (all_of r.hist) r.memory in
+      let head_below = bounds.1 in
+      let limit = r.memory.limit in
+      let least = r.lawful.capacity.least in
+      let aligned : top % 8 ≡ 0 = end_aligned C start (all_of r.hist) (omega arith) (capacity_aligned C r.lawful.capacity) (start_aligned C start r.lawful) r.memory.placed in (
+        logged (tail_index C) n (with_producer (with_tail n v.producer) v),
+        keeps,
+        tt,
+        sees s.words s.views r id (tail_index C) v at n v.producer.seen_head _ (omega arith) (omega arith) k.head_seen,
+        (
+          refl,
+          record {
+            view = ap (λ c. logged (tail_index c) n (with_producer (with_tail n v.producer) v)) (sym cap);
+            later = omega arith;
+            above_head = omega arith;
+            position = record { aligned = omega arith; limit = omega arith };
+            sole = λ all. is ∙ sym (sole_sees_top s.views id v top r.seated.shares r.seated.latest at all);
+            rising = subst AreRising (sym k.claims) (rising_owned_by C start id r.hist r.memory.placed);
+          },
+        ),
+      )
+
+  pub loads_head : (slots id : ℕ) (me : Mine) → me.0.capacity ≡ C → Allows Ok slots id me (head_index C) (λ n. n) (λ n me'. (me'.1 ≡ me.1) × LoadsHead me.0.capacity me.0 n me'.0)
+  loads_head slots id me cap s r wide at small =
+      let v : View = me.0 in
+      let n : ℕ = slice_index s.words (head_index C) in
+      let top : ℕ = staged_end start (all_of r.hist) in
+      let head : ℕ = r.consumer.head in
+      let is : n ≡ head = r.memory.head_is in
+      let k = r.seated.each id v at in
+      let tail_seen = k.tail_seen in
+      let head_seen = k.head_seen in
+      let bounds = head_bounds C start r.lawful s.words r.consumer (all_of r.hist) r.memory in
+      let head_below = bounds.1 in
+      let aligned = bounds.2 in
+      let limit = r.memory.limit in
+      let room = r.memory.room in (
+        logged (head_index C) n (with_producer (with_head n v.producer) v),
+        keeps,
+        tt,
+        sees s.words s.views r id (head_index C) v at v.producer.seen_tail n _ (omega arith) k.tail_seen (omega arith),
+        (
+          refl,
+          record {
+            view = ap (λ c. logged (head_index c) n (with_producer (with_head n v.producer) v)) (sym cap);
+            later = omega arith;
+            near = omega arith;
+            position = record { aligned = omega arith; limit = omega arith };
+            sole = λ all. let e = sole_sees_top s.views id v top r.seated.shares r.seated.latest at all in omega arith;
+          },
+        ),
+      )
+
+  -- where a claim of a view lies that is not settled
+  pub record Stands (words : List ℕ) (views : List View) (r : Kept C start words views) (id : ℕ) (c : StagedClaim) : Type 0 where
+    pub nth : ℕ
+    pub there : get_elem? r.hist nth ≡ some (id, c)
+    pub lies : LiesIn C start (all_of r.hist) c
+    pub behind_scan : r.consumer.scan ≤ c.place
+    pub padding_behind : c.stage ≡ Moved → r.consumer.scan ≤ c.from
+    pub from_aligned : c.from % 8 ≡ 0
+    pub place_aligned : c.place % 8 ≡ 0
+
+  pub stands : (words : List ℕ) (views : List View) (r : Kept C start words views) (id : ℕ) (v : View) → get_elem? views id ≡ some v → (k : ℕ) (c : StagedClaim) → HasClaim v k c → (IsSettled c.stage → ⊥) → Stands words views r id c
+  stands words views r id v at k c has un =
+      let least = r.lawful.capacity.least in
+      let own = owned_at id r.hist k c (subst (λ l. get_elem? l k ≡ some c) (r.seated.each id v at).claims has) in
+      let behind = not_passed C r.consumer.scan start r.hist r.consumer.got own.0 (id, c) r.memory.placed r.memory.passed own.1 un in
+      let aligned = places_aligned C start r.hist own.0 (id, c) (omega arith) (capacity_aligned C r.lawful.capacity) (start_aligned C start r.lawful) r.memory.placed own.1 in
+      record {
+        nth = own.0;
+        there = own.1;
+        lies = lies_in C start r.hist own.0 (id, c) r.memory.placed own.1;
+        behind_scan = behind.0;
+        padding_behind = behind.1;
+        from_aligned = aligned.0;
+        place_aligned = aligned.1;
+      }
+
+  pub loads_own : (slots id i : ℕ) (me : Mine) → me.0.capacity ≡ C → Allows Ok slots id me i (λ n. n) (λ n me'. (me'.1 ≡ me.1) × (me'.0 ≡ logged i n me.0) × LoadsOwn i me.0 n × AreRising me.0.producer.claims)
+  loads_own slots id i me cap s r wide at small =
+      let v : View = me.0 in
+      let n : ℕ = slice_index s.words i in
+      let k = r.seated.each id v at in
+      let h : OwnedHistory = r.hist in
+      let m = r.memory in (
+        logged i n v,
+        keeps,
+        tt,
+        sees s.words s.views r id i v at v.producer.seen_tail v.producer.seen_head _ (omega arith) k.tail_seen k.head_seen,
+        (
+          refl,
+          refl,
+          (λ nth c o has is_open o8 lt same.
+              let st = stands s.words s.views r id v at nth c has (λ z. subst IsSettled is_open z) in
+              let padded = st.lies.padded in
+              let below = st.lies.below in
+              let behind = st.behind_scan in
+              let place8 = st.place_aligned in
+              let from = m.clears_from in
+              let to = m.clears_to in
+              let room = m.room in
+              let p : ℕ = c.place + 8 + o in
+              let len : ℕ = length c.message.body in
+              ap (λ z. get_or s.words z 0) (sym same ∙ ap (λ z. index z p) cap)
+              ∙ m.shows p (omega arith) (omega arith) (omega arith)
+              ∙ ap (λ b. cond b 0 (staged_word_at (all_of h) p)) (le-ltb p r.consumer.cleared (omega arith))
+              ∙ word_of_claim C start h st.nth (id, c) p m.placed st.there (omega arith) (omega arith)
+              ∙ staged_word-stored c p o (subst IsStored (sym is_open) tt) refl),
+          subst AreRising (sym k.claims) (rising_owned_by C start id h m.placed),
+        ),
+      )

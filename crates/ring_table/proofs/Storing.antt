@@ -1,0 +1,270 @@
+-- A producer's stores into its claims keep the rule.
+use Rattle.std.proofs.Common.{◌≡◌, ◌≢◌, ℕ, zero, suc, ◌+◌, ◌-◌, ◌/◌, ◌%◌, ◌^◌, ◌≤◌, ◌<◌, ◌⊎◌, ℤ, pos, neg_ℤ, FitsSigned, List, [], ◌∷◌, ◌++◌, set, slice_index, sym, refl, ap, ◌∙◌, subst, inl, inr, ⊎_elim, length, arith}
+use mathlib.Core.Option.{none, some}
+use mathlib.Core.Logic.{dite}
+use native.Mathlib.Decide.{ℕ_discrete}
+use lib.ListN.{get_elem?}
+use Rattle.std.specs.Int.{cast_signed, w32}
+use Rattle.std.proofs.lemmas.List.{length-replicate}
+use Rattle.std.proofs.lemmas.Int.{ints}
+use Rattle.atomic_table.specs.Table.{State, Step, step, keeps, Allows}
+use Rattle.ring_layout.specs.declared.message.ClaimState.{ClaimState}
+use Rattle.ring_layout.specs.declared.message.ClaimState.TheVariants.{Open, Committed, Aborted}
+use Rattle.ring_layout.specs.History.{IsMessage, span}
+use Rattle.ring_layout.specs.Places.{index}
+use Rattle.ring_layout.specs.Headers.{header, header_of, padding_header}
+use Rattle.ring_layout.proofs.HeaderLemmas.{len_of-header, type_of-header, fits_neg}
+use Rattle.ring_table.specs.Staged.{StagedClaim, Stage, Moved, Padded, Stored, claim_of, claim_end, staged_span, masked_padding, masked_record, staged_word, staged_word_at, staged_end, AreRising, IsStored}
+use Rattle.ring_table.specs.Changes.{blank, staged, opened, written, with_word, changed}
+use Rattle.ring_table.specs.Owners.{OwnedHistory, all_of, owned_by, edited_one, edited}
+use Rattle.ring_table.specs.Passing.{IsSettled}
+use Rattle.ring_table.specs.Services.{times_drawn, once_below}
+use Rattle.ring_table.specs.Views.{View, Wanted, with_claims}
+use Rattle.ring_table.specs.Rule.{Knows, Kept}
+use Rattle.ring_table.specs.ProducerSteps.{Mine, HasClaim, Changes, StoresPadding, open_header, StoresClaimed, StoresSettled, StoresBody, TakesWord}
+use Rattle.ring_table.proofs.StagedPlaces.{word_of_claim, one_at_place, one_at_position}
+use Rattle.ring_table.proofs.BodyWords.{length-with_word, body_word-with_word, bytes_of-with_word}
+use Rattle.ring_table.proofs.StagedWords.{staged_word-header, staged_word-padding, staged_word-stored, staged_word-staged, staged_word-opened, staged_word-written}
+use Rattle.ring_table.proofs.Histories.{MayReplace, MayReplaceAt, owned_by-edited, owned_by-edited_other, edited_one_here, get-edited, staged_end-edited, placed_edited}
+use Rattle.ring_table.proofs.OwnerLemmas.{rising_owned_by}
+use Rattle.ring_table.proofs.ReachLemmas.{Unsettled}
+use Rattle.ring_table.proofs.Seating.{sees_top_after, reseated}
+use Rattle.ring_table.proofs.Memories.{memory_edited, service_elsewhere, one_position, index_inside}
+use Rattle.ring_table.proofs.Loading.{Ok, Stands, stands}
+
+one_negated : (m n : ℕ) → neg_ℤ (pos m) ≡ neg_ℤ (pos n) → m ≡ n
+one_negated zero zero e = refl
+one_negated zero (suc n) e = absurd (omega (arith, ints))
+one_negated (suc m) zero e = absurd (omega (arith, ints))
+one_negated (suc m) (suc n) e = omega (arith, ints)
+
+-- a claimed header tells type id and length
+one_length : (type_id : ℤ) (n : ℕ) (type_id' : ℤ) (n' : ℕ) → 8 + n < 2 ^ 31 → 8 + n' < 2 ^ 31 → open_header type_id n ≡ open_header type_id' n' → n ≡ n'
+one_length type_id n type_id' n' small small' same =
+    let e = one_negated (8 + n) (8 + n') (sym (len_of-header (neg_ℤ (pos (8 + n))) type_id (fits_neg (8 + n) small)) ∙ ap (λ w. cast_signed w32 (w % 2 ^ 32)) same ∙ len_of-header (neg_ℤ (pos (8 + n'))) type_id' (fits_neg (8 + n') small')) in
+    omega arith
+
+one_type : (type_id : ℤ) (n : ℕ) (type_id' : ℤ) (n' : ℕ) → FitsSigned w32 type_id → 8 + n < 2 ^ 31 → FitsSigned w32 type_id' → 8 + n' < 2 ^ 31 → open_header type_id n ≡ open_header type_id' n' → type_id ≡ type_id'
+one_type type_id n type_id' n' fits small fits' small' same =
+    sym (type_of-header (neg_ℤ (pos (8 + n))) type_id (fits_neg (8 + n) small) fits) ∙ ap (λ w. cast_signed w32 (w / 2 ^ 32)) same ∙ type_of-header (neg_ℤ (pos (8 + n'))) type_id' (fits_neg (8 + n') small') fits'
+
+module _ (C start : ℕ) where
+  -- a word of an own claim that is not settled is stored
+  edits : (words : List ℕ) (views : List View) (r : Kept C start words views) (id : ℕ) (v : View) → get_elem? views id ≡ some v → (k : ℕ) (c : StagedClaim) → HasClaim v k c → (IsSettled c.stage → ⊥)
+      → (f : StagedClaim → StagedClaim) → MayReplace C c (f c) → (c.stage ≢ Moved → (f c).stage ≢ Moved)
+      → (q value : ℕ) → q % 8 ≡ 0 → c.from ≤ q → q < claim_end c → (c.place ≤ q) ⊎ (c.stage ≡ Moved) → staged_word (f c) q ≡ value → ((p : ℕ) → p % 8 ≡ 0 → p ≢ q → staged_word (f c) p ≡ staged_word c p)
+      → Kept C start (set words (index C q) value) (set views id (with_claims (changed c.place f v.producer.claims) v))
+  edits words views r id v at k c has un f may goes q value q8 lo hi late word others =
+      let h : OwnedHistory = r.hist in
+      let p : ℕ = c.place in
+      let h' : OwnedHistory = edited id p f h in
+      let w : View = with_claims (changed p f v.producer.claims) v in
+      let st = stands C start words views r id v at k c has un in
+      let below = st.lies.below in
+      let behind = st.behind_scan in
+      let m = r.memory in
+      let from = m.clears_from in
+      let to = m.clears_to in
+      let room = m.room in
+      let top : ℕ = staged_end start (all_of h) in
+      -- c is the only claim at its place
+      let only = λ (P : StagedClaim → Type 0) (own : P c) (j : ℕ) (x : ℕ × StagedClaim) (there : get_elem? h j ≡ some x) (e : x.1.place ≡ p). subst (λ (z : ℕ × StagedClaim). P z.1) (sym (one_at_place C start h j st.nth x (id, c) m.placed there st.there e)) own in
+      let may_all : MayReplaceAt C p f h = only (λ d. MayReplace C d (f d)) may in
+      let un_all : Unsettled p f h = only (λ d. (IsSettled d.stage → ⊥) × (d.stage ≢ Moved → (f d).stage ≢ Moved)) (un, goes) in
+      let low : r.consumer.scan ≤ q = ⊎_elim (λ (a : p ≤ q). omega arith) (λ (a : c.stage ≡ Moved). let padding = st.padding_behind a in omega arith) late in
+      let tops : staged_end start (all_of h') ≡ top = staged_end-edited id p f C start h may_all in
+      let placed' = placed_edited id p f C start h may_all m.placed in
+      let is_here = edited_one_here id p f c refl in
+      let word_now : staged_word_at (all_of h') q ≡ value =
+      word_of_claim C start h' st.nth (edited_one id p f (id, c)) q placed' (get-edited id p f h st.nth (id, c) st.there)
+      (subst (λ (z : StagedClaim). z.from ≤ q) (sym is_here) (let same = may.from in omega arith))
+      (subst (λ (z : StagedClaim). q < claim_end z) (sym is_here) (let place = may.place in let long = may.same_span in omega arith))
+      ∙ ap (λ (z : StagedClaim). staged_word z q) is_here ∙ word in
+      let inside = index_inside C start r.lawful q in
+      record {
+        lawful = r.lawful;
+        hist = h';
+        reader = r.reader;
+        consumer = r.consumer;
+        drawn = r.drawn;
+        memory = memory_edited C start r.lawful words r.consumer h m id p f may_all un_all q value q8 low (omega arith) word_now
+            (only (λ d. (i : ℕ) → i % 8 ≡ 0 → i ≢ q → staged_word (f d) i ≡ staged_word d i) others);
+        service = service_elsewhere C start r.lawful words r.consumer r.drawn r.service (index C q) value (λ e. omega arith) (λ e. omega arith) (λ e. omega arith) r.consumer (omega arith) refl;
+        seated = reseated top h r.reader r.consumer r.drawn views r.seated id v at (staged_end start (all_of h')) h' r.consumer r.drawn w
+            (let own = r.seated.each id v at in
+            record {
+              claims = ap (changed p f) own.claims ∙ sym (owned_by-edited id p f h);
+              tail_seen = subst (λ n. v.producer.seen_tail ≤ n) (sym tops) own.tail_seen;
+              head_seen = own.head_seen;
+              idle = λ none. record { claims = ap (changed p f) (own.idle none).claims; draws = (own.idle none).draws };
+              served = own.served;
+              consumes = own.consumes;
+            })
+            (λ j u ne knows. record {
+              claims = knows.claims ∙ sym (owned_by-edited_other id p f j h ne);
+              tail_seen = subst (λ n. u.producer.seen_tail ≤ n) (sym tops) knows.tail_seen;
+              head_seen = knows.head_seen;
+              idle = knows.idle;
+              served = knows.served;
+              consumes = knows.consumes;
+            })
+            refl
+            (λ j ne. owned_by-edited_other id p f j h ne)
+            (sees_top_after views id v w top (staged_end start (all_of h')) at refl tops (λ e. e ∙ sym tops) r.seated.latest)
+            (λ x. refl);
+      }
+
+  rising : (words : List ℕ) (views : List View) (r : Kept C start words views) (id : ℕ) (v : View) → get_elem? views id ≡ some v → AreRising v.producer.claims
+  rising words views r id v at = subst AreRising (sym (r.seated.each id v at).claims) (rising_owned_by C start id r.hist r.memory.placed)
+
+  -- two claims of a view that are not settled and have a word with one index at positions of theirs are at one place
+  same_place : (words : List ℕ) (views : List View) (r : Kept C start words views) (id : ℕ) (v : View) → v.capacity ≡ C → get_elem? views id ≡ some v → (k k' : ℕ) (c c' : StagedClaim) → HasClaim v k c → HasClaim v k' c' → (IsSettled c.stage → ⊥) → (IsSettled c'.stage → ⊥)
+      → (q q' : ℕ) → q % 8 ≡ 0 → q' % 8 ≡ 0 → c.from ≤ q → q < claim_end c → (c.place ≤ q) ⊎ (c.stage ≡ Moved) → c'.from ≤ q' → q' < claim_end c' → (c'.place ≤ q') ⊎ (c'.stage ≡ Moved) → index v.capacity q' ≡ index C q
+      → (c'.place ≡ c.place) × (q' ≡ q)
+  same_place words views r id v cap at k k' c c' has has' un un' q q' q8 q8' lo hi late lo' hi' late' same =
+      let st = stands C start words views r id v at k c has un in
+      let st' = stands C start words views r id v at k' c' has' un' in
+      let m = r.memory in
+      let from = m.clears_from in
+      let to = m.clears_to in
+      let room = m.room in
+      let below = st.lies.below in
+      let below' = st'.lies.below in
+      let behind = st.behind_scan in
+      let behind' = st'.behind_scan in
+      let low : r.consumer.scan ≤ q = ⊎_elim (λ (a : c.place ≤ q). omega arith) (λ (a : c.stage ≡ Moved). let padding = st.padding_behind a in omega arith) late in
+      let low' : r.consumer.scan ≤ q' = ⊎_elim (λ (a : c'.place ≤ q'). omega arith) (λ (a : c'.stage ≡ Moved). let padding = st'.padding_behind a in omega arith) late' in
+      let one : q' ≡ q = one_position C start r.lawful r.consumer.head q' q q8' q8 (omega arith) (omega arith) (omega arith) (omega arith) (ap (λ z. index z q') (sym cap) ∙ same) in
+      (ap (λ (z : ℕ × StagedClaim). z.1.place) (one_at_position C start r.hist st'.nth st.nth q (id, c') (id, c) m.placed st'.there st.there (omega arith) (omega arith) lo hi), one)
+
+  -- the header of a claim at the stage t is stored, and it is f of the claim from then on
+  header_step : (t : Stage) → (IsSettled t → ⊥) → (f : StagedClaim → StagedClaim) → (slots id : ℕ) (me : Mine) → me.0.capacity ≡ C → (k : ℕ) (c : StagedClaim) (value : ℕ) → HasClaim me.0 k c → c.stage ≡ t
+      → MayReplace C c (f c) → (f c).stage ≢ Moved → staged_word (f c) c.place ≡ value → ((p : ℕ) → p % 8 ≡ 0 → c.place % 8 ≡ 0 → p ≢ c.place → staged_word (f c) p ≡ staged_word c p)
+      → Allows (Ok C start) slots id me (index C c.place) (λ _. value) (λ _ me'. (me'.1 ≡ me.1) × Changes t (λ d. d.place) f (index C c.place) me.0 me'.0 × AreRising me.0.producer.claims)
+  header_step t un f slots id me cap k c value has is may stays word others s r wide at small =
+      let v : View = me.0 in
+      let un_c : IsSettled c.stage → ⊥ = λ z. un (subst IsSettled is z) in
+      let st = stands C start s.words s.views r id v at k c has un_c in
+      let padded = st.lies.padded in
+      let place8 = st.place_aligned in (
+        with_claims (changed c.place f v.producer.claims) v,
+        keeps,
+        tt,
+        edits s.words s.views r id v at k c has un_c f may (λ _. stays) c.place value place8 padded (omega arith) (inl (omega arith)) word (λ p p8 ne. others p p8 place8 ne),
+        (
+          refl,
+          (λ k' c' has' is' same.
+              let un_c' : IsSettled c'.stage → ⊥ = λ z. un (subst IsSettled is' z) in
+              let st' = stands C start s.words s.views r id v at k' c' has' un_c' in
+              let padded' = st'.lies.padded in
+              ap (λ p. with_claims (changed p f v.producer.claims) v) (sym (same_place s.words s.views r id v cap at k k' c c' has has' un_c un_c' c.place c'.place place8 st'.place_aligned padded (omega arith) (inl (omega arith)) padded' (omega arith) (inl (omega arith)) same).0)),
+          rising s.words s.views r id v at,
+        ),
+      )
+
+  -- the stage alone changes
+  stage_step : (t u : Stage) → (IsSettled t → ⊥) → u ≢ Moved → ((word : ℕ) → masked_padding u word ≡ masked_padding t word) → ((word : ℕ) → masked_record u word ≡ masked_record t word) → (slots id : ℕ) (me : Mine) → me.0.capacity ≡ C → (k : ℕ) (c : StagedClaim) (value : ℕ) → HasClaim me.0 k c → c.stage ≡ t → value ≡ masked_record u (header_of (claim_of (staged u c)))
+      → Allows (Ok C start) slots id me (index C c.place) (λ _. value) (λ _ me'. (me'.1 ≡ me.1) × Changes t (λ d. d.place) (staged u) (index C c.place) me.0 me'.0 × AreRising me.0.producer.claims)
+  stage_step t u un stays pads masks slots id me cap k c value has is value_is =
+      header_step t un (staged u) slots id me cap k c value has is (record { from = refl; place = refl; same_span = refl; message = λ m. m }) stays (staged_word-header (staged u c) c.place refl ∙ sym value_is)
+      (λ p p8 place8 ne. staged_word-staged c u p p8 place8 ne (λ word. masks word ∙ ap (λ z. masked_record z word) (sym is)) (λ _. pads (padding_header (c.place - c.from)) ∙ ap (λ z. masked_padding z (padding_header (c.place - c.from))) (sym is)))
+
+  pub settles : (u : ClaimState) (slots id : ℕ) (me : Mine) → me.0.capacity ≡ C → (k : ℕ) (c : StagedClaim) (value : ℕ) → HasClaim me.0 k c → c.stage ≡ Stored Open → value ≡ header_of (record { message = c.message; state = u })
+      → Allows (Ok C start) slots id me (index C c.place) (λ _. value) (λ _ me'. (me'.1 ≡ me.1) × StoresSettled u (index C c.place) me.0 me'.0 × AreRising me.0.producer.claims)
+  settles u = stage_step (Stored Open) (Stored u) (λ z. z) (λ e. cc) (λ _. refl) (λ _. refl)
+
+  pub pads : (slots id : ℕ) (me : Mine) → me.0.capacity ≡ C → (k : ℕ) (c : StagedClaim) (value : ℕ) → HasClaim me.0 k c → c.stage ≡ Moved → c.from < c.place → value ≡ padding_header (c.place - c.from)
+      → Allows (Ok C start) slots id me (index C c.from) (λ _. value) (λ _ me'. (me'.1 ≡ me.1) × StoresPadding (index C c.from) me.0 me'.0 × AreRising me.0.producer.claims)
+  pads slots id me cap k c value has is wraps value_is s r wide at small =
+      let v : View = me.0 in
+      let un : IsSettled c.stage → ⊥ = λ z. subst IsSettled is z in
+      let st = stands C start s.words s.views r id v at k c has un in
+      let place8 = st.place_aligned in (
+        with_claims (changed c.place (staged Padded) v.producer.claims) v,
+        keeps,
+        tt,
+        edits s.words s.views r id v at k c has un (staged Padded) (record { from = refl; place = refl; same_span = refl; message = λ m. m }) (λ _ e. cc) c.from value st.from_aligned (omega arith) (omega arith) (inr is)
+            (staged_word-padding (staged Padded c) c.from refl wraps ∙ sym value_is)
+            (λ p p8 ne. dite (ℕ_discrete p c.place)
+            (λ e. staged_word-header (staged Padded c) p e ∙ sym (staged_word-header c p e ∙ ap (λ z. masked_record z (header_of (claim_of c))) is))
+            (λ other. staged_word-staged c Padded p p8 place8 other (λ word. ap (λ z. masked_record z word) (sym is)) (λ e. absurd (ne e)))),
+        (
+          refl,
+          (λ k' c' has' is' same.
+              let un' : IsSettled c'.stage → ⊥ = λ z. subst IsSettled is' z in
+              let st' = stands C start s.words s.views r id v at k' c' has' un' in
+              let padded' = st'.lies.padded in
+              ap (λ p. with_claims (changed p (staged Padded) v.producer.claims) v) (sym (same_place s.words s.views r id v cap at k k' c c' has has' un un' c.from c'.from st.from_aligned st'.from_aligned (omega arith) (omega arith) (inr is) (omega arith) (omega arith) (inr is') same).0)),
+          rising s.words s.views r id v at,
+        ),
+      )
+
+  -- the claimed header fixes type id and length
+  pub opens : (slots id : ℕ) (me : Mine) → me.0.capacity ≡ C → (k : ℕ) (c : StagedClaim) (type_id : ℤ) (n value : ℕ) → value ≡ open_header type_id n → C ≤ 2 ^ 24 → HasClaim me.0 k c → c.stage ≡ Padded → span n ≡ staged_span c → IsMessage C (blank type_id n)
+      → Allows (Ok C start) slots id me (index C c.place) (λ _. value) (λ _ me'. (me'.1 ≡ me.1) × StoresClaimed (index C c.place) value me.0 me'.0 × AreRising me.0.producer.claims)
+  opens slots id me cap k c type_id n value value_is big has is long lawful s r wide at small =
+      let zeros : length (blank type_id n).body ≡ n = length-replicate n 0 in
+      let short : n ≤ C / 8 = omega (arith, lawful.short) in
+      let t = header_step Padded (λ z. z) (opened type_id n) slots id me cap k c value has is
+      (record { from = refl; place = refl; same_span = ap span zeros ∙ long; message = λ _. lawful })
+      (λ e. cc)
+      (staged_word-header (opened type_id n c) c.place refl ∙ ap (open_header type_id) zeros ∙ sym value_is)
+      (λ p p8 place8 ne. staged_word-opened c type_id n p p8 place8 ne is) s r wide at small in (
+        t.0,
+        t.1,
+        t.2,
+        t.3,
+        (
+          t.4.0,
+          (λ type_id' n' fits' small' same.
+              let same' = sym value_is ∙ same in
+              let types = one_type type_id n type_id' n' lawful.type_fits (omega arith) fits' small' same' in
+              let lengths = one_length type_id n type_id' n' (omega arith) small' same' in
+              subst (λ (z : ℤ × ℕ). Changes Padded (λ d. d.place) (opened z.0 z.1) (index C c.place) me.0 t.0) (λ i. (types i, lengths i)) t.4.1),
+          t.4.2,
+        ),
+      )
+
+  pub puts : (slots id : ℕ) (me : Mine) → me.0.capacity ≡ C → (k : ℕ) (c : StagedClaim) (o value : ℕ) → HasClaim me.0 k c → TakesWord o value c → value < 2 ^ 64
+      → Allows (Ok C start) slots id me (index C (c.place + 8 + o)) (λ _. value) (λ _ me'. (me'.1 ≡ me.1) × StoresBody (index C (c.place + 8 + o)) value me.0 me'.0 × AreRising me.0.producer.claims)
+  puts slots id me cap k c o value has takes below_64 s r wide at small =
+      let v : View = me.0 in
+      let un : IsSettled c.stage → ⊥ = λ z. subst IsSettled takes.stage z in
+      let st = stands C start s.words s.views r id v at k c has un in
+      let padded = st.lies.padded in
+      let place8 = st.place_aligned in
+      let q : ℕ = c.place + 8 + o in
+      let n : ℕ = length c.message.body in
+      let o8 = takes.aligned in
+      let lt : o < n = takes.inside in
+      let long = length-with_word o value c.message.body (omega arith) in (
+        with_claims (changed c.place (written o value) v.producer.claims) v,
+        keeps,
+        tt,
+        edits s.words s.views r id v at k c has un (written o value)
+            (record {
+              from = refl;
+              place = refl;
+              same_span = ap span long;
+              message = λ m. record { type_id = m.type_id; type_fits = m.type_fits; short = (let short = m.short in omega arith); bytes = bytes_of-with_word c.message.body o value m.bytes };
+            })
+            (λ stays. stays) q value (omega arith) (omega arith) (omega arith) (inl (omega arith))
+            (staged_word-stored (written o value c) q o (subst IsStored (sym takes.stage) tt) refl ∙ body_word-with_word c.message.body o value lt below_64 takes.zeros)
+            (λ p p8 ne. staged_word-written c o value p (omega arith) place8 o8 p8 ne),
+        (
+          refl,
+          (λ k' c' o' has' is' o8' lt' same.
+              let un' : IsSettled c'.stage → ⊥ = λ z. subst IsSettled is' z in
+              let st' = stands C start s.words s.views r id v at k' c' has' un' in
+              let padded' = st'.lies.padded in
+              let place8' = st'.place_aligned in
+              let n' : ℕ = length c'.message.body in
+              let q' : ℕ = c'.place + 8 + o' in
+              let one = same_place s.words s.views r id v cap at k k' c c' has has' un un' q q' (omega arith) (omega arith) (omega arith) (omega arith) (inl (omega arith)) (omega arith) (omega arith) (inl (omega arith)) same in
+              let places : c'.place ≡ c.place = one.0 in
+              let positions : q' ≡ q = one.1 in
+              let offsets : o ≡ o' = omega arith in
+              λ i. with_claims (changed (sym places i) (written (offsets i) value) v.producer.claims) v),
+          rising s.words s.views r id v at,
+        ),
+      )

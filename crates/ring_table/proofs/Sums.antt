@@ -1,0 +1,96 @@
+-- Lists of views, and sums over them.
+use Rattle.std.proofs.Common.{◌≡◌, ◌≢◌, ℕ, zero, suc, ◌+◌, ◌≤◌, ◌<◌, ◌⊎◌, List, [], ◌∷◌, ◌++◌, set, get_or, sym, refl, ap, ◌∙◌, subst, inl, inr, ⊎_elim, length, arith}
+use mathlib.Core.Option.{some, some-injective, some-ne-none}
+use lib.ListN.{get_elem?}
+use Rattle.atomic_table.proofs.Lists.{at_set}
+use Rattle.ring_table.specs.Services.{total}
+
+pub set_own : (l : List ℕ) (i : ℕ) → set l i (get_or l i 0) ≡ l
+set_own [] i = refl
+set_own (x ∷ xs) zero = refl
+set_own (x ∷ xs) (suc i) = ap (λ l. x ∷ l) (set_own xs i)
+
+module _ {A : Type 0} where
+  pub at_below : (l : List A) (i : ℕ) (a : A) → get_elem? l i ≡ some a → i < length l
+  at_below [] i a e = absurd (some-ne-none a (sym e))
+  at_below (x ∷ xs) zero a e = omega arith
+  at_below (x ∷ xs) (suc i) a e = let t = at_below xs i a e in omega arith
+
+  pub there_or_past : (l : List A) (j : ℕ) → ((a : A) × (get_elem? l j ≡ some a)) ⊎ (length l ≤ j)
+  there_or_past [] j = inr (omega arith)
+  there_or_past (x ∷ xs) zero = inl (x, refl)
+  there_or_past (x ∷ xs) (suc j) = ⊎_elim (λ t. inl t) (λ (le : length xs ≤ j). inr (omega arith)) (there_or_past xs j)
+
+  -- an entry of a list that got one more
+  pub at_more : (l : List A) (a b : A) (j : ℕ) → get_elem? (l ++ a ∷ []) j ≡ some b → (get_elem? l j ≡ some b) ⊎ ((j ≡ length l) × (a ≡ b))
+  at_more [] a b zero e = inr (refl, some-injective a b e)
+  at_more [] a b (suc j) e = absurd (some-ne-none b (sym e))
+  at_more (x ∷ xs) a b zero e = inl e
+  at_more (x ∷ xs) a b (suc j) e = ⊎_elim (λ t. inl t) (λ (t : (j ≡ length xs) × (a ≡ b)). inr (ap suc t.0, t.1)) (at_more xs a b j e)
+
+  -- what holds of each entry after one was set
+  pub each_after_set : (P Q : ℕ → A → Type 0) (l : List A) (id : ℕ) (w : A) → Q id w → ((j : ℕ) (a : A) → j ≢ id → P j a → Q j a) → ((j : ℕ) (a : A) → get_elem? l j ≡ some a → P j a) → (j : ℕ) (a : A) → get_elem? (set l id w) j ≡ some a → Q j a
+  each_after_set P Q l id w own others was j a e =
+      ⊎_elim (λ (t : (j ≡ id) × (w ≡ a)). subst (λ (z : ℕ × A). Q z.0 z.1) (λ i. (sym t.0 i, t.1 i)) own) (λ (t : (j ≢ id) × (get_elem? l j ≡ some a)). others j a t.0 (was j a t.1)) (at_set l id j w a e)
+
+  module _ (f : A → ℕ) where
+    pub total-set : (l : List A) (id : ℕ) (v w : A) → get_elem? l id ≡ some v → total f (set l id w) + f v ≡ total f l + f w
+    total-set [] id v w at = absurd (some-ne-none v (sym at))
+    total-set (x ∷ xs) zero v w at =
+        let same : f x ≡ f v = ap f (some-injective x v at) in
+        let rest : ℕ = total f xs in
+        let done : f w + rest + f v ≡ f x + rest + f w = omega arith in
+        done
+    total-set (x ∷ xs) (suc id) v w at =
+        let after : ℕ = total f (set xs id w) in
+        let rest : ℕ = total f xs in
+        let deeper : after + f v ≡ rest + f w = total-set xs id v w at in
+        let done : f x + after + f v ≡ f x + rest + f w = omega arith in
+        done
+
+    pub total-append : (l m : List A) → total f (l ++ m) ≡ total f l + total f m
+    total-append [] m = let rest : ℕ = total f m in let done : rest ≡ 0 + rest = omega arith in done
+    total-append (x ∷ xs) m =
+        let all : ℕ = total f (xs ++ m) in
+        let front : ℕ = total f xs in
+        let back : ℕ = total f m in
+        let deeper : all ≡ front + back = total-append xs m in
+        let done : f x + all ≡ f x + front + back = omega arith in
+        done
+
+    pub total-zero : (l : List A) (j : ℕ) (a : A) → total f l ≡ 0 → get_elem? l j ≡ some a → f a ≡ 0
+    total-zero [] j a none at = absurd (some-ne-none a (sym at))
+    total-zero (x ∷ xs) zero a none at =
+        let rest : ℕ = total f xs in
+        let zero_here : f x ≡ 0 = omega arith in
+        sym (ap f (some-injective x a at)) ∙ zero_here
+    total-zero (x ∷ xs) (suc j) a none at =
+        let rest : ℕ = total f xs in
+        let sum : f x + rest ≡ 0 = none in
+        let zero_there : rest ≡ 0 = omega arith in
+        total-zero xs j a zero_there at
+
+    -- where no other entry counts, the sum is that of one
+    pub total-sole : (l : List A) (id : ℕ) (v : A) → get_elem? l id ≡ some v → ((j : ℕ) (a : A) → j ≢ id → get_elem? l j ≡ some a → f a ≡ 0) → total f l ≡ f v
+    total-sole [] id v at none = absurd (some-ne-none v (sym at))
+    total-sole (x ∷ xs) zero v at none =
+        let rest : ℕ = total f xs in
+        let nothing : rest ≡ 0 = all_zero xs (λ j a there. none (suc j) a (λ e. omega arith) there) in
+        let same : f x ≡ f v = ap f (some-injective x v at) in
+        let done : f x + rest ≡ f v = omega arith in
+        done
+      where
+        all_zero : (l : List A) → ((j : ℕ) (a : A) → get_elem? l j ≡ some a → f a ≡ 0) → total f l ≡ 0
+        all_zero [] none = refl
+        all_zero (y ∷ ys) none =
+            let rest : ℕ = total f ys in
+            let nothing : rest ≡ 0 = all_zero ys (λ j. none (suc j)) in
+            let nothing_here : f y ≡ 0 = none 0 y refl in
+            let done : f y + rest ≡ 0 = omega arith in
+            done
+    total-sole (x ∷ xs) (suc id) v at none =
+        let rest : ℕ = total f xs in
+        let deeper : rest ≡ f v = total-sole xs id v at (λ j a ne there. none (suc j) a (λ e. ne (omega arith)) there) in
+        let nothing_here : f x ≡ 0 = none 0 x (λ e. omega arith) refl in
+        let done : f x + rest ≡ f v = omega arith in
+        done

@@ -1,0 +1,35 @@
+use Rattle.std.proofs.Common.{◌≡◌, ℕ, ◌+◌, ◌-◌, ◌%◌, ◌^◌, ◌<◌, length, sym, refl, ap, ◌∙◌, subst, arith, pos, neg_ℤ}
+use Rattle.ring_layout.specs.Headers.{padding_header}
+use Rattle.ring_table.proofs.HeaderCalls.{packs_padding}
+use Rattle.ring_layout.specs.Places.{index}
+use Rattle.ring_table.specs.Staged.{StagedClaim, Moved, Padded, Stored, AreRising}
+use Rattle.ring_table.specs.Changes.{blank, opened, staged, written}
+use Rattle.ring_table.specs.Views.{View}
+use Rattle.ring_table.specs.ProducerSteps.{Mine, StoresPadding}
+use Rattle.ring_table.proofs.Calls.{at_word, in_records, after_change}
+use Rattle.ring_table.proofs.Storing.{pads}
+use Rattle.ring_table.proofs.steps.producer.store_padding_header.Goals as goal
+
+pub store-requires : goal.store-requires
+store-requires c =
+    let s = c.requires.seat in
+    let h = c.requires.claim in
+    let me : Mine = c.args.producer.now.me in
+    let value : ℕ = c.pack_header-header.result in
+    let big = s.lawful.most in
+    let near = c.requires.near in
+    let value_is = packs_padding value (c.args.place - c.args.from) (omega arith) c.pack_header-header.ensures in (
+      s.table_is,
+      in_records _ c.args.capacity _ (c.args.from) s.words_are s.lawful c.word_at.ensures,
+      at_word c.args.ring.now.key c.args.capacity _ _ _ s.key_is _ _ (c.word_at.ensures ∙ ap (index c.args.capacity) (sym h.holds.from_is)) (λ _. value)
+          (λ i _ me'. (me'.1 ≡ me.1) × StoresPadding i me.0 me'.0 × AreRising me.0.producer.claims)
+          (pads c.args.capacity c.args.ring.now.key.start _ _ me s.view_is h.nth h.claim value h.there h.holds.stage (subst (λ (z : ℕ × ℕ). z.0 < z.1) (λ i. (sym h.holds.from_is i, h.claim.place)) h.holds.some_padding) (value_is ∙ λ i. padding_header (sym h.at_place i - sym h.holds.from_is i))),
+    )
+
+pub returns-clause-view : goal.returns-clause-view
+returns-clause-view c =
+    let h = c.requires.claim in
+    after_change Moved (λ c. c.from) (staged Padded) c.args.capacity _ c.args.place c.args.producer.now.me.0 _ _ h c.requires.seat.view_is h.holds.stage (c.word_at.ensures ∙ ap (index c.args.capacity) (sym h.holds.from_is)) c.store.ensures.2.1
+
+pub returns-clause-seat : goal.returns-clause-seat
+returns-clause-seat c = record { table = c.store.ensures.0; id = c.store.ensures.1; slots = c.store.ensures.2.0; capacity = ap (λ (v : View). v.capacity) (returns-clause-view c) }

@@ -1,0 +1,43 @@
+-- A claim as it is made, and how the steps of its producer change it.
+use Rattle.std.specs.Prelude.{ℕ, ◌-◌, ℤ, List, [], ◌∷◌, Bool, true, false, length, take, replicate, if◌then◌else◌, ◌==◌}
+use Rattle.std.specs.Int.{to_le_bytes, w64}
+use Rattle.ring_layout.specs.declared.message.Message.{Message}
+use Rattle.ring_layout.specs.declared.message.ClaimState.TheVariants.{Open}
+use Rattle.ring_layout.specs.History.{span, overwritten}
+use Rattle.ring_layout.specs.Places.{next_place}
+use Rattle.ring_table.specs.Staged.{StagedClaim, Stage, Moved, Padded, Stored}
+
+-- a message of n zero bytes
+abbrev pub blank : ℤ → ℕ → Message
+blank type_id n = record { type_id = type_id; body = replicate n 0 }
+
+-- the stage of a claim as the tail is moved, by whether no padding is needed
+abbrev pub fresh_stage : Bool → Stage
+fresh_stage true = Padded
+fresh_stage false = Moved
+
+-- the claim of n bytes that a move of the tail from e makes
+abbrev pub fresh : ℕ → ℕ → ℤ → ℕ → StagedClaim
+fresh C e type_id n = let place = next_place C e (span n) in record { from = e; place = place; message = blank type_id n; stage = fresh_stage (e == place) }
+
+abbrev pub staged : Stage → StagedClaim → StagedClaim
+staged t c = record { from = c.from; place = c.place; message = c.message; stage = t }
+
+-- the claim with its header stored, which fixes its type id and length
+abbrev pub opened : ℤ → ℕ → StagedClaim → StagedClaim
+opened type_id n c = record { from = c.from; place = c.place; message = blank type_id n; stage = Stored Open }
+
+-- the body with the bytes of a word in place of its own from `at` on, as far as it goes
+abbrev pub with_word : ℕ → ℕ → List ℕ → List ℕ
+with_word at word body = overwritten at (take (length body - at) (to_le_bytes w64 word)) body
+
+abbrev pub written : ℕ → ℕ → StagedClaim → StagedClaim
+written at word c = record { from = c.from; place = c.place; message = record { type_id = c.message.type_id; body = with_word at word c.message.body }; stage = c.stage }
+
+abbrev pub changed_at : ℕ → (StagedClaim → StagedClaim) → StagedClaim → StagedClaim
+changed_at p f c = if c.place == p then f c else c
+
+-- the claim at the place p is changed
+abbrev pub changed : ℕ → (StagedClaim → StagedClaim) → List StagedClaim → List StagedClaim
+changed p f [] = []
+changed p f (c ∷ cs) = changed_at p f c ∷ changed p f cs

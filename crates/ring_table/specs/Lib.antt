@@ -1,0 +1,13 @@
+pub mod Staged
+pub mod Changes
+pub mod Owners
+pub mod Passing
+pub mod Services
+pub mod Views
+pub mod Rule
+pub mod Seats
+pub mod Closed
+pub mod OpenClaims
+pub mod ProducerSteps
+pub mod ConsumerSteps
+pub mod ServiceSteps

@@ -1,0 +1,22 @@
+-- How many claims are open, and what follows from it.
+use Rattle.std.specs.Prelude.{◌≡◌, ℕ, ◌+◌, ◌≤◌, ◌<◌, List, [], ◌∷◌, ◌++◌, ⊤}
+use mathlib.Core.Option.{some}
+use lib.ListN.{get_elem?}
+use Rattle.ring_layout.specs.declared.message.ClaimState.{ClaimState}
+use Rattle.ring_layout.specs.declared.message.ClaimState.TheVariants.{Open, Committed, Aborted}
+use Rattle.ring_table.specs.Staged.{StagedClaim, state_of}
+use Rattle.ring_table.specs.Services.{total}
+
+-- 1 for an open claim
+abbrev pub one_if_open : ClaimState → ℕ
+one_if_open Open = 1
+one_if_open Committed = 0
+one_if_open Aborted = 0
+
+abbrev pub open_count : List StagedClaim → ℕ
+open_count cs = total (λ (c : StagedClaim). one_if_open (state_of c.stage)) cs
+
+-- the places of the claims are below p
+abbrev pub AreBelow : ℕ → List StagedClaim → Type 0
+AreBelow p [] = ⊤
+AreBelow p (c ∷ cs) = (c.place < p) × AreBelow p cs

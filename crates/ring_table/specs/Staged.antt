@@ -1,0 +1,98 @@
+-- Claims whose headers may not be stored yet, and the words that they make.
+use Rattle.std.specs.Prelude.{◌≡◌, ℕ, ◌+◌, ◌-◌, ◌<◌, List, [], ◌∷◌, length, drop, if◌then◌else◌, nat_lt, ◌==◌, ⊤}
+use Rattle.std.specs.Int.{from_le_bytes, w64}
+use Rattle.ring_layout.specs.declared.message.Claim.{Claim}
+use Rattle.ring_layout.specs.declared.message.ClaimState.{ClaimState}
+use Rattle.ring_layout.specs.declared.message.ClaimState.TheVariants.{Open, Committed, Aborted}
+use Rattle.ring_layout.specs.History.{IsMessage, span}
+use Rattle.ring_layout.specs.Places.{next_place}
+use Rattle.ring_layout.specs.Headers.{padding_header}
+use Rattle.ring_layout.specs.Picture.{claim_word}
+pub use Rattle.ring_table.specs.declared.claim.StagedClaim.{StagedClaim}
+pub use Rattle.ring_table.specs.declared.claim.PlacedMessage.{PlacedMessage}
+pub use Rattle.ring_table.specs.declared.claim.Stage.{Stage}
+pub use Rattle.ring_table.specs.declared.claim.Stage.TheVariants.{Moved, Padded, Stored}
+
+-- the state of a claim, which is open until it is settled
+abbrev pub state_of : Stage → ClaimState
+state_of Moved = Open
+state_of Padded = Open
+state_of (Stored s) = s
+
+-- the claim without its place and stage
+abbrev pub claim_of : StagedClaim → Claim
+claim_of c = record { message = c.message; state = state_of c.stage }
+
+abbrev pub claims_of : List StagedClaim → List Claim
+claims_of [] = []
+claims_of (c ∷ cs) = claim_of c ∷ claims_of cs
+
+-- the bytes of a claim's record
+abbrev pub staged_span : StagedClaim → ℕ
+staged_span c = span (length c.message.body)
+
+abbrev pub claim_end : StagedClaim → ℕ
+claim_end c = c.place + staged_span c
+
+-- the padding's header, 0 before it is stored
+abbrev pub masked_padding : Stage → ℕ → ℕ
+masked_padding Moved word = 0
+masked_padding Padded word = word
+masked_padding (Stored s) word = word
+
+-- a word of the claim's record, 0 before its header is stored
+abbrev pub masked_record : Stage → ℕ → ℕ
+masked_record Moved word = 0
+masked_record Padded word = 0
+masked_record (Stored s) word = word
+
+-- the word of a claim, or of the padding before it, at the position p
+unfoldable pub staged_word : StagedClaim → ℕ → ℕ
+staged_word c p =
+    if nat_lt p c.place then (if p == c.from then masked_padding c.stage (padding_header (c.place - c.from)) else 0)
+    else masked_record c.stage (claim_word (claim_of c) (p - c.place))
+
+-- the word of a body from the offset `at` on
+unfoldable pub body_word : List ℕ → ℕ → ℕ
+body_word body at = from_le_bytes w64 (drop at body)
+
+-- the word at position p of claims that lie one behind the other, 0 behind them
+abbrev pub staged_word_at : List StagedClaim → ℕ → ℕ
+staged_word_at [] p = 0
+staged_word_at (c ∷ cs) p = if nat_lt p (claim_end c) then staged_word c p else staged_word_at cs p
+
+-- a lawful claim that comes after the end e
+pub record LiesAfter (C e : ℕ) (c : StagedClaim) : Type 0 where
+  pub from : c.from ≡ e
+  pub place : c.place ≡ next_place C e (staged_span c)
+  pub message : IsMessage C c.message
+
+-- the claims lie one behind the other from e on
+abbrev pub ArePlaced : ℕ → ℕ → List StagedClaim → Type 0
+ArePlaced C e [] = ⊤
+ArePlaced C e (c ∷ cs) = LiesAfter C e c × ArePlaced C (claim_end c) cs
+
+-- the end of claims from e on
+abbrev pub staged_end : ℕ → List StagedClaim → ℕ
+staged_end e [] = e
+staged_end e (c ∷ cs) = staged_end (claim_end c) cs
+
+-- the places of the claims are above p
+abbrev pub AreAbove : ℕ → List StagedClaim → Type 0
+AreAbove p [] = ⊤
+AreAbove p (c ∷ cs) = (p < c.place) × AreAbove p cs
+
+-- the places rise, so that none occurs twice
+abbrev pub AreRising : List StagedClaim → Type 0
+AreRising [] = ⊤
+AreRising (c ∷ cs) = AreAbove c.place cs × AreRising cs
+
+-- the header is stored, as it is of every claim between two calls
+abbrev pub IsStored : Stage → Type 0
+IsStored Moved = ⊥
+IsStored Padded = ⊥
+IsStored (Stored s) = ⊤
+
+abbrev pub AreStored : List StagedClaim → Type 0
+AreStored [] = ⊤
+AreStored (c ∷ cs) = IsStored c.stage × AreStored cs

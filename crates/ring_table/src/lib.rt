@@ -1,0 +1,31 @@
+//! The rule of a shared ring, and a small function for each kind of step.
+#![tactic(auto)]
+
+mod claim;
+mod laws;
+mod plays;
+mod rule;
+mod steps;
+mod table;
+mod view;
+
+pub use claim::{PlacedMessage, Stage, StagedClaim};
+pub use laws::{
+    last_claim_stands_last, newest_claim_changes_alone, open_claims_are_counted,
+    stored_claims_show_one_picture,
+};
+pub use rule::RingRule;
+pub use steps::consumer::{
+    clear_word, load_body_word, load_first_header, load_next_header, store_head, store_head_before,
+};
+pub use steps::producer::{
+    load_head, load_own_word, load_tail, move_tail, store_aborted_header, store_body_word,
+    store_claimed_header, store_committed_header, store_padding_header, store_tail,
+};
+pub use steps::seats::{join_consumer, join_producer, split_consumer, split_producer};
+pub use steps::service::{
+    draw_correlation_id, load_cache, load_heartbeat, store_cache, store_heartbeat,
+};
+pub use steps::{RingSeat, SharedRing};
+pub use table::{RingTable, close, open};
+pub use view::{ConsumerView, Key, ProducerView, Service, View, Wanted};

@@ -1,0 +1,70 @@
+//! What the steps of a producer tell.
+ghost use Rattle.std.specs.Prelude.{◌≡◌, ℕ};
+ghost use mathlib.Core.Option.{some};
+ghost use Rattle.ring_layout.specs.declared.message.ClaimState.TheVariants.{Aborted, Committed};
+ghost use Rattle.ring_table.specs.Staged.{AreRising};
+ghost use Rattle.ring_table.specs.Views.{Wanted, logged};
+ghost use Rattle.ring_table.specs.ProducerSteps.{LoadsTail, LoadsHead, MovesTail, MovesOwnTail, StoresPadding, StoresClaimed, StoresSettled, StoresBody, LoadsOwn};
+
+use crate::view::{View, Wanted};
+use atomic_table::Play;
+
+pub struct LoadTail;
+
+impl Play<Wanted, View> for LoadTail {
+    ghost then = { λ st me n me'. (me'.1 ≡ me.1) × LoadsTail me.0.capacity me.0 n me'.0 };
+}
+
+pub struct LoadHead;
+
+impl Play<Wanted, View> for LoadHead {
+    ghost then = { λ st me n me'. (me'.1 ≡ me.1) × LoadsHead me.0.capacity me.0 n me'.0 };
+}
+
+pub struct MoveTail;
+
+impl Play<Wanted, View> for MoveTail {
+    ghost then = { λ st me n me'. (me'.1 ≡ me.1) × ((wanted : Wanted) → st.said ≡ some wanted → MovesTail me.0.capacity st.first st.second wanted me.0 n me'.0) };
+}
+
+pub struct MoveOwnTail;
+
+impl Play<Wanted, View> for MoveOwnTail {
+    ghost then = { λ st me n me'. (me'.1 ≡ me.1) × MovesOwnTail me.0.capacity st.first me.0 me'.0 };
+}
+
+pub struct StorePadding;
+
+impl Play<Wanted, View> for StorePadding {
+    ghost then = { λ st me n me'. (me'.1 ≡ me.1) × StoresPadding st.word me.0 me'.0 × AreRising me.0.producer.claims };
+}
+
+pub struct StoreClaimed;
+
+impl Play<Wanted, View> for StoreClaimed {
+    ghost then = { λ st me n me'. (me'.1 ≡ me.1) × StoresClaimed st.word st.first me.0 me'.0 × AreRising me.0.producer.claims };
+}
+
+pub struct StoreCommitted;
+
+impl Play<Wanted, View> for StoreCommitted {
+    ghost then = { λ st me n me'. (me'.1 ≡ me.1) × StoresSettled Committed st.word me.0 me'.0 × AreRising me.0.producer.claims };
+}
+
+pub struct StoreAborted;
+
+impl Play<Wanted, View> for StoreAborted {
+    ghost then = { λ st me n me'. (me'.1 ≡ me.1) × StoresSettled Aborted st.word me.0 me'.0 × AreRising me.0.producer.claims };
+}
+
+pub struct StoreBody;
+
+impl Play<Wanted, View> for StoreBody {
+    ghost then = { λ st me n me'. (me'.1 ≡ me.1) × StoresBody st.word st.first me.0 me'.0 × AreRising me.0.producer.claims };
+}
+
+pub struct LoadOwn;
+
+impl Play<Wanted, View> for LoadOwn {
+    ghost then = { λ st me n me'. (me'.1 ≡ me.1) × (me'.0 ≡ logged st.word n me.0) × LoadsOwn st.word me.0 n × AreRising me.0.producer.claims };
+}

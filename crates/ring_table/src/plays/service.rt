@@ -1,0 +1,37 @@
+//! What the steps on the head cache, the correlation counter and the heartbeat tell.
+ghost use Rattle.std.specs.Prelude.{◌≡◌};
+ghost use Rattle.ring_table.specs.Views.{with_consumer, beaten};
+ghost use Rattle.ring_table.specs.ServiceSteps.{LoadsCache, DrawsId, LoadsHeartbeat};
+
+use crate::view::{View, Wanted};
+use atomic_table::Play;
+
+pub struct LoadCache;
+
+impl Play<Wanted, View> for LoadCache {
+    ghost then = { λ st me n me'. (me'.1 ≡ me.1) × LoadsCache me.0.capacity me.0 n me'.0 };
+}
+
+pub struct StoreCache;
+
+impl Play<Wanted, View> for StoreCache {
+    ghost then = { λ st me n me'. (me'.1 ≡ me.1) × (me'.0 ≡ me.0) };
+}
+
+pub struct DrawId;
+
+impl Play<Wanted, View> for DrawId {
+    ghost then = { λ st me n me'. (me'.1 ≡ me.1) × DrawsId me.0 n me'.0 };
+}
+
+pub struct LoadHeartbeat;
+
+impl Play<Wanted, View> for LoadHeartbeat {
+    ghost then = { λ st me n me'. (me'.1 ≡ me.1) × LoadsHeartbeat me.0.capacity me.0 n me'.0 };
+}
+
+pub struct StoreHeartbeat;
+
+impl Play<Wanted, View> for StoreHeartbeat {
+    ghost then = { λ st me n me'. (me'.1 ≡ me.1) × (me'.0 ≡ with_consumer (beaten st.first me.0.consumer) me.0) };
+}

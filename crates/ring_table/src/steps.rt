@@ -1,0 +1,34 @@
+//! One small function for each kind of step. Each is one load, store, exchange or addition of one word.
+pub mod consumer;
+pub mod producer;
+pub mod seats;
+pub mod service;
+
+ghost use Rattle.std.specs.Prelude.{◌≡◌, ◌+◌, ◌/◌, ◌<◌};
+ghost use Rattle.ring_layout.specs.Places.{index};
+
+use crate::rule::RingRule;
+use crate::view::{Key, View, Wanted};
+use atomic_table::{Seat, Shared};
+
+/// The words of a ring, as threads share them.
+pub type SharedRing = Shared<Wanted, View, Key, RingRule>;
+
+/// A seat at a ring's table: a producer's or the consumer's. It has no bytes.
+pub type RingSeat = Seat<Wanted, View>;
+
+/// The index of a word of the trailer, from the trailer's start.
+fn trailer_word(capacity: u32, word: usize) -> usize
+    requires { word < 96 }
+    ensures { result ≡ capacity / 8 + word }
+{
+    capacity as usize / 8 + word
+}
+
+/// The index of the word at a position.
+fn word_at(capacity: u32, position: u64) -> usize
+    requires { 0 < capacity }
+    ensures { result ≡ index capacity position }
+{
+    (position % u64::from(capacity)) as usize / 8
+}

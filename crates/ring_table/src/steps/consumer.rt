@@ -1,0 +1,92 @@
+//! The steps of the consumer.
+ghost use Rattle.std.specs.Prelude.{◌≡◌, ◌+◌, ◌%◌, ◌<◌, true};
+ghost use Rattle.ring_layout.specs.Places.{index};
+ghost use Rattle.ring_table.specs.Views.{logged};
+ghost use Rattle.ring_table.specs.ConsumerSteps.{ClearsWord, LoadsBody, LoadsHeader, StandsBefore, StoresHead, StoresHeadBefore};
+ghost use Rattle.ring_table.specs.Seats.{IsSameSeat, IsSeatOf};
+
+use crate::plays::consumer::{
+    ClearWord, LoadBody, LoadFirstHeader, LoadNextHeader, StoreHead, StoreHeadBefore,
+};
+use crate::steps::{RingSeat, SharedRing, trailer_word, word_at};
+use ring_layout::ring_buffer_descriptor::HEAD_POSITION_WORD;
+
+/// Loads the header at the head, as a read begins. What an earlier read got beyond the head is forgotten.
+pub fn load_first_header(
+    ring: &SharedRing,
+    consumer: &mut RingSeat,
+    capacity: u32,
+    head: u64,
+) -> u64
+    requires seat { IsSeatOf ring.now.table_id ring.now.key capacity consumer.old }
+    requires consumes { consumer.old.me.0.consumes ≡ true }
+    requires head { consumer.old.me.0.consumer.head ≡ head }
+    requires nothing_cleared { consumer.old.me.0.consumer.cleared ≡ head }
+    ensures seat { IsSameSeat consumer.old consumer.new }
+    ensures told { LoadsHeader capacity head consumer.old.me.0.consumer.taken consumer.old.me.0 result consumer.new.me.0 }
+{
+    ring.load::<LoadFirstHeader>(consumer, word_at(capacity, head))
+}
+
+/// Loads the header where the running read has come to.
+pub fn load_next_header(ring: &SharedRing, consumer: &mut RingSeat, capacity: u32, scan: u64) -> u64
+    requires seat { IsSeatOf ring.now.table_id ring.now.key capacity consumer.old }
+    requires consumes { consumer.old.me.0.consumes ≡ true }
+    requires scan { consumer.old.me.0.consumer.scan ≡ scan }
+    requires near { scan < consumer.old.me.0.consumer.head + capacity }
+    ensures seat { IsSameSeat consumer.old consumer.new }
+    ensures told { LoadsHeader capacity scan consumer.old.me.0.consumer.got consumer.old.me.0 result consumer.new.me.0 }
+{
+    ring.load::<LoadNextHeader>(consumer, word_at(capacity, scan))
+}
+
+/// Loads the word at a position, which tells what a message that the running read has got has there.
+pub fn load_body_word(
+    ring: &SharedRing,
+    consumer: &mut RingSeat,
+    capacity: u32,
+    position: u64,
+) -> u64
+    requires seat { IsSeatOf ring.now.table_id ring.now.key capacity consumer.old }
+    requires consumes { consumer.old.me.0.consumes ≡ true }
+    ensures seat { IsSameSeat consumer.old consumer.new }
+    ensures view { consumer.new.me.0 ≡ logged (index capacity position) result consumer.old.me.0 }
+    ensures told { LoadsBody (index capacity position) consumer.old.me.0 result }
+{
+    ring.load::<LoadBody>(consumer, word_at(capacity, position))
+}
+
+/// Sets the next word that the read has passed to 0.
+pub fn clear_word(ring: &SharedRing, consumer: &mut RingSeat, capacity: u32, cleared: u64)
+    requires seat { IsSeatOf ring.now.table_id ring.now.key capacity consumer.old }
+    requires consumes { consumer.old.me.0.consumes ≡ true }
+    requires cleared { consumer.old.me.0.consumer.cleared ≡ cleared }
+    requires passed { cleared < consumer.old.me.0.consumer.scan }
+    ensures seat { IsSameSeat consumer.old consumer.new }
+    ensures told { ClearsWord consumer.old.me.0 consumer.new.me.0 }
+{
+    ring.store::<ClearWord>(consumer, word_at(capacity, cleared), 0);
+}
+
+/// Stores the head behind all that the read has passed, which is cleared.
+pub fn store_head(ring: &SharedRing, consumer: &mut RingSeat, capacity: u32, head: u64)
+    requires seat { IsSeatOf ring.now.table_id ring.now.key capacity consumer.old }
+    requires consumes { consumer.old.me.0.consumes ≡ true }
+    requires scan { consumer.old.me.0.consumer.scan ≡ head }
+    requires cleared { consumer.old.me.0.consumer.cleared ≡ head }
+    ensures seat { IsSameSeat consumer.old consumer.new }
+    ensures told { StoresHead consumer.old.me.0 consumer.new.me.0 }
+{
+    ring.store::<StoreHead>(consumer, trailer_word(capacity, HEAD_POSITION_WORD), head);
+}
+
+/// Stores the head before the last message that the read has got, which stays in the ring.
+pub fn store_head_before(ring: &SharedRing, consumer: &mut RingSeat, capacity: u32, head: u64)
+    requires seat { IsSeatOf ring.now.table_id ring.now.key capacity consumer.old }
+    requires consumes { consumer.old.me.0.consumes ≡ true }
+    requires last { StandsBefore head consumer.old.me.0 }
+    ensures seat { IsSameSeat consumer.old consumer.new }
+    ensures told { StoresHeadBefore consumer.old.me.0 consumer.new.me.0 }
+{
+    ring.store::<StoreHeadBefore>(consumer, trailer_word(capacity, HEAD_POSITION_WORD), head);
+}

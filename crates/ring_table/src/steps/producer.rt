@@ -1,0 +1,188 @@
+//! The steps of a producer on the tail, the head and its claims.
+ghost use Rattle.std.specs.Prelude.{◌≡◌, ◌+◌, ◌%◌, ◌^◌, ◌<◌, ◌≤◌};
+ghost use Rattle.ring_layout.specs.declared.message.ClaimState.TheVariants.{Aborted, Committed, Open};
+ghost use Rattle.ring_layout.specs.History.{IsMessage};
+ghost use Rattle.ring_layout.specs.Places.{index};
+ghost use Rattle.ring_table.specs.Staged.{AreRising, Padded, Stored};
+ghost use Rattle.ring_table.specs.Changes.{blank, changed, opened, staged, written};
+ghost use Rattle.ring_table.specs.Views.{logged, with_claims};
+ghost use Rattle.ring_table.specs.ProducerSteps.{HasClaimAt, IsClaimable, IsOpen, LoadsHead, LoadsOwn, LoadsTail, MovesOwnTail, MovesTail, NeedsHeader, NeedsPadding, TakesWord};
+ghost use Rattle.ring_table.specs.Seats.{IsSameSeat, IsSeatOf};
+
+use crate::plays::producer::{
+    LoadHead, LoadOwn, LoadTail, MoveOwnTail, MoveTail, StoreAborted, StoreBody, StoreClaimed,
+    StoreCommitted, StorePadding,
+};
+use crate::steps::{RingSeat, SharedRing, trailer_word, word_at};
+use crate::view::Wanted;
+use ring_layout::pack_header;
+use ring_layout::record_descriptor::{HEADER_LENGTH, PADDING_MSG_TYPE_ID};
+use ring_layout::ring_buffer_descriptor::{HEAD_POSITION_WORD, TAIL_POSITION_WORD};
+
+/// Loads the tail, in bytes. A producer that has all shares finds the tail that it has seen.
+pub fn load_tail(ring: &SharedRing, producer: &mut RingSeat, capacity: u32) -> u64
+    requires { IsSeatOf ring.now.table_id ring.now.key capacity producer.old }
+    ensures seat { IsSameSeat producer.old producer.new }
+    ensures told { LoadsTail capacity producer.old.me.0 result producer.new.me.0 }
+{
+    ring.load::<LoadTail>(producer, trailer_word(capacity, TAIL_POSITION_WORD))
+}
+
+/// Loads the head, in bytes.
+pub fn load_head(ring: &SharedRing, producer: &mut RingSeat, capacity: u32) -> u64
+    requires { IsSeatOf ring.now.table_id ring.now.key capacity producer.old }
+    ensures seat { IsSameSeat producer.old producer.new }
+    ensures told { LoadsHead capacity producer.old.me.0 result producer.new.me.0 }
+{
+    ring.load::<LoadHead>(producer, trailer_word(capacity, HEAD_POSITION_WORD))
+}
+
+/// Moves the tail from `old` to `new` where it is still `old`, which makes a claim of `wanted`. Returns the tail found.
+pub fn move_tail(
+    ring: &SharedRing,
+    producer: &mut RingSeat,
+    capacity: u32,
+    old: u64,
+    new: u64,
+    wanted: Wanted,
+) -> u64
+    requires seat { IsSeatOf ring.now.table_id ring.now.key capacity producer.old }
+    requires share { 0 < producer.old.me.0.producer.shares }
+    requires room { IsClaimable capacity old new wanted.type_id wanted.len producer.old.me.0.producer.seen_head }
+    ensures seat { IsSameSeat producer.old producer.new }
+    ensures told { MovesTail capacity old new wanted producer.old.me.0 result producer.new.me.0 }
+{
+    let tail = trailer_word(capacity, TAIL_POSITION_WORD);
+    ring.compare_exchange_with::<MoveTail>(producer, tail, old, new, &wanted)
+}
+
+/// Moves the tail of a sole producer to `new`, which makes a claim of some type id and length with the right span. The
+/// claimed header fixes both.
+pub fn store_tail(
+    ring: &SharedRing,
+    producer: &mut RingSeat,
+    capacity: u32,
+    new: u64,
+    wanted: Wanted,
+)
+    requires seat { IsSeatOf ring.now.table_id ring.now.key capacity producer.old }
+    requires sole { producer.old.me.0.producer.shares ≡ 65536 }
+    requires room { IsClaimable capacity producer.old.me.0.producer.seen_tail new wanted.type_id wanted.len producer.old.me.0.producer.seen_head }
+    ensures seat { IsSameSeat producer.old producer.new }
+    ensures told { MovesOwnTail capacity new producer.old.me.0 producer.new.me.0 }
+{
+    ring.store::<MoveOwnTail>(producer, trailer_word(capacity, TAIL_POSITION_WORD), new);
+}
+
+/// Stores the header of the padding that lies from `from` up to the claim's place, both in bytes.
+pub fn store_padding_header(
+    ring: &SharedRing,
+    producer: &mut RingSeat,
+    capacity: u32,
+    from: u64,
+    place: u64,
+)
+    requires seat { IsSeatOf ring.now.table_id ring.now.key capacity producer.old }
+    requires near { place ≤ from + capacity }
+    requires claim { HasClaimAt producer.old.me.0 place (NeedsPadding from) }
+    ensures seat { IsSameSeat producer.old producer.new }
+    ensures view { producer.new.me.0 ≡ with_claims (changed place (staged Padded) producer.old.me.0.producer.claims) producer.old.me.0 }
+    ensures rising { AreRising producer.old.me.0.producer.claims }
+{
+    let header = pack_header((place - from) as i32, PADDING_MSG_TYPE_ID);
+    ring.store::<StorePadding>(producer, word_at(capacity, from), header);
+}
+
+/// Stores the header of a claim of `len` bytes, its length negated. The claim is open from then on, with zeros for its
+/// bytes.
+pub fn store_claimed_header(
+    ring: &SharedRing,
+    producer: &mut RingSeat,
+    capacity: u32,
+    place: u64,
+    wanted: Wanted,
+)
+    requires seat { IsSeatOf ring.now.table_id ring.now.key capacity producer.old }
+    requires message { IsMessage capacity (blank wanted.type_id wanted.len) }
+    requires claim { HasClaimAt producer.old.me.0 place (NeedsHeader wanted.len) }
+    ensures seat { IsSameSeat producer.old producer.new }
+    ensures view { producer.new.me.0 ≡ with_claims (changed place (opened wanted.type_id wanted.len) producer.old.me.0.producer.claims) producer.old.me.0 }
+    ensures rising { AreRising producer.old.me.0.producer.claims }
+{
+    let len = (HEADER_LENGTH + wanted.len) as i32;
+    let header = pack_header(-len, wanted.type_id);
+    ring.store::<StoreClaimed>(producer, word_at(capacity, place), header);
+}
+
+/// Stores the header of a claim that is committed.
+pub fn store_committed_header(
+    ring: &SharedRing,
+    producer: &mut RingSeat,
+    capacity: u32,
+    place: u64,
+    wanted: Wanted,
+)
+    requires seat { IsSeatOf ring.now.table_id ring.now.key capacity producer.old }
+    requires message { IsMessage capacity (blank wanted.type_id wanted.len) }
+    requires claim { HasClaimAt producer.old.me.0 place (IsOpen wanted.type_id wanted.len) }
+    ensures seat { IsSameSeat producer.old producer.new }
+    ensures view { producer.new.me.0 ≡ with_claims (changed place (staged (Stored Committed)) producer.old.me.0.producer.claims) producer.old.me.0 }
+    ensures rising { AreRising producer.old.me.0.producer.claims }
+{
+    let header = pack_header((HEADER_LENGTH + wanted.len) as i32, wanted.type_id);
+    ring.store::<StoreCommitted>(producer, word_at(capacity, place), header);
+}
+
+/// Stores the header of a claim that is aborted: the type id of padding.
+pub fn store_aborted_header(
+    ring: &SharedRing,
+    producer: &mut RingSeat,
+    capacity: u32,
+    place: u64,
+    wanted: Wanted,
+)
+    requires seat { IsSeatOf ring.now.table_id ring.now.key capacity producer.old }
+    requires message { IsMessage capacity (blank wanted.type_id wanted.len) }
+    requires claim { HasClaimAt producer.old.me.0 place (IsOpen wanted.type_id wanted.len) }
+    ensures seat { IsSameSeat producer.old producer.new }
+    ensures view { producer.new.me.0 ≡ with_claims (changed place (staged (Stored Aborted)) producer.old.me.0.producer.claims) producer.old.me.0 }
+    ensures rising { AreRising producer.old.me.0.producer.claims }
+{
+    let header = pack_header((HEADER_LENGTH + wanted.len) as i32, PADDING_MSG_TYPE_ID);
+    ring.store::<StoreAborted>(producer, word_at(capacity, place), header);
+}
+
+/// Stores the word of an open claim's body at the byte offset `at`, a multiple of 8.
+pub fn store_body_word(
+    ring: &SharedRing,
+    producer: &mut RingSeat,
+    capacity: u32,
+    place: u64,
+    at: u64,
+    word: u64,
+)
+    requires seat { IsSeatOf ring.now.table_id ring.now.key capacity producer.old }
+    requires range { place + 8 + at < 2 ^ 64 }
+    requires claim { HasClaimAt producer.old.me.0 place (TakesWord at word) }
+    ensures seat { IsSameSeat producer.old producer.new }
+    ensures view { producer.new.me.0 ≡ with_claims (changed place (written at word) producer.old.me.0.producer.claims) producer.old.me.0 }
+    ensures rising { AreRising producer.old.me.0.producer.claims }
+{
+    ring.store::<StoreBody>(producer, word_at(capacity, place + 8 + at), word);
+}
+
+/// Loads the word at a position, which tells what the producer's own open claim has there.
+pub fn load_own_word(
+    ring: &SharedRing,
+    producer: &mut RingSeat,
+    capacity: u32,
+    position: u64,
+) -> u64
+    requires { IsSeatOf ring.now.table_id ring.now.key capacity producer.old }
+    ensures seat { IsSameSeat producer.old producer.new }
+    ensures view { producer.new.me.0 ≡ logged (index capacity position) result producer.old.me.0 }
+    ensures told { LoadsOwn (index capacity position) producer.old.me.0 result }
+    ensures rising { AreRising producer.old.me.0.producer.claims }
+{
+    ring.load::<LoadOwn>(producer, word_at(capacity, position))
+}

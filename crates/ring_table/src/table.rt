@@ -1,0 +1,64 @@
+//! A ring's table, from its making to its close.
+ghost use Rattle.std.specs.Prelude.{◌≡◌, ◌%◌, ◌≤◌, [], IfOk, true};
+ghost use Rattle.std.specs.Slots.{slots_items, slots_len, IsFull};
+ghost use Rattle.ring_layout.specs.Layout.{ring_words};
+ghost use Rattle.ring_layout.specs.Places.{max_position};
+ghost use Rattle.ring_table.specs.Rule.{IsLawful};
+ghost use Rattle.ring_table.specs.Views.{first_view};
+ghost use Rattle.ring_table.specs.Closed.{IsClosed, IsFresh, LeavesRest};
+ghost use Rattle.ring_table.specs.OpenClaims.{open_count};
+
+use crate::rule::RingRule;
+use crate::steps::RingSeat;
+use crate::view::{Key, View, Wanted};
+use atomic_table::{Closed, Table};
+use ring_layout::ring_buffer_descriptor::{
+    HEAD_CACHE_POSITION_WORD, HEAD_POSITION_WORD, TAIL_POSITION_WORD, TRAILER_WORDS,
+};
+use std::alloc::{AllocError, Global};
+
+/// A ring with its memory. Its field `shared` is what threads share.
+pub type RingTable = Table<Wanted, View, Key, RingRule, Global>;
+
+fn fresh_words(alloc: Global, key: Key) -> Result<Vec<u64>, AllocError>
+    requires { IsLawful key.capacity key.start }
+    ensures { IfOk result (λ v. IsFresh key.capacity key.start v.items) }
+{
+    let records = key.capacity as usize / 8;
+    let mut words = vec![in alloc; 0u64; records + TRAILER_WORDS]?;
+    words[records + TAIL_POSITION_WORD] = key.start;
+    words[records + HEAD_CACHE_POSITION_WORD] = key.start;
+    words[records + HEAD_POSITION_WORD] = key.start;
+    Ok(words)
+}
+
+/// A fresh ring, and its first seat, which is the only producer and the consumer. The only error is that there was no
+/// memory.
+pub fn open(alloc: Global, key: Key) -> Result<(RingTable, RingSeat), AllocError>
+    requires lawful { IsLawful key.capacity key.start }
+    requires limit { key.start ≤ max_position }
+    ensures words { IfOk result (λ t. t.0.shared.table_id.words ≡ ring_words key.capacity) }
+    ensures slots { IfOk result (λ t. t.0.shared.table_id.slots ≡ 0) }
+    ensures key { IfOk result (λ t. t.0.shared.key ≡ key) }
+    ensures seat { IfOk result (λ t. t.1.table_id ≡ t.0.shared.table_id) }
+    ensures view { IfOk result (λ t. t.1.me ≡ (first_view key, [])) }
+{
+    let words = fresh_words(alloc, key)?;
+    Table::of_words(alloc, words.as_slice(), &key)
+}
+
+/// The words of a ring, once all producers and the consumer were joined into this seat.
+pub fn close(table: RingTable, seat: RingSeat) -> Closed<Wanted, Global>
+    requires table { seat.table_id ≡ table.shared.table_id }
+    requires shares { seat.me.0.producer.shares ≡ 65536 }
+    requires consumes { seat.me.0.consumes ≡ true }
+    ensures word_count { slots_len result.words ≡ table.shared.table_id.words }
+    ensures slot_count { slots_len result.slots ≡ table.shared.table_id.slots }
+    ensures full { IsFull result.words }
+    ensures closed { IsClosed table.shared.key.capacity table.shared.key.start (slots_items result.words) seat.me.0 }
+
+    // Where no claim is open and no read is running, the words are the picture of what the reader left.
+    ensures rest { open_count seat.me.0.producer.claims ≡ 0 → seat.me.0.consumer.cleared ≡ seat.me.0.consumer.head → LeavesRest table.shared.key.capacity (slots_items result.words) seat.me.0 }
+{
+    table.close_with(seat)
+}
