@@ -312,8 +312,8 @@ went_on step limit old new s u n end on is stop =
 
 -- or it left one more
 pub aborts : {S : Type 0} (step : S → Message → S → Action → Type 0) (limit : ℕ) (old new : Ring) (s u v : S) (n : ℕ) (m : Message) (a : Action) (end : ReadEnd) → ReadsOn step limit old new s u n → end.messages ≡ n
-    → a ≡ Abort → step u m v a → IsNext new m → end.stopped ≡ Stop.Action → Aborts step limit old new s v end
-aborts step limit old new s u v n m a end on is abort stepped next stop =
+    → a ≡ Abort → step u m v a → IsNext new m → n < limit → (head_of old < head_of new → head_of new % new.capacity ≢ 0) → end.stopped ≡ Stop.Action → Aborts step limit old new s v end
+aborts step limit old new s u v n m a end on is abort stepped next below inside stop =
     let r = on.0 in
     record {
       before = u;
@@ -322,6 +322,8 @@ aborts step limit old new s u v n m a end on is abort stepped next stop =
       message = m;
       aborted = subst (λ (x : Action). step u m v x) abort stepped;
       next = next;
+      before_limit = omega (arith, is, below);
+      before_end = inside;
       stopped = stop;
     }
 

@@ -1,5 +1,5 @@
 -- What a read does.
-use Rattle.std.specs.Prelude.{◌≡◌, ◌≢◌, ◌⊎◌, ℕ, ◌%◌, ◌==◌, ◌&&◌, nat_lt, List, [], ◌∷◌, ◌++◌, length, All, if◌then◌else◌}
+use Rattle.std.specs.Prelude.{◌≡◌, ◌≢◌, ◌⊎◌, ℕ, ◌<◌, ◌%◌, ◌==◌, ◌&&◌, nat_lt, List, [], ◌∷◌, ◌++◌, length, All, if◌then◌else◌}
 use Rattle.ring_words.specs.declared.action.Action.{Action}
 use Rattle.ring_words.specs.declared.action.Action.TheVariants.{Abort, Break, Commit, Continue}
 use Rattle.ring_words.specs.declared.read_end.ReadEnd.{ReadEnd}
@@ -84,6 +84,8 @@ pub record Aborts {S : Type 0} (step : S → Message → S → Action → Type 0
   pub message : Message
   pub aborted : step before message t Abort
   pub next : IsNext new message
+  pub before_limit : end.messages < limit
+  pub before_end : head_of old < head_of new → head_of new % new.capacity ≢ 0
   pub stopped : end.stopped ≡ Stop.Action
 
 -- a read that the handler controls

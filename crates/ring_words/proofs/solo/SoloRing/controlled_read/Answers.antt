@@ -1,4 +1,4 @@
-use Rattle.std.proofs.Common.{rules, ◌≢◌, ◌%◌, ◌<◌, List, Some, FitsSigned, of_z, arith, sym, ap, subst, ◌∙◌, inl, inr}
+use Rattle.std.proofs.Common.{ℕ, rules, ◌≢◌, ◌%◌, ◌<◌, List, Some, FitsSigned, of_z, arith, sym, ap, subst, ◌∙◌, inl, inr}
 use Rattle.std.specs.Int.{w32}
 use Rattle.ring_layout.specs.declared.message.Claim.{Claim}
 use Rattle.ring_layout.specs.Headers.{padding_type}
@@ -134,8 +134,10 @@ returns-in-Abort-clause-controls g c =
     let loud : settled.type_id ≢ padding_type = λ e. c.if-settled.false (ap (of_z w32) e) in
     let e = c.show.ensures.shown in
     let next : IsNext c.show.new.self e.0 = subst (λ (r : Ring). IsNext r e.0) (sym c.show.ensures.same) (next_is mid e.0 settled loud c.in-Some.ensures.sees e.2) in
+    let at_end : head_of old < head_of c.show.new.self → head_of c.show.new.self % c.show.new.self.capacity ≢ 0 =
+    subst (λ (r : Ring). head_of old < head_of r → head_of r % r.capacity ≢ 0) (sym c.show.ensures.same) (λ lt. subst (λ (k : ℕ). head_of mid % k ≢ 0) (sym inv.0.0.moves.capacity) (inside lt)) in
     let on = subst (λ (r : Ring). ReadsOn g.H.Handler.step c.args.limit c.args.self.now r c.args.handler.now c.turns.handler c.turns.messages) (sym c.show.ensures.same) inv.0 in
-    inr (inr (aborts g.H.Handler.step c.args.limit c.args.self.now c.show.new.self c.args.handler.now c.turns.handler c.show.new.handler c.turns.messages e.0 c.show.result c.read_end-in-Abort.result on c.read_end-in-Abort.ensures.messages c.in-Abort.is e.1 next c.read_end-in-Abort.ensures.stopped))
+    inr (inr (aborts g.H.Handler.step c.args.limit c.args.self.now c.show.new.self c.args.handler.now c.turns.handler c.show.new.handler c.turns.messages e.0 c.show.result c.read_end-in-Abort.result on c.read_end-in-Abort.ensures.messages c.in-Abort.is e.1 next (omega (arith, inv.2, c.if-messages-limit.false)) at_end c.read_end-in-Abort.ensures.stopped))
 
 pub returns-in-Abort-clause-claims : goal.returns-in-Abort-clause-claims
 returns-in-Abort-clause-claims g c = λ t o.
