@@ -1,5 +1,5 @@
 -- The registry keeps agreeing with the value writes.
-use Rattle.std.proofs.Common.{◌≡◌, ◌≢◌, ◌⊎◌, ℕ, ℤ, zero, suc, ◌+◌, ◌<◌, Bool, true, false, cond, eqb, List, [], ◌∷◌, ◌++◌, length, set, fold, refl, sym, ap, subst, ◌∙◌, ⊎_elim, arith, inl, inr, get_or, get_or-set_other, get_or-set_same}
+use Rattle.std.proofs.Common.{◌≡◌, ◌≢◌, ℕ, ℤ, zero, suc, ◌+◌, ◌<◌, true, false, cond, eqb, List, [], ◌∷◌, ◌++◌, length, set, fold, refl, sym, ap, subst, ◌∙◌, ⊎_elim, inl, inr, get_or, get_or-set_other, get_or-set_same}
 use Rattle.std.proofs.Math.ListN.{length-set}
 use Rattle.std.specs.Prelude.{Some, None, Result, Ok, Err}
 use Rattle.std.proofs.lemmas.Bool.{cases_lt, le-leb, cond-true}
@@ -21,11 +21,11 @@ value_stored : (cs : List Counter) (id k : ℕ) (c : Counter) → id < length cs
 value_stored cs id k c less =
     ⊎_elim
     (λ (t : (eqb id k ≡ true) × (id ≡ k)).
-        subst (λ j. value_at (set cs id c) j ≡ c.values.value) t.1 (ap (λ (x : Counter). x.values.value) (get_or-set_same cs id c unused_counter less))
-        ∙ sym (ap (λ b. cond b c.values.value (value_at cs k)) t.0))
+    subst (λ j. value_at (set cs id c) j ≡ c.values.value) t.1 (ap (λ (x : Counter). x.values.value) (get_or-set_same cs id c unused_counter less))
+    ∙ sym (ap (λ b. cond b c.values.value (value_at cs k)) t.0))
     (λ (f : (eqb id k ≡ false) × (id ≢ k)).
-        ap (λ (x : Counter). x.values.value) (get_or-set_other cs id k c unused_counter (λ e. f.1 (sym e)))
-        ∙ sym (ap (λ b. cond b c.values.value (value_at cs k)) f.0))
+    ap (λ (x : Counter). x.values.value) (get_or-set_other cs id k c unused_counter (λ e. f.1 (sym e)))
+    ∙ sym (ap (λ b. cond b c.values.value (value_at cs k)) f.0))
     (eqb_tells id k)
 
 -- a counter is stored, and its value is written

@@ -1,16 +1,15 @@
 -- The words of a record say what the record is.
-use Rattle.std.proofs.Common.{◌≡◌, ◌≢◌, ℕ, zero, suc, ◌+◌, ◌-◌, ◌*◌, ◌/◌, ◌%◌, ◌^◌, ◌<◌, ◌≤◌, ◌==◌, ℤ, pos, negsuc, FitsSigned, List, [], ◌∷◌, ◌++◌, map, length, drop, take, set, replicate, slice_index, refl, sym, ap, subst, ◌∙◌, arith, inl, inr, get_or, get_or-set_other, get_or-set_same, All}
-use Rattle.std.specs.List.{range_with_len}
+use Rattle.std.proofs.Common.{◌≡◌, ℕ, zero, suc, ◌+◌, ◌-◌, ◌*◌, ◌/◌, ◌%◌, ◌^◌, ◌<◌, ◌≤◌, ℤ, pos, negsuc, FitsSigned, List, [], ◌∷◌, ◌++◌, length, drop, set, replicate, slice_index, refl, sym, ap, subst, ◌∙◌, arith, inl, inr, get_or-set_other, get_or-set_same, All}
 use Rattle.std.proofs.Math.ListN.{length-set}
-use Rattle.std.specs.Int.{Width, cast_signed, cast_unsigned, from_le_bytes, to_le_bytes, w32, w64}
-use Rattle.std.proofs.lemmas.Bool.{cases_lt, cases_eq, lt-ltb, le-ltb, ne_eqb, cond-true, cond-false}
+use Rattle.std.specs.Int.{Width, cast_signed, cast_unsigned, w32, w64}
+use Rattle.std.proofs.lemmas.Bool.{cases_lt, lt-ltb, le-ltb, ne_eqb, cond-true, cond-false}
 use Rattle.std.proofs.lemmas.Int.{to_z-of_z}
 use Rattle.std.proofs.lemmas.Nat.{mod_low, shr_high, from_le_bytes-to_le_bytes_4}
-use Rattle.std.proofs.lemmas.List.{ext_get_or, length-append, length-replicate, get_or-drop, get_or_past, get_or_append_left, get_or-append_right, get_or-replicate}
+use Rattle.std.proofs.lemmas.List.{ext_get_or, length-append, length-replicate, get_or-drop, get_or_past, get_or_append_left, get_or-append_right}
 use Rattle.std.proofs.lemmas.List.Elements.{All-get_or, All-from_get_or}
 use Rattle.std.proofs.lemmas.List.FromFn.{length-map-range_with_len, get_or-map-range_with_len}
 use Rattle.ring_counters.specs.Counter.{Status, Unused, Allocated, Reclaimed, Metadata, Values, padded, unused_metadata, unused_values, state_of, deadline_of, word_of_bytes, state_word, label_text, metadata_word, value_word}
-use Rattle.ring_counters.specs.Records.{byte_at, bytes_at, status_from, metadata_of, values_of, IsLawful, IsMetadata, SomeMetadata, IsValues, SomeValues}
+use Rattle.ring_counters.specs.Records.{byte_at, bytes_at, status_from, metadata_of, values_of, IsMetadata, SomeMetadata, IsValues, SomeValues}
 use borrow.Rule.Slice.PartMut.{put_mid}
 use Rattle.ring_layout.proofs.HeaderLemmas.{pattern_below}
 use Rattle.ring_layout.proofs.WordBytes.{byte_of_word, from_le_bytes-same}
@@ -178,15 +177,15 @@ module _ (words : List ℕ) (m : Metadata) (h : IsMetadata words m) where
   unfolding metadata_of
   metadata_decoded =
       let key : bytes_at words 16 112 ≡ m.key =
-          ext_get_or 0 (bytes_at words 16 112) m.key (length-map-range_with_len (byte_at words) 16 112 ∙ sym h.lawful.key_length)
-          (λ k lt. let lt' : k < 112 = omega (arith, length-map-range_with_len (byte_at words) 16 112) in
-          get_or-map-range_with_len (byte_at words) 16 112 k (16 + k) 0 lt' refl ∙ key_byte k lt') in
+      ext_get_or 0 (bytes_at words 16 112) m.key (length-map-range_with_len (byte_at words) 16 112 ∙ sym h.lawful.key_length)
+      (λ k lt. let lt' : k < 112 = omega (arith, length-map-range_with_len (byte_at words) 16 112) in
+      get_or-map-range_with_len (byte_at words) 16 112 k (16 + k) 0 lt' refl ∙ key_byte k lt') in
       let n = length m.label in
       let few : n ≤ 380 = h.lawful.label_length in
       let label : bytes_at words 132 n ≡ m.label =
-          ext_get_or 0 (bytes_at words 132 n) m.label (length-map-range_with_len (byte_at words) 132 n)
-          (λ k lt. let lt' : k < n = omega (arith, length-map-range_with_len (byte_at words) 132 n) in
-          get_or-map-range_with_len (byte_at words) 132 n k (132 + k) 0 lt' refl ∙ label_byte k (omega arith)) in
+      ext_get_or 0 (bytes_at words 132 n) m.label (length-map-range_with_len (byte_at words) 132 n)
+      (λ k lt. let lt' : k < n = omega (arith, length-map-range_with_len (byte_at words) 132 n) in
+      get_or-map-range_with_len (byte_at words) 132 n k (132 + k) 0 lt' refl ∙ label_byte k (omega arith)) in
       λ i. record {
         status = status_decoded i;
         type_id = type_decoded i;
@@ -279,13 +278,13 @@ pub reclaimed_shown : (words : List ℕ) (m : Metadata) (state deadline : ℕ) �
 reclaimed_shown words m state deadline h len is = record {
   lawful = record { type_id = h.lawful.type_id; key_length = h.lawful.key_length; key = h.lawful.key; label_length = h.lawful.label_length; label = h.lawful.label };
   shows =
-    let first : (k : ℕ) → 2 ≤ k → slice_index (set (set words 0 state) 1 deadline) k ≡ slice_index words k =
-        λ k lo. get_or-set_other (set words 0 state) 1 k deadline 0 (λ e. omega arith) ∙ get_or-set_other words 0 k state 0 (λ e. omega arith) in
-    shows_from (set (set words 0 state) 1 deadline) (record m { status = Reclaimed deadline })
-    (get_or-set_other (set words 0 state) 1 0 deadline 0 (λ e. omega arith) ∙ get_or-set_same words 0 state 0 (omega arith) ∙ is)
-    (get_or-set_same (set words 0 state) 1 deadline 0 (omega (arith, length-set {A = ℕ})))
-    (λ k lo hi. first k lo ∙ h.shows k (omega arith) ∙ metadata_word-key m k lo hi)
-    (λ k lo hi. first k (omega arith) ∙ h.shows k hi ∙ metadata_word-label m k lo);
+      let first : (k : ℕ) → 2 ≤ k → slice_index (set (set words 0 state) 1 deadline) k ≡ slice_index words k =
+      λ k lo. get_or-set_other (set words 0 state) 1 k deadline 0 (λ e. omega arith) ∙ get_or-set_other words 0 k state 0 (λ e. omega arith) in
+      shows_from (set (set words 0 state) 1 deadline) (record m { status = Reclaimed deadline })
+      (get_or-set_other (set words 0 state) 1 0 deadline 0 (λ e. omega arith) ∙ get_or-set_same words 0 state 0 (omega arith) ∙ is)
+      (get_or-set_same (set words 0 state) 1 deadline 0 (omega (arith, length-set {A = ℕ})))
+      (λ k lo hi. first k lo ∙ h.shows k (omega arith) ∙ metadata_word-key m k lo hi)
+      (λ k lo hi. first k (omega arith) ∙ h.shows k hi ∙ metadata_word-label m k lo);
 }
 
 -- a record of zeros after all of an allocated counter was stored
@@ -316,8 +315,8 @@ allocated_shown type_id key label text w0 w1 w2 state fits small_key small_label
           (text_below 1 (omega arith) ∙ below 1 (omega arith) ∙ ap (λ l. slice_index l 1) is_w0)
           (λ k lo hi. text_below k hi ∙ key_word k lo hi ∙ word_of-padded 112 key (k - 2))
           (λ k lo hi.
-              let at : 16 + (k - 16) ≡ k = omega arith in
-              sym (ap (slice_index w2) at) ∙ text_inside (k - 16) (omega arith) ∙ word_of-same text (label_text label) text_is (k - 16));
+          let at : 16 + (k - 16) ≡ k = omega arith in
+          sym (ap (slice_index w2) at) ∙ text_inside (k - 16) (omega arith) ∙ word_of-same text (label_text label) text_is (k - 16));
     }
   where
     blank : (k : ℕ) → 2 ≤ k → slice_index w0 k ≡ 0

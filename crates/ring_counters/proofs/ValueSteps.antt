@@ -1,5 +1,5 @@
 -- Each step on the values keeps their rule.
-use Rattle.std.proofs.Common.{◌≡◌, ◌≢◌, ◌⊎◌, ℕ, ℤ, zero, suc, ◌+◌, ◌-◌, ◌^◌, ◌≤◌, ◌<◌, Bool, true, false, true≢false, cond, eqb, List, [], ◌∷◌, ◌++◌, length, set, replicate, refl, sym, ap, ◌∙◌, subst, ⊎_elim, arith, slice_index, append-nil, append_assoc, get_or, get_or-set_same, get_or-set_other, FitsSigned, pos}
+use Rattle.std.proofs.Common.{◌≡◌, ◌≢◌, ℕ, ℤ, zero, suc, ◌+◌, ◌-◌, ◌^◌, ◌≤◌, ◌<◌, Bool, true, false, true≢false, cond, eqb, List, [], ◌∷◌, ◌++◌, length, set, replicate, refl, sym, ap, ◌∙◌, subst, ⊎_elim, arith, slice_index, append-nil, append_assoc, get_or-set_same, get_or-set_other, FitsSigned, pos}
 use Rattle.std.specs.Int.{cast_signed, cast_unsigned, w64}
 use Rattle.std.proofs.Math.ListN.{length-set}
 use Rattle.std.proofs.lemmas.Bool.Decides.{eqb_tells}
@@ -7,8 +7,8 @@ use Rattle.std.proofs.lemmas.List.{length-replicate, set-get_or}
 use Rattle.std.proofs.lemmas.Int.{to_z-of_z, of_z-to_z}
 use mathlib.Core.Option.{some, some-ne-none, some-injective}
 use lib.ListN.{get_elem?}
-use Rattle.atomic_table.specs.Table.{State, Act, keeps, Allows, Splits, Joins}
-use Rattle.atomic_table.proofs.Lists.{at_set, at_snoc, set_again, set_else}
+use Rattle.atomic_table.specs.Table.{State, keeps, Allows, Splits, Joins}
+use Rattle.atomic_table.proofs.Lists.{at_set, at_snoc, set_else}
 use Rattle.ring_counters.specs.declared.rule.ValueWrite.{ValueWrite}
 use Rattle.ring_counters.specs.declared.rule.ValueLoad.{ValueLoad}
 use Rattle.ring_counters.specs.declared.rule.ValuesView.{ValuesView}
@@ -79,7 +79,6 @@ fits_set writer all views by w others mine j u e =
 
 not_writer : false ≡ true → ⊥
 not_writer e = true≢false (sym e)
-
 
 -- a load leaves the words as they are
 module _ (count : ℕ) (s : State (Unit {0}) ValuesView) (r : ValuesRule count s.words s.views) (id by : ℕ) (v w : ValuesView) (at : get_elem? s.views by ≡ some v) (same : w.shares ≡ v.shares) (fits : Fits r.0 r.1 by w) where

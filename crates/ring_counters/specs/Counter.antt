@@ -1,7 +1,6 @@
 -- What the two records of a counter say, and their words.
-use Rattle.std.specs.Prelude.{◌≡◌, ℕ, ◌+◌, ◌-◌, ◌*◌, ◌/◌, ◌%◌, ◌^◌, ◌<◌, ◌≤◌, ◌==◌, nat_lt, if◌then◌else◌, ℤ, pos, negsuc, FitsSigned, List, [], ◌++◌, map, length, drop, replicate, slice_index, All}
-use Rattle.std.specs.List.{range_with_len}
-use Rattle.std.specs.Int.{cast_signed, cast_unsigned, from_le_bytes, to_le_bytes, w32, w64}
+use Rattle.std.specs.Prelude.{ℕ, ◌+◌, ◌-◌, ◌*◌, ◌^◌, ◌==◌, nat_lt, if◌then◌else◌, ℤ, pos, negsuc, List, [], ◌++◌, length, drop, replicate}
+use Rattle.std.specs.Int.{cast_unsigned, from_le_bytes, to_le_bytes, w32, w64}
 
 -- a freed counter's id may be given again from a moment on
 pub data Status : Type 0 where

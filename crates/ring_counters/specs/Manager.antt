@@ -1,5 +1,6 @@
 -- What a manager shows.
 use Rattle.std.specs.Prelude.{◌≡◌, ℕ, List}
+use Rattle.atomic_table.specs.Seated.{TableId}
 use Rattle.ring_counters.specs.declared.rule.ValueWrite.{ValueWrite}
 use Rattle.ring_counters.specs.declared.seats.CounterValues.{CounterValues}
 use Rattle.ring_counters.specs.declared.manager.CountersManager.{CountersManager}
@@ -17,12 +18,16 @@ writes_of m = m.writer.seat.me.0.seen
 abbrev pub shares_of : CountersManager → ℕ
 shares_of m = m.writer.shares
 
+-- the table of values that the manager writes
+abbrev pub table_of : CountersManager → TableId
+table_of m = m.writer.seat.table_id
+
 -- these values are the manager's
 abbrev pub IsManagerOf : CounterValues → CountersManager → Type 0
-IsManagerOf values m = m.writer.seat.table_id ≡ values.table.shared.table_id
+IsManagerOf values m = table_of m ≡ values.table.shared.table_id
 
 -- no value was written, the shares are as before, and it is the manager of the same values
 pub record KeepsValues (old new : CountersManager) : Type 0 where
   pub same_writes : writes_of new ≡ writes_of old
   pub same_shares : shares_of new ≡ shares_of old
-  pub same_values : (values : CounterValues) → IsManagerOf values old → IsManagerOf values new
+  pub same_values : table_of new ≡ table_of old

@@ -1,5 +1,5 @@
 -- The rule of the values: one writer, many readers.
-use Rattle.std.specs.Prelude.{◌≡◌, ℕ, ◌+◌, ◌<◌, ◌≤◌, Bool, true, List, [], ◌∷◌, ◌++◌, length, slice_index, FitsSigned}
+use Rattle.std.specs.Prelude.{◌≡◌, ℕ, ◌+◌, ◌<◌, ◌≤◌, true, List, [], ◌∷◌, ◌++◌, length, slice_index, FitsSigned}
 use Rattle.std.specs.Int.{cast_signed, cast_unsigned, w64}
 use mathlib.Core.Option.{some}
 use lib.ListN.{get_elem?}

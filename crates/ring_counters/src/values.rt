@@ -16,7 +16,10 @@ const SHARES: u32 = 65536;
 
 impl CounterValues {
     /// The values of `count` ids, all 0, and their writer.
-    pub(crate) fn new(alloc: Global, count: usize) -> Result<(CounterValues, ValueWriter), AllocError>
+    pub(crate) fn new(
+        alloc: Global,
+        count: usize,
+    ) -> Result<(CounterValues, ValueWriter), AllocError>
         requires some { 0 < count }
         requires few { count ≤ 4096 }
         ensures { IfOk result (λ r. IsWriterOf r.0 r.1 × (values_count r.0 ≡ count) × (writer_writes r.1 ≡ []) × (r.1.shares ≡ 65536)) }
@@ -40,11 +43,9 @@ impl CounterValues {
         ensures writes { writer_writes writer.new ≡ writer_writes writer.old ++ value_write id value ∷ [] }
         ensures shares { writer.new.shares ≡ writer.old.shares }
     {
-        self.table.shared.store::<StoreValue>(
-            &mut writer.seat,
-            id as usize,
-            value.cast_unsigned(),
-        );
+        self.table
+            .shared
+            .store::<StoreValue>(&mut writer.seat, id as usize, value.cast_unsigned());
     }
 
     /// Loads the value of an id: of one never used 0, of a freed one its last value. It takes one step and no memory.
@@ -105,9 +106,7 @@ impl CounterValues {
             .shared
             .join_seat::<JoinReader>(&mut writer.seat, seat);
         // What the joined reader loaded is told by the next step alone.
-        self.table
-            .shared
-            .load::<LearnLoads>(&mut writer.seat, 0);
+        self.table.shared.load::<LearnLoads>(&mut writer.seat, 0);
         writer.shares = shares;
     }
 }

@@ -1,4 +1,4 @@
-use Rattle.std.proofs.Common.{◌≡◌, ℕ, ◌-◌, ◌<◌, ◌≤◌, replicate, vec_len, vec_capacity}
+use Rattle.std.proofs.Common.{◌≡◌, ◌≤◌, replicate, vec_len, vec_capacity}
 use Rattle.ring_counters.specs.Counter.{unused_metadata}
 use Rattle.ring_counters.proofs.records.unused_metadata_records.Given as goal
 

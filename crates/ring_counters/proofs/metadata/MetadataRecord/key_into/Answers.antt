@@ -1,4 +1,4 @@
-use Rattle.std.proofs.Common.{◌∙◌, sym, arith, length}
+use Rattle.std.proofs.Common.{◌∙◌, arith}
 use Rattle.std.proofs.lemmas.List.{ext_get_or}
 use Rattle.ring_counters.proofs.RecordLemmas.{metadata_known, key_byte}
 use Rattle.ring_counters.proofs.metadata.MetadataRecord.key_into.Goals as goal

@@ -1,6 +1,5 @@
-use Rattle.std.proofs.Common.{◌∙◌, ap}
-use Rattle.std.specs.Int.{cast_signed, w32}
-use Rattle.std.proofs.lemmas.Nat.{and_mask}
+use Rattle.std.proofs.Common.{◌∙◌}
+use Rattle.std.specs.Int.{w32}
 use Rattle.ring_counters.proofs.RecordLemmas.{metadata_known, type_decoded, signed}
 use Rattle.ring_counters.proofs.metadata.MetadataRecord.type_id.Goals as goal
 

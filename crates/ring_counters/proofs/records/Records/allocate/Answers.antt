@@ -1,6 +1,6 @@
-use Rattle.std.proofs.Common.{◌≡◌, ◌∙◌, sym, ap, Some, ℕ}
+use Rattle.std.proofs.Common.{◌≡◌, ◌∙◌, sym, ap, Some}
 use Rattle.ring_counters.specs.Registry.{without}
-use Rattle.ring_counters.proofs.KeptLemmas.{next_due, without_due, next_unused}
+use Rattle.ring_counters.proofs.ShownLemmas.{next_due, without_due, next_unused}
 use Rattle.ring_counters.proofs.records.Records.allocate.Goals as goal
 
 pub returns-in-Some-clause-id : goal.returns-in-Some-clause-id

@@ -1,5 +1,5 @@
-use Rattle.std.proofs.Common.{◌∙◌, ap, arith, set}
-use Rattle.ring_counters.proofs.KeptLemmas.{Shows, begun_inside, begun_kept, begun_shown}
+use Rattle.std.proofs.Common.{arith}
+use Rattle.ring_counters.proofs.ShownLemmas.{Shows, begun_inside, begun_kept, begun_shown}
 use Rattle.ring_counters.proofs.records.Records.begin.Goals as goal
 
 pub index_mut-requires : goal.index_mut-requires

@@ -1,5 +1,5 @@
 use Rattle.std.proofs.Common.{arith}
-use Rattle.ring_counters.proofs.KeptLemmas.{Shows, shown_size, shown_kept}
+use Rattle.ring_counters.proofs.ShownLemmas.{Shows, shown_size, shown_kept}
 use Rattle.ring_counters.proofs.records.Records.count.Goals as goal
 
 pub overflow_cast-result : goal.overflow_cast-result

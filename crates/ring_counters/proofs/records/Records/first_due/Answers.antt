@@ -2,7 +2,7 @@ use Rattle.std.proofs.Common.{◌≡◌, ℕ, ◌<◌, ◌≤◌, ◌∙◌, sym
 use Rattle.std.proofs.lemmas.List.{get_or_default}
 use Rattle.ring_counters.specs.Counter.{deadline_of}
 use Rattle.ring_counters.specs.Registry.{status_at, is_due}
-use Rattle.ring_counters.proofs.KeptLemmas.{Shows, shown_queue, queued_inside, queued_due, queued_not_due, rest_not_due, position_some, position_none}
+use Rattle.ring_counters.proofs.ShownLemmas.{Shows, shown_queue, queued_inside, queued_due, queued_not_due, rest_not_due, position_some, position_none}
 use Rattle.ring_counters.proofs.records.Records.first_due.Goals as goal
 
 pub index-requires-in-loop-at : goal.index-requires-in-loop-at

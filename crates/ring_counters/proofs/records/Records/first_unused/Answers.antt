@@ -1,7 +1,8 @@
-use Rattle.std.proofs.Common.{◌∙◌, arith, sym, Some, None, ℕ}
+use Rattle.std.proofs.Common.{◌∙◌, arith, sym}
 use Rattle.std.proofs.lemmas.Bool.{lt-ltb, le-ltb, cond-true, cond-false}
 use Rattle.ring_counters.specs.Registry.{count_of}
-use Rattle.ring_counters.proofs.KeptLemmas.{Shows, shown_size, shown_kept, unused_id-kept}
+use Rattle.ring_counters.proofs.KeptLemmas.{unused_id-kept}
+use Rattle.ring_counters.proofs.ShownLemmas.{Shows, shown_size, shown_kept}
 use Rattle.ring_counters.proofs.records.Records.first_unused.Goals as goal
 
 pub returns-then-self-len-clause-id : goal.returns-then-self-len-clause-id

@@ -1,4 +1,4 @@
-use Rattle.ring_counters.proofs.KeptLemmas.{fresh_shown, fresh_kept}
+use Rattle.ring_counters.proofs.ShownLemmas.{fresh_shown, fresh_kept}
 use Rattle.ring_counters.proofs.records.Records.new.Goals as goal
 
 pub invariant_of-result : goal.invariant_of-result

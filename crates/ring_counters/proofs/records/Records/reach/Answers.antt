@@ -1,5 +1,5 @@
 use Rattle.std.proofs.Common.{arith, length, ap}
-use Rattle.ring_counters.proofs.KeptLemmas.{Shows, shown_queue, first_deadline}
+use Rattle.ring_counters.proofs.ShownLemmas.{Shows, shown_queue, first_deadline}
 use Rattle.ring_counters.proofs.records.Records.reach.Goals as goal
 
 pub returns-then-self-clause-later : goal.returns-then-self-clause-later

@@ -1,7 +1,8 @@
-use Rattle.std.proofs.Common.{◌≡◌, ℕ, List, true, ◌+◌, ◌-◌, ◌<◌, ◌≤◌, ◌∙◌, ap, arith, length, sym, subst, get_or}
+use Rattle.std.proofs.Common.{◌≡◌, ℕ, List, true, ◌+◌, ◌-◌, ◌<◌, ◌≤◌, ◌∙◌, ap, arith, length, get_or}
 use Rattle.std.proofs.lemmas.List.{get_or_default}
 use Rattle.ring_counters.specs.Counter.{Reclaimed, deadline_of, unused_metadata}
-use Rattle.ring_counters.proofs.KeptLemmas.{Shows, all_inside, kept_room, allocated_below, room_left, reclaimed_shown, reclaimed_kept}
+use Rattle.ring_counters.proofs.KeptLemmas.{kept_room}
+use Rattle.ring_counters.proofs.ShownLemmas.{Shows, all_inside, allocated_below, room_left, reclaimed_shown, reclaimed_kept}
 use Rattle.ring_counters.proofs.records.Records.reclaim.Goals as goal
 
 pub index_mut-record-requires : goal.index_mut-record-requires
@@ -20,14 +21,14 @@ invariant_of-self c =
     let less : c.args.id < length c.self.inside.metadata.items = allocated_below _ _ _ _ _ _ _ _ s _ c.requires.allocated in
     let was = c.index_mut-record.ensures.value ∙ get_or_default _ _ _ unused_metadata less in
     let is : c.reclaim.new.self ≡ record (get_or c.self.inside.metadata.items c.args.id unused_metadata) { status = Reclaimed (c.args.now + c.self.inside.reuse_ms) } =
-        c.reclaim.ensures ∙ (λ i. record (was i) { status = Reclaimed (c.args.now + c.from.ensures i) }) in
+    c.reclaim.ensures ∙ (λ i. record (was i) { status = Reclaimed (c.args.now + c.from.ensures i) }) in
     let freed : List ℕ = c.self.inside.freed.items in
     let last : ℕ = get_or freed (length freed - 1) 0 in
     let same : deadline_of (get_or c.deref.result.now last unused_metadata).status ≡ deadline_of (get_or c.self.inside.metadata.items last unused_metadata).status =
-        ap (λ ms. deadline_of (get_or ms last unused_metadata).status) c.deref.ensures.value in
+    ap (λ ms. deadline_of (get_or ms last unused_metadata).status) c.deref.ensures.value in
     let still : c.stays_in_order-self-inside.result ≡ true → 0 < length freed
-        → (c.self.inside.in_order ≡ true) × (deadline_of (get_or c.self.inside.metadata.items last unused_metadata).status ≤ c.args.now + c.self.inside.reuse_ms) =
-        λ o some. (let h = c.stays_in_order-self-inside.ensures o some in (h.0, omega (arith, h.1, same, c.from.ensures))) in
+    → (c.self.inside.in_order ≡ true) × (deadline_of (get_or c.self.inside.metadata.items last unused_metadata).status ≤ c.args.now + c.self.inside.reuse_ms) =
+    λ o some. (let h = c.stays_in_order-self-inside.ensures o some in (h.0, omega (arith, h.1, same, c.from.ensures))) in
     let kept = reclaimed_kept _ _ _ _ _ _ _ _ s _ c.requires.allocated _ _ c.args.now c.stays_in_order-self-inside.result still is c.push_back_reserved.ensures.items in
     (kept.0, kept_room _ _ _ _ _ c.push_back_reserved.ensures.capacity kept.1)
 
@@ -37,7 +38,7 @@ returns c =
     let less : c.args.id < length c.self.inside.metadata.items = allocated_below _ _ _ _ _ _ _ _ s _ c.requires.allocated in
     let was = c.index_mut-record.ensures.value ∙ get_or_default _ _ _ unused_metadata less in
     let is : c.reclaim.new.self ≡ record (get_or c.self.inside.metadata.items c.args.id unused_metadata) { status = Reclaimed (c.args.now + c.self.inside.reuse_ms) } =
-        c.reclaim.ensures ∙ (λ i. record (was i) { status = Reclaimed (c.args.now + c.from.ensures i) }) in
+    c.reclaim.ensures ∙ (λ i. record (was i) { status = Reclaimed (c.args.now + c.from.ensures i) }) in
     reclaimed_shown _ _ _ _ _ _ _ _ s _ c.requires.allocated _ _ c.args.now is c.push_back_reserved.ensures.items
 
 pub stays_in_order-self-inside-requires : goal.stays_in_order-self-inside-requires

@@ -1,7 +1,8 @@
-use Rattle.std.proofs.Common.{◌≡◌, ◌<◌, ◌∙◌, ap, arith, length, get_or, remove, sym, subst}
+use Rattle.std.proofs.Common.{◌≡◌, ◌<◌, ◌∙◌, ap, arith, length, get_or, remove}
 use Rattle.std.proofs.lemmas.List.{get_or_default}
 use Rattle.ring_counters.specs.Registry.{Registry}
-use Rattle.ring_counters.proofs.KeptLemmas.{Shows, shown_size, kept_room, reused_inside, reused_kept, stored, shown_queue}
+use Rattle.ring_counters.proofs.KeptLemmas.{kept_room}
+use Rattle.ring_counters.proofs.ShownLemmas.{Shows, shown_size, reused_inside, reused_kept, stored, shown_queue}
 use Rattle.ring_counters.proofs.records.Records.reuse.Goals as goal
 
 pub index_mut-requires : goal.index_mut-requires

@@ -1,5 +1,4 @@
-use Rattle.ring_counters.proofs.KeptLemmas.{Shows, shown_kept}
-use Rattle.ring_counters.proofs.ListingLemmas.{passing_yes}
+use Rattle.ring_counters.proofs.ShownLemmas.{Shows, shown_kept}
 use Rattle.ring_counters.proofs.records.Records.used.Goals as goal
 
 pub returns-clause-most : goal.returns-clause-most

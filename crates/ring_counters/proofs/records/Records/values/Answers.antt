@@ -1,7 +1,7 @@
-use Rattle.std.proofs.Common.{◌≡◌, ◌<◌, ◌∙◌, ap, arith, length}
+use Rattle.std.proofs.Common.{◌<◌, ◌∙◌, ap, arith, length}
 use Rattle.std.proofs.lemmas.List.{get_or_default}
 use Rattle.ring_counters.specs.Counter.{Counter, unused_values}
-use Rattle.ring_counters.proofs.KeptLemmas.{Shows, shown_size, shown_at}
+use Rattle.ring_counters.proofs.ShownLemmas.{Shows, shown_size, shown_at}
 use Rattle.ring_counters.proofs.records.Records.values.Goals as goal
 
 pub index-requires : goal.index-requires

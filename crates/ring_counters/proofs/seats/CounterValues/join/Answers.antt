@@ -1,4 +1,4 @@
-use Rattle.std.proofs.Common.{arith, ◌<◌, ◌∙◌, ap}
+use Rattle.std.proofs.Common.{arith, ◌∙◌, ap}
 use Rattle.ring_counters.specs.declared.rule.ValuesView.{ValuesView}
 use Rattle.ring_counters.proofs.ValueSteps.{joins, learns}
 use Rattle.ring_counters.proofs.seats.CounterValues.join.Goals as goal

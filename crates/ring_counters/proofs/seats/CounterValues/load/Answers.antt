@@ -1,4 +1,4 @@
-use Rattle.std.proofs.Common.{arith, ◌<◌}
+use Rattle.std.proofs.Common.{arith}
 use Rattle.ring_counters.proofs.ValueSteps.{loads}
 use Rattle.ring_counters.proofs.seats.CounterValues.load.Goals as goal
 
