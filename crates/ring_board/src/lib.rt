@@ -16,7 +16,8 @@ mod view;
 
 pub use fault::{Lapped, MakeFault, NoShares, ReceiversOut, SubscribeFault, TransmitFault};
 pub use seats::{
-    BeginRefused, Begun, Board, BoardCloseRefused, ClosedBoard, Copied, CopyReceiver, Filled, Transmitter,
+    BeginRefused, Begun, Board, BoardCloseRefused, ClosedBoard, Copied, CopyReceiver, Filled,
+    Transmitter,
 };
 
 #[cfg(test)]
