@@ -1,16 +1,15 @@
 -- A receiver comes, and goes.
-use Rattle.std.proofs.Common.{◌≡◌, ℕ, zero, suc, ◌+◌, ◌-◌, ◌*◌, ◌/◌, ◌%◌, ◌^◌, ◌<◌, ◌≤◌, List, [], ◌∷◌, ◌++◌, length, get_or, set, refl, sym, ap, ◌∙◌, subst, inl, inr, ⊎_elim, arith, le_refl}
+use Rattle.std.proofs.Common.{◌≡◌, ℕ, zero, suc, ◌+◌, ◌-◌, ◌/◌, ◌%◌, ◌<◌, ◌≤◌, List, [], ◌∷◌, ◌++◌, length, get_or, set, refl, sym, ap, ◌∙◌, subst, inl, inr, ⊎_elim, arith, le_refl}
 use mathlib.Core.Option.{none, some, some-injective, some-ne-none}
 use lib.ListN.{get_elem?}
 use lib.Seq.{set-get_or}
 use Rattle.atomic_table.specs.Table.{step, keeps, stepped, Allows, Splits, Joins}
 use Rattle.atomic_table.proofs.Lists.{set_here, set_again, at_longer, at_snoc, set_else}
-use Rattle.ring_layout.specs.Places.{max_position}
 use Rattle.ring_board.specs.declared.view.Record.{Record}
 use Rattle.ring_board.specs.declared.view.View.{View}
 use Rattle.ring_board.specs.declared.view.Stage.{Stage}
 use Rattle.ring_board.specs.declared.view.Stage.TheVariants.{Idle, Resting}
-use Rattle.ring_board.specs.Records.{Chain, end_of, last_of}
+use Rattle.ring_board.specs.Records.{Chain, last_of}
 use Rattle.ring_board.specs.Runs.{AreRuns}
 use Rattle.ring_board.specs.Rule.{Logged, intent, latest, shown, Before, Fresh, Receives, Knows, total_shares, Holds}
 use Rattle.ring_board.specs.Steps.{Sat, fewer, newcomer, joined, spent, Learns}
@@ -34,15 +33,20 @@ last_entry x (y ∷ l) = let t = last_entry y l in (t.0, t.1)
 
 module _ (C e : ℕ) where
   -- at latest the last entry comes next, or all is empty
-  comes : (roomy : 256 ≤ C) (whole : C % 64 ≡ 0) (sent : List Record) → Chain C e sent → Before e sent (last_of e sent) (length sent - 1) × Fresh e sent (last_of e sent) (length sent - 1)
+  comes : (roomy : 256 ≤ C) (whole : C % 64 ≡ 0) (sent : List Record) → Chain C e sent
+      → Before e sent (last_of e sent) (length sent - 1) × Fresh e sent (last_of e sent) (length sent - 1)
   comes roomy whole [] c = (inr (refl, refl), inr (refl, refl, refl))
-  comes roomy whole (x ∷ xs) c = let q = last_entry x xs in let is : last_of e (x ∷ xs) ≡ q.0.place = (chain_last C roomy whole e (x ∷ xs) c (length xs) q.0 q.1 refl).1 in let k : length (x ∷ xs) - 1 ≡ length xs = omega arith in
+  comes roomy whole (x ∷ xs) c = let q = last_entry x xs in
+      let is : last_of e (x ∷ xs) ≡ q.0.place = (chain_last C roomy whole e (x ∷ xs) c (length xs) q.0 q.1 refl).1 in
+      let k : length (x ∷ xs) - 1 ≡ length xs = omega arith in
       let on = ap (get_elem? (x ∷ xs)) k ∙ q.1 in (inl (q.0, on, inl is), inl (q.0, on, is))
 
   pub subscribes : (id : ℕ) (v : View) → v.stage ≡ Idle → 0 < v.shares → Splits (Holds C e) id v (fewer v) (newcomer v)
-  subscribes id v eq some_share s b at = let h = owner C e s b id v Idle (λ by mine k. k) at eq in let w : View = fewer v in let u : View = newcomer v in let start = h.started in
+  subscribes id v eq some_share s b at = let h = owner C e s b id v Idle (λ by mine k. k) at eq in let w : View = fewer v in
+      let u : View = newcomer v in let start = h.started in
       let here : get_elem? (set s.views id w) id ≡ some w = set_here s.views id w (in_list s.views id v h.here) in
-      let keep : (j : ℕ) (x : View) (st : Stage) → Knows C e id v j x st → Knows C e id w j x st = λ j x st. knows_moves C e id v w (λ y k. k) (λ k r g. g) (le_refl (intent e v.sent v.stage)) j x st in
+      let keep : (j : ℕ) (x : View) (st : Stage) → Knows C e id v j x st
+      → Knows C e id w j x st = λ j x st. knows_moves C e id v w (λ y k. k) (λ k r g. g) (le_refl (intent e v.sent v.stage)) j x st in
       let c = comes h.roomy h.whole v.sent h.chain in
       let place : last_of v.start v.sent ≡ last_of e v.sent = ap (λ (y : ℕ). last_of y v.sent) start in
       let knows : Knows C e id w id u Resting = (
@@ -75,12 +79,17 @@ module _ (C e : ℕ) where
           valid = h.valid;
           running = h.running;
           exact = h.exact;
-          each_seat = λ j x g. ⊎_elim (λ old. seats_stay (λ j y. Knows C e id w j y y.stage) s.views id w (subst (Knows C e id w id w) (sym eq) refl) (λ j y _ on. keep j y y.stage (h.each_seat j y on)) j x old)
+          each_seat = λ j x g. ⊎_elim (λ old. seats_stay (λ j y. Knows C e id w j y y.stage) s.views id w (subst (Knows C e id w id w) (sym eq) refl)
+              (λ j y _ on. keep j y y.stage (h.each_seat j y on)) j x old)
               (λ (is : u ≡ x). subst (λ (y : View). Knows C e id w j y y.stage) is knows) (at_snoc (set s.views id w) u x j g);
-          each_copy = λ j x g. ⊎_elim (λ old. seats_stay (λ j y. AreRuns v.sent y.from y.copies) s.views id w (h.each_copy id v at) (λ j y _ on. h.each_copy j y on) j x old)
-              (λ (is : u ≡ x). subst (λ (y : View). AreRuns v.sent y.from y.copies) is (no_copies v.sent u.from)) (at_snoc (set s.views id w) u x j g);
-          each_log = λ j x g. ⊎_elim (λ old. seats_stay (λ j y. Logged C e v.sent v.stage y.log) s.views id w (h.each_log id v at) (λ j y _ on. h.each_log j y on) j x old)
-              (λ (is : u ≡ x). subst (λ (y : View). Logged C e v.sent v.stage y.log) is (no_log C e v.sent v.stage)) (at_snoc (set s.views id w) u x j g);
+          each_copy = λ j x g. ⊎_elim (λ old. seats_stay (λ j y. AreRuns v.sent y.from y.copies) s.views id w (h.each_copy id v at)
+              (λ j y _ on. h.each_copy j y on) j x old)
+              (λ (is : u ≡ x). subst (λ (y : View). AreRuns v.sent y.from y.copies) is (no_copies v.sent u.from))
+              (at_snoc (set s.views id w) u x j g);
+          each_log = λ j x g. ⊎_elim (λ old. seats_stay (λ j y. Logged C e v.sent v.stage y.log) s.views id w (h.each_log id v at)
+              (λ j y _ on. h.each_log j y on) j x old)
+              (λ (is : u ≡ x). subst (λ (y : View). Logged C e v.sent v.stage y.log) is (no_log C e v.sent v.stage))
+              (at_snoc (set s.views id w) u x j g);
           shares = let a = total_set s.views id v w at in let t = total_snoc (set s.views id w) u in let f = h.shares in omega arith;
         },
       )
@@ -89,7 +98,8 @@ module _ (C e : ℕ) where
   leaves id v other w eq s b at ne there = let h = owner C e s b id v Idle (λ by mine k. k) at eq in let u : View = joined v w in
       let was : get_elem? s.views other ≡ some w = sym (set_else s.views id other u ne) ∙ there in
       let here : get_elem? (set s.views id u) id ≡ some u = set_here s.views id u (in_list s.views id v h.here) in
-      let keep : (j : ℕ) (x : View) (st : Stage) → Knows C e id v j x st → Knows C e id u j x st = λ j x st. knows_moves C e id v u (λ y k. k) (λ k r g. g) (le_refl (intent e v.sent v.stage)) j x st in (
+      let keep : (j : ℕ) (x : View) (st : Stage) → Knows C e id v j x st
+      → Knows C e id u j x st = λ j x st. knows_moves C e id v u (λ y k. k) (λ k r g. g) (le_refl (intent e v.sent v.stage)) j x st in (
         id,
         u,
         record {
@@ -111,7 +121,8 @@ module _ (C e : ℕ) where
           running = h.running;
           exact = h.exact;
           each_seat = seats_stay (λ j y. Knows C e id u j y y.stage) (set s.views id u) other spent tt (λ j x _ on.
-              seats_stay (λ j y. Knows C e id u j y y.stage) s.views id u (subst (Knows C e id u id u) (sym eq) refl) (λ j y _ on. keep j y y.stage (h.each_seat j y on)) j x on);
+              seats_stay (λ j y. Knows C e id u j y y.stage) s.views id u (subst (Knows C e id u id u) (sym eq) refl)
+              (λ j y _ on. keep j y y.stage (h.each_seat j y on)) j x on);
           each_copy = seats_stay (λ j y. AreRuns v.sent y.from y.copies) (set s.views id u) other spent (no_copies v.sent 0) (λ j x _ on.
               seats_stay (λ j y. AreRuns v.sent y.from y.copies) s.views id u (h.each_copy other w was) (λ j y _ on. h.each_copy j y on) j x on);
           each_log = seats_stay (λ j y. Logged C e v.sent v.stage y.log) (set s.views id u) other spent (no_log C e v.sent v.stage) (λ j x _ on.
@@ -120,9 +131,26 @@ module _ (C e : ℕ) where
         },
       )
 
-  pub learns : (slots id : ℕ) (me : Sat) (i : ℕ) → me.0.stage ≡ Idle → i ≡ C / 8 + 2 → Allows (Holds C e) slots id me i (λ y. y) (Learns (step slots i 0 0 none) me)
+  pub learns : (slots id : ℕ) (me : Sat) (i : ℕ) → me.0.stage ≡ Idle → i ≡ C / 8 + 2
+      → Allows (Holds C e) slots id me i (λ y. y) (Learns (step slots i 0 0 none) me)
   learns slots id me i eq is s b _ at _ = let h = owner C e s b id me.0 Idle (λ by mine k. k) at eq in
-      let same : Holds C e (stepped s i (get_or s.words i 0) id me.1 me.0 keeps) = subst (λ (q : List ℕ × List View). Holds C e record { words = q.0; homes = s.homes; views = q.1 }) (λ k. (sym (set-get_or s.words i 0) k, sym (set_again s.views id me.0 at) k)) b in
-      let t = total_has s.views id me.0 at in let f = h.shares in let found = ap (λ (j : ℕ). get_or s.words j 0) is ∙ (h.latest_is ∙ (ap (λ (st : Stage). latest e me.0.sent st) eq ∙ ap (λ (y : ℕ). last_of y me.0.sent) (sym h.started))) in
-      (me.0, keeps, tt, same, (refl, found, h.each_copy id me.0 at, omega arith, (let y = h.latest_is in let z = last_low C h.roomy h.whole e me.0.sent h.chain in let l = h.low in let w = ap (λ (st : Stage). latest e me.0.sent st) eq in
-      let v = ap (λ (st : Stage). intent e me.0.sent st) eq in let u = ap (λ (j : ℕ). get_or s.words j 0) is in omega arith)))
+      let same : Holds C e (stepped s i (get_or s.words i 0) id me.1 me.0 keeps) = subst
+      (λ (q : List ℕ × List View). Holds C e record { words = q.0; homes = s.homes; views = q.1 })
+      (λ k. (sym (set-get_or s.words i 0) k, sym (set_again s.views id me.0 at) k)) b in
+      let t = total_has s.views id me.0 at in let f = h.shares in
+      let found = ap (λ (j : ℕ). get_or s.words j 0) is ∙ (h.latest_is
+      ∙ (ap (λ (st : Stage). latest e me.0.sent st) eq ∙ ap (λ (y : ℕ). last_of y me.0.sent) (sym h.started))) in (
+        me.0,
+        keeps,
+        tt,
+        same,
+        (
+          refl,
+          found,
+          h.each_copy id me.0 at,
+          omega arith,
+          (let y = h.latest_is in
+              let z = last_low C h.roomy h.whole e me.0.sent h.chain in let l = h.low in let w = ap (λ (st : Stage). latest e me.0.sent st) eq in
+              let v = ap (λ (st : Stage). intent e me.0.sent st) eq in let u = ap (λ (j : ℕ). get_or s.words j 0) is in omega arith),
+        ),
+      )

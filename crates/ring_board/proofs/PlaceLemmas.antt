@@ -1,10 +1,10 @@
 -- Positions and their indices, and lists of records that lie one behind the other.
-use Rattle.std.proofs.Common.{◌≡◌, ◌≢◌, ℕ, zero, suc, ◌+◌, ◌-◌, ◌*◌, ◌/◌, ◌%◌, ◌<◌, ◌≤◌, ◌⊎◌, List, [], ◌∷◌, ◌++◌, length, refl, sym, ap, ◌∙◌, subst, inl, inr, ⊎_elim, arith}
+use Rattle.std.proofs.Common.{◌≡◌, ◌≢◌, ℕ, zero, suc, ◌+◌, ◌-◌, ◌/◌, ◌%◌, ◌<◌, ◌≤◌, ◌⊎◌, List, [], ◌∷◌, ◌++◌, length, refl, sym, ap, ◌∙◌, subst, inl, inr, ⊎_elim, arith}
 use Rattle.std.proofs.lemmas.Bool.{cases_lt, le-leb, lt-leb, cond-true, cond-false}
 use Rattle.std.proofs.lemmas.Nat.{mod_below}
 use mathlib.Core.Option.{some, some-injective, some-ne-none}
 use lib.ListN.{get_elem?}
-use Rattle.ring_layout.specs.Places.{index, room, next_place}
+use Rattle.ring_layout.specs.Places.{index, room}
 use Rattle.ring_layout.proofs.Laps.{same_index}
 use Rattle.ring_layout.proofs.PlaceLemmas.{next_cases, next_le, next_within, next_aligned}
 use Rattle.ring_board.specs.declared.view.Record.{Record}
@@ -14,7 +14,8 @@ use Rattle.ring_board.specs.Steps.{place_before}
 -- a later position with the same index is a lap further
 pub a_lap_on : (a b C : ℕ) → 256 ≤ C → C % 64 ≡ 0 → a % 8 ≡ 0 → b % 8 ≡ 0 → a < b → index C a ≡ index C b → a + C ≤ b
 a_lap_on a b C roomy whole a8 b8 lt e = ⊎_elim
-    (λ near. let same : a ≡ b = same_index C a b (omega arith) (omega arith) a8 b8 e (omega arith) near in absurd (omega arith)) (λ far. far) (cases_lt b (a + C))
+    (λ near. let same : a ≡ b = same_index C a b (omega arith) (omega arith) a8 b8 e (omega arith) near in
+    absurd (omega arith)) (λ far. far) (cases_lt b (a + C))
 
 pub apart : (a b C : ℕ) → 256 ≤ C → C % 64 ≡ 0 → a % 8 ≡ 0 → b % 8 ≡ 0 → a < b → b < a + C → index C a ≢ index C b
 apart a b C roomy whole a8 b8 lt near e = let far = a_lap_on a b C roomy whole a8 b8 lt e in omega arith
@@ -33,7 +34,8 @@ module _ (C e b p z : ℕ) (l : Lies C e b p z) (roomy : 256 ≤ C) (whole : C %
 
   pub lies_near : z ≤ b + C
   lies_near = let s = l.short in let so = l.some_room in let below = mod_below b C (omega arith) in
-      ⊎_elim (λ t. let a = t.1 in let c : z ≤ b + C = omega arith in c) (λ t. let a = t.0 in let d = t.1 in let c : z ≤ b + C = omega arith in c) lies_cases
+      ⊎_elim (λ t. let a = t.1 in let c : z ≤ b + C = omega arith in c) (λ t. let a = t.0 in let d = t.1 in let c : z ≤ b + C = omega arith in
+      c) lies_cases
 
   pub lies_inside : p % C + (z - p) ≤ C
   lies_inside = let s = l.short in let w = next_within C b (z - p) (omega arith) (omega arith) in let m = ap (λ (x : ℕ). x % C) l.lies in omega arith
@@ -43,7 +45,8 @@ module _ (C e b p z : ℕ) (l : Lies C e b p z) (roomy : 256 ≤ C) (whole : C %
 
   -- padding is shorter than what comes behind it
   pub lies_needed : b < p → p < b + (z - p)
-  lies_needed lt = ⊎_elim (λ t. let a = t.0 in absurd (omega arith)) (λ t. let a = t.0 in let d = t.1 in let c : p < b + (z - p) = omega arith in c) lies_cases
+  lies_needed lt = ⊎_elim (λ t. let a = t.0 in absurd (omega arith)) (λ t. let a = t.0 in let d = t.1 in let c : p < b + (z - p) = omega arith in
+      c) lies_cases
 
   pub lies_before : place_before C b z ≡ p
   lies_before = let so = l.some_room in ⊎_elim
@@ -72,34 +75,41 @@ module _ (C : ℕ) (roomy : 256 ≤ C) (whole : C % 64 ≡ 0) where
   pub chain_rises : (e : ℕ) (l : List Record) → Chain C e l → e ≤ end_of e l
   chain_rises e [] c = omega arith
   chain_rises e (x ∷ xs) c =
-      let f = c.0.fits in let g = lies_after C e x.before x.place (end x) f roomy whole in let b = f.begins in let so = f.some_room in let i = chain_rises (end x) xs c.1 in omega arith
+      let f = c.0.fits in let g = lies_after C e x.before x.place (end x) f roomy whole in let b = f.begins in let so = f.some_room in
+      let i = chain_rises (end x) xs c.1 in omega arith
 
   -- an entry lies between the start and the end, and its successor behind it
-  pub chain_at : (e : ℕ) (l : List Record) → Chain C e l → (k : ℕ) (r : Record) → get_elem? l k ≡ some r → Follows C r.before r × (e ≤ r.before) × (end r ≤ end_of e l)
+  pub chain_at : (e : ℕ) (l : List Record) → Chain C e l → (k : ℕ) (r : Record) → get_elem? l k ≡ some r
+      → Follows C r.before r × (e ≤ r.before) × (end r ≤ end_of e l)
   chain_at e [] c k r at = absurd (some-ne-none r (sym at))
   chain_at e (x ∷ xs) c zero r at = let f : Follows C e x = c.0 in let b : x.before ≡ e = f.fits.begins in
       subst (λ (y : Record). Follows C y.before y × (e ≤ y.before) × (end y ≤ end_of (end x) xs)) (some-injective x r at)
       (subst (λ (d : ℕ). Follows C d x) (sym b) f, omega arith, chain_rises (end x) xs c.1)
-  chain_at e (x ∷ xs) c (suc k) r at = let i = chain_at (end x) xs c.1 k r at in let f : Follows C e x = c.0 in let b : x.before ≡ e = f.fits.begins in
+  chain_at e (x ∷ xs) c (suc k) r at = let i = chain_at (end x) xs c.1 k r at in let f : Follows C e x = c.0 in
+      let b : x.before ≡ e = f.fits.begins in
       let g = lies_after C e x.before x.place (end x) f.fits roomy whole in let so = f.fits.some_room in let o = i.1 in (i.0, omega arith, i.2)
 
-  pub chain_next : (e : ℕ) (l : List Record) → Chain C e l → (k : ℕ) (r q : Record) → get_elem? l k ≡ some r → get_elem? l (suc k) ≡ some q → q.before ≡ end r
+  pub chain_next : (e : ℕ) (l : List Record) → Chain C e l → (k : ℕ) (r q : Record) → get_elem? l k ≡ some r → get_elem? l (suc k) ≡ some q
+      → q.before ≡ end r
   chain_next e [] c k r q at on = absurd (some-ne-none r (sym at))
   chain_next e (x ∷ []) c zero r q at on = absurd (some-ne-none q (sym on))
   chain_next e (x ∷ y ∷ l) c zero r q at on = let b : y.before ≡ end x = c.1.0.fits.begins in
       subst (λ (z : Record). q.before ≡ end z) (some-injective x r at) (subst (λ (z : Record). z.before ≡ end x) (some-injective y q on) b)
   chain_next e (x ∷ xs) c (suc k) r q at on = chain_next (end x) xs c.1 k r q at on
 
-  pub chain_last : (e : ℕ) (l : List Record) → Chain C e l → (k : ℕ) (r : Record) → get_elem? l k ≡ some r → suc k ≡ length l → (end_of e l ≡ end r) × (last_of e l ≡ r.place)
+  pub chain_last : (e : ℕ) (l : List Record) → Chain C e l → (k : ℕ) (r : Record) → get_elem? l k ≡ some r → suc k ≡ length l
+      → (end_of e l ≡ end r) × (last_of e l ≡ r.place)
   chain_last e [] c k r at is = absurd (some-ne-none r (sym at))
   chain_last e (x ∷ []) c zero r at is = let s : x ≡ r = some-injective x r at in (ap end s, ap (λ (z : Record). z.place) s)
   chain_last e (x ∷ y ∷ l) c zero r at is = absurd (omega arith)
-  chain_last e (x ∷ xs) c (suc k) r at is = let i = chain_last (end x) xs c.1 k r at (omega arith) in (i.0, last_moves xs k r x.place (end x) at ∙ i.1)
+  chain_last e (x ∷ xs) c (suc k) r at is = let i = chain_last (end x) xs c.1 k r at (omega arith) in
+      (i.0, last_moves xs k r x.place (end x) at ∙ i.1)
 
   -- the last place is not beyond the end
   pub last_low : (e : ℕ) (l : List Record) → Chain C e l → last_of e l ≤ end_of e l
   last_low e [] c = omega arith
-  last_low e (x ∷ xs) c = let f = c.0.fits in let a = lies_after C e x.before x.place (end x) f roomy whole in let so = f.some_room in let i = chain_rises (end x) xs c.1 in
+  last_low e (x ∷ xs) c = let f = c.0.fits in let a = lies_after C e x.before x.place (end x) f roomy whole in let so = f.some_room in
+      let i = chain_rises (end x) xs c.1 in
       let j = last_low (end x) xs c.1 in ⊎_elim (λ g. omega arith) (λ g. omega arith) (last_or x.place (end x) xs)
     where
       last_or : (p q : ℕ) (l : List Record) → (last_of p l ≡ last_of q l) ⊎ ((last_of p l ≡ p) × (l ≡ []))

@@ -1,6 +1,5 @@
 -- What stays for the other seats, when one of them steps.
-use Rattle.std.proofs.Common.{◌≡◌, ◌≢◌, ℕ, zero, suc, ◌+◌, ◌-◌, ◌*◌, ◌/◌, ◌%◌, ◌^◌, ◌<◌, ◌≤◌, List, [], ◌∷◌, ◌++◌, length, get_or, set, sym, ap, ◌∙◌, subst, inl, inr, ⊎_elim, arith}
-use Rattle.std.proofs.lemmas.Nat.{mod_below}
+use Rattle.std.proofs.Common.{◌≡◌, ◌≢◌, ℕ, zero, suc, ◌+◌, ◌/◌, ◌%◌, ◌<◌, ◌≤◌, List, [], ◌∷◌, ◌++◌, length, get_or, set, sym, ap, ◌∙◌, subst, inl, inr, ⊎_elim, arith}
 use mathlib.Core.Option.{some, some-injective, some-ne-none}
 use lib.ListN.{get_elem?}
 use Rattle.atomic_table.specs.Table.{State}
@@ -25,7 +24,8 @@ total_set [] i v w e = absurd (some-ne-none v (sym e))
 total_set (x ∷ xs) zero v w e = let s : x.shares ≡ v.shares = ap (λ (y : View). y.shares) (some-injective x v e) in omega arith
 total_set (x ∷ xs) (suc i) v w e = let s = total_set xs i v w e in omega arith
 
-pub seats_stay : (F : ℕ → View → Type 0) (vs : List View) (id : ℕ) (w : View) → F id w → ((j : ℕ) (v : View) → j ≢ id → get_elem? vs j ≡ some v → F j v) → (j : ℕ) (v : View) → get_elem? (set vs id w) j ≡ some v → F j v
+pub seats_stay : (F : ℕ → View → Type 0) (vs : List View) (id : ℕ) (w : View) → F id w
+    → ((j : ℕ) (v : View) → j ≢ id → get_elem? vs j ≡ some v → F j v) → (j : ℕ) (v : View) → get_elem? (set vs id w) j ≡ some v → F j v
 seats_stay F vs id w mine others j v e = ⊎_elim (λ (t : (j ≡ id) × (w ≡ v)). subst (λ (x : ℕ × View). F x.0 x.1) (λ i. (sym t.0 i, t.1 i)) mine)
     (λ (t : (j ≢ id) × (get_elem? vs j ≡ some v)). others j v t.0 t.1) (at_set vs id j w v e)
 
@@ -54,18 +54,25 @@ runs_more sent r from copies h = record {
 -- the first record of a board lies at its start
 pub starts_there : (C e : ℕ) (r : Record) → 256 ≤ C → C % 64 ≡ 0 → e % C ≡ 0 → Follows C e r → r.place ≡ e
 starts_there C e r roomy whole al f = let b : r.before ≡ e = f.fits.begins in let sh = f.fits.short in
-    ⊎_elim (λ t. t.0 ∙ b) (λ t. let d = t.1 in let same : room C r.before ≡ C = ap (room C) b ∙ (let z : room C e ≡ C = omega arith in z) in absurd (omega arith)) (lies_cases C e r.before r.place (end r) f.fits roomy whole)
+    ⊎_elim (λ t. t.0 ∙ b) (λ t. let d = t.1 in let same : room C r.before ≡ C = ap (room C) b ∙ (let z : room C e ≡ C = omega arith in z) in
+    absurd (omega arith)) (lies_cases C e r.before r.place (end r) f.fits roomy whole)
 
 module _ (C e : ℕ) (sent : List Record) (r : Record) (roomy : 256 ≤ C) (whole : C % 64 ≡ 0) (al : e % C ≡ 0) (f : Follows C (end_of e sent) r) where
   pub receives_more : (v : View) → Receives e sent sent v → Receives e sent (sent ++ r ∷ []) v
   receives_more v h = record {
-    before = ⊎_elim (λ t. inl (t.0, at_longer sent (r ∷ []) v.next t.0 t.1, t.2)) (λ t. inl (r, at_last sent r v.next (sym t.0), inr (t.1 ∙ sym f.fits.begins))) h.before;
+    before = ⊎_elim (λ t. inl (t.0, at_longer sent (r ∷ []) v.next t.0 t.1, t.2))
+        (λ t. inl (r, at_last sent r v.next (sym t.0), inr (t.1 ∙ sym f.fits.begins))) h.before;
     climbs = h.climbs;
     past = λ i c at la. let p = h.past i c at la in (p.0, p.1, λ same. let q = p.2 same in (q.0, q.1, q.2, q.3, q.4));
     fresh = λ none zero. let q = h.fresh none zero in (
       q.0,
       ⊎_elim (λ t. inl (t.0, at_longer sent (r ∷ []) v.next t.0 t.1, t.2))
-          (λ t. inl (r, at_last sent r v.next (ap length t.0 ∙ sym t.1), t.2 ∙ sym (starts_there C e r roomy whole al (subst (λ (x : ℕ). Follows C x r) (ap (end_of e) t.0) f)))) q.1,
+          (λ t. inl (
+            r,
+            at_last sent r v.next (ap length t.0 ∙ sym t.1),
+            t.2
+                ∙ sym (starts_there C e r roomy whole al (subst (λ (x : ℕ). Follows C x r) (ap (end_of e) t.0) f)),
+          )) q.1,
     );
   }
 
@@ -80,7 +87,8 @@ sent_more e sent all r v h = record {
 -- Other seats --------------------------------------------------------------
 
 module _ (C e by : ℕ) (mine mine' : View) (grow : (v : View) → Receives e mine.sent (shown mine.sent mine.stage) v → Receives e mine'.sent (shown mine'.sent mine'.stage) v)
-    (more : (k : ℕ) (r : Record) → get_elem? mine.sent k ≡ some r → get_elem? mine'.sent k ≡ some r) (later : intent e mine.sent mine.stage ≤ intent e mine'.sent mine'.stage) where
+    (more : (k : ℕ) (r : Record) → get_elem? mine.sent k ≡ some r → get_elem? mine'.sent k ≡ some r)
+    (later : intent e mine.sent mine.stage ≤ intent e mine'.sent mine'.stage) where
   pub knows_moves : (j : ℕ) (v : View) (st : Stage) → Knows C e by mine j v st → Knows C e by mine' j v st
   knows_moves j v Spent h = tt
   knows_moves j v Idle h = h
@@ -97,23 +105,28 @@ module _ (C e by : ℕ) (mine mine' : View) (grow : (v : View) → Receives e mi
   knows_moves j v Behind h = let k = h.2 in (h.0, grow v h.1, (k.0, more v.next k.0 k.1, (let f = k.2 in omega arith)))
 
 -- what was loaded stays right where the counters rise
-pub loads_rise : (C e : ℕ) (sent : List Record) (st st' : Stage) → intent e sent st ≤ intent e sent st' → latest e sent st ≤ latest e sent st' → (l : Load) → LoadOk C e sent st l → LoadOk C e sent st' l
+pub loads_rise : (C e : ℕ) (sent : List Record) (st st' : Stage) → intent e sent st ≤ intent e sent st' → latest e sent st ≤ latest e sent st'
+    → (l : Load) → LoadOk C e sent st l → LoadOk C e sent st' l
 loads_rise C e sent st st' a b (Intent x) h = omega arith
 loads_rise C e sent st st' a b (Tail x) h = h
 loads_rise C e sent st st' a b (Latest x) h = omega arith
 loads_rise C e sent st st' a b (Word i t w) h = (h.0, λ k r on j y at is below now. h.1 k r on j y at is below (omega arith))
 
 -- and where the tail takes in a record
-pub loads_sent : (C e : ℕ) (sent : List Record) (r : Record) → 256 ≤ C → C % 64 ≡ 0 → Follows C (end_of e sent) r → (l : Load) → LoadOk C e sent (Shown r) l → LoadOk C e (sent ++ r ∷ []) Idle l
+pub loads_sent : (C e : ℕ) (sent : List Record) (r : Record) → 256 ≤ C → C % 64 ≡ 0 → Follows C (end_of e sent) r → (l : Load)
+    → LoadOk C e sent (Shown r) l → LoadOk C e (sent ++ r ∷ []) Idle l
 loads_sent C e sent r roomy whole f (Intent x) h = let s = end_snoc e sent r in omega arith
 loads_sent C e sent r roomy whole f (Tail x) h =
-    let s = end_snoc e sent r in let l = f.fits in let a = lies_after C (end_of e sent) r.before r.place (end r) l roomy whole in let b = l.begins in let so = l.some_room in omega arith
+    let s = end_snoc e sent r in let l = f.fits in let a = lies_after C (end_of e sent) r.before r.place (end r) l roomy whole in let b = l.begins in
+    let so = l.some_room in omega arith
 loads_sent C e sent r roomy whole f (Latest x) h = let s = last_snoc e sent r in omega arith
 loads_sent C e sent r roomy whole f (Word i t w) h =
-    let s = end_snoc e sent r in let l = f.fits in let a = lies_after C (end_of e sent) r.before r.place (end r) l roomy whole in let b = l.begins in let so = l.some_room in let le = h.0 in (
+    let s = end_snoc e sent r in let l = f.fits in let a = lies_after C (end_of e sent) r.before r.place (end r) l roomy whole in let b = l.begins in
+    let so = l.some_room in let le = h.0 in (
       omega arith,
       λ k q on j y at is below now. ⊎_elim (λ old. h.1 k q old j y at is below (omega arith))
-          (λ (new : r ≡ q). let w = stores_where r j y l.begins_whole (lies_whole C (end_of e sent) r.before r.place (end r) l roomy whole) a (subst (λ (u : Record). get_elem? (stores u) j ≡ some y) (sym new) at) in
+          (λ (new : r ≡ q). let w = stores_where r j y l.begins_whole (lies_whole C (end_of e sent) r.before r.place (end r) l roomy whole) a
+          (subst (λ (u : Record). get_elem? (stores u) j ≡ some y) (sym new) at) in
           let w0 = w.0 in absurd (omega arith)) (at_snoc sent r q k on),
     )
 
@@ -124,18 +137,24 @@ St = State (Unit {0}) View
 
 module _ (C e : ℕ) where
   -- the seat whose stage is one of the transmitter's is the transmitter's
-  pub owner : (s : St) → Holds C e s → (id : ℕ) (me : View) (st : Stage) → ((by : ℕ) (mine : View) → Knows C e by mine id me st → id ≡ by) → get_elem? s.views id ≡ some me → me.stage ≡ st → IsBoard C e id me s
+  pub owner : (s : St) → Holds C e s → (id : ℕ) (me : View) (st : Stage) → ((by : ℕ) (mine : View) → Knows C e by mine id me st → id ≡ by)
+      → get_elem? s.views id ≡ some me → me.stage ≡ st → IsBoard C e id me s
   owner s b id me st is at eq = let r = b.2 in let k = is b.0 b.1 (subst (Knows C e b.0 b.1 id me) eq (r.each_seat id me at)) in
-      let same : b.1 ≡ me = some-injective b.1 me (sym r.here ∙ (ap (get_elem? s.views) (sym k) ∙ at)) in subst (λ (t : ℕ × View). IsBoard C e t.0 t.1 s) (λ i. (sym k i, same i)) r
+      let same : b.1 ≡ me = some-injective b.1 me (sym r.here ∙ (ap (get_elem? s.views) (sym k) ∙ at)) in
+      subst (λ (t : ℕ × View). IsBoard C e t.0 t.1 s) (λ i. (sym k i, same i)) r
 
   module _ (s : St) (id : ℕ) (me w : View) (h : IsBoard C e id me s) (ws : List ℕ) where
     -- the rule after a step of the transmitter, clause by clause
-    pub rebuilt : length ws ≡ board_words C → w.capacity ≡ C → w.start ≡ e → w.at ≡ end_of e w.sent → Chain C e w.sent → intent e w.sent w.stage ≤ max_position
-        → get_or ws (intent_index C) 0 ≡ intent e w.sent w.stage → get_or ws (tail_index C) 0 ≡ end_of e w.sent → get_or ws (latest_index C) 0 ≡ latest e w.sent w.stage
-        → ((k : ℕ) (r : Record) → get_elem? w.sent k ≡ some r → (j : ℕ) (x : ℕ × ℕ) → get_elem? (stores r) j ≡ some x → intent e w.sent w.stage < x.0 + C → get_or ws (index C x.0) 0 ≡ x.1)
+    pub rebuilt : length ws ≡ board_words C → w.capacity ≡ C → w.start ≡ e → w.at ≡ end_of e w.sent → Chain C e w.sent
+        → intent e w.sent w.stage ≤ max_position
+        → get_or ws (intent_index C) 0 ≡ intent e w.sent w.stage → get_or ws (tail_index C) 0 ≡ end_of e w.sent
+        → get_or ws (latest_index C) 0 ≡ latest e w.sent w.stage
+        → ((k : ℕ) (r : Record) → get_elem? w.sent k ≡ some r → (j : ℕ) (x : ℕ × ℕ) → get_elem? (stores r) j ≡ some x
+        → intent e w.sent w.stage < x.0 + C → get_or ws (index C x.0) 0 ≡ x.1)
         → Running C (end_of e w.sent) ws w.stage → ((i : ℕ) → i < C / 8 → get_or ws i 0 ≡ last_at C (so_far w.sent w.stage) i 0)
         → Knows C e id w id w w.stage → ((j : ℕ) (v : View) → Knows C e id me j v v.stage → Knows C e id w j v v.stage)
-        → ((v : View) → AreRuns me.sent v.from v.copies → AreRuns w.sent v.from v.copies) → w.from ≡ me.from → w.copies ≡ me.copies → w.shares ≡ me.shares → ((l : Load) → LoadOk C e me.sent me.stage l → LoadOk C e w.sent w.stage l) → w.log ≡ me.log
+        → ((v : View) → AreRuns me.sent v.from v.copies → AreRuns w.sent v.from v.copies) → w.from ≡ me.from → w.copies ≡ me.copies
+        → w.shares ≡ me.shares → ((l : Load) → LoadOk C e me.sent me.stage l → LoadOk C e w.sent w.stage l) → w.log ≡ me.log
         → IsBoard C e id w record { words = ws; homes = s.homes; views = set s.views id w }
     rebuilt wide capacity started behind chain low i t l valid running exact mine others runs from copies shares logs same_log = record {
       wide = wide;
@@ -157,8 +176,10 @@ module _ (C e : ℕ) where
       exact = exact;
       each_seat = seats_stay (λ j v. Knows C e id w j v v.stage) s.views id w mine (λ j v _ at. others j v (h.each_seat j v at));
       each_copy = seats_stay (λ j v. AreRuns w.sent v.from v.copies) s.views id w
-          (subst (λ (x : ℕ × List Taken). AreRuns w.sent x.0 x.1) (λ k. (sym from k, sym copies k)) (runs me (h.each_copy id me h.here))) (λ j v _ at. runs v (h.each_copy j v at));
+          (subst (λ (x : ℕ × List Taken). AreRuns w.sent x.0 x.1) (λ k. (sym from k, sym copies k)) (runs me (h.each_copy id me h.here)))
+          (λ j v _ at. runs v (h.each_copy j v at));
       each_log = seats_stay (λ j v. Logged C e w.sent w.stage v.log) s.views id w
-          (subst (Logged C e w.sent w.stage) (sym same_log) (λ i l on. logs l (h.each_log id me h.here i l on))) (λ j v _ at i l on. logs l (h.each_log j v at i l on));
+          (subst (Logged C e w.sent w.stage) (sym same_log) (λ i l on. logs l (h.each_log id me h.here i l on)))
+          (λ j v _ at i l on. logs l (h.each_log j v at i l on));
       shares = let a = total_set s.views id me w h.here in let b = h.shares in omega arith;
     }

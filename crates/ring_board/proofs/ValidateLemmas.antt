@@ -1,7 +1,7 @@
 -- What a receiver knows once it has validated: a sound header, a whole copy, or that it was lapped.
-use Rattle.std.proofs.Common.{◌≡◌, ◌≢◌, ℕ, zero, suc, ◌+◌, ◌-◌, ◌*◌, ◌/◌, ◌%◌, ◌^◌, ◌<◌, ◌≤◌, ◌⊎◌, cond, ltb, eqb, Bool, true, false, List, [], ◌∷◌, ◌++◌, take, length, get_or, set, refl, sym, ap, ◌∙◌, subst, inl, inr, ⊎_elim, arith, length-append}
-use Rattle.std.proofs.lemmas.Bool.{cases_lt, cond_both, ltb-true, ltb-false, eqb-true, eqb-false, eq-eqb}
-use mathlib.Core.Option.{none, some, some-injective, some-ne-none}
+use Rattle.std.proofs.Common.{◌≡◌, ◌≢◌, ℕ, zero, suc, ◌+◌, ◌-◌, ◌/◌, ◌%◌, ◌^◌, ◌<◌, ◌≤◌, ◌⊎◌, ltb, true, false, List, [], ◌∷◌, ◌++◌, take, length, get_or, refl, sym, ap, ◌∙◌, subst, inl, inr, ⊎_elim, arith, length-append}
+use Rattle.std.proofs.lemmas.Bool.{cond_both, ltb-true, ltb-false, eqb-true, eqb-false}
+use mathlib.Core.Option.{some, some-injective, some-ne-none}
 use lib.ListN.{get_elem?}
 use Rattle.atomic_table.specs.Table.{keeps, stepped}
 use Rattle.atomic_table.proofs.Lists.{at_last}
@@ -13,7 +13,7 @@ use Rattle.ring_board.specs.declared.view.Record.{Record}
 use Rattle.ring_board.specs.declared.view.Taken.{Taken}
 use Rattle.ring_board.specs.declared.view.View.{View}
 use Rattle.ring_board.specs.declared.view.Load.{Load}
-use Rattle.ring_board.specs.declared.view.Load.TheVariants.{Intent, Tail, Latest, Word}
+use Rattle.ring_board.specs.declared.view.Load.TheVariants.{Intent, Latest}
 use Rattle.ring_board.specs.declared.view.Stage.{Stage}
 use Rattle.ring_board.specs.declared.view.Stage.TheVariants.{Spent, Idle, Begun, Storing, Written, Shown, Resting, Sure, Headed, Padded, Again, Reading, Behind}
 use Rattle.ring_board.specs.Records.{end, words_of, word_count, header_of, announced, body_len, is_padding, message_in}
@@ -58,10 +58,12 @@ module _ (C e : ℕ) (s : St) (by : ℕ) (mine : View) (h : IsBoard C e by mine 
   Kept i cs u = Holds C e (stepped s i (get_or s.words i 0) id cs u keeps)
 
   -- A failed validation
-  behind_kept : id ≢ by → Receives e mine.sent seen v → v.capacity ≡ C → (r : Record) → get_elem? mine.sent v.next ≡ some r → (log : List Load) → v.at + C ≤ here_now → Logged C e mine.sent mine.stage log → (i : ℕ) (cs : List (ℕ × (Unit {0})))
+  behind_kept : id ≢ by → Receives e mine.sent seen v → v.capacity ≡ C → (r : Record) → get_elem? mine.sent v.next ≡ some r → (log : List Load)
+      → v.at + C ≤ here_now → Logged C e mine.sent mine.stage log → (i : ℕ) (cs : List (ℕ × (Unit {0})))
       → Kept i cs (record v { stage = Behind; log = log })
   behind_kept ne k capacity r on log far logs i cs = let w : View = record v { stage = Behind; log = log } in looked C e s by mine h id v at w ne
-      (capacity, record { before = k.before; climbs = k.climbs; past = k.past; fresh = k.fresh }, (r, on, far)) (same_runs C e s by mine h id v at w refl refl) refl logs i cs
+      (capacity, record { before = k.before; climbs = k.climbs; past = k.past; fresh = k.fresh }, (r, on, far))
+      (same_runs C e s by mine h id v at w refl refl) refl logs i cs
 
   -- A copy
   module _ (m : Message) (log : List Load) (ne : id ≢ by) (capacity : v.capacity ≡ C) (k : Receives e mine.sent seen v) (r : Record) (on : get_elem? mine.sent v.next ≡ some r) (there : v.at ≡ r.place) (whole : m ≡ r.message) (logs : Logged C e mine.sent mine.stage log) where
@@ -82,14 +84,16 @@ module _ (C e : ℕ) (s : St) (by : ℕ) (mine : View) (h : IsBoard C e by mine 
     copies_run = let old = h.each_copy id v at in record {
       entries = λ i c on_i. ⊎_elim (λ t. old.entries i c t) (λ t. (v.next, r, on, subst (IsCopy r) t.1 is_copy)) (snoc_cases v.copies taken c i on_i);
       follow = λ i a b on_a on_b. ⊎_elim
-          (λ tb. ⊎_elim (λ ta. old.follow i a b ta tb) (λ ta. let l = in_list v.copies (suc i) b tb in let f = ta.0 in absurd (omega arith)) (snoc_cases v.copies taken a i on_a))
+          (λ tb. ⊎_elim (λ ta. old.follow i a b ta tb) (λ ta. let l = in_list v.copies (suc i) b tb in let f = ta.0 in
+          absurd (omega arith)) (snoc_cases v.copies taken a i on_a))
           (λ tb. let f = tb.0 in ⊎_elim (λ ta. let p = k.past i a ta tb.0 in let pl = p.1 in subst (Neighbours mine.sent a) tb.1 (record {
             rises = pl;
             counts = p.0;
             joined = λ same. let q = p.2 same in (q.0, q.1, r, q.3, subst (λ (y : ℕ). get_elem? mine.sent y ≡ some r) q.2 on, q.4, is_copy);
           })) (λ ta. let g = ta.0 in absurd (omega arith)) (snoc_cases v.copies taken a i on_a))
           (snoc_cases v.copies taken b (suc i) on_b);
-      first = λ c on_0 zero. ⊎_elim (λ t. old.first c t zero) (λ t. let none : v.copies ≡ [] = empty v.copies t.0 in ap (λ (y : Taken). y.place) (sym t.1) ∙ (k.fresh none (ap (λ (y : Taken). y.count) t.1 ∙ zero)).0) (snoc_cases v.copies taken c 0 on_0);
+      first = λ c on_0 zero. ⊎_elim (λ t. old.first c t zero) (λ t. let none : v.copies ≡ [] = empty v.copies t.0 in
+          ap (λ (y : Taken). y.place) (sym t.1) ∙ (k.fresh none (ap (λ (y : Taken). y.count) t.1 ∙ zero)).0) (snoc_cases v.copies taken c 0 on_0);
     }
       where
         empty : (l : List Taken) → 0 ≡ length l → l ≡ []
@@ -97,14 +101,18 @@ module _ (C e : ℕ) (s : St) (by : ℕ) (mine : View) (h : IsBoard C e by mine 
         empty (y ∷ ys) g = absurd (omega arith)
 
     copy_kept : (i : ℕ) (cs : List (ℕ × (Unit {0}))) → Kept i cs (record (copied v m) { log = log })
-    copy_kept i cs = let u : View = record (copied v m) { log = log } in let climbs = k.climbs in let roomy = h.roomy in let on' = shown_has C e h.roomy h.whole s.words mine.sent mine.stage v.next r on in
+    copy_kept i cs = let u : View = record (copied v m) { log = log } in let climbs = k.climbs in let roomy = h.roomy in
+        let on' = shown_has C e h.roomy h.whole s.words mine.sent mine.stage v.next r on in
         let ch = shown_chain C e h.roomy h.whole s.words mine.sent mine.stage h.running h.chain in
         looked C e s by mine h id v at u ne (
           capacity,
           record {
-            before = ⊎_elim (λ t. inl (t.0, t.1, inr (ends ∙ sym (chain_next C h.roomy h.whole e seen ch v.next r t.0 on' t.1)))) (λ t. inr (t, ends ∙ sym (chain_last C h.roomy h.whole e seen ch v.next r on' t).0)) (at_or_end seen v.next r on');
+            before = ⊎_elim (λ t. inl (t.0, t.1, inr (ends ∙ sym (chain_next C h.roomy h.whole e seen ch v.next r t.0 on' t.1))))
+                (λ t. inr (t, ends ∙ sym (chain_last C h.roomy h.whole e seen ch v.next r on' t).0)) (at_or_end seen v.next r on');
             climbs = omega arith;
-            past = λ j c on_j la. subst (λ (y : Taken). (y.count ≤ v.count) × (y.place < v.at + span (length m.body)) × (y.count ≡ v.count → (n : ℕ) × (q : Record) × (suc v.next ≡ suc n) × (get_elem? mine.sent n ≡ some q) × IsCopy q y)) (last_one j c on_j la)
+            past = λ j c on_j la. subst (λ (y : Taken). (y.count ≤ v.count) × (y.place < v.at + span (length m.body)) ×
+                (y.count ≡ v.count → (n : ℕ) × (q : Record) × (suc v.next ≡ suc n) × (get_elem? mine.sent n ≡ some q) × IsCopy q y))
+                (last_one j c on_j la)
                 (omega arith, omega arith, λ _. (v.next, r, refl, on, is_copy));
             fresh = λ none. let g = ap length none in let f = length-append v.copies (taken ∷ []) in absurd (omega arith);
           },
@@ -115,7 +123,8 @@ module _ (C e : ℕ) (s : St) (by : ℕ) (mine : View) (h : IsBoard C e by mine 
   abbrev Passes : ℕ → ℕ → List (ℕ × (Unit {0})) → View → Type 0
   Passes x i cs u = Kept i cs (record u { log = u.log ++ Intent x ∷ [] })
 
-  checked : (x i : ℕ) (cs : List (ℕ × (Unit {0}))) → x ≡ here_now → v.capacity ≡ C → (here_now < v.at + C → Passes x i cs (passed v v.stage)) → (v.at + C ≤ here_now → Passes x i cs (staged v Behind)) → Kept i cs (validated v x)
+  checked : (x i : ℕ) (cs : List (ℕ × (Unit {0}))) → x ≡ here_now → v.capacity ≡ C → (here_now < v.at + C → Passes x i cs (passed v v.stage))
+      → (v.at + C ≤ here_now → Passes x i cs (staged v Behind)) → Kept i cs (validated v x)
   checked x i cs is capacity good bad = cond_both (ltb x (v.at + v.capacity)) (passed v v.stage) (staged v Behind) (Passes x i cs)
       (λ t. good (let f = ltb-true x (v.at + v.capacity) t in omega arith)) (λ t. bad (let f = ltb-false x (v.at + v.capacity) t in omega arith))
 
@@ -123,44 +132,71 @@ module _ (C e : ℕ) (s : St) (by : ℕ) (mine : View) (h : IsBoard C e by mine 
   seen_intent x is = log_more C e s by mine h id v at (Intent x) (omega arith)
 
   -- a header that is no padding's, and one that is
-  plain_header : (r : Record) → get_elem? mine.sent v.next ≡ some r → (w : ℕ) → IsHeader r v.at w → is_padding w ≡ false → (v.at ≡ r.place) × (w ≡ header_of r.message)
-  plain_header r on w is plain = ⊎_elim (λ c. c) (λ c. let lt = padding_announced C e s by mine h id v at r v.next on c.1 in let f = (entry C e s by mine h id v at r v.next on).0.fits in let sh = f.short in let g = h.narrow in let roomy = h.roomy in
+  plain_header : (r : Record) → get_elem? mine.sent v.next ≡ some r → (w : ℕ) → IsHeader r v.at w → is_padding w ≡ false
+      → (v.at ≡ r.place) × (w ≡ header_of r.message)
+  plain_header r on w is plain = ⊎_elim (λ c. c) (λ c. let lt = padding_announced C e s by mine h id v at r v.next on c.1 in
+      let f = (entry C e s by mine h id v at r v.next on).0.fits in let sh = f.short in let g = h.narrow in let roomy = h.roomy in
       absurd (eqb-false (w / 2 ^ 32) 0xffff_ffff plain (ap (λ (y : ℕ). y / 2 ^ 32) c.2 ∙ padding_kind (r.place - r.before) (small r on c.1)))) is
     where
       small : (q : Record) → get_elem? mine.sent v.next ≡ some q → q.before < q.place → q.place - q.before < 2 ^ 31
-      small q on_q lt = let f = (entry C e s by mine h id v at q v.next on_q).0.fits in let n = lies_needed C q.before q.before q.place (end q) f h.roomy h.whole lt in let sh = f.short in let g = h.narrow in omega arith
+      small q on_q lt = let f = (entry C e s by mine h id v at q v.next on_q).0.fits in
+          let n = lies_needed C q.before q.before q.place (end q) f h.roomy h.whole lt in let sh = f.short in let g = h.narrow in omega arith
 
-  pad_header : (r : Record) → get_elem? mine.sent v.next ≡ some r → (w : ℕ) → IsHeader r v.at w → is_padding w ≡ true → (v.at ≡ r.before) × (r.before < r.place) × (w ≡ padding_header (r.place - r.before))
-  pad_header r on w is pads = ⊎_elim (λ c. let k = eqb-true (w / 2 ^ 32) 0xffff_ffff pads in let t = header_not_padding C r.message h.narrow (entry C e s by mine h id v at r v.next on).0.lawful in
+  pad_header : (r : Record) → get_elem? mine.sent v.next ≡ some r → (w : ℕ) → IsHeader r v.at w → is_padding w ≡ true
+      → (v.at ≡ r.before) × (r.before < r.place) × (w ≡ padding_header (r.place - r.before))
+  pad_header r on w is pads = ⊎_elim (λ c. let k = eqb-true (w / 2 ^ 32) 0xffff_ffff pads in
+      let t = header_not_padding C r.message h.narrow (entry C e s by mine h id v at r v.next on).0.lawful in
       let same = ap (λ (y : ℕ). y / 2 ^ 32) c.1 in absurd (omega arith)) (λ c. c) is
 
-  sound_at : (r : Record) → get_elem? mine.sent v.next ≡ some r → v.capacity ≡ C → (w : ℕ) → v.at ≡ r.place → w ≡ header_of r.message → IsSound v.capacity v.at w
-  sound_at r on capacity w there head = let f = (entry C e s by mine h id v at r v.next on).0 in let n : ℕ = length r.message.body in let g = lies_inside C r.before r.before r.place (end r) f.fits h.roomy h.whole in let sh = f.lawful.short in
-      let m : v.at % v.capacity ≡ r.place % C = (λ j. there j % capacity j) in let low = h.low in let below = (entry C e s by mine h id v at r v.next on).2 in
-      let le = intent_after C e h.roomy h.whole s.words mine.sent mine.stage h.running in let w8 = lies_whole C r.before r.before r.place (end r) f.fits h.roomy h.whole in
+  sound_at : (r : Record) → get_elem? mine.sent v.next ≡ some r → v.capacity ≡ C → (w : ℕ) → v.at ≡ r.place → w ≡ header_of r.message
+      → IsSound v.capacity v.at w
+  sound_at r on capacity w there head = let f = (entry C e s by mine h id v at r v.next on).0 in let n : ℕ = length r.message.body in
+      let g = lies_inside C r.before r.before r.place (end r) f.fits h.roomy h.whole in let sh = f.lawful.short in
+      let m : v.at % v.capacity ≡ r.place % C = (λ j. there j % capacity j) in let low = h.low in
+      let below = (entry C e s by mine h id v at r v.next on).2 in
+      let le = intent_after C e h.roomy h.whole s.words mine.sent mine.stage h.running in
+      let w8 = lies_whole C r.before r.before r.place (end r) f.fits h.roomy h.whole in
       let c8 : v.capacity / 8 ≡ C / 8 = ap (λ (y : ℕ). y / 8) capacity in record {
         message = (n, ap announced head ∙ announced_header C r.message h.narrow f.lawful, omega arith, omega arith, omega arith);
         whole = omega arith;
       }
 
-  sound_padding : (r : Record) → get_elem? mine.sent v.next ≡ some r → (w : ℕ) → v.at ≡ r.before → r.before < r.place → w ≡ padding_header (r.place - r.before) → v.at + announced w ≤ max_position
-  sound_padding r on w there lt head = let f = entry C e s by mine h id v at r v.next on in let so = f.0.fits.some_room in let low = h.low in let below = f.2 in
-      let le = intent_after C e h.roomy h.whole s.words mine.sent mine.stage h.running in let a = ap announced head ∙ padding_announced C e s by mine h id v at r v.next on lt in omega arith
+  sound_padding : (r : Record) → get_elem? mine.sent v.next ≡ some r → (w : ℕ) → v.at ≡ r.before → r.before < r.place
+      → w ≡ padding_header (r.place - r.before) → v.at + announced w ≤ max_position
+  sound_padding r on w there lt head = let f = entry C e s by mine h id v at r v.next on in let so = f.0.fits.some_room in let low = h.low in
+      let below = f.2 in
+      let le = intent_after C e h.roomy h.whole s.words mine.sent mine.stage h.running in
+      let a = ap announced head ∙ padding_announced C e s by mine h id v at r v.next on lt in omega arith
 
   pub header_checked : (w : ℕ) → v.stage ≡ Headed w → (x i : ℕ) (cs : List (ℕ × (Unit {0}))) → x ≡ here_now → Kept i cs (validated v x)
-  header_checked w eq x i cs is = let k = knows C e s by mine h id v at (Headed w) eq in let t = k.2 in let ne = other_seat C e s by mine h id v at (Headed w) eq (λ b. b) in let logs = seen_intent x is in checked x i cs is k.0
+  header_checked w eq x i cs is = let k = knows C e s by mine h id v at (Headed w) eq in let t = k.2 in
+      let ne = other_seat C e s by mine h id v at (Headed w) eq (λ b. b) in let logs = seen_intent x is in checked x i cs is k.0
       (λ lt. subst (λ (st : Stage). Passes x i cs (passed v st)) (sym eq) (
       cond_both (is_padding w) (Padded w) (Reading w []) (λ (st : Stage). Passes x i cs (staged v st))
       (λ pads. let u : View = record v { stage = Padded w; log = v.log ++ Intent x ∷ [] } in
-      looked C e s by mine h id v at u ne (k.0, record { before = k.1.before; climbs = k.1.climbs; past = k.1.past; fresh = k.1.fresh }, (t.0, t.1, pad_header t.0 t.1 w (t.2.1 lt) pads)) (same_runs C e s by mine h id v at u refl refl) refl logs i cs)
+      looked C e s by mine h id v at u ne (
+        k.0,
+        record { before = k.1.before; climbs = k.1.climbs; past = k.1.past; fresh = k.1.fresh },
+        (t.0, t.1, pad_header t.0 t.1 w (t.2.1 lt) pads),
+      ) (same_runs C e s by mine h id v at u refl refl) refl logs i cs)
       (λ plain. let u : View = record v { stage = Reading w []; log = v.log ++ Intent x ∷ [] } in let c = plain_header t.0 t.1 w (t.2.1 lt) plain in
-      looked C e s by mine h id v at u ne (k.0, record { before = k.1.before; climbs = k.1.climbs; past = k.1.past; fresh = k.1.fresh }, (t.0, t.1, (c.0, c.1, λ _. refl))) (same_runs C e s by mine h id v at u refl refl) refl logs i cs)))
+      looked C e s by mine h id v at u ne (
+        k.0,
+        record { before = k.1.before; climbs = k.1.climbs; past = k.1.past; fresh = k.1.fresh },
+        (t.0, t.1, (c.0, c.1, λ _. refl)),
+      ) (same_runs C e s by mine h id v at u refl refl) refl logs i cs)))
       (λ far. behind_kept ne k.1 k.0 t.0 t.1 (v.log ++ Intent x ∷ []) far logs i cs)
 
   pub again_checked : (w : ℕ) → v.stage ≡ Again w → (x i : ℕ) (cs : List (ℕ × (Unit {0}))) → x ≡ here_now → Kept i cs (validated v x)
-  again_checked w eq x i cs is = let k = knows C e s by mine h id v at (Again w) eq in let t = k.2 in let ne = other_seat C e s by mine h id v at (Again w) eq (λ b. b) in let logs = seen_intent x is in checked x i cs is k.0
-      (λ lt. subst (λ (st : Stage). Passes x i cs (passed v st)) (sym eq) (let u : View = record v { stage = Reading w []; log = v.log ++ Intent x ∷ [] } in
-      looked C e s by mine h id v at u ne (k.0, record { before = k.1.before; climbs = k.1.climbs; past = k.1.past; fresh = k.1.fresh }, (t.0, t.1, (t.2.0, t.2.1 lt, λ _. refl))) (same_runs C e s by mine h id v at u refl refl) refl logs i cs))
+  again_checked w eq x i cs is = let k = knows C e s by mine h id v at (Again w) eq in let t = k.2 in
+      let ne = other_seat C e s by mine h id v at (Again w) eq (λ b. b) in let logs = seen_intent x is in checked x i cs is k.0
+      (λ lt. subst (λ (st : Stage). Passes x i cs (passed v st)) (sym eq)
+      (let u : View = record v { stage = Reading w []; log = v.log ++ Intent x ∷ [] } in
+      looked C e s by mine h id v at u ne (
+        k.0,
+        record { before = k.1.before; climbs = k.1.climbs; past = k.1.past; fresh = k.1.fresh },
+        (t.0, t.1, (t.2.0, t.2.1 lt, λ _. refl)),
+      ) (same_runs C e s by mine h id v at u refl refl) refl logs i cs))
       (λ far. behind_kept ne k.1 k.0 t.0 t.1 (v.log ++ Intent x ∷ []) far logs i cs)
 
   pub sound_now : (x : ℕ) → x ≡ here_now → x < v.at + v.capacity → (st : Stage) → Knows C e by mine id v st → IsSoundAt v st
@@ -181,17 +217,25 @@ module _ (C e : ℕ) (s : St) (by : ℕ) (mine : View) (h : IsBoard C e by mine 
   sound_now x is lt (Reading w ws) k = tt
   sound_now x is lt Behind k = tt
 
-  pub copy_checked : (w : ℕ) (ws : List ℕ) → v.stage ≡ Reading w ws → length ws ≡ word_count (body_len w) → (x i : ℕ) (cs : List (ℕ × (Unit {0}))) → x ≡ here_now → Kept i cs (validated v x)
-  copy_checked w ws eq long x i cs is = let k = knows C e s by mine h id v at (Reading w ws) eq in let t = k.2 in let r : Record = t.0 in let ne = other_seat C e s by mine h id v at (Reading w ws) eq (λ b. b) in let logs = seen_intent x is in
+  pub copy_checked : (w : ℕ) (ws : List ℕ) → v.stage ≡ Reading w ws → length ws ≡ word_count (body_len w) → (x i : ℕ) (cs : List (ℕ × (Unit {0})))
+      → x ≡ here_now → Kept i cs (validated v x)
+  copy_checked w ws eq long x i cs is = let k = knows C e s by mine h id v at (Reading w ws) eq in let t = k.2 in let r : Record = t.0 in
+      let ne = other_seat C e s by mine h id v at (Reading w ws) eq (λ b. b) in let logs = seen_intent x is in
       let f = (entry C e s by mine h id v at r v.next t.1).0 in
-      let whole : length ws ≡ length (words_of r.message.body) = long ∙ (ap (λ (y : ℕ). word_count (body_len y)) t.2.1 ∙ (ap word_count (body_announced C e s by mine h id v at r v.next t.1) ∙ sym (words_long (word_count (length r.message.body)) r.message.body))) in checked x i cs is k.0
+      let whole : length ws ≡ length (words_of r.message.body) = long
+      ∙ (ap (λ (y : ℕ). word_count (body_len y)) t.2.1 ∙ (ap word_count (body_announced C e s by mine h id v at r v.next t.1)
+      ∙ sym (words_long (word_count (length r.message.body)) r.message.body))) in
+      checked x i cs is k.0
       (λ lt. subst (λ (st : Stage). Passes x i cs (passed v st)) (sym eq) (copy_kept (message_in w ws) (v.log ++ Intent x ∷ []) ne k.0 k.1 r t.1 t.2.0
-      ((λ j. message_in (t.2.1 j) ((t.2.2 lt ∙ take_whole (words_of r.message.body) (length ws) whole) j)) ∙ message_back C r.message h.narrow f.lawful) logs i cs))
+      ((λ j. message_in (t.2.1 j) ((t.2.2 lt ∙ take_whole (words_of r.message.body) (length ws) whole) j))
+      ∙ message_back C r.message h.narrow f.lawful) logs i cs))
       (λ far. behind_kept ne k.1 k.0 r t.1 (v.log ++ Intent x ∷ []) far logs i cs)
 
   -- Latest
-  pub latest_kept : v.stage ≡ Behind → (x i : ℕ) (cs : List (ℕ × (Unit {0}))) → x ≡ latest e mine.sent mine.stage → (k : ℕ) × Kept i cs (lapped v k x) × (suc v.count ≤ x) × (x ≤ max_position)
-  latest_kept eq x i cs is = let kn = knows C e s by mine h id v at Behind eq in let t = kn.2 in let far = t.2 in let m = latest_shown C e h.roomy h.whole s.words mine.sent h.chain t.0 v.next t.1 mine.stage h.running in
+  pub latest_kept : v.stage ≡ Behind → (x i : ℕ) (cs : List (ℕ × (Unit {0}))) → x ≡ latest e mine.sent mine.stage
+      → (k : ℕ) × Kept i cs (lapped v k x) × (suc v.count ≤ x) × (x ≤ max_position)
+  latest_kept eq x i cs is = let kn = knows C e s by mine h id v at Behind eq in let t = kn.2 in let far = t.2 in
+      let m = latest_shown C e h.roomy h.whole s.words mine.sent h.chain t.0 v.next t.1 mine.stage h.running in
       let k : ℕ = m.0 in let q : Record = m.1 in let near = m.4 in let climbs = kn.1.climbs in let there : x ≡ q.place = is ∙ m.3 in
       let u : View = lapped v k x in (
         k,
@@ -200,7 +244,8 @@ module _ (C e : ℕ) (s : St) (by : ℕ) (mine : View) (h : IsBoard C e by mine 
           record {
             before = inl (q, m.2, inl there);
             climbs = omega arith;
-            past = λ j c on_j la. let p = kn.1.past j c on_j la in let a = p.0 in let b = p.1 in (omega arith, omega arith, λ same. absurd (omega arith));
+            past = λ j c on_j la. let p = kn.1.past j c on_j la in let a = p.0 in let b = p.1 in
+                (omega arith, omega arith, λ same. absurd (omega arith));
             fresh = λ _ zero. absurd (omega arith);
           },
           tt,

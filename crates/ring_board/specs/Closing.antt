@@ -1,5 +1,5 @@
 -- A board that was closed.
-use Rattle.std.specs.Prelude.{◌≡◌, ℕ, ◌+◌, ◌-◌, ◌/◌, ◌<◌, ◌==◌, List, length, slice_index, vec_len, Option, Some, None, if◌then◌else◌}
+use Rattle.std.specs.Prelude.{◌≡◌, ℕ, ◌-◌, ◌/◌, ◌<◌, ◌==◌, List, slice_index, Option, Some, None, if◌then◌else◌}
 use Rattle.ring_board.specs.declared.view.Record.{Record}
 use Rattle.ring_board.specs.declared.fault.ReceiversOut.{ReceiversOut}
 use Rattle.ring_board.specs.declared.seats.Board.{Board}

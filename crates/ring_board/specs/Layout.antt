@@ -1,5 +1,5 @@
 -- The words of a board's trailer, which follow those of its buffer of C bytes.
-use Rattle.std.specs.Prelude.{◌≡◌, ℕ, ◌+◌, ◌/◌, ◌^◌, ◌≤◌, IsTrue, nat_le, Bool, ◌&&◌}
+use Rattle.std.specs.Prelude.{ℕ, ◌+◌, ◌/◌, ◌^◌, ◌≤◌, IsTrue, nat_le, Bool, ◌&&◌}
 use Rattle.std.specs.Int.{is_power_of_two}
 
 abbrev pub intent_index : ℕ → ℕ

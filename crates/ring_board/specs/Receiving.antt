@@ -1,5 +1,5 @@
 -- What a receiver's call does to its seat.
-use Rattle.std.specs.Prelude.{◌≡◌, ℕ, ◌+◌, ◌*◌, ◌/◌, ◌%◌, ◌^◌, ◌<◌, ◌≤◌, suc, ℤ, true, false, List, [], ◌∷◌, ◌++◌, length, take, ◌⊎◌}
+use Rattle.std.specs.Prelude.{◌≡◌, ℕ, ◌+◌, ◌*◌, ◌/◌, ◌^◌, ◌≤◌, suc, ℤ, true, List, [], ◌∷◌, ◌++◌, length, take, ◌⊎◌}
 use Rattle.std.specs.Int.{cast_signed, w32}
 use mathlib.Core.Option.{some}
 use lib.ListN.{get_elem?}
@@ -20,11 +20,15 @@ use Rattle.ring_board.specs.Steps.{Sat, copied, IsSound}
 abbrev pub ComesTo : View → List Load → ℕ → Type 0
 ComesTo v loads p = (p ≡ v.at) ⊎ ((w : ℕ) × (t : ℕ) × (j : ℕ) × (get_elem? loads j ≡ some (Word (index v.capacity v.at) t w)) × (is_padding w ≡ true) × (p ≡ v.at + announced w))
 
+-- the validation at p failed, at the intent x
+abbrev pub GotMiss : ℕ → ℕ → Sat → Sat → Type 0
+GotMiss p x m m' = (loads : List Load) × (m' ≡ (record m.0 { stage = Behind; at = p; log = m.0.log ++ (loads ++ Intent x ∷ []) }, m.1)) × ComesTo m.0 loads p × (p + m.0.capacity ≤ x)
+
 -- what looking for the next entry does
 abbrev pub FoundIs : Found → Sat → Sat → Type 0
 FoundIs (Nothing t) m m' = (m' ≡ (record m.0 { stage = Resting; log = m.0.log ++ Tail t ∷ [] }, m.1)) × (t ≤ m.0.at)
 FoundIs (Entry p w) m m' = (loads : List Load) × (m' ≡ (record m.0 { stage = Reading w []; at = p; log = m.0.log ++ loads }, m.1)) × ComesTo m.0 loads p × IsSound m.0.capacity p w
-FoundIs (Missed p x) m m' = (loads : List Load) × (m' ≡ (record m.0 { stage = Behind; at = p; log = m.0.log ++ (loads ++ Intent x ∷ []) }, m.1)) × ComesTo m.0 loads p × (p + m.0.capacity ≤ x)
+FoundIs (Missed p x) m m' = GotMiss p x m m'
 
 -- the same from behind padding, where the entry lies at p
 abbrev pub FoundBehind : Found → ℕ → Sat → Sat → Type 0
@@ -57,10 +61,6 @@ abbrev pub GotCopy : ℕ → ℤ → List ℕ → Sat → Sat → Type 0
 GotCopy place type_id body m m' = (loads : List Load)
     × (m' ≡ (record m.0 { stage = Resting; at = place + span (length body); next = suc m.0.next; copies = m.0.copies ++ record { place = place; message = record { type_id = type_id; body = body }; count = m.0.count } ∷ []; log = m.0.log ++ loads }, m.1))
     × ComesTo m.0 loads place
-
--- the validation at p failed, at the intent x
-abbrev pub GotMiss : ℕ → ℕ → Sat → Sat → Type 0
-GotMiss p x m m' = (loads : List Load) × (m' ≡ (record m.0 { stage = Behind; at = p; log = m.0.log ++ (loads ++ Intent x ∷ []) }, m.1)) × ComesTo m.0 loads p × (p + m.0.capacity ≤ x)
 
 -- the receiver was lapped at its place, or behind padding there: the count rose by one, and the place is the latest loaded after the intent that showed it
 abbrev pub GotLapped : Lapped → Sat → Sat → Type 0

@@ -1,5 +1,5 @@
 -- Records on a board, where they lie, and the words that their transmission stores. Positions are running byte counts, and C is the capacity of the buffer.
-use Rattle.std.specs.Prelude.{◌≡◌, ◌≢◌, ℕ, Bool, zero, suc, ◌+◌, ◌-◌, ◌*◌, ◌/◌, ◌%◌, ◌^◌, ◌<◌, ◌≤◌, ◌==◌, if◌then◌else◌, pos, List, [], ◌∷◌, ◌++◌, length, take, drop, nat_lt, ◌⊎◌}
+use Rattle.std.specs.Prelude.{◌≡◌, ◌≢◌, ℕ, Bool, zero, suc, ◌+◌, ◌-◌, ◌/◌, ◌%◌, ◌^◌, ◌≤◌, ◌==◌, if◌then◌else◌, pos, List, [], ◌∷◌, ◌++◌, length, take, drop, nat_lt, ◌⊎◌}
 use Rattle.std.specs.Int.{from_le_bytes, to_le_bytes, cast_signed, w32, w64}
 use mathlib.Core.Option.{some}
 use lib.ListN.{get_elem?}

@@ -1,5 +1,5 @@
 -- Which refusal comes when.
-use Rattle.std.specs.Prelude.{◌≡◌, ℕ, ◌+◌, ◌/◌, ◌%◌, ◌==◌, ◌||◌, not, ℤ, pos, Option, Some, None, Result, Err, MatchOption, IfOk, IsOkUnless, if◌then◌else◌, nat_lt, int_lt}
+use Rattle.std.specs.Prelude.{◌≡◌, ℕ, ◌/◌, ◌%◌, ◌==◌, ◌||◌, not, ℤ, pos, Option, Some, None, Result, Err, MatchOption, IfOk, IsOkUnless, if◌then◌else◌, nat_lt, int_lt}
 use Rattle.ring_layout.specs.History.{span}
 use Rattle.ring_layout.specs.Places.{end_after, max_position}
 use Rattle.ring_board.specs.declared.fault.MakeFault.{MakeFault}

@@ -8,7 +8,6 @@ use Rattle.ring_layout.specs.Headers.{padding_header}
 use Rattle.ring_board.specs.Layout.{intent_index, tail_index, latest_index, board_words, all_shares}
 use Rattle.ring_board.specs.declared.view.Record.{Record}
 use Rattle.ring_board.specs.declared.view.Taken.{Taken}
-use Rattle.ring_board.specs.declared.view.Draft.{Draft}
 use Rattle.ring_board.specs.declared.view.View.{View}
 use Rattle.ring_board.specs.declared.view.Load.{Load}
 use Rattle.ring_board.specs.declared.view.Load.TheVariants.{Word, Intent, Tail, Latest}

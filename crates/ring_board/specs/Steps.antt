@@ -1,5 +1,5 @@
 -- What each step tells its seat.
-use Rattle.std.specs.Prelude.{◌≡◌, ℕ, ◌+◌, ◌-◌, ◌*◌, ◌/◌, ◌%◌, ◌^◌, ◌<◌, ◌≤◌, suc, if◌then◌else◌, nat_lt, nat_le, ◌==◌, List, [], ◌∷◌, ◌++◌, length, pos, true, false}
+use Rattle.std.specs.Prelude.{◌≡◌, ℕ, ◌+◌, ◌-◌, ◌/◌, ◌%◌, ◌^◌, ◌<◌, ◌≤◌, suc, if◌then◌else◌, nat_lt, nat_le, List, [], ◌∷◌, ◌++◌, length, pos, true, false}
 use Rattle.atomic_table.specs.Table.{Me, Step}
 use Rattle.ring_layout.specs.declared.message.Message.{Message}
 use Rattle.ring_layout.specs.History.{span}
@@ -12,7 +12,7 @@ use Rattle.ring_board.specs.declared.view.Draft.{Draft}
 use Rattle.ring_board.specs.declared.view.View.{View}
 use Rattle.ring_board.specs.declared.view.Load.{Load}
 use Rattle.ring_board.specs.declared.view.Stage.{Stage}
-use Rattle.ring_board.specs.Records.{end, last_of, announced, body_len, is_padding, message_in}
+use Rattle.ring_board.specs.Records.{end, last_of, announced, is_padding, message_in}
 use Rattle.ring_board.specs.Runs.{AreRuns}
 
 -- a seat's view, and the slots that it has, which a board has none of

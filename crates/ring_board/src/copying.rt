@@ -29,8 +29,9 @@ impl Board {
         if transmitter.shares <= 1 {
             return Err(SubscribeFault::NoShares);
         }
-        let scratch = vec![in alloc; 0u8; self.capacity as usize / 8]
-            .map_err(|_| SubscribeFault::OutOfMemory)?;
+        let scratch = vec![in alloc; 0u8; self.capacity as usize / 8].map_err(
+            |_| SubscribeFault::OutOfMemory,
+        )?;
         let place = self.learn(&mut transmitter.seat);
         let seat = self.split_off(&mut transmitter.seat);
         transmitter.shares -= 1;

@@ -9,14 +9,17 @@ mod loading;
 mod opening;
 mod plays;
 mod receiving;
+mod runs_law;
 mod seats;
 mod storing;
 mod transmitting;
 mod view;
 
 pub use fault::{Lapped, MakeFault, NoShares, ReceiversOut, SubscribeFault, TransmitFault};
+pub use runs_law::runs_stay_runs;
 pub use seats::{
-    BeginRefused, Begun, Board, BoardCloseRefused, ClosedBoard, Copied, CopyReceiver, Filled, Transmitter,
+    BeginRefused, Begun, Board, BoardCloseRefused, ClosedBoard, Copied, CopyReceiver, Filled,
+    Transmitter,
 };
 
 #[cfg(test)]

@@ -33,9 +33,7 @@ impl Board {
         ensures same { (seat.new.table_id ≡ seat.old.table_id) × (seat.new.id ≡ seat.old.id) }
         ensures heard { seat.new.me ≡ (heard seat.old.me.0 (index self.now.capacity place) Sure result, seat.old.me.1) }
     {
-        self.table
-            .shared
-            .load::<SeeHeader>(seat, self.index(place))
+        self.table.shared.load::<SeeHeader>(seat, self.index(place))
     }
 
     /// Loads the header behind padding at the receiver's place.
@@ -45,9 +43,7 @@ impl Board {
         ensures same { (seat.new.table_id ≡ seat.old.table_id) × (seat.new.id ≡ seat.old.id) }
         ensures heard { seat.new.me ≡ (heard seat.old.me.0 (index self.now.capacity place) seat.old.me.0.stage result, seat.old.me.1) }
     {
-        self.table
-            .shared
-            .load::<SeeHeader>(seat, self.index(place))
+        self.table.shared.load::<SeeHeader>(seat, self.index(place))
     }
 
     /// Loads the next word of a body.

@@ -84,13 +84,7 @@ impl Board {
     }
 
     /// Copies the words of the body behind a validated header to the front of the scratch.
-    fn copy_body(
-        &self,
-        seat: &mut BoardSeat,
-        place: u64,
-        words: usize,
-        scratch: &mut [u8],
-    )
+    fn copy_body(&self, seat: &mut BoardSeat, place: u64, words: usize, scratch: &mut [u8])
         requires seat { seat.old.table_id ≡ self.now.table.shared.table_id }
         requires stage { (w : ℕ) × (seat.old.me.0.stage ≡ Reading w []) × (words ≡ word_count (body_len w)) × (seat.old.me.0.at ≡ place) }
         requires inside { (place % 8 ≡ 0) × (place % self.now.capacity + 8 + 8 * words ≤ self.now.capacity) }

@@ -145,9 +145,7 @@ fn closes_once_receivers_are_back(rt: HostRuntime) -> Result<(), Fail> {
     let board = refused.board;
     transmitter = refused.transmitter;
     board.join(&mut transmitter, receiver);
-    let closed = board
-        .close(transmitter)
-        .map_err(|refused| refused.reason)?;
+    let closed = board.close(transmitter).map_err(|refused| refused.reason)?;
     assert_eq!(rt; closed.tail(), 0);
     Ok(())
 }
@@ -160,10 +158,22 @@ fn faults_of_receivers_have_texts(rt: HostRuntime) -> Result<(), Fail> {
         intent: 256,
     };
     let texts = [
-        (format!(in rt.alloc(); "{}", SubscribeFault::NoShares)?, "12 NoShares"),
-        (format!(in rt.alloc(); "{}", SubscribeFault::OutOfMemory)?, "3 OutOfMemory"),
-        (format!(in rt.alloc(); "{lapped}")?, "13 Lapped 1 place 0 intent 256"),
-        (format!(in rt.alloc(); "{}", ReceiversOut { receivers: 1 })?, "14 ReceiversOut 1"),
+        (
+            format!(in rt.alloc(); "{}", SubscribeFault::NoShares)?,
+            "12 NoShares",
+        ),
+        (
+            format!(in rt.alloc(); "{}", SubscribeFault::OutOfMemory)?,
+            "3 OutOfMemory",
+        ),
+        (
+            format!(in rt.alloc(); "{lapped}")?,
+            "13 Lapped 1 place 0 intent 256",
+        ),
+        (
+            format!(in rt.alloc(); "{}", ReceiversOut { receivers: 1 })?,
+            "14 ReceiversOut 1",
+        ),
     ];
     for (text, want) in &texts {
         assert_eq!(rt; text.as_str(), *want);

@@ -140,9 +140,7 @@ fn copies_are_whole_and_in_order(rt: HostRuntime) -> Result<(), Fail> {
     assert_eq!(rt; two.last, Some(BODIES - 1));
     board.join(&mut transmitter, one.receiver);
     board.join(&mut transmitter, two.receiver);
-    let closed = board
-        .close(transmitter)
-        .map_err(|refused| refused.reason)?;
+    let closed = board.close(transmitter).map_err(|refused| refused.reason)?;
     assert_eq!(rt; closed.tail(), closed.intent());
     Ok(())
 }

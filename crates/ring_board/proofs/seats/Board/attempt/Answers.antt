@@ -1,8 +1,7 @@
-use Rattle.std.proofs.Common.{◌≡◌, ℕ, ℤ, ◌/◌, ◌^◌, List, take, ap, sym, subst, ◌∙◌}
-use Rattle.std.specs.Int.{cast_signed, cast_unsigned, w32}
+use Rattle.std.proofs.Common.{ℕ, ℤ, take, sym, subst, ◌∙◌}
+use Rattle.std.specs.Int.{w32}
 use Rattle.std.proofs.lemmas.Int.{to_z-of_z}
-use Rattle.ring_board.specs.Receiving.{FoundIs, TookAll, GotCopy}
-use Rattle.ring_board.specs.declared.found.Found.TheVariants.{Entry}
+use Rattle.ring_board.specs.Receiving.{GotCopy}
 use Rattle.ring_board.proofs.FoundLemmas.{took_from, missed_from}
 use Rattle.ring_board.proofs.seats.Board.attempt.Goals as goal
 

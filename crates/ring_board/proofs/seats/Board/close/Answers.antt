@@ -1,4 +1,4 @@
-use Rattle.std.proofs.Common.{◌≡◌, ℕ, ◌+◌, ◌/◌, ◌<◌, List, refl, subst, arith}
+use Rattle.std.proofs.Common.{ℕ, refl, subst, arith}
 use Rattle.std.specs.Slots.{slots_items}
 use Rattle.ring_board.specs.Closing.{IsClosed}
 use Rattle.ring_board.proofs.PictureLemmas.{closed_as, closed_copy}

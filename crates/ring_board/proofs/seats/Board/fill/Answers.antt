@@ -1,10 +1,9 @@
-use Rattle.std.proofs.Common.{◌≡◌, ℕ, ℤ, ◌+◌, ◌%◌, length, sym, ap, ◌∙◌, arith}
+use Rattle.std.proofs.Common.{◌≡◌, ℕ, ◌+◌, ◌%◌, sym, ap, ◌∙◌, arith}
 use Rattle.std.specs.Int.{w32, cast_signed, cast_unsigned}
 use Rattle.ring_layout.specs.History.{span}
 use Rattle.ring_layout.specs.Places.{next_place}
 use Rattle.ring_layout.proofs.PlaceLemmas.{next_aligned, span_bounds}
 use Rattle.ring_board.specs.declared.view.Record.{Record}
-use Rattle.ring_board.specs.declared.view.Stage.{Stage}
 use Rattle.ring_board.specs.declared.view.Stage.TheVariants.{Written}
 use Rattle.ring_board.specs.Records.{end}
 use Rattle.ring_board.specs.Seats.{next_record}

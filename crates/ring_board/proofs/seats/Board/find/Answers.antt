@@ -1,4 +1,4 @@
-use Rattle.std.proofs.Common.{◌≡◌, ℕ, ◌+◌, ◌<◌, ◌≤◌, true, ap, sym, ◌∙◌, arith}
+use Rattle.std.proofs.Common.{◌≡◌, ℕ, ◌+◌, ◌<◌, true, ap, sym, ◌∙◌, arith}
 use Rattle.ring_board.specs.declared.view.Stage.TheVariants.{Padded}
 use Rattle.std.proofs.lemmas.Bool.{leb-false}
 use Rattle.ring_board.specs.Records.{is_padding}

@@ -1,6 +1,5 @@
-use Rattle.std.proofs.Common.{rules, ℕ, ◌+◌, ◌/◌, sym, ap, ◌∙◌, arith}
+use Rattle.std.proofs.Common.{rules, sym, ◌∙◌, arith}
 use Rattle.ring_layout.specs.Places.{index}
-use Rattle.ring_board.specs.declared.view.Stage.{Stage}
 use Rattle.ring_board.specs.Steps.{heard}
 use Rattle.ring_board.proofs.ReceiveLemmas.{sees_header}
 use Rattle.ring_board.proofs.seats.Board.load_header.Goals as goal

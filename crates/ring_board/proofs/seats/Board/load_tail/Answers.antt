@@ -1,4 +1,4 @@
-use Rattle.std.proofs.Common.{rules, ◌≡◌, ℕ, ◌+◌, ◌/◌, arith}
+use Rattle.std.proofs.Common.{rules, ◌≡◌, ◌+◌, ◌/◌, arith}
 use Rattle.ring_board.proofs.ReceiveLemmas.{sees_tail}
 use Rattle.ring_board.proofs.seats.Board.load_tail.Goals as goal
 

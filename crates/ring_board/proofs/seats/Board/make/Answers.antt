@@ -1,4 +1,4 @@
-use Rattle.std.proofs.Common.{rules, ◌≡◌, ℕ, ◌+◌, ◌/◌, ◌<◌, ◌≤◌, set, sym, ap, ◌∙◌, arith}
+use Rattle.std.proofs.Common.{rules, ◌≡◌, ℕ, ◌+◌, ◌/◌, set, sym, ap, ◌∙◌, arith}
 use Rattle.ring_board.specs.declared.view.Shape.{Shape}
 use Rattle.ring_board.specs.Records.{end_of}
 use Rattle.ring_board.specs.Steps.{Sat}

@@ -1,7 +1,7 @@
-use Rattle.std.proofs.Common.{◌≡◌, ℕ, sym, ap, ◌∙◌}
+use Rattle.std.proofs.Common.{sym, ap, ◌∙◌}
 use Rattle.ring_board.specs.declared.view.Record.{Record}
 use Rattle.ring_board.specs.Records.{end_of}
-use Rattle.ring_board.specs.Steps.{Sat, sent_on, record_at}
+use Rattle.ring_board.specs.Steps.{Sat, record_at}
 use Rattle.ring_board.proofs.PlaceLemmas.{end_snoc}
 use Rattle.ring_board.proofs.seats.Board.publish.Goals as goal
 

@@ -1,4 +1,4 @@
-use Rattle.std.proofs.Common.{rules, ◌+◌, ◌/◌, arith}
+use Rattle.std.proofs.Common.{rules, arith}
 use Rattle.ring_board.proofs.PassLemmas.{subscribes}
 use Rattle.ring_board.proofs.seats.Board.split_off.Goals as goal
 

@@ -5,7 +5,7 @@ use Rattle.ring_layout.proofs.Laps.{index_step}
 use Rattle.ring_layout.specs.Places.{index}
 use Rattle.ring_board.specs.declared.view.Draft.{Draft}
 use Rattle.ring_board.specs.declared.view.Stage.{Stage}
-use Rattle.ring_board.specs.Records.{first_words, word_count}
+use Rattle.ring_board.specs.Records.{first_words}
 use Rattle.ring_board.specs.Steps.{Sat, staged, after_words, with_words}
 use Rattle.ring_board.proofs.StoreLemmas.{words_long}
 use Rattle.ring_board.proofs.ByteLemmas.{first_words_snoc}

@@ -1,4 +1,4 @@
-use Rattle.std.proofs.Common.{rules, ◌≡◌, ℕ, ◌+◌, ◌/◌, refl, sym, ap, ◌∙◌, subst, arith}
+use Rattle.std.proofs.Common.{rules, ◌≡◌, ℕ, ◌/◌, sym, subst, arith}
 use Rattle.ring_board.specs.Records.{Lies}
 use Rattle.ring_board.specs.Steps.{place_before}
 use Rattle.ring_board.proofs.TransmitLemmas.{may_begin}

@@ -1,15 +1,13 @@
-use Rattle.std.proofs.Common.{rules, ◌≡◌, ℕ, ◌+◌, ◌*◌, ◌/◌, ◌%◌, ◌≤◌, pos, List, [], ◌++◌, length, refl, sym, ap, ◌∙◌, arith}
+use Rattle.std.proofs.Common.{ℕ, ◌+◌, ◌%◌, pos, List, [], length, refl, ap, ◌∙◌, arith}
 use Rattle.std.specs.Int.{w32}
 use Rattle.std.proofs.lemmas.Int.{to_z-of_z}
 use Rattle.ring_layout.specs.Headers.{header}
 use Rattle.ring_layout.specs.declared.message.Message.{Message}
 use Rattle.ring_layout.specs.History.{span}
-use Rattle.ring_layout.specs.Places.{next_place}
 use Rattle.ring_layout.proofs.PlaceLemmas.{next_aligned, next_within, span_bounds}
 use Rattle.ring_board.specs.declared.view.Draft.{Draft}
 use Rattle.ring_board.specs.declared.view.Record.{Record}
-use Rattle.ring_board.specs.declared.view.Stage.{Stage}
-use Rattle.ring_board.specs.declared.view.Stage.TheVariants.{Storing, Written}
+use Rattle.ring_board.specs.declared.view.Stage.TheVariants.{Written}
 use Rattle.ring_board.specs.Records.{words_of}
 use Rattle.ring_board.specs.Steps.{Sat, staged, draft, with_words, after_words, after_header}
 use Rattle.ring_board.proofs.TransmitLemmas.{written_as}

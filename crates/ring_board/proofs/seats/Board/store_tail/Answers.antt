@@ -1,4 +1,4 @@
-use Rattle.std.proofs.Common.{rules, ◌≡◌, ℕ, ◌+◌, ◌/◌, sym, ap, arith}
+use Rattle.std.proofs.Common.{rules, ◌≡◌, ◌+◌, ◌/◌, sym, arith}
 use Rattle.ring_board.proofs.TransmitLemmas.{may_send}
 use Rattle.ring_board.proofs.seats.Board.store_tail.Goals as goal
 

@@ -1,4 +1,4 @@
-use Rattle.std.proofs.Common.{rules, ℕ, ◌+◌, ◌*◌, ◌/◌, length, sym, ap, ◌∙◌, arith}
+use Rattle.std.proofs.Common.{rules, ℕ, ◌+◌, ◌*◌, length, sym, ap, ◌∙◌, arith}
 use Rattle.ring_layout.specs.Places.{index}
 use Rattle.ring_board.proofs.PlaceLemmas.{index_below}
 use Rattle.ring_board.proofs.TransmitLemmas.{may_put}

@@ -1,6 +1,5 @@
-use Rattle.std.proofs.Common.{◌≡◌, ℕ, ◌+◌, ◌-◌, ◌/◌, List, ap, ◌∙◌, arith}
+use Rattle.std.proofs.Common.{ℕ, ap, arith}
 use Rattle.ring_board.specs.Steps.{Sat}
-use Rattle.ring_board.specs.Records.{word_count, body_len}
 use Rattle.ring_board.proofs.seats.Board.take.Goals as goal
 
 pub check_copy-intent-requires-clause-stage : goal.check_copy-intent-requires-clause-stage

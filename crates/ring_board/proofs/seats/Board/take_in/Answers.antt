@@ -1,4 +1,4 @@
-use Rattle.std.proofs.Common.{rules, ◌+◌, ◌/◌, arith}
+use Rattle.std.proofs.Common.{rules, arith}
 use Rattle.ring_board.proofs.PassLemmas.{leaves}
 use Rattle.ring_board.proofs.seats.Board.take_in.Goals as goal
 

@@ -1,4 +1,4 @@
-use Rattle.std.proofs.Common.{◌≡◌, ℕ, ℤ, ◌+◌, ◌%◌, [], length, refl, sym, ap, ◌∙◌, arith}
+use Rattle.std.proofs.Common.{◌≡◌, ℕ, ℤ, ◌+◌, ◌%◌, length, sym, ap, ◌∙◌, arith}
 use Rattle.std.specs.Int.{w32, cast_signed, cast_unsigned}
 use Rattle.std.proofs.lemmas.Int.{to_z-of_z}
 use Rattle.ring_layout.specs.History.{span}
@@ -8,7 +8,7 @@ use Rattle.ring_board.specs.declared.view.Record.{Record}
 use Rattle.ring_board.specs.declared.view.View.{View}
 use Rattle.ring_board.specs.declared.view.Stage.TheVariants.{Written}
 use Rattle.ring_board.specs.Records.{end, end_of}
-use Rattle.ring_board.specs.Steps.{Sat, staged, sent_on}
+use Rattle.ring_board.specs.Steps.{Sat, sent_on}
 use Rattle.ring_board.specs.Seats.{next_record}
 use Rattle.ring_board.proofs.PlaceLemmas.{end_snoc}
 use Rattle.ring_board.proofs.CallLemmas.{lies_begun, sent_through}
