@@ -1,12 +1,11 @@
 -- The steps as the functions call them: at the word that the code computes, under the capacity that the caller has.
-use Rattle.std.proofs.Common.{◌≡◌, ℕ, ◌+◌, ◌/◌, ◌<◌, ◌≤◌, sym, ap, ◌∙◌, subst, arith}
-use Rattle.atomic_table.specs.Table.{State, Allows}
+use Rattle.std.proofs.Common.{◌≡◌, ℕ, ◌+◌, ◌/◌, ◌<◌, sym, ap, ◌∙◌, subst, arith}
+use Rattle.atomic_table.specs.Table.{Allows}
 use Rattle.ring_layout.specs.Places.{IsCapacity, index}
 use Rattle.ring_layout.specs.Layout.{ring_words}
 use Rattle.ring_table.specs.Staged.{StagedClaim, Stage}
 use Rattle.ring_table.specs.Changes.{changed}
-use Rattle.ring_table.specs.Views.{Key, View, Wanted, with_claims}
-use Rattle.ring_table.specs.Rule.{Kept, IsLawful}
+use Rattle.ring_table.specs.Views.{Key, View, with_claims}
 use Rattle.ring_table.specs.ProducerSteps.{Mine, HasClaimAt, Changes}
 use Rattle.ring_table.proofs.StagedPlaces.{capacity_aligned}
 use Rattle.ring_table.proofs.Loading.{Ok}

@@ -1,22 +1,21 @@
 -- The moves of the tail keep the rule.
-use Rattle.std.proofs.Common.{◌≡◌, ◌≢◌, ℕ, ◌+◌, ◌%◌, ◌≤◌, ◌<◌, ℤ, List, [], ◌∷◌, ◌++◌, eqb, set, slice_index, sym, refl, ap, ◌∙◌, subst, length, length-set, get_or-set_same, arith}
-use mathlib.Core.Option.{none, some, some-injective}
+use Rattle.std.proofs.Common.{◌≡◌, ℕ, ◌+◌, ◌%◌, ◌≤◌, ◌<◌, ℤ, List, [], ◌∷◌, ◌++◌, eqb, set, slice_index, sym, refl, ap, ◌∙◌, subst, length, arith}
+use mathlib.Core.Option.{some, some-injective}
 use lib.ListN.{get_elem?}
 use prog.Atomic.{either}
-use Rattle.atomic_table.specs.Table.{State, Step, step, keeps, Allows}
+use Rattle.atomic_table.specs.Table.{keeps, Allows}
 use Rattle.atomic_table.proofs.Lists.{exchanged, set_here}
 use Rattle.std.proofs.lemmas.List.{length-replicate}
 use Rattle.ring_layout.specs.History.{IsMessage, span}
-use Rattle.ring_layout.specs.Places.{next_place, end_after, max_position}
+use Rattle.ring_layout.specs.Places.{next_place, end_after}
 use Rattle.ring_layout.specs.Layout.{tail_index}
-use Rattle.ring_layout.proofs.PlaceLemmas.{next_le, next_aligned}
-use Rattle.ring_table.specs.Staged.{StagedClaim, claim_end, staged_end, LiesAfter}
+use Rattle.ring_layout.proofs.PlaceLemmas.{next_le}
+use Rattle.ring_table.specs.Staged.{StagedClaim, claim_end, staged_end}
 use Rattle.ring_table.specs.Changes.{blank, fresh}
-use Rattle.ring_table.specs.Owners.{OwnedHistory, all_of, owned_by}
-use Rattle.ring_table.specs.Services.{times_drawn, once_below}
+use Rattle.ring_table.specs.Owners.{OwnedHistory, all_of}
 use Rattle.ring_table.specs.Views.{View, Wanted, logged, with_producer, with_tail, with_claim}
-use Rattle.ring_table.specs.Rule.{Knows, Kept}
-use Rattle.ring_table.specs.ProducerSteps.{Mine, IsPosition, EndBelow, IsClaimable, MovesTail, MovesOwnTail}
+use Rattle.ring_table.specs.Rule.{Kept}
+use Rattle.ring_table.specs.ProducerSteps.{Mine, EndBelow, IsClaimable, MovesTail, MovesOwnTail}
 use Rattle.ring_table.proofs.StagedPlaces.{capacity_aligned, start_aligned, lies_in, end_aligned}
 use Rattle.ring_table.proofs.StagedWords.{staged_word-fresh}
 use Rattle.ring_table.proofs.Histories.{staged_end-append, owned_by-append, owned_by-append_other, owned_at}

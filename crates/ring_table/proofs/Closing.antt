@@ -1,12 +1,12 @@
 -- What the last state of a closed ring says.
-use Rattle.std.proofs.Common.{◌≡◌, ◌≢◌, ℕ, ◌+◌, ◌≤◌, ◌<◌, List, [], ◌∷◌, ◌++◌, cond, ltb, true, slice_index, sym, refl, ap, ◌∙◌, subst, ⊎_elim, length, le-ltb, arith}
+use Rattle.std.proofs.Common.{◌≡◌, ◌≢◌, ℕ, ◌≤◌, List, ◌∷◌, cond, true, sym, ap, ◌∙◌, subst, ⊎_elim, length, le-ltb, arith}
 use mathlib.Core.Option.{some}
 use lib.ListN.{get_elem?}
-use Rattle.ring_layout.specs.Places.{index, end_of}
+use Rattle.ring_layout.specs.Places.{end_of}
 use Rattle.ring_layout.specs.Picture.{word_at}
-use Rattle.ring_table.specs.Staged.{StagedClaim, AreStored, claims_of, staged_word_at, staged_end}
-use Rattle.ring_table.specs.Owners.{all_of, owned_by}
-use Rattle.ring_table.specs.Services.{total, times_drawn, once_below, AreServed}
+use Rattle.ring_table.specs.Staged.{StagedClaim, AreStored, staged_word_at, staged_end}
+use Rattle.ring_table.specs.Owners.{all_of}
+use Rattle.ring_table.specs.Services.{times_drawn, AreServed}
 use Rattle.ring_table.specs.Views.{ConsumerView, View}
 use Rattle.ring_table.specs.Rule.{IsMemory, IsService, Kept}
 use Rattle.ring_table.specs.Closed.{IsClosed, restarted, LeavesRest}

@@ -1,6 +1,6 @@
 -- The consumer's steps keep the rule.
-use Rattle.std.proofs.Common.{◌≡◌, ◌≢◌, ℕ, ◌+◌, ◌-◌, ◌*◌, ◌/◌, ◌%◌, ◌^◌, ◌≤◌, ◌<◌, ◌⊎◌, ℤ, pos, negsuc, ◌≤ℤ◌, FitsSigned, List, [], ◌∷◌, ◌++◌, cond, ltb, true, set, get_or, slice_index, sym, refl, ap, ◌∙◌, subst, inl, inr, ⊎_elim, length, lt-ltb, le-ltb, length-set, get_or-set_other, get_or-set_same, arith}
-use mathlib.Core.Option.{none, some}
+use Rattle.std.proofs.Common.{◌≡◌, ◌≢◌, ℕ, ◌+◌, ◌-◌, ◌/◌, ◌%◌, ◌^◌, ◌≤◌, ◌<◌, ℤ, pos, negsuc, ◌≤ℤ◌, FitsSigned, List, [], ◌∷◌, ◌++◌, cond, ltb, true, set, get_or, slice_index, sym, refl, ap, ◌∙◌, subst, ⊎_elim, lt-ltb, le-ltb, length-set, get_or-set_other, get_or-set_same, arith}
+use mathlib.Core.Option.{some}
 use mathlib.Core.Logic.{dite}
 use native.Mathlib.Decide.{ℕ_discrete}
 use native.Mathlib.Nat.{add-mod_right}
@@ -8,27 +8,26 @@ use lib.ListN.{get_elem?}
 use Rattle.std.specs.Int.{cast_signed, cast_unsigned, w32}
 use Rattle.std.proofs.lemmas.Bool.{cases_lt}
 use Rattle.std.proofs.lemmas.Int.{to_z-of_z, ints}
-use Rattle.atomic_table.specs.Table.{State, Step, step, keeps, Allows}
-use Rattle.ring_layout.specs.declared.message.Message.{Message}
+use Rattle.atomic_table.specs.Table.{State, keeps, Allows}
 use Rattle.ring_layout.specs.History.{IsMessage}
-use Rattle.ring_layout.specs.Places.{IsCapacity, index, max_position}
+use Rattle.ring_layout.specs.Places.{index}
 use Rattle.ring_layout.specs.Headers.{header, padding_type}
 use Rattle.ring_layout.specs.Layout.{tail_index, head_cache_index, head_index, correlation_index, heartbeat_index}
-use Rattle.ring_layout.proofs.HeaderLemmas.{fits_pos, pattern_below}
-use Rattle.ring_table.specs.Staged.{PlacedMessage, staged_end, staged_word_at, body_word}
-use Rattle.ring_table.specs.Owners.{OwnedHistory, all_of, owned_by}
+use Rattle.ring_layout.proofs.HeaderLemmas.{fits_pos}
+use Rattle.ring_table.specs.Staged.{PlacedMessage, staged_end, staged_word_at}
+use Rattle.ring_table.specs.Owners.{OwnedHistory, all_of}
 use Rattle.ring_table.specs.Passing.{Reaches}
-use Rattle.ring_table.specs.Services.{times_drawn, AreServed}
+use Rattle.ring_table.specs.Services.{AreServed}
 use Rattle.ring_table.specs.Views.{ConsumerView, View, Wanted, logged, with_consumer, scanned, cleared_to, stands_at}
-use Rattle.ring_table.specs.Rule.{Knows, IsMemory, Kept, shown_word}
+use Rattle.ring_table.specs.Rule.{IsMemory, Kept}
 use Rattle.ring_table.specs.ProducerSteps.{Mine}
-use Rattle.ring_table.specs.ConsumerSteps.{with_scan, rounded, IsInside, PassesPadding, FindsMessage, LoadsHeader, LoadsBody, ClearsWord, StoresHead, StoresHeadBefore}
+use Rattle.ring_table.specs.ConsumerSteps.{with_scan, rounded, IsInside, LoadsHeader, LoadsBody, ClearsWord, StoresHead, StoresHeadBefore}
 use Rattle.ring_table.proofs.StagedPlaces.{capacity_aligned, start_aligned, nothing_behind}
 use Rattle.ring_table.proofs.ReachLemmas.{reach_bounds, reach_aligned, shows_body, back_before_last}
-use Rattle.ring_table.proofs.HeaderReads.{low_half, high_half, FindsAt, Leads, leads}
+use Rattle.ring_table.proofs.HeaderReads.{low_half, high_half, Leads, leads}
 use Rattle.ring_table.proofs.Sums.{set_own}
 use Rattle.ring_table.proofs.Seating.{sees_top_after, reseated}
-use Rattle.ring_table.proofs.Memories.{head_bounds, index_inside, not_inside, one_position, service_elsewhere}
+use Rattle.ring_table.proofs.Memories.{index_inside, not_inside, one_position, service_elsewhere}
 use Rattle.ring_table.proofs.Loading.{Ok, May, sees}
 
 -- ---- the last of a list

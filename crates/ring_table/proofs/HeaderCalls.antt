@@ -1,5 +1,5 @@
 -- The headers that the code packs.
-use Rattle.std.proofs.Common.{◌≡◌, ℕ, ◌+◌, ◌-◌, ◌^◌, ◌<◌, ℤ, ◌-ℤ◌, pos, neg_ℤ, FitsSigned, length, sym, refl, ap, ◌∙◌, arith}
+use Rattle.std.proofs.Common.{◌≡◌, ℕ, ◌+◌, ◌^◌, ◌<◌, ℤ, ◌-ℤ◌, pos, neg_ℤ, FitsSigned, sym, ap, ◌∙◌, arith}
 use Rattle.std.specs.Int.{cast_signed, cast_unsigned, w32}
 use Rattle.std.proofs.lemmas.Int.{ints, to_z-of_z}
 use Rattle.ring_layout.specs.declared.message.ClaimState.TheVariants.{Committed, Aborted}

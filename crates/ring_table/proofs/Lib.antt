@@ -21,3 +21,4 @@ pub mod Closing
 pub mod Calls
 pub mod HeaderCalls
 pub mod LawLemmas
+pub mod TestLemmas

@@ -1,18 +1,17 @@
 -- A producer's loads keep the rule.
-use Rattle.std.proofs.Common.{◌≡◌, ◌≢◌, ℕ, ◌+◌, ◌%◌, ◌≤◌, ◌<◌, ◌⊎◌, List, [], ◌∷◌, ◌++◌, cond, set, get_or, slice_index, sym, refl, ap, ◌∙◌, subst, length, le-ltb, arith, max}
-use mathlib.Core.Option.{none, some}
+use Rattle.std.proofs.Common.{◌≡◌, ℕ, ◌+◌, ◌%◌, ◌≤◌, List, cond, set, get_or, slice_index, sym, refl, ap, ◌∙◌, subst, length, le-ltb, arith}
+use mathlib.Core.Option.{some}
 use lib.ListN.{get_elem?}
-use Rattle.atomic_table.specs.Table.{State, Step, step, keeps, Allows, Act, Valid, stepped, carried_after}
-use Rattle.ring_layout.specs.declared.message.ClaimState.TheVariants.{Open}
-use Rattle.ring_layout.specs.Places.{index, max_position}
+use Rattle.atomic_table.specs.Table.{State, keeps, Allows, Act, Valid, stepped, carried_after}
+use Rattle.ring_layout.specs.Places.{index}
 use Rattle.ring_layout.specs.Layout.{tail_index, head_index}
-use Rattle.ring_table.specs.Staged.{StagedClaim, Moved, Stored, IsStored, AreRising, claim_end, staged_word, staged_word_at, body_word, staged_end}
-use Rattle.ring_table.specs.Owners.{OwnedHistory, all_of, owned_by}
+use Rattle.ring_table.specs.Staged.{StagedClaim, Moved, IsStored, AreRising, staged_word_at, staged_end}
+use Rattle.ring_table.specs.Owners.{OwnedHistory, all_of}
 use Rattle.ring_table.specs.Passing.{IsSettled}
 use Rattle.ring_table.specs.Services.{times_drawn, once_below}
-use Rattle.ring_table.specs.Views.{View, Wanted, ProducerView, ConsumerView, logged, with_producer, with_tail, with_head}
-use Rattle.ring_table.specs.Rule.{Knows, IsSeated, Kept}
-use Rattle.ring_table.specs.ProducerSteps.{Mine, IsPosition, LoadsTail, LoadsHead, HasClaim, LoadsOwn}
+use Rattle.ring_table.specs.Views.{View, Wanted, logged, with_producer, with_tail, with_head}
+use Rattle.ring_table.specs.Rule.{Knows, Kept}
+use Rattle.ring_table.specs.ProducerSteps.{Mine, LoadsTail, LoadsHead, HasClaim, LoadsOwn}
 use Rattle.ring_table.proofs.StagedPlaces.{capacity_aligned, start_aligned, lies_in, LiesIn, end_aligned, places_aligned, word_of_claim}
 use Rattle.ring_table.proofs.StagedWords.{staged_word-stored}
 use Rattle.ring_table.proofs.Histories.{owned_at}

@@ -1,18 +1,17 @@
 -- The words as one of them changes.
-use Rattle.std.proofs.Common.{◌≡◌, ◌≢◌, ℕ, zero, suc, ◌+◌, ◌-◌, ◌/◌, ◌%◌, ◌≤◌, ◌<◌, ◌⊎◌, List, [], ◌∷◌, ◌++◌, cond, ltb, set, get_or, slice_index, sym, refl, ap, ◌∙◌, subst, ⊎_elim, length, lt-ltb, le-ltb, length-set, get_or-set_other, get_or-set_same, arith}
+use Rattle.std.proofs.Common.{◌≡◌, ◌≢◌, ℕ, ◌+◌, ◌/◌, ◌%◌, ◌≤◌, ◌<◌, List, [], ◌∷◌, ◌++◌, cond, ltb, set, get_or, sym, ap, ◌∙◌, subst, length, le-ltb, length-set, get_or-set_other, get_or-set_same, arith}
 use mathlib.Core.Option.{some}
 use mathlib.Core.Logic.{dite}
 use native.Mathlib.Decide.{ℕ_discrete}
 use lib.ListN.{get_elem?}
 use Rattle.std.proofs.lemmas.Nat.{mod_below}
-use Rattle.ring_layout.specs.Places.{IsCapacity, index, max_position}
-use Rattle.ring_layout.specs.Layout.{ring_words, tail_index, head_cache_index, head_index, correlation_index, heartbeat_index}
+use Rattle.ring_layout.specs.Places.{index, max_position}
+use Rattle.ring_layout.specs.Layout.{tail_index, head_cache_index, head_index, correlation_index, heartbeat_index}
 use Rattle.ring_layout.proofs.Laps.{apart}
-use Rattle.ring_table.specs.Staged.{StagedClaim, PlacedMessage, claim_end, staged_word, staged_word_at, LiesAfter, staged_end}
+use Rattle.ring_table.specs.Staged.{StagedClaim, claim_end, staged_word, staged_word_at, LiesAfter, staged_end}
 use Rattle.ring_table.specs.Owners.{OwnedHistory, all_of, edited}
-use Rattle.ring_table.specs.Passing.{Reaches}
 use Rattle.ring_table.specs.Views.{ConsumerView}
-use Rattle.ring_table.specs.Rule.{IsLawful, IsMemory, IsService, shown_word}
+use Rattle.ring_table.specs.Rule.{IsLawful, IsMemory, IsService}
 use Rattle.ring_table.proofs.StagedPlaces.{capacity_aligned, start_aligned}
 use Rattle.ring_table.proofs.Histories.{staged_end-append, placed_append, staged_word_at-append, MayReplaceAt, staged_end-edited, placed_edited, staged_word_at-edited}
 use Rattle.ring_table.proofs.ReachLemmas.{reach_bounds, reach_aligned, reach_append, Unsettled, reach_edited}

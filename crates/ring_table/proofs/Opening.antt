@@ -1,10 +1,10 @@
 -- A fresh ring meets the rule.
-use Rattle.std.proofs.Common.{◌≡◌, ◌≢◌, ℕ, zero, suc, ◌+◌, ◌≤◌, ◌<◌, List, [], ◌∷◌, Bool, true, false, cond, ltb, sym, refl, ap, ◌∙◌, subst, length, le-ltb, arith}
+use Rattle.std.proofs.Common.{◌≡◌, ℕ, zero, suc, ◌≤◌, List, [], ◌∷◌, Bool, true, false, cond, ltb, sym, refl, ap, ◌∙◌, subst, le-ltb, arith}
 use mathlib.Core.Option.{some, some-injective, some-ne-none}
 use lib.ListN.{get_elem?}
 use Rattle.ring_layout.specs.Places.{index, max_position}
 use Rattle.ring_table.specs.Services.{once_below}
-use Rattle.ring_table.specs.Views.{ConsumerView, View, first_view, consumer_from}
+use Rattle.ring_table.specs.Views.{View, first_view, consumer_from}
 use Rattle.ring_table.specs.Rule.{IsLawful, Knows, Kept}
 use Rattle.ring_table.specs.Closed.{IsFresh}
 use Rattle.ring_table.proofs.StagedPlaces.{start_aligned}

@@ -1,18 +1,16 @@
 -- What a read leaves is a history of its own, from where the read stands.
-use Rattle.std.proofs.Common.{◌≡◌, ◌≢◌, ℕ, ◌+◌, ◌-◌, ◌≤◌, ◌<◌, ◌⊎◌, List, [], ◌∷◌, ◌++◌, cond, ltb, sym, refl, ap, ◌∙◌, subst, inl, inr, ⊎_elim, length, lt-ltb, le-ltb, arith}
+use Rattle.std.proofs.Common.{◌≡◌, ℕ, ◌+◌, ◌-◌, ◌≤◌, ◌<◌, List, [], ◌∷◌, ◌++◌, cond, ltb, sym, refl, ap, ◌∙◌, inl, inr, ⊎_elim, length, lt-ltb, le-ltb, arith}
 use mathlib.Core.Logic.{dite}
 use native.Mathlib.Decide.{ℕ_discrete}
 use Rattle.std.proofs.lemmas.Bool.{cases_lt}
-use Rattle.ring_layout.specs.History.{span}
 use Rattle.ring_layout.specs.Places.{next_place, end_of}
 use Rattle.ring_layout.specs.Headers.{padding_header}
 use Rattle.ring_layout.specs.Picture.{claim_word, word_at}
-use Rattle.ring_layout.proofs.PlaceLemmas.{next_le, next_fixed}
+use Rattle.ring_layout.proofs.PlaceLemmas.{next_fixed}
 use Rattle.ring_layout.proofs.PictureLemmas.{word_at_padding, word_at_padding_header, word_at_record, word_at_rest}
 use Rattle.ring_table.specs.Staged.{StagedClaim, PlacedMessage, Stage, Moved, Padded, Stored, IsStored, AreStored, claim_of, claims_of, claim_end, staged_span, masked_padding, masked_record, staged_word, staged_word_at, ArePlaced, staged_end}
 use Rattle.ring_table.specs.Passing.{AreSettled, placed_message, shown_at, placed_committed_of, Reaches}
 use Rattle.ring_table.specs.Closed.{restarted}
-use Rattle.ring_table.proofs.StagedPlaces.{end_le}
 use Rattle.ring_table.proofs.StagedWords.{staged_word-padding, staged_word-padding_behind, staged_word-record}
 use Rattle.ring_table.proofs.ReachLemmas.{reach_bounds}
 

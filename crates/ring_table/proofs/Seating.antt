@@ -1,15 +1,14 @@
 -- The views of all seats as one of them steps.
-use Rattle.std.proofs.Common.{◌≡◌, ◌≢◌, ℕ, zero, suc, ◌+◌, ◌≤◌, ◌<◌, List, [], ◌∷◌, ◌++◌, set, sym, refl, ap, ◌∙◌, subst, length, length-set, arith}
+use Rattle.std.proofs.Common.{◌≡◌, ◌≢◌, ℕ, ◌+◌, ◌≤◌, ◌<◌, List, set, sym, ap, ◌∙◌, subst, length, length-set, arith}
 use mathlib.Core.Option.{some, some-injective}
 use mathlib.Core.Logic.{dite}
 use native.Mathlib.Decide.{ℕ_discrete}
 use lib.ListN.{get_elem?}
 use Rattle.atomic_table.proofs.Lists.{set_here, set_else}
-use Rattle.ring_table.specs.Staged.{StagedClaim}
 use Rattle.ring_table.specs.Owners.{OwnedHistory, owned_by}
 use Rattle.ring_table.specs.Services.{total, times_drawn, once_below}
-use Rattle.ring_table.specs.Views.{ProducerView, ConsumerView, View, spent}
-use Rattle.ring_table.specs.Rule.{IsIdle, Knows, SeesTop, IsSeated, shares_of}
+use Rattle.ring_table.specs.Views.{ConsumerView, View, spent}
+use Rattle.ring_table.specs.Rule.{Knows, SeesTop, IsSeated, shares_of}
 use Rattle.ring_table.proofs.Sums.{at_below, each_after_set, total-set, total-zero}
 
 -- what an entry that is known is, by two reports of it

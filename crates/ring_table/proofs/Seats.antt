@@ -7,11 +7,11 @@ use lib.ListN.{get_elem?}
 use Rattle.std.proofs.lemmas.Bool.{false≢true}
 use Rattle.atomic_table.specs.Table.{State, Splits, Joins}
 use Rattle.atomic_table.proofs.Lists.{at_set, at_longer, set_here, set_else}
-use Rattle.ring_table.specs.Staged.{ArePlaced, staged_end}
+use Rattle.ring_table.specs.Staged.{staged_end}
 use Rattle.ring_table.specs.Owners.{OwnedHistory, all_of, owned_by, interleaved, handed_over}
-use Rattle.ring_table.specs.Services.{Service, total, times, times_drawn, once_below, AreServed}
-use Rattle.ring_table.specs.Views.{ProducerView, ConsumerView, View, Wanted, without_consumer, consumer_alone, with_consumer_of, without_share, producer_alone, both_producers, with_producer_of, spent}
-use Rattle.ring_table.specs.Rule.{IsIdle, IsMemory, Knows, SeesTop, IsSeated, Kept, shares_of}
+use Rattle.ring_table.specs.Services.{Service, total, times, times_drawn, once_below}
+use Rattle.ring_table.specs.Views.{ConsumerView, View, Wanted, without_consumer, consumer_alone, with_consumer_of, without_share, producer_alone, with_producer_of, spent}
+use Rattle.ring_table.specs.Rule.{IsMemory, Knows, IsSeated, Kept, shares_of}
 use Rattle.ring_table.proofs.OwnerLemmas.{all_of-handed_over, owned_by-handed_over, owned_by-handed_away, owned_by-handed_over_other}
 use Rattle.ring_table.proofs.ServiceLemmas.{served_append}
 use Rattle.ring_table.proofs.Sums.{at_below, at_more, each_after_set, total-set, total-append}

@@ -1,12 +1,12 @@
 -- Draws and heartbeats.
-use Rattle.std.proofs.Common.{◌≡◌, ◌≢◌, ℕ, zero, suc, ◌+◌, ◌≤◌, ◌<◌, List, [], ◌∷◌, ◌++◌, Bool, cond, eqb, inl, inr, ltb, sym, refl, ap, ◌∙◌, subst, length, length-append, eq-eqb, ne_eqb, lt-ltb, le-ltb, arith}
-use mathlib.Core.Option.{some, some-ne-none}
+use Rattle.std.proofs.Common.{◌≡◌, ℕ, ◌+◌, ◌≤◌, List, [], ◌∷◌, ◌++◌, Bool, cond, eqb, inl, inr, ap, length, length-append, eq-eqb, ne_eqb, lt-ltb, le-ltb, arith}
+use mathlib.Core.Option.{some}
 use mathlib.Core.Logic.{dite}
 use native.Mathlib.Decide.{ℕ_discrete}
 use lib.ListN.{get_elem?}
 use Rattle.std.proofs.lemmas.Bool.{cases_lt}
 use Rattle.atomic_table.proofs.Lists.{at_longer}
-use Rattle.ring_table.specs.Services.{Service, total, times, times_drawn, once_below, AreRisingBelow, NeverGoBack, IsServed, AreServed}
+use Rattle.ring_table.specs.Services.{Service, total, times, times_drawn, once_below, AreRisingBelow, NeverGoBack, AreServed}
 use Rattle.ring_table.specs.Views.{ProducerView, with_draw}
 use Rattle.ring_table.proofs.Sums.{total-append, at_below}
 

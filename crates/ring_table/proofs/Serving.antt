@@ -1,16 +1,13 @@
 -- The steps on the head cache, the correlation counter and the heartbeat keep the rule.
-use Rattle.std.proofs.Common.{◌≡◌, ◌≢◌, ℕ, ◌+◌, ◌%◌, ◌^◌, ◌≤◌, ◌<◌, List, [], ◌∷◌, ◌++◌, true, set, get_or, slice_index, sym, refl, ap, ◌∙◌, subst, length, length-append, get_or-set_other, get_or-set_same, max, arith}
-use mathlib.Core.Option.{none, some}
-use lib.ListN.{get_elem?}
-use Rattle.atomic_table.specs.Table.{State, Step, step, keeps, Allows}
+use Rattle.std.proofs.Common.{◌≡◌, ℕ, ◌+◌, ◌%◌, ◌^◌, ◌≤◌, ◌<◌, List, [], ◌∷◌, ◌++◌, true, set, get_or, slice_index, sym, refl, ap, ◌∙◌, subst, length, length-append, get_or-set_other, get_or-set_same, max, arith}
+use mathlib.Core.Option.{some}
+use Rattle.atomic_table.specs.Table.{keeps, Allows}
 use Rattle.atomic_table.proofs.Lists.{set_again, at_last}
-use Rattle.ring_layout.specs.Places.{max_position}
-use Rattle.ring_layout.specs.Layout.{tail_index, head_cache_index, head_index, correlation_index, heartbeat_index}
+use Rattle.ring_layout.specs.Layout.{head_cache_index, correlation_index, heartbeat_index}
 use Rattle.ring_table.specs.Staged.{staged_end}
-use Rattle.ring_table.specs.Owners.{OwnedHistory, all_of}
-use Rattle.ring_table.specs.Services.{Service, AreServed, times_drawn, once_below}
-use Rattle.ring_table.specs.Views.{ConsumerView, ProducerView, View, Wanted, logged, with_producer, with_consumer, with_head, with_draw, with_heartbeat, beaten}
-use Rattle.ring_table.specs.Rule.{Knows, IsMemory, IsService, Kept}
+use Rattle.ring_table.specs.Owners.{all_of}
+use Rattle.ring_table.specs.Views.{ConsumerView, View, logged, with_producer, with_consumer, with_head, with_draw, with_heartbeat, beaten}
+use Rattle.ring_table.specs.Rule.{Kept}
 use Rattle.ring_table.specs.ProducerSteps.{Mine}
 use Rattle.ring_table.specs.ServiceSteps.{LoadsCache, DrawsId, LoadsHeartbeat}
 use Rattle.ring_table.proofs.Seating.{sole_sees_top, sees_top_after, reseated}

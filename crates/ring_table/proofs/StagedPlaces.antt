@@ -1,13 +1,12 @@
 -- Where claims lie.
-use Rattle.std.proofs.Common.{◌≡◌, ℕ, zero, suc, ◌+◌, ◌%◌, ◌≤◌, ◌<◌, List, [], ◌∷◌, ◌++◌, cond, length, sym, refl, ap, ◌∙◌, subst, arith, lt-ltb, le-ltb}
+use Rattle.std.proofs.Common.{◌≡◌, ℕ, zero, suc, ◌%◌, ◌≤◌, ◌<◌, List, [], ◌∷◌, cond, length, sym, refl, ap, ◌∙◌, subst, arith, lt-ltb, le-ltb}
 use mathlib.Core.Option.{some, some-injective, some-ne-none}
 use lib.ListN.{get_elem?}
-use Rattle.ring_layout.specs.History.{IsMessage, span}
+use Rattle.ring_layout.specs.History.{IsMessage}
 use Rattle.ring_layout.specs.Places.{IsCapacity, next_place}
-use Rattle.ring_layout.proofs.Laps.{mod_aligned}
 use Rattle.ring_layout.proofs.PlaceLemmas.{next_le, next_aligned}
 use Rattle.ring_layout.proofs.CapacityLemmas.{capacity_blocks}
-use Rattle.ring_table.specs.Staged.{StagedClaim, staged_span, claim_end, staged_word, staged_word_at, LiesAfter, ArePlaced, staged_end}
+use Rattle.ring_table.specs.Staged.{StagedClaim, staged_span, claim_end, staged_word, staged_word_at, ArePlaced, staged_end}
 use Rattle.ring_table.specs.Owners.{OwnedHistory, all_of}
 use Rattle.ring_table.specs.Rule.{IsLawful}
 use Rattle.std.proofs.Math.Nat.{mod-mod_of_dvd}

@@ -1,26 +1,25 @@
 -- A producer's stores into its claims keep the rule.
-use Rattle.std.proofs.Common.{◌≡◌, ◌≢◌, ℕ, zero, suc, ◌+◌, ◌-◌, ◌/◌, ◌%◌, ◌^◌, ◌≤◌, ◌<◌, ◌⊎◌, ℤ, pos, neg_ℤ, FitsSigned, List, [], ◌∷◌, ◌++◌, set, slice_index, sym, refl, ap, ◌∙◌, subst, inl, inr, ⊎_elim, length, arith}
-use mathlib.Core.Option.{none, some}
+use Rattle.std.proofs.Common.{◌≡◌, ◌≢◌, ℕ, zero, suc, ◌+◌, ◌-◌, ◌/◌, ◌%◌, ◌^◌, ◌≤◌, ◌<◌, ◌⊎◌, ℤ, pos, neg_ℤ, FitsSigned, List, set, sym, refl, ap, ◌∙◌, subst, inl, inr, ⊎_elim, length, arith}
+use mathlib.Core.Option.{some}
 use mathlib.Core.Logic.{dite}
 use native.Mathlib.Decide.{ℕ_discrete}
 use lib.ListN.{get_elem?}
 use Rattle.std.specs.Int.{cast_signed, w32}
 use Rattle.std.proofs.lemmas.List.{length-replicate}
 use Rattle.std.proofs.lemmas.Int.{ints}
-use Rattle.atomic_table.specs.Table.{State, Step, step, keeps, Allows}
+use Rattle.atomic_table.specs.Table.{keeps, Allows}
 use Rattle.ring_layout.specs.declared.message.ClaimState.{ClaimState}
-use Rattle.ring_layout.specs.declared.message.ClaimState.TheVariants.{Open, Committed, Aborted}
+use Rattle.ring_layout.specs.declared.message.ClaimState.TheVariants.{Open}
 use Rattle.ring_layout.specs.History.{IsMessage, span}
 use Rattle.ring_layout.specs.Places.{index}
-use Rattle.ring_layout.specs.Headers.{header, header_of, padding_header}
+use Rattle.ring_layout.specs.Headers.{header_of, padding_header}
 use Rattle.ring_layout.proofs.HeaderLemmas.{len_of-header, type_of-header, fits_neg}
 use Rattle.ring_table.specs.Staged.{StagedClaim, Stage, Moved, Padded, Stored, claim_of, claim_end, staged_span, masked_padding, masked_record, staged_word, staged_word_at, staged_end, AreRising, IsStored}
-use Rattle.ring_table.specs.Changes.{blank, staged, opened, written, with_word, changed}
-use Rattle.ring_table.specs.Owners.{OwnedHistory, all_of, owned_by, edited_one, edited}
+use Rattle.ring_table.specs.Changes.{blank, staged, opened, written, changed}
+use Rattle.ring_table.specs.Owners.{OwnedHistory, all_of, edited_one, edited}
 use Rattle.ring_table.specs.Passing.{IsSettled}
-use Rattle.ring_table.specs.Services.{times_drawn, once_below}
-use Rattle.ring_table.specs.Views.{View, Wanted, with_claims}
-use Rattle.ring_table.specs.Rule.{Knows, Kept}
+use Rattle.ring_table.specs.Views.{View, with_claims}
+use Rattle.ring_table.specs.Rule.{Kept}
 use Rattle.ring_table.specs.ProducerSteps.{Mine, HasClaim, Changes, StoresPadding, open_header, StoresClaimed, StoresSettled, StoresBody, TakesWord}
 use Rattle.ring_table.proofs.StagedPlaces.{word_of_claim, one_at_place, one_at_position}
 use Rattle.ring_table.proofs.BodyWords.{length-with_word, body_word-with_word, bytes_of-with_word}
@@ -30,7 +29,7 @@ use Rattle.ring_table.proofs.OwnerLemmas.{rising_owned_by}
 use Rattle.ring_table.proofs.ReachLemmas.{Unsettled}
 use Rattle.ring_table.proofs.Seating.{sees_top_after, reseated}
 use Rattle.ring_table.proofs.Memories.{memory_edited, service_elsewhere, one_position, index_inside}
-use Rattle.ring_table.proofs.Loading.{Ok, Stands, stands}
+use Rattle.ring_table.proofs.Loading.{Ok, stands}
 
 one_negated : (m n : ℕ) → neg_ℤ (pos m) ≡ neg_ℤ (pos n) → m ≡ n
 one_negated zero zero e = refl

@@ -3,7 +3,7 @@ use Rattle.std.specs.Prelude.{◌≡◌, ℕ, ◌+◌, ◌-◌, ◌<◌, List, [
 use Rattle.std.specs.Int.{from_le_bytes, w64}
 use Rattle.ring_layout.specs.declared.message.Claim.{Claim}
 use Rattle.ring_layout.specs.declared.message.ClaimState.{ClaimState}
-use Rattle.ring_layout.specs.declared.message.ClaimState.TheVariants.{Open, Committed, Aborted}
+use Rattle.ring_layout.specs.declared.message.ClaimState.TheVariants.{Open}
 use Rattle.ring_layout.specs.History.{IsMessage, span}
 use Rattle.ring_layout.specs.Places.{next_place}
 use Rattle.ring_layout.specs.Headers.{padding_header}

@@ -1,12 +1,9 @@
-use Rattle.std.proofs.Common.{◌≡◌, ℕ, ◌+◌, ◌<◌, length, sym, refl, ap, ◌∙◌, subst, arith, true}
-use Rattle.atomic_table.specs.Table.{Allows}
+use Rattle.std.proofs.Common.{◌≡◌, sym, ap, ◌∙◌, arith}
 use Rattle.ring_layout.specs.Places.{index}
-use Rattle.ring_layout.specs.Layout.{head_index}
-use Rattle.ring_table.specs.Views.{View, logged}
+use Rattle.ring_table.specs.Views.{View}
 use Rattle.ring_table.specs.ProducerSteps.{Mine}
 use Rattle.ring_table.specs.ConsumerSteps.{ClearsWord}
 use Rattle.ring_table.proofs.Calls.{at_index, in_records}
-use Rattle.ring_table.proofs.Loading.{Ok}
 use Rattle.ring_table.proofs.Consuming.{clears_word}
 use Rattle.ring_table.proofs.steps.consumer.clear_word.Goals as goal
 

@@ -1,12 +1,8 @@
-use Rattle.std.proofs.Common.{◌≡◌, ℕ, ◌+◌, ◌<◌, length, sym, refl, ap, ◌∙◌, subst, arith, true}
-use Rattle.atomic_table.specs.Table.{Allows}
+use Rattle.std.proofs.Common.{◌≡◌, ℕ, sym, ap, ◌∙◌, subst}
 use Rattle.ring_layout.specs.Places.{index}
-use Rattle.ring_layout.specs.Layout.{head_index}
-use Rattle.ring_table.specs.Views.{View, logged}
 use Rattle.ring_table.specs.ProducerSteps.{Mine}
 use Rattle.ring_table.specs.ConsumerSteps.{LoadsHeader}
 use Rattle.ring_table.proofs.Calls.{at_index, in_records}
-use Rattle.ring_table.proofs.Loading.{Ok}
 use Rattle.ring_table.proofs.Consuming.{loads_first}
 use Rattle.ring_table.proofs.steps.consumer.load_first_header.Goals as goal
 

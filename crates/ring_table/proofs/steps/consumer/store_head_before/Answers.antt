@@ -1,8 +1,7 @@
-use Rattle.std.proofs.Common.{◌≡◌, ℕ, ◌+◌, ◌<◌, length, sym, refl, ap, ◌∙◌, subst, arith, true}
+use Rattle.std.proofs.Common.{◌≡◌, ℕ, sym, ap, ◌∙◌, subst, arith}
 use Rattle.atomic_table.specs.Table.{Allows}
-use Rattle.ring_layout.specs.Places.{index}
 use Rattle.ring_layout.specs.Layout.{head_index}
-use Rattle.ring_table.specs.Views.{View, logged}
+use Rattle.ring_table.specs.Views.{View}
 use Rattle.ring_table.specs.ProducerSteps.{Mine}
 use Rattle.ring_table.specs.ConsumerSteps.{StoresHeadBefore}
 use Rattle.ring_table.proofs.Calls.{at_index, in_trailer}

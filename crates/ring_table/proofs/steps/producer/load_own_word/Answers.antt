@@ -1,6 +1,6 @@
 use Rattle.std.proofs.Common.{ap}
 use Rattle.ring_table.specs.Views.{View}
-use Rattle.std.proofs.Common.{◌≡◌, ℕ, subst}
+use Rattle.std.proofs.Common.{◌≡◌, subst}
 use Rattle.ring_table.specs.Staged.{AreRising}
 use Rattle.ring_table.specs.Views.{logged}
 use Rattle.ring_table.specs.ProducerSteps.{Mine, LoadsOwn}

@@ -1,6 +1,6 @@
-use Rattle.std.proofs.Common.{◌≡◌, ℕ, ◌+◌, ◌-◌, ◌%◌, ◌^◌, ◌<◌, length, sym, refl, ap, ◌∙◌, subst, arith, pos, neg_ℤ}
+use Rattle.std.proofs.Common.{◌≡◌, ℕ, ◌+◌, sym, ap, ◌∙◌, arith}
 use Rattle.ring_layout.specs.Places.{index}
-use Rattle.ring_table.specs.Staged.{StagedClaim, Moved, Padded, Stored, AreRising}
+use Rattle.ring_table.specs.Staged.{AreRising}
 use Rattle.ring_table.specs.Changes.{changed, written}
 use Rattle.ring_table.specs.Views.{View, with_claims}
 use Rattle.ring_table.specs.ProducerSteps.{Mine, StoresBody}

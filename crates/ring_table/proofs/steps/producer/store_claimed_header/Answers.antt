@@ -1,11 +1,9 @@
-use Rattle.std.proofs.Common.{◌≡◌, ℕ, ◌+◌, ◌-◌, ◌%◌, ◌^◌, ◌<◌, length, sym, refl, ap, ◌∙◌, subst, arith, pos, neg_ℤ}
+use Rattle.std.proofs.Common.{◌≡◌, ℕ, ◌+◌, ◌^◌, ◌<◌, sym, ap, ◌∙◌, arith}
 use Rattle.std.proofs.lemmas.List.{length-replicate}
-use Rattle.atomic_table.specs.Table.{Allows}
-use Rattle.ring_table.proofs.Loading.{Ok}
 use Rattle.ring_table.proofs.HeaderCalls.{packs_open}
 use Rattle.ring_layout.specs.Places.{index}
-use Rattle.ring_table.specs.Staged.{StagedClaim, Moved, Padded, Stored, AreRising}
-use Rattle.ring_table.specs.Changes.{blank, opened, staged, written}
+use Rattle.ring_table.specs.Staged.{Padded, AreRising}
+use Rattle.ring_table.specs.Changes.{opened}
 use Rattle.ring_table.specs.Views.{View}
 use Rattle.ring_table.specs.ProducerSteps.{Mine, StoresClaimed}
 use Rattle.ring_table.proofs.Calls.{at_word, in_records, after_change}

@@ -1,10 +1,10 @@
-use Rattle.std.proofs.Common.{◌≡◌, ℕ, ◌+◌, ◌-◌, ◌%◌, ◌^◌, ◌<◌, length, sym, refl, ap, ◌∙◌, subst, arith, pos, neg_ℤ}
-use Rattle.ring_layout.specs.declared.message.ClaimState.TheVariants.{Open, Committed, Aborted}
+use Rattle.std.proofs.Common.{◌≡◌, ℕ, ◌+◌, ◌^◌, ◌<◌, sym, ap, ◌∙◌, arith}
+use Rattle.ring_layout.specs.declared.message.ClaimState.TheVariants.{Open, Committed}
 use Rattle.std.proofs.lemmas.List.{length-replicate}
 use Rattle.ring_table.proofs.HeaderCalls.{packs_committed}
 use Rattle.ring_layout.specs.Places.{index}
-use Rattle.ring_table.specs.Staged.{StagedClaim, Moved, Padded, Stored, AreRising}
-use Rattle.ring_table.specs.Changes.{blank, opened, staged, written}
+use Rattle.ring_table.specs.Staged.{Stored, AreRising}
+use Rattle.ring_table.specs.Changes.{staged}
 use Rattle.ring_table.specs.Views.{View}
 use Rattle.ring_table.specs.ProducerSteps.{Mine, StoresSettled}
 use Rattle.ring_table.proofs.Calls.{at_word, in_records, after_change}

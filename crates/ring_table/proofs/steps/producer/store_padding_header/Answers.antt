@@ -1,9 +1,9 @@
-use Rattle.std.proofs.Common.{◌≡◌, ℕ, ◌+◌, ◌-◌, ◌%◌, ◌^◌, ◌<◌, length, sym, refl, ap, ◌∙◌, subst, arith, pos, neg_ℤ}
+use Rattle.std.proofs.Common.{◌≡◌, ℕ, ◌-◌, ◌<◌, sym, ap, ◌∙◌, subst, arith}
 use Rattle.ring_layout.specs.Headers.{padding_header}
 use Rattle.ring_table.proofs.HeaderCalls.{packs_padding}
 use Rattle.ring_layout.specs.Places.{index}
-use Rattle.ring_table.specs.Staged.{StagedClaim, Moved, Padded, Stored, AreRising}
-use Rattle.ring_table.specs.Changes.{blank, opened, staged, written}
+use Rattle.ring_table.specs.Staged.{Moved, Padded, AreRising}
+use Rattle.ring_table.specs.Changes.{staged}
 use Rattle.ring_table.specs.Views.{View}
 use Rattle.ring_table.specs.ProducerSteps.{Mine, StoresPadding}
 use Rattle.ring_table.proofs.Calls.{at_word, in_records, after_change}
