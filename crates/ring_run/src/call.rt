@@ -1,5 +1,5 @@
 //! What a line asks of the runner.
-ghost use Rattle.std.specs.Prelude.{◌∷◌, IfOk};
+ghost use Rattle.std.specs.Prelude.{◌∷◌, IfOk, codes};
 ghost use Rattle.ring_run.specs.Text.{words_of};
 
 use crate::fault::LineFault;
@@ -54,37 +54,88 @@ impl Call {
     pub fn parse(alloc: Global, name: &[u8], words: &mut Words) -> Result<Call, LineFault>
         ensures { IfOk result (λ call. AsksFor call (name.now ∷ words_of words.old.rest.now)) }
     {
-        let call = match name {
-            b"write" => Call::Write {
-                type_id: words.number()?,
-                body: words.bytes(alloc)?,
-            },
-            b"claim" => Call::Claim {
-                type_id: words.number()?,
-                len: words.number()?,
-            },
-            b"put" => Call::Put {
-                number: words.number()?,
-                offset: words.number()?,
-                bytes: words.bytes(alloc)?,
-            },
-            b"commit" => Call::Commit {
-                number: words.number()?,
-            },
-            b"abort" => Call::Abort {
-                number: words.number()?,
-            },
-            b"control" => Call::Control {
-                limit: words.number()?,
-                actions: words.actions(alloc)?,
-            },
-            b"positions" => Call::Positions,
-            b"read" => Call::Read {
-                limit: words.number()?,
-            },
-            _ => return Err(LineFault::Bad),
-        };
+        match name {
+            b"write" => Self::write(alloc, words),
+            b"claim" => Self::claim(words),
+            b"put" => Self::put(alloc, words),
+            b"commit" => Self::commit(words),
+            b"abort" => Self::abort(words),
+            b"read" => Self::read(words),
+            b"control" => Self::control(alloc, words),
+            _ if name == b"positions".as_slice() => Self::positions(words),
+            _ => Err(LineFault::Bad),
+        }
+    }
+
+    fn write(alloc: Global, words: &mut Words) -> Result<Call, LineFault>
+        ensures { IfOk result (λ call. AsksFor call (codes "write" ∷ words_of words.old.rest.now)) }
+    {
+        let type_id = words.number()?;
+        let body = words.bytes(alloc)?;
         words.finish()?;
-        Ok(call)
+        Ok(Call::Write { type_id, body })
+    }
+
+    fn claim(words: &mut Words) -> Result<Call, LineFault>
+        ensures { IfOk result (λ call. AsksFor call (codes "claim" ∷ words_of words.old.rest.now)) }
+    {
+        let type_id = words.number()?;
+        let len = words.number()?;
+        words.finish()?;
+        Ok(Call::Claim { type_id, len })
+    }
+
+    fn put(alloc: Global, words: &mut Words) -> Result<Call, LineFault>
+        ensures { IfOk result (λ call. AsksFor call (codes "put" ∷ words_of words.old.rest.now)) }
+    {
+        let number = words.number()?;
+        let offset = words.number()?;
+        let bytes = words.bytes(alloc)?;
+        words.finish()?;
+        Ok(Call::Put {
+            number,
+            offset,
+            bytes,
+        })
+    }
+
+    fn commit(words: &mut Words) -> Result<Call, LineFault>
+        ensures { IfOk result (λ call. AsksFor call (codes "commit" ∷ words_of words.old.rest.now)) }
+    {
+        let number = words.number()?;
+        words.finish()?;
+        Ok(Call::Commit { number })
+    }
+
+    fn abort(words: &mut Words) -> Result<Call, LineFault>
+        ensures { IfOk result (λ call. AsksFor call (codes "abort" ∷ words_of words.old.rest.now)) }
+    {
+        let number = words.number()?;
+        words.finish()?;
+        Ok(Call::Abort { number })
+    }
+
+    fn read(words: &mut Words) -> Result<Call, LineFault>
+        ensures { IfOk result (λ call. AsksFor call (codes "read" ∷ words_of words.old.rest.now)) }
+    {
+        let limit = words.number()?;
+        words.finish()?;
+        Ok(Call::Read { limit })
+    }
+
+    fn control(alloc: Global, words: &mut Words) -> Result<Call, LineFault>
+        ensures { IfOk result (λ call. AsksFor call (codes "control" ∷ words_of words.old.rest.now)) }
+    {
+        let limit = words.number()?;
+        let actions = words.actions(alloc)?;
+        words.finish()?;
+        Ok(Call::Control { limit, actions })
+    }
+
+    fn positions(words: &mut Words) -> Result<Call, LineFault>
+        ensures { IfOk result (λ call. AsksFor call (codes "positions" ∷ words_of words.old.rest.now)) }
+    {
+        words.finish()?;
+        Ok(Call::Positions)
     }
 }

@@ -19,12 +19,21 @@ pub const REUSE_MS: &str = "Milliseconds after which the id of a freed counter m
 pub const SCENARIO: &str = "\
 A scenario is a text with one call on each line, executed in order:
 
-  write TYPE HEX   writes a message with a type id of 1 to 2147483647
-                   and a body in hexadecimal digits, or `-` for no bytes
-  read LIMIT       reads at most LIMIT messages and prints each of them
-  end              prints how many messages were read and how many are
-                   left; each scenario ends so
-  # TEXT           a comment
+  write TYPE HEX         writes a message with a type id of 1 to 2147483647
+                         and a body in hexadecimal digits, `-` for no bytes
+  claim TYPE LEN         claims room for a message of LEN bytes; the line
+                         that it prints gives the claim's number K
+  put K OFFSET HEX       puts bytes into the claim
+  commit K, abort K      settles the claim: its message is read, or is not
+  read LIMIT             reads at most LIMIT messages and prints each
+  control LIMIT LETTERS  the same, where the reader answers each message with
+                         a letter: a (abort: leave it and stop), b (break:
+                         take it and stop), c (commit) or n (continue);
+                         `-` for no letters
+  positions              prints where the next read and write begin
+  end                    prints how many messages were read and how many are
+                         left; each scenario ends so
+  # TEXT                 a comment
 
 A call that the ring refuses prints `refused`, and the scenario goes on.
 A line that is none of these ends the run with `fault: 25 BadLine`.
