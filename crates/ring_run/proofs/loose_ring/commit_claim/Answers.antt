@@ -1,4 +1,4 @@
-use Rattle.std.proofs.Common.{ℕ, ◌-◌, sym, subst}
+use Rattle.std.proofs.Common.{◌-◌, sym, subst}
 use Rattle.ring_run.specs.Claims.{AreOpen}
 use Rattle.ring_run.proofs.ClaimsLemmas.{one_less_open}
 use Rattle.ring_run.proofs.loose_ring.commit_claim.Goals as goal

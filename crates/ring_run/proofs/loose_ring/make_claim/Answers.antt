@@ -1,4 +1,4 @@
-use Rattle.std.proofs.Common.{rules, sym, subst, List, ◌++◌, ◌∷◌, [], Some, ◌≡◌}
+use Rattle.std.proofs.Common.{rules, sym, subst, ◌++◌, ◌∷◌, [], Some, ◌≡◌}
 use Rattle.ring_run.specs.Claims.{AreOpen}
 use Rattle.ring_run.proofs.ClaimsLemmas.{one_more_open}
 use Rattle.ring_run.proofs.loose_ring.make_claim.Goals as goal

@@ -1,6 +1,6 @@
-use Rattle.std.proofs.Common.{rules, ◌≡◌, Some, None, sym, ◌∙◌, ap, subst, slice_set}
+use Rattle.std.proofs.Common.{◌≡◌, Some, None, sym, ◌∙◌, ap, subst, slice_set}
 use Rattle.std.proofs.lemmas.List.{set-get_or, get_or_default}
-use Rattle.ring_run.specs.Claims.{HasClaim, AreOpen}
+use Rattle.ring_run.specs.Claims.{AreOpen}
 use Rattle.ring_run.proofs.ClaimsLemmas.{still_open}
 use Rattle.ring_run.proofs.loose_ring.put_into.Goals as goal
 
