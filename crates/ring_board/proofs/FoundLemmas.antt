@@ -93,7 +93,8 @@ front_on : (at x : ℕ) (bytes : List ℕ) → at + 8 ≤ length bytes
     → take (at + 8) (overwritten at (to_le_bytes w64 x) bytes) ≡ take at bytes ++ to_le_bytes w64 x
 front_on at x bytes le = let front : List ℕ = take at bytes ++ to_le_bytes w64 x in let t = length-take-le at bytes (omega arith) in
     let long : length front ≡ at + 8 = length-append (take at bytes) (to_le_bytes w64 x) ∙ ap (λ (n : ℕ). n + 8) t in
-    ap (λ (n : ℕ). take n (overwritten at (to_le_bytes w64 x) bytes)) (sym long) ∙ take-append_seam front (drop (at + 8) bytes)
+    ap (λ (n : ℕ). take n (overwritten at (to_le_bytes w64 x) bytes)) (sym long)
+    ∙ (ap (take (length front)) (sym (append_assoc (take at bytes) (to_le_bytes w64 x) (drop (at + 8) bytes))) ∙ take-append_seam front (drop (at + 8) bytes))
 
 -- one word more was copied
 pub copied_on : (w k i x : ℕ) (out out' : List ℕ) (m m1 m2 : Sat) → 8 * k + 8 ≤ length out → CopiedWords w k out m m1
