@@ -1,5 +1,5 @@
 -- How the claims of a ring stay open.
-use Rattle.std.proofs.Common.{◌≡◌, ◌≢◌, ℕ, ◌+◌, ◌<◌, List, [], ◌∷◌, ◌++◌, length, set, Option, Some, None, sym, ◌∙◌, subst, arith, ◌⊎◌, inl, inr, get_or-set_same, get_or-set_other}
+use Rattle.std.proofs.Common.{Result, Ok, Err, OnOk, OnErr, MatchResult, ◌≡◌, ◌≢◌, ℕ, ◌+◌, ◌<◌, List, [], ◌∷◌, ◌++◌, length, set, Option, Some, None, sym, ◌∙◌, subst, arith, ◌⊎◌, inl, inr, get_or-set_same, get_or-set_other}
 use Rattle.std.proofs.lemmas.Bool.{cases_lt}
 use Rattle.std.proofs.lemmas.List.{get_or_append_left, get_or_push, get_or_past, length-append}
 use Rattle.ring_words.specs.Ring.{Ring}
@@ -83,3 +83,8 @@ one_less_open old new claims k t are had others = record {
   open_in = λ i s has. let was = in_taken claims k t s i had has in others s (are.open_in i s was.1) (are.apart i k s t was.0 was.1 had);
   apart = λ i j a b differ has_a has_b. are.apart i j a b differ (in_taken claims k t a i had has_a).1 (in_taken claims k t b j had has_b).1;
 }
+
+-- what holds of either outcome, from what the call says of each
+pub match_result : {T E P Q P' Q' : Type 0} (r : Result T E) → OnOk r P → OnErr r Q → (P → P') → (Q → Q') → MatchResult r (λ _. P') (λ _. Q')
+match_result (Ok x) ok err from_ok from_err = from_ok ok
+match_result (Err e) ok err from_ok from_err = from_err err

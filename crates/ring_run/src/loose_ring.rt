@@ -1,6 +1,7 @@
 //! The ring of a run, with its numbered claims.
-ghost use Rattle.std.specs.Prelude.{◌≡◌, ◌-◌, slice_set, MatchOption};
-ghost use Rattle.ring_run.specs.Claims.{AreOpen, HasClaim};
+ghost use Rattle.std.specs.Prelude.{◌≡◌, ◌-◌, slice_set, IfOk, IfSome, MatchOption, MatchResult};
+ghost use Rattle.ring_layout.specs.declared.message.ClaimState.TheVariants.{Committed, Aborted};
+ghost use Rattle.ring_run.specs.Claims.{AreOpen, Holds, Makes, PutsAt, SettlesAt, loose};
 ghost use Rattle.ring_words.specs.Fresh.{make_refusal_of, IsMadeUnless};
 
 use ring_words::{
@@ -36,7 +37,7 @@ impl Model for LooseRing {
 
 /// Takes the claim of this number, if it is open.
 fn take_claim(claims: &mut [Option<SoloClaim>], number: usize) -> Option<SoloClaim>
-    ensures { MatchOption result (claims.new ≡ claims.old) (λ claim. HasClaim claims.old (number - 1) claim × (claims.new ≡ slice_set claims.old (number - 1) None)) }
+    ensures { MatchOption result (claims.new ≡ claims.old) (λ claim. Holds claims.old number claim × (claims.new ≡ slice_set claims.old (number - 1) None)) }
 {
     let index = number.checked_sub(1)?;
     if index >= claims.len() {
@@ -55,6 +56,7 @@ fn put_into(
 ) -> Option<Result<(), PutRange>>
     requires { AreOpen ring.old claims.old }
     ensures claims { AreOpen ring.new claims.new }
+    ensures put { IfSome result (λ answer. MatchResult answer (λ _. PutsAt (loose ring.old claims.old) number offset bytes.now (loose ring.new claims.new)) (λ _. (ring.new ≡ ring.old) × (claims.new ≡ claims.old))) }
 {
     let index = number.checked_sub(1)?;
     if index >= claims.len() {
@@ -70,6 +72,7 @@ fn put_into(
 fn commit_claim(ring: &mut SoloRing, claims: &mut [Option<SoloClaim>], number: usize) -> Option<()>
     requires { AreOpen ring.old claims.old }
     ensures claims { AreOpen ring.new claims.new }
+    ensures settled { MatchOption result ((ring.new ≡ ring.old) × (claims.new ≡ claims.old)) (λ _. SettlesAt Committed (loose ring.old claims.old) number (loose ring.new claims.new)) }
 {
     let claim = take_claim(claims, number)?;
     ring.commit(claim);
@@ -80,6 +83,7 @@ fn commit_claim(ring: &mut SoloRing, claims: &mut [Option<SoloClaim>], number: u
 fn abort_claim(ring: &mut SoloRing, claims: &mut [Option<SoloClaim>], number: usize) -> Option<()>
     requires { AreOpen ring.old claims.old }
     ensures claims { AreOpen ring.new claims.new }
+    ensures settled { MatchOption result ((ring.new ≡ ring.old) × (claims.new ≡ claims.old)) (λ _. SettlesAt Aborted (loose ring.old claims.old) number (loose ring.new claims.new)) }
 {
     let claim = take_claim(claims, number)?;
     ring.abort(claim);
@@ -95,6 +99,7 @@ fn make_claim(
 ) -> Result<Result<Claimed, ClaimFault>, AllocError>
     requires { AreOpen ring.old claims.old.items }
     ensures claims { AreOpen ring.new claims.new.items }
+    ensures made { IfOk result (λ made. MatchResult made (λ claimed. Makes (loose ring.old claims.old.items) type_id len claimed.number claimed.index (loose ring.new claims.new.items)) (λ _. (ring.new ≡ ring.old) × (claims.new.items ≡ claims.old.items))) }
 {
     claims.reserve(1)?;
     let claim = match ring.claim(type_id, len) {
@@ -144,12 +149,16 @@ impl LooseRing {
     }
 
     /// Commits the claim of this number; `None` where it is not open.
-    pub fn commit(&mut self, number: usize) -> Option<()> {
+    pub fn commit(&mut self, number: usize) -> Option<()>
+        ensures { MatchOption result (self.new ≡ self.old) (λ _. SettlesAt Committed self.old number self.new) }
+    {
         commit_claim(&mut self.ring, &mut self.claims, number)
     }
 
     /// Aborts the claim of this number; `None` where it is not open.
-    pub fn abort(&mut self, number: usize) -> Option<()> {
+    pub fn abort(&mut self, number: usize) -> Option<()>
+        ensures { MatchOption result (self.new ≡ self.old) (λ _. SettlesAt Aborted self.old number self.new) }
+    {
         abort_claim(&mut self.ring, &mut self.claims, number)
     }
 

@@ -4,12 +4,14 @@ use Rattle.ring_run.proofs.ClaimsLemmas.{one_less_open}
 use Rattle.ring_run.proofs.loose_ring.commit_claim.Goals as goal
 
 pub commit-requires : goal.commit-requires
-commit-requires c = c.requires.open_in (c.args.number - 1) c.in_ok-claim.claim c.in_ok-claim.ensures.0
+commit-requires c = c.requires.open_in (c.args.number - 1) c.in_ok-claim.claim c.in_ok-claim.ensures.0.has
 
-pub returns : goal.returns
-returns c =
+pub returns-clause-claims : goal.returns-clause-claims
+returns-clause-claims c =
     let taken = c.in_ok-claim.ensures in
-    record {
-      claims = subst (AreOpen c.commit.new.self) (sym taken.1)
-          (one_less_open c.args.ring.now c.commit.new.self c.args.claims.now (c.args.number - 1) c.in_ok-claim.claim c.requires taken.0 c.commit.ensures.others);
-    }
+    subst (AreOpen c.commit.new.self) (sym taken.1)
+    (one_less_open c.args.ring.now c.commit.new.self c.args.claims.now (c.args.number - 1) c.in_ok-claim.claim c.requires taken.0.has c.commit.ensures.others)
+
+pub returns-clause-settled : goal.returns-clause-settled
+returns-clause-settled c =
+    let taken = c.in_ok-claim.ensures in record { claim = c.in_ok-claim.claim; holds = taken.0; settled = c.commit.ensures.settled; given_up = taken.1 }
