@@ -1,5 +1,5 @@
 -- A word stored into a body.
-use Rattle.std.proofs.Common.{◌≡◌, ◌≢◌, ℕ, zero, suc, ◌+◌, ◌-◌, ◌%◌, ◌^◌, ◌≤◌, ◌<◌, List, ◌++◌, append_assoc, take, drop, length, slice_index, sym, ap, ◌∙◌, arith, inl, inr, replicate, min}
+use Rattle.std.proofs.Common.{◌≡◌, ◌≢◌, ℕ, zero, suc, ◌+◌, ◌-◌, ◌%◌, ◌^◌, ◌≤◌, ◌<◌, List, ◌++◌, refl, take, drop, length, slice_index, sym, ap, ◌∙◌, arith, inl, inr, replicate, min}
 use Rattle.std.specs.Prelude.{All}
 use Rattle.std.specs.Int.{to_le_bytes, w64}
 use Rattle.std.proofs.lemmas.Bool.{cases_lt}
@@ -21,7 +21,7 @@ length-part at word body = length-take (length body - at) (to_le_bytes w64 word)
 -- the three parts of the new body
 in_parts : (at word : ℕ) (body : List ℕ) → with_word at word body ≡ take at body ++ (part at word body ++ drop (at + length (part at word body)) body)
 unfolding part
-in_parts at word body = append_assoc (take at body) (part at word body) (drop (at + length (part at word body)) body)
+in_parts at word body = refl
 
 pub length-with_word : (at word : ℕ) (body : List ℕ) → at ≤ length body → length (with_word at word body) ≡ length body
 unfolding part
@@ -109,9 +109,8 @@ bytes_of_word word (suc (suc (suc (suc (suc (suc (suc (suc k)))))))) d lt = absu
 pub bytes_of-with_word : (body : List ℕ) (at word : ℕ) → All (λ b. b < 256) body → All (λ b. b < 256) (with_word at word body)
 unfolding part
 bytes_of-with_word body at word bytes =
-    All-append (λ b. b < 256) (take at body ++ part at word body) _
-    (All-append (λ b. b < 256) (take at body) _ (All-take (λ b. b < 256) at body bytes) (All-take (λ b. b < 256) (length body - at) (to_le_bytes w64 word) (bytes_of_word word)))
-    (All-drop (λ b. b < 256) (at + length (part at word body)) body bytes)
+    All-append (λ b. b < 256) (take at body) _ (All-take (λ b. b < 256) at body bytes)
+    (All-append (λ b. b < 256) (part at word body) _ (All-take (λ b. b < 256) (length body - at) (to_le_bytes w64 word) (bytes_of_word word)) (All-drop (λ b. b < 256) (at + length (part at word body)) body bytes))
 
 -- zeros
 pub body_word-zeros : (n at : ℕ) → body_word (replicate n 0) at ≡ 0
