@@ -1,0 +1,62 @@
+-- What clauses say of rings and of those who work on them.
+use Rattle.std.specs.Prelude.{◌≡◌, ℕ, List}
+use Rattle.ring_table.specs.declared.claim.StagedClaim.{StagedClaim}
+use Rattle.ring_table.specs.declared.claim.PlacedMessage.{PlacedMessage}
+use Rattle.ring_table.specs.OpenClaims.{open_count}
+use Rattle.ring_table.specs.declared.view.View.{View}
+use Rattle.ring_rings.specs.declared.seats.Ring.{Ring}
+use Rattle.ring_rings.specs.declared.seats.Producer.{Producer}
+use Rattle.ring_rings.specs.declared.seats.Consumer.{Consumer}
+
+abbrev pub capacity_of : {K : Type 0} → Ring K → ℕ
+capacity_of ring = ring.capacity
+
+-- the position of the first claim
+abbrev pub start_of : {K : Type 0} → Ring K → ℕ
+start_of ring = ring.table.shared.key.start
+
+-- Producers ------------------------------------------------------------------
+
+-- what the producer knows
+abbrev pub view_of : Producer → View
+view_of p = p.seat.me.0
+
+-- its claims with their places, the oldest first
+abbrev pub claims_of : Producer → List StagedClaim
+claims_of p = p.seat.me.0.producer.claims
+
+abbrev pub shares_of : Producer → ℕ
+shares_of p = p.seat.me.0.producer.shares
+
+-- how many of its claims are open
+abbrev pub open_claims_of : Producer → ℕ
+open_claims_of p = open_count p.seat.me.0.producer.claims
+
+-- the greatest end of a claim that it has seen
+abbrev pub seen_tail_of : Producer → ℕ
+seen_tail_of p = p.seat.me.0.producer.seen_tail
+
+pub record IsProducerOf {K : Type 0} (ring : Ring K) (p : Producer) : Type 0 where
+  pub table : p.seat.table_id ≡ ring.table.shared.table_id
+  pub capacity : p.seat.me.0.capacity ≡ ring.capacity
+
+-- The consumer ---------------------------------------------------------------
+
+-- what the consumer knows
+abbrev pub consumer_view : Consumer → View
+consumer_view c = c.seat.me.0
+
+-- the messages that it took, with their places
+abbrev pub taken_of : Consumer → List PlacedMessage
+taken_of c = c.seat.me.0.consumer.taken
+
+abbrev pub head_of : Consumer → ℕ
+head_of c = c.seat.me.0.consumer.head
+
+-- the heartbeats that it stored, the oldest first
+abbrev pub heartbeats_of : Consumer → List ℕ
+heartbeats_of c = c.seat.me.0.consumer.heartbeats
+
+pub record IsConsumerOf {K : Type 0} (ring : Ring K) (c : Consumer) : Type 0 where
+  pub table : c.seat.table_id ≡ ring.table.shared.table_id
+  pub capacity : c.seat.me.0.capacity ≡ ring.capacity

@@ -1,0 +1,69 @@
+//! Claims in the hands of producers.
+use std::marker::Model;
+
+/// A claim whose body is still to be put, and which is then committed or aborted.
+#[derive(Debug)]
+pub struct Claim {
+    place: u64,
+    index: u32,
+    type_id: i32,
+    len: usize,
+}
+
+impl Model for Claim {
+    ghost use Rattle.ring_words.specs.Open.{ClaimAt};
+
+    ghost Value = { ClaimAt };
+
+    ghost view = { λ c. record { place = c.place; index = c.index; type_id = c.type_id; len = c.len } };
+}
+
+impl Claim {
+    ghost use Rattle.std.specs.Prelude.{◌≡◌, ◌↔◌, IsTrue};
+
+    pub(crate) fn new(place: u64, index: u32, type_id: i32, len: usize) -> Self
+        ensures { result ≡ record { place = place; index = index; type_id = type_id; len = len } }
+    {
+        Claim {
+            place,
+            index,
+            type_id,
+            len,
+        }
+    }
+
+    /// The position of its record.
+    pub fn place(&self) -> u64
+        ensures { result ≡ self.now.place }
+    {
+        self.place
+    }
+
+    /// The byte index of its body in the buffer.
+    pub fn index(&self) -> u32
+        ensures { result ≡ self.now.index }
+    {
+        self.index
+    }
+
+    /// The type id that it was claimed with.
+    pub(crate) fn type_id(&self) -> i32
+        ensures { result ≡ self.now.type_id }
+    {
+        self.type_id
+    }
+
+    /// The bytes of its body.
+    pub fn len(&self) -> usize
+        ensures { result ≡ self.now.len }
+    {
+        self.len
+    }
+
+    /// Tests whether its body has no byte.
+    pub fn is_empty(&self) -> bool
+        ensures { IsTrue result ↔ (self.now.len ≡ 0) }
+    {
+        self.len == 0
+    }
+}

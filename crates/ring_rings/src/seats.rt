@@ -1,0 +1,62 @@
+//! A ring, and those who work on it.
+ghost use Rattle.std.specs.Prelude.{◌≡◌, ℕ, ◌%◌, ◌/◌, ◌^◌, ◌<◌, ◌≤◌, [], vec_len, true, false};
+ghost use Rattle.ring_layout.specs.Places.{IsCapacity, max_position};
+ghost use Rattle.ring_layout.specs.Layout.{ring_words};
+ghost use Rattle.ring_table.specs.Staged.{AreStored};
+ghost use Rattle.ring_table.specs.OpenClaims.{open_count};
+ghost use Rattle.ring_rings.specs.Props.{are_stored_prop};
+
+use ring_table::{RingSeat, RingTable};
+use std::marker::PhantomData;
+
+/// The kind of a ring that one producer writes.
+pub struct OneToOne;
+
+/// The kind of a ring that any number of producers write.
+pub struct ManyToOne;
+
+/// A ring of messages between threads, shared by reference. It has one consumer, and producers as its kind says.
+#[derive(Drop)]
+pub struct Ring<K> {
+    pub(crate) table: RingTable,
+    // Room for the words that `close` hands on.
+    pub(crate) room: Vec<u64>,
+    pub(crate) capacity: u32,
+    pub(crate) kind: PhantomData<K>,
+    ghost key: { table.shared.key.capacity ≡ capacity },
+    ghost wide: { (table.shared.table_id.words ≡ ring_words capacity) × (table.shared.table_id.slots ≡ 0) × (vec_len room ≡ ring_words capacity) },
+    ghost lawful: { IsCapacity capacity },
+}
+
+/// A ring with one producer, which moves the tail by a store.
+pub type OneToOneRing = Ring<OneToOne>;
+
+/// A ring with any number of producers, which move the tail by a compare-exchange.
+pub type ManyToOneRing = Ring<ManyToOne>;
+
+/// One who writes into a ring.
+#[derive(Drop)]
+pub struct Producer {
+    pub(crate) seat: RingSeat,
+    pub(crate) shares: u32,
+    pub(crate) open_claims: u64,
+    // The greatest end of a claim that it has seen.
+    pub(crate) seen_tail: u64,
+    ghost produces: { (seat.me.0.consumes ≡ false) × (seat.me.1 ≡ []) },
+    ghost held: { (seat.me.0.producer.shares ≡ shares) × (0 < shares) × (shares ≤ 2 ^ 16) },
+    ghost counted: { open_count seat.me.0.producer.claims ≡ open_claims },
+    ghost stored: { AreStored seat.me.0.producer.claims } by { are_stored_prop _ },
+    ghost sees: { (seat.me.0.producer.seen_tail ≡ seen_tail) × (seen_tail % 8 ≡ 0) × (seen_tail ≤ max_position) },
+}
+
+/// The one who reads a ring.
+#[derive(Drop)]
+pub struct Consumer {
+    pub(crate) seat: RingSeat,
+    pub(crate) head: u64,
+    pub(crate) scratch: Vec<u8>,
+    ghost consumes: { (seat.me.0.consumes ≡ true) × (seat.me.1 ≡ []) × (seat.me.0.producer.shares ≡ 0) },
+    ghost stands: { (seat.me.0.consumer.head ≡ head) × (seat.me.0.consumer.cleared ≡ head) },
+    ghost whole: { (head % 8 ≡ 0) × (head ≤ max_position) },
+    ghost room: { vec_len scratch ≡ seat.me.0.capacity / 8 },
+}
