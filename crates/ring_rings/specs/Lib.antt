@@ -1,2 +1,4 @@
-pub mod Seats
 pub mod Props
+pub mod Seats
+pub mod Claiming
+pub mod Making

@@ -1,8 +1,11 @@
 //! The rings that threads share: any number of producers or one, and one consumer.
 #![tactic(auto)]
 
+mod admission;
 mod claim;
 mod fault;
+mod headers;
+mod room;
 mod seats;
 
 pub use claim::Claim;
