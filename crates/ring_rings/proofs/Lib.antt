@@ -1,2 +1,3 @@
 pub mod NewestLemmas
 pub mod LookLemmas
+pub mod RefusalLemmas

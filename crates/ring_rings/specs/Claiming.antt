@@ -1,5 +1,5 @@
 -- What claims do to a producer's view, and why they are refused.
-use Rattle.std.specs.Prelude.{◌≡◌, ◌≢◌, ◌⊎◌, ℕ, ◌+◌, ◌/◌, ◌%◌, ◌<◌, ◌≤◌, ℤ, pos, List, [], ◌∷◌, ◌++◌, length, Option, Some, None, Result, Err, MatchOption, IfOk, if◌then◌else◌, nat_lt, int_lt}
+use Rattle.std.specs.Prelude.{◌≡◌, ◌≢◌, ◌⊎◌, ℕ, ◌+◌, ◌/◌, ◌%◌, ◌<◌, ◌≤◌, ℤ, pos, List, [], ◌∷◌, ◌++◌, length, Option, Some, None, Result, Err, MatchOption, IsOk, if◌then◌else◌, nat_lt, int_lt}
 use mathlib.Core.Option.{some}
 use lib.ListN.{get_elem?}
 use Rattle.ring_layout.specs.declared.message.ClaimState.TheVariants.{Open, Committed}
@@ -65,7 +65,7 @@ tail_refusal_of C tail type_id len =
 
 -- the result is the refusal, or Ok where there is none
 abbrev pub IsRefusedBy : {T : Type 0} → Option ClaimFault → Result T ClaimFault → Type 0
-IsRefusedBy refusal result = MatchOption refusal (IfOk result (λ _. Unit {0})) (λ fault. result ≡ Err fault)
+IsRefusedBy refusal result = MatchOption refusal (IsOk result) (λ fault. result ≡ Err fault)
 
 -- the cached head and then the head were loaded, and the record fits behind neither
 pub record IsFull (C tail len : ℕ) (loads : List (ℕ × ℕ)) (fault : ClaimFault) : Type 0 where

@@ -1,5 +1,5 @@
 -- How a claim is made, in parts.
-use Rattle.std.specs.Prelude.{◌≡◌, ◌≢◌, ◌⊎◌, ℕ, ◌+◌, ◌≤◌, ◌<◌, ◌==◌, ℤ, List, [], ◌∷◌, ◌++◌, length}
+use Rattle.std.specs.Prelude.{◌≡◌, ◌≢◌, ◌⊎◌, ℕ, ◌+◌, ◌≤◌, ◌<◌, ◌==◌, ℤ, List, [], ◌∷◌, ◌++◌, length, None}
 use mathlib.Core.Option.{some}
 use lib.ListN.{get_elem?}
 use Rattle.ring_layout.specs.History.{IsMessage, span}
@@ -10,10 +10,11 @@ use Rattle.ring_table.specs.declared.view.View.{View}
 use Rattle.ring_table.specs.Staged.{staged_span}
 use Rattle.ring_table.specs.Changes.{blank, fresh_stage}
 use Rattle.ring_table.specs.ProducerSteps.{EndBelow}
+use Rattle.ring_table.specs.Views.{with_claim}
 use Rattle.ring_rings.specs.declared.admission.Admission.{Admission}
 use Rattle.ring_rings.specs.declared.room.Shortage.{Shortage}
 use Rattle.ring_rings.specs.declared.room.Shortage.TheVariants.{Full, Passed}
-use Rattle.ring_rings.specs.Claiming.{looked}
+use Rattle.ring_rings.specs.Claiming.{claim_behind, looked, tail_refusal_of}
 
 -- a lawful message goes here behind the tail
 pub record IsAdmitted (C tail : ℕ) (type_id : ℤ) (len : ℕ) (a : Admission) : Type 0 where
@@ -53,6 +54,15 @@ pub record FindsPassed (C tail seen : ℕ) (v w : View) : Type 0 where
 abbrev pub FindsShortage : ℕ → ℕ → ℕ → Shortage → View → View → Type 0
 FindsShortage C tail end (Full head) v w = FindsNoRoom C tail end head v w
 FindsShortage C tail end (Passed seen) v w = FindsPassed C tail seen v w
+
+-- the claim is made behind the tail, after these loads and others
+pub record Makes (C tail : ℕ) (type_id : ℤ) (len : ℕ) (front : List (ℕ × ℕ)) (v : View) (a : Admission) (w : View) : Type 0 where
+  pub refusal : tail_refusal_of C tail type_id len ≡ None
+  pub admitted : IsAdmitted C tail type_id len a
+  pub loads : List (ℕ × ℕ)
+  pub head : ℕ
+  pub view : w ≡ with_claim (claim_behind C tail type_id len) (end_after C tail (span len)) (looked (front ++ loads) tail head v)
+  pub few : length v.producer.claims ≤ a.place
 
 -- c is the last claim of the view, made from the tail on for len bytes. No header is stored, and the others lie before
 pub record IsNewest (tail place len : ℕ) (cs : List StagedClaim) (c : StagedClaim) (v : View) : Type 0 where

@@ -3,6 +3,7 @@
 
 mod admission;
 mod claim;
+mod claiming;
 mod fault;
 mod headers;
 mod room;
