@@ -1,3 +1,4 @@
 pub mod NewestLemmas
 pub mod LookLemmas
 pub mod RefusalLemmas
+pub mod CountLemmas

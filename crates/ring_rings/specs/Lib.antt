@@ -2,3 +2,4 @@ pub mod Props
 pub mod Seats
 pub mod Claiming
 pub mod Making
+pub mod Opening

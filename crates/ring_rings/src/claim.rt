@@ -2,7 +2,7 @@
 use std::marker::Model;
 
 /// A claim whose body is still to be put, and which is then committed or aborted.
-#[derive(Debug)]
+#[derive(Debug, Drop)]
 pub struct Claim {
     place: u64,
     index: u32,

@@ -6,8 +6,11 @@ mod claim;
 mod claiming;
 mod fault;
 mod headers;
+mod making;
+mod producer;
 mod room;
 mod seats;
+mod settling;
 
 pub use claim::Claim;
 pub use fault::{NoShares, TryFault};
