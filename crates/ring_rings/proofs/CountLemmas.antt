@@ -1,5 +1,5 @@
 -- Claims with their headers stored, and how many of them are open.
-use Rattle.std.proofs.Common.{◌≡◌, ℕ, ◌+◌, ℤ, List, [], ◌∷◌, ◌++◌, Bool, true, false, cond, eqb, ltb, sym, refl, ap, ◌∙◌, subst, arith}
+use Rattle.std.proofs.Common.{◌≡◌, ℕ, ◌+◌, ◌-◌, ◌%◌, ◌≤◌, ℤ, List, [], ◌∷◌, ◌++◌, length, Bool, true, false, cond, eqb, ltb, sym, refl, ap, ◌∙◌, subst, arith}
 use Rattle.ring_layout.specs.declared.message.ClaimState.{ClaimState}
 use Rattle.ring_layout.specs.declared.message.ClaimState.TheVariants.{Open, Committed, Aborted}
 use Rattle.ring_table.specs.declared.claim.StagedClaim.{StagedClaim}
@@ -10,6 +10,9 @@ use Rattle.ring_table.specs.Changes.{changed, staged}
 use Rattle.ring_table.specs.Owners.{insert_claim, interleaved}
 use Rattle.ring_table.specs.OpenClaims.{one_if_open, open_count}
 use Rattle.ring_table.specs.ProducerSteps.{HasClaimAt, IsOpen}
+use Rattle.ring_layout.specs.Places.{max_position}
+use Rattle.ring_table.specs.Views.{with_claims}
+use Rattle.ring_rings.specs.Matching.{Matches}
 use Rattle.ring_table.proofs.LawLemmas.{open_count-changed}
 
 -- an open claim that is settled counts no more
@@ -59,3 +62,29 @@ open_count-more (d ∷ ds) c =
     let deeper : both ≡ rest + one = open_count-more ds c in
     let done : here + both ≡ here + rest + one = omega arith in
     done
+
+-- what a producer keeps after one of its open claims is settled
+pub matches_settled : (v w : View) (shares open_claims own_tail place at : ℕ) (type_id : ℤ) (len : ℕ) (s : ClaimState) → Matches v shares open_claims own_tail → HasClaimAt v place (IsOpen type_id len) → at ≡ place → AreRising v.producer.claims
+    → w ≡ with_claims (changed at (staged (Stored s)) v.producer.claims) v → one_if_open s ≡ 0 → Matches w shares (open_claims - 1) own_tail
+matches_settled v w shares open_claims own_tail place at type_id len s known h same rising is settled =
+    let counted = known.counted in
+    let one = settles_one v place at type_id len s h same rising settled in
+    subst (λ (u : View). Matches u shares (open_claims - 1) own_tail) (sym is) record {
+      shares_are = known.shares_are;
+      some = known.some;
+      most = known.most;
+      counted = omega arith;
+      stored = stored_changed (staged (Stored s)) at (λ d. tt) v.producer.claims known.stored;
+      own = known.own;
+      whole = known.whole;
+      limit = known.limit;
+    }
+
+pub open_few : (cs : List StagedClaim) → open_count cs ≤ length cs
+open_few [] = omega arith
+open_few (c ∷ cs) = let deeper = open_few cs in let one = at_most_one (state_of c.stage) in omega arith
+  where
+    at_most_one : (s : ClaimState) → one_if_open s ≤ 1
+    at_most_one Open = omega arith
+    at_most_one Committed = omega arith
+    at_most_one Aborted = omega arith

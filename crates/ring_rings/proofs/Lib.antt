@@ -2,3 +2,4 @@ pub mod NewestLemmas
 pub mod LookLemmas
 pub mod RefusalLemmas
 pub mod CountLemmas
+pub mod MadeLemmas

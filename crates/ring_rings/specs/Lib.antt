@@ -1,4 +1,4 @@
-pub mod Props
+pub mod Matching
 pub mod Seats
 pub mod Claiming
 pub mod Making

@@ -1,5 +1,5 @@
 -- How a claim is made, in parts.
-use Rattle.std.specs.Prelude.{◌≡◌, ◌≢◌, ◌⊎◌, ℕ, ◌+◌, ◌≤◌, ◌<◌, ◌==◌, ℤ, List, [], ◌∷◌, ◌++◌, length, None}
+use Rattle.std.specs.Prelude.{◌≡◌, ◌≢◌, ◌⊎◌, ℕ, ◌+◌, ◌%◌, ◌≤◌, ◌<◌, ◌==◌, ℤ, List, [], ◌∷◌, ◌++◌, length, None}
 use mathlib.Core.Option.{some}
 use lib.ListN.{get_elem?}
 use Rattle.ring_layout.specs.History.{IsMessage, span}
@@ -59,6 +59,7 @@ FindsShortage C tail end (Passed seen) v w = FindsPassed C tail seen v w
 pub record Makes (C tail : ℕ) (type_id : ℤ) (len : ℕ) (front : List (ℕ × ℕ)) (v : View) (a : Admission) (w : View) : Type 0 where
   pub refusal : tail_refusal_of C tail type_id len ≡ None
   pub admitted : IsAdmitted C tail type_id len a
+  pub whole : a.end % 8 ≡ 0
   pub loads : List (ℕ × ℕ)
   pub head : ℕ
   pub view : w ≡ with_claim (claim_behind C tail type_id len) (end_after C tail (span len)) (looked (front ++ loads) tail head v)

@@ -39,6 +39,7 @@ pub(crate) fn admit(capacity: u32, tail: u64, wanted: Wanted) -> Result<Admissio
     requires tail { (tail % 8 ≡ 0) × (tail ≤ max_position) }
     ensures refused { IsRefusedBy (tail_refusal_of capacity tail wanted.type_id wanted.len) result }
     ensures admitted { IfOk result (IsAdmitted capacity tail wanted.type_id wanted.len) }
+    ensures whole { IfOk result (λ a. a.end % 8 ≡ 0) }
 {
     let (pad, span) = pad_and_span(capacity, tail, wanted.len);
     let place = tail + pad;

@@ -1,5 +1,5 @@
 //! One try of a claim, by the steps that it takes.
-ghost use Rattle.std.specs.Prelude.{◌≡◌, ◌%◌, ◌<◌, ◌≤◌, [], ◌∷◌, MatchResult};
+ghost use Rattle.std.specs.Prelude.{◌≡◌, ◌%◌, ◌<◌, ◌≤◌, [], ◌∷◌, MatchResult, OnErr};
 ghost use Rattle.ring_layout.specs.Layout.{tail_index};
 ghost use Rattle.ring_layout.specs.Places.{max_position};
 ghost use Rattle.ring_table.specs.Seats.{IsSameSeat, IsSeatOf};
@@ -48,6 +48,7 @@ pub(crate) fn try_claim(
     requires share { 0 < seat.old.me.0.producer.shares }
     ensures seat { IsSameSeat seat.old seat.new }
     ensures told { MatchResult result (λ a. Makes capacity a.tail wanted.type_id wanted.len ((tail_index capacity, a.tail) ∷ []) seat.old.me.0 a seat.new.me.0 × (seat.old.me.0.producer.seen_tail ≤ a.tail)) (λ fault. RefusesTry capacity wanted.type_id wanted.len seat.old.me.0 fault seat.new.me.0) }
+    ensures own { OnErr result (seat.old.me.0.producer.shares ≡ 65536 → seat.new.me.0.producer.seen_tail ≡ seat.old.me.0.producer.seen_tail) }
 {
     test_request(capacity, wanted)?;
     let tail = load_tail(words, seat, capacity);

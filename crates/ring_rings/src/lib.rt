@@ -7,6 +7,8 @@ mod claiming;
 mod fault;
 mod headers;
 mod making;
+mod many_to_one;
+mod one_to_one;
 mod producer;
 mod room;
 mod seats;

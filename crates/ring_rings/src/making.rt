@@ -79,7 +79,7 @@ impl<K> Ring<K> {
             seat,
             shares: ALL_SHARES,
             open_claims: 0,
-            seen_tail: start,
+            own_tail: start,
         };
         let ring = Ring {
             table,

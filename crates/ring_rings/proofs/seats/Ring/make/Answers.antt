@@ -1,4 +1,5 @@
 use Rattle.std.proofs.Common.{refl, ap, ◌∙◌, arith}
+use Rattle.ring_table.specs.declared.view.View.{View}
 use Rattle.ring_table.specs.ProducerSteps.{Mine}
 use Rattle.ring_table.proofs.StagedPlaces.{start_aligned}
 use Rattle.ring_rings.proofs.seats.Ring.make.Goals as goal
@@ -8,10 +9,16 @@ invariant_of-producer g c =
     let e = c.split_consumer.ensures in
     let view = c.in_ok-table.ensures.view in
     let start = c.requires.start in
-    rw e.left (rw view record {
-      produces = (refl, e.seat.slots ∙ ap (λ (m : Mine). m.1) view);
-      held = (refl, omega arith, omega arith);
-      counted = refl;
-      stored = tt;
-      sees = (refl, start_aligned c.args.capacity c.args.start (record { capacity = c.requires.capacity; start_is = start.0 }), start.1);
-    })
+    record {
+      known = rw e.left (rw view record {
+        shares_are = refl;
+        some = omega arith;
+        most = omega arith;
+        counted = refl;
+        stored = tt;
+        own = λ all. refl;
+        whole = start_aligned c.args.capacity c.args.start (record { capacity = c.requires.capacity; start_is = start.0 });
+        limit = start.1;
+      });
+      produces = (ap (λ (v : View). v.consumes) e.left, e.seat.slots ∙ ap (λ (m : Mine). m.1) view);
+    }
