@@ -3,3 +3,5 @@ pub mod Seats
 pub mod Claiming
 pub mod Making
 pub mod Opening
+pub mod Joining
+pub mod Closing

@@ -4,6 +4,7 @@
 mod admission;
 mod claim;
 mod claiming;
+mod closing;
 mod fault;
 mod headers;
 mod making;
@@ -15,6 +16,6 @@ mod seats;
 mod settling;
 
 pub use claim::Claim;
-pub use fault::{NoShares, TryFault};
+pub use fault::{CloseFault, NoShares, TryFault};
 pub use ring_words::{Action, ClaimFault, Handler, MakeFault, Positions, PutRange, ReadEnd, Stop};
-pub use seats::{Consumer, ManyToOne, ManyToOneRing, OneToOne, OneToOneRing, Producer, Ring};
+pub use seats::{CloseRefused, Consumer, ManyToOne, ManyToOneRing, OneToOne, OneToOneRing, Producer, Ring};
