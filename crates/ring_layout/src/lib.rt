@@ -14,7 +14,7 @@ pub use message::{Claim, ClaimState, Message};
 pub use picture_law::word_depends_on_one_claim;
 pub use placement::{fits, is_capacity, max_message, pad_and_span};
 pub use record_descriptor::{align8, pack_header, unpack_header};
-pub use word_bytes::{get_byte_word, put_bytes_word};
+pub use word_bytes::{first_word, get_byte_word, put_bytes_word};
 
 #[cfg(test)]
 mod tests;

@@ -13,6 +13,16 @@ pub fn put_bytes_word(word: u64, at: usize, bytes: &[u8]) -> u64
     u64::from_le_bytes(all)
 }
 
+/// The first 8 bytes as a little-endian word, with zeros where there are fewer.
+pub fn first_word(bytes: &[u8]) -> u64
+    ensures { result ≡ from_le_bytes w64 bytes.now }
+{
+    let len = bytes.len().min(8);
+    let mut padded = [0; 8];
+    padded[..len].copy_from_slice(&bytes[..len]);
+    u64::from_le_bytes(padded)
+}
+
 /// The byte `at` of a word, 0 to 7.
 pub fn get_byte_word(word: u64, at: usize) -> u8
     requires { at < 8 }

@@ -5,3 +5,6 @@ pub mod CountLemmas
 pub mod MadeLemmas
 pub mod CloseLemmas
 pub mod JoinLemmas
+pub mod PutLemmas
+pub mod BodyLemmas
+pub mod MergeLemmas

@@ -5,3 +5,4 @@ pub mod Making
 pub mod Opening
 pub mod Joining
 pub mod Closing
+pub mod Bodies

@@ -2,6 +2,7 @@
 #![tactic(auto)]
 
 mod admission;
+mod bodies;
 mod claim;
 mod claiming;
 mod closing;

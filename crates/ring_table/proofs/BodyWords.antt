@@ -35,7 +35,7 @@ length-with_word at word body le =
     omega arith
 
 -- the bytes before, inside and behind
-before : (at word : ℕ) (body : List ℕ) (j : ℕ) → at ≤ length body → j < at → slice_index (with_word at word body) j ≡ slice_index body j
+pub before : (at word : ℕ) (body : List ℕ) (j : ℕ) → at ≤ length body → j < at → slice_index (with_word at word body) j ≡ slice_index body j
 unfolding part
 before at word body j le lt =
     let p : ℕ = length (part at word body) in
@@ -49,7 +49,7 @@ from_there at word body j le ge =
     let front : length (take at body) ≡ min at (length body) = length-take at body in
     ap (λ l. slice_index l j) (in_parts at word body) ∙ get_or-append_right (take at body) (part at word body ++ drop (at + p) body) at j 0 (omega arith) ge
 
-inside : (at word : ℕ) (body : List ℕ) (i : ℕ) → at + i < length body → i < 8 → slice_index (with_word at word body) (at + i) ≡ slice_index (to_le_bytes w64 word) i
+pub inside : (at word : ℕ) (body : List ℕ) (i : ℕ) → at + i < length body → i < 8 → slice_index (with_word at word body) (at + i) ≡ slice_index (to_le_bytes w64 word) i
 unfolding part
 inside at word body i lt small =
     let p : ℕ = length (part at word body) in
@@ -60,7 +60,7 @@ inside at word body i lt small =
     ∙ get_or_append_left (part at word body) (drop (at + p) body) 0 i (omega arith)
     ∙ get_or-take (length body - at) (to_le_bytes w64 word) i 0 (omega arith)
 
-behind : (at word : ℕ) (body : List ℕ) (j : ℕ) → at ≤ length body → at + 8 ≤ j → slice_index (with_word at word body) j ≡ slice_index body j
+pub behind : (at word : ℕ) (body : List ℕ) (j : ℕ) → at ≤ length body → at + 8 ≤ j → slice_index (with_word at word body) j ≡ slice_index body j
 unfolding part
 behind at word body j le ge =
     let p : ℕ = length (part at word body) in

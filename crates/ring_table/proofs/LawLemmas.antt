@@ -80,7 +80,8 @@ open_count-interleaved xs (y ∷ ys) =
     let sum : one + both ≡ x + (one + rest) = omega arith in
     insert_count y (interleaved xs ys) ∙ sum
 
-changed_none : (p : ℕ) (f : StagedClaim → StagedClaim) (cs : List StagedClaim) → AreAbove p cs → changed p f cs ≡ cs
+-- a change at a place before all claims changes none
+pub changed_none : (p : ℕ) (f : StagedClaim → StagedClaim) (cs : List StagedClaim) → AreAbove p cs → changed p f cs ≡ cs
 changed_none p f [] above = refl
 changed_none p f (c ∷ cs) above = let first = above.0 in λ i. changed_at_other p f c (λ e. omega arith) i ∷ changed_none p f cs above.1 i
 

@@ -1,5 +1,5 @@
 -- What the steps of a producer tell it: v is its view before, w after, n the number found.
-use Rattle.std.specs.Prelude.{◌≡◌, ◌≢◌, ℕ, ◌+◌, ◌%◌, ◌≤◌, ◌<◌, ℤ, pos, neg_ℤ, FitsSigned, ◌^◌, List, length, slice_index}
+use Rattle.std.specs.Prelude.{◌≡◌, ◌≢◌, ℕ, ◌+◌, ◌%◌, ◌≤◌, ◌<◌, ℤ, pos, neg_ℤ, FitsSigned, ◌^◌, List, All, length, slice_index}
 use Rattle.std.specs.Int.{w32, w64, to_le_bytes}
 use mathlib.Core.Option.{some}
 use lib.ListN.{get_elem?}
@@ -104,9 +104,9 @@ StoresSettled s word v w = Changes (Stored Open) (λ c. c.place) (staged (Stored
 abbrev pub StoresBody : ℕ → ℕ → View → View → Type 0
 StoresBody word value v w = (k : ℕ) (c : StagedClaim) (at : ℕ) → HasClaim v k c → c.stage ≡ Stored Open → at % 8 ≡ 0 → at < length c.message.body → index v.capacity (c.place + 8 + at) ≡ word → w ≡ with_claims (changed c.place (written at value) v.producer.claims) v
 
--- the number loaded is the word of an own open claim's body
+-- the number loaded is the word of an own open claim's body, which has bytes
 abbrev pub LoadsOwn : ℕ → View → ℕ → Type 0
-LoadsOwn word v n = (k : ℕ) (c : StagedClaim) (at : ℕ) → HasClaim v k c → c.stage ≡ Stored Open → at % 8 ≡ 0 → at < length c.message.body → index v.capacity (c.place + 8 + at) ≡ word → n ≡ body_word c.message.body at
+LoadsOwn word v n = (k : ℕ) (c : StagedClaim) (at : ℕ) → HasClaim v k c → c.stage ≡ Stored Open → at % 8 ≡ 0 → at < length c.message.body → index v.capacity (c.place + 8 + at) ≡ word → (n ≡ body_word c.message.body at) × All (λ b. b < 256) c.message.body
 
 -- ---- what a step asks of the claim
 

@@ -1,0 +1,47 @@
+use Rattle.std.proofs.Common.{◌≡◌, ℕ, ◌+◌, ◌*◌, ◌≤◌, List, [], length, take, drop, min, refl, sym, ap, ◌∙◌, arith}
+use Rattle.std.specs.Int.{from_le_bytes, w64}
+use Rattle.std.proofs.lemmas.List.{length-replicate, length-take}
+use Rattle.ring_layout.specs.History.{overwritten}
+use Rattle.ring_table.specs.declared.claim.StagedClaim.{StagedClaim}
+use Rattle.ring_table.specs.Views.{with_claims}
+use Rattle.ring_rings.specs.Bodies.{put_at}
+use Rattle.ring_rings.proofs.BodyLemmas.{body_word_there, small_there, turn_stores, turn_takes}
+use Rattle.ring_rings.proofs.PutLemmas.{changed_same}
+use Rattle.ring_rings.proofs.bodies.store_body.Goals as goal
+
+pub loop-k-init : goal.loop-k-init
+loop-k-init c = record {
+  seat = record { table = refl; id = refl; slots = refl; capacity = refl };
+  view = ap (λ (l : List StagedClaim). with_claims l c.args.seat.now.me.0) (sym (changed_same c.args.place (put_at 0 []) c.args.seat.now.me.0.producer.claims (λ d. refl)));
+}
+
+pub store_body_word-requires-clause-claim : goal.store_body_word-requires-clause-claim
+store_body_word-requires-clause-claim c =
+    let h = c.requires.claim in
+    let k : ℕ = c.loop-k.k in
+    let body : List ℕ = c.args.body.now in
+    let b0 : List ℕ = h.claim.message.body in
+    let same : length body ≡ length b0 = sym (ap length h.holds.zeros ∙ length-replicate (length body) 0) in
+    let size : length (take (8 * (k + 1)) body) ≡ min (8 * (k + 1)) (length body) = length-take (8 * (k + 1)) body in
+    let lt = c.loop-k-test.true in
+    let turns = c.div_ceil-k-end.ensures in
+    turn_takes c.args.seat.now.me.0 c.loop-k.seat.me.0 c.args.place h.nth h.claim h.there h.at_place h.holds.stage 0 (8 * k) (8 * (k + 1)) k body (omega arith) (omega arith) (omega arith) (omega arith) (omega arith) (omega arith)
+    (small_there k body b0 same (omega arith) (λ j. omega (arith, c.type_inv.body j))) c.first_word-word.result (c.first_word-word.ensures ∙ body_word_there k body b0 same (omega arith)) c.loop-k.invariant.view
+
+pub loop-k-preserved : goal.loop-k-preserved
+loop-k-preserved c =
+    let h = c.requires.claim in
+    let k : ℕ = c.loop-k.k in
+    let body : List ℕ = c.args.body.now in
+    let b0 : List ℕ = h.claim.message.body in
+    let same : length body ≡ length b0 = sym (ap length h.holds.zeros ∙ length-replicate (length body) 0) in
+    let size : length (take (8 * (k + 1)) body) ≡ min (8 * (k + 1)) (length body) = length-take (8 * (k + 1)) body in
+    let lt = c.loop-k-test.true in
+    let turns = c.div_ceil-k-end.ensures in
+    let was = c.loop-k.invariant.seat in
+    let e = c.store_body_word.ensures in
+    record {
+      seat = record { table = e.seat.table ∙ was.table; id = e.seat.id ∙ was.id; slots = e.seat.slots ∙ was.slots; capacity = e.seat.capacity ∙ was.capacity };
+      view = turn_stores c.args.seat.now.me.0 c.loop-k.seat.me.0 c.args.place h.nth h.claim h.there h.at_place h.holds.stage 0 (8 * k) (8 * (k + 1)) k body (omega arith) (omega arith) (omega arith) (omega arith) (omega arith) (omega arith)
+          (small_there k body b0 same (omega arith) (λ j. omega (arith, c.type_inv.body j))) c.first_word-word.result (c.first_word-word.ensures ∙ body_word_there k body b0 same (omega arith)) c.loop-k.invariant.view c.store_body_word.new.producer.me.0 e.view e.rising;
+    }

@@ -1,0 +1,33 @@
+-- Bytes put into an open claim.
+use Rattle.std.specs.Prelude.{◌≡◌, ℕ, ◌+◌, ◌*◌, ◌≤◌, ◌<◌, List, ◌++◌, length, drop, replicate, slice_index}
+use Rattle.std.specs.Int.{from_le_bytes, w64}
+use Rattle.ring_layout.specs.declared.message.ClaimState.TheVariants.{Open}
+use Rattle.ring_layout.specs.History.{overwritten}
+use Rattle.ring_layout.specs.Places.{index}
+use Rattle.ring_table.specs.declared.view.View.{View}
+use Rattle.ring_table.specs.ProducerSteps.{HasClaim}
+use Rattle.ring_table.specs.declared.claim.StagedClaim.{StagedClaim}
+use Rattle.ring_table.specs.declared.claim.Stage.TheVariants.{Stored}
+
+-- the claim with these bytes in its body from the offset on
+abbrev pub put_at : ℕ → List ℕ → StagedClaim → StagedClaim
+put_at offset bytes c = record { from = c.from; place = c.place; message = record { type_id = c.message.type_id; body = overwritten offset bytes c.message.body }; stage = c.stage }
+
+-- an open claim with room for so many bytes
+pub record HasRoom (len : ℕ) (c : StagedClaim) : Type 0 where
+  pub stage : c.stage ≡ Stored Open
+  pub room : len ≤ length c.message.body
+
+-- an open claim of so many bytes, which are 0
+pub record IsBlank (len : ℕ) (c : StagedClaim) : Type 0 where
+  pub stage : c.stage ≡ Stored Open
+  pub zeros : c.message.body ≡ replicate len 0
+
+-- the view with these loads
+abbrev pub loaded : List (ℕ × ℕ) → View → View
+loaded loads v = record v { log = v.log ++ loads }
+
+-- the word is that of an own open claim's body at this index, with these bytes in place of its own from the byte `at` on
+abbrev pub MergesWord : ℕ → ℕ → List ℕ → View → ℕ → Type 0
+MergesWord i at bytes v word = (nth : ℕ) (c : StagedClaim) (k : ℕ) → HasClaim v nth c → c.stage ≡ Stored Open → index v.capacity (c.place + 8 + 8 * k) ≡ i → 8 * k + at + length bytes ≤ length c.message.body
+    → (word ≡ from_le_bytes w64 (drop (8 * k) (overwritten (8 * k + at) bytes c.message.body))) × ((j : ℕ) → 8 * k ≤ j → j < 8 * k + 8 → slice_index (overwritten (8 * k + at) bytes c.message.body) j < 256)

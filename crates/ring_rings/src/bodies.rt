@@ -1,0 +1,88 @@
+//! Bytes put into the body of an open claim, a word at a time.
+ghost use Rattle.std.specs.Prelude.{◌≡◌, ℕ, ◌+◌, ◌<◌, ◌≤◌, List, length};
+ghost use Rattle.ring_layout.specs.Places.{index, max_position};
+ghost use Rattle.ring_table.specs.Changes.{changed};
+ghost use Rattle.ring_table.specs.ProducerSteps.{HasClaimAt};
+ghost use Rattle.ring_table.specs.Seats.{IsSameSeat, IsSeatOf};
+ghost use Rattle.ring_table.specs.Views.{with_claims};
+ghost use Rattle.ring_rings.specs.Bodies.{loaded, put_at, HasRoom, IsBlank, MergesWord};
+
+use ring_layout::{first_word, put_bytes_word};
+use ring_table::{RingSeat, SharedRing, load_own_word, store_body_word};
+
+/// Stores a whole body into a claim of its length whose bytes are 0.
+pub(crate) fn store_body(
+    words: &SharedRing,
+    seat: &mut RingSeat,
+    capacity: u32,
+    place: u64,
+    body: &[u8],
+)
+    requires seat { IsSeatOf words.now.table_id words.now.key capacity seat.old }
+    requires place { place ≤ max_position }
+    requires claim { HasClaimAt seat.old.me.0 place (IsBlank (length body.now)) }
+    requires short { length body.now ≤ capacity }
+    ensures seat { IsSameSeat seat.old seat.new }
+    ensures view { seat.new.me.0 ≡ with_claims (changed place (put_at 0 body.now) seat.old.me.0.producer.claims) seat.old.me.0 }
+{
+    for k in 0..body.len().div_ceil(8) {
+        let word = first_word(&body[8 * k..]);
+        store_body_word(words, seat, capacity, place, 8 * k as u64, word);
+    }
+}
+
+/// The word of an open claim's body with these bytes in place of its own from the byte `at` on. The word is loaded where
+/// the bytes are not all of it.
+fn merged_word(
+    words: &SharedRing,
+    seat: &mut RingSeat,
+    capacity: u32,
+    position: u64,
+    at: usize,
+    bytes: &[u8],
+) -> u64
+    requires seat { IsSeatOf words.now.table_id words.now.key capacity seat.old }
+    requires within { at + length bytes.now ≤ 8 }
+    requires some { 0 < length bytes.now }
+    ensures seat { IsSameSeat seat.old seat.new }
+    ensures view { (loads : List (ℕ × ℕ)) × (seat.new.me.0 ≡ loaded loads seat.old.me.0) }
+    ensures word { MergesWord (index capacity position) at bytes.now seat.old.me.0 result }
+{
+    if bytes.len() == 8 {
+        return first_word(bytes);
+    }
+    put_bytes_word(
+        load_own_word(words, seat, capacity, position),
+        at,
+        bytes,
+    )
+}
+
+/// Puts bytes into an open claim, from the byte `offset` of its body on.
+pub(crate) fn put_bytes(
+    words: &SharedRing,
+    seat: &mut RingSeat,
+    capacity: u32,
+    place: u64,
+    offset: usize,
+    bytes: &[u8],
+)
+    requires seat { IsSeatOf words.now.table_id words.now.key capacity seat.old }
+    requires place { place ≤ max_position }
+    requires claim { HasClaimAt seat.old.me.0 place (HasRoom (offset + length bytes.now)) }
+    requires short { offset + length bytes.now ≤ capacity }
+    ensures seat { IsSameSeat seat.old seat.new }
+    ensures view { (loads : List (ℕ × ℕ)) × (seat.new.me.0 ≡ with_claims (changed place (put_at offset bytes.now) seat.old.me.0.producer.claims) (loaded loads seat.old.me.0)) }
+{
+    let mut done = 0;
+    while done < bytes.len() {
+        let (index, byte) = ((offset + done) / 8, (offset + done) % 8);
+        let count = (8 - byte).min(bytes.len() - done);
+        let chunk = &bytes[done..done + count];
+        let at = 8 * index as u64;
+        let position = place + 8 + at;
+        let word = merged_word(words, seat, capacity, position, byte, chunk);
+        store_body_word(words, seat, capacity, place, at, word);
+        done += count;
+    }
+}
