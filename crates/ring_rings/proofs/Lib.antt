@@ -1,0 +1,3 @@
+pub mod ReadingCopies
+pub mod ReadingSeats
+pub mod ReadingFinds

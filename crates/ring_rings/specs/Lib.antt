@@ -1,2 +1,4 @@
 pub mod Seats
 pub mod Props
+pub mod Reading
+pub mod ReadingSteps

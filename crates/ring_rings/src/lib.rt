@@ -3,6 +3,8 @@
 
 mod claim;
 mod fault;
+mod heartbeat;
+mod reading;
 mod seats;
 
 pub use claim::Claim;
