@@ -1,3 +1,5 @@
 pub mod ReadingCopies
 pub mod ReadingSeats
 pub mod ReadingFinds
+pub mod ReadingRuns
+pub mod ReadingEnds

@@ -1,9 +1,9 @@
 -- What a header tells a read, by its length and type id.
-use Rattle.std.proofs.Common.{◌≡◌, ◌≢◌, ℕ, zero, suc, ◌+◌, ◌-◌, ◌*◌, ◌/◌, ◌%◌, ◌^◌, ◌<◌, ◌≤◌, List, [], ◌∷◌, ◌++◌, length, refl, sym, ap, ◌∙◌, subst, arith, ℤ, pos, negsuc, ◌≤ℤ◌, ◌<ℤ◌, FitsSigned, to_z, of_z, true, false}
+use Rattle.std.proofs.Common.{◌≡◌, ◌≢◌, ℕ, zero, suc, ◌+◌, ◌-◌, ◌*◌, ◌/◌, ◌%◌, ◌^◌, ◌<◌, ◌≤◌, List, [], ◌∷◌, ◌++◌, length, refl, sym, ap, ◌∙◌, subst, arith, ℤ, pos, negsuc, ◌≤ℤ◌, ◌<ℤ◌, FitsSigned, true, false}
 use lib.IntN.{nat_abs}
 use lib.Signed.{le_z}
 use Rattle.std.specs.Int.{w32}
-use Rattle.std.proofs.lemmas.Int.{ints, to_z-of_z}
+use Rattle.std.proofs.lemmas.Int.{ints}
 use Rattle.ring_layout.specs.declared.message.Message.{Message}
 use Rattle.ring_layout.specs.History.{span}
 use Rattle.ring_layout.specs.Headers.{header, padding_type}
@@ -20,9 +20,6 @@ low_from a b h = grind (arith, ints)
 
 pub above_from : (a b : ℤ) → le_z a b ≡ false → b <ℤ a
 above_from a b h = grind (arith, ints)
-
-pub padding_from : (t : ℤ) → FitsSigned w32 t → of_z w32 t ≡ 4294967295 → t ≡ padding_type
-padding_from t f e = sym (to_z-of_z w32 t f) ∙ ap (to_z w32) e
 
 -- a length above 0
 pub record IsPositive (len : ℤ) : Type 0 where

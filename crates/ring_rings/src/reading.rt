@@ -4,7 +4,7 @@ mod loading;
 mod passing;
 mod turn;
 
-ghost use Rattle.std.specs.Prelude.{◌≡◌, ◌≢◌, ℕ, ◌+◌, ◌%◌, ◌<◌, ◌≤◌, List, true};
+ghost use Rattle.std.specs.Prelude.{◌≡◌, ◌≢◌, ℕ, ◌+◌, ◌%◌, ◌<◌, ◌≤◌, ◌&&◌, ◌==◌, nat_lt, List};
 ghost use Rattle.ring_layout.specs.Places.{max_position};
 ghost use Rattle.ring_table.specs.declared.claim.PlacedMessage.{PlacedMessage};
 ghost use Rattle.ring_table.specs.Seats.{IsSameSeat};
@@ -18,6 +18,13 @@ use ring_words::{Action, Handler, ReadEnd, Stop};
 use turn::Turn;
 
 impl<K> Ring<K> {
+    /// Tests whether a read came from `start` to the end of the buffer.
+    fn is_block_end(&self, start: u64, scan: u64) -> bool
+        ensures { result ≡ (nat_lt start scan && scan % capacity_of self.now == 0) }
+    {
+        start < scan && scan % u64::from(self.capacity) == 0
+    }
+
     /// Ends a read that began at the head `start` and has come to `scan`: clears what it passed, and stores the head.
     fn finish(
         &self,
@@ -70,7 +77,7 @@ impl<K> Ring<K> {
             if messages == limit {
                 return self.finish(consumer, start, scan, messages, Stop::Limit);
             }
-            if start < scan && scan % u64::from(self.capacity) == 0 {
+            if self.is_block_end(start, scan) {
                 return self.finish(consumer, start, scan, messages, Stop::Block);
             }
             match self.turn(consumer, scan, heeds, handler) {
