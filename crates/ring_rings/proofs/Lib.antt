@@ -3,3 +3,4 @@ pub mod ReadingSeats
 pub mod ReadingFinds
 pub mod ReadingRuns
 pub mod ReadingEnds
+pub mod ReadingHeeds
