@@ -1,5 +1,5 @@
 -- The words of a body, as a read copies them.
-use Rattle.std.proofs.Common.{◌≡◌, ℕ, zero, suc, ◌+◌, ◌-◌, ◌*◌, ◌/◌, ◌%◌, ◌^◌, ◌<◌, ◌≤◌, List, [], ◌∷◌, ◌++◌, length, take, drop, slice_index, All, refl, sym, ap, ◌∙◌, subst, arith, inl, inr}
+use Rattle.std.proofs.Common.{◌≡◌, ℕ, suc, ◌+◌, ◌-◌, ◌*◌, ◌/◌, ◌<◌, ◌≤◌, List, [], ◌∷◌, ◌++◌, length, take, drop, slice_index, All, refl, sym, ap, ◌∙◌, subst, arith, inl, inr}
 use mathlib.Core.Option.{some}
 use lib.ListN.{get_elem?}
 use Rattle.std.specs.Int.{from_le_bytes, to_le_bytes, w64}
@@ -91,4 +91,4 @@ word_is C p k word m v w rest last same cleared there inside told =
     let got : w.consumer.got ≡ last.0 ++ m ∷ [] = ap (λ (x : View). x.consumer.got) rest ∙ last.1 in
     let low : w.consumer.cleared ≤ m.place = subst (λ (n : ℕ). n ≤ m.place) (sym (ap (λ (x : View). x.consumer.cleared) rest)) cleared in
     told (length last.0) m (8 * k) (subst (λ (l : List PlacedMessage). get_elem? l (length last.0) ≡ some m) (sym got) (last_at last.0 m)) low (omega arith) inside
-        (ap (λ (n : ℕ). index n (m.place + 8 + 8 * k)) (ap (λ (x : View). x.capacity) rest ∙ same) ∙ ap (index C) (sym there))
+    (ap (λ (n : ℕ). index n (m.place + 8 + 8 * k)) (ap (λ (x : View). x.capacity) rest ∙ same) ∙ ap (index C) (sym there))

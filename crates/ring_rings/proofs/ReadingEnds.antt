@@ -1,7 +1,7 @@
 -- How a read ends.
-use Rattle.std.proofs.Common.{◌≡◌, ◌≢◌, ℕ, ◌+◌, ◌%◌, ◌<◌, ◌≤◌, List, [], ◌∷◌, ◌++◌, length, refl, ap, sym, ◌∙◌, subst, arith, inl, inr, All, nat_lt, ◌==◌, ◌&&◌, Bool, true, false, if◌then◌else◌}
+use Rattle.std.proofs.Common.{◌≡◌, ◌≢◌, ℕ, ◌+◌, ◌%◌, ◌<◌, ◌≤◌, List, [], ◌∷◌, ◌++◌, refl, ap, sym, ◌∙◌, subst, arith, inl, inr, All, nat_lt, ◌==◌, ◌&&◌, Bool, true, false, if◌then◌else◌}
 use Rattle.std.proofs.lemmas.Bool.{cases_lt, eq-eqb, ne_eqb, and_from, lt-ltb, le-ltb}
-use Rattle.std.proofs.lemmas.List.{append-nil, append_assoc}
+use Rattle.std.proofs.lemmas.List.{append-nil}
 use Rattle.ring_words.specs.declared.action.Action.{Action}
 use Rattle.ring_words.specs.declared.action.Action.TheVariants.{Abort, Break}
 use Rattle.ring_words.specs.declared.read_end.ReadEnd.{ReadEnd}
@@ -13,7 +13,7 @@ use Rattle.ring_layout.specs.History.{IsMessage}
 use Rattle.ring_layout.specs.Places.{index, room}
 use Rattle.ring_table.specs.declared.claim.PlacedMessage.{PlacedMessage}
 use Rattle.ring_table.specs.declared.view.View.{View}
-use Rattle.ring_rings.specs.Reading.{Aborts, Broke, IsBlocked, IsNext, IsTight, Reads, WentOn, record_loads}
+use Rattle.ring_rings.specs.Reading.{Aborts, Broke, IsBlocked, IsTight, Reads, WentOn, record_loads}
 use Rattle.ring_rings.specs.ReadingSteps.{FindsNothing, IsAt, IsLeft, Settles, ShowsOne}
 use Rattle.ring_rings.proofs.ReadingRuns.{LoadsMore, Runs, RunsOn, loads_by, loads_more, loads_quiet}
 

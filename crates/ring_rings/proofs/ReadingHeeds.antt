@@ -1,5 +1,5 @@
 -- A read that heeds the handler's actions, and one that takes each as Continue.
-use Rattle.std.proofs.Common.{◌≡◌, ℕ, List, [], ◌∷◌, ◌++◌, Bool, true, false, sym, subst, inl, inr}
+use Rattle.std.proofs.Common.{◌≡◌, ℕ, List, [], ◌∷◌, ◌++◌, true, false, sym, subst, inl, inr}
 use Rattle.ring_words.specs.declared.action.Action.{Action}
 use Rattle.ring_words.specs.declared.action.Action.TheVariants.{Abort, Break, Continue}
 use Rattle.ring_words.specs.declared.read_end.ReadEnd.{ReadEnd}
@@ -7,7 +7,7 @@ use Rattle.ring_words.specs.Read.{stop_of}
 use Rattle.ring_layout.specs.declared.message.Message.{Message}
 use Rattle.ring_layout.specs.Handles.{Handles}
 use Rattle.ring_table.specs.declared.view.View.{View}
-use Rattle.ring_rings.specs.Reading.{Controls, Reads, WentOn, Broke, Aborts, messages_of}
+use Rattle.ring_rings.specs.Reading.{Controls, Reads, messages_of}
 use Rattle.ring_rings.specs.ReadingSteps.{heeded}
 
 module _ {S : Type 0} (step : S → Message → S → Action → Type 0) where

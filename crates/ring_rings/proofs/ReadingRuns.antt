@@ -15,7 +15,7 @@ use Rattle.ring_table.specs.declared.claim.PlacedMessage.{PlacedMessage}
 use Rattle.ring_table.specs.declared.view.View.{View}
 use Rattle.ring_table.specs.declared.view.ConsumerView.{ConsumerView}
 use Rattle.ring_rings.specs.Reading.{IsTight, messages_of, record_loads}
-use Rattle.ring_rings.specs.ReadingSteps.{FindsQuiet, IsAt, IsPassed, Settles, ShowsOne}
+use Rattle.ring_rings.specs.ReadingSteps.{FindsQuiet, IsAt, Settles, ShowsOne}
 
 -- w is v with these loads, and what became of the consumer's part
 abbrev pub LoadsMore : View → List (ℕ × ℕ) → View → Type 0

@@ -1,12 +1,10 @@
 -- Seats from step to step.
 use Rattle.std.proofs.Common.{◌≡◌, ℕ, List, [], ◌∷◌, ◌++◌, refl, sym, ap, ◌∙◌}
-use Rattle.atomic_table.specs.Seated.{TableId}
 use Rattle.atomic_table.specs.declared.shared.Seat.{Seat}
 use Rattle.ring_table.specs.declared.view.View.{View}
 use Rattle.ring_table.specs.declared.view.Wanted.{Wanted}
-use Rattle.ring_table.specs.declared.view.Key.{Key}
 use Rattle.ring_table.specs.Views.{logged}
-use Rattle.ring_table.specs.Seats.{IsSameSeat, IsSeatOf}
+use Rattle.ring_table.specs.Seats.{IsSameSeat}
 
 pub same_none : (s : Seat Wanted View) → IsSameSeat s s
 same_none s = record { table = refl; id = refl; slots = refl; capacity = refl }

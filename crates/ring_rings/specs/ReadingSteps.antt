@@ -8,7 +8,6 @@ use Rattle.ring_layout.specs.Headers.{header}
 use Rattle.ring_layout.specs.Places.{index}
 use Rattle.ring_table.specs.declared.claim.PlacedMessage.{PlacedMessage}
 use Rattle.ring_table.specs.declared.view.View.{View}
-use Rattle.ring_table.specs.declared.view.ConsumerView.{ConsumerView}
 use Rattle.ring_table.specs.Views.{scanned, with_consumer}
 use Rattle.ring_table.specs.ConsumerSteps.{IsInside, with_scan}
 use Rattle.ring_rings.specs.Reading.{IsUnpublished, body_loads, record_loads}

@@ -91,7 +91,13 @@ impl<K> Ring<K> {
                         return self.finish(consumer, start, scan, messages, Stop::Action);
                     }
                     Action::Break => {
-                        return self.finish(consumer, start, scan + span, messages + 1, Stop::Action);
+                        return self.finish(
+                            consumer,
+                            start,
+                            scan + span,
+                            messages + 1,
+                            Stop::Action,
+                        );
                     }
                     Action::Commit => {
                         scan += span;
@@ -112,12 +118,7 @@ impl<K> Ring<K> {
     ///
     /// It stops with `Limit` where `limit` messages were read, else with `Block` where it came to the end of the buffer, else
     /// with `Unpublished` where no settled record lay at the head. What it passes is set to 0, and then the head moves.
-    pub fn read<H: Handler>(
-        &self,
-        consumer: &mut Consumer,
-        limit: u32,
-        handler: &mut H,
-    ) -> ReadEnd
+    pub fn read<H: Handler>(&self, consumer: &mut Consumer, limit: u32, handler: &mut H) -> ReadEnd
         requires consumer { IsConsumerOf self.now consumer.old }
         requires ready { H.ready handler.old }
         ensures consumer { IsConsumerOf self.now consumer.new }

@@ -65,12 +65,7 @@ impl<K> Ring<K> {
                 consumer.head,
                 place,
             );
-            store_head_before(
-                &self.table.shared,
-                &mut consumer.seat,
-                self.capacity,
-                place,
-            );
+            store_head_before(&self.table.shared, &mut consumer.seat, self.capacity, place);
             consumer.head = place;
         }
     }

@@ -1,4 +1,4 @@
-use Rattle.std.proofs.Common.{◌≡◌, ℕ, suc, ◌+◌, ◌*◌, ◌/◌, ◌%◌, ◌<◌, length, refl, sym, ap, ◌∙◌, arith}
+use Rattle.std.proofs.Common.{ℕ, ◌+◌, ◌*◌, ◌<◌, length, refl, ap, ◌∙◌, arith}
 use Rattle.ring_layout.specs.Places.{index}
 use Rattle.ring_layout.proofs.CapacityLemmas.{capacity_blocks}
 use Rattle.ring_table.specs.declared.view.View.{View}
@@ -32,7 +32,7 @@ loop-k-preserved c =
           let inside : 8 * k < length m.message.body = omega (arith, c.loop-k-test.true, c.div_ceil-k-end.ensures, len) in
           let is = word_is c.args.capacity p k c.load_body_word-word.result m old c.loop-k.seat.me.0 inv.rest last c.requires.seat.view_is (let low = c.requires.place.0 in omega arith) (omega (arith, at)) inside load.told in
           copies_more c.args.capacity m k c.load_body_word-word.result old c.loop-k.seat.me.0 c.load_body_word-word.new.consumer.me.0 c.loop-k.scratch c.put_word.new.bytes last.2 (omega (arith, capacity_blocks c.args.capacity c.requires.seat.lawful, c.loop-k-test.true, c.requires.room, c.loop-k.auto.scratch, c.div_ceil-k-end.ensures)) (inv.copied m last at len) is
-              (load.view ∙ ap (λ (n : ℕ). logged (index c.args.capacity n) c.load_body_word-word.result c.loop-k.seat.me.0) (omega (arith, at))) c.put_word.ensures;
+          (load.view ∙ ap (λ (n : ℕ). logged (index c.args.capacity n) c.load_body_word-word.result c.loop-k.seat.me.0) (omega (arith, at))) c.put_word.ensures;
     }
 
 pub returns-clause-copies : goal.returns-clause-copies

@@ -1,4 +1,4 @@
-use Rattle.std.proofs.Common.{◌≡◌, ℕ, ap, ◌∙◌}
+use Rattle.std.proofs.Common.{ℕ, ap, ◌∙◌}
 use Rattle.ring_words.specs.Read.{stop_of}
 use Rattle.ring_rings.specs.Seats.{consumer_view, head_of}
 use Rattle.ring_rings.proofs.ReadingHeeds.{reads_unheard}

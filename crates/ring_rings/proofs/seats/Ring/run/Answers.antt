@@ -1,4 +1,4 @@
-use Rattle.std.proofs.Common.{◌≡◌, ◌≢◌, ℕ, ◌+◌, ◌-◌, ◌%◌, ◌<◌, ◌≤◌, List, [], ◌∷◌, ◌++◌, nat_lt, ◌&&◌, ◌==◌, false, refl, sym, ap, ◌∙◌, subst, arith, inl, inr}
+use Rattle.std.proofs.Common.{◌≡◌, ◌≢◌, ℕ, ◌+◌, ◌%◌, ◌<◌, List, [], ◌∷◌, ◌++◌, nat_lt, ◌==◌, sym, ap, ◌∙◌, subst, arith, inl, inr}
 use Rattle.std.proofs.lemmas.Bool.{and_parts, eqb-true, ltb-true}
 use Rattle.ring_words.specs.declared.action.Action.{Action}
 use Rattle.ring_words.specs.declared.action.Action.TheVariants.{Break}
@@ -8,7 +8,7 @@ use Rattle.ring_table.specs.declared.claim.PlacedMessage.{PlacedMessage}
 use Rattle.ring_table.specs.declared.view.View.{View}
 use Rattle.ring_rings.specs.Seats.{consumer_view}
 use Rattle.ring_rings.specs.Reading.{WentOn}
-use Rattle.ring_rings.specs.ReadingSteps.{FindsNothing, FindsQuiet, IsAt, Settles, ShowsOne, heeded}
+use Rattle.ring_rings.specs.ReadingSteps.{FindsNothing, FindsQuiet, Settles, ShowsOne, heeded}
 use Rattle.ring_rings.proofs.ReadingSeats.{same_none, same_more}
 use Rattle.ring_rings.proofs.ReadingRuns.{RunsOn, inside_of, runs_on_none, runs_on_quiet, runs_on_shown, runs_on_broken, runs_on_committed, runs_quiet, runs_shown, stands_shown, stays_near}
 use Rattle.ring_rings.proofs.ReadingEnds.{aborts, broke, ends_nothing, ends_now, is_blocked, nothing_stands, settled_stands, settles_more, shown_left, stops_block, stops_limit, stops_unpublished, went_on}
@@ -39,7 +39,7 @@ returns-then-messages-limit-clause-controls g c =
     let got : List PlacedMessage = v.consumer.taken ++ r.0.messages in
     let e = ends_now c.turns.scan got w y (c.finish.ensures.settles got r.0.stands) in
     inl (went_on (heeded c.args.heeds g.H.Handler.step) c.args.limit v w y c.args.handler.now c.turns.handler c.turns.scan c.turns.messages r [] e c.finish.result c.finish.ensures.messages
-        (c.finish.ensures.stopped ∙ stops_limit v.capacity c.args.limit c.turns.messages c.turns.scan c.finish.result.bytes c.if-messages-limit.true))
+    (c.finish.ensures.stopped ∙ stops_limit v.capacity c.args.limit c.turns.messages c.turns.scan c.finish.result.bytes c.if-messages-limit.true))
 
 pub returns-then-is_block_end-clause-controls : goal.returns-then-is_block_end-clause-controls
 returns-then-is_block_end-clause-controls g c =
@@ -56,7 +56,7 @@ returns-then-is_block_end-clause-controls g c =
     let on = ltb-true start c.turns.scan test.0 in
     let at_end : c.turns.scan % v.capacity ≡ 0 = ap (λ (k : ℕ). c.turns.scan % k) c.requires.consumer.capacity ∙ eqb-true (c.turns.scan % C) 0 test.1 in
     inl (went_on (heeded c.args.heeds g.H.Handler.step) c.args.limit v w y c.args.handler.now c.turns.handler c.turns.scan c.turns.messages r [] e end.result end.ensures.messages
-        (end.ensures.stopped ∙ stops_block v.capacity c.args.limit c.turns.messages c.turns.scan end.result.bytes c.if-messages-limit.false at_end (omega (arith, on, end.ensures.bytes))))
+    (end.ensures.stopped ∙ stops_block v.capacity c.args.limit c.turns.messages c.turns.scan end.result.bytes c.if-messages-limit.false at_end (omega (arith, on, end.ensures.bytes))))
 
 pub turn-requires-clause-near : goal.turn-requires-clause-near
 turn-requires-clause-near g c =
@@ -136,7 +136,7 @@ returns-in-Blocked-clause-controls g c =
     let e = ends_nothing v.capacity c.turns.scan got w x y f p in
     let still : 0 < end.result.bytes → c.turns.scan % v.capacity ≢ 0 = λ lt. inside (omega (arith, lt, end.ensures.bytes, c.args.consumer.now.stands.0)) in
     let done = went_on (heeded c.args.heeds g.H.Handler.step) c.args.limit v w y c.args.handler.now c.turns.handler c.turns.scan c.turns.messages r ((index v.capacity c.turns.scan, f.found) ∷ []) e end.result end.ensures.messages
-        (end.ensures.stopped ∙ stops_unpublished v.capacity c.args.limit c.turns.messages c.turns.scan end.result.bytes c.if-messages-limit.false still) in
+    (end.ensures.stopped ∙ stops_unpublished v.capacity c.args.limit c.turns.messages c.turns.scan end.result.bytes c.if-messages-limit.false still) in
     inl (subst (λ (u : g.row.H.Denot). WentOn (heeded c.args.heeds g.H.Handler.step) c.args.limit v y c.args.handler.now u end.result) (sym told.1) done)
 
 pub returns-in-Blocked-clause-bytes : goal.returns-in-Blocked-clause-bytes

@@ -1,4 +1,4 @@
-use Rattle.std.proofs.Common.{◌≡◌, ◌/◌, ap, sym, ◌∙◌}
+use Rattle.std.proofs.Common.{◌/◌, ap, sym, ◌∙◌}
 use Rattle.ring_table.specs.declared.view.View.{View}
 use Rattle.ring_rings.proofs.seats.Ring.show.Goals as goal
 
