@@ -4,3 +4,4 @@ pub mod ReadingFinds
 pub mod ReadingRuns
 pub mod ReadingEnds
 pub mod ReadingHeeds
+pub mod ReadingTurns

@@ -49,6 +49,19 @@ nothing_stands C scan got w x at f = record {
 pub ends_nothing : (C scan : ℕ) (got : List PlacedMessage) (w x y : View) (f : FindsNothing C scan got w x) → Settles scan got x y → Ends scan got w y ((index C scan, f.found) ∷ [])
 ends_nothing C scan got w x y f = ends_more scan got w x y ((index C scan, f.found) ∷ []) (loads_by w x _ _ f.view) (ap (λ (z : View). z.consumer.heartbeats) f.view)
 
+-- the head stands where all is taken
+pub settled_stands : {scan : ℕ} {got : List PlacedMessage} {w x : View} → Settles scan got w x → IsAt scan got x
+settled_stands p = record { first = λ _. sym p.taken; later = λ ne. absurd (ne (sym p.head)) }
+
+pub settles_more : {scan : ℕ} {got : List PlacedMessage} {w x y : View} → Settles scan got w x → Settles scan got x y → Settles scan got w y
+settles_more {y = y} p q = record {
+  view = q.view ∙ ap (λ (z : View). record z { consumer = y.consumer }) p.view;
+  head = q.head;
+  cleared = q.cleared;
+  taken = q.taken;
+  heartbeats = q.heartbeats ∙ p.heartbeats;
+}
+
 module _ {S : Type 0} (step : S → Message → S → Action → Type 0) where
   -- a message that was shown, before it is passed
   pub shown_left : (C scan : ℕ) (got : List PlacedMessage) (w x : View) (s t : S) (n : ℕ) (a : Action) → IsAt scan got w → ShowsOne step C scan got w s n a x t → IsLeft scan got x
@@ -58,19 +71,6 @@ module _ {S : Type 0} (step : S → Message → S → Action → Type 0) where
     there = f.place;
     passed = let e = ap (λ (y : View). y.consumer.scan) f.view in omega (arith, e);
     first = λ e. at.first (e ∙ ap (λ (y : View). y.consumer.head) f.view) ∙ sym (ap (λ (y : View). y.consumer.taken) f.view);
-  }
-
-  -- the head stands where all is taken
-  pub settled_stands : (scan : ℕ) (got : List PlacedMessage) (w x : View) → Settles scan got w x → IsAt scan got x
-  settled_stands scan got w x p = record { first = λ _. sym p.taken; later = λ ne. absurd (ne (sym p.head)) }
-
-  pub settles_more : (scan : ℕ) (got : List PlacedMessage) (w x y : View) → Settles scan got w x → Settles scan got x y → Settles scan got w y
-  settles_more scan got w x y p q = record {
-    view = q.view ∙ ap (λ (z : View). record z { consumer = y.consumer }) p.view;
-    head = q.head;
-    cleared = q.cleared;
-    taken = q.taken;
-    heartbeats = q.heartbeats ∙ p.heartbeats;
   }
 
   pub ends_left : (C scan : ℕ) (got : List PlacedMessage) (w x y : View) (s t : S) (n : ℕ) (a : Action) (f : ShowsOne step C scan got w s n a x t) → Settles scan got x y → Ends scan got w y (record_loads C f.message)
