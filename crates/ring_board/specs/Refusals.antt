@@ -1,5 +1,5 @@
 -- Which refusal comes when.
-use Rattle.std.specs.Prelude.{◌≡◌, ℕ, ◌/◌, ◌%◌, ◌==◌, ◌||◌, not, ℤ, pos, Option, Some, None, Result, Err, MatchOption, IfOk, IsOkUnless, if◌then◌else◌, nat_lt, int_lt}
+use Rattle.std.specs.Prelude.{◌≡◌, ℕ, ◌/◌, ◌%◌, ◌==◌, ◌||◌, not, ℤ, pos, Option, Some, None, Result, Err, MatchOption, IsOk, IsOkUnless, if◌then◌else◌, nat_lt, int_lt}
 use Rattle.ring_layout.specs.History.{span}
 use Rattle.ring_layout.specs.Places.{end_after, max_position}
 use Rattle.ring_board.specs.declared.fault.MakeFault.{MakeFault}
@@ -32,7 +32,7 @@ transmit_refusal_of C tail type_id len =
 
 -- the result is this error for the refusal, or Ok where there is none
 abbrev pub IsRefusedAs : {T E F : Type 0} → (F → E) → Option F → Result T E → Type 0
-IsRefusedAs error refusal result = MatchOption refusal (IfOk result (λ _. Unit {0})) (λ fault. result ≡ Err (error fault))
+IsRefusedAs error refusal result = MatchOption refusal (IsOk result) (λ fault. result ≡ Err (error fault))
 
 abbrev pub IsRefusedBy : {T F : Type 0} → Option F → Result T F → Type 0
 IsRefusedBy refusal result = IsRefusedAs (λ fault. fault) refusal result

@@ -1,3 +1,8 @@
+pub mod NewestLemmas
+pub mod LookLemmas
+pub mod RefusalLemmas
+pub mod CountLemmas
+pub mod MadeLemmas
 pub mod ReadingCopies
 pub mod ReadingSeats
 pub mod ReadingFinds

@@ -1,4 +1,7 @@
+pub mod Matching
 pub mod Seats
-pub mod Props
+pub mod Claiming
+pub mod Making
+pub mod Opening
 pub mod Reading
 pub mod ReadingSteps

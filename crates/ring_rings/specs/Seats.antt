@@ -1,5 +1,9 @@
 -- What clauses say of rings and of those who work on them.
-use Rattle.std.specs.Prelude.{◌≡◌, ℕ, List}
+use Rattle.std.specs.Prelude.{◌≡◌, ℕ, ◌+◌, ◌%◌, List}
+use Rattle.ring_layout.specs.History.{IsMessage}
+use Rattle.ring_words.specs.Open.{ClaimAt}
+use Rattle.ring_table.specs.Changes.{blank}
+use Rattle.ring_table.specs.ProducerSteps.{HasClaimAt, IsOpen}
 use Rattle.ring_table.specs.declared.claim.StagedClaim.{StagedClaim}
 use Rattle.ring_table.specs.declared.claim.PlacedMessage.{PlacedMessage}
 use Rattle.ring_table.specs.OpenClaims.{open_count}
@@ -60,3 +64,11 @@ heartbeats_of c = c.seat.me.0.consumer.heartbeats
 pub record IsConsumerOf {K : Type 0} (ring : Ring K) (c : Consumer) : Type 0 where
   pub table : c.seat.table_id ≡ ring.table.shared.table_id
   pub capacity : c.seat.me.0.capacity ≡ ring.capacity
+
+-- Claims -----------------------------------------------------------------------
+
+-- the claim in the producer's hands is one of its own, and open
+pub record IsOpenClaimOf {K : Type 0} (ring : Ring K) (p : Producer) (t : ClaimAt) : Type 0 where
+  pub index : t.index ≡ t.place % ring.capacity + 8
+  pub message : IsMessage ring.capacity (blank t.type_id t.len)
+  pub claim : HasClaimAt p.seat.me.0 t.place (IsOpen t.type_id t.len)

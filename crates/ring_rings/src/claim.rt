@@ -1,8 +1,10 @@
 //! Claims in the hands of producers.
+use ring_layout::record_descriptor::HEADER_LENGTH;
+use ring_table::Wanted;
 use std::marker::Model;
 
 /// A claim whose body is still to be put, and which is then committed or aborted.
-#[derive(Debug)]
+#[derive(Debug, Drop)]
 pub struct Claim {
     place: u64,
     index: u32,
@@ -19,16 +21,19 @@ impl Model for Claim {
 }
 
 impl Claim {
-    ghost use Rattle.std.specs.Prelude.{◌≡◌, ◌↔◌, IsTrue};
+    ghost use Rattle.std.specs.Prelude.{◌≡◌, ◌+◌, ◌%◌, ◌↔◌, IsTrue};
+    ghost use Rattle.ring_layout.specs.Places.{IsCapacity};
 
-    pub(crate) fn new(place: u64, index: u32, type_id: i32, len: usize) -> Self
-        ensures { result ≡ record { place = place; index = index; type_id = type_id; len = len } }
+    /// The claim of a message at a place.
+    pub(crate) fn new(capacity: u32, place: u64, wanted: Wanted) -> Self
+        requires { IsCapacity capacity }
+        ensures { result ≡ record { place = place; index = place % capacity + 8; type_id = wanted.type_id; len = wanted.len } }
     {
         Claim {
             place,
-            index,
-            type_id,
-            len,
+            index: (place % u64::from(capacity)) as u32 + HEADER_LENGTH as u32,
+            type_id: wanted.type_id,
+            len: wanted.len,
         }
     }
 

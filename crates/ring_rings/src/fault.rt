@@ -17,9 +17,9 @@ pub enum TryFault {
 }
 
 impl From<ClaimFault> for TryFault {
-    fn from(fault: ClaimFault) -> Self
-        ensures { result ≡ Refused fault }
-    {
+    ghost from_gives = { λ fault e. e ≡ Refused fault };
+
+    fn from(fault: ClaimFault) -> Self {
         TryFault::Refused(fault)
     }
 }

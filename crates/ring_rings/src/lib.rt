@@ -1,11 +1,20 @@
 //! The rings that threads share: any number of producers or one, and one consumer.
 #![tactic(auto)]
 
+mod admission;
 mod claim;
+mod claiming;
 mod fault;
+mod headers;
 mod heartbeat;
+mod making;
+mod many_to_one;
+mod one_to_one;
+mod producer;
 mod reading;
+mod room;
 mod seats;
+mod settling;
 
 pub use claim::Claim;
 pub use fault::{NoShares, TryFault};

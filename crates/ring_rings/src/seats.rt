@@ -2,9 +2,7 @@
 ghost use Rattle.std.specs.Prelude.{◌≡◌, ℕ, ◌%◌, ◌/◌, ◌^◌, ◌<◌, ◌≤◌, [], vec_len, true, false};
 ghost use Rattle.ring_layout.specs.Places.{IsCapacity, max_position};
 ghost use Rattle.ring_layout.specs.Layout.{ring_words};
-ghost use Rattle.ring_table.specs.Staged.{AreStored};
-ghost use Rattle.ring_table.specs.OpenClaims.{open_count};
-ghost use Rattle.ring_rings.specs.Props.{are_stored_prop};
+ghost use Rattle.ring_rings.specs.Matching.{Matches, matches_prop};
 
 use ring_table::{RingSeat, RingTable};
 use std::marker::PhantomData;
@@ -40,13 +38,10 @@ pub struct Producer {
     pub(crate) seat: RingSeat,
     pub(crate) shares: u32,
     pub(crate) open_claims: u64,
-    // The greatest end of a claim that it has seen.
-    pub(crate) seen_tail: u64,
+    // The ring's tail, where it holds all shares.
+    pub(crate) own_tail: u64,
+    ghost known: { Matches seat.me.0 shares open_claims own_tail } by { matches_prop _ _ _ _ _ _ },
     ghost produces: { (seat.me.0.consumes ≡ false) × (seat.me.1 ≡ []) },
-    ghost held: { (seat.me.0.producer.shares ≡ shares) × (0 < shares) × (shares ≤ 2 ^ 16) },
-    ghost counted: { open_count seat.me.0.producer.claims ≡ open_claims },
-    ghost stored: { AreStored seat.me.0.producer.claims } by { are_stored_prop _ },
-    ghost sees: { (seat.me.0.producer.seen_tail ≡ seen_tail) × (seen_tail % 8 ≡ 0) × (seen_tail ≤ max_position) },
 }
 
 /// The one who reads a ring.

@@ -22,7 +22,7 @@ use Rattle.ring_table.proofs.Histories.{staged_end-append, owned_by-append, owne
 use Rattle.ring_table.proofs.Sums.{at_below}
 use Rattle.ring_table.proofs.Seating.{sole_sees_top, reseated}
 use Rattle.ring_table.proofs.Memories.{memory_appended, service_elsewhere}
-use Rattle.ring_table.proofs.Loading.{Ok, May, sees}
+use Rattle.ring_table.proofs.Loading.{Ok, May, sees, end_below}
 
 module _ (C start : ℕ) where
   -- a claim of n bytes joins the history at its end, where the tail is
@@ -77,13 +77,6 @@ module _ (C start : ℕ) where
             (λ x. refl);
       }
 
-  -- the claims of a view end at or below the tail
-  end_below : (words : List ℕ) (views : List View) (r : Kept C start words views) (id : ℕ) (v : View) → get_elem? views id ≡ some v → (old : ℕ) → old ≡ staged_end start (all_of r.hist) → EndBelow old v.producer.claims
-  end_below words views r id v at old old_is k c has =
-      let own = owned_at id r.hist k c (subst (λ l. get_elem? l k ≡ some c) (r.seated.each id v at).claims has) in
-      let below = (lies_in C start r.hist own.0 (id, c) r.memory.placed own.1).below in
-      omega arith
-
   pub moves_tail : (slots id : ℕ) (me : Mine) → me.0.capacity ≡ C → (old new : ℕ) (wanted : Wanted) → 0 < me.0.producer.shares → IsClaimable C old new wanted.type_id wanted.len me.0.producer.seen_head
       → Allows (Ok C start) slots id me (tail_index C) (λ n. either (eqb n old) new n) (λ n me'. (me'.1 ≡ me.1) × ((said : Wanted) → some wanted ≡ some said → MovesTail me.0.capacity old new said me.0 n me'.0))
   moves_tail slots id me cap old new wanted rich claimable s r wide at small =
@@ -108,7 +101,7 @@ module _ (C start : ℕ) where
           refl,
           λ said same. let e : wanted ≡ said = some-injective wanted said same in record {
             hit = λ _ i. with_claim (fresh (sym cap i) old (e i).type_id (e i).len) new v;
-            behind = λ _. end_below s.words s.views r id v at old (sym hit ∙ is);
+            behind = λ _. end_below C start s.words s.views r id v at old (sym hit ∙ is);
             miss = λ other. absurd (other hit);
             later = omega arith;
             position = record { aligned = omega arith; limit = omega arith };
@@ -153,7 +146,7 @@ module _ (C start : ℕ) where
             message = subst (λ c. IsMessage c (blank type_id n)) (sym cap) claimable.message;
             new_tail = subst (λ c. new ≡ end_after c old (span n)) (sym cap) claimable.new_tail;
             view = λ i. with_claim (fresh (sym cap i) old type_id n) new v;
-            behind = end_below s.words s.views r id v at old old_is;
+            behind = end_below C start s.words s.views r id v at old old_is;
           },
         ),
       )

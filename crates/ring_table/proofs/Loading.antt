@@ -10,14 +10,14 @@ use Rattle.ring_table.specs.Owners.{OwnedHistory, all_of}
 use Rattle.ring_table.specs.Passing.{IsSettled}
 use Rattle.ring_table.specs.Services.{times_drawn, once_below}
 use Rattle.ring_table.specs.Views.{View, Wanted, logged, with_producer, with_tail, with_head}
-use Rattle.ring_table.specs.Rule.{Knows, Kept}
-use Rattle.ring_table.specs.ProducerSteps.{Mine, LoadsTail, LoadsHead, HasClaim, LoadsOwn}
+use Rattle.ring_table.specs.Rule.{Knows, Kept, shares_of}
+use Rattle.ring_table.specs.ProducerSteps.{Mine, EndBelow, LoadsTail, LoadsHead, HasClaim, LoadsOwn}
 use Rattle.ring_table.proofs.StagedPlaces.{capacity_aligned, start_aligned, lies_in, LiesIn, end_aligned, places_aligned, word_of_claim}
 use Rattle.ring_table.proofs.StagedWords.{staged_word-stored}
 use Rattle.ring_table.proofs.Histories.{owned_at}
 use Rattle.ring_table.proofs.OwnerLemmas.{rising_owned_by}
 use Rattle.ring_table.proofs.ReachLemmas.{not_passed}
-use Rattle.ring_table.proofs.Sums.{set_own}
+use Rattle.ring_table.proofs.Sums.{set_own, total-least}
 use Rattle.ring_table.proofs.Seating.{sole_sees_top, sees_top_after, knows_seeing, reseated}
 use Rattle.ring_table.proofs.Memories.{head_bounds}
 
@@ -55,6 +55,13 @@ module _ (C start : ℕ) where
   sees words views r id i v at tail head log later t h =
       looked words views r id i v _ at (knows_seeing (staged_end start (all_of r.hist)) r.hist r.reader r.consumer r.drawn id v (r.seated.each id v at) tail head log t h) refl later (λ x. refl)
 
+  -- the claims of a view end at or below the tail
+  pub end_below : (words : List ℕ) (views : List View) (r : Kept C start words views) (id : ℕ) (v : View) → get_elem? views id ≡ some v → (old : ℕ) → old ≡ staged_end start (all_of r.hist) → EndBelow old v.producer.claims
+  end_below words views r id v at old old_is k c has =
+      let own = owned_at id r.hist k c (subst (λ l. get_elem? l k ≡ some c) (r.seated.each id v at).claims has) in
+      let below = (lies_in C start r.hist own.0 (id, c) r.memory.placed own.1).below in
+      omega arith
+
   pub loads_tail : (slots id : ℕ) (me : Mine) → me.0.capacity ≡ C → Allows Ok slots id me (tail_index C) (λ n. n) (λ n me'. (me'.1 ≡ me.1) × LoadsTail me.0.capacity me.0 n me'.0)
   loads_tail slots id me cap s r wide at small =
       let v : View = me.0 in
@@ -82,6 +89,8 @@ module _ (C start : ℕ) where
             position = record { aligned = omega arith; limit = omega arith };
             sole = λ all. is ∙ sym (sole_sees_top s.views id v top r.seated.shares r.seated.latest at all);
             rising = subst AreRising (sym k.claims) (rising_owned_by C start id r.hist r.memory.placed);
+            behind = end_below s.words s.views r id v at n is;
+            shares = subst (λ z. v.producer.shares ≤ z) r.seated.shares (total-least shares_of s.views id v at);
           },
         ),
       )

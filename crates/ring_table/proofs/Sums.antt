@@ -58,6 +58,17 @@ module _ {A : Type 0} where
         let done : f x + all ≡ f x + front + back = omega arith in
         done
 
+    -- one entry's value is in the sum
+    pub total-least : (l : List A) (id : ℕ) (v : A) → get_elem? l id ≡ some v → f v ≤ total f l
+    total-least [] id v at = absurd (some-ne-none v (sym at))
+    total-least (x ∷ xs) zero v at =
+        let same : f x ≡ f v = ap f (some-injective x v at) in
+        let rest : ℕ = total f xs in
+        omega arith
+    total-least (x ∷ xs) (suc id) v at =
+        let deeper : f v ≤ total f xs = total-least xs id v at in
+        omega arith
+
     pub total-zero : (l : List A) (j : ℕ) (a : A) → total f l ≡ 0 → get_elem? l j ≡ some a → f a ≡ 0
     total-zero [] j a none at = absurd (some-ne-none a (sym at))
     total-zero (x ∷ xs) zero a none at =

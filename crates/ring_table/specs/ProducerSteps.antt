@@ -24,6 +24,10 @@ pub record IsPosition (n : ℕ) : Type 0 where
 
 -- ---- tail and head
 
+-- all these claims end at or below p
+abbrev pub EndBelow : ℕ → List StagedClaim → Type 0
+EndBelow p cs = (k : ℕ) (c : StagedClaim) → get_elem? cs k ≡ some c → claim_end c ≤ p
+
 pub record LoadsTail (C : ℕ) (v : View) (n : ℕ) (w : View) : Type 0 where
   pub view : w ≡ logged (tail_index C) n (with_producer (with_tail n v.producer) v)
   pub later : v.producer.seen_tail ≤ n
@@ -31,6 +35,8 @@ pub record LoadsTail (C : ℕ) (v : View) (n : ℕ) (w : View) : Type 0 where
   pub position : IsPosition n
   pub sole : v.producer.shares ≡ 65536 → n ≡ v.producer.seen_tail
   pub rising : AreRising v.producer.claims
+  pub behind : EndBelow n v.producer.claims
+  pub shares : v.producer.shares ≤ 65536
 
 pub record LoadsHead (C : ℕ) (v : View) (n : ℕ) (w : View) : Type 0 where
   pub view : w ≡ logged (head_index C) n (with_producer (with_head n v.producer) v)
@@ -38,10 +44,6 @@ pub record LoadsHead (C : ℕ) (v : View) (n : ℕ) (w : View) : Type 0 where
   pub near : v.producer.seen_tail ≤ n + C
   pub position : IsPosition n
   pub sole : v.producer.shares ≡ 65536 → n ≤ v.producer.seen_tail
-
--- all these claims end at or below p
-abbrev pub EndBelow : ℕ → List StagedClaim → Type 0
-EndBelow p cs = (k : ℕ) (c : StagedClaim) → get_elem? cs k ≡ some c → claim_end c ≤ p
 
 -- what a claim of n bytes asks of the type id, the new tail and the head that was seen
 pub record IsClaimable (C old new : ℕ) (type_id : ℤ) (n seen_head : ℕ) : Type 0 where

@@ -1,5 +1,5 @@
 -- Why a claim is refused.
-use Rattle.std.specs.Prelude.{◌≡◌, ℕ, ◌+◌, ◌/◌, ℤ, pos, Option, Some, None, Result, Err, MatchOption, IfOk, if◌then◌else◌, nat_lt, int_lt}
+use Rattle.std.specs.Prelude.{◌≡◌, ℕ, ◌+◌, ◌/◌, ℤ, pos, Option, Some, None, Result, Err, MatchOption, IsOk, if◌then◌else◌, nat_lt, int_lt}
 use Rattle.ring_words.specs.declared.fault.ClaimFault.{ClaimFault}
 use Rattle.ring_words.specs.declared.fault.ClaimFault.TheVariants.{BadType, TooLong, PositionLimit, InsufficientCapacity}
 use Rattle.ring_layout.specs.History.{span}
@@ -20,4 +20,4 @@ refusal_of r type_id len =
 
 -- the result is the refusal, or Ok where there is none
 abbrev pub IsRefusedBy : {T : Type 0} → Option ClaimFault → Result T ClaimFault → Type 0
-IsRefusedBy refusal result = MatchOption refusal (IfOk result (λ _. Unit {0})) (λ fault. result ≡ Err fault)
+IsRefusedBy refusal result = MatchOption refusal (IsOk result) (λ fault. result ≡ Err fault)

@@ -1,0 +1,17 @@
+-- What the first producer and the consumer of a ring know.
+use Rattle.std.specs.Prelude.{ℕ}
+use Rattle.ring_table.specs.declared.view.View.{View}
+use Rattle.ring_table.specs.declared.view.Key.{Key}
+use Rattle.ring_table.specs.Views.{consumer_alone, first_view, without_consumer}
+
+-- a ring of C bytes that begins at a position
+abbrev pub key_of : ℕ → ℕ → Key
+key_of C start = record { capacity = C; start = start }
+
+-- the producer with all shares: no claims, and the start as the greatest end seen
+abbrev pub first_producer : ℕ → ℕ → View
+first_producer C start = without_consumer (first_view (key_of C start))
+
+-- the consumer at the start: it took no messages
+abbrev pub first_consumer : ℕ → ℕ → View
+first_consumer C start = consumer_alone (first_view (key_of C start))

@@ -1,0 +1,21 @@
+//! What producers say of themselves, and how they are cut in two and put together.
+ghost use Rattle.std.specs.Prelude.{◌≡◌, IfOk, OnErr};
+ghost use Rattle.ring_rings.specs.Seats.{open_claims_of, shares_of};
+
+use crate::seats::Producer;
+
+impl Producer {
+    /// How many shares of the ring it holds.
+    pub fn shares(&self) -> u32
+        ensures { result ≡ shares_of self.now }
+    {
+        self.shares
+    }
+
+    /// How many of its claims are open.
+    pub fn open_claims(&self) -> u64
+        ensures { result ≡ open_claims_of self.now }
+    {
+        self.open_claims
+    }
+}
