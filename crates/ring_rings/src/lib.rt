@@ -15,6 +15,8 @@ mod reading;
 mod room;
 mod seats;
 mod settling;
+#[cfg(test)]
+mod tests;
 
 pub use claim::Claim;
 pub use fault::{NoShares, TryFault};
