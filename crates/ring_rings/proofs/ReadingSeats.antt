@@ -17,3 +17,20 @@ pub log_more : (v w x : View) (i n : ℕ) → w ≡ record v { log = w.log } →
 log_more v w x i n rest load =
     let whole : x ≡ record v { log = w.log ++ (i, n) ∷ [] } = load ∙ ap (logged i n) rest in
     whole ∙ ap (λ (l : List (ℕ × ℕ)). record v { log = l }) (sym (ap (λ (y : View). y.log) whole))
+
+-- loads leave a consumer what its struct says of its seat
+pub record KeepsSeat (v w : View) : Type 0 where
+  pub consumes : w.consumes ≡ v.consumes
+  pub shares : w.producer.shares ≡ v.producer.shares
+  pub head : w.consumer.head ≡ v.consumer.head
+  pub cleared : w.consumer.cleared ≡ v.consumer.cleared
+  pub capacity : w.capacity ≡ v.capacity
+
+pub loads_keep : (v w : View) → w ≡ record v { log = w.log } → KeepsSeat v w
+loads_keep v w is = record {
+  consumes = ap (λ (x : View). x.consumes) is;
+  shares = ap (λ (x : View). x.producer.shares) is;
+  head = ap (λ (x : View). x.consumer.head) is;
+  cleared = ap (λ (x : View). x.consumer.cleared) is;
+  capacity = ap (λ (x : View). x.capacity) is;
+}
