@@ -91,13 +91,9 @@ impl<K> Ring<K> {
                         return self.finish(consumer, start, scan, messages, Stop::Action);
                     }
                     Action::Break => {
-                        return self.finish(
-                            consumer,
-                            start,
-                            scan + span,
-                            messages + 1,
-                            Stop::Action,
-                        );
+                        scan += span;
+                        messages += 1;
+                        return self.finish(consumer, start, scan, messages, Stop::Action);
                     }
                     Action::Commit => {
                         scan += span;
