@@ -3,6 +3,8 @@ pub mod LookLemmas
 pub mod RefusalLemmas
 pub mod CountLemmas
 pub mod MadeLemmas
+pub mod CloseLemmas
+pub mod JoinLemmas
 pub mod ReadingCopies
 pub mod ReadingSeats
 pub mod ReadingFinds

@@ -3,5 +3,7 @@ pub mod Seats
 pub mod Claiming
 pub mod Making
 pub mod Opening
+pub mod Joining
+pub mod Closing
 pub mod Reading
 pub mod ReadingSteps

@@ -28,3 +28,14 @@ impl From<ClaimFault> for TryFault {
 #[derive(Clone, Copy, Debug, PartialEq, Eq, Error)]
 #[error("12 NoShares")]
 pub struct NoShares;
+
+/// Why a ring is not closed.
+#[derive(Clone, Copy, Debug, PartialEq, Eq, Error)]
+pub enum CloseFault {
+    /// So many claims of this producer are open.
+    #[error("10 ClaimsOpen {claims}")]
+    ClaimsOpen { claims: u64 },
+    /// So many shares are with other producers.
+    #[error("11 ProducersOut {shares}")]
+    ProducersOut { shares: u32 },
+}

@@ -4,6 +4,7 @@
 mod admission;
 mod claim;
 mod claiming;
+mod closing;
 mod fault;
 mod headers;
 mod heartbeat;
@@ -19,6 +20,6 @@ mod settling;
 mod tests;
 
 pub use claim::Claim;
-pub use fault::{NoShares, TryFault};
+pub use fault::{CloseFault, NoShares, TryFault};
 pub use ring_words::{Action, ClaimFault, Handler, MakeFault, Positions, PutRange, ReadEnd, Stop};
-pub use seats::{Consumer, ManyToOne, ManyToOneRing, OneToOne, OneToOneRing, Producer, Ring};
+pub use seats::{CloseRefused, Consumer, ManyToOne, ManyToOneRing, OneToOne, OneToOneRing, Producer, Ring};

@@ -1,14 +1,16 @@
 //! The calls of a ring with any number of producers.
-ghost use Rattle.std.specs.Prelude.{◌≡◌, IfErr, IfOk};
+ghost use Rattle.std.specs.Prelude.{◌≡◌, ◌↔◌, IfErr, IfOk, IsTrue, OnErr, OnOk, is_err};
+ghost use Rattle.ring_table.specs.Views.{producer_alone, without_share};
 ghost use Rattle.ring_words.specs.Open.{ClaimAt};
 ghost use Rattle.ring_rings.specs.Claiming.{Claims, RefusesTry};
-ghost use Rattle.ring_rings.specs.Seats.{capacity_of, view_of, IsOpenClaimOf, IsProducerOf};
+ghost use Rattle.ring_rings.specs.Joining.{Joins};
+ghost use Rattle.ring_rings.specs.Seats.{capacity_of, shares_of, view_of, IsOpenClaimOf, IsProducerOf};
 
 use crate::claim::Claim;
 use crate::claiming::try_claim;
-use crate::fault::TryFault;
+use crate::fault::{NoShares, TryFault};
 use crate::seats::{ManyToOne, Producer, Ring};
-use ring_table::Wanted;
+use ring_table::{Wanted, join_producer, load_tail, split_producer};
 
 impl Ring<ManyToOne> {
     /// Makes one try to claim room for a message of `len` bytes, which are 0 until they are `put`. Several claims may be
@@ -41,5 +43,47 @@ impl Ring<ManyToOne> {
         producer.own_tail = admission.end;
         producer.open_claims += 1;
         Ok(Claim::new(self.capacity, admission.place, wanted))
+    }
+
+    /// Makes another producer with one share of this one's, without claims, draws or heartbeats read. `NoShares` where
+    /// this one holds a single share, and then it is as before.
+    pub fn split(&self, producer: &mut Producer) -> Result<Producer, NoShares>
+        requires { IsProducerOf self.now producer.old }
+        ensures producer { IsProducerOf self.now producer.new }
+        ensures refused { IsTrue (is_err result) ↔ (shares_of producer.old ≡ 1) }
+        ensures same { OnErr result (producer.new ≡ producer.old) }
+        ensures left { OnOk result (view_of producer.new ≡ without_share (view_of producer.old)) }
+        ensures right { IfOk result (λ other. IsProducerOf self.now other × (view_of other ≡ producer_alone (view_of producer.old))) }
+    {
+        if producer.shares == 1 {
+            return Err(NoShares);
+        }
+        let seat = split_producer(&self.table.shared, &mut producer.seat);
+        producer.shares -= 1;
+        Ok(Producer {
+            seat,
+            shares: 1,
+            open_claims: 0,
+            own_tail: producer.own_tail,
+        })
+    }
+
+    /// Takes another producer in, with its shares and its claims. Afterwards the tail is loaded.
+    pub fn join(&self, producer: &mut Producer, other: Producer)
+        requires producer { IsProducerOf self.now producer.old }
+        requires other { IsProducerOf self.now other }
+        ensures producer { IsProducerOf self.now producer.new }
+        ensures joined { Joins (capacity_of self.now) (view_of producer.old) (view_of other) (view_of producer.new) }
+    {
+        let Producer {
+            seat,
+            shares,
+            open_claims,
+            own_tail: _,
+        } = other;
+        join_producer(&self.table.shared, &mut producer.seat, seat);
+        producer.own_tail = load_tail(&self.table.shared, &mut producer.seat, self.capacity);
+        producer.shares += shares;
+        producer.open_claims += open_claims;
     }
 }

@@ -4,6 +4,7 @@ ghost use Rattle.ring_layout.specs.Places.{IsCapacity, max_position};
 ghost use Rattle.ring_layout.specs.Layout.{ring_words};
 ghost use Rattle.ring_rings.specs.Matching.{Matches, matches_prop};
 
+use crate::fault::CloseFault;
 use ring_table::{RingSeat, RingTable};
 use std::marker::PhantomData;
 
@@ -54,4 +55,13 @@ pub struct Consumer {
     ghost stands: { (seat.me.0.consumer.head ≡ head) × (seat.me.0.consumer.cleared ≡ head) },
     ghost whole: { (head % 8 ≡ 0) × (head ≤ max_position) },
     ghost room: { vec_len scratch ≡ seat.me.0.capacity / 8 },
+}
+
+/// A ring was not closed, and all comes back as it was.
+#[derive(Drop)]
+pub struct CloseRefused<R> {
+    pub reason: CloseFault,
+    pub ring: R,
+    pub producer: Producer,
+    pub consumer: Consumer,
 }

@@ -1,0 +1,112 @@
+-- What a closed table hands on.
+use Rattle.std.proofs.Common.{◌≡◌, ℕ, zero, suc, ◌+◌, ◌/◌, ◌%◌, ◌<◌, ◌≤◌, List, [], ◌∷◌, ◌++◌, length, get_or, slice_index, refl, sym, ap, ◌∙◌, subst, arith}
+use Rattle.std.specs.Prelude.{All}
+use Rattle.std.proofs.lemmas.List.Elements.{All-cons, All-nil}
+use mathlib.Core.Option.{some, some-injective, some-ne-none}
+use lib.ListN.{get_elem?}
+use Rattle.ring_layout.specs.declared.message.Claim.{Claim}
+use Rattle.ring_layout.specs.History.{IsMessage}
+use Rattle.ring_layout.specs.Places.{end_of}
+use Rattle.ring_layout.specs.Picture.{IsPicture}
+use Rattle.ring_layout.specs.Layout.{head_cache_index, heartbeat_index}
+use Rattle.ring_table.specs.declared.view.ProducerView.{ProducerView}
+use Rattle.ring_table.specs.declared.view.ConsumerView.{ConsumerView}
+use Rattle.ring_table.specs.Services.{AreServed, once_below, times_drawn}
+use Rattle.ring_words.specs.Ring.{Has, IsRing, Ring, ring}
+use Rattle.ring_table.specs.declared.claim.StagedClaim.{StagedClaim}
+use Rattle.ring_table.specs.declared.view.View.{View}
+use Rattle.ring_table.specs.Staged.{ArePlaced, claim_end, claims_of}
+use Rattle.ring_table.specs.Closed.{IsClosed, LeavesRest, restarted}
+use Rattle.ring_table.specs.OpenClaims.{open_count}
+use Rattle.ring_table.specs.Views.{with_consumer_of}
+use Rattle.ring_table.proofs.Memories.{head_bounds}
+use Rattle.ring_table.proofs.RestLemmas.{claims_of-restarted}
+use Rattle.ring_rings.specs.Closing.{HandsOut, Serves}
+
+pub read_at : (l : List ℕ) (i a : ℕ) → get_elem? l i ≡ some a → get_or l i 0 ≡ a
+read_at [] i a e = absurd (some-ne-none a (sym e))
+read_at (x ∷ xs) zero a e = some-injective x a e
+read_at (x ∷ xs) (suc i) a e = read_at xs i a e
+
+placed_lawful : (C e : ℕ) (cs : List StagedClaim) → ArePlaced C e cs → All (λ (c : Claim). IsMessage C c.message) (claims_of cs)
+placed_lawful C e [] placed = All-nil (λ (c : Claim). IsMessage C c.message)
+placed_lawful C e (c ∷ cs) placed = All-cons (λ (d : Claim). IsMessage C d.message) _ (claims_of cs) placed.0.message (placed_lawful C (claim_end c) cs placed.1)
+
+-- v is the view of the seat that closed the ring, and nothing of a read is cleared beyond the head
+module _ (C start : ℕ) (words : List ℕ) (v : View) (closed : IsClosed C start words v) (leaves : LeavesRest C words v) where
+  rest_has : Has (ring C words) (claims_of leaves.rest)
+  rest_has =
+      let head = closed.memory.head_is in
+      record {
+        lawful = subst (λ (h : List Claim). All (λ (c : Claim). IsMessage C c.message) h) (claims_of-restarted v.consumer.head leaves.rest) (placed_lawful C v.consumer.head (restarted v.consumer.head leaves.rest) leaves.placed);
+        ends = ap (λ (h : ℕ). end_of C h (claims_of leaves.rest)) head ∙ sym leaves.end_is;
+        picture = subst (λ (h : ℕ). IsPicture (λ i. slice_index words i) C h (claims_of leaves.rest)) (sym head) leaves.picture;
+      }
+
+  rest_is_ring : IsRing (ring C words)
+  rest_is_ring =
+      let m = closed.memory in
+      let bounds = head_bounds C start closed.lawful words v.consumer v.producer.claims m in
+      let above = bounds.1 in
+      let aligned = bounds.2 in
+      let head = m.head_is in
+      let tail = m.tail_is in
+      let room = m.room in
+      let limit = m.limit in
+      record {
+        capacity = closed.lawful.capacity;
+        length = m.wide;
+        aligned = omega arith;
+        order = omega arith;
+        room = omega arith;
+        limit = omega arith;
+        history = (claims_of leaves.rest, rest_has);
+      }
+
+  -- v is p with the consumer's part of r
+  module _ (p r : View) (both : v ≡ with_consumer_of p r) where
+    hands_out : HandsOut C p r (ring C words)
+    hands_out =
+        let head : v.consumer.head ≡ r.consumer.head = ap (λ (u : View). u.consumer.head) both in
+        record {
+          passed = leaves.taken;
+          left = leaves.rest;
+          whole = sym (ap (λ (u : View). u.producer.claims) both) ∙ leaves.whole;
+          settled = leaves.settled;
+          messages = sym (ap (λ (u : View). u.consumer.taken) both) ∙ leaves.messages;
+          placed = subst (λ (h : ℕ). ArePlaced C h (restarted h leaves.rest)) head leaves.placed;
+          capacity = refl;
+          head = closed.memory.head_is ∙ head;
+          has = rest_has;
+        }
+
+    serves : Serves C p r (ring C words)
+    serves =
+        let producer = ap (λ (u : View). u.producer) both in
+        let consumer = ap (λ (u : View). u.consumer) both in
+        record {
+          drawn = closed.drawn;
+          once = subst (λ (u : ProducerView). (x : ℕ) → times_drawn x u ≡ once_below x closed.drawn) producer closed.once;
+          served = subst (λ (u : View). AreServed closed.drawn u.consumer.heartbeats (u.producer.service ∷ u.producer.joined)) both closed.served;
+          correlation = closed.service.correlation;
+          heartbeat = subst (λ (u : ConsumerView). get_elem? (0 ∷ u.heartbeats) (length u.heartbeats) ≡ some (slice_index words (heartbeat_index C))) consumer closed.service.heartbeat;
+          cache = subst (λ (u : ConsumerView). slice_index words (head_cache_index C) ≤ u.head) consumer closed.service.cache;
+        }
+
+-- v is the view of a producer p that the consumer r was joined into, and the items are a copy of the closed table's words
+module _ (K C start : ℕ) (same : K ≡ C) (words items : List ℕ) (copied : items ≡ words) (v p r : View) (both : v ≡ with_consumer_of p r) (closed : IsClosed K start words v)
+    (leaves : open_count v.producer.claims ≡ 0 → v.consumer.cleared ≡ v.consumer.head → LeavesRest K words v) (none_open : open_count p.producer.claims ≡ 0) (none_cleared : r.consumer.cleared ≡ r.consumer.head) where
+  left : LeavesRest K words v
+  left = leaves (ap (λ (u : View). open_count u.producer.claims) both ∙ none_open) (ap (λ (u : View). u.consumer.cleared) both ∙ none_cleared ∙ sym (ap (λ (u : View). u.consumer.head) both))
+
+  carried : (P : ℕ → List ℕ → Type 0) → P K words → P C items
+  carried P t = subst (λ (k : ℕ). P k items) same (subst (P K) (sym copied) t)
+
+  pub closes_to_ring : IsRing (ring C items)
+  closes_to_ring = carried (λ k l. IsRing (ring k l)) (rest_is_ring K start words v closed left)
+
+  pub closes_with_rest : HandsOut C p r (ring C items)
+  closes_with_rest = carried (λ k l. HandsOut k p r (ring k l)) (hands_out K start words v closed left p r both)
+
+  pub closes_with_service : Serves C p r (ring C items)
+  closes_with_service = carried (λ k l. Serves k p r (ring k l)) (serves K start words v closed left p r both)

@@ -1,0 +1,53 @@
+-- What a closed ring hands out.
+use Rattle.std.specs.Prelude.{◌≡◌, ℕ, ◌-◌, ◌%◌, ◌^◌, ◌≤◌, List, [], ◌∷◌, ◌++◌, length, slice_index, Option, Some, None, Result, Err, MatchOption, IsOk, if◌then◌else◌, nat_lt, ◌==◌}
+use mathlib.Core.Option.{some}
+use lib.ListN.{get_elem?}
+use Rattle.ring_layout.specs.Layout.{correlation_index, heartbeat_index, head_cache_index}
+use Rattle.ring_words.specs.Ring.{Ring, Has, head_of}
+use Rattle.ring_table.specs.declared.claim.StagedClaim.{StagedClaim}
+use Rattle.ring_table.specs.declared.view.View.{View}
+use Rattle.ring_table.specs.Staged.{ArePlaced, claims_of}
+use Rattle.ring_table.specs.Passing.{AreSettled, placed_committed_of}
+use Rattle.ring_table.specs.Closed.{restarted}
+use Rattle.ring_table.specs.Services.{times_drawn, once_below, AreServed}
+use Rattle.ring_rings.specs.declared.fault.CloseFault.{CloseFault}
+use Rattle.ring_rings.specs.declared.fault.CloseFault.TheVariants.{ClaimsOpen, ProducersOut}
+use Rattle.ring_rings.specs.declared.seats.CloseRefused.{CloseRefused}
+use Rattle.ring_rings.specs.declared.seats.Producer.{Producer}
+use Rattle.ring_rings.specs.declared.seats.Consumer.{Consumer}
+
+-- why a producer with so many open claims and shares does not close a ring, in the order of the tests
+abbrev pub close_refusal_of : ℕ → ℕ → Option CloseFault
+close_refusal_of open_claims shares =
+    if nat_lt 0 open_claims then Some (ClaimsOpen open_claims)
+    else (if shares == 65536 then None
+    else Some (ProducersOut (65536 - shares)))
+
+-- ring, producer and consumer come back with the reason
+abbrev pub kept_open : {R : Type 0} → R → Producer → Consumer → CloseFault → CloseRefused R
+kept_open ring producer consumer reason = record { reason = reason; ring = ring; producer = producer; consumer = consumer }
+
+-- the result is this error for the refusal, or Ok where there is none
+abbrev pub IsRefusedAs : {T E F : Type 0} → (F → E) → Option F → Result T E → Type 0
+IsRefusedAs error refusal result = MatchOption refusal (IsOk result) (λ fault. result ≡ Err (error fault))
+
+-- The producer p has all claims of the ring and r was its consumer. The first claims are settled, and the messages that r took are the committed ones among them, with their places. The others are a history that the rest has, at the same places
+pub record HandsOut (C : ℕ) (p r : View) (rest : Ring) : Type 0 where
+  pub passed : List StagedClaim
+  pub left : List StagedClaim
+  pub whole : p.producer.claims ≡ passed ++ left
+  pub settled : AreSettled passed
+  pub messages : r.consumer.taken ≡ placed_committed_of passed
+  pub placed : ArePlaced C r.consumer.head (restarted r.consumer.head left)
+  pub capacity : rest.capacity ≡ C
+  pub head : head_of rest ≡ r.consumer.head
+  pub has : Has rest (claims_of left)
+
+-- The numbers below some number were drawn, each once, and each producer's heartbeats are entries of those stored. The words of both services follow from that
+pub record Serves (C : ℕ) (p r : View) (rest : Ring) : Type 0 where
+  pub drawn : ℕ
+  pub once : (x : ℕ) → times_drawn x p.producer ≡ once_below x drawn
+  pub served : AreServed drawn r.consumer.heartbeats (p.producer.service ∷ p.producer.joined)
+  pub correlation : slice_index rest.words (correlation_index C) ≡ drawn % 2 ^ 64
+  pub heartbeat : get_elem? (0 ∷ r.consumer.heartbeats) (length r.consumer.heartbeats) ≡ some (slice_index rest.words (heartbeat_index C))
+  pub cache : slice_index rest.words (head_cache_index C) ≤ r.consumer.head

@@ -1,0 +1,14 @@
+-- Two producers put together.
+use Rattle.std.specs.Prelude.{◌≡◌, ℕ, ◌≤◌, [], ◌∷◌}
+use Rattle.ring_layout.specs.Layout.{tail_index}
+use Rattle.ring_table.specs.declared.view.View.{View}
+use Rattle.ring_table.specs.Views.{with_producer_of}
+use Rattle.ring_rings.specs.Claiming.{looked}
+
+-- u has what v and w had, and a tail was loaded that is below neither end that they have seen
+pub record Joins (C : ℕ) (v w u : View) : Type 0 where
+  pub tail : ℕ
+  pub head : ℕ
+  pub view : u ≡ looked ((tail_index C, tail) ∷ []) tail head (with_producer_of v w)
+  pub later : v.producer.seen_tail ≤ tail
+  pub later_too : w.producer.seen_tail ≤ tail
