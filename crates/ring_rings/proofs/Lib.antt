@@ -8,3 +8,10 @@ pub mod JoinLemmas
 pub mod PutLemmas
 pub mod BodyLemmas
 pub mod MergeLemmas
+pub mod ReadingCopies
+pub mod ReadingSeats
+pub mod ReadingFinds
+pub mod ReadingRuns
+pub mod ReadingEnds
+pub mod ReadingHeeds
+pub mod ReadingTurns

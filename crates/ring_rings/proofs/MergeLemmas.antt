@@ -54,8 +54,7 @@ module _ (C place offset done count k byte nth : ℕ) (v0 v : View) (c0 : Staged
       let more : overwritten (8 * k + byte) chunk now.message.body ≡ overwritten offset (take (done + count) bytes) b0 =
       ap (λ n. overwritten n chunk now.message.body) k_is ∙ overwritten_more offset done chunk bytes b0 room (omega arith) is ∙ ap (λ n. overwritten offset (take (done + n) bytes) b0) size in
       let there_index : index v.capacity (now.place + 8 + 8 * k) ≡ index C (place + 8 + 8 * k) = ap (λ n. index n (now.place + 8 + 8 * k)) cap ∙ ap (λ n. index C (n + 8 + 8 * k)) at_place in
-      let t = merges nth now k has is_open there_index (omega arith) in
-      (
+      let t = merges nth now k has is_open there_index (omega arith) in (
         t.0 ∙ ap (λ l. from_le_bytes w64 (drop (8 * k) l)) more,
         subst (λ (l : List ℕ). (j : ℕ) → 8 * k ≤ j → j < 8 * k + 8 → slice_index l j < 256) more t.1,
       )

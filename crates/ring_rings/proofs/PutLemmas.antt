@@ -14,7 +14,7 @@ use Rattle.ring_table.specs.Staged.{AreAbove, AreRising}
 use Rattle.ring_table.specs.Changes.{changed, changed_at, with_word}
 use Rattle.ring_table.specs.Views.{with_claims}
 use Rattle.ring_table.specs.ProducerSteps.{HasClaimAt}
-use Rattle.ring_table.proofs.BodyWords.{length-with_word} 
+use Rattle.ring_table.proofs.BodyWords.{length-with_word}
 use Rattle.ring_table.proofs.BodyWords as word
 use Rattle.ring_table.proofs.Histories.{changed_at_place, changed_at_other}
 use Rattle.ring_table.proofs.LawLemmas.{changed_none}

@@ -6,3 +6,5 @@ pub mod Opening
 pub mod Joining
 pub mod Closing
 pub mod Bodies
+pub mod Reading
+pub mod ReadingSteps

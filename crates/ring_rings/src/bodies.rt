@@ -51,11 +51,7 @@ fn merged_word(
     if bytes.len() == 8 {
         return first_word(bytes);
     }
-    put_bytes_word(
-        load_own_word(words, seat, capacity, position),
-        at,
-        bytes,
-    )
+    put_bytes_word(load_own_word(words, seat, capacity, position), at, bytes)
 }
 
 /// Puts bytes into an open claim, from the byte `offset` of its body on.

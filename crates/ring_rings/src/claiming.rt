@@ -56,10 +56,7 @@ pub(crate) fn try_claim(
     match find_room(words, seat, capacity, admission) {
         Ok(()) => {}
         Err(Shortage::Full { head }) => {
-            return Err(TryFault::Refused(ClaimFault::InsufficientCapacity {
-                tail,
-                head,
-            }));
+            return Err(TryFault::Refused(ClaimFault::InsufficientCapacity { tail, head }));
         }
         Err(Shortage::Passed { seen }) => return Err(TryFault::Contended { tail, seen }),
     }

@@ -8,15 +8,21 @@ mod claiming;
 mod closing;
 mod fault;
 mod headers;
+mod heartbeat;
 mod making;
 mod many_to_one;
 mod one_to_one;
 mod producer;
+mod reading;
 mod room;
 mod seats;
 mod settling;
+#[cfg(test)]
+mod tests;
 
 pub use claim::Claim;
 pub use fault::{CloseFault, NoShares, TryFault};
 pub use ring_words::{Action, ClaimFault, Handler, MakeFault, Positions, PutRange, ReadEnd, Stop};
-pub use seats::{CloseRefused, Consumer, ManyToOne, ManyToOneRing, OneToOne, OneToOneRing, Producer, Ring};
+pub use seats::{
+    CloseRefused, Consumer, ManyToOne, ManyToOneRing, OneToOne, OneToOneRing, Producer, Ring,
+};

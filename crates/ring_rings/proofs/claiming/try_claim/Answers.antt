@@ -35,7 +35,7 @@ returns-in-Err-Full-clause-told c =
     let found = subst (λ s. FindsShortage c.args.capacity a.tail a.end s before after) c.in-Err-Full.field-0-is c.in-Err-Full.ensures.found in
     let admitted = c.in_ok-admission.ensures.admitted in
     rw c.in-Err-Full.head-is (inr (inr (full_behind c.args.capacity c.args.wanted.type_id c.args.wanted.len c.load_tail-tail.result c.args.seat.now.me.0 before after
-        (search rules) c.load_tail-tail.ensures.told a.end c.in-Err-Full.head admitted.end (subst (λ t. FindsNoRoom c.args.capacity t a.end c.in-Err-Full.head before after) admitted.tail_is found))))
+    (search rules) c.load_tail-tail.ensures.told a.end c.in-Err-Full.head admitted.end (subst (λ t. FindsNoRoom c.args.capacity t a.end c.in-Err-Full.head before after) admitted.tail_is found))))
 
 pub returns-then-seen-tail-clause-told : goal.returns-then-seen-tail-clause-told
 returns-then-seen-tail-clause-told c =

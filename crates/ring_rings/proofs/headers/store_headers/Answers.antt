@@ -15,7 +15,7 @@ store_claimed_header-requires-clause-claim c =
     let n = h.newest in
     let padded = c.store_padding.ensures.padded c.args.wanted.len h.others h.claim n in
     has_last c.store_padding.new.seat.me.0 h.others (staged Padded h.claim) (ap (λ (v : View). v.producer.claims) padded) c.args.admission.place n.place_is (NeedsHeader c.args.wanted.len)
-        (record { stage = refl; same_span = n.span_is })
+    (record { stage = refl; same_span = n.span_is })
 
 pub returns-clause-opened : goal.returns-clause-opened
 returns-clause-opened c cs d n =

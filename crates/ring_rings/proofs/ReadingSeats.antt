@@ -1,0 +1,36 @@
+-- Seats from step to step.
+use Rattle.std.proofs.Common.{◌≡◌, ℕ, List, [], ◌∷◌, ◌++◌, refl, sym, ap, ◌∙◌}
+use Rattle.atomic_table.specs.declared.shared.Seat.{Seat}
+use Rattle.ring_table.specs.declared.view.View.{View}
+use Rattle.ring_table.specs.declared.view.Wanted.{Wanted}
+use Rattle.ring_table.specs.Views.{logged}
+use Rattle.ring_table.specs.Seats.{IsSameSeat}
+
+pub same_none : (s : Seat Wanted View) → IsSameSeat s s
+same_none s = record { table = refl; id = refl; slots = refl; capacity = refl }
+
+pub same_more : (a b c : Seat Wanted View) → IsSameSeat a b → IsSameSeat b c → IsSameSeat a c
+same_more a b c p q = record { table = q.table ∙ p.table; id = q.id ∙ p.id; slots = q.slots ∙ p.slots; capacity = q.capacity ∙ p.capacity }
+
+-- loads one after another
+pub log_more : (v w x : View) (i n : ℕ) → w ≡ record v { log = w.log } → x ≡ logged i n w → x ≡ record v { log = x.log }
+log_more v w x i n rest load =
+    let whole : x ≡ record v { log = w.log ++ (i, n) ∷ [] } = load ∙ ap (logged i n) rest in
+    whole ∙ ap (λ (l : List (ℕ × ℕ)). record v { log = l }) (sym (ap (λ (y : View). y.log) whole))
+
+-- loads leave a consumer what its struct says of its seat
+pub record KeepsSeat (v w : View) : Type 0 where
+  pub consumes : w.consumes ≡ v.consumes
+  pub shares : w.producer.shares ≡ v.producer.shares
+  pub head : w.consumer.head ≡ v.consumer.head
+  pub cleared : w.consumer.cleared ≡ v.consumer.cleared
+  pub capacity : w.capacity ≡ v.capacity
+
+pub loads_keep : (v w : View) → w ≡ record v { log = w.log } → KeepsSeat v w
+loads_keep v w is = record {
+  consumes = ap (λ (x : View). x.consumes) is;
+  shares = ap (λ (x : View). x.producer.shares) is;
+  head = ap (λ (x : View). x.consumer.head) is;
+  cleared = ap (λ (x : View). x.consumer.cleared) is;
+  capacity = ap (λ (x : View). x.capacity) is;
+}

@@ -1,0 +1,67 @@
+//! Loads of a running read.
+ghost use Rattle.std.specs.Prelude.{◌≡◌, ◌≢◌, ℕ, ◌+◌, ◌*◌, ◌/◌, ◌<◌, ◌≤◌, List, [], ◌∷◌, ◌++◌, length, take, All, true};
+ghost use Rattle.std.specs.Int.{to_le_bytes, w64};
+ghost use Rattle.ring_layout.specs.History.{overwritten};
+ghost use Rattle.ring_layout.specs.Places.{max_position};
+ghost use Rattle.ring_table.specs.declared.claim.PlacedMessage.{PlacedMessage};
+ghost use Rattle.ring_table.specs.Seats.{IsSameSeat, IsSeatOf};
+ghost use Rattle.ring_table.specs.ConsumerSteps.{LoadsHeader};
+ghost use Rattle.ring_rings.specs.ReadingSteps.{CopiesBody, HasGotLast, IsAt, OnlyLoads};
+
+use ring_layout::record_descriptor::HEADER_LENGTH;
+use ring_table::{RingSeat, SharedRing, load_body_word, load_first_header, load_next_header};
+
+/// Loads the header at `scan`, where a read has come to.
+pub(super) fn load_header(
+    ring: &SharedRing,
+    seat: &mut RingSeat,
+    capacity: u32,
+    head: u64,
+    scan: u64,
+) -> u64
+    requires seat { IsSeatOf ring.now.table_id ring.now.key capacity seat.old }
+    requires consumes { seat.old.me.0.consumes ≡ true }
+    requires stands { (seat.old.me.0.consumer.head ≡ head) × (seat.old.me.0.consumer.cleared ≡ head) }
+    requires at { (got : List PlacedMessage) × IsAt scan got seat.old.me.0 }
+    requires near { scan < head + capacity }
+    ensures seat { IsSameSeat seat.old seat.new }
+    ensures told { (got : List PlacedMessage) → IsAt scan got seat.old.me.0 → LoadsHeader capacity scan got seat.old.me.0 result seat.new.me.0 }
+{
+    if scan == head {
+        load_first_header(ring, seat, capacity, head)
+    } else {
+        load_next_header(ring, seat, capacity, scan)
+    }
+}
+
+/// Writes the bytes of a word over those from `at` on.
+fn put_word(bytes: &mut [u8], at: usize, word: u64)
+    requires { at + 8 ≤ length bytes.old }
+    ensures { bytes.new ≡ overwritten at (to_le_bytes w64 word) bytes.old }
+{
+    bytes[at..at + 8].copy_from_slice(&word.to_le_bytes());
+}
+
+/// Copies the body of the message that the read got last to the front of the scratch.
+pub(super) fn load_body(
+    ring: &SharedRing,
+    seat: &mut RingSeat,
+    capacity: u32,
+    place: u64,
+    len: usize,
+    scratch: &mut [u8],
+)
+    requires seat { IsSeatOf ring.now.table_id ring.now.key capacity seat.old }
+    requires consumes { seat.old.me.0.consumes ≡ true }
+    requires place { (seat.old.me.0.consumer.cleared ≤ place) × (place ≤ max_position) }
+    requires room { (length scratch.old ≡ capacity / 8) × (len ≤ capacity / 8) }
+    ensures seat { IsSameSeat seat.old seat.new }
+    ensures rest { OnlyLoads seat.old.me.0 seat.new.me.0 }
+    ensures copies { (m : PlacedMessage) → HasGotLast m seat.old.me.0 → m.place ≡ place → length m.message.body ≡ len → CopiesBody capacity m seat.old.me.0 scratch.new seat.new.me.0 }
+{
+    let first = place + HEADER_LENGTH as u64;
+    for k in 0..len.div_ceil(8) {
+        let word = load_body_word(ring, seat, capacity, first + 8 * k as u64);
+        put_word(scratch, 8 * k, word);
+    }
+}
