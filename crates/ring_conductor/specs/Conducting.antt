@@ -46,8 +46,21 @@ IsConductorOf ring board values c = IsConsumerOf ring c.consumer × IsTransmitte
 abbrev pub conductor_of : Consumer → Transmitter → CountersManager → Conductor
 conductor_of consumer transmitter counters = record { consumer = consumer; transmitter = transmitter; counters = counters }
 
+abbrev pub consumer_of : Conductor → Consumer
+consumer_of c = c.consumer
+
+abbrev pub transmitter_of : Conductor → Transmitter
+transmitter_of c = c.transmitter
+
 abbrev pub counters_of : Conductor → CountersManager
 counters_of c = c.counters
+
+-- all else is as it was
+abbrev pub with_transmitter : Conductor → Transmitter → Conductor
+with_transmitter c transmitter = conductor_of c.consumer transmitter c.counters
+
+abbrev pub with_counters : Conductor → CountersManager → Conductor
+with_counters c counters = conductor_of c.consumer c.transmitter counters
 
 -- no counter was ever used, and no value written
 abbrev pub AreUnused : CountersManager → Type 0

@@ -9,6 +9,7 @@ mod faults;
 mod fields;
 mod handling;
 mod laws;
+mod listening;
 mod replies;
 mod serving;
 mod working;
