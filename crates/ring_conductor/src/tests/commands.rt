@@ -2,7 +2,8 @@ ghost use Rattle.std.specs.Prelude.{◌≡◌};
 ghost use Rattle.ring_rings.specs.Seats.{IsProducerOf};
 ghost use Rattle.ring_board.specs.Seats.{IsReceiverOf};
 
-use crate::{Conductor, Reply, Work, WorkStop, decode_reply};
+use super::boards::finished;
+use crate::{Conductor, FinishFault, Reply, Work, WorkStop, decode_reply};
 use ring_board::{Board, CopyReceiver};
 use ring_counters::CountersManager;
 use ring_rings::{ManyToOneRing, Producer, TryFault};
@@ -81,6 +82,10 @@ fn gives_a_freed_id_again_once_it_is_due(rt: HostRuntime) -> Result<(), Fail> {
     assert_eq!(rt; heard(&board, &mut listener), Some((40, refused(19))));
     assert_eq!(rt; heard(&board, &mut listener), Some((64, allocated(0))));
     assert_eq!(rt; heard(&board, &mut listener), None);
+    conductor.join_receiver(&board, listener);
+    let finished = finished(ring, board, values, conductor, producer)?;
+    assert_eq!(rt; finished.received, 4);
+    assert_eq!(rt; finished.board.latest(), 64);
     Ok(())
 }
 
@@ -109,5 +114,10 @@ fn refuses_by_number_and_changes_nothing(rt: HostRuntime) -> Result<(), Fail> {
     assert_eq!(rt; heard(&board, &mut listener), Some((72, short)));
     assert_eq!(rt; heard(&board, &mut listener), Some((96, refused(23))));
     assert_eq!(rt; conductor.counters().state(0), Ok(0));
+    let early = finished(ring, board, values, conductor, producer);
+    assert_eq!(rt;
+        early.err(),
+        Some(FinishFault::ReceiversOut { receivers: 1 })
+    );
     Ok(())
 }
