@@ -7,3 +7,4 @@ pub mod Written
 pub mod FoldLemmas
 pub mod WorkLemmas
 pub mod FinishLemmas
+pub mod RunLemmas

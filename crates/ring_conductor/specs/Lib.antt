@@ -11,3 +11,4 @@ pub mod Applying
 pub mod Serving
 pub mod Conducting
 pub mod Finishing
+pub mod Running

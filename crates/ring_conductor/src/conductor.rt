@@ -41,3 +41,12 @@ pub struct Work {
     pub messages: u64,
     pub stopped: WorkStop,
 }
+
+/// A call of `do_work` to be made.
+#[derive(Clone, Copy, Debug, PartialEq, Eq)]
+pub struct Cycle {
+    /// The moment, in milliseconds and at most 2^62.
+    pub now: u64,
+    /// How many commands it may take.
+    pub limit: u32,
+}

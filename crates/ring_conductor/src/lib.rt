@@ -13,13 +13,14 @@ mod handling;
 mod laws;
 mod listening;
 mod replies;
+mod running;
 mod serving;
 mod working;
 
 pub use commands::Command;
 pub use commands::decode::decode_command;
 pub use commands::encode::encode_command;
-pub use conductor::{Conductor, Work, WorkStop};
+pub use conductor::{Conductor, Cycle, Work, WorkStop};
 pub use faults::Bad;
 pub use finish_fault::{FinishFault, FinishRefused};
 pub use finishing::{Finished, finish};

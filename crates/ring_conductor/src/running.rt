@@ -1,0 +1,41 @@
+//! The conductor at work for several cycles.
+
+ghost use Rattle.std.specs.Prelude.{◌≡◌, ◌^◌, ◌≤◌, All};
+ghost use Rattle.ring_conductor.specs.declared.conductor.WorkStop.TheVariants.{Limit};
+ghost use Rattle.ring_conductor.specs.Conducting.{IsConductorOf, ledger_of, ring_view, value_shares_of};
+ghost use Rattle.ring_conductor.specs.Running.{Runs};
+
+use crate::conductor::{Conductor, Cycle, Work, WorkStop};
+use ring_board::Board;
+use ring_counters::CounterValues;
+use ring_rings::Ring;
+
+impl Conductor {
+    /// Calls `do_work` for each cycle, up to one that comes to the board's end. It gives the sum of the messages and the last
+    /// stop; without a cycle 0 and `Limit`.
+    pub fn run<K>(
+        &mut self,
+        ring: &Ring<K>,
+        board: &Board,
+        values: &CounterValues,
+        cycles: &[Cycle],
+    ) -> Work
+        requires conductor { IsConductorOf ring.now board.now values.now self.old }
+        requires moments { All (λ cycle. cycle.now ≤ 2 ^ 62) cycles.now }
+        ensures conductor { IsConductorOf ring.now board.now values.now self.new }
+        ensures runs { Runs cycles.now Limit (ring_view self.old) (ring_view self.new) (ledger_of self.old) (ledger_of self.new) result }
+        ensures value_shares { value_shares_of self.new ≡ value_shares_of self.old }
+    {
+        let mut messages = 0;
+        let mut stopped = WorkStop::Limit;
+        for cycle in cycles {
+            let work = self.do_work(ring, board, values, cycle.now, cycle.limit);
+            messages += work.messages;
+            stopped = work.stopped;
+            if let WorkStop::BoardEnd = work.stopped {
+                return Work { messages, stopped };
+            }
+        }
+        Work { messages, stopped }
+    }
+}
