@@ -16,6 +16,7 @@ mod producer;
 mod reading;
 mod room;
 mod seats;
+mod service;
 mod settling;
 #[cfg(test)]
 mod tests;
