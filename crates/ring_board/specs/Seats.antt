@@ -11,6 +11,7 @@ use Rattle.ring_board.specs.declared.seats.Begun.{Begun}
 use Rattle.ring_board.specs.declared.seats.Filled.{Filled}
 use Rattle.ring_board.specs.declared.seats.BeginRefused.{BeginRefused}
 use Rattle.ring_board.specs.declared.seats.CopyReceiver.{CopyReceiver}
+use Rattle.ring_board.specs.declared.seats.Receiver.{Receiver}
 use Rattle.ring_board.specs.declared.seats.Copied.{Copied}
 use Rattle.ring_board.specs.declared.view.Taken.{Taken}
 use Rattle.ring_board.specs.declared.fault.Lapped.{Lapped}
@@ -114,3 +115,26 @@ lapped_count_of r = r.seat.me.0.count
 abbrev pub Received : CopyReceiver → CopyReceiver → Result (Option Copied) Lapped → Type 0
 Received old new result = MatchResult result (λ o. MatchOption o (GotNothing (receiver_seat old) (receiver_seat new)) (λ c. GotCopy c.place c.type_id c.body.now (receiver_seat old) (receiver_seat new)))
     (λ l. GotLapped l (receiver_seat old) (receiver_seat new))
+
+-- Raw receivers ------------------------------------------------------------
+
+abbrev pub IsRawOf : Board → Receiver → Type 0
+IsRawOf board r = (r.seat.table_id ≡ board.table.shared.table_id) × IsViewOf board r.seat.me.0
+
+-- what the receiver knows, with the slots of its seat, which has none
+abbrev pub raw_seat : Receiver → Sat
+raw_seat r = r.seat.me
+
+abbrev pub raw_view : Receiver → View
+raw_view r = r.seat.me.0
+
+-- where the receiver subscribed
+abbrev pub raw_subscribed_at : Receiver → ℕ
+raw_subscribed_at r = r.seat.me.0.from
+
+-- the records that it answered, each with the body that the transmitter gave it
+abbrev pub answered_by : Receiver → List Taken
+answered_by r = r.seat.me.0.copies
+
+abbrev pub raw_lapped_count_of : Receiver → ℕ
+raw_lapped_count_of r = r.seat.me.0.count

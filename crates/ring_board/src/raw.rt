@@ -1,0 +1,65 @@
+//! Raw receivers.
+ghost use Rattle.std.specs.Prelude.{◌≡◌, ℕ, ◌+◌, IfOk, OnErr};
+
+use crate::fault::NoShares;
+use crate::seats::{Board, Receiver, Transmitter};
+
+impl Board {
+    ghost use Rattle.ring_board.specs.Runs.{AreRuns};
+    ghost use Rattle.ring_board.specs.Steps.{fewer, newcomer, joined};
+    ghost use Rattle.ring_board.specs.Refusals.{raw_refusal_of, IsRefusedBy};
+    ghost use Rattle.ring_board.specs.Seats.{view_of, shares_of, transmitted, IsTransmitterOf, IsRawOf, raw_view, raw_subscribed_at, answered_by};
+
+    /// Makes a raw receiver, which starts with the record at latest, with one share of the transmitter's. It takes no
+    /// memory. `NoShares` where the transmitter has one share, which is then as before.
+    pub fn subscribe_raw(&self, transmitter: &mut Transmitter) -> Result<Receiver, NoShares>
+        requires { IsTransmitterOf self.now transmitter.old }
+        ensures board { IsTransmitterOf self.now transmitter.new }
+        ensures refused { IsRefusedBy (raw_refusal_of (shares_of transmitter.old)) result }
+        ensures same { OnErr result (transmitter.new ≡ transmitter.old) }
+        ensures receiver { IfOk result (λ r. IsRawOf self.now r × (raw_view r ≡ newcomer (view_of transmitter.old))) }
+        ensures transmitter { IfOk result (λ _. view_of transmitter.new ≡ fewer (view_of transmitter.old)) }
+    {
+        if transmitter.shares <= 1 {
+            return Err(NoShares);
+        }
+        let place = self.learn(&mut transmitter.seat);
+        let seat = self.split_off(&mut transmitter.seat);
+        transmitter.shares -= 1;
+        Ok(Receiver {
+            seat,
+            place,
+            count: 0,
+        })
+    }
+
+    /// Takes a raw receiver back, with its share. The records that it answered are runs of the transmitted list.
+    pub fn join_raw(&self, transmitter: &mut Transmitter, receiver: Receiver)
+        requires transmitter { IsTransmitterOf self.now transmitter.old }
+        requires receiver { IsRawOf self.now receiver }
+        ensures board { IsTransmitterOf self.now transmitter.new }
+        ensures view { view_of transmitter.new ≡ joined (view_of transmitter.old) (raw_view receiver) }
+        ensures shares { shares_of transmitter.new ≡ shares_of transmitter.old + 1 }
+        ensures runs { AreRuns (transmitted transmitter.old) (raw_subscribed_at receiver) (answered_by receiver) }
+    {
+        let Receiver {
+            seat,
+            place: _,
+            count: _,
+        } = receiver;
+        self.take_in(&mut transmitter.seat, seat);
+        self.learn(&mut transmitter.seat);
+        transmitter.shares += 1;
+    }
+}
+
+impl Receiver {
+    ghost use Rattle.ring_board.specs.Seats.{raw_lapped_count_of};
+
+    /// How often the receiver was lapped.
+    pub fn lapped_count(&self) -> u64
+        ensures { result ≡ raw_lapped_count_of self.now }
+    {
+        self.count
+    }
+}
