@@ -12,7 +12,7 @@ use Rattle.ring_layout.specs.History.{IsMessage}
 use Rattle.ring_layout.specs.Headers.{padding_header, padding_type}
 use Rattle.ring_layout.proofs.HeaderLemmas.{type_of-header, fits_pos}
 use Rattle.ring_layout.proofs.WordBytes.{from_le_bytes-same}
-use Rattle.ring_board.specs.Records.{first_words, words_of, word_count, bytes_of, announced, body_len, message_in, header_of}
+use Rattle.ring_board.specs.Records.{first_words, words_of, word_count, bytes_of, announced, body_len, message_in, message_of, header_of}
 
 -- Words --------------------------------------------------------------------
 
@@ -89,11 +89,15 @@ module _ (C : ℕ) (m : Message) (narrow : C ≤ 2 ^ 24) (lawful : IsMessage C m
       (λ h. let past = get_or_past m.body i 0 h in
       omega arith) (cases_lt i (length m.body))) (omega arith)
 
+  -- a message is the one that its header announces, with its body
+  pub message_whole : message_of (header_of m) m.body ≡ m
+  message_whole = let s = lawful.short in
+      let t = type_of-header (pos (8 + length m.body)) m.type_id (fits_pos (8 + length m.body) (omega arith)) lawful.type_fits in
+      λ i. record { type_id = t i; body = m.body }
+
   -- a message is the one that its header and words hold
   pub message_back : message_in (header_of m) (words_of m.body) ≡ m
-  message_back = let s = lawful.short in
-      let t = type_of-header (pos (8 + length m.body)) m.type_id (fits_pos (8 + length m.body) (omega arith)) lawful.type_fits in
-      λ i. record { type_id = t i; body = bytes_back i }
+  message_back = ap (message_of (header_of m)) bytes_back ∙ message_whole
 
 pub announced_padding : (n : ℕ) → n < 2 ^ 31 → announced (padding_header n) ≡ n
 announced_padding n lt = mod_low (cast_unsigned w32 padding_type) 32 n (omega arith)

@@ -12,3 +12,4 @@ pub mod ValidateLemmas
 pub mod ReceiveLemmas
 pub mod PassLemmas
 pub mod FoundLemmas
+pub mod RawLemmas

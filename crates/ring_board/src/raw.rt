@@ -1,8 +1,8 @@
 //! Raw receivers.
-ghost use Rattle.std.specs.Prelude.{◌≡◌, ℕ, ◌+◌, IfOk, OnErr};
+ghost use Rattle.std.specs.Prelude.{◌≡◌, ◌==◌, ℕ, ◌+◌, IfOk, OnErr, MatchResult, MatchOption};
 
-use crate::fault::NoShares;
-use crate::seats::{Board, Receiver, Transmitter};
+use crate::fault::{Lapped, NoShares};
+use crate::seats::{Board, RawRecord, Receiver, Transmitter};
 
 impl Board {
     ghost use Rattle.ring_board.specs.Runs.{AreRuns};
@@ -54,12 +54,73 @@ impl Board {
 }
 
 impl Receiver {
-    ghost use Rattle.ring_board.specs.Seats.{raw_lapped_count_of};
+    ghost use Rattle.ring_board.specs.declared.seats.RawRecord.{RawRecord};
+    ghost use Rattle.ring_board.specs.Receiving.{GotNothing, GotRecord, GotLapped};
+    ghost use Rattle.ring_board.specs.Seats.{IsRawOf, IsAnswered, raw_seat, raw_view, raw_lapped_count_of};
 
     /// How often the receiver was lapped.
     pub fn lapped_count(&self) -> u64
         ensures { result ≡ raw_lapped_count_of self.now }
     {
         self.count
+    }
+
+    /// Answers the next record unread, if there is one, and goes behind it. `Lapped` where the transmitter overtook the
+    /// receiver: the count has risen by one, and the next call starts with the record at latest.
+    pub fn receive_next(&mut self, board: &Board) -> Result<Option<RawRecord>, Lapped>
+        requires { IsRawOf board.now self.old }
+        ensures board { IsRawOf board.now self.new }
+        ensures got { MatchResult result (λ o. MatchOption o (GotNothing (raw_seat self.old) (raw_seat self.new)) (λ r. GotRecord r (raw_seat self.old) (raw_seat self.new) × IsAnswered (raw_view self.new) r))
+            (λ l. GotLapped l (raw_seat self.old) (raw_seat self.new)) }
+        ensures kept { (r : RawRecord) → IsAnswered (raw_view self.old) r → IsAnswered (raw_view self.new) r }
+    {
+        match board.answer(&mut self.seat, self.place) {
+            Ok(None) => Ok(None),
+            Ok(Some(record)) => {
+                self.place = record.place + (8 + record.len).next_multiple_of(8) as u64;
+                Ok(Some(record))
+            }
+            Err(miss) => {
+                self.place = board.load_latest(&mut self.seat);
+                self.count += 1;
+                Err(Lapped {
+                    count: self.count,
+                    place: miss.place,
+                    intent: miss.intent,
+                })
+            }
+        }
+    }
+}
+
+impl RawRecord {
+    ghost use Rattle.ring_board.specs.Seats.{place_of, type_id_of, len_of};
+
+    /// Where it lies, in bytes.
+    pub fn place(&self) -> u64
+        ensures { result ≡ place_of self.now }
+    {
+        self.place
+    }
+
+    /// The type id that its header announces.
+    pub fn type_id(&self) -> i32
+        ensures { result ≡ type_id_of self.now }
+    {
+        self.type_id
+    }
+
+    /// The bytes of the body that its header announces.
+    pub fn len(&self) -> usize
+        ensures { result ≡ len_of self.now }
+    {
+        self.len
+    }
+
+    /// Tests whether its header announces an empty body.
+    pub fn is_empty(&self) -> bool
+        ensures { result ≡ (len_of self.now == 0) }
+    {
+        self.len == 0
     }
 }
