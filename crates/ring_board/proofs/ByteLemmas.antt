@@ -82,12 +82,16 @@ module _ (C : ℕ) (m : Message) (narrow : C ≤ 2 ^ 24) (lawful : IsMessage C m
   header_not_padding = let s = lawful.short in let h = shr_high (cast_unsigned w32 m.type_id) 32 (8 + length m.body) (omega arith) in
       let t = small_pattern m.type_id lawful.type_id lawful.type_fits in omega arith
 
+  -- the body of its words
+  pub body_back : take (length m.body) (bytes_of (words_of m.body)) ≡ m.body
+  body_back = words_back (word_count (length m.body)) m.body (λ i. ⊎_elim (λ h. All-get_or (λ (b : ℕ). b < 256) m.body i 0 h lawful.bytes)
+      (λ h. let past = get_or_past m.body i 0 h in
+      omega arith) (cases_lt i (length m.body))) (omega arith)
+
   bytes_back : take (body_len (header_of m)) (bytes_of (words_of m.body)) ≡ m.body
   bytes_back = let a = announced_header in
       ap (λ n. take n (bytes_of (words_of m.body))) (let e : body_len (header_of m) ≡ length m.body = omega arith in e)
-      ∙ words_back (word_count (length m.body)) m.body (λ i. ⊎_elim (λ h. All-get_or (λ (b : ℕ). b < 256) m.body i 0 h lawful.bytes)
-      (λ h. let past = get_or_past m.body i 0 h in
-      omega arith) (cases_lt i (length m.body))) (omega arith)
+      ∙ body_back
 
   -- a message is the one that its header announces, with its body
   pub message_whole : message_of (header_of m) m.body ≡ m

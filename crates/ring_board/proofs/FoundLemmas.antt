@@ -137,7 +137,7 @@ answered_as m m1 m2 p w x len z h a lt type_is len_is = let body : List ℕ = a.
 
 -- Words that are copied ------------------------------------------------------
 
-bytes_of_snoc : (ws : List ℕ) (x : ℕ) → bytes_of (ws ++ x ∷ []) ≡ bytes_of ws ++ to_le_bytes w64 x
+pub bytes_of_snoc : (ws : List ℕ) (x : ℕ) → bytes_of (ws ++ x ∷ []) ≡ bytes_of ws ++ to_le_bytes w64 x
 bytes_of_snoc [] x = refl
 bytes_of_snoc (w ∷ ws) x = ap (λ l. to_le_bytes w64 w ++ l) (bytes_of_snoc ws x)
     ∙ sym (append_assoc (to_le_bytes w64 w) (bytes_of ws) (to_le_bytes w64 x))

@@ -13,3 +13,4 @@ pub mod ReceiveLemmas
 pub mod PassLemmas
 pub mod FoundLemmas
 pub mod RawLemmas
+pub mod BodyLemmas

@@ -6,9 +6,11 @@ ghost use Rattle.ring_layout.specs.Places.{index};
 ghost use Rattle.ring_board.specs.declared.view.Stage.TheVariants.{Idle, Resting, Sure, Headed, Padded, Reading, Behind};
 ghost use Rattle.ring_board.specs.Records.{announced, body_len, word_count};
 ghost use Rattle.ring_board.specs.Steps.{SeesTail, IsUnread, SeesIntent, SeesAnswer, SeesLatest, Learns, heard, read_word, fewer, newcomer, joined};
+ghost use Rattle.ring_board.specs.Bodies.{SeesBody, SeesValid};
 
 use crate::plays::{
-    Learn, Leave, SeeAnswer, SeeHeader, SeeIntent, SeeLatest, SeeTail, SeeWord, Subscribe,
+    Learn, Leave, SeeAnswer, SeeBody, SeeHeader, SeeIntent, SeeLatest, SeeTail, SeeValid, SeeWord,
+    Subscribe,
 };
 use crate::seats::Board;
 use crate::view::BoardSeat;
@@ -100,6 +102,28 @@ impl Board {
     {
         let index = self.trailer_index(TAIL_INTENT_COUNTER_WORD);
         self.table.shared.load::<SeeIntent>(seat, index)
+    }
+
+    /// Loads a word of the body of a record that was answered unread.
+    pub(crate) fn load_unread(&self, seat: &mut BoardSeat, at: usize) -> u64
+        requires seat { seat.old.table_id ≡ self.now.table.shared.table_id }
+        requires stage { seat.old.me.0.stage ≡ Resting }
+        requires at { at < self.now.capacity / 8 }
+        ensures same { (seat.new.table_id ≡ seat.old.table_id) × (seat.new.id ≡ seat.old.id) }
+        ensures seen { SeesBody (step 0 at 0 0 none) seat.old.me result seat.new.me }
+    {
+        self.table.shared.load::<SeeBody>(seat, at)
+    }
+
+    /// Loads the intent, to validate a record that was answered unread.
+    pub(crate) fn check_answered(&self, seat: &mut BoardSeat) -> u64
+        requires seat { seat.old.table_id ≡ self.now.table.shared.table_id }
+        requires stage { (seat.old.me.0.stage ≡ Resting) × (seat.old.me.0.capacity ≡ self.now.capacity) }
+        ensures same { (seat.new.table_id ≡ seat.old.table_id) × (seat.new.id ≡ seat.old.id) }
+        ensures seen { SeesValid (step 0 0 0 0 none) seat.old.me result seat.new.me }
+    {
+        let index = self.trailer_index(TAIL_INTENT_COUNTER_WORD);
+        self.table.shared.load::<SeeValid>(seat, index)
     }
 
     /// Loads latest, after a failed validation.

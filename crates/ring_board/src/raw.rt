@@ -1,8 +1,10 @@
 //! Raw receivers.
-ghost use Rattle.std.specs.Prelude.{◌≡◌, ◌==◌, ℕ, ◌+◌, IfOk, OnErr, MatchResult, MatchOption};
+ghost use Rattle.std.specs.Prelude.{◌≡◌, ◌==◌, ℕ, ◌+◌, ◌≤◌, true, length, take, drop, IfOk, OnErr, MatchResult, MatchOption};
 
+use crate::body_words::put_part;
 use crate::fault::{Lapped, NoShares};
 use crate::seats::{Board, RawRecord, Receiver, Transmitter};
+use crate::view::BoardSeat;
 
 impl Board {
     ghost use Rattle.ring_board.specs.Runs.{AreRuns};
@@ -56,7 +58,8 @@ impl Board {
 impl Receiver {
     ghost use Rattle.ring_board.specs.declared.seats.RawRecord.{RawRecord};
     ghost use Rattle.ring_board.specs.Receiving.{GotNothing, GotRecord, GotLapped};
-    ghost use Rattle.ring_board.specs.Seats.{IsRawOf, IsAnswered, raw_seat, raw_view, raw_lapped_count_of};
+    ghost use Rattle.ring_board.specs.Bodies.{GaveBody, IsRight, Validated};
+    ghost use Rattle.ring_board.specs.Seats.{IsRawOf, IsAnswered, raw_seat, raw_view, raw_lapped_count_of, place_of, len_of};
 
     /// How often the receiver was lapped.
     pub fn lapped_count(&self) -> u64
@@ -89,6 +92,55 @@ impl Receiver {
                     intent: miss.intent,
                 })
             }
+        }
+    }
+
+    /// Copies the body of a record that this receiver answered to the front of `out`, without validation: the bytes may
+    /// be those of another record, unless `validate` then says true. The rest of `out` stays.
+    pub fn load_body(&mut self, board: &Board, raw: &RawRecord, out: &mut [u8])
+        requires board { IsRawOf board.now self.old }
+        requires raw { IsAnswered (raw_view self.old) raw.now }
+        requires room { len_of raw.now ≤ length out.old }
+        ensures board { IsRawOf board.now self.new }
+        ensures gave { GaveBody (place_of raw.now) (take (len_of raw.now) out.new) (raw_seat self.old) (raw_seat self.new) }
+        ensures rest { drop (len_of raw.now) out.new ≡ drop (len_of raw.now) out.old }
+        ensures kept { (r : RawRecord) → IsAnswered (raw_view self.old) r → IsAnswered (raw_view self.new) r }
+    {
+        board.load_answered(&mut self.seat, raw, &mut out[..raw.len]);
+    }
+
+    /// Tests whether a record that this receiver answered was not yet overwritten, by one load of the intent. If so,
+    /// each body of it that `load_body` gave before is the one that was transmitted.
+    pub fn validate(&mut self, board: &Board, raw: &RawRecord) -> bool
+        requires board { IsRawOf board.now self.old }
+        requires raw { IsAnswered (raw_view self.old) raw.now }
+        ensures board { IsRawOf board.now self.new }
+        ensures validated { Validated raw.now result (raw_seat self.old) (raw_seat self.new) }
+        ensures right { result ≡ true → IsRight (raw_view self.old) raw.now }
+        ensures kept { (r : RawRecord) → IsAnswered (raw_view self.old) r → IsAnswered (raw_view self.new) r }
+    {
+        let intent = board.check_answered(&mut self.seat);
+        !board.is_lapped(raw.place, intent)
+    }
+}
+
+impl Board {
+    ghost use Rattle.ring_board.specs.declared.view.Stage.TheVariants.{Resting};
+    ghost use Rattle.ring_board.specs.Bodies.{GaveBody};
+    ghost use Rattle.ring_board.specs.Seats.{IsAnswered, place_of, len_of};
+
+    /// Loads the body of a record that was answered unread, which is as long as `out`.
+    fn load_answered(&self, seat: &mut BoardSeat, raw: &RawRecord, out: &mut [u8])
+        requires seat { seat.old.table_id ≡ self.now.table.shared.table_id }
+        requires stage { (seat.old.me.0.stage ≡ Resting) × (seat.old.me.0.capacity ≡ self.now.capacity) }
+        requires raw { IsAnswered seat.old.me.0 raw.now × (length out.old ≡ len_of raw.now) }
+        ensures same { (seat.new.table_id ≡ seat.old.table_id) × (seat.new.id ≡ seat.old.id) }
+        ensures gave { GaveBody (place_of raw.now) out.new seat.old.me seat.new.me }
+    {
+        let first = self.index(raw.place) + 1;
+        for k in 0..out.len().div_ceil(8) {
+            let word = self.load_unread(seat, first + k);
+            put_part(out, 8 * k, word);
         }
     }
 }

@@ -38,7 +38,7 @@ fn is_padding(header: u64) -> bool
 
 impl Board {
     /// Tests whether an intent has reached a place plus the capacity, so that what was loaded there may be overwritten.
-    fn is_lapped(&self, place: u64, intent: u64) -> bool
+    pub(crate) fn is_lapped(&self, place: u64, intent: u64) -> bool
         requires { place ≤ max_position }
         ensures { result ≡ nat_le (place + self.now.capacity) intent }
     {
