@@ -17,7 +17,7 @@ mod transmitting;
 mod view;
 
 pub use fault::{Lapped, MakeFault, NoShares, ReceiversOut, SubscribeFault, TransmitFault};
-pub use runs_law::runs_stay_runs;
+pub use runs_law::{loaded_stays_loaded, runs_stay_runs};
 pub use seats::{
     BeginRefused, Begun, Board, BoardCloseRefused, ClosedBoard, Copied, CopyReceiver, Filled,
     RawRecord, Receiver, Transmitter,
