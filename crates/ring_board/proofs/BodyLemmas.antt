@@ -1,11 +1,11 @@
 -- Bodies that a raw receiver loads, and validates.
-use Rattle.std.proofs.Common.{◌≡◌, ℕ, zero, suc, ◌+◌, ◌-◌, ◌*◌, ◌/◌, ◌<◌, ◌≤◌, List, [], ◌∷◌, ◌++◌, length, take, get_or, refl, sym, ap, ◌∙◌, subst, ⊎_elim, inl, inr, ◌⊎◌, arith, length-append, append_assoc}
+use Rattle.std.proofs.Common.{◌≡◌, ℕ, true, ◌+◌, ◌-◌, ◌*◌, ◌/◌, ◌<◌, ◌≤◌, List, [], ◌∷◌, ◌++◌, length, take, get_or, refl, sym, ap, ◌∙◌, subst, ⊎_elim, inl, inr, ◌⊎◌, arith, length-append, append_assoc}
 use Rattle.std.specs.Int.{to_le_bytes, w64}
 use Rattle.std.proofs.lemmas.Bool.{cases_lt}
 use Rattle.std.proofs.lemmas.List.{ext_get_or, get_or_append_left, get_or-append_right, get_or_push, get_or-take, length-take-le, take_all}
 use mathlib.Core.Option.{none, some}
 use lib.ListN.{get_elem?}
-use Rattle.atomic_table.specs.Table.{step, keeps, stepped, Allows}
+use Rattle.atomic_table.specs.Table.{step, keeps, Allows}
 use Rattle.atomic_table.proofs.Lists.{at_longer, at_last}
 use Rattle.ring_layout.specs.Places.{index}
 use Rattle.ring_layout.specs.History.{overwritten, span}
@@ -16,11 +16,13 @@ use Rattle.ring_board.specs.declared.view.View.{View}
 use Rattle.ring_board.specs.declared.view.Load.{Load}
 use Rattle.ring_board.specs.declared.view.Load.TheVariants.{Word, Intent}
 use Rattle.ring_board.specs.declared.view.Stage.TheVariants.{Resting}
+use Rattle.ring_board.specs.declared.seats.RawRecord.{RawRecord}
+use Rattle.ring_board.specs.Seats.{IsAnswered}
 use Rattle.ring_board.specs.Records.{end, end_of, words_of, word_count, bytes_of, gap}
 use Rattle.ring_board.specs.Rule.{IsBoard, Holds, intent}
 use Rattle.ring_board.specs.Steps.{Sat, logged}
-use Rattle.ring_board.specs.Bodies.{WasLoaded, WereLoaded, IsLoaded, AreRight, GaveBody, SeesBody, SeesValid}
-use Rattle.ring_board.proofs.StoreLemmas.{words_long}
+use Rattle.ring_board.specs.Bodies.{WasLoaded, WereLoaded, IsLoaded, AreRight, IsRight, GaveBody, Validated, SeesBody, SeesValid}
+use Rattle.ring_board.proofs.StoreLemmas.{append_nil, at_behind, words_long}
 use Rattle.ring_board.proofs.ByteLemmas.{body_back}
 use Rattle.ring_board.proofs.FoundLemmas.{bytes_of_snoc}
 use Rattle.ring_board.proofs.SeatLemmas.{St}
@@ -154,4 +156,26 @@ loaded_all place k out m m' h is = let ws : List ℕ = h.0 in let long = bytes_l
         ext_get_or 0 out (take (length out) (bytes_of ws)) (sym n)
             (λ b lt. h.5 b (omega arith) lt ∙ sym (get_or-take (length out) (bytes_of ws) b 0 lt)),
       ),
+    )
+
+-- What stays, and what a validation then says ------------------------------------
+
+word_stays : (C p w : ℕ) (before loads after : List Load) → WasLoaded C loads p w → WasLoaded C (before ++ (loads ++ after)) p w
+word_stays C p w before loads after h =
+    (length before + h.0, h.1, at_behind before (loads ++ after) h.0 _ (at_longer loads after h.0 _ h.2), h.3)
+
+pub loaded_stays : (C place : ℕ) (before loads after : List Load) (body : List ℕ) → IsLoaded C loads place body → IsLoaded C (before ++ (loads ++ after)) place body
+loaded_stays C place before loads after body h = (h.0, λ j lt. word_stays C _ _ before loads after (h.1 j lt), h.2, h.3)
+
+-- a body that was loaded, and then validated, is that of the copy of its record
+pub loaded_whole : (m m1 m2 : Sat) (r : RawRecord) (body : List ℕ) → IsAnswered m1.0 r → GaveBody r.place body m m1 → IsRight m1.0 r → Validated r true m1 m2
+    → length body ≡ r.len → (n : ℕ) × (c : Taken) × (get_elem? m2.0.copies n ≡ some c) × (c.place ≡ r.place) × (c.message.body ≡ body)
+loaded_whole m m1 m2 r body answered gave right valid long = let q = answered.copy in let c : Taken = q.1 in
+    let loaded : IsLoaded m1.0.capacity m1.0.log r.place body = subst (λ (s : Sat). IsLoaded s.0.capacity s.0.log r.place body) (sym gave.1)
+    (subst (λ (l : List Load). IsLoaded m.0.capacity (m.0.log ++ l) r.place body) (append_nil gave.0) (loaded_stays m.0.capacity r.place m.0.log gave.0 [] body gave.2)) in (
+      q.0,
+      c,
+      ap (λ (s : Sat). get_elem? s.0.copies q.0) valid.1 ∙ q.2,
+      q.3,
+      sym (right q.0 c body q.2 q.3 loaded (long ∙ sym q.5)),
     )

@@ -1,5 +1,5 @@
 -- Bodies that a raw receiver loads, and validates.
-use Rattle.std.specs.Prelude.{◌≡◌, ℕ, Bool, true, ◌+◌, ◌*◌, ◌<◌, ◌≤◌, nat_lt, List, [], ◌∷◌, ◌++◌, length, take, slice_index}
+use Rattle.std.specs.Prelude.{◌≡◌, ℕ, Bool, ◌+◌, ◌*◌, ◌<◌, ◌≤◌, nat_lt, List, ◌++◌, length, take, slice_index}
 use mathlib.Core.Option.{some}
 use lib.ListN.{get_elem?}
 use Rattle.atomic_table.specs.Table.{Step}
@@ -45,7 +45,7 @@ Validated r valid m m' = (x : ℕ) × (m' ≡ (logged m.0 (Intent x), m.1)) × (
 
 -- The steps ----------------------------------------------------------------
 
--- a word was loaded: behind the tail t, which is no less than the one seen last, nor than the end of a record that was answered
+-- a word was loaded, and the tail was t, which is no less than the one seen last, nor than the end of any record that was answered
 abbrev pub SeesBody : Step (Unit {0}) → Sat → ℕ → Sat → Type 0
 SeesBody st m x m' = (t : ℕ) × (m' ≡ (logged m.0 (Word st.word t x), m.1)) × (last_tail m.0.log 0 ≤ t)
     × ((n : ℕ) (c : Taken) → get_elem? m.0.copies n ≡ some c → c.place + span (length c.message.body) ≤ t)

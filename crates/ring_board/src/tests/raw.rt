@@ -1,19 +1,24 @@
-ghost use Rattle.std.specs.Prelude.{IfOk};
+ghost use Rattle.std.specs.Prelude.{◌≡◌, ◌≤◌, ℕ, true, length, take, IfOk};
+ghost use mathlib.Core.Option.{some};
+ghost use lib.ListN.{get_elem?};
+ghost use Rattle.ring_board.specs.declared.view.Taken.{Taken};
 ghost use Rattle.ring_board.specs.declared.seats.RawRecord.{RawRecord};
-ghost use Rattle.ring_board.specs.Seats.{IsTransmitterOf, IsRawOf, IsAnswered, raw_view};
+ghost use Rattle.ring_board.specs.Seats.{IsTransmitterOf, IsRawOf, IsAnswered, raw_view, answered_by, place_of, len_of};
 
 use crate::{
     Board, Lapped, NoShares, RawRecord, Receiver, ReceiversOut, SubscribeFault, Transmitter,
 };
 use std::test::Fail;
 
-/// Transmits so many bodies of 24 bytes.
-fn send(board: &Board, transmitter: &mut Transmitter, count: u32)
+/// Transmits so many bodies of this length, up to 32 bytes.
+fn send(board: &Board, transmitter: &mut Transmitter, count: u32, len: usize)
     requires { IsTransmitterOf board.now transmitter.old }
     ensures { IsTransmitterOf board.now transmitter.new }
 {
+    let body = [7; 32];
+    let len = len.min(32);
     'sends: for _ in 0..count {
-        let _ = board.transmit(transmitter, 1, &[7; 24]);
+        let _ = board.transmit(transmitter, 1, &body[..len]);
     }
 }
 
@@ -45,17 +50,30 @@ fn loaded(board: &Board, receiver: &mut Receiver, raw: &RawRecord) -> [u8; 12]
     out
 }
 
+/// Loads the body of a record and validates it. With true, the bytes are the body that was transmitted: that of the
+/// record's copy, which `join_raw` says is an entry of the list.
+fn is_loaded_whole(board: &Board, receiver: &mut Receiver, raw: &RawRecord, out: &mut [u8]) -> bool
+    requires board { IsRawOf board.now receiver.old }
+    requires raw { IsAnswered (raw_view receiver.old) raw.now }
+    requires room { len_of raw.now ≤ length out.old }
+    ensures board { IsRawOf board.now receiver.new }
+    ensures whole { result ≡ true → (n : ℕ) × (c : Taken) × (get_elem? (answered_by receiver.new) n ≡ some c) × (c.place ≡ place_of raw.now) × (c.message.body ≡ take (len_of raw.now) out.new) }
+{
+    receiver.load_body(board, raw, out);
+    receiver.validate(board, raw)
+}
+
 #[test]
 fn a_record_is_valid_until_the_intent_reaches_it(rt: HostRuntime) -> Result<(), Fail> {
     let (board, mut transmitter) = Board::new(rt.alloc(), 256)?;
     let mut receiver = board.subscribe_raw(&mut transmitter)?;
     let mut copying = board.subscribe(rt.alloc(), &mut transmitter)?;
-    send(&board, &mut transmitter, 1);
+    send(&board, &mut transmitter, 1, 24);
     let first = next(&board, &mut receiver)?;
     assert_eq!(rt; (first.type_id(), first.len(), first.place()), (1, 24, 0));
     assert!(rt; !first.is_empty());
     assert!(rt; receiver.validate(&board, &first));
-    send(&board, &mut transmitter, 6);
+    send(&board, &mut transmitter, 6, 24);
     assert!(rt; receiver.validate(&board, &first));
     let Ok(_begun) = board.begin(transmitter, 1, 24) else {
         return Err(Fail::from("refused"));
@@ -103,10 +121,41 @@ fn bodies_are_loaded_to_the_front(rt: HostRuntime) -> Result<(), Fail> {
 }
 
 #[test]
+fn a_body_is_whole_while_it_is_valid(rt: HostRuntime) -> Result<(), Fail> {
+    let (board, mut transmitter) = Board::new(rt.alloc(), 256)?;
+    let mut receiver = board.subscribe_raw(&mut transmitter)?;
+    send(&board, &mut transmitter, 1, 24);
+    let first = next(&board, &mut receiver)?;
+    let mut out = [0; 24];
+    if first.len() > out.len() {
+        return Err(Fail::from("too long"));
+    }
+    assert!(rt; is_loaded_whole(&board, &mut receiver, &first, &mut out));
+    assert_eq!(rt; out, [7; 24]);
+    Ok(())
+}
+
+#[test]
+fn raw_receivers_pass_padding(rt: HostRuntime) -> Result<(), Fail> {
+    let (board, mut transmitter) = Board::new(rt.alloc(), 256)?;
+    let mut receiver = board.subscribe_raw(&mut transmitter)?;
+    send(&board, &mut transmitter, 6, 32);
+    'records: for place in [0, 40, 80, 120, 160, 200] {
+        let record = next(&board, &mut receiver)?;
+        assert_eq!(rt; (record.place(), record.len()), (place, 32));
+    }
+    send(&board, &mut transmitter, 1, 32);
+    let record = next(&board, &mut receiver)?;
+    assert_eq!(rt; (record.place(), record.len()), (256, 32));
+    assert_eq!(rt; receiver.lapped_count(), 0);
+    Ok(())
+}
+
+#[test]
 fn raw_receivers_are_lapped_too(rt: HostRuntime) -> Result<(), Fail> {
     let (board, mut transmitter) = Board::new(rt.alloc(), 256)?;
     let mut receiver = board.subscribe_raw(&mut transmitter)?;
-    send(&board, &mut transmitter, 8);
+    send(&board, &mut transmitter, 8, 24);
     let lapped = Lapped {
         count: 1,
         place: 0,
