@@ -128,6 +128,10 @@ module _ (place k x : ℕ) (out : List ℕ) (room : 8 * k < length out) where
         (length loads, t, at_last loads last (length loads) refl ∙ ap (λ (n : ℕ). some (Word (index C (place + 8 + 8 * n)) t x)) same, omega arith))
         (cases_lt j (length ws))
 
+pub copies_kept : (m m1 : Sat) (loads : List Load) (n : ℕ) (c : Taken) → m1 ≡ (record m.0 { log = m.0.log ++ loads }, m.1)
+    → get_elem? m.0.copies n ≡ some c → get_elem? m1.0.copies n ≡ some c
+copies_kept m m1 loads n c is on = ap (λ (s : Sat). get_elem? s.0.copies n) is ∙ on
+
 -- one word more was loaded
 pub loaded_on : (place k i x t : ℕ) (out out' : List ℕ) (m m1 m2 : Sat) → LoadedWords place k out m m1 → m2 ≡ (logged m1.0 (Word i t x), m1.1)
     → i ≡ index m.0.capacity (place + 8 + 8 * k) → place + 8 + 8 * k < t → 8 * k < length out

@@ -1,13 +1,10 @@
 use Rattle.std.proofs.Common.{◌≡◌, ℕ, ◌+◌, ◌*◌, ◌/◌, ◌%◌, ◌≤◌, sym, ◌∙◌, subst, arith}
-use mathlib.Core.Option.{some}
-use lib.ListN.{get_elem?}
 use Rattle.ring_layout.specs.History.{span}
 use Rattle.ring_layout.specs.Places.{index}
 use Rattle.ring_layout.proofs.Laps.{index_step}
 use Rattle.ring_layout.proofs.PlaceLemmas.{span_bounds}
 use Rattle.ring_board.specs.declared.view.Taken.{Taken}
-use Rattle.ring_board.specs.Steps.{Sat}
-use Rattle.ring_board.proofs.BodyLemmas.{loaded_on, loaded_all}
+use Rattle.ring_board.proofs.BodyLemmas.{copies_kept, loaded_on, loaded_all}
 use Rattle.ring_board.proofs.seats.Board.load_answered.Goals as goal
 
 pub loop-k-preserved : goal.loop-k-preserved
@@ -16,7 +13,7 @@ loop-k-preserved c = let k : ℕ = c.loop-k.k in let n : ℕ = c.args.self.now.c
     let b = subst (λ (y : ℕ). p % y + span raw.len ≤ y) size inside.1 in
     let bounds = span_bounds raw.len in let low = bounds.1 in let seen = c.load_unread-word.ensures.seen in let inv = c.loop-k.invariant.loaded in
     let q = h.copy in let taken : Taken = q.1 in let place = q.3 in let len = q.5 in
-    let far = seen.3 q.0 taken (subst (λ (m : Sat). get_elem? m.0.copies q.0 ≡ some taken) (sym inv.2) q.2) in
+    let far = seen.3 q.0 taken (copies_kept _ _ inv.1 q.0 taken inv.2 q.2) in
     let on = index_step n p (k + 1) (omega arith) a (omega arith) in let first = c.index-first.ensures.0 in
     let shift : p + 8 * (k + 1) ≡ p + 8 + 8 * k = omega arith in
     let there : c.index-first.result + 1 + k ≡ index c.args.seat.now.me.0.capacity (p + 8 + 8 * k) = (let g : c.index-first.result + 1 + k ≡ p % n / 8 + (k + 1) = omega arith in g)
