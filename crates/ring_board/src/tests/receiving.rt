@@ -2,7 +2,8 @@ ghost use Rattle.std.specs.Prelude.{◌≡◌, IfOk};
 ghost use Rattle.ring_board.specs.Seats.{IsTransmitterOf, IsReceiverOf, IsBegunOf, begun_len};
 
 use crate::{
-    Begun, Board, CopyReceiver, Lapped, ReceiversOut, SubscribeFault, TransmitFault, Transmitter,
+    Begun, Board, CopyReceiver, Lapped, NoShares, ReceiversOut, SubscribeFault, TransmitFault,
+    Transmitter,
 };
 use std::test::Fail;
 
@@ -187,6 +188,7 @@ fn faults_of_receivers_have_texts(rt: HostRuntime) -> Result<(), Fail> {
         intent: 256,
     };
     let texts = [
+        (format!(in rt.alloc(); "{}", NoShares)?, "12 NoShares"),
         (
             format!(in rt.alloc(); "{}", SubscribeFault::NoShares)?,
             "12 NoShares",
