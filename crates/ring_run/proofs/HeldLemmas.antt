@@ -1,8 +1,10 @@
 -- What is held by number: a list with None where nothing is.
-use Rattle.std.proofs.Common.{◌≡◌, ◌≢◌, ℕ, ◌+◌, ◌<◌, List, [], ◌∷◌, ◌++◌, length, set, slice_index_or, Option, Some, None, sym, ◌∙◌, subst, arith, ◌⊎◌, inl, inr, get_or-set_same, get_or-set_other}
+use Rattle.std.proofs.Common.{◌≡◌, ◌≢◌, ℕ, suc, ◌+◌, ◌<◌, List, [], ◌∷◌, ◌++◌, length, set, slice_index_or, cond, is_some, refl, ap, Option, Some, None, sym, ◌∙◌, subst, arith, ◌⊎◌, inl, inr, get_or-set_same, get_or-set_other}
 use mathlib.Core.Logic.{dite}
 use native.Mathlib.Decide.{ℕ_discrete}
 use Rattle.std.proofs.lemmas.Bool.{cases_lt}
+use Rattle.std.specs.List.{count_by}
+use Rattle.std.proofs.lemmas.List.Sums.{sum_by-append, sum_by-set}
 use Rattle.std.proofs.lemmas.List.{get_or_append_left, get_or_push, get_or_past, length-append}
 
 module _ {A : Type 0} where
@@ -39,6 +41,27 @@ module _ {A : Type 0} where
   in_set xs k y s i inside has = dite (ℕ_discrete i k)
       (λ here. inl (sym (get_or-set_same xs k y None inside) ∙ subst (λ n. Holds (set xs k y) n s) here has))
       (λ other. inr (other, sym (get_or-set_other xs k i y None other) ∙ has))
+
+  abbrev one_if_some : Option A → ℕ
+  one_if_some o = cond (is_some o) 1 0
+
+  -- one more is held
+  pub count_pushed : (xs : List (Option A)) (t : A) → count_by is_some (xs ++ Some t ∷ []) ≡ count_by is_some xs + 1
+  count_pushed xs t = sum_by-append one_if_some xs (Some t ∷ [])
+
+  -- what is held at the index k is changed, or taken
+  pub count_set : (xs : List (Option A)) (k : ℕ) (y : Option A) (s : A) → Holds xs k s → count_by is_some (set xs k y) + 1 ≡ count_by is_some xs + one_if_some y
+  count_set xs k y s has =
+      ap (λ o. count_by is_some (set xs k y) + one_if_some o) (sym has) ∙ sum_by-set one_if_some xs k y None (held_inside xs k s has)
+
+  -- where nothing is held
+  pub count_none : (xs : List (Option A)) → ((k : ℕ) → k < length xs → slice_index_or xs k None ≡ None) → count_by is_some xs ≡ 0
+  count_none [] all = refl
+  count_none (x ∷ xs) all =
+      let first : one_if_some x ≡ 0 = ap one_if_some (all 0 (omega arith)) in
+      let rest = count_none xs (λ k lt. all (suc k) (omega arith)) in
+      let both = sum_by-append one_if_some (x ∷ []) xs in
+      omega arith
 
   module _ (P : A → Type 0) where
     -- P holds of all that is held

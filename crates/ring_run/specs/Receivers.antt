@@ -1,5 +1,6 @@
 -- Numbered receivers of a broadcast buffer.
-use Rattle.std.specs.Prelude.{◌≡◌, ℕ, ◌-◌, ◌<◌, ◌++◌, ◌∷◌, List, [], length, Option, Some, None, slice_index_or, slice_set}
+use Rattle.std.specs.Prelude.{◌≡◌, ℕ, ◌-◌, ◌<◌, ◌++◌, ◌∷◌, List, [], length, Option, Some, None, slice_index_or, slice_set, is_some}
+use Rattle.std.specs.List.{count_by}
 use Rattle.ring_board.specs.declared.seats.Board.{Board}
 use Rattle.ring_board.specs.declared.seats.Transmitter.{Transmitter}
 use Rattle.ring_board.specs.declared.seats.CopyReceiver.{CopyReceiver}
@@ -29,6 +30,14 @@ crowd t receivers = record { transmitter = t; receivers = receivers }
 pub record IsHere (receivers : List (Option CopyReceiver)) (number : ℕ) (r : CopyReceiver) : Type 0 where
   pub positive : 0 < number
   pub has : HasReceiver receivers (number - 1) r
+
+-- no receiver of this number is here
+abbrev pub IsGone : List (Option CopyReceiver) → ℕ → Type 0
+IsGone receivers number = (r : CopyReceiver) → ¬ IsHere receivers number r
+
+-- how many receivers have not left
+abbrev pub held_count : List (Option CopyReceiver) → ℕ
+held_count receivers = count_by is_some receivers
 
 -- a receiver was made, and has the next number
 pub record Subscribes (old : Crowd) (next : ℕ) (new : Crowd) : Type 0 where

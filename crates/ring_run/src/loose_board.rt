@@ -1,9 +1,10 @@
 //! The broadcast buffer of a run, with its numbered receivers.
-ghost use Rattle.std.specs.Prelude.{◌≡◌, ◌-◌, length, slice_set, IfOk, IfSome, OnErr, OnOk, MatchOption, MatchResult};
+ghost use Rattle.std.specs.Prelude.{◌≡◌, ◌+◌, ◌-◌, length, slice_set, IfNone, IfOk, IfSome, OnErr, OnOk, MatchOption, MatchResult};
 ghost use Rattle.ring_board.specs.Refusals.{make_refusal_of, transmit_refusal_of, IsMadeUnless, IsRefusedBy};
-ghost use Rattle.ring_board.specs.Seats.{capacity_of, next_record, tail_of, view_of, IsTransmitterOf};
+ghost use Rattle.ring_board.specs.Layout.{all_shares};
+ghost use Rattle.ring_board.specs.Seats.{capacity_of, next_record, shares_of, tail_of, view_of, IsTransmitterOf};
 ghost use Rattle.ring_board.specs.Steps.{sent_on};
-ghost use Rattle.ring_run.specs.Receivers.{AreReceivers, IsHere, Leaves, ReceivesAt, Subscribes, crowd};
+ghost use Rattle.ring_run.specs.Receivers.{AreReceivers, IsGone, IsHere, Leaves, ReceivesAt, Subscribes, crowd, held_count};
 
 use crate::fault::RunFault;
 use crate::received::Received;
@@ -19,6 +20,7 @@ pub struct LooseBoard {
     receivers: Vec<Option<CopyReceiver>>,
     ghost transmits: { IsTransmitterOf board transmitter },
     ghost receive: { AreReceivers board receivers.items },
+    ghost shares: { shares_of transmitter + held_count receivers.items ≡ all_shares },
 }
 
 /// The fault of a run whose broadcast buffer was not made.
@@ -33,7 +35,8 @@ pub fn from_board_make(fault: MakeFault) -> RunFault
 
 /// Takes the receiver of this number, if it is here.
 fn take_receiver(receivers: &mut [Option<CopyReceiver>], number: usize) -> Option<CopyReceiver>
-    ensures { MatchOption result (receivers.new ≡ receivers.old) (λ receiver. IsHere receivers.old number receiver × (receivers.new ≡ slice_set receivers.old (number - 1) None)) }
+    ensures taken { MatchOption result (receivers.new ≡ receivers.old) (λ receiver. IsHere receivers.old number receiver × (receivers.new ≡ slice_set receivers.old (number - 1) None)) }
+    ensures gone { IfNone result (IsGone receivers.old number) }
 {
     let index = number.checked_sub(1)?;
     if index >= receivers.len() {
@@ -54,6 +57,7 @@ fn make_receiver(
     ensures transmitter { IsTransmitterOf board.now transmitter.new }
     ensures receivers { AreReceivers board.now receivers.new.items }
     ensures made { IfOk result (λ made. MatchResult made (λ number. Subscribes (crowd transmitter.old receivers.old.items) number (crowd transmitter.new receivers.new.items)) (λ _. (transmitter.new ≡ transmitter.old) × (receivers.new.items ≡ receivers.old.items))) }
+    ensures shares { shares_of transmitter.new + held_count receivers.new.items ≡ shares_of transmitter.old + held_count receivers.old.items }
 {
     receivers.reserve(1)?;
     let receiver = match board.subscribe(alloc, transmitter) {
@@ -74,6 +78,8 @@ fn receive_at(
     requires { AreReceivers board.now receivers.old }
     ensures receivers { AreReceivers board.now receivers.new }
     ensures told { IfSome result (λ answer. IfOk answer (λ told. ReceivesAt told receivers.old number receivers.new)) }
+    ensures gone { IfNone result (IsGone receivers.old number) }
+    ensures count { held_count receivers.new ≡ held_count receivers.old }
 {
     let index = number.checked_sub(1)?;
     if index >= receivers.len() {
@@ -97,6 +103,8 @@ fn join_receiver(
     ensures transmitter { IsTransmitterOf board.now transmitter.new }
     ensures receivers { AreReceivers board.now receivers.new }
     ensures left { MatchOption result ((transmitter.new ≡ transmitter.old) × (receivers.new ≡ receivers.old)) (λ _. Leaves (crowd transmitter.old receivers.old) number (crowd transmitter.new receivers.new)) }
+    ensures gone { IfNone result (IsGone receivers.old number) }
+    ensures shares { shares_of transmitter.new + held_count receivers.new ≡ shares_of transmitter.old + held_count receivers.old }
 {
     let receiver = take_receiver(receivers, number)?;
     board.join(transmitter, receiver);
@@ -139,14 +147,16 @@ impl LooseBoard {
 
     /// Asks the receiver of this number for the next message; `None` where it is not here.
     pub fn receive(&mut self, alloc: Global, number: usize) -> Option<Result<Received, AllocError>>
-        ensures { IfSome result (λ answer. IfOk answer (λ told. ReceivesAt told self.old.receivers.items number self.new.receivers.items)) }
+        ensures told { IfSome result (λ answer. IfOk answer (λ told. ReceivesAt told self.old.receivers.items number self.new.receivers.items)) }
+        ensures gone { IfNone result (IsGone self.old.receivers.items number) }
     {
         receive_at(alloc, &self.board, &mut self.receivers, number)
     }
 
     /// Joins the receiver of this number; `None` where it is not here.
     pub fn leave(&mut self, number: usize) -> Option<()>
-        ensures { IfSome result (λ _. Leaves (crowd self.old.transmitter self.old.receivers.items) number (crowd self.new.transmitter self.new.receivers.items)) }
+        ensures left { MatchOption result (self.new.receivers.items ≡ self.old.receivers.items) (λ _. Leaves (crowd self.old.transmitter self.old.receivers.items) number (crowd self.new.transmitter self.new.receivers.items)) }
+        ensures gone { IfNone result (IsGone self.old.receivers.items number) }
     {
         join_receiver(
             &self.board,
@@ -156,11 +166,18 @@ impl LooseBoard {
         )
     }
 
-    /// Joins all receivers, in rising order of their numbers, and closes the broadcast buffer.
-    pub fn close(mut self) {
+    /// Joins all receivers, in rising order of their numbers. The transmitter has all shares then.
+    fn join_all(&mut self)
+        ensures { shares_of self.new.transmitter ≡ all_shares }
+    {
         for index in 0..self.receivers.len() {
             let _ = self.leave(index + 1);
         }
+    }
+
+    /// Joins all receivers and closes the broadcast buffer.
+    pub fn close(mut self) {
+        self.join_all();
         let LooseBoard {
             board,
             transmitter,
