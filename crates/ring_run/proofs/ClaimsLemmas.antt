@@ -1,7 +1,6 @@
 -- How the claims of a ring stay open.
-use Rattle.std.proofs.Common.{Result, Ok, Err, OnOk, OnErr, MatchResult, ◌≡◌, ◌≢◌, ℕ, ◌+◌, ◌<◌, List, [], ◌∷◌, ◌++◌, length, set, Option, Some, None, sym, ◌∙◌, subst, arith, ◌⊎◌, inl, inr, get_or-set_same, get_or-set_other}
-use Rattle.std.proofs.lemmas.Bool.{cases_lt}
-use Rattle.std.proofs.lemmas.List.{get_or_append_left, get_or_push, get_or_past, length-append}
+use Rattle.std.proofs.Common.{Result, Ok, Err, OnOk, OnErr, MatchResult, ◌≡◌, ◌≢◌, ℕ, List, [], ◌∷◌, ◌++◌, set, Option, Some, None, sym, ◌∙◌, subst, arith, inl, inr}
+use Rattle.std.proofs.lemmas.List.{get_or_past}
 use Rattle.ring_words.specs.Ring.{Ring}
 use Rattle.ring_words.specs.Open.{ClaimAt, IsOpen}
 use Rattle.ring_run.specs.Claims.{HasClaim, AreOpen}
