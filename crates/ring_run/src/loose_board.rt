@@ -1,6 +1,6 @@
 //! The broadcast buffer of a run, with its numbered receivers.
 ghost use Rattle.std.specs.Prelude.{◌≡◌, ◌+◌, ◌-◌, length, slice_set, IfNone, IfOk, IfSome, OnErr, OnOk, MatchOption, MatchResult};
-ghost use Rattle.ring_board.specs.Refusals.{make_refusal_of, transmit_refusal_of, IsMadeUnless, IsRefusedBy};
+ghost use Rattle.ring_board.specs.Refusals.{make_refusal_of, subscribe_refusal_of, transmit_refusal_of, IsMadeUnless, IsRefusedBy, IsSubscribedUnless};
 ghost use Rattle.ring_board.specs.Layout.{all_shares};
 ghost use Rattle.ring_board.specs.Seats.{capacity_of, next_record, shares_of, tail_of, view_of, IsTransmitterOf};
 ghost use Rattle.ring_board.specs.Steps.{sent_on};
@@ -57,6 +57,7 @@ fn make_receiver(
     ensures transmitter { IsTransmitterOf board.now transmitter.new }
     ensures receivers { AreReceivers board.now receivers.new.items }
     ensures made { IfOk result (λ made. MatchResult made (λ number. Subscribes (crowd transmitter.old receivers.old.items) number (crowd transmitter.new receivers.new.items)) (λ _. (transmitter.new ≡ transmitter.old) × (receivers.new.items ≡ receivers.old.items))) }
+    ensures refused { IfOk result (λ made. IsSubscribedUnless (subscribe_refusal_of (shares_of transmitter.old)) made) }
     ensures shares { shares_of transmitter.new + held_count receivers.new.items ≡ shares_of transmitter.old + held_count receivers.old.items }
 {
     receivers.reserve(1)?;
@@ -135,7 +136,8 @@ impl LooseBoard {
 
     /// Makes a receiver and gives its number.
     pub fn subscribe(&mut self, alloc: Global) -> Result<Result<usize, SubscribeFault>, AllocError>
-        ensures { IfOk result (λ made. MatchResult made (λ number. Subscribes (crowd self.old.transmitter self.old.receivers.items) number (crowd self.new.transmitter self.new.receivers.items)) (λ _. self.new.transmitter ≡ self.old.transmitter)) }
+        ensures refused { IfOk result (λ made. IsSubscribedUnless (subscribe_refusal_of (shares_of self.old.transmitter)) made) }
+        ensures made { IfOk result (λ made. MatchResult made (λ number. Subscribes (crowd self.old.transmitter self.old.receivers.items) number (crowd self.new.transmitter self.new.receivers.items)) (λ _. self.new.transmitter ≡ self.old.transmitter)) }
     {
         make_receiver(
             alloc,
