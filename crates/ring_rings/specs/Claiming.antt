@@ -165,3 +165,10 @@ pub record Contends (C : ℕ) (type_id : ℤ) (len : ℕ) (v : View) (tail seen 
 abbrev pub RefusesTry : ℕ → ℤ → ℕ → View → TryFault → View → Type 0
 RefusesTry C type_id len v (Refused fault) w = Refuses C type_id len v fault w
 RefusesTry C type_id len v (Contended tail seen) w = Contends C type_id len v tail seen w
+
+-- some tries only looked, and P holds of the view after them
+pub record AfterTries (v : View) (P : View → Type 0) : Type 0 where
+  pub loads : List (ℕ × ℕ)
+  pub before : View
+  pub looks : Looks v loads before
+  pub holds : P before

@@ -20,6 +20,7 @@ mod service;
 mod settling;
 #[cfg(test)]
 mod tests;
+mod waiting;
 
 pub use claim::Claim;
 pub use fault::{CloseFault, NoShares, TryFault};
