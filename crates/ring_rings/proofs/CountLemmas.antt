@@ -1,5 +1,5 @@
 -- Claims with their headers stored, and how many of them are open.
-use Rattle.std.proofs.Common.{◌≡◌, ℕ, ◌+◌, ◌-◌, ◌%◌, ◌≤◌, ℤ, List, [], ◌∷◌, ◌++◌, length, Bool, true, false, cond, eqb, ltb, sym, refl, ap, ◌∙◌, subst, arith}
+use Rattle.std.proofs.Common.{◌≡◌, ℕ, ◌+◌, ◌-◌, ◌≤◌, ℤ, List, [], ◌∷◌, ◌++◌, length, Bool, true, false, cond, eqb, ltb, sym, refl, ap, ◌∙◌, subst, arith}
 use Rattle.ring_layout.specs.declared.message.ClaimState.{ClaimState}
 use Rattle.ring_layout.specs.declared.message.ClaimState.TheVariants.{Open, Committed, Aborted}
 use Rattle.ring_table.specs.declared.claim.StagedClaim.{StagedClaim}
@@ -10,7 +10,6 @@ use Rattle.ring_table.specs.Changes.{changed, changed_at, staged}
 use Rattle.ring_table.specs.Owners.{insert_claim, interleaved}
 use Rattle.ring_table.specs.OpenClaims.{one_if_open, open_count}
 use Rattle.ring_table.specs.ProducerSteps.{HasClaimAt, IsOpen}
-use Rattle.ring_layout.specs.Places.{max_position}
 use Rattle.ring_table.specs.Views.{with_claims}
 use Rattle.ring_rings.specs.Matching.{Matches}
 use Rattle.ring_table.proofs.LawLemmas.{open_count-changed}

@@ -1,12 +1,12 @@
 -- Tries that only looked.
-use Rattle.std.proofs.Common.{◌≡◌, ℕ, ◌≤◌, ℤ, List, [], ◌∷◌, ◌++◌, refl, sym, ap, ◌∙◌, append_assoc, arith}
+use Rattle.std.proofs.Common.{ℕ, ℤ, List, [], ◌∷◌, ◌++◌, sym, ap, ◌∙◌, arith}
 use Rattle.std.proofs.lemmas.List.{append-nil}
 use Rattle.ring_layout.specs.Layout.{tail_index}
 use Rattle.ring_words.specs.Open.{ClaimAt}
 use Rattle.ring_table.specs.declared.view.View.{View}
 use Rattle.ring_rings.specs.declared.seats.Ring.{Ring}
 use Rattle.ring_rings.specs.declared.seats.Producer.{Producer}
-use Rattle.ring_rings.specs.Claiming.{looked, AfterTries, Contends, Looks}
+use Rattle.ring_rings.specs.Claiming.{looked, Contends, Looks}
 use Rattle.ring_rings.specs.Seats.{view_of, IsOpenClaimOf, IsProducerOf}
 use Rattle.ring_rings.proofs.LookLemmas.{looked_twice}
 

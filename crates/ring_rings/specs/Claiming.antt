@@ -2,7 +2,7 @@
 use Rattle.std.specs.Prelude.{◌≡◌, ◌≢◌, ◌⊎◌, ℕ, ◌+◌, ◌/◌, ◌%◌, ◌<◌, ◌≤◌, ℤ, pos, List, [], ◌∷◌, ◌++◌, length, Option, Some, None, Result, Err, MatchOption, IsOk, if◌then◌else◌, nat_lt, int_lt}
 use mathlib.Core.Option.{some}
 use lib.ListN.{get_elem?}
-use Rattle.ring_layout.specs.declared.message.ClaimState.TheVariants.{Open, Committed}
+use Rattle.ring_layout.specs.declared.message.ClaimState.TheVariants.{Committed}
 use Rattle.ring_layout.specs.History.{span}
 use Rattle.ring_layout.specs.Places.{next_place, end_after, max_position, Fits}
 use Rattle.ring_layout.specs.Layout.{tail_index, head_cache_index, head_index}

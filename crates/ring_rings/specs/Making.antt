@@ -4,7 +4,7 @@ use mathlib.Core.Option.{some}
 use lib.ListN.{get_elem?}
 use Rattle.ring_layout.specs.History.{IsMessage, span}
 use Rattle.ring_layout.specs.Places.{next_place, end_after, max_position}
-use Rattle.ring_layout.specs.Layout.{tail_index, head_cache_index, head_index}
+use Rattle.ring_layout.specs.Layout.{head_cache_index, head_index}
 use Rattle.ring_table.specs.declared.claim.StagedClaim.{StagedClaim}
 use Rattle.ring_table.specs.declared.view.View.{View}
 use Rattle.ring_table.specs.Staged.{staged_span}

@@ -18,6 +18,7 @@ mod room;
 mod seats;
 mod service;
 mod settling;
+mod source;
 #[cfg(test)]
 mod tests;
 mod waiting;
@@ -28,3 +29,4 @@ pub use ring_words::{Action, ClaimFault, Handler, MakeFault, Positions, PutRange
 pub use seats::{
     CloseRefused, Consumer, ManyToOne, ManyToOneRing, OneToOne, OneToOneRing, Producer, Ring,
 };
+pub use source::CommandSource;

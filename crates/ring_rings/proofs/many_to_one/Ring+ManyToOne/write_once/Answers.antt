@@ -1,7 +1,7 @@
-use Rattle.std.proofs.Common.{refl, ap, ◌∙◌, arith}
+use Rattle.std.proofs.Common.{refl, ap, ◌∙◌}
 use Rattle.ring_table.specs.declared.view.View.{View}
 use Rattle.ring_table.specs.ProducerSteps.{IsOpen}
-use Rattle.ring_rings.proofs.MadeLemmas.{has_just_made, has_more, just_made, written_claims, written_matches, written_refusal, written_view}
+use Rattle.ring_rings.proofs.MadeLemmas.{has_more, just_made, written_claims, written_matches}
 use Rattle.ring_rings.proofs.many_to_one.Ring+ManyToOne.write_once.Goals as goal
 
 pub invariant_of-producer-2 : goal.invariant_of-producer-2

@@ -1,8 +1,7 @@
-use Rattle.std.proofs.Common.{[], refl, ap, ◌∙◌, arith}
+use Rattle.std.proofs.Common.{refl, ap, ◌∙◌, arith}
 use Rattle.ring_words.specs.Open.{ClaimAt}
 use Rattle.ring_table.specs.declared.view.View.{View}
 use Rattle.ring_table.specs.ProducerSteps.{IsOpen}
-use Rattle.ring_rings.specs.Claiming.{claim_behind}
 use Rattle.ring_rings.proofs.MadeLemmas.{has_more, made_apart, made_claims, made_few, made_matches, made_open}
 use Rattle.ring_rings.proofs.one_to_one.Ring+OneToOne.claim.Goals as goal
 

@@ -1,5 +1,5 @@
 use Rattle.std.proofs.Common.{[]}
-use Rattle.ring_rings.proofs.WaitLemmas.{looks_nowhere, looks_on}
+use Rattle.ring_rings.proofs.WaitLemmas.{looks_nowhere}
 use Rattle.ring_rings.proofs.waiting.Ring+ManyToOne.write.Goals as goal
 
 pub loop-init : goal.loop-init
