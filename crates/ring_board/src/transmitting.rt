@@ -108,6 +108,20 @@ impl Board {
         self.store_tail(seat, tail);
     }
 
+    /// Says whether a message of this type id and so many bytes would be transmitted now. The refusals are those of
+    /// `transmit`; nothing changes.
+    pub fn check(
+        &self,
+        transmitter: &Transmitter,
+        type_id: i32,
+        len: usize,
+    ) -> Result<(), TransmitFault>
+        ensures { IsRefusedBy (transmit_refusal_of (capacity_of self.now) (tail_of transmitter.now) type_id len) result }
+    {
+        self.admit(transmitter.tail, type_id, len)?;
+        Ok(())
+    }
+
     /// Transmits a message: appends it to the list that receivers read. It never waits. After a refusal all is as
     /// before: `BadType` where the type id is below 1, `TooLong` where the body has more bytes than an eighth of the
     /// capacity, `PositionLimit` where the record would end above 2^62.

@@ -4,3 +4,5 @@ pub mod ReadCommands
 pub mod ReadReplies
 pub mod Joined
 pub mod Written
+pub mod FoldLemmas
+pub mod WorkLemmas

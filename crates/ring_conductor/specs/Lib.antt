@@ -4,3 +4,9 @@ pub mod Command
 pub mod Reply
 pub mod Reading
 pub mod Writing
+pub mod Codes
+pub mod Applied
+pub mod Fold
+pub mod Applying
+pub mod Serving
+pub mod Conducting

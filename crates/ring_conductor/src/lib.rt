@@ -1,15 +1,23 @@
 //! The conductor's protocol: how commands and replies are spelled as bytes, and read again.
 #![tactic(auto)]
 
+mod applying;
+mod codes;
 mod commands;
+mod conductor;
 mod faults;
 mod fields;
+mod handling;
 mod laws;
+mod listening;
 mod replies;
+mod serving;
+mod working;
 
 pub use commands::Command;
 pub use commands::decode::decode_command;
 pub use commands::encode::encode_command;
+pub use conductor::{Conductor, Work, WorkStop};
 pub use faults::Bad;
 pub use laws::{command_round_trip, one_command, one_reply, reply_round_trip};
 pub use replies::Reply;

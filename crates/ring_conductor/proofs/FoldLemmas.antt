@@ -1,0 +1,52 @@
+-- A handler that serves each message folds them.
+use Rattle.std.proofs.Common.{◌≡◌, ◌∙◌, List, [], ◌∷◌, ◌++◌, refl, subst}
+use Rattle.std.specs.Prelude.{All}
+use Rattle.std.proofs.lemmas.List.Elements.{All-head, All-tail}
+use Rattle.ring_words.specs.declared.action.Action.{Action}
+use Rattle.ring_words.specs.declared.action.Action.TheVariants.{Abort, Break, Commit, Continue}
+use Rattle.ring_words.specs.Read.{GoesOn}
+use Rattle.ring_layout.specs.declared.message.Message.{Message}
+use Rattle.ring_layout.specs.Handles.{Handles}
+use Rattle.ring_conductor.specs.declared.serving.Serving.{Serving}
+use Rattle.ring_conductor.specs.Fold.{fold_of, at_moment}
+use Rattle.ring_conductor.specs.Serving.{ledger_of, IsSameHandler, Serves}
+
+same_twice : (s t u : Serving) → IsSameHandler s t → IsSameHandler t u → IsSameHandler s u
+same_twice s t u a b = record {
+  moment = b.moment ∙ a.moment;
+  board = b.board ∙ a.board;
+  values = b.values ∙ a.values;
+  counters = b.counters ∙ a.counters;
+  transmitter = b.transmitter ∙ a.transmitter;
+  value_shares = b.value_shares ∙ a.value_shares;
+}
+
+same_once : (s : Serving) → IsSameHandler s s
+same_once s = record { moment = refl; board = refl; values = refl; counters = refl; transmitter = refl; value_shares = refl }
+
+abbrev pub Folds : Serving → List Message → Serving → Type 0
+Folds s ms t = IsSameHandler s t × (ledger_of t ≡ fold_of (ledger_of s) (at_moment s.now ms))
+
+one_more : (s u t : Serving) (m : Message) (ms : List Message) → Serves s m u Continue → Folds u ms t → Folds s (m ∷ ms) t
+one_more s u t m ms w f = (same_twice s u t w.0 f.0, f.1 ∙ (λ i. fold_of (w.1 i) (at_moment (w.0.moment i) ms)))
+
+-- a read that goes on after each message
+pub folded : (s t : Serving) (ms : List Message) (actions : List Action) → Handles Serves s ms actions t → All GoesOn actions → Folds s ms t
+folded s t [] [] h on = subst (λ (x : Serving). Folds s [] x) h (same_once s, refl)
+folded s t [] (a ∷ actions) h on = absurd h
+folded s t (m ∷ ms) [] h on = absurd h
+folded s t (m ∷ ms) (Abort ∷ actions) h on = absurd (All-head GoesOn Abort actions on)
+folded s t (m ∷ ms) (Break ∷ actions) h on = absurd (All-head GoesOn Break actions on)
+folded s t (m ∷ ms) (Commit ∷ actions) h on = absurd h.1
+folded s t (m ∷ ms) (Continue ∷ actions) h on = one_more s h.0 t m ms h.1 (folded h.0 t ms actions h.2 (All-tail GoesOn Continue actions on))
+
+-- it never breaks
+pub never_breaks : (s t : Serving) (ms : List Message) (before : List Action) → Handles Serves s ms (before ++ Break ∷ []) t → ⊥
+never_breaks s t [] [] h = h
+never_breaks s t [] (a ∷ before) h = h
+never_breaks s t (m ∷ ms) [] h = h.1
+never_breaks s t (m ∷ ms) (a ∷ before) h = never_breaks h.0 t ms before h.2
+
+-- a message that is left changes nothing
+pub left : (s u t : Serving) (m : Message) (ms : List Message) → Folds s ms u → Serves u m t Abort → Folds s ms t
+left s u t m ms f w = (same_twice s u t f.0 w.0, w.1 ∙ f.1)

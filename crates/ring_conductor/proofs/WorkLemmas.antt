@@ -1,0 +1,107 @@
+-- A controlled read by the conductor's handler is work.
+use Rattle.std.proofs.Common.{◌≡◌, ◌∙◌, ℕ, ◌+◌, ◌<◌, ◌≤◌, sym, ap, subst, inl, inr}
+use Rattle.ring_words.specs.declared.read_end.ReadEnd.{ReadEnd}
+use Rattle.ring_words.specs.declared.read_end.Stop.{Stop}
+use Rattle.ring_words.specs.declared.read_end.Stop.TheVariants.{Limit, Block, Unpublished, Action}
+use Rattle.ring_words.specs.Read.{stop_of}
+use Rattle.ring_layout.specs.Handles.{Handles}
+use Rattle.ring_table.specs.declared.view.View.{View}
+use Rattle.ring_rings.specs.declared.seats.Consumer.{Consumer}
+use Rattle.ring_rings.specs.Reading.{Controls, WentOn, Broke, Aborts, IsBlocked, messages_of}
+use Rattle.ring_rings.specs.Seats.{consumer_view}
+use Rattle.ring_conductor.specs.declared.serving.Serving.{Serving}
+use Rattle.ring_conductor.specs.declared.conductor.Conductor.{Conductor}
+use Rattle.ring_conductor.specs.declared.conductor.Work.{Work}
+use Rattle.ring_conductor.specs.declared.conductor.WorkStop.TheVariants as work
+use Rattle.ring_conductor.specs.Serving.{IsSameHandler, Serves, IsAtEnd}
+use Rattle.ring_conductor.specs.Conducting.{Works, conductor_of, work_stop}
+use Rattle.ring_conductor.proofs.FoldLemmas.{Folds, folded, left, never_breaks}
+
+abbrev pub conductor_at : Consumer → Serving → Conductor
+conductor_at consumer s = conductor_of consumer s.transmitter.now s.counters.now
+
+is_unpublished : (stop : Stop) → work_stop stop ≡ work.Unpublished → stop ≡ Unpublished
+is_unpublished Limit e = cc
+is_unpublished Block e = cc
+is_unpublished Unpublished e = cc
+is_unpublished Action e = cc
+
+module _ (limit : ℕ) (v w : View) (s t : Serving) (end : ReadEnd) where
+  broke_off : Broke Serves limit v w s t end → ⊥
+  broke_off broke =
+      let ms = messages_of broke.reads.messages in
+      never_breaks s t ms broke.before (subst (λ actions. Handles Serves s ms actions t) broke.broke broke.reads.handled)
+
+  folds_on : (on : WentOn Serves limit v w s t end) → Folds s (messages_of on.reads.messages) t
+  folds_on on = folded s t (messages_of on.reads.messages) on.reads.actions on.reads.handled on.went_on
+
+  folds_off : (off : Aborts Serves limit v w s t end) → Folds s (messages_of off.reads.messages) t
+  folds_off off =
+      let ms = messages_of off.reads.messages in
+      left s off.before t off.message ms (folded s off.before ms off.reads.actions off.reads.handled off.went_on) off.aborted
+
+  -- the handler is the same afterwards
+  pub stays : Controls Serves limit v w s t end → IsSameHandler s t
+  stays (inl on) = (folds_on on).0
+  stays (inr (inl broke)) = absurd (broke_off broke)
+  stays (inr (inr off)) = (folds_off off).0
+
+-- what a read and its report have in common
+pub record Reported (limit : ℕ) (c d : Consumer) (end : ReadEnd) (done : Work) : Type 0 where
+  pub messages : done.messages ≡ end.messages
+  pub stopped : done.stopped ≡ work_stop end.stopped
+  pub within : end.messages ≤ limit
+  pub bytes : (consumer_view c).consumer.head + end.bytes ≡ (consumer_view d).consumer.head
+  pub blocked : end.stopped ≡ Unpublished → IsBlocked (consumer_view c) (consumer_view d)
+
+module _ (limit : ℕ) (c d : Consumer) (s t : Serving) (end : ReadEnd) (done : Work) (r : Reported limit c d end done) where
+  abbrev Done : Type 0
+  Done = Works s.now limit (conductor_at c s) (conductor_at d t) done
+
+  went_on : WentOn Serves limit (consumer_view c) (consumer_view d) s t end → Done
+  went_on on =
+      let f = folds_on limit (consumer_view c) (consumer_view d) s t end on in
+      record {
+        messages = on.reads.messages;
+        counted = r.messages ∙ on.reads.counted;
+        few = subst (λ n. n ≤ limit) on.reads.counted r.within;
+        received = on.reads.taken;
+        moves = on.reads.moves;
+        tight = λ e. on.reads.tight (sym r.messages ∙ e);
+        folded = f.1;
+        value_shares = f.0.value_shares;
+        stops = inl (record {
+          bytes = end.bytes;
+          moved = r.bytes;
+          stopped = r.stopped ∙ ap work_stop (on.stopped ∙ ap (λ n. stop_of (consumer_view d).capacity limit n (consumer_view d).consumer.head end.bytes) (sym r.messages));
+        });
+        blocked = λ e. r.blocked (is_unpublished end.stopped (sym r.stopped ∙ e));
+      }
+
+  cut_off : Aborts Serves limit (consumer_view c) (consumer_view d) s t end → Done
+  cut_off off =
+      let w = off.aborted in
+      let f = folds_off limit (consumer_view c) (consumer_view d) s t end off in
+      record {
+        messages = off.reads.messages;
+        counted = r.messages ∙ off.reads.counted;
+        few = subst (λ n. n ≤ limit) off.reads.counted r.within;
+        received = off.reads.taken;
+        moves = off.reads.moves;
+        tight = λ e. off.reads.tight (sym r.messages ∙ e);
+        folded = f.1;
+        value_shares = f.0.value_shares;
+        stops = inr (record {
+          stopped = r.stopped ∙ ap work_stop off.stopped;
+          command = off.message;
+          next = off.next;
+          before_limit = subst (λ n. n < limit) (sym r.messages) off.before_limit;
+          full = subst (λ l. IsAtEnd l.board) (sym w.1) w.2;
+        });
+        blocked = λ e. r.blocked (is_unpublished end.stopped (sym r.stopped ∙ e));
+      }
+
+  pub worked : Controls Serves limit (consumer_view c) (consumer_view d) s t end → Done
+  worked (inl on) = went_on on
+  worked (inr (inl broke)) = absurd (broke_off limit (consumer_view c) (consumer_view d) s t end broke)
+  worked (inr (inr off)) = cut_off off

@@ -1,0 +1,55 @@
+-- What one message does to the counters, and its one reply.
+use Rattle.std.specs.Prelude.{ℕ, ◌==◌, ℤ, pos, List, [], ◌∷◌, length, Option, Some, None, Result, Ok, Err, if◌then◌else◌}
+use Rattle.ring_layout.specs.declared.message.Message.{Message}
+use Rattle.ring_counters.specs.declared.rule.ValueWrite.{ValueWrite}
+use Rattle.ring_counters.specs.declared.fault.AllocateRefused.{AllocateRefused}
+use Rattle.ring_counters.specs.declared.fault.IdFault.{IdFault}
+use Rattle.ring_counters.specs.Counter.{Counter}
+use Rattle.ring_counters.specs.Registry.{Registry, new_counter, allocation_of, allocated_in, id_refusal_of, reclaimed_in, with_value, owned_ids, closed_in}
+use Rattle.ring_counters.specs.Views.{value_write}
+use Rattle.ring_conductor.specs.declared.faults.Bad.{Bad}
+use Rattle.ring_conductor.specs.declared.replies.Reply.{Reply}
+use Rattle.ring_conductor.specs.declared.replies.Reply.TheVariants.{Allocated, Done, Refused, Closed}
+use Rattle.ring_conductor.specs.Command.{Instruction, Allocate, Free, Set, AllocateOwned, Close}
+use Rattle.ring_conductor.specs.Reading.{command_of}
+use Rattle.ring_conductor.specs.Codes.{allocate_code, id_code, bad_code, bad_correlation, bad_owner_code}
+
+-- the counters afterwards, the values that were written, and the reply
+pub record Outcome : Type 0 where
+  pub registry : Registry
+  pub writes : List ValueWrite
+  pub reply : Reply
+
+-- nothing is changed, and the reply says why
+abbrev pub refused : Registry → ℕ → ℤ → Outcome
+refused r correlation code = record { registry = r; writes = []; reply = Refused correlation code }
+
+-- a counter gets this id, or none
+abbrev pub allocated : Registry → ℕ → Counter → Result ℕ AllocateRefused → Outcome
+allocated r correlation c (Ok id) = record { registry = allocated_in r id c; writes = value_write id (pos 0) ∷ []; reply = Allocated correlation id }
+allocated r correlation c (Err fault) = refused r correlation (allocate_code fault)
+
+-- the counters become these, unless there is a refusal
+abbrev pub done_unless : Option IdFault → Registry → ℕ → Registry → List ValueWrite → Outcome
+done_unless None r correlation new writes = record { registry = new; writes = writes; reply = Done correlation }
+done_unless (Some fault) r correlation new writes = refused r correlation (id_code fault)
+
+-- what a command does at a moment. The registration id of a counter is the correlation id of its command
+abbrev pub obeyed : ℕ → Registry → Instruction → Outcome
+obeyed now r (Allocate correlation type_id key label) = allocated r correlation (new_counter type_id key label correlation 0) (allocation_of r now key label)
+obeyed now r (AllocateOwned correlation type_id owner key label) =
+    allocated r correlation (new_counter type_id key label correlation owner) (allocation_of r now key label)
+obeyed now r (Free correlation id) = done_unless (id_refusal_of r id) r correlation (reclaimed_in r now id) []
+obeyed now r (Set correlation id value) = done_unless (id_refusal_of r id) r correlation (with_value r id value) (value_write id value ∷ [])
+obeyed now r (Close correlation owner) =
+    if owner == 0 then refused r correlation bad_owner_code
+    else record { registry = closed_in r now owner; writes = []; reply = Closed correlation (length (owned_ids r owner)) }
+
+-- what was read is obeyed; what can't be read is refused
+abbrev pub obeyed_if_read : ℕ → Registry → Result Instruction Bad → Outcome
+obeyed_if_read now r (Ok command) = obeyed now r command
+obeyed_if_read now r (Err bad) = refused r (bad_correlation bad) (bad_code bad)
+
+-- what a message does at a moment
+abbrev pub applied : ℕ → Registry → Message → Outcome
+applied now r m = obeyed_if_read now r (command_of m.type_id m.body)

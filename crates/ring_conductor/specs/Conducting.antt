@@ -1,0 +1,101 @@
+-- What clauses say of a conductor and its work.
+use Rattle.std.specs.Prelude.{◌≡◌, ◌⊎◌, ℕ, ◌+◌, ◌<◌, ◌≤◌, List, [], ◌++◌, length}
+use Rattle.ring_words.specs.declared.read_end.Stop.{Stop}
+use Rattle.ring_words.specs.declared.read_end.Stop.TheVariants.{Limit, Block, Unpublished, Action}
+use Rattle.ring_words.specs.Read.{stop_of}
+use Rattle.ring_layout.specs.declared.message.Message.{Message}
+use Rattle.ring_table.specs.declared.claim.PlacedMessage.{PlacedMessage}
+use Rattle.ring_table.specs.declared.view.View.{View}
+use Rattle.ring_rings.specs.declared.seats.Ring.{Ring}
+use Rattle.ring_rings.specs.declared.seats.Consumer.{Consumer}
+use Rattle.ring_rings.specs.Reading.{messages_of, MovesHead, IsTight, IsBlocked, IsNext}
+use Rattle.ring_rings.specs.Seats.{IsConsumerOf, consumer_view}
+use Rattle.ring_board.specs.declared.seats.Board.{Board}
+use Rattle.ring_board.specs.declared.seats.Transmitter.{Transmitter}
+use Rattle.ring_board.specs.Seats.{IsTransmitterOf, view_of}
+use Rattle.ring_counters.specs.declared.seats.CounterValues.{CounterValues}
+use Rattle.ring_counters.specs.declared.manager.CountersManager.{CountersManager}
+use Rattle.ring_counters.specs.Registry.{fresh_registry}
+use Rattle.ring_counters.specs.Manager.{registry_of, writes_of, shares_of, IsManagerOf}
+use Rattle.ring_conductor.specs.declared.conductor.Conductor.{Conductor}
+use Rattle.ring_conductor.specs.declared.conductor.Work.{Work}
+use Rattle.ring_conductor.specs.declared.conductor.WorkStop.{WorkStop}
+use Rattle.ring_conductor.specs.declared.conductor.WorkStop.TheVariants as work
+use Rattle.ring_conductor.specs.Fold.{Ledger, fold_of, at_moment}
+use Rattle.ring_conductor.specs.Serving.{IsAtEnd}
+
+-- what the conductor knows of its ring
+abbrev pub ring_view : Conductor → View
+ring_view c = consumer_view c.consumer
+
+-- the messages that it took, with their places
+abbrev pub received_of : Conductor → List PlacedMessage
+received_of c = (ring_view c).consumer.taken
+
+abbrev pub ledger_of : Conductor → Ledger
+ledger_of c = record { registry = registry_of c.counters; writes = writes_of c.counters; board = view_of c.transmitter }
+
+-- how many shares of the values are not with readers
+abbrev pub value_shares_of : Conductor → ℕ
+value_shares_of c = shares_of c.counters
+
+-- the conductor reads this ring, transmits on this board and writes these values
+abbrev pub IsConductorOf : {K : Type 0} → Ring K → Board → CounterValues → Conductor → Type 0
+IsConductorOf ring board values c = IsConsumerOf ring c.consumer × IsTransmitterOf board c.transmitter × IsManagerOf values c.counters
+
+abbrev pub conductor_of : Consumer → Transmitter → CountersManager → Conductor
+conductor_of consumer transmitter counters = record { consumer = consumer; transmitter = transmitter; counters = counters }
+
+abbrev pub consumer_of : Conductor → Consumer
+consumer_of c = c.consumer
+
+abbrev pub transmitter_of : Conductor → Transmitter
+transmitter_of c = c.transmitter
+
+abbrev pub counters_of : Conductor → CountersManager
+counters_of c = c.counters
+
+-- all else is as it was
+abbrev pub with_transmitter : Conductor → Transmitter → Conductor
+with_transmitter c transmitter = conductor_of c.consumer transmitter c.counters
+
+abbrev pub with_counters : Conductor → CountersManager → Conductor
+with_counters c counters = conductor_of c.consumer c.transmitter counters
+
+-- no counter was ever used, and no value written
+abbrev pub AreUnused : CountersManager → Type 0
+AreUnused counters = ((count : ℕ) × (reuse_ms : ℕ) × (registry_of counters ≡ fresh_registry count reuse_ms)) × (writes_of counters ≡ [])
+
+-- how the stop of a read is told
+abbrev pub work_stop : Stop → WorkStop
+work_stop Limit = work.Limit
+work_stop Block = work.Block
+work_stop Unpublished = work.Unpublished
+work_stop Action = work.BoardEnd
+
+-- the read came to its end
+pub record IsReadOut (limit : ℕ) (v w : View) (done : Work) : Type 0 where
+  pub bytes : ℕ
+  pub moved : v.consumer.head + bytes ≡ w.consumer.head
+  pub stopped : done.stopped ≡ work_stop (stop_of w.capacity limit done.messages w.consumer.head bytes)
+
+-- a command was left, since the board has no room for its reply
+pub record IsCutOff (limit : ℕ) (old new : Conductor) (done : Work) : Type 0 where
+  pub stopped : done.stopped ≡ work.BoardEnd
+  pub command : Message
+  pub next : IsNext (ring_view old) (ring_view new) command
+  pub before_limit : done.messages < limit
+  pub full : IsAtEnd (view_of new.transmitter)
+
+-- messages were taken at a moment, and counters, value writes and replies are their fold
+pub record Works (now limit : ℕ) (old new : Conductor) (done : Work) : Type 0 where
+  pub messages : List PlacedMessage
+  pub counted : done.messages ≡ length messages
+  pub few : length messages ≤ limit
+  pub received : received_of new ≡ received_of old ++ messages
+  pub moves : MovesHead (ring_view old) (ring_view new)
+  pub tight : done.messages ≡ limit → IsTight (ring_view old).consumer.head messages (ring_view new).consumer.head
+  pub folded : ledger_of new ≡ fold_of (ledger_of old) (at_moment now (messages_of messages))
+  pub value_shares : value_shares_of new ≡ value_shares_of old
+  pub stops : IsReadOut limit (ring_view old) (ring_view new) done ⊎ IsCutOff limit old new done
+  pub blocked : done.stopped ≡ work.Unpublished → IsBlocked (ring_view old) (ring_view new)

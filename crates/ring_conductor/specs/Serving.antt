@@ -1,0 +1,41 @@
+-- What the conductor does with a message.
+use Rattle.std.specs.Prelude.{◌≡◌, ◌<◌, ◌≤◌, ◌^◌}
+use Rattle.ring_words.specs.declared.action.Action.{Action}
+use Rattle.ring_words.specs.declared.action.Action.TheVariants.{Abort, Break, Commit, Continue}
+use Rattle.ring_layout.specs.declared.message.Message.{Message}
+use Rattle.ring_layout.specs.History.{span}
+use Rattle.ring_layout.specs.Places.{max_position, end_after}
+use Rattle.ring_board.specs.Seats.{IsTransmitterOf, view_of}
+use Rattle.ring_counters.specs.Manager.{registry_of, writes_of, shares_of, IsManagerOf}
+use Rattle.ring_conductor.specs.declared.serving.Serving.{Serving}
+use Rattle.ring_conductor.specs.Fold.{Ledger, served}
+use Rattle.ring_board.specs.declared.view.View.{View}
+
+-- a reply of 12 bytes would end above the greatest position
+abbrev pub IsAtEnd : View → Type 0
+IsAtEnd v = max_position < end_after v.capacity v.at (span 12)
+
+abbrev pub ledger_of : Serving → Ledger
+ledger_of s = record { registry = registry_of s.counters.now; writes = writes_of s.counters.now; board = view_of s.transmitter.now }
+
+-- transmitter and counters belong to the board and the values
+pub record IsReady (s : Serving) : Type 0 where
+  pub board : IsTransmitterOf s.board.now s.transmitter.now
+  pub values : IsManagerOf s.values.now s.counters.now
+  pub moment : s.now ≤ 2 ^ 62
+
+-- it is the same handler, with all shares as before
+pub record IsSameHandler (s t : Serving) : Type 0 where
+  pub moment : t.now ≡ s.now
+  pub board : t.board ≡ s.board
+  pub values : t.values ≡ s.values
+  pub counters : t.counters.ghost_name ≡ s.counters.ghost_name
+  pub transmitter : t.transmitter.ghost_name ≡ s.transmitter.ghost_name
+  pub value_shares : shares_of t.counters.now ≡ shares_of s.counters.now
+
+-- a message is served; or the board is at its end, and nothing is done
+abbrev pub Serves : Serving → Message → Serving → Action → Type 0
+Serves s m t Abort = IsSameHandler s t × (ledger_of t ≡ ledger_of s) × IsAtEnd (ledger_of s).board
+Serves s m t Break = ⊥
+Serves s m t Commit = ⊥
+Serves s m t Continue = IsSameHandler s t × (ledger_of t ≡ served (ledger_of s) s.now m)

@@ -1,0 +1,35 @@
+//! The conductor, and what it says of its work.
+use ring_board::Transmitter;
+use ring_counters::CountersManager;
+use ring_rings::Consumer;
+
+/// Takes commands from a ring, applies them to the counters that it owns, and transmits one reply to each.
+///
+/// It belongs to the ring, the board and the values of the parts that it was made of; each call that takes them requires those.
+#[derive(Drop)]
+pub struct Conductor {
+    pub(crate) consumer: Consumer,
+    pub(crate) transmitter: Transmitter,
+    pub(crate) counters: CountersManager,
+}
+
+/// Why the conductor stopped.
+#[derive(Clone, Copy, Debug, PartialEq, Eq)]
+pub enum WorkStop {
+    /// As many commands were taken as were wanted.
+    Limit,
+    /// The end of the ring's buffer was reached: the next call goes on behind it.
+    Block,
+    /// There was no settled command.
+    Unpublished,
+    /// A reply might end above 2^62 on the board. The command stays in the ring, not applied.
+    BoardEnd,
+}
+
+/// What the conductor did.
+#[derive(Clone, Copy, Debug, PartialEq, Eq)]
+pub struct Work {
+    /// How many commands were taken.
+    pub messages: u64,
+    pub stopped: WorkStop,
+}

@@ -1,0 +1,84 @@
+//! Those who listen to the conductor's replies, and those who read the counters' values.
+
+ghost use Rattle.std.specs.Prelude.{◌≡◌, ◌+◌, ◌<◌, ◌↔◌, [], IfOk, IsOk, OnErr, OnOk};
+ghost use Rattle.ring_board.specs.Refusals.{subscribe_refusal_of, IsSubscribedUnless};
+ghost use Rattle.ring_board.specs.Runs.{AreRuns};
+ghost use Rattle.ring_board.specs.Seats.{view_of, shares_of, transmitted, IsTransmitterOf, IsReceiverOf, receiver_view, subscribed_at, copies_of};
+ghost use Rattle.ring_board.specs.Steps.{fewer, newcomer, joined};
+ghost use Rattle.ring_counters.specs.Agree.{Agree};
+ghost use Rattle.ring_counters.specs.Manager.{registry_of, writes_of, IsManagerOf};
+ghost use Rattle.ring_counters.specs.Seats.{IsReaderOf, made_of, seen_by, loads_of};
+ghost use Rattle.ring_counters.specs.ValueWrites.{AreLoads};
+ghost use Rattle.ring_conductor.specs.Conducting.{counters_of, transmitter_of, value_shares_of, with_counters, with_transmitter};
+
+use crate::conductor::Conductor;
+use ring_board::{Board, CopyReceiver, SubscribeFault};
+use ring_counters::{CounterValues, NoShares, ValueReader};
+use std::alloc::Global;
+
+impl Conductor {
+    /// Makes a receiver of the replies, which starts with the one at latest, with one share of the transmitter's.
+    /// `NoShares` where the transmitter has one share, then `OutOfMemory`; all is then as before.
+    pub fn subscribe(
+        &mut self,
+        alloc: Global,
+        board: &Board,
+    ) -> Result<CopyReceiver, SubscribeFault>
+        requires { IsTransmitterOf board.now (transmitter_of self.old) }
+        ensures board { IsTransmitterOf board.now (transmitter_of self.new) }
+        ensures refused { IsSubscribedUnless (subscribe_refusal_of (shares_of (transmitter_of self.old))) result }
+        ensures receiver { IfOk result (λ r. IsReceiverOf board.now r × (receiver_view r ≡ newcomer (view_of (transmitter_of self.old)))) }
+        ensures fewer { OnOk result (view_of (transmitter_of self.new) ≡ fewer (view_of (transmitter_of self.old))) }
+        ensures others { self.new ≡ with_transmitter self.old (transmitter_of self.new) }
+        ensures err { OnErr result (self.new ≡ self.old) }
+    {
+        board.subscribe(alloc, &mut self.transmitter)
+    }
+
+    /// Takes a receiver back, with its share. Its copies are runs of the transmitted list.
+    pub fn join_receiver(&mut self, board: &Board, receiver: CopyReceiver)
+        requires transmitter { IsTransmitterOf board.now (transmitter_of self.old) }
+        requires receiver { IsReceiverOf board.now receiver }
+        ensures board { IsTransmitterOf board.now (transmitter_of self.new) }
+        ensures runs { AreRuns (transmitted (transmitter_of self.old)) (subscribed_at receiver) (copies_of receiver) }
+        ensures joined { view_of (transmitter_of self.new) ≡ joined (view_of (transmitter_of self.old)) (receiver_view receiver) }
+        ensures shares { shares_of (transmitter_of self.new) ≡ shares_of (transmitter_of self.old) + 1 }
+        ensures others { self.new ≡ with_transmitter self.old (transmitter_of self.new) }
+    {
+        board.join(&mut self.transmitter, receiver);
+    }
+
+    /// Makes a reader of the counters' values, for another thread. It takes one share of the values.
+    ///
+    /// `NoShares` comes where one share is left; all is then as before.
+    pub fn value_reader(&mut self, values: &CounterValues) -> Result<ValueReader, NoShares>
+        requires { IsManagerOf values.now (counters_of self.old) }
+        ensures values { IsManagerOf values.now (counters_of self.new) }
+        ensures enough { IsOk result ↔ (1 < value_shares_of self.old) }
+        ensures reader { IfOk result (λ r. IsReaderOf values.now r) }
+        ensures made { IfOk result (λ r. (made_of r ≡ writes_of (counters_of self.old)) × (seen_by r ≡ writes_of (counters_of self.old)) × (loads_of r ≡ [])) }
+        ensures shares { OnOk result (value_shares_of self.new + 1 ≡ value_shares_of self.old) }
+        ensures registry { registry_of (counters_of self.new) ≡ registry_of (counters_of self.old) }
+        ensures writes { writes_of (counters_of self.new) ≡ writes_of (counters_of self.old) }
+        ensures others { self.new ≡ with_counters self.old (counters_of self.new) }
+        ensures err { OnErr result (self.new ≡ self.old) }
+    {
+        self.counters.reader(values)
+    }
+
+    /// Takes a reader of the values back, with its share. What it loaded are values after first parts of the writes, after
+    /// which the values are the registry's.
+    pub fn join_value_reader(&mut self, values: &CounterValues, reader: ValueReader)
+        requires counters { IsManagerOf values.now (counters_of self.old) }
+        requires reader { IsReaderOf values.now reader }
+        ensures values { IsManagerOf values.now (counters_of self.new) }
+        ensures loads { AreLoads (made_of reader) (loads_of reader) (writes_of (counters_of self.new)) }
+        ensures agree { Agree (registry_of (counters_of self.new)) (writes_of (counters_of self.new)) }
+        ensures shares { value_shares_of self.new ≡ value_shares_of self.old + 1 }
+        ensures registry { registry_of (counters_of self.new) ≡ registry_of (counters_of self.old) }
+        ensures writes { writes_of (counters_of self.new) ≡ writes_of (counters_of self.old) }
+        ensures others { self.new ≡ with_counters self.old (counters_of self.new) }
+    {
+        self.counters.join_reader(values, reader);
+    }
+}

@@ -1,0 +1,84 @@
+//! The conductor at work.
+
+ghost use Rattle.std.specs.Prelude.{◌≡◌, ◌^◌, ◌≤◌, []};
+ghost use Rattle.ring_rings.specs.Seats.{taken_of};
+ghost use Rattle.ring_board.specs.Seats.{transmitted};
+ghost use Rattle.ring_conductor.specs.Conducting.{AreUnused, IsConductorOf, Works, conductor_of, counters_of, work_stop};
+
+use crate::conductor::{Conductor, Work, WorkStop};
+use crate::serving::Serving;
+use ring_board::{Board, Transmitter};
+use ring_counters::{CounterValues, CountersManager};
+use ring_rings::{Consumer, Ring};
+use ring_words::Stop;
+
+fn work_stop(stopped: Stop) -> WorkStop
+    ensures { result ≡ work_stop stopped }
+{
+    match stopped {
+        Stop::Limit => WorkStop::Limit,
+        Stop::Block => WorkStop::Block,
+        Stop::Unpublished => WorkStop::Unpublished,
+        Stop::Action => WorkStop::BoardEnd,
+    }
+}
+
+impl Conductor {
+    /// Makes a conductor of a ring's consumer, a board's transmitter, and counters, of which none was used yet.
+    pub fn new(consumer: Consumer, transmitter: Transmitter, counters: CountersManager) -> Conductor
+        requires consumer { taken_of consumer ≡ [] }
+        requires transmitter { transmitted transmitter ≡ [] }
+        requires counters { AreUnused counters }
+        ensures { result ≡ conductor_of consumer transmitter counters }
+    {
+        Conductor {
+            consumer,
+            transmitter,
+            counters,
+        }
+    }
+
+    /// The counters.
+    pub fn counters(&self) -> &CountersManager
+        ensures { result.now ≡ counters_of self.now }
+    {
+        &self.counters
+    }
+
+    /// Takes at most `limit` commands from the ring. Each is applied to the counters at the moment `now`, in milliseconds
+    /// and at most 2^62, and gets exactly one reply, which carries its correlation id. No memory is taken.
+    ///
+    /// It stops as a controlled read of the ring does, or with `BoardEnd` where a reply of 12 bytes would end above 2^62
+    /// on the board. The command stays in the ring then, not applied.
+    pub fn do_work<K>(
+        &mut self,
+        ring: &Ring<K>,
+        board: &Board,
+        values: &CounterValues,
+        now: u64,
+        limit: u32,
+    ) -> Work
+        requires conductor { IsConductorOf ring.now board.now values.now self.old }
+        requires now { now ≤ 2 ^ 62 }
+        ensures conductor { IsConductorOf ring.now board.now values.now self.new }
+        ensures works { Works now limit self.old self.new result }
+    {
+        let Conductor {
+            consumer,
+            transmitter,
+            counters,
+        } = self;
+        let mut serving = Serving {
+            now,
+            counters,
+            transmitter,
+            board,
+            values,
+        };
+        let end = ring.controlled_read(consumer, limit, &mut serving);
+        Work {
+            messages: u64::from(end.messages),
+            stopped: work_stop(end.stopped),
+        }
+    }
+}
