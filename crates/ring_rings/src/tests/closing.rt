@@ -1,5 +1,9 @@
+ghost use Rattle.ring_rings.specs.Seats.{IsProducerOf};
+
 use super::bench::{BODY, Bench, Kind, Script, closed, end, note};
-use crate::{ClaimFault, CloseFault, ManyToOne, ManyToOneRing, NoShares, OneToOne, Stop, TryFault};
+use crate::{
+    ClaimFault, CloseFault, ManyToOne, ManyToOneRing, NoShares, OneToOne, Producer, Stop, TryFault,
+};
 use std::alloc::Global;
 use std::process::Abort;
 use std::test::Fail;
@@ -136,14 +140,23 @@ fn joined_claims_stay_open(rt: HostRuntime) -> Result<(), Fail> {
     Ok(())
 }
 
+/// Writes empty messages.
+fn write_often(ring: &ManyToOneRing, producer: &mut Producer, times: u32) -> Result<(), TryFault>
+    requires { IsProducerOf ring.now producer.old }
+    ensures { IsProducerOf ring.now producer.new }
+{
+    for _ in 0..times {
+        ring.write_once(producer, 1, &[])?;
+    }
+    Ok(())
+}
+
 #[test]
 fn a_lost_producer_keeps_the_ring_open(rt: HostRuntime) -> Result<(), Fail> {
     let (mut ring, mut first, mut consumer) = ManyToOneRing::new(rt.alloc(), 128)?;
     let mut second = ring.split(&mut first)?;
     let _kept_aside = ring.claim_once(&mut second, 1, 0)?;
-    for _ in 0..15 {
-        ring.write_once(&mut first, 1, &[])?;
-    }
+    write_often(&ring, &mut first, 15)?;
     let full = TryFault::Refused(ClaimFault::InsufficientCapacity { tail: 128, head: 0 });
     assert_eq!(rt; ring.write_once(&mut first, 1, &[]), Err(full));
     let read = ring.read(&mut consumer, 9, &mut Script::new(&[]));
