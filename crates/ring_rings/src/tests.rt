@@ -1,1 +1,6 @@
+mod bench;
+mod claims;
+mod closing;
 mod reading;
+mod services;
+mod writing;
