@@ -140,6 +140,21 @@ fn joined_claims_stay_open(rt: HostRuntime) -> Result<(), Fail> {
     Ok(())
 }
 
+#[test]
+fn splits_until_one_share_is_left(rt: HostRuntime) -> Result<(), Fail> {
+    let (ring, mut first, consumer) = ManyToOneRing::new(rt.alloc(), 128)?;
+    for _ in 0..65535 {
+        ring.split(&mut first)?;
+    }
+    assert_eq!(rt; first.shares(), 1);
+    assert_eq!(rt; ring.split(&mut first).err(), Some(NoShares));
+    let Err(refused) = ring.close(first, consumer) else {
+        return Err(Fail::from("closed with producers out"));
+    };
+    assert_eq!(rt; refused.reason, CloseFault::ProducersOut { shares: 65535 });
+    Ok(())
+}
+
 /// Writes empty messages.
 fn write_often(ring: &ManyToOneRing, producer: &mut Producer, times: u32) -> Result<(), TryFault>
     requires { IsProducerOf ring.now producer.old }
