@@ -3,5 +3,6 @@ mod claims;
 mod closing;
 mod faults;
 mod reading;
+mod script;
 mod services;
 mod writing;

@@ -1,6 +1,7 @@
 ghost use Rattle.ring_rings.specs.Seats.{IsProducerOf};
 
-use super::bench::{BODY, Bench, Kind, Script, closed, end, note};
+use super::bench::{Bench, Kind, closed};
+use super::script::{BODY, Script, end, note};
 use crate::{
     ClaimFault, CloseFault, ManyToOne, ManyToOneRing, NoShares, OneToOne, Producer, Stop, TryFault,
 };

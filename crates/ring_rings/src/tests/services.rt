@@ -1,4 +1,5 @@
-use super::bench::{Bench, Kind, closed, end};
+use super::bench::{Bench, Kind, closed};
+use super::script::end;
 use crate::{Action, Handler, ManyToOne, ManyToOneRing, OneToOne, Positions, Producer, Ring, Stop};
 use std::alloc::Global;
 use std::process::Abort;
