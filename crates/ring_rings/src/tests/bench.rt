@@ -1,17 +1,16 @@
-//! A ring with its sole producer and its consumer, of either kind, and a handler that notes what it is shown.
+//! A ring of either kind with its sole producer and its consumer.
 ghost use Rattle.std.specs.Prelude.{◌≡◌, ◌≢◌, IfErr, IfOk};
 ghost use Rattle.ring_words.specs.Open.{ClaimAt};
 ghost use Rattle.ring_rings.specs.Seats.{shares_of, IsConsumerOf, IsOpenClaimOf, IsProducerOf};
 
+use super::script::Script;
 use crate::{
-    Action, Claim, CloseFault, CloseRefused, Consumer, Handler, MakeFault, ManyToOne, OneToOne,
-    Positions, Producer, PutRange, ReadEnd, Ring, Stop, TryFault,
+    Claim, CloseFault, CloseRefused, Consumer, MakeFault, ManyToOne, OneToOne, Positions, Producer,
+    PutRange, ReadEnd, Ring, TryFault,
 };
 use ring_words::SoloRing;
 use std::alloc::Global;
 use std::test::Fail;
-
-pub const BODY: [u8; 16] = [0, 1, 2, 3, 4, 5, 6, 7, 8, 9, 10, 11, 12, 13, 14, 15];
 
 /// A kind of ring, with the calls that make claims of it, as a sole producer makes them.
 pub trait Kind: Sized {
@@ -82,7 +81,7 @@ impl Kind for ManyToOne {
     }
 }
 
-/// A ring with all its seats.
+/// A ring with all its seats, on which the ring's calls are made with them.
 #[derive(Drop)]
 pub struct Bench<K> {
     pub ring: Ring<K>,
@@ -206,59 +205,4 @@ impl<K: Kind> Bench<K> {
 /// The content of a ring that can be closed.
 pub fn closed<K: Kind>(bench: Bench<K>) -> Result<SoloRing, Fail> {
     Ok(bench.close().map_err(|refused| refused.0)?)
-}
-
-/// What a handler was shown: type id, length, and the body with zeros behind it.
-pub type Note = (i32, usize, [u8; 16]);
-
-/// Notes the first messages that it is shown, and answers them by a script; behind the script it goes on.
-#[derive(Drop)]
-pub struct Script<'a> {
-    actions: &'a [Action],
-    pub shown: usize,
-    notes: [Note; 8],
-}
-
-impl<'a> Script<'a> {
-    pub fn new(actions: &'a [Action]) -> Self {
-        Script {
-            actions,
-            shown: 0,
-            notes: [(0, 0, [0; 16]); 8],
-        }
-    }
-
-    pub fn note(&self, index: usize) -> Option<Note> {
-        self.notes.get(index).copied()
-    }
-}
-
-/// What is noted of a body.
-pub fn note(type_id: i32, body: &[u8]) -> Note {
-    let mut bytes = [0; 16];
-    for (to, from) in bytes.iter_mut().zip(body) {
-        *to = *from;
-    }
-    (type_id, body.len(), bytes)
-}
-
-impl Handler for Script<'_> {
-    ghost step = { λ s m t action. Unit {0} };
-
-    fn on_message(&mut self, type_id: i32, body: &[u8]) -> Action {
-        let index = self.shown;
-        if let Some(slot) = self.notes.get_mut(index) {
-            *slot = note(type_id, body);
-        }
-        self.shown = index.saturating_add(1);
-        self.actions.get(index).copied().unwrap_or(Action::Continue)
-    }
-}
-
-pub fn end(messages: u32, bytes: u64, stopped: Stop) -> ReadEnd {
-    ReadEnd {
-        messages,
-        bytes,
-        stopped,
-    }
 }

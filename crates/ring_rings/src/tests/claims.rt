@@ -1,4 +1,5 @@
-use super::bench::{BODY, Bench, Kind, Script, end, note};
+use super::bench::{Bench, Kind};
+use super::script::{BODY, Script, end, note};
 use crate::{Action, ManyToOne, OneToOne, Positions, PutRange, Stop};
 use std::alloc::Global;
 use std::process::Abort;

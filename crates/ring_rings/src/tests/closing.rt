@@ -1,6 +1,7 @@
 ghost use Rattle.ring_rings.specs.Seats.{IsProducerOf};
 
-use super::bench::{BODY, Bench, Kind, Script, closed, end, note};
+use super::bench::{Bench, Kind, closed};
+use super::script::{BODY, Script, end, note};
 use crate::{
     ClaimFault, CloseFault, ManyToOne, ManyToOneRing, NoShares, OneToOne, Producer, Stop, TryFault,
 };
@@ -137,6 +138,21 @@ fn joined_claims_stay_open(rt: HostRuntime) -> Result<(), Fail> {
     assert_eq!(rt; first.open_claims(), 0);
     ring.join(&mut first, second);
     assert_eq!(rt; first.open_claims(), 1);
+    Ok(())
+}
+
+#[test]
+fn splits_until_one_share_is_left(rt: HostRuntime) -> Result<(), Fail> {
+    let (ring, mut first, consumer) = ManyToOneRing::new(rt.alloc(), 128)?;
+    for _ in 0..65535 {
+        ring.split(&mut first)?;
+    }
+    assert_eq!(rt; first.shares(), 1);
+    assert_eq!(rt; ring.split(&mut first).err(), Some(NoShares));
+    let Err(refused) = ring.close(first, consumer) else {
+        return Err(Fail::from("closed with producers out"));
+    };
+    assert_eq!(rt; refused.reason, CloseFault::ProducersOut { shares: 65535 });
     Ok(())
 }
 

@@ -1,5 +1,6 @@
-use super::bench::{Bench, Kind, closed, end};
-use crate::{Action, Handler, ManyToOne, OneToOne, Positions, Producer, Ring, Stop};
+use super::bench::{Bench, Kind, closed};
+use super::script::end;
+use crate::{Action, Handler, ManyToOne, ManyToOneRing, OneToOne, Positions, Producer, Ring, Stop};
 use std::alloc::Global;
 use std::process::Abort;
 use std::test::Fail;
@@ -115,5 +116,19 @@ fn continue_moves_the_head_at_the_end(rt: HostRuntime) -> Result<(), Fail> {
         heads_seen::<ManyToOne>(&rt, rt.alloc(), Action::Continue)?,
         [0, 0, 0]
     );
+    Ok(())
+}
+
+#[test]
+fn ids_are_drawn_once_over_producers(rt: HostRuntime) -> Result<(), Fail> {
+    let (ring, mut first, mut consumer) = ManyToOneRing::new(rt.alloc(), 128)?;
+    let mut second = ring.split(&mut first)?;
+    assert_eq!(rt; ring.next_correlation_id(&mut first), 0);
+    assert_eq!(rt; ring.next_correlation_id(&mut second), 1);
+    assert_eq!(rt; ring.next_correlation_id(&mut first), 2);
+    ring.set_heartbeat(&mut consumer, 77);
+    assert_eq!(rt; ring.heartbeat(&mut second), 77);
+    ring.join(&mut first, second);
+    assert_eq!(rt; ring.next_correlation_id(&mut first), 3);
     Ok(())
 }

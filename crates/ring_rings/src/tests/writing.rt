@@ -1,4 +1,5 @@
-use super::bench::{BODY, Bench, Kind, Script, closed, end, note};
+use super::bench::{Bench, Kind, closed};
+use super::script::{BODY, Script, end, note};
 use crate::{
     ClaimFault, MakeFault, ManyToOne, ManyToOneRing, OneToOne, OneToOneRing, Positions, Stop,
     TryFault,
@@ -183,14 +184,18 @@ fn ends_at_the_last_position(rt: HostRuntime) -> Result<(), Fail> {
 }
 
 #[test]
-fn lawful_capacities_and_starts(rt: HostRuntime) {
+fn refuses_unlawful_capacities(rt: HostRuntime) {
+    let bad = Some(MakeFault::BadCapacity);
     for capacity in [100, 64, 33554432] {
-        let bad = Some(MakeFault::BadCapacity);
         assert_eq!(rt; OneToOneRing::new(rt.alloc(), capacity).err(), bad);
         assert_eq!(rt; ManyToOneRing::new(rt.alloc(), capacity).err(), bad);
     }
+}
+
+#[test]
+fn refuses_unlawful_starts(rt: HostRuntime) {
+    let bad = Some(MakeFault::BadStart);
     for start in [64, 4611686018427388032] {
-        let bad = Some(MakeFault::BadStart);
         assert_eq!(rt; OneToOneRing::new_at(rt.alloc(), 128, start).err(), bad);
         assert_eq!(rt; ManyToOneRing::new_at(rt.alloc(), 128, start).err(), bad);
     }
