@@ -5,4 +5,5 @@ mod faults;
 mod reading;
 mod script;
 mod services;
+mod threads;
 mod writing;
