@@ -1,5 +1,5 @@
 -- A handler that serves each message folds them.
-use Rattle.std.proofs.Common.{◌≡◌, ◌∙◌, List, [], ◌∷◌, ◌++◌, refl, subst}
+use Rattle.std.proofs.Common.{◌≡◌, ◌∙◌, ℕ, suc, ◌+◌, ◌*◌, ◌≤◌, List, [], ◌∷◌, ◌++◌, length, refl, ap, subst, arith}
 use Rattle.std.specs.Prelude.{All}
 use Rattle.std.proofs.lemmas.List.Elements.{All-head, All-tail}
 use Rattle.ring_words.specs.declared.action.Action.{Action}
@@ -8,7 +8,15 @@ use Rattle.ring_words.specs.Read.{GoesOn}
 use Rattle.ring_layout.specs.declared.message.Message.{Message}
 use Rattle.ring_layout.specs.Handles.{Handles}
 use Rattle.ring_conductor.specs.declared.serving.Serving.{Serving}
-use Rattle.ring_conductor.specs.Fold.{fold_of, at_moment}
+use Rattle.ring_layout.specs.History.{span}
+use Rattle.ring_layout.proofs.PlaceLemmas.{next_le, span_bounds}
+use Rattle.ring_table.specs.declared.claim.PlacedMessage.{PlacedMessage}
+use Rattle.ring_rings.specs.Reading.{messages_of}
+use Rattle.ring_board.specs.declared.view.View.{View}
+use Rattle.ring_conductor.specs.declared.replies.Reply.{Reply}
+use Rattle.ring_conductor.specs.Reply.{spelling_of}
+use Rattle.ring_conductor.specs.Applied.{applied}
+use Rattle.ring_conductor.specs.Fold.{Ledger, fold_of, at_moment, replied, served}
 use Rattle.ring_conductor.specs.Serving.{ledger_of, IsSameHandler, Serves}
 
 same_twice : (s t u : Serving) → IsSameHandler s t → IsSameHandler t u → IsSameHandler s u
@@ -50,3 +58,23 @@ never_breaks s t (m ∷ ms) (a ∷ before) h = never_breaks h.0 t ms before h.2
 -- a message that is left changes nothing
 pub left : (s u t : Serving) (m : Message) (ms : List Message) → Folds s ms u → Serves u m t Abort → Folds s ms t
 left s u t m ms f w = (same_twice s u t f.0 w.0, w.1 ∙ f.1)
+
+-- Each reply takes room on the board -----------------------------------------
+
+replied_on : (v : View) (reply : Reply) → v.at + 8 ≤ (replied v reply).at
+replied_on v reply =
+    let n = length (spelling_of reply) in
+    let place = next_le v.capacity v.at (span n) in
+    let bytes = (span_bounds n).1 in
+    omega arith
+
+pub answered : (l : Ledger) (now : ℕ) (ms : List Message) → l.board.at + 8 * length ms ≤ (fold_of l (at_moment now ms)).board.at
+answered l now [] = omega arith
+answered l now (m ∷ ms) =
+    let one = replied_on l.board (applied now l.registry m).reply in
+    let others = answered (served l now m) now ms in
+    omega arith
+
+pub lengths : (ms : List PlacedMessage) → length (messages_of ms) ≡ length ms
+lengths [] = refl
+lengths (m ∷ ms) = ap suc (lengths ms)

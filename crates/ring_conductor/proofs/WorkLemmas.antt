@@ -1,24 +1,19 @@
 -- A controlled read by the conductor's handler is work.
-use Rattle.std.proofs.Common.{◌≡◌, ◌∙◌, ℕ, ◌+◌, ◌<◌, ◌≤◌, sym, ap, subst, inl, inr}
+use Rattle.std.proofs.Common.{◌≡◌, ◌∙◌, ℕ, ◌+◌, ◌*◌, ◌<◌, ◌≤◌, length, length-append, sym, ap, subst, inl, inr, arith}
 use Rattle.ring_words.specs.declared.read_end.ReadEnd.{ReadEnd}
 use Rattle.ring_words.specs.declared.read_end.Stop.{Stop}
 use Rattle.ring_words.specs.declared.read_end.Stop.TheVariants.{Limit, Block, Unpublished, Action}
 use Rattle.ring_words.specs.Read.{stop_of}
 use Rattle.ring_layout.specs.Handles.{Handles}
 use Rattle.ring_table.specs.declared.view.View.{View}
-use Rattle.ring_rings.specs.declared.seats.Consumer.{Consumer}
 use Rattle.ring_rings.specs.Reading.{Controls, WentOn, Broke, Aborts, IsBlocked, messages_of}
-use Rattle.ring_rings.specs.Seats.{consumer_view}
 use Rattle.ring_conductor.specs.declared.serving.Serving.{Serving}
-use Rattle.ring_conductor.specs.declared.conductor.Conductor.{Conductor}
 use Rattle.ring_conductor.specs.declared.conductor.Work.{Work}
 use Rattle.ring_conductor.specs.declared.conductor.WorkStop.TheVariants as work
-use Rattle.ring_conductor.specs.Serving.{IsSameHandler, Serves, IsAtEnd}
-use Rattle.ring_conductor.specs.Conducting.{Works, conductor_of, work_stop}
-use Rattle.ring_conductor.proofs.FoldLemmas.{Folds, folded, left, never_breaks}
-
-abbrev pub conductor_at : Consumer → Serving → Conductor
-conductor_at consumer s = conductor_of consumer s.transmitter.now s.counters.now
+use Rattle.ring_conductor.specs.Fold.{Ledger}
+use Rattle.ring_conductor.specs.Serving.{IsSameHandler, Serves, IsAtEnd, ledger_of}
+use Rattle.ring_conductor.specs.Conducting.{Works, work_stop}
+use Rattle.ring_conductor.proofs.FoldLemmas.{Folds, folded, left, never_breaks, answered, lengths}
 
 is_unpublished : (stop : Stop) → work_stop stop ≡ work.Unpublished → stop ≡ Unpublished
 is_unpublished Limit e = cc
@@ -47,20 +42,20 @@ module _ (limit : ℕ) (v w : View) (s t : Serving) (end : ReadEnd) where
   stays (inr (inr off)) = (folds_off off).0
 
 -- what a read and its report have in common
-pub record Reported (limit : ℕ) (c d : Consumer) (end : ReadEnd) (done : Work) : Type 0 where
+pub record Reported (limit : ℕ) (v w : View) (end : ReadEnd) (done : Work) : Type 0 where
   pub messages : done.messages ≡ end.messages
   pub stopped : done.stopped ≡ work_stop end.stopped
   pub within : end.messages ≤ limit
-  pub bytes : (consumer_view c).consumer.head + end.bytes ≡ (consumer_view d).consumer.head
-  pub blocked : end.stopped ≡ Unpublished → IsBlocked (consumer_view c) (consumer_view d)
+  pub bytes : v.consumer.head + end.bytes ≡ w.consumer.head
+  pub blocked : end.stopped ≡ Unpublished → IsBlocked v w
 
-module _ (limit : ℕ) (c d : Consumer) (s t : Serving) (end : ReadEnd) (done : Work) (r : Reported limit c d end done) where
+module _ (limit : ℕ) (v w : View) (s t : Serving) (end : ReadEnd) (done : Work) (r : Reported limit v w end done) where
   abbrev Done : Type 0
-  Done = Works s.now limit (conductor_at c s) (conductor_at d t) done
+  Done = Works s.now limit v w (ledger_of s) (ledger_of t) done
 
-  went_on : WentOn Serves limit (consumer_view c) (consumer_view d) s t end → Done
+  went_on : WentOn Serves limit v w s t end → Done
   went_on on =
-      let f = folds_on limit (consumer_view c) (consumer_view d) s t end on in
+      let f = folds_on limit v w s t end on in
       record {
         messages = on.reads.messages;
         counted = r.messages ∙ on.reads.counted;
@@ -69,19 +64,18 @@ module _ (limit : ℕ) (c d : Consumer) (s t : Serving) (end : ReadEnd) (done : 
         moves = on.reads.moves;
         tight = λ e. on.reads.tight (sym r.messages ∙ e);
         folded = f.1;
-        value_shares = f.0.value_shares;
         stops = inl (record {
           bytes = end.bytes;
           moved = r.bytes;
-          stopped = r.stopped ∙ ap work_stop (on.stopped ∙ ap (λ n. stop_of (consumer_view d).capacity limit n (consumer_view d).consumer.head end.bytes) (sym r.messages));
+          stopped = r.stopped ∙ ap work_stop (on.stopped ∙ ap (λ n. stop_of w.capacity limit n w.consumer.head end.bytes) (sym r.messages));
         });
         blocked = λ e. r.blocked (is_unpublished end.stopped (sym r.stopped ∙ e));
       }
 
-  cut_off : Aborts Serves limit (consumer_view c) (consumer_view d) s t end → Done
+  cut_off : Aborts Serves limit v w s t end → Done
   cut_off off =
-      let w = off.aborted in
-      let f = folds_off limit (consumer_view c) (consumer_view d) s t end off in
+      let a = off.aborted in
+      let f = folds_off limit v w s t end off in
       record {
         messages = off.reads.messages;
         counted = r.messages ∙ off.reads.counted;
@@ -90,18 +84,34 @@ module _ (limit : ℕ) (c d : Consumer) (s t : Serving) (end : ReadEnd) (done : 
         moves = off.reads.moves;
         tight = λ e. off.reads.tight (sym r.messages ∙ e);
         folded = f.1;
-        value_shares = f.0.value_shares;
         stops = inr (record {
           stopped = r.stopped ∙ ap work_stop off.stopped;
           command = off.message;
           next = off.next;
           before_limit = subst (λ n. n < limit) (sym r.messages) off.before_limit;
-          full = subst (λ l. IsAtEnd l.board) (sym w.1) w.2;
+          full = subst (λ l. IsAtEnd l.board) (sym a.1) a.2;
         });
         blocked = λ e. r.blocked (is_unpublished end.stopped (sym r.stopped ∙ e));
       }
 
-  pub worked : Controls Serves limit (consumer_view c) (consumer_view d) s t end → Done
+  pub worked : Controls Serves limit v w s t end → Done
   worked (inl on) = went_on on
-  worked (inr (inl broke)) = absurd (broke_off limit (consumer_view c) (consumer_view d) s t end broke)
+  worked (inr (inl broke)) = absurd (broke_off limit v w s t end broke)
   worked (inr (inr off)) = cut_off off
+
+-- What follows for the number of commands taken ------------------------------
+
+module _ (now limit : ℕ) (v w : View) (l k : Ledger) (done : Work) (works : Works now limit v w l k done) where
+  pub took : (n : ℕ) → n ≡ length v.consumer.taken → n + done.messages ≡ length w.consumer.taken
+  took n old =
+      let counted = works.counted in
+      let all : length w.consumer.taken ≡ length v.consumer.taken + length works.messages = ap length works.received ∙ length-append v.consumer.taken works.messages in
+      omega arith
+
+  pub took_room : (n : ℕ) → 8 * n ≤ l.board.at → 8 * (n + done.messages) ≤ k.board.at
+  took_room n old =
+      let counted = works.counted in
+      let same = lengths works.messages in
+      let on = answered l now (messages_of works.messages) in
+      let end = ap (λ (x : Ledger). x.board.at) works.folded in
+      omega arith

@@ -12,6 +12,7 @@ use Rattle.ring_rings.specs.Reading.{messages_of, MovesHead, IsTight, IsBlocked,
 use Rattle.ring_rings.specs.Seats.{IsConsumerOf, consumer_view}
 use Rattle.ring_board.specs.declared.seats.Board.{Board}
 use Rattle.ring_board.specs.declared.seats.Transmitter.{Transmitter}
+use Rattle.ring_board.specs.declared.view.View.{View as BoardView}
 use Rattle.ring_board.specs.Seats.{IsTransmitterOf, view_of}
 use Rattle.ring_counters.specs.declared.seats.CounterValues.{CounterValues}
 use Rattle.ring_counters.specs.declared.manager.CountersManager.{CountersManager}
@@ -43,9 +44,6 @@ value_shares_of c = shares_of c.counters
 abbrev pub IsConductorOf : {K : Type 0} → Ring K → Board → CounterValues → Conductor → Type 0
 IsConductorOf ring board values c = IsConsumerOf ring c.consumer × IsTransmitterOf board c.transmitter × IsManagerOf values c.counters
 
-abbrev pub conductor_of : Consumer → Transmitter → CountersManager → Conductor
-conductor_of consumer transmitter counters = record { consumer = consumer; transmitter = transmitter; counters = counters }
-
 abbrev pub consumer_of : Conductor → Consumer
 consumer_of c = c.consumer
 
@@ -55,12 +53,15 @@ transmitter_of c = c.transmitter
 abbrev pub counters_of : Conductor → CountersManager
 counters_of c = c.counters
 
--- all else is as it was
-abbrev pub with_transmitter : Conductor → Transmitter → Conductor
-with_transmitter c transmitter = conductor_of c.consumer transmitter c.counters
+-- only the transmitter may be another
+pub record KeepsTheRest (old new : Conductor) : Type 0 where
+  pub consumer : consumer_of new ≡ consumer_of old
+  pub counters : counters_of new ≡ counters_of old
 
-abbrev pub with_counters : Conductor → CountersManager → Conductor
-with_counters c counters = conductor_of c.consumer c.transmitter counters
+-- only the counters may be others
+pub record KeepsSeats (old new : Conductor) : Type 0 where
+  pub consumer : consumer_of new ≡ consumer_of old
+  pub transmitter : transmitter_of new ≡ transmitter_of old
 
 -- no counter was ever used, and no value written
 abbrev pub AreUnused : CountersManager → Type 0
@@ -80,22 +81,22 @@ pub record IsReadOut (limit : ℕ) (v w : View) (done : Work) : Type 0 where
   pub stopped : done.stopped ≡ work_stop (stop_of w.capacity limit done.messages w.consumer.head bytes)
 
 -- a command was left, since the board has no room for its reply
-pub record IsCutOff (limit : ℕ) (old new : Conductor) (done : Work) : Type 0 where
+pub record IsCutOff (limit : ℕ) (v w : View) (board : BoardView) (done : Work) : Type 0 where
   pub stopped : done.stopped ≡ work.BoardEnd
   pub command : Message
-  pub next : IsNext (ring_view old) (ring_view new) command
+  pub next : IsNext v w command
   pub before_limit : done.messages < limit
-  pub full : IsAtEnd (view_of new.transmitter)
+  pub full : IsAtEnd board
 
--- messages were taken at a moment, and counters, value writes and replies are their fold
-pub record Works (now limit : ℕ) (old new : Conductor) (done : Work) : Type 0 where
+-- messages were taken at a moment, and counters, value writes and replies are their fold: v and l are what the conductor
+-- knew of the ring, and its ledger, w and k the same afterwards
+pub record Works (now limit : ℕ) (v w : View) (l k : Ledger) (done : Work) : Type 0 where
   pub messages : List PlacedMessage
   pub counted : done.messages ≡ length messages
   pub few : length messages ≤ limit
-  pub received : received_of new ≡ received_of old ++ messages
-  pub moves : MovesHead (ring_view old) (ring_view new)
-  pub tight : done.messages ≡ limit → IsTight (ring_view old).consumer.head messages (ring_view new).consumer.head
-  pub folded : ledger_of new ≡ fold_of (ledger_of old) (at_moment now (messages_of messages))
-  pub value_shares : value_shares_of new ≡ value_shares_of old
-  pub stops : IsReadOut limit (ring_view old) (ring_view new) done ⊎ IsCutOff limit old new done
-  pub blocked : done.stopped ≡ work.Unpublished → IsBlocked (ring_view old) (ring_view new)
+  pub received : w.consumer.taken ≡ v.consumer.taken ++ messages
+  pub moves : MovesHead v w
+  pub tight : done.messages ≡ limit → IsTight v.consumer.head messages w.consumer.head
+  pub folded : k ≡ fold_of l (at_moment now (messages_of messages))
+  pub stops : IsReadOut limit v w done ⊎ IsCutOff limit v w k.board done
+  pub blocked : done.stopped ≡ work.Unpublished → IsBlocked v w

@@ -1,4 +1,8 @@
 //! The conductor, and what it says of its work.
+ghost use Rattle.std.specs.Prelude.{◌≡◌, ◌+◌, ◌*◌, ◌≤◌, length};
+ghost use Rattle.ring_rings.specs.Seats.{taken_of};
+ghost use Rattle.ring_board.specs.Seats.{view_of};
+
 use ring_board::Transmitter;
 use ring_counters::CountersManager;
 use ring_rings::Consumer;
@@ -11,6 +15,10 @@ pub struct Conductor {
     pub(crate) consumer: Consumer,
     pub(crate) transmitter: Transmitter,
     pub(crate) counters: CountersManager,
+    // How many commands it took. Each has a reply of at least 8 bytes on the board.
+    pub(crate) received: u64,
+    ghost counted: { received ≡ length (taken_of consumer) },
+    ghost answered: { 8 * received ≤ (view_of transmitter).at },
 }
 
 /// Why the conductor stopped.

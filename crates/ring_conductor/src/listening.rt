@@ -9,7 +9,7 @@ ghost use Rattle.ring_counters.specs.Agree.{Agree};
 ghost use Rattle.ring_counters.specs.Manager.{registry_of, writes_of, IsManagerOf};
 ghost use Rattle.ring_counters.specs.Seats.{IsReaderOf, made_of, seen_by, loads_of};
 ghost use Rattle.ring_counters.specs.ValueWrites.{AreLoads};
-ghost use Rattle.ring_conductor.specs.Conducting.{counters_of, transmitter_of, value_shares_of, with_counters, with_transmitter};
+ghost use Rattle.ring_conductor.specs.Conducting.{KeepsSeats, KeepsTheRest, counters_of, transmitter_of, value_shares_of};
 
 use crate::conductor::Conductor;
 use ring_board::{Board, CopyReceiver, SubscribeFault};
@@ -29,7 +29,7 @@ impl Conductor {
         ensures refused { IsSubscribedUnless (subscribe_refusal_of (shares_of (transmitter_of self.old))) result }
         ensures receiver { IfOk result (λ r. IsReceiverOf board.now r × (receiver_view r ≡ newcomer (view_of (transmitter_of self.old)))) }
         ensures fewer { OnOk result (view_of (transmitter_of self.new) ≡ fewer (view_of (transmitter_of self.old))) }
-        ensures others { self.new ≡ with_transmitter self.old (transmitter_of self.new) }
+        ensures others { KeepsTheRest self.old self.new }
         ensures err { OnErr result (self.new ≡ self.old) }
     {
         board.subscribe(alloc, &mut self.transmitter)
@@ -43,7 +43,7 @@ impl Conductor {
         ensures runs { AreRuns (transmitted (transmitter_of self.old)) (subscribed_at receiver) (copies_of receiver) }
         ensures joined { view_of (transmitter_of self.new) ≡ joined (view_of (transmitter_of self.old)) (receiver_view receiver) }
         ensures shares { shares_of (transmitter_of self.new) ≡ shares_of (transmitter_of self.old) + 1 }
-        ensures others { self.new ≡ with_transmitter self.old (transmitter_of self.new) }
+        ensures others { KeepsTheRest self.old self.new }
     {
         board.join(&mut self.transmitter, receiver);
     }
@@ -60,7 +60,7 @@ impl Conductor {
         ensures shares { OnOk result (value_shares_of self.new + 1 ≡ value_shares_of self.old) }
         ensures registry { registry_of (counters_of self.new) ≡ registry_of (counters_of self.old) }
         ensures writes { writes_of (counters_of self.new) ≡ writes_of (counters_of self.old) }
-        ensures others { self.new ≡ with_counters self.old (counters_of self.new) }
+        ensures others { KeepsSeats self.old self.new }
         ensures err { OnErr result (self.new ≡ self.old) }
     {
         self.counters.reader(values)
@@ -77,7 +77,7 @@ impl Conductor {
         ensures shares { value_shares_of self.new ≡ value_shares_of self.old + 1 }
         ensures registry { registry_of (counters_of self.new) ≡ registry_of (counters_of self.old) }
         ensures writes { writes_of (counters_of self.new) ≡ writes_of (counters_of self.old) }
-        ensures others { self.new ≡ with_counters self.old (counters_of self.new) }
+        ensures others { KeepsSeats self.old self.new }
     {
         self.counters.join_reader(values, reader);
     }

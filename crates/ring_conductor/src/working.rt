@@ -3,7 +3,7 @@
 ghost use Rattle.std.specs.Prelude.{◌≡◌, ◌^◌, ◌≤◌, []};
 ghost use Rattle.ring_rings.specs.Seats.{taken_of};
 ghost use Rattle.ring_board.specs.Seats.{transmitted};
-ghost use Rattle.ring_conductor.specs.Conducting.{AreUnused, IsConductorOf, Works, conductor_of, counters_of, work_stop};
+ghost use Rattle.ring_conductor.specs.Conducting.{AreUnused, IsConductorOf, Works, consumer_of, counters_of, ledger_of, ring_view, transmitter_of, value_shares_of, work_stop};
 
 use crate::conductor::{Conductor, Work, WorkStop};
 use crate::serving::Serving;
@@ -29,12 +29,15 @@ impl Conductor {
         requires consumer { taken_of consumer ≡ [] }
         requires transmitter { transmitted transmitter ≡ [] }
         requires counters { AreUnused counters }
-        ensures { result ≡ conductor_of consumer transmitter counters }
+        ensures consumer { consumer_of result ≡ consumer }
+        ensures transmitter { transmitter_of result ≡ transmitter }
+        ensures counters { counters_of result ≡ counters }
     {
         Conductor {
             consumer,
             transmitter,
             counters,
+            received: 0,
         }
     }
 
@@ -61,12 +64,14 @@ impl Conductor {
         requires conductor { IsConductorOf ring.now board.now values.now self.old }
         requires now { now ≤ 2 ^ 62 }
         ensures conductor { IsConductorOf ring.now board.now values.now self.new }
-        ensures works { Works now limit self.old self.new result }
+        ensures works { Works now limit (ring_view self.old) (ring_view self.new) (ledger_of self.old) (ledger_of self.new) result }
+        ensures value_shares { value_shares_of self.new ≡ value_shares_of self.old }
     {
         let Conductor {
             consumer,
             transmitter,
             counters,
+            received,
         } = self;
         let mut serving = Serving {
             now,
@@ -76,8 +81,10 @@ impl Conductor {
             values,
         };
         let end = ring.controlled_read(consumer, limit, &mut serving);
+        let messages = u64::from(end.messages);
+        *received += messages;
         Work {
-            messages: u64::from(end.messages),
+            messages,
             stopped: work_stop(end.stopped),
         }
     }

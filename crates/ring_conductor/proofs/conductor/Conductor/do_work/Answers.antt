@@ -1,7 +1,9 @@
-use Rattle.std.proofs.Common.{sym, subst}
+use Rattle.std.proofs.Common.{refl, sym, subst}
 use Rattle.ring_board.specs.Seats.{IsTransmitterOf}
 use Rattle.ring_counters.specs.Manager.{IsManagerOf}
-use Rattle.ring_conductor.proofs.WorkLemmas.{stays, worked}
+use Rattle.ring_conductor.specs.declared.conductor.Work.{Work}
+use Rattle.ring_conductor.specs.Conducting.{work_stop}
+use Rattle.ring_conductor.proofs.WorkLemmas.{stays, worked, took, took_room}
 use Rattle.ring_conductor.proofs.conductor.Conductor.do_work.Goals as goal
 
 pub shape_of-self : goal.shape_of-self
@@ -22,4 +24,21 @@ returns-clause-conductor g c =
 pub returns-clause-works : goal.returns-clause-works
 returns-clause-works g c =
     let e = c.controlled_read-end.ensures in
-    worked _ _ _ _ _ _ _ (record { messages = c.from.ensures; stopped = c.work_stop.ensures; within = e.within; bytes = e.bytes; blocked = e.blocked }) e.controls
+    worked _ _ _ _ _ _ _ (record { messages = c.from-messages.ensures; stopped = c.work_stop.ensures; within = e.within; bytes = e.bytes; blocked = e.blocked }) e.controls
+
+pub returns-clause-value_shares : goal.returns-clause-value_shares
+returns-clause-value_shares g c = (stays _ _ _ _ _ _ c.controlled_read-end.ensures.controls).value_shares
+
+pub invariant_of-self-clause-counted : goal.invariant_of-self-clause-counted
+invariant_of-self-clause-counted g c =
+    let e = c.controlled_read-end.ensures in
+    let done : Work = record { messages = c.from-messages.result; stopped = work_stop c.controlled_read-end.result.stopped } in
+    let works = worked _ _ _ _ _ _ done (record { messages = c.from-messages.ensures; stopped = refl; within = e.within; bytes = e.bytes; blocked = e.blocked }) e.controls in
+    took _ _ _ _ _ _ _ works c.args.self.now.received c.args.self.now.counted
+
+pub invariant_of-self-clause-answered : goal.invariant_of-self-clause-answered
+invariant_of-self-clause-answered g c =
+    let e = c.controlled_read-end.ensures in
+    let done : Work = record { messages = c.from-messages.result; stopped = work_stop c.controlled_read-end.result.stopped } in
+    let works = worked _ _ _ _ _ _ done (record { messages = c.from-messages.ensures; stopped = refl; within = e.within; bytes = e.bytes; blocked = e.blocked }) e.controls in
+    took_room _ _ _ _ _ _ _ works c.args.self.now.received c.args.self.now.answered
