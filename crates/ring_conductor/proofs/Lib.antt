@@ -6,3 +6,4 @@ pub mod Joined
 pub mod Written
 pub mod FoldLemmas
 pub mod WorkLemmas
+pub mod FinishLemmas

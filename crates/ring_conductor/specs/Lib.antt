@@ -10,3 +10,4 @@ pub mod Fold
 pub mod Applying
 pub mod Serving
 pub mod Conducting
+pub mod Finishing
