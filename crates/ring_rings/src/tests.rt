@@ -6,4 +6,5 @@ mod reading;
 mod script;
 mod services;
 mod threads;
+mod waiting;
 mod writing;
