@@ -13,7 +13,10 @@ fn writes_that_may_wait_fill_the_ring(rt: HostRuntime) -> Result<(), Fail> {
     let positions = ring.positions(&mut producer);
     assert_eq!(rt; (positions.head, positions.tail), (0, 128));
     let full = ring.write(&rt, &mut producer, 1, &[]);
-    assert_eq!(rt; full, Err(ClaimFault::InsufficientCapacity { tail: 128, head: 0 }));
+    assert_eq!(rt;
+        full,
+        Err(ClaimFault::InsufficientCapacity { tail: 128, head: 0 })
+    );
     let mut script = Script::new(&[]);
     let all = ring.read(&mut consumer, 9, &mut script);
     assert_eq!(rt; all, end(6, 128, Stop::Block));
