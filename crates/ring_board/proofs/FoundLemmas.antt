@@ -1,23 +1,23 @@
 -- What a receiver's steps put together.
-use Rattle.std.proofs.Common.{◌≡◌, ℕ, ◌+◌, ◌*◌, ◌/◌, ◌^◌, ◌<◌, ◌≤◌, arith, length, length-append, take, drop, cond, Bool, true, List, [], ◌∷◌, ◌++◌, refl, sym, ap, ◌∙◌, subst, inl, inr, append_assoc}
+use Rattle.std.proofs.Common.{◌≡◌, ℕ, ℤ, ◌+◌, ◌*◌, ◌/◌, ◌%◌, ◌^◌, ◌<◌, ◌≤◌, arith, length, length-append, take, drop, cond, Bool, true, List, [], ◌∷◌, ◌++◌, refl, sym, ap, ◌∙◌, subst, inl, inr, ⊎_elim, append_assoc}
 use Rattle.std.proofs.lemmas.Bool.{lt-ltb}
-use mathlib.Core.Option.{some}
+use mathlib.Core.Option.{none, some}
+use Rattle.atomic_table.specs.Table.{step}
 use Rattle.atomic_table.proofs.Lists.{at_longer}
 use Rattle.std.specs.Int.{cast_signed, w32, to_le_bytes, w64}
 use Rattle.std.proofs.lemmas.List.{length-take-le}
 use Rattle.std.proofs.Math.Seq.{take-append_seam}
-use Rattle.ring_layout.specs.History.{overwritten}
-use Rattle.ring_layout.specs.Places.{index}
+use Rattle.ring_layout.specs.History.{overwritten, span}
+use Rattle.ring_layout.specs.Places.{index, max_position}
 use Rattle.ring_board.specs.declared.view.View.{View}
 use Rattle.ring_board.specs.declared.view.Load.{Load}
 use Rattle.ring_board.specs.declared.view.Load.TheVariants.{Word, Intent, Tail}
 use Rattle.ring_board.specs.declared.view.Stage.{Stage}
-use Rattle.ring_board.specs.declared.view.Stage.TheVariants.{Sure, Headed, Padded, Reading, Behind}
-use Rattle.ring_board.specs.declared.found.Found.{Found}
-use Rattle.ring_board.specs.declared.found.Found.TheVariants.{Nothing, Entry, Missed}
-use Rattle.ring_board.specs.Records.{announced, is_padding, bytes_of}
-use Rattle.ring_board.specs.Steps.{Sat, staged, logged, copied, saw_tail, heard, read_word, word_load, last_tail, passed, validated}
-use Rattle.ring_board.specs.Receiving.{message_of, CopiedWords, TookAll, TookNone, GotCopy, GotMiss, ComesTo, FoundIs, FoundBehind}
+use Rattle.ring_board.specs.declared.view.Stage.TheVariants.{Sure, Headed, Padded, Again, Reading, Behind}
+use Rattle.ring_board.specs.declared.found.Found.TheVariants.{Entry}
+use Rattle.ring_board.specs.Records.{announced, body_len, is_padding, bytes_of, message_of}
+use Rattle.ring_board.specs.Steps.{Sat, staged, logged, copied, saw_tail, heard, read_word, word_load, last_tail, passed, validated, IsSound, IsSoundAt, IsUnread, header_seen, answered, SeesAnswer}
+use Rattle.ring_board.specs.Receiving.{CopiedWords, TookAll, TookNone, GotCopy, GotMiss, GotRecord, IsInside, ComesTo, FoundIs, NearIs}
 
 passed_after : (v : View) (st : Stage) (x : ℕ) → v.stage ≡ st → x < v.at + v.capacity → validated v x ≡ logged (passed v st) (Intent x)
 passed_after v st x eq lt = ap (λ (b : Bool). logged (cond b (passed v v.stage) (staged v Behind)) (Intent x)) (lt-ltb x (v.at + v.capacity) lt)
@@ -45,30 +45,6 @@ later_loads : (v : View) (xs ys : List Load) (p : ℕ) → ComesTo v xs p → Co
 later_loads v xs ys p (inl is) = inl is
 later_loads v xs ys p (inr q) = inr (q.0, q.1, q.2, at_longer xs ys q.2 (Word (index v.capacity v.at) q.1 q.0) q.3, q.4, q.5)
 
--- what was found behind padding, seen from before
-pub found_from : (f : Found) (m m3 m' : Sat) (st : Stage) (xs : List Load) (p : ℕ) → m3 ≡ (record m.0 { stage = st; log = m.0.log ++ xs }, m.1)
-    → ComesTo m.0 xs p → FoundBehind f p m3 m' → FoundIs f m m'
-found_from f m m3 m' st xs p is to h = found_on f m m' st xs p to (subst (λ (u : Sat). FoundBehind f p u m') is h)
-  where
-    found_on : (g : Found) (u u' : Sat) (s : Stage) (ys : List Load) (at : ℕ) → ComesTo u.0 ys at
-        → FoundBehind g at (record u.0 { stage = s; log = u.0.log ++ ys }, u.1) u' → FoundIs g u u'
-    found_on (Nothing t) u u' s ys at there k = absurd k
-    found_on (Entry q w) u u' s ys at there k = (
-      ys ++ k.0,
-      k.1 ∙ ap (λ (l : List Load). (record u.0 { stage = Reading w []; at = q; log = l }, u.1))
-          (append_assoc u.0.log ys k.0),
-      later_loads u.0 ys k.0 q (subst (ComesTo u.0 ys) (sym k.2) there),
-      k.3,
-    )
-    found_on (Missed q x) u u' s ys at there k = (
-      ys ++ k.0,
-      k.1 ∙ ap (λ (l : List Load). (record u.0 { stage = Behind; at = q; log = l }, u.1))
-          (append_assoc u.0.log ys (k.0 ++ Intent x ∷ []) ∙ ap (λ (l : List Load). u.0.log ++ l)
-          (sym (append_assoc ys k.0 (Intent x ∷ [])))),
-      later_loads u.0 ys k.0 q (subst (ComesTo u.0 ys) (sym k.2) there),
-      k.3,
-    )
-
 -- the loads up to the padding show its header
 pub padding_seen : (v : View) (C at t w x p : ℕ) → v.capacity ≡ C → v.at ≡ at → is_padding w ≡ true → p ≡ at + announced w
     → ComesTo v (padding_loads v t (index C at) w x) p
@@ -81,9 +57,87 @@ padding_seen v C at t w x p a b pads to = inr (
   to ∙ ap (λ (y : ℕ). y + announced w) (sym b),
 )
 
+-- The header of the next entry -----------------------------------------------
+
+-- an entry behind padding
+pub near_behind : (m m3 m4 : Sat) (xs : List Load) (j w x p : ℕ) → m3 ≡ (record m.0 { stage = Padded w; log = m.0.log ++ xs }, m.1)
+    → m4 ≡ (heard m3.0 j m3.0.stage x, m3.1) → m.0.at + announced w ≡ p → ComesTo m.0 xs p → p ≤ max_position → NearIs (Entry p x) m m4
+near_behind m m3 m4 xs j w x p a b there to low = let u : Load = Word j (last_tail (m.0.log ++ xs) 0) x in (
+  xs ++ u ∷ [],
+  Again x,
+  b ∙ (ap (λ (y : Sat). (heard y.0 j y.0.stage x, y.1)) a ∙ (λ k. (record m.0 { stage = Again x; at = there k; log = append_assoc m.0.log xs (u ∷ []) k }, m.1))),
+  inr refl,
+  later_loads m.0 xs (u ∷ []) p to,
+  low,
+)
+
+-- the end of padding that was validated
+pub padding_low : (m m1 m2 : Sat) (t i w x : ℕ) → m1 ≡ (saw_tail m.0 t, m.1) → m2 ≡ (heard m1.0 i Sure w, m1.1)
+    → (x < m2.0.at + m2.0.capacity → IsSoundAt m2.0 m2.0.stage) → x < m.0.at + m.0.capacity → is_padding w ≡ true → m.0.at + announced w ≤ max_position
+padding_low m m1 m2 t i w x a b sound lt pads = let v : View = heard (saw_tail m.0 t) i Sure w in
+    let k : x < v.at + v.capacity → IsSoundAt v (Headed w) = subst (λ (y : Sat). x < y.0.at + y.0.capacity → IsSoundAt y.0 y.0.stage)
+    (b ∙ ap (λ (y : Sat). (heard y.0 i Sure w, y.1)) a) sound in
+    let q : IsSoundAt v (Headed w) = k lt in q.1 pads
+
+-- Its validation -----------------------------------------------------------
+
+pub unread_header : (st : Stage) (w : ℕ) → IsUnread w st → header_seen st ≡ w
+unread_header st w un = ⊎_elim (λ t. ap header_seen t.0) (λ t. ap header_seen t) un
+
+unread_read : (v : View) (st : Stage) (w : ℕ) → IsUnread w st → passed v st ≡ staged v (Reading w [])
+unread_read v st w un = ⊎_elim (λ t. ap (passed v) t.0 ∙ ap (λ (b : Bool). staged v (cond b (Padded w) (Reading w []))) t.1) (λ t. ap (passed v) t) un
+
+unread_sound : (v : View) (st : Stage) (w : ℕ) → IsUnread w st → IsSoundAt v st → IsSound v.capacity v.at w
+unread_sound v st w un h = ⊎_elim
+    (λ t. let k : IsSoundAt v (Headed w) = subst (IsSoundAt v) t.0 h in k.0 t.1) (λ t. subst (IsSoundAt v) t h) un
+
+pub unread_found : (m m1 m2 : Sat) (p w x : ℕ) → NearIs (Entry p w) m m1 → m2 ≡ (validated m1.0 x, m1.1)
+    → (x < m1.0.at + m1.0.capacity → IsSoundAt m1.0 m1.0.stage) → x < p + m.0.capacity → FoundIs (Entry p w) m m2
+unread_found m m1 m2 p w x h is sound lt = let loads : List Load = h.0 in let st : Stage = h.1 in
+    let v : View = record m.0 { stage = st; at = p; log = m.0.log ++ loads } in
+    let whole = subst (λ (y : Sat). x < y.0.at + y.0.capacity → IsSoundAt y.0 y.0.stage) h.2 sound in (
+      loads ++ Intent x ∷ [],
+      is ∙ (ap (λ (y : Sat). (validated y.0 x, y.1)) h.2 ∙ (ap (λ (u : View). (u, m.1)) (passed_after v st x refl lt ∙ ap (λ (u : View). logged u (Intent x)) (unread_read v st w h.3))
+          ∙ ap (λ (l : List Load). (record m.0 { stage = Reading w []; at = p; log = l }, m.1)) (append_assoc m.0.log loads (Intent x ∷ [])))),
+      later_loads m.0 loads (Intent x ∷ []) p h.4,
+      unread_sound v st w h.3 (whole lt),
+    )
+
+-- a record that is answered unread
+unread_answered : (m m1 m2 : Sat) (p w x : ℕ) (body : List ℕ) → NearIs (Entry p w) m m1 → m2 ≡ (answered m1.0 (header_seen m1.0.stage) body x, m1.1)
+    → x < p + m.0.capacity → GotCopy p (cast_signed w32 (w / 2 ^ 32)) body m m2
+unread_answered m m1 m2 p w x body h is lt = let loads : List Load = h.0 in let st : Stage = h.1 in
+    let v : View = record m.0 { stage = st; at = p; log = m.0.log ++ loads } in let seen = unread_header st w h.3 in (
+      loads ++ Intent x ∷ [],
+      is ∙ (ap (λ (y : Sat). (answered y.0 (header_seen y.0.stage) body x, y.1)) h.2 ∙ (ap (λ (n : ℕ). (answered v n body x, m.1)) seen
+          ∙ (ap (λ (b : Bool). (logged (cond b (copied v (message_of w body)) (staged v Behind)) (Intent x), m.1)) (lt-ltb x (p + m.0.capacity) lt)
+          ∙ ap (λ (l : List Load). (record (copied (record m.0 { at = p }) (message_of w body)) { log = l }, m.1)) (append_assoc m.0.log loads (Intent x ∷ []))))),
+      later_loads m.0 loads (Intent x ∷ []) p h.4,
+    )
+
+unread_fits : (m m1 : Sat) (p w x : ℕ) (body : List ℕ) → NearIs (Entry p w) m m1
+    → (x < m1.0.at + m1.0.capacity → (length body ≡ body_len (header_seen m1.0.stage)) × IsSound m1.0.capacity m1.0.at (header_seen m1.0.stage))
+    → x < p + m.0.capacity → (length body ≡ body_len w) × IsSound m.0.capacity p w
+unread_fits m m1 p w x body h fits lt = subst (λ (n : ℕ). (length body ≡ body_len n) × IsSound m.0.capacity p n) (unread_header h.1 w h.3)
+    (subst (λ (y : Sat). x < y.0.at + y.0.capacity → (length body ≡ body_len (header_seen y.0.stage)) × IsSound y.0.capacity y.0.at (header_seen y.0.stage)) h.2 fits lt)
+
+pub answered_as : (m m1 m2 : Sat) (p w x len : ℕ) (z : ℤ) → NearIs (Entry p w) m m1 → (a : SeesAnswer (step 0 0 0 0 none) m1 x m2) → x < p + m.0.capacity
+    → z ≡ cast_signed w32 (w / 2 ^ 32) → len ≡ body_len w
+    → GotRecord record { place = p; type_id = z; len = len } m m2 × IsInside m.0.capacity record { place = p; type_id = z; len = len }
+answered_as m m1 m2 p w x len z h a lt type_is len_is = let body : List ℕ = a.0 in let f = unread_fits m m1 p w x body h a.2 lt in let b = f.1.message in
+    let count = b.1 in let n : ℕ = b.0 in let same : n ≡ len = omega arith in
+    let q = subst (λ (y : ℕ). (p % m.0.capacity + span y ≤ m.0.capacity) × (p + span y ≤ max_position)) same (b.3, b.4) in (
+      (
+        body,
+        subst (λ (y : ℤ). GotCopy p y body m m2) (sym type_is) (unread_answered m m1 m2 p w x body h a.1 lt),
+        f.0 ∙ sym len_is,
+      ),
+      (f.1.whole, q.0, q.1),
+    )
+
 -- Words that are copied ------------------------------------------------------
 
-bytes_of_snoc : (ws : List ℕ) (x : ℕ) → bytes_of (ws ++ x ∷ []) ≡ bytes_of ws ++ to_le_bytes w64 x
+pub bytes_of_snoc : (ws : List ℕ) (x : ℕ) → bytes_of (ws ++ x ∷ []) ≡ bytes_of ws ++ to_le_bytes w64 x
 bytes_of_snoc [] x = refl
 bytes_of_snoc (w ∷ ws) x = ap (λ l. to_le_bytes w64 w ++ l) (bytes_of_snoc ws x)
     ∙ sym (append_assoc (to_le_bytes w64 w) (bytes_of ws) (to_le_bytes w64 x))

@@ -12,3 +12,5 @@ pub mod ValidateLemmas
 pub mod ReceiveLemmas
 pub mod PassLemmas
 pub mod FoundLemmas
+pub mod RawLemmas
+pub mod BodyLemmas

@@ -18,7 +18,7 @@ use Rattle.ring_board.specs.declared.view.Stage.TheVariants.{Resting, Sure, Padd
 use Rattle.ring_board.specs.Records.{end, Follows, end_of, words_of, word_count, placed_words, header_of, announced, body_len, gap, filled, stores}
 use Rattle.ring_board.specs.Runs.{AreRuns}
 use Rattle.ring_board.specs.Rule.{LoadOk, Logged, intent, shown, Running, Before, IsHeader, Next, Knows, IsBoard, Holds}
-use Rattle.ring_board.specs.Steps.{saw_tail, heard, word_load, last_tail}
+use Rattle.ring_board.specs.Steps.{logged, saw_tail, heard, word_load, last_tail}
 use Rattle.ring_board.proofs.PlaceLemmas.{lies_after, lies_needed, chain_at}
 use Rattle.ring_board.proofs.StoreLemmas.{at_behind, placed_at, words_long}
 use Rattle.ring_board.proofs.ByteLemmas.{announced_header, announced_padding}
@@ -102,11 +102,14 @@ module _ (C e : ℕ) (s : St) (by : ℕ) (mine : View) (h : IsBoard C e by mine 
   log_more l k j x on = ⊎_elim (λ t. h.each_log id v at j x t) (λ (is : l ≡ x). subst (LoadOk C e mine.sent mine.stage) is k) (at_snoc v.log l x j on)
 
   -- the load of a word of the buffer
+  pub word_ok : (i t x : ℕ) → t ≤ end_of e mine.sent → x ≡ get_or s.words i 0 → LoadOk C e mine.sent mine.stage (Word i t x)
+  word_ok i t x le is = (le, λ c r on j y on_y there below now. is ∙ (ap (λ (q : ℕ). get_or s.words q 0) (sym there) ∙ h.valid c r on j y on_y now))
+
+  pub tail_seen : last_tail v.log 0 ≤ end_of e mine.sent
+  tail_seen = tail_known C e mine.sent mine.stage v.log 0 (omega arith) (h.each_log id v at)
+
   pub word_logged : (i x : ℕ) → x ≡ get_or s.words i 0 → Logged C e mine.sent mine.stage (v.log ++ word_load v i x ∷ [])
-  word_logged i x is = log_more (word_load v i x) (
-    tail_known C e mine.sent mine.stage v.log 0 (omega arith) (h.each_log id v at),
-    λ c r on j y on_y there below now. is ∙ (ap (λ (q : ℕ). get_or s.words q 0) (sym there) ∙ h.valid c r on j y on_y now),
-  )
+  word_logged i x is = log_more (word_load v i x) (word_ok i (last_tail v.log 0) x tail_seen is)
 
   pub knows : (st : Stage) → v.stage ≡ st → Knows C e by mine id v st
   knows st eq = subst (Knows C e by mine id v) eq (h.each_seat id v at)
@@ -119,6 +122,14 @@ module _ (C e : ℕ) (s : St) (by : ℕ) (mine : View) (h : IsBoard C e by mine 
 
   pub same_runs : (w : View) → w.from ≡ v.from → w.copies ≡ v.copies → AreRuns mine.sent w.from w.copies
   same_runs w from copies = subst (λ (x : ℕ × List Taken). AreRuns mine.sent x.0 x.1) (λ k. (sym from k, sym copies k)) (h.each_copy id v at)
+
+  -- a load between two calls, which changes nothing but the log
+  pub load_kept : v.stage ≡ Resting → (l : Load) → LoadOk C e mine.sent mine.stage l → (i : ℕ) (cs : List (ℕ × (Unit {0})))
+      → Holds C e (stepped s i (get_or s.words i 0) id cs (logged v l) keeps)
+  load_kept eq l ok i cs = let k = knows Resting eq in let u : View = logged v l in
+      looked u (other_seat Resting eq (λ b. b)) (subst (Knows C e by mine id u) (sym eq)
+      (k.0, record { before = k.1.before; climbs = k.1.climbs; past = k.1.past; fresh = k.1.fresh }, tt))
+      (same_runs u refl refl) refl (log_more l ok) i cs
 
   -- The tail
   pub tail_kept : v.stage ≡ Resting → (x i : ℕ) (cs : List (ℕ × (Unit {0}))) → x ≡ end_of e mine.sent

@@ -1,5 +1,5 @@
 -- Each step of a receiver keeps the rule.
-use Rattle.std.proofs.Common.{◌≡◌, ℕ, ◌+◌, ◌*◌, ◌/◌, ◌<◌, List, [], ◌∷◌, ◌++◌, length, get_or, refl, sym, ap, ◌∙◌, subst, arith}
+use Rattle.std.proofs.Common.{◌≡◌, ℕ, ◌+◌, ◌*◌, ◌/◌, ◌<◌, List, [], ◌∷◌, ◌++◌, length, get_or, refl, sym, ap, ◌∙◌, subst, ⊎_elim, arith}
 use mathlib.Core.Option.{none}
 use Rattle.atomic_table.specs.Table.{step, keeps, stepped, Allows}
 use Rattle.ring_layout.specs.Places.{index}
@@ -8,11 +8,11 @@ use Rattle.ring_board.specs.declared.view.Stage.{Stage}
 use Rattle.ring_board.specs.declared.view.Stage.TheVariants.{Resting, Sure, Headed, Padded, Again, Reading, Behind}
 use Rattle.ring_board.specs.Records.{end_of, word_count, announced, body_len}
 use Rattle.ring_board.specs.Rule.{intent, Holds}
-use Rattle.ring_board.specs.Steps.{Sat, saw_tail, SeesTail, heard, SeesHeader, read_on, read_word, word_load, SeesWord, validated, SeesIntent, lapped, SeesLatest}
+use Rattle.ring_board.specs.Steps.{Sat, saw_tail, SeesTail, heard, SeesHeader, read_on, read_word, word_load, SeesWord, IsSound, validated, IsUnread, SeesIntent, header_seen, answered, SeesAnswer, lapped, SeesLatest}
 use Rattle.ring_board.proofs.SeatLemmas.{St}
 use Rattle.ring_board.proofs.ShownLemmas.{intent_after}
 use Rattle.ring_board.proofs.LookLemmas.{tail_kept, header_kept, behind_padding, word_kept}
-use Rattle.ring_board.proofs.ValidateLemmas.{header_checked, again_checked, copy_checked, sound_now, latest_kept}
+use Rattle.ring_board.proofs.ValidateLemmas.{header_checked, again_checked, answer_kept, copy_checked, sound_now, latest_kept}
 
 module _ (C e slots id : ℕ) (me : Sat) (i : ℕ) where
   retarget : (s : St) (u w : View) → w ≡ u → Holds C e (stepped s i (get_or s.words i 0) id me.1 u keeps)
@@ -70,7 +70,7 @@ module _ (C e slots id : ℕ) (me : Sat) (i : ℕ) where
     (refl, λ lt. sound_now C e s b.0 b.1 b.2 id me.0 at x f lt me.0.stage (b.2.each_seat id me.0 at)),
   )
 
-  pub checks_again : (w : ℕ) → me.0.stage ≡ Again w → i ≡ C / 8 → Allows (Holds C e) slots id me i (λ y. y) (SeesIntent (step slots i 0 0 none) me)
+  checks_again : (w : ℕ) → me.0.stage ≡ Again w → i ≡ C / 8 → Allows (Holds C e) slots id me i (λ y. y) (SeesIntent (step slots i 0 0 none) me)
   checks_again w eq is s b _ at _ = let x : ℕ = get_or s.words i 0 in let f = intent_found s b is in (
     validated me.0 x,
     keeps,
@@ -78,6 +78,25 @@ module _ (C e slots id : ℕ) (me : Sat) (i : ℕ) where
     again_checked C e s b.0 b.1 b.2 id me.0 at w eq x i me.1 f,
     (refl, λ lt. sound_now C e s b.0 b.1 b.2 id me.0 at x f lt me.0.stage (b.2.each_seat id me.0 at)),
   )
+
+  -- the header of an entry, at the place or behind padding
+  pub checks_entry : (w : ℕ) → IsUnread w me.0.stage → i ≡ C / 8 → Allows (Holds C e) slots id me i (λ y. y) (SeesIntent (step slots i 0 0 none) me)
+  checks_entry w un is = ⊎_elim (λ t. checks_header w t.0 is) (λ t. checks_again w t is) un
+
+  pub answers_entry : (w : ℕ) → IsUnread w me.0.stage → i ≡ C / 8 → Allows (Holds C e) slots id me i (λ y. y) (SeesAnswer (step slots i 0 0 none) me)
+  answers_entry w un is s b _ at _ = let x : ℕ = get_or s.words i 0 in let f = intent_found s b is in
+      let seen : header_seen me.0.stage ≡ w = ⊎_elim (λ t. ap header_seen t.0) (λ t. ap header_seen t) un in
+      let a = answer_kept C e s b.0 b.1 b.2 id me.0 at w un x i me.1 f in (
+        answered me.0 w a.0 x,
+        keeps,
+        tt,
+        a.1,
+        (
+          a.0,
+          ap (λ (y : ℕ). (answered me.0 y a.0 x, me.1)) (sym seen),
+          subst (λ (y : ℕ). x < me.0.at + me.0.capacity → (length a.0 ≡ body_len y) × IsSound me.0.capacity me.0.at y) (sym seen) a.2,
+        ),
+      )
 
   pub checks_copy : (w : ℕ) (ws : List ℕ) → me.0.stage ≡ Reading w ws → length ws ≡ word_count (body_len w) → i ≡ C / 8
       → Allows (Holds C e) slots id me i (λ y. y) (SeesIntent (step slots i 0 0 none) me)

@@ -1,5 +1,5 @@
 -- What a receiver knows once it has validated: a sound header, a whole copy, or that it was lapped.
-use Rattle.std.proofs.Common.{◌≡◌, ◌≢◌, ℕ, zero, suc, ◌+◌, ◌-◌, ◌/◌, ◌%◌, ◌^◌, ◌<◌, ◌≤◌, ◌⊎◌, ltb, true, false, List, [], ◌∷◌, ◌++◌, take, length, get_or, refl, sym, ap, ◌∙◌, subst, inl, inr, ⊎_elim, arith, length-append}
+use Rattle.std.proofs.Common.{◌≡◌, ◌≢◌, ℕ, zero, suc, ◌+◌, ◌-◌, ◌/◌, ◌%◌, ◌^◌, ◌<◌, ◌≤◌, ◌⊎◌, cond, ltb, true, false, List, [], ◌∷◌, ◌++◌, take, length, get_or, refl, sym, ap, ◌∙◌, subst, inl, inr, ⊎_elim, arith, length-append}
 use Rattle.std.proofs.lemmas.Bool.{cond_both, ltb-true, ltb-false, eqb-true, eqb-false}
 use mathlib.Core.Option.{some, some-injective, some-ne-none}
 use lib.ListN.{get_elem?}
@@ -16,13 +16,13 @@ use Rattle.ring_board.specs.declared.view.Load.{Load}
 use Rattle.ring_board.specs.declared.view.Load.TheVariants.{Intent, Latest}
 use Rattle.ring_board.specs.declared.view.Stage.{Stage}
 use Rattle.ring_board.specs.declared.view.Stage.TheVariants.{Spent, Idle, Begun, Storing, Written, Shown, Resting, Sure, Headed, Padded, Again, Reading, Behind}
-use Rattle.ring_board.specs.Records.{end, words_of, word_count, header_of, announced, body_len, is_padding, message_in}
+use Rattle.ring_board.specs.Records.{end, words_of, word_count, header_of, announced, body_len, is_padding, message_in, message_of}
 use Rattle.ring_board.specs.Runs.{IsCopy, Neighbours, AreRuns}
 use Rattle.ring_board.specs.Rule.{Logged, latest, Receives, IsHeader, Knows, IsBoard, Holds}
-use Rattle.ring_board.specs.Steps.{staged, copy_of, copied, passed, validated, IsSound, IsSoundAt, lapped}
+use Rattle.ring_board.specs.Steps.{staged, logged, copy_of, copied, passed, validated, IsSound, IsSoundAt, IsUnread, answered, lapped}
 use Rattle.ring_board.proofs.PlaceLemmas.{lies_needed, lies_inside, lies_whole, chain_next, chain_last}
 use Rattle.ring_board.proofs.StoreLemmas.{words_long}
-use Rattle.ring_board.proofs.ByteLemmas.{announced_header, header_not_padding, padding_kind, message_back}
+use Rattle.ring_board.proofs.ByteLemmas.{announced_header, header_not_padding, padding_kind, message_whole, message_back}
 use Rattle.ring_board.proofs.SeatLemmas.{St, in_list}
 use Rattle.ring_board.proofs.ShownLemmas.{intent_after, shown_has, shown_chain, latest_shown}
 use Rattle.ring_board.proofs.LookLemmas.{other_seat, looked, log_more, knows, all, now, same_runs, entry, body_announced, padding_announced}
@@ -123,9 +123,10 @@ module _ (C e : ℕ) (s : St) (by : ℕ) (mine : View) (h : IsBoard C e by mine 
   abbrev Passes : ℕ → ℕ → List (ℕ × (Unit {0})) → View → Type 0
   Passes x i cs u = Kept i cs (record u { log = u.log ++ Intent x ∷ [] })
 
-  checked : (x i : ℕ) (cs : List (ℕ × (Unit {0}))) → x ≡ here_now → v.capacity ≡ C → (here_now < v.at + C → Passes x i cs (passed v v.stage))
-      → (v.at + C ≤ here_now → Passes x i cs (staged v Behind)) → Kept i cs (validated v x)
-  checked x i cs is capacity good bad = cond_both (ltb x (v.at + v.capacity)) (passed v v.stage) (staged v Behind) (Passes x i cs)
+  checked : (u : View) (x i : ℕ) (cs : List (ℕ × (Unit {0}))) → x ≡ here_now → v.capacity ≡ C → (here_now < v.at + C → Passes x i cs u)
+      → (v.at + C ≤ here_now → Passes x i cs (staged v Behind))
+      → Kept i cs (logged (cond (ltb x (v.at + v.capacity)) u (staged v Behind)) (Intent x))
+  checked u x i cs is capacity good bad = cond_both (ltb x (v.at + v.capacity)) u (staged v Behind) (Passes x i cs)
       (λ t. good (let f = ltb-true x (v.at + v.capacity) t in omega arith)) (λ t. bad (let f = ltb-false x (v.at + v.capacity) t in omega arith))
 
   seen_intent : (x : ℕ) → x ≡ here_now → Logged C e mine.sent mine.stage (v.log ++ Intent x ∷ [])
@@ -170,7 +171,7 @@ module _ (C e : ℕ) (s : St) (by : ℕ) (mine : View) (h : IsBoard C e by mine 
 
   pub header_checked : (w : ℕ) → v.stage ≡ Headed w → (x i : ℕ) (cs : List (ℕ × (Unit {0}))) → x ≡ here_now → Kept i cs (validated v x)
   header_checked w eq x i cs is = let k = knows C e s by mine h id v at (Headed w) eq in let t = k.2 in
-      let ne = other_seat C e s by mine h id v at (Headed w) eq (λ b. b) in let logs = seen_intent x is in checked x i cs is k.0
+      let ne = other_seat C e s by mine h id v at (Headed w) eq (λ b. b) in let logs = seen_intent x is in checked (passed v v.stage) x i cs is k.0
       (λ lt. subst (λ (st : Stage). Passes x i cs (passed v st)) (sym eq) (
       cond_both (is_padding w) (Padded w) (Reading w []) (λ (st : Stage). Passes x i cs (staged v st))
       (λ pads. let u : View = record v { stage = Padded w; log = v.log ++ Intent x ∷ [] } in
@@ -189,7 +190,7 @@ module _ (C e : ℕ) (s : St) (by : ℕ) (mine : View) (h : IsBoard C e by mine 
 
   pub again_checked : (w : ℕ) → v.stage ≡ Again w → (x i : ℕ) (cs : List (ℕ × (Unit {0}))) → x ≡ here_now → Kept i cs (validated v x)
   again_checked w eq x i cs is = let k = knows C e s by mine h id v at (Again w) eq in let t = k.2 in
-      let ne = other_seat C e s by mine h id v at (Again w) eq (λ b. b) in let logs = seen_intent x is in checked x i cs is k.0
+      let ne = other_seat C e s by mine h id v at (Again w) eq (λ b. b) in let logs = seen_intent x is in checked (passed v v.stage) x i cs is k.0
       (λ lt. subst (λ (st : Stage). Passes x i cs (passed v st)) (sym eq)
       (let u : View = record v { stage = Reading w []; log = v.log ++ Intent x ∷ [] } in
       looked C e s by mine h id v at u ne (
@@ -217,6 +218,31 @@ module _ (C e : ℕ) (s : St) (by : ℕ) (mine : View) (h : IsBoard C e by mine 
   sound_now x is lt (Reading w ws) k = tt
   sound_now x is lt Behind k = tt
 
+  -- A record that is answered unread
+  pub answer_kept : (w : ℕ) → IsUnread w v.stage → (x i : ℕ) (cs : List (ℕ × (Unit {0}))) → x ≡ here_now
+      → (body : List ℕ) × Kept i cs (answered v w body x) × (x < v.at + v.capacity → (length body ≡ body_len w) × IsSound v.capacity v.at w)
+  answer_kept w un x i cs is = ⊎_elim
+      (λ q. let k = knows C e s by mine h id v at (Headed w) q.0 in let t = k.2 in
+      answer_of k.0 k.1 (other_seat C e s by mine h id v at (Headed w) q.0 (λ b. b)) t.0 t.1 (λ lt. plain_header t.0 t.1 w (t.2.1 lt) q.1))
+      (λ q. let k = knows C e s by mine h id v at (Again w) q in let t = k.2 in
+      answer_of k.0 k.1 (other_seat C e s by mine h id v at (Again w) q (λ b. b)) t.0 t.1 (λ lt. (t.2.0, t.2.1 lt))) un
+    where
+      answer_of : v.capacity ≡ C → Receives e mine.sent seen v → id ≢ by → (r : Record) → get_elem? mine.sent v.next ≡ some r
+          → (here_now < v.at + C → (v.at ≡ r.place) × (w ≡ header_of r.message))
+          → (body : List ℕ) × Kept i cs (answered v w body x) × (x < v.at + v.capacity → (length body ≡ body_len w) × IsSound v.capacity v.at w)
+      answer_of capacity k ne r on right = let logs = seen_intent x is in let body : List ℕ = r.message.body in
+          let f = (entry C e s by mine h id v at r v.next on).0 in (
+            body,
+            checked (copied v (message_of w body)) x i cs is capacity
+                (λ lt. copy_kept (message_of w body) (v.log ++ Intent x ∷ []) ne capacity k r on (right lt).0
+                (ap (λ (y : ℕ). message_of y body) (right lt).1 ∙ message_whole C r.message h.narrow f.lawful) logs i cs)
+                (λ far. behind_kept ne k capacity r on (v.log ++ Intent x ∷ []) far logs i cs),
+            λ lt. let q = right (omega arith) in (
+              sym (ap body_len q.1 ∙ body_announced C e s by mine h id v at r v.next on),
+              sound_at r on capacity w q.0 q.1,
+            ),
+          )
+
   pub copy_checked : (w : ℕ) (ws : List ℕ) → v.stage ≡ Reading w ws → length ws ≡ word_count (body_len w) → (x i : ℕ) (cs : List (ℕ × (Unit {0})))
       → x ≡ here_now → Kept i cs (validated v x)
   copy_checked w ws eq long x i cs is = let k = knows C e s by mine h id v at (Reading w ws) eq in let t = k.2 in let r : Record = t.0 in
@@ -225,7 +251,7 @@ module _ (C e : ℕ) (s : St) (by : ℕ) (mine : View) (h : IsBoard C e by mine 
       let whole : length ws ≡ length (words_of r.message.body) = long
       ∙ (ap (λ (y : ℕ). word_count (body_len y)) t.2.1 ∙ (ap word_count (body_announced C e s by mine h id v at r v.next t.1)
       ∙ sym (words_long (word_count (length r.message.body)) r.message.body))) in
-      checked x i cs is k.0
+      checked (passed v v.stage) x i cs is k.0
       (λ lt. subst (λ (st : Stage). Passes x i cs (passed v st)) (sym eq) (copy_kept (message_in w ws) (v.log ++ Intent x ∷ []) ne k.0 k.1 r t.1 t.2.0
       ((λ j. message_in (t.2.1 j) ((t.2.2 lt ∙ take_whole (words_of r.message.body) (length ws) whole) j))
       ∙ message_back C r.message h.narrow f.lawful) logs i cs))

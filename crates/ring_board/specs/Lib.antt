@@ -3,6 +3,7 @@ pub mod Records
 pub mod Runs
 pub mod Rule
 pub mod Steps
+pub mod Bodies
 pub mod Refusals
 pub mod Seats
 pub mod Lending

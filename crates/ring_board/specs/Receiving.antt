@@ -1,20 +1,20 @@
 -- What a receiver's call does to its seat.
-use Rattle.std.specs.Prelude.{◌≡◌, ℕ, ◌+◌, ◌*◌, ◌/◌, ◌^◌, ◌≤◌, suc, ℤ, true, List, [], ◌∷◌, ◌++◌, length, take, ◌⊎◌}
-use Rattle.std.specs.Int.{cast_signed, w32}
+use Rattle.std.specs.Prelude.{◌≡◌, ℕ, ◌+◌, ◌*◌, ◌%◌, ◌≤◌, suc, ℤ, true, List, [], ◌∷◌, ◌++◌, length, take, ◌⊎◌}
 use mathlib.Core.Option.{some}
 use lib.ListN.{get_elem?}
-use Rattle.ring_layout.specs.declared.message.Message.{Message}
 use Rattle.ring_layout.specs.History.{span}
-use Rattle.ring_layout.specs.Places.{index}
+use Rattle.ring_layout.specs.Places.{index, max_position}
 use Rattle.ring_board.specs.declared.fault.Lapped.{Lapped}
 use Rattle.ring_board.specs.declared.view.View.{View}
 use Rattle.ring_board.specs.declared.view.Load.{Load}
 use Rattle.ring_board.specs.declared.view.Load.TheVariants.{Word, Intent, Tail, Latest}
+use Rattle.ring_board.specs.declared.view.Stage.{Stage}
 use Rattle.ring_board.specs.declared.view.Stage.TheVariants.{Resting, Reading, Behind}
+use Rattle.ring_board.specs.declared.seats.RawRecord.{RawRecord}
 use Rattle.ring_board.specs.declared.found.Found.{Found}
 use Rattle.ring_board.specs.declared.found.Found.TheVariants.{Nothing, Entry, Missed}
-use Rattle.ring_board.specs.Records.{announced, is_padding, bytes_of}
-use Rattle.ring_board.specs.Steps.{Sat, copied, IsSound}
+use Rattle.ring_board.specs.Records.{announced, is_padding, bytes_of, message_of}
+use Rattle.ring_board.specs.Steps.{Sat, copied, IsSound, IsUnread}
 
 -- p is the receiver's place, or behind padding whose header is among these loads
 abbrev pub ComesTo : View → List Load → ℕ → Type 0
@@ -30,15 +30,11 @@ FoundIs (Nothing t) m m' = (m' ≡ (record m.0 { stage = Resting; log = m.0.log 
 FoundIs (Entry p w) m m' = (loads : List Load) × (m' ≡ (record m.0 { stage = Reading w []; at = p; log = m.0.log ++ loads }, m.1)) × ComesTo m.0 loads p × IsSound m.0.capacity p w
 FoundIs (Missed p x) m m' = GotMiss p x m m'
 
--- the same from behind padding, where the entry lies at p
-abbrev pub FoundBehind : Found → ℕ → Sat → Sat → Type 0
-FoundBehind (Nothing t) place m m' = ⊥
-FoundBehind (Entry p w) place m m' = (loads : List Load) × (m' ≡ (record m.0 { stage = Reading w []; at = p; log = m.0.log ++ loads }, m.1)) × (p ≡ place) × IsSound m.0.capacity p w
-FoundBehind (Missed p x) place m m' = (loads : List Load) × (m' ≡ (record m.0 { stage = Behind; at = p; log = m.0.log ++ (loads ++ Intent x ∷ []) }, m.1)) × (p ≡ place) × (p + m.0.capacity ≤ x)
-
--- the message that a header announces, with this body
-abbrev pub message_of : ℕ → List ℕ → Message
-message_of w body = record { type_id = cast_signed w32 (w / 2 ^ 32); body = body }
+-- what going to the next entry does, whose header is loaded and not yet validated
+abbrev pub NearIs : Found → Sat → Sat → Type 0
+NearIs (Nothing t) m m' = FoundIs (Nothing t) m m'
+NearIs (Entry p w) m m' = (loads : List Load) × (st : Stage) × (m' ≡ (record m.0 { stage = st; at = p; log = m.0.log ++ loads }, m.1)) × IsUnread w st × ComesTo m.0 loads p × (p ≤ max_position)
+NearIs (Missed p x) m m' = GotMiss p x m m'
 
 -- so many words of a body were loaded behind the header w, and their bytes lie at the front of out
 abbrev pub CopiedWords : ℕ → ℕ → List ℕ → Sat → Sat → Type 0
@@ -66,3 +62,11 @@ GotCopy place type_id body m m' = (loads : List Load)
 abbrev pub GotLapped : Lapped → Sat → Sat → Type 0
 GotLapped l m m' = (loads : List Load) × (k : ℕ) × (x : ℕ) × ComesTo m.0 loads l.place × (l.place + m.0.capacity ≤ l.intent) × (l.count ≡ suc m.0.count)
     × (m' ≡ (record m.0 { stage = Resting; at = x; next = k; count = suc m.0.count; log = m.0.log ++ (loads ++ (Intent l.intent ∷ Latest x ∷ [])) }, m.1))
+
+-- a record was answered unread. Its place, type id and length are those of the new copy, which has the body that the transmitter gave it
+abbrev pub GotRecord : RawRecord → Sat → Sat → Type 0
+GotRecord r m m' = (body : List ℕ) × GotCopy r.place r.type_id body m m' × (length body ≡ r.len)
+
+-- where a record lies in a buffer of C bytes
+abbrev pub IsInside : ℕ → RawRecord → Type 0
+IsInside C r = (r.place % 8 ≡ 0) × (r.place % C + span r.len ≤ C) × (r.place + span r.len ≤ max_position)

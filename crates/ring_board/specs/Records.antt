@@ -78,6 +78,10 @@ is_padding w = w / 2 ^ 32 == 0xffff_ffff
 abbrev pub message_in : ℕ → List ℕ → Message
 message_in w ws = record { type_id = cast_signed w32 (w / 2 ^ 32); body = take (body_len w) (bytes_of ws) }
 
+-- the message that a header word announces, with this body
+abbrev pub message_of : ℕ → List ℕ → Message
+message_of w body = record { type_id = cast_signed w32 (w / 2 ^ 32); body = body }
+
 -- What a transmission stores -----------------------------------------------
 
 abbrev pub header_of : Message → ℕ

@@ -6,6 +6,7 @@ use Rattle.ring_board.specs.declared.fault.MakeFault.{MakeFault}
 use Rattle.ring_board.specs.declared.fault.MakeFault.TheVariants.{BadCapacity, BadStart, OutOfMemory}
 use Rattle.ring_board.specs.declared.fault.TransmitFault.{TransmitFault}
 use Rattle.ring_board.specs.declared.fault.TransmitFault.TheVariants.{BadType, TooLong, PositionLimit}
+use Rattle.ring_board.specs.declared.fault.NoShares.{NoShares}
 use Rattle.ring_board.specs.declared.fault.SubscribeFault.{SubscribeFault}
 use Rattle.ring_board.specs.declared.fault.SubscribeFault.TheVariants as subscribe_fault
 use Rattle.ring_board.specs.Layout.{is_board_capacity}
@@ -44,3 +45,7 @@ subscribe_refusal_of shares = if nat_lt 1 shares then None else Some subscribe_f
 -- the result is the refusal; where there is none it is Ok, unless memory is wanting
 abbrev pub IsSubscribedUnless : {T : Type 0} → Option SubscribeFault → Result T SubscribeFault → Type 0
 IsSubscribedUnless refusal result = MatchOption refusal (IsOkUnless result subscribe_fault.OutOfMemory) (λ fault. result ≡ Err fault)
+
+-- why a transmitter with so many shares makes no raw receiver
+abbrev pub raw_refusal_of : ℕ → Option NoShares
+raw_refusal_of shares = if nat_lt 1 shares then None else Some record {}

@@ -1,5 +1,7 @@
 -- What clauses say of boards and of those who work on them.
 use Rattle.std.specs.Prelude.{◌≡◌, ℕ, ℤ, List, [], length, Option, Result, MatchResult, MatchOption}
+use mathlib.Core.Option.{some}
+use lib.ListN.{get_elem?}
 use Rattle.ring_layout.specs.History.{span}
 use Rattle.ring_layout.specs.Places.{next_place, end_after}
 use Rattle.ring_board.specs.declared.view.Record.{Record}
@@ -11,10 +13,12 @@ use Rattle.ring_board.specs.declared.seats.Begun.{Begun}
 use Rattle.ring_board.specs.declared.seats.Filled.{Filled}
 use Rattle.ring_board.specs.declared.seats.BeginRefused.{BeginRefused}
 use Rattle.ring_board.specs.declared.seats.CopyReceiver.{CopyReceiver}
+use Rattle.ring_board.specs.declared.seats.Receiver.{Receiver}
+use Rattle.ring_board.specs.declared.seats.RawRecord.{RawRecord}
 use Rattle.ring_board.specs.declared.seats.Copied.{Copied}
 use Rattle.ring_board.specs.declared.view.Taken.{Taken}
 use Rattle.ring_board.specs.declared.fault.Lapped.{Lapped}
-use Rattle.ring_board.specs.Receiving.{GotNothing, GotCopy, GotLapped}
+use Rattle.ring_board.specs.Receiving.{GotNothing, GotCopy, GotLapped, IsInside}
 use Rattle.ring_board.specs.Steps.{Sat, staged, draft, drafted, record_at}
 
 abbrev pub capacity_of : Board → ℕ
@@ -114,3 +118,40 @@ lapped_count_of r = r.seat.me.0.count
 abbrev pub Received : CopyReceiver → CopyReceiver → Result (Option Copied) Lapped → Type 0
 Received old new result = MatchResult result (λ o. MatchOption o (GotNothing (receiver_seat old) (receiver_seat new)) (λ c. GotCopy c.place c.type_id c.body.now (receiver_seat old) (receiver_seat new)))
     (λ l. GotLapped l (receiver_seat old) (receiver_seat new))
+
+-- Raw receivers ------------------------------------------------------------
+
+abbrev pub IsRawOf : Board → Receiver → Type 0
+IsRawOf board r = (r.seat.table_id ≡ board.table.shared.table_id) × IsViewOf board r.seat.me.0
+
+-- what the receiver knows, with the slots of its seat, which has none
+abbrev pub raw_seat : Receiver → Sat
+raw_seat r = r.seat.me
+
+abbrev pub raw_view : Receiver → View
+raw_view r = r.seat.me.0
+
+-- where the receiver subscribed
+abbrev pub raw_subscribed_at : Receiver → ℕ
+raw_subscribed_at r = r.seat.me.0.from
+
+-- the records that it answered, each with the body that the transmitter gave it
+abbrev pub answered_by : Receiver → List Taken
+answered_by r = r.seat.me.0.copies
+
+-- a record that a receiver with this view answered
+pub record IsAnswered (v : View) (r : RawRecord) : Type 0 where
+  pub copy : (n : ℕ) × (c : Taken) × (get_elem? v.copies n ≡ some c) × (c.place ≡ r.place) × (c.message.type_id ≡ r.type_id) × (length c.message.body ≡ r.len)
+  pub inside : IsInside v.capacity r
+
+abbrev pub raw_lapped_count_of : Receiver → ℕ
+raw_lapped_count_of r = r.seat.me.0.count
+
+abbrev pub place_of : RawRecord → ℕ
+place_of r = r.place
+
+abbrev pub type_id_of : RawRecord → ℤ
+type_id_of r = r.type_id
+
+abbrev pub len_of : RawRecord → ℕ
+len_of r = r.len

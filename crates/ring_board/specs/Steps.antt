@@ -1,5 +1,5 @@
 -- What each step tells its seat.
-use Rattle.std.specs.Prelude.{◌≡◌, ℕ, ◌+◌, ◌-◌, ◌/◌, ◌%◌, ◌^◌, ◌<◌, ◌≤◌, suc, if◌then◌else◌, nat_lt, nat_le, List, [], ◌∷◌, ◌++◌, length, pos, true, false}
+use Rattle.std.specs.Prelude.{◌≡◌, ℕ, ◌+◌, ◌-◌, ◌/◌, ◌%◌, ◌^◌, ◌<◌, ◌≤◌, suc, if◌then◌else◌, nat_lt, nat_le, List, [], ◌∷◌, ◌++◌, length, pos, true, false, ◌⊎◌}
 use Rattle.atomic_table.specs.Table.{Me, Step}
 use Rattle.ring_layout.specs.declared.message.Message.{Message}
 use Rattle.ring_layout.specs.History.{span}
@@ -12,7 +12,7 @@ use Rattle.ring_board.specs.declared.view.Draft.{Draft}
 use Rattle.ring_board.specs.declared.view.View.{View}
 use Rattle.ring_board.specs.declared.view.Load.{Load}
 use Rattle.ring_board.specs.declared.view.Stage.{Stage}
-use Rattle.ring_board.specs.Records.{end, last_of, announced, is_padding, message_in}
+use Rattle.ring_board.specs.Records.{end, last_of, announced, body_len, is_padding, message_in, message_of}
 use Rattle.ring_board.specs.Runs.{AreRuns}
 
 -- a seat's view, and the slots that it has, which a board has none of
@@ -164,8 +164,25 @@ IsSoundAt v (Headed w) = (is_padding w ≡ false → IsSound v.capacity v.at w) 
 IsSoundAt v (Again w) = IsSound v.capacity v.at w
 IsSoundAt v _ = Unit {0}
 
+-- the header w of an entry was loaded, and not yet validated
+abbrev pub IsUnread : ℕ → Stage → Type 0
+IsUnread w st = ((st ≡ Headed w) × (is_padding w ≡ false)) ⊎ (st ≡ Again w)
+
 abbrev pub SeesIntent : Step (Unit {0}) → Sat → ℕ → Sat → Type 0
 SeesIntent st m x m' = (m' ≡ (validated m.0 x, m.1)) × (x < m.0.at + m.0.capacity → IsSoundAt m.0 m.0.stage)
+
+abbrev pub header_seen : Stage → ℕ
+header_seen (Headed w) = w
+header_seen (Again w) = w
+header_seen _ = 0
+
+-- an intent was loaded, to validate the header w of a record with this body, which is answered unread
+abbrev pub answered : View → ℕ → List ℕ → ℕ → View
+answered v w body x = logged (if nat_lt x (v.at + v.capacity) then copied v (message_of w body) else staged v Behind) (Intent x)
+
+abbrev pub SeesAnswer : Step (Unit {0}) → Sat → ℕ → Sat → Type 0
+SeesAnswer st m x m' = (body : List ℕ) × (m' ≡ (answered m.0 (header_seen m.0.stage) body x, m.1))
+    × (x < m.0.at + m.0.capacity → (length body ≡ body_len (header_seen m.0.stage)) × IsSound m.0.capacity m.0.at (header_seen m.0.stage))
 
 -- the receiver goes to the record at latest, the entry k of the list
 abbrev pub lapped : View → ℕ → ℕ → View

@@ -8,6 +8,7 @@ mod found;
 mod loading;
 mod opening;
 mod plays;
+mod raw;
 mod receiving;
 mod runs_law;
 mod seats;
@@ -16,10 +17,10 @@ mod transmitting;
 mod view;
 
 pub use fault::{Lapped, MakeFault, NoShares, ReceiversOut, SubscribeFault, TransmitFault};
-pub use runs_law::runs_stay_runs;
+pub use runs_law::{loaded_stays_loaded, runs_stay_runs};
 pub use seats::{
     BeginRefused, Begun, Board, BoardCloseRefused, ClosedBoard, Copied, CopyReceiver, Filled,
-    Transmitter,
+    RawRecord, Receiver, Transmitter,
 };
 
 #[cfg(test)]

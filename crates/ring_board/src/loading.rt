@@ -3,11 +3,15 @@ ghost use Rattle.std.specs.Prelude.{◌≡◌, ℕ, ◌+◌, ◌*◌, ◌/◌, �
 ghost use mathlib.Core.Option.{none};
 ghost use Rattle.atomic_table.specs.Table.{step};
 ghost use Rattle.ring_layout.specs.Places.{index};
-ghost use Rattle.ring_board.specs.declared.view.Stage.TheVariants.{Idle, Resting, Sure, Headed, Padded, Again, Reading, Behind};
+ghost use Rattle.ring_board.specs.declared.view.Stage.TheVariants.{Idle, Resting, Sure, Headed, Padded, Reading, Behind};
 ghost use Rattle.ring_board.specs.Records.{announced, body_len, word_count};
-ghost use Rattle.ring_board.specs.Steps.{SeesTail, SeesIntent, SeesLatest, Learns, heard, read_word, fewer, newcomer, joined};
+ghost use Rattle.ring_board.specs.Steps.{SeesTail, IsUnread, SeesIntent, SeesAnswer, SeesLatest, Learns, heard, read_word, fewer, newcomer, joined};
+ghost use Rattle.ring_board.specs.Bodies.{SeesBody, SeesValid};
 
-use crate::plays::{Learn, Leave, SeeHeader, SeeIntent, SeeLatest, SeeTail, SeeWord, Subscribe};
+use crate::plays::{
+    Learn, Leave, SeeAnswer, SeeBody, SeeHeader, SeeIntent, SeeLatest, SeeTail, SeeValid, SeeWord,
+    Subscribe,
+};
 use crate::seats::Board;
 use crate::view::BoardSeat;
 use ring_layout::broadcast_buffer_descriptor::{
@@ -56,7 +60,7 @@ impl Board {
         self.table.shared.load::<SeeWord>(seat, at)
     }
 
-    /// Loads the intent, to validate the header at the receiver's place.
+    /// Loads the intent, to validate the header at the receiver's place, which is of padding.
     pub(crate) fn check_header(&self, seat: &mut BoardSeat) -> u64
         requires seat { seat.old.table_id ≡ self.now.table.shared.table_id }
         requires stage { (w : ℕ) × (seat.old.me.0.stage ≡ Headed w) }
@@ -67,15 +71,26 @@ impl Board {
         self.table.shared.load::<SeeIntent>(seat, index)
     }
 
-    /// Loads the intent, to validate the header behind padding.
-    pub(crate) fn check_again(&self, seat: &mut BoardSeat) -> u64
+    /// Loads the intent, to validate the header of an entry whose body is then copied.
+    pub(crate) fn check_entry(&self, seat: &mut BoardSeat) -> u64
         requires seat { seat.old.table_id ≡ self.now.table.shared.table_id }
-        requires stage { (w : ℕ) × (seat.old.me.0.stage ≡ Again w) }
+        requires stage { (w : ℕ) × IsUnread w seat.old.me.0.stage }
         ensures same { (seat.new.table_id ≡ seat.old.table_id) × (seat.new.id ≡ seat.old.id) }
         ensures seen { SeesIntent (step 0 0 0 0 none) seat.old.me result seat.new.me }
     {
         let index = self.trailer_index(TAIL_INTENT_COUNTER_WORD);
         self.table.shared.load::<SeeIntent>(seat, index)
+    }
+
+    /// Loads the intent, to validate the header of an entry that is then answered unread.
+    pub(crate) fn answer_entry(&self, seat: &mut BoardSeat) -> u64
+        requires seat { seat.old.table_id ≡ self.now.table.shared.table_id }
+        requires stage { (w : ℕ) × IsUnread w seat.old.me.0.stage }
+        ensures same { (seat.new.table_id ≡ seat.old.table_id) × (seat.new.id ≡ seat.old.id) }
+        ensures seen { SeesAnswer (step 0 0 0 0 none) seat.old.me result seat.new.me }
+    {
+        let index = self.trailer_index(TAIL_INTENT_COUNTER_WORD);
+        self.table.shared.load::<SeeAnswer>(seat, index)
     }
 
     /// Loads the intent, to validate a body that was copied.
@@ -87,6 +102,28 @@ impl Board {
     {
         let index = self.trailer_index(TAIL_INTENT_COUNTER_WORD);
         self.table.shared.load::<SeeIntent>(seat, index)
+    }
+
+    /// Loads a word of the body of a record that was answered unread.
+    pub(crate) fn load_unread(&self, seat: &mut BoardSeat, at: usize) -> u64
+        requires seat { seat.old.table_id ≡ self.now.table.shared.table_id }
+        requires stage { seat.old.me.0.stage ≡ Resting }
+        requires at { at < self.now.capacity / 8 }
+        ensures same { (seat.new.table_id ≡ seat.old.table_id) × (seat.new.id ≡ seat.old.id) }
+        ensures seen { SeesBody (step 0 at 0 0 none) seat.old.me result seat.new.me }
+    {
+        self.table.shared.load::<SeeBody>(seat, at)
+    }
+
+    /// Loads the intent, to validate a record that was answered unread.
+    pub(crate) fn check_answered(&self, seat: &mut BoardSeat) -> u64
+        requires seat { seat.old.table_id ≡ self.now.table.shared.table_id }
+        requires stage { (seat.old.me.0.stage ≡ Resting) × (seat.old.me.0.capacity ≡ self.now.capacity) }
+        ensures same { (seat.new.table_id ≡ seat.old.table_id) × (seat.new.id ≡ seat.old.id) }
+        ensures seen { SeesValid (step 0 0 0 0 none) seat.old.me result seat.new.me }
+    {
+        let index = self.trailer_index(TAIL_INTENT_COUNTER_WORD);
+        self.table.shared.load::<SeeValid>(seat, index)
     }
 
     /// Loads latest, after a failed validation.

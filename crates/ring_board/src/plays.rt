@@ -1,5 +1,6 @@
 //! What each step tells. These types are for the proofs alone.
-ghost use Rattle.ring_board.specs.Steps.{Begins, Pads, PutsWord, PutsHeader, Shows, Sends, SeesTail, SeesHeader, SeesWord, SeesIntent, SeesLatest, Learns, fewer, newcomer, joined, spent};
+ghost use Rattle.ring_board.specs.Steps.{Begins, Pads, PutsWord, PutsHeader, Shows, Sends, SeesTail, SeesHeader, SeesWord, SeesIntent, SeesAnswer, SeesLatest, Learns, fewer, newcomer, joined, spent};
+ghost use Rattle.ring_board.specs.Bodies.{SeesBody, SeesValid};
 
 use crate::view::View;
 use atomic_table::{Join, Play, Split};
@@ -72,6 +73,27 @@ pub struct SeeIntent;
 
 impl Play<(), View> for SeeIntent {
     ghost then = { SeesIntent };
+}
+
+/// The intent is loaded, to validate a header that is answered unread.
+pub struct SeeAnswer;
+
+impl Play<(), View> for SeeAnswer {
+    ghost then = { SeesAnswer };
+}
+
+/// A word of the body of an answered record is loaded.
+pub struct SeeBody;
+
+impl Play<(), View> for SeeBody {
+    ghost then = { SeesBody };
+}
+
+/// The intent is loaded, to validate what was loaded of an answered record.
+pub struct SeeValid;
+
+impl Play<(), View> for SeeValid {
+    ghost then = { SeesValid };
 }
 
 /// Latest is loaded, after a failed validation.

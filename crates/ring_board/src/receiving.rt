@@ -7,11 +7,11 @@ ghost use Rattle.ring_board.specs.declared.view.Load.{Load};
 ghost use Rattle.ring_board.specs.declared.view.Stage.TheVariants.{Resting, Padded, Reading};
 ghost use Rattle.ring_board.specs.Records.{announced, body_len, word_count, is_padding, bytes_of};
 ghost use Rattle.ring_board.specs.Steps.{IsSound};
-ghost use Rattle.ring_board.specs.Receiving.{FoundIs, FoundBehind, CopiedWords, TookAll, TookNone, GotNothing, GotCopy, GotMiss};
+ghost use Rattle.ring_board.specs.Receiving.{FoundIs, NearIs, IsInside, CopiedWords, TookAll, TookNone, GotNothing, GotCopy, GotRecord, GotMiss};
 
 use crate::body_words::put_word;
 use crate::found::{Found, Front, Miss};
-use crate::seats::Board;
+use crate::seats::{Board, RawRecord};
 use crate::view::BoardSeat;
 use ring_layout::record_descriptor::{HEADER_LENGTH, unpack_header};
 
@@ -38,48 +38,79 @@ fn is_padding(header: u64) -> bool
 
 impl Board {
     /// Tests whether an intent has reached a place plus the capacity, so that what was loaded there may be overwritten.
-    fn is_lapped(&self, place: u64, intent: u64) -> bool
+    pub(crate) fn is_lapped(&self, place: u64, intent: u64) -> bool
         requires { place ≤ max_position }
         ensures { result ≡ nat_le (place + self.now.capacity) intent }
     {
         intent >= place + u64::from(self.capacity)
     }
 
-    /// Looks for the next entry.
-    fn find(&self, seat: &mut BoardSeat, place: u64) -> Found
+    /// Goes to the next entry, behind padding where there is some, and loads its header, which is not yet validated.
+    fn approach(&self, seat: &mut BoardSeat, place: u64) -> Found
         requires seat { seat.old.table_id ≡ self.now.table.shared.table_id }
         requires stage { (seat.old.me.0.stage ≡ Resting) × (seat.old.me.0.at ≡ place) × (seat.old.me.0.capacity ≡ self.now.capacity) × (place ≤ max_position) }
         ensures same { (seat.new.table_id ≡ seat.old.table_id) × (seat.new.id ≡ seat.old.id) }
-        ensures found { FoundIs result seat.old.me seat.new.me }
+        ensures near { NearIs result seat.old.me seat.new.me }
     {
         let tail = self.load_tail(seat);
         if tail <= place {
             return Found::Nothing(tail);
         }
         let header = self.load_header(seat, place);
+        if !is_padding(header) {
+            return Found::Entry(place, header);
+        }
         let intent = self.check_header(seat);
         if self.is_lapped(place, intent) {
             return Found::Missed(place, intent);
         }
-        if !is_padding(header) {
-            return Found::Entry(place, header);
-        }
-        self.find_behind(seat, place + announced(header))
+        let behind = place + announced(header);
+        Found::Entry(behind, self.load_header_behind(seat, behind))
     }
 
-    /// The same behind padding.
-    fn find_behind(&self, seat: &mut BoardSeat, place: u64) -> Found
+    /// Looks for the next entry, and validates its header.
+    fn find(&self, seat: &mut BoardSeat, place: u64) -> Found
         requires seat { seat.old.table_id ≡ self.now.table.shared.table_id }
-        requires stage { (w : ℕ) × (seat.old.me.0.stage ≡ Padded w) × (place ≡ seat.old.me.0.at + announced w) × (seat.old.me.0.capacity ≡ self.now.capacity) × (place ≤ max_position) }
+        requires stage { (seat.old.me.0.stage ≡ Resting) × (seat.old.me.0.at ≡ place) × (seat.old.me.0.capacity ≡ self.now.capacity) × (place ≤ max_position) }
         ensures same { (seat.new.table_id ≡ seat.old.table_id) × (seat.new.id ≡ seat.old.id) }
-        ensures found { FoundBehind result place seat.old.me seat.new.me }
+        ensures found { FoundIs result seat.old.me seat.new.me }
     {
-        let header = self.load_header_behind(seat, place);
-        let intent = self.check_again(seat);
-        if self.is_lapped(place, intent) {
-            Found::Missed(place, intent)
-        } else {
-            Found::Entry(place, header)
+        match self.approach(seat, place) {
+            Found::Nothing(tail) => Found::Nothing(tail),
+            Found::Missed(place, intent) => Found::Missed(place, intent),
+            Found::Entry(place, header) => {
+                let intent = self.check_entry(seat);
+                if self.is_lapped(place, intent) {
+                    Found::Missed(place, intent)
+                } else {
+                    Found::Entry(place, header)
+                }
+            }
+        }
+    }
+
+    /// Answers the next record unread, if there is one. Or else gives the place and the intent of a failed validation.
+    pub(crate) fn answer(&self, seat: &mut BoardSeat, place: u64) -> Result<Option<RawRecord>, Miss>
+        requires seat { seat.old.table_id ≡ self.now.table.shared.table_id }
+        requires stage { (seat.old.me.0.stage ≡ Resting) × (seat.old.me.0.at ≡ place) × (seat.old.me.0.capacity ≡ self.now.capacity) × (place ≤ max_position) }
+        ensures same { (seat.new.table_id ≡ seat.old.table_id) × (seat.new.id ≡ seat.old.id) }
+        ensures got { MatchResult result (λ o. MatchOption o (GotNothing seat.old.me seat.new.me) (λ r. GotRecord r seat.old.me seat.new.me × IsInside seat.old.me.0.capacity r))
+            (λ m. GotMiss m.place m.intent seat.old.me seat.new.me) }
+    {
+        match self.approach(seat, place) {
+            Found::Nothing(_) => Ok(None),
+            Found::Missed(place, intent) => Err(Miss { place, intent }),
+            Found::Entry(place, header) => {
+                let intent = self.answer_entry(seat);
+                if self.is_lapped(place, intent) {
+                    return Err(Miss { place, intent });
+                }
+                Ok(Some(RawRecord {
+                    place,
+                    type_id: announced_type(header),
+                    len: announced(header) as usize - HEADER_LENGTH,
+                }))
+            }
         }
     }
 

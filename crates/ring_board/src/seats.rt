@@ -100,6 +100,25 @@ pub struct CopyReceiver {
     ghost room: { vec_len scratch ≡ seat.me.0.capacity / 8 },
 }
 
+/// A receiver that answers records unread. Their bodies are loaded, and validated, when its user asks.
+#[derive(Drop)]
+pub struct Receiver {
+    pub(crate) seat: BoardSeat,
+    pub(crate) place: u64,
+    pub(crate) count: u64,
+    ghost rests: { (seat.me.0.stage ≡ Resting) × (seat.me.1 ≡ []) },
+    ghost stands: { (seat.me.0.at ≡ place) × (place ≤ max_position) × (seat.me.0.count ≡ count) },
+    ghost held: { seat.me.0.shares ≡ 1 },
+}
+
+/// A record that a raw receiver answered unread.
+#[derive(Clone, Copy, Debug, PartialEq, Eq)]
+pub struct RawRecord {
+    pub(crate) place: u64,
+    pub(crate) type_id: i32,
+    pub(crate) len: usize,
+}
+
 /// A message that was copied. Its record lies at `place`, in bytes.
 #[derive(Clone, Copy, Debug)]
 pub struct Copied<'a> {

@@ -10,13 +10,13 @@ ghost use Rattle.ring_board.specs.declared.view.Stage.TheVariants.{Idle, Begun, 
 ghost use Rattle.ring_board.specs.Records.{end, Lies, words_of, header_of};
 ghost use Rattle.ring_board.specs.Steps.{staged, place_before, started, after_padding, after_words, after_header, after_latest, after_tail};
 
-use crate::body_words::first_word;
 use crate::plays::{Begin, Pad, PutHeader, PutWord, Send, Show};
 use crate::seats::Board;
 use crate::view::BoardSeat;
 use ring_layout::broadcast_buffer_descriptor::{
     LATEST_COUNTER_WORD, TAIL_COUNTER_WORD, TAIL_INTENT_COUNTER_WORD,
 };
+use ring_layout::first_word;
 
 impl Board {
     /// The index of the word at a position.

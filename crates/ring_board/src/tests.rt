@@ -1,3 +1,4 @@
+mod raw;
 mod receiving;
 mod threads;
 mod transmitting;

@@ -19,14 +19,15 @@ pub struct Draft {
     pub words: LinkedList<u64>,
 }
 
-/// What a receiver copied, and how often it was lapped before.
+/// What a receiver copied, or answered unread, and how often it was lapped before.
 pub struct Taken {
     pub place: u64,
     pub message: Message,
     pub count: u64,
 }
 
-/// A load of the buffer, with its index, the tail seen last and the word, or of one of the three counters.
+/// A load of the buffer, with its index, a tail that was there before it and the word, or of one of the three counters.
+/// The tail is the one seen last; with the body of a record that was answered unread, the one of the moment.
 pub enum Load {
     Word(u64, u64, u64),
     Intent(u64),

@@ -1,8 +1,8 @@
 -- One word more of the bytes that are put into a body.
-use Rattle.std.proofs.Common.{◌≡◌, ◌⊎◌, ℕ, ◌+◌, ◌-◌, ◌*◌, ◌<◌, ◌≤◌, List, length, take, drop, min, slice_index, refl, sym, ap, ◌∙◌, subst, inl, inr, arith}
+use Rattle.std.proofs.Common.{◌≡◌, ◌⊎◌, ℕ, ◌+◌, ◌-◌, ◌*◌, ◌<◌, ◌≤◌, List, [], ◌++◌, length, take, drop, min, slice_index, refl, sym, ap, ◌∙◌, subst, inl, inr, arith}
 use Rattle.std.specs.Int.{from_le_bytes, to_le_bytes, w64}
 use Rattle.std.proofs.lemmas.Bool.{cases_lt}
-use Rattle.std.proofs.lemmas.List.{get_or-drop, get_or-take, get_or_past, length-drop, length-take}
+use Rattle.std.proofs.lemmas.List.{append-nil, drop_all, get_or-drop, get_or-take, get_or_past, length-drop, length-take}
 use Rattle.std.proofs.Math.Seq.{take-length}
 use Rattle.ring_layout.specs.History.{overwritten}
 use Rattle.ring_layout.proofs.WordBytes.{from_le_bytes-same, length-overwritten, overwritten_before, overwritten_behind, overwritten_inside}
@@ -117,3 +117,9 @@ module _ (v0 v : View) (place nth : ℕ) (c0 : StagedClaim) (there : HasClaim v0
       ∙ ap (λ (l : List StagedClaim). with_claims l v0)
       (changed_step place f (λ c. refl) g (put_at offset (take m bytes)) v0.producer.claims nth c0 rose there at_place
       (ap (λ (b : List ℕ). record { from = c0.from; place = c0.place; message = record { type_id = c0.message.type_id; body = b }; stage = c0.stage }) body_is))
+
+-- as many bytes put over others are all
+pub overwritten_all : (bs xs : List ℕ) → length bs ≡ length xs → overwritten 0 bs xs ≡ bs
+overwritten_all bs xs same =
+    let none : drop (0 + length bs) xs ≡ [] = drop_all (0 + length bs) xs (omega arith) in
+    ap (λ (l : List ℕ). bs ++ l) none ∙ append-nil bs

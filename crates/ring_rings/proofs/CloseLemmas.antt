@@ -1,5 +1,5 @@
 -- What a closed table hands on.
-use Rattle.std.proofs.Common.{◌≡◌, ℕ, zero, suc, ◌+◌, ◌/◌, ◌%◌, ◌<◌, ◌≤◌, List, [], ◌∷◌, ◌++◌, length, get_or, slice_index, refl, sym, ap, ◌∙◌, subst, arith}
+use Rattle.std.proofs.Common.{◌≡◌, ℕ, zero, suc, ◌≤◌, List, [], ◌∷◌, length, get_or, slice_index, refl, sym, ap, ◌∙◌, subst, arith}
 use Rattle.std.specs.Prelude.{All}
 use Rattle.std.proofs.lemmas.List.Elements.{All-cons, All-nil}
 use mathlib.Core.Option.{some, some-injective, some-ne-none}
@@ -12,7 +12,7 @@ use Rattle.ring_layout.specs.Layout.{head_cache_index, heartbeat_index}
 use Rattle.ring_table.specs.declared.view.ProducerView.{ProducerView}
 use Rattle.ring_table.specs.declared.view.ConsumerView.{ConsumerView}
 use Rattle.ring_table.specs.Services.{AreServed, once_below, times_drawn}
-use Rattle.ring_words.specs.Ring.{Has, IsRing, Ring, ring}
+use Rattle.ring_words.specs.Ring.{Has, IsRing, ring}
 use Rattle.ring_table.specs.declared.claim.StagedClaim.{StagedClaim}
 use Rattle.ring_table.specs.declared.view.View.{View}
 use Rattle.ring_table.specs.Staged.{ArePlaced, claim_end, claims_of}

@@ -1,16 +1,15 @@
 -- Claims with their headers stored, and how many of them are open.
-use Rattle.std.proofs.Common.{◌≡◌, ℕ, ◌+◌, ◌-◌, ◌%◌, ◌≤◌, ℤ, List, [], ◌∷◌, ◌++◌, length, Bool, true, false, cond, eqb, ltb, sym, refl, ap, ◌∙◌, subst, arith}
+use Rattle.std.proofs.Common.{◌≡◌, ℕ, ◌+◌, ◌-◌, ◌≤◌, ℤ, List, [], ◌∷◌, ◌++◌, length, Bool, true, false, cond, eqb, ltb, sym, refl, ap, ◌∙◌, subst, arith}
 use Rattle.ring_layout.specs.declared.message.ClaimState.{ClaimState}
 use Rattle.ring_layout.specs.declared.message.ClaimState.TheVariants.{Open, Committed, Aborted}
 use Rattle.ring_table.specs.declared.claim.StagedClaim.{StagedClaim}
 use Rattle.ring_table.specs.declared.claim.Stage.TheVariants.{Stored}
 use Rattle.ring_table.specs.declared.view.View.{View}
 use Rattle.ring_table.specs.Staged.{AreRising, AreStored, IsStored, state_of}
-use Rattle.ring_table.specs.Changes.{changed, staged}
+use Rattle.ring_table.specs.Changes.{changed, changed_at, staged}
 use Rattle.ring_table.specs.Owners.{insert_claim, interleaved}
 use Rattle.ring_table.specs.OpenClaims.{one_if_open, open_count}
 use Rattle.ring_table.specs.ProducerSteps.{HasClaimAt, IsOpen}
-use Rattle.ring_layout.specs.Places.{max_position}
 use Rattle.ring_table.specs.Views.{with_claims}
 use Rattle.ring_rings.specs.Matching.{Matches}
 use Rattle.ring_table.proofs.LawLemmas.{open_count-changed}
@@ -35,6 +34,26 @@ module _ (f : StagedClaim → StagedClaim) (p : ℕ) (stores : (c : StagedClaim)
       one : (b : Bool) → IsStored (cond b (f c) c).stage
       one true = stores c
       one false = t.0
+
+-- a change that keeps the stage of each claim
+module _ (f : StagedClaim → StagedClaim) (p : ℕ) (keeps : (c : StagedClaim) → (f c).stage ≡ c.stage) where
+  stage_after : (c : StagedClaim) → (changed_at p f c).stage ≡ c.stage
+  stage_after c = one (eqb c.place p)
+    where
+      one : (b : Bool) → (cond b (f c) c).stage ≡ c.stage
+      one true = keeps c
+      one false = refl
+
+  pub stored_kept : (cs : List StagedClaim) → AreStored cs → AreStored (changed p f cs)
+  stored_kept [] t = tt
+  stored_kept (c ∷ cs) t = (subst IsStored (sym (stage_after c)) t.0, stored_kept cs t.1)
+
+  pub count_kept : (cs : List StagedClaim) → open_count (changed p f cs) ≡ open_count cs
+  count_kept [] = refl
+  count_kept (c ∷ cs) =
+      let deeper = count_kept cs in
+      let here : one_if_open (state_of (changed_at p f c).stage) ≡ one_if_open (state_of c.stage) = ap (λ t. one_if_open (state_of t)) (stage_after c) in
+      omega arith
 
 pub stored_more : (cs : List StagedClaim) (c : StagedClaim) → AreStored cs → IsStored c.stage → AreStored (cs ++ c ∷ [])
 stored_more [] c t s = (s, tt)

@@ -15,3 +15,4 @@ pub mod ReadingRuns
 pub mod ReadingEnds
 pub mod ReadingHeeds
 pub mod ReadingTurns
+pub mod WaitLemmas

@@ -1,5 +1,5 @@
 -- What the loads of one try tell.
-use Rattle.std.proofs.Common.{◌≡◌, ◌≢◌, ℕ, ◌+◌, ◌<◌, ◌≤◌, ℤ, List, [], ◌∷◌, ◌++◌, length, refl, sym, inl, ap, ◌∙◌, append_assoc, arith}
+use Rattle.std.proofs.Common.{◌≡◌, ◌≢◌, ℕ, ℤ, List, [], ◌∷◌, ◌++◌, length, refl, inl, ap, ◌∙◌, append_assoc, arith}
 use Rattle.std.specs.Prelude.{None}
 use Rattle.atomic_table.proofs.Lists.{at_last}
 use Rattle.ring_layout.specs.History.{span}

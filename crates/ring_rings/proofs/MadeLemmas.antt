@@ -1,17 +1,21 @@
 -- What follows from a claim that was made.
-use Rattle.std.proofs.Common.{◌≡◌, ℕ, ◌+◌, ◌^◌, ◌<◌, ◌≤◌, ℤ, List, [], ◌∷◌, ◌++◌, length, refl, sym, ap, ◌∙◌, subst, arith, replicate}
+use Rattle.std.proofs.Common.{◌≡◌, ◌≢◌, ℕ, ◌+◌, ◌^◌, ◌<◌, ℤ, List, [], ◌∷◌, ◌++◌, length, refl, sym, ap, ◌∙◌, subst, arith}
+use Rattle.std.specs.Prelude.{None}
 use Rattle.std.proofs.lemmas.List.{length-replicate}
 use lib.ListN.{get_elem?}
 use Rattle.atomic_table.proofs.Lists.{at_longer}
-use Rattle.ring_layout.specs.declared.message.ClaimState.TheVariants.{Open}
 use Rattle.ring_table.specs.declared.claim.StagedClaim.{StagedClaim}
 use Rattle.ring_table.specs.declared.view.View.{View}
+use Rattle.ring_layout.specs.History.{span}
+use Rattle.ring_layout.specs.Places.{end_after}
+use Rattle.ring_layout.proofs.PlaceLemmas.{next_le}
 use Rattle.ring_table.specs.OpenClaims.{open_count}
+use Rattle.ring_table.specs.Views.{with_claim, with_claims}
 use Rattle.ring_table.specs.Staged.{AreStored}
 use Rattle.ring_table.specs.ProducerSteps.{HasClaimAt, IsOpen}
 use Rattle.ring_rings.specs.declared.admission.Admission.{Admission}
-use Rattle.ring_rings.specs.Claiming.{claim_behind}
-use Rattle.ring_rings.specs.Making.{Makes}
+use Rattle.ring_rings.specs.Claiming.{claim_behind, looked, record_behind, tail_refusal_of}
+use Rattle.ring_rings.specs.Making.{HasJustMade, IsJustMade, Makes}
 use Rattle.ring_rings.specs.Matching.{Matches}
 use Rattle.ring_rings.proofs.CountLemmas.{open_count-more, open_few, stored_more}
 use Rattle.ring_rings.proofs.NewestLemmas.{has_last}
@@ -60,5 +64,52 @@ module _ (C tail : ℕ) (type_id : ℤ) (len : ℕ) (front : List (ℕ × ℕ)) 
           stored = subst AreStored (sym made_claims) (stored_more v.producer.claims (claim_behind C tail type_id len) known.stored tt);
           own = λ all. ap (λ (u : View). u.producer.seen_tail) made.view ∙ sym end;
           whole = whole;
+          limit = rw end limit;
+        }
+
+  -- behind all claims that the producer had
+  pub made_apart : (place : ℕ) (P : StagedClaim → Type 0) → HasClaimAt v place P → place ≢ a.place
+  made_apart place P h same =
+      let ends = made.behind h.nth h.claim h.there in
+      let at = h.at_place in
+      let lies = made.admitted.place in
+      let on = next_le C tail (span len) in
+      omega arith
+
+  pub just_made : IsJustMade C tail type_id len a.place v.producer.claims w
+  just_made = record { claims = made_claims; behind = made.behind; place_is = made.admitted.place }
+
+  pub has_just_made : HasJustMade C type_id len a.place w
+  has_just_made = record { tail = tail; others = v.producer.claims; made = just_made }
+
+  -- its body is stored, and it is committed
+  module _ (body : List ℕ) (len_is : length body ≡ len) (u : View) (stored : u ≡ with_claims (v.producer.claims ++ record_behind C tail type_id body ∷ []) w) where
+    pub written_claims : u.producer.claims ≡ v.producer.claims ++ record_behind C tail type_id body ∷ []
+    written_claims = ap (λ (z : View). z.producer.claims) stored
+
+    pub written_view : u ≡ with_claim (record_behind C tail type_id body) (end_after C tail (span (length body))) (looked (front ++ made.loads) tail made.head v)
+    written_view =
+        let same = sym len_is in
+        stored
+        ∙ ap (with_claims (v.producer.claims ++ record_behind C tail type_id body ∷ [])) made.view
+        ∙ ap (λ (n : ℕ). with_claim (record_behind C tail type_id body) (end_after C tail (span n)) (looked (front ++ made.loads) tail made.head v)) same
+
+    pub written_refusal : tail_refusal_of C tail type_id (length body) ≡ None
+    written_refusal = subst (λ (n : ℕ). tail_refusal_of C tail type_id n ≡ None) (sym len_is) made.refusal
+
+    pub written_matches : (shares open_claims own_tail : ℕ) → Matches v shares open_claims own_tail → Matches u shares open_claims a.end
+    written_matches shares open_claims own_tail known =
+        let counted = known.counted in
+        let count : open_count u.producer.claims ≡ open_count v.producer.claims + 0 = ap open_count written_claims ∙ open_count-more v.producer.claims (record_behind C tail type_id body) in
+        let end = made.admitted.end in
+        let limit = made.admitted.limit in
+        record {
+          shares_are = ap (λ (z : View). z.producer.shares) written_view ∙ known.shares_are;
+          some = known.some;
+          most = known.most;
+          counted = omega arith;
+          stored = subst AreStored (sym written_claims) (stored_more v.producer.claims (record_behind C tail type_id body) known.stored tt);
+          own = λ all. ap (λ (z : View). z.producer.seen_tail) (stored ∙ ap (with_claims (v.producer.claims ++ record_behind C tail type_id body ∷ [])) made.view) ∙ sym end;
+          whole = made.whole;
           limit = rw end limit;
         }

@@ -1,11 +1,10 @@
 -- Bytes merged into a word of a body.
-use Rattle.std.proofs.Common.{◌≡◌, ℕ, ◌+◌, ◌-◌, ◌*◌, ◌<◌, ◌≤◌, List, [], ◌++◌, length, take, drop, min, slice_index, refl, sym, ap, ◌∙◌, subst, inl, inr, arith}
+use Rattle.std.proofs.Common.{◌≡◌, ℕ, ◌+◌, ◌-◌, ◌*◌, ◌<◌, ◌≤◌, List, [], ◌++◌, length, take, drop, slice_index, refl, sym, ap, ◌∙◌, subst, inl, inr, arith}
 use Rattle.std.specs.Prelude.{All}
-use Rattle.std.specs.Int.{from_le_bytes, to_le_bytes, w64}
+use Rattle.std.specs.Int.{from_le_bytes, w64}
 use Rattle.std.proofs.lemmas.Bool.{cases_lt}
 use Rattle.std.proofs.lemmas.List.{get_or_past, length-take, take-append-drop}
 use lib.ListN.{get_elem?}
-use mathlib.Core.Option.{some}
 use Rattle.ring_layout.specs.declared.message.ClaimState.TheVariants.{Open}
 use Rattle.ring_layout.specs.History.{overwritten}
 use Rattle.ring_layout.specs.Places.{index}
@@ -13,9 +12,7 @@ use Rattle.ring_layout.proofs.WordBytes.{length-overwritten, overwritten_before,
 use Rattle.ring_table.specs.declared.claim.StagedClaim.{StagedClaim}
 use Rattle.ring_table.specs.declared.claim.Stage.TheVariants.{Stored}
 use Rattle.ring_table.specs.declared.view.View.{View}
-use Rattle.ring_table.specs.Staged.{body_word}
 use Rattle.ring_table.specs.Changes.{changed}
-use Rattle.ring_table.specs.Views.{with_claims}
 use Rattle.ring_table.specs.ProducerSteps.{HasClaim}
 use Rattle.ring_rings.specs.Bodies.{put_at, MergesWord}
 use Rattle.ring_rings.proofs.PutLemmas.{changed_there}

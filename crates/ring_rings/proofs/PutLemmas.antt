@@ -1,11 +1,9 @@
 -- Words stored into the body of a claim, one after another.
-use Rattle.std.proofs.Common.{◌≡◌, ◌≢◌, ◌⊎◌, ℕ, zero, suc, ◌+◌, ◌-◌, ◌*◌, ◌<◌, ◌≤◌, ◌/◌, ◌%◌, ◌^◌, Bool, true, false, List, [], ◌∷◌, ◌++◌, cond, length, take, drop, min, slice_index, refl, sym, ap, ◌∙◌, subst, inl, inr, arith, eq-eqb, ne_eqb, eqb}
+use Rattle.std.proofs.Common.{◌≡◌, ◌≢◌, ◌⊎◌, ℕ, zero, suc, ◌+◌, ◌-◌, ◌*◌, ◌<◌, ◌≤◌, Bool, true, false, List, [], ◌∷◌, cond, length, take, drop, slice_index, refl, sym, ap, ◌∙◌, subst, inl, inr, arith, eqb}
 use Rattle.std.specs.Int.{from_le_bytes, to_le_bytes, w64}
 use Rattle.std.proofs.lemmas.Bool.{cases_lt}
 use Rattle.std.proofs.lemmas.List.{ext_get_or, get_or-drop, get_or-take, get_or_past, length-take}
 use mathlib.Core.Option.{some, some-injective, some-ne-none}
-use mathlib.Core.Logic.{dite}
-use native.Mathlib.Decide.{ℕ_discrete}
 use lib.ListN.{get_elem?}
 use Rattle.ring_layout.proofs.WordBytes.{byte_of_bytes, byte_of_word, from_le_bytes-same}
 use Rattle.ring_table.specs.declared.claim.StagedClaim.{StagedClaim}
@@ -86,6 +84,23 @@ module _ (p : ℕ) (f : StagedClaim → StagedClaim) (keeps : (c : StagedClaim) 
       above_at q [] j x above g = absurd (some-ne-none x (sym g))
       above_at q (y ∷ ys) zero x above g = subst (λ (z : StagedClaim). q < z.place) (some-injective y x g) above.0
       above_at q (y ∷ ys) (suc j) x above g = above_at q ys j x above.1 g
+
+-- a claim at another place stays
+changed_elsewhere : (p : ℕ) (f : StagedClaim → StagedClaim) (cs : List StagedClaim) (k : ℕ) (c : StagedClaim) → get_elem? cs k ≡ some c → c.place ≢ p → get_elem? (changed p f cs) k ≡ some c
+changed_elsewhere p f [] k c e other = absurd (some-ne-none c (sym e))
+changed_elsewhere p f (d ∷ ds) zero c e other =
+    let same : d ≡ c = some-injective d c e in
+    ap some (changed_at_other p f d (λ here. other (ap (λ (z : StagedClaim). z.place) (sym same) ∙ here)) ∙ same)
+changed_elsewhere p f (d ∷ ds) (suc k) c e other = changed_elsewhere p f ds k c e other
+
+pub has_other : (v w : View) (p q : ℕ) (f : StagedClaim → StagedClaim) (P : StagedClaim → Type 0) → w.producer.claims ≡ changed p f v.producer.claims → HasClaimAt v q P → q ≢ p → HasClaimAt w q P
+has_other v w p q f P is h other = record {
+  nth = h.nth;
+  claim = h.claim;
+  there = ap (λ l. get_elem? l h.nth) is ∙ changed_elsewhere p f v.producer.claims h.nth h.claim h.there (λ here. other (sym h.at_place ∙ here));
+  at_place = h.at_place;
+  holds = h.holds;
+}
 
 -- The word k of new bytes, stored over old bytes that are the same elsewhere, makes the new bytes
 module _ (k : ℕ) (old new : List ℕ) (long : length new ≡ length old) (inside : 8 * k < length old) (apart : (j : ℕ) → (j < 8 * k) ⊎ (8 * k + 8 ≤ j) → slice_index old j ≡ slice_index new j)

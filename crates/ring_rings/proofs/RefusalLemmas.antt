@@ -1,5 +1,5 @@
 -- What a refusal tells.
-use Rattle.std.proofs.Common.{◌≡◌, ℕ, ◌+◌, ◌/◌, ◌<◌, ◌≤◌, ℤ, pos, Bool, true, false, cond, sym, refl, ap, ◌∙◌}
+use Rattle.std.proofs.Common.{◌≡◌, ℕ, ◌/◌, ℤ, pos, Bool, true, false, cond}
 use Rattle.std.specs.Prelude.{Option, Some, None, Result, Ok, Err, nat_lt, int_lt}
 use Rattle.ring_layout.specs.History.{span}
 use Rattle.ring_layout.specs.Places.{end_after, max_position}

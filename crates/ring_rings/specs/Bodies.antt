@@ -5,6 +5,8 @@ use Rattle.ring_layout.specs.declared.message.ClaimState.TheVariants.{Open}
 use Rattle.ring_layout.specs.History.{overwritten}
 use Rattle.ring_layout.specs.Places.{index}
 use Rattle.ring_table.specs.declared.view.View.{View}
+use Rattle.ring_table.specs.Changes.{changed}
+use Rattle.ring_table.specs.Views.{with_claims}
 use Rattle.ring_table.specs.ProducerSteps.{HasClaim}
 use Rattle.ring_table.specs.declared.claim.StagedClaim.{StagedClaim}
 use Rattle.ring_table.specs.declared.claim.Stage.TheVariants.{Stored}
@@ -26,6 +28,11 @@ pub record IsBlank (len : ℕ) (c : StagedClaim) : Type 0 where
 -- the view with these loads
 abbrev pub loaded : List (ℕ × ℕ) → View → View
 loaded loads v = record v { log = v.log ++ loads }
+
+-- the bytes are put into the claim at a place, and words of it may be loaded for that
+pub record PutsBytes (place offset : ℕ) (bytes : List ℕ) (v w : View) : Type 0 where
+  pub loads : List (ℕ × ℕ)
+  pub view : w ≡ with_claims (changed place (put_at offset bytes) v.producer.claims) (loaded loads v)
 
 -- the word is that of an own open claim's body at this index, with these bytes in place of its own from the byte `at` on
 abbrev pub MergesWord : ℕ → ℕ → List ℕ → View → ℕ → Type 0

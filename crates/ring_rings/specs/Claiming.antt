@@ -2,7 +2,7 @@
 use Rattle.std.specs.Prelude.{◌≡◌, ◌≢◌, ◌⊎◌, ℕ, ◌+◌, ◌/◌, ◌%◌, ◌<◌, ◌≤◌, ℤ, pos, List, [], ◌∷◌, ◌++◌, length, Option, Some, None, Result, Err, MatchOption, IsOk, if◌then◌else◌, nat_lt, int_lt}
 use mathlib.Core.Option.{some}
 use lib.ListN.{get_elem?}
-use Rattle.ring_layout.specs.declared.message.ClaimState.TheVariants.{Open, Committed}
+use Rattle.ring_layout.specs.declared.message.ClaimState.TheVariants.{Committed}
 use Rattle.ring_layout.specs.History.{span}
 use Rattle.ring_layout.specs.Places.{next_place, end_after, max_position, Fits}
 use Rattle.ring_layout.specs.Layout.{tail_index, head_cache_index, head_index}
@@ -165,3 +165,10 @@ pub record Contends (C : ℕ) (type_id : ℤ) (len : ℕ) (v : View) (tail seen 
 abbrev pub RefusesTry : ℕ → ℤ → ℕ → View → TryFault → View → Type 0
 RefusesTry C type_id len v (Refused fault) w = Refuses C type_id len v fault w
 RefusesTry C type_id len v (Contended tail seen) w = Contends C type_id len v tail seen w
+
+-- some tries only looked, and P holds of the view after them
+pub record AfterTries (v : View) (P : View → Type 0) : Type 0 where
+  pub loads : List (ℕ × ℕ)
+  pub before : View
+  pub looks : Looks v loads before
+  pub holds : P before

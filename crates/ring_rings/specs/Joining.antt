@@ -1,6 +1,6 @@
--- Two producers put together.
+-- Two producers put together, and what one loads.
 use Rattle.std.specs.Prelude.{◌≡◌, ℕ, ◌≤◌, [], ◌∷◌}
-use Rattle.ring_layout.specs.Layout.{tail_index}
+use Rattle.ring_layout.specs.Layout.{head_index, tail_index}
 use Rattle.ring_table.specs.declared.view.View.{View}
 use Rattle.ring_table.specs.Views.{with_producer_of}
 use Rattle.ring_rings.specs.Claiming.{looked}
@@ -12,3 +12,8 @@ pub record Joins (C : ℕ) (v w u : View) : Type 0 where
   pub view : u ≡ looked ((tail_index C, tail) ∷ []) tail head (with_producer_of v w)
   pub later : v.producer.seen_tail ≤ tail
   pub later_too : w.producer.seen_tail ≤ tail
+
+-- the head was loaded, and then a tail that is not below the greatest end seen
+pub record LoadsPositions (C : ℕ) (v : View) (head tail : ℕ) (w : View) : Type 0 where
+  pub view : w ≡ looked ((head_index C, head) ∷ (tail_index C, tail) ∷ []) tail head v
+  pub later : v.producer.seen_tail ≤ tail

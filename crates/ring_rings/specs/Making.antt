@@ -4,7 +4,7 @@ use mathlib.Core.Option.{some}
 use lib.ListN.{get_elem?}
 use Rattle.ring_layout.specs.History.{IsMessage, span}
 use Rattle.ring_layout.specs.Places.{next_place, end_after, max_position}
-use Rattle.ring_layout.specs.Layout.{tail_index, head_cache_index, head_index}
+use Rattle.ring_layout.specs.Layout.{head_cache_index, head_index}
 use Rattle.ring_table.specs.declared.claim.StagedClaim.{StagedClaim}
 use Rattle.ring_table.specs.declared.view.View.{View}
 use Rattle.ring_table.specs.Staged.{staged_span}
@@ -64,6 +64,7 @@ pub record Makes (C tail : ℕ) (type_id : ℤ) (len : ℕ) (front : List (ℕ �
   pub head : ℕ
   pub view : w ≡ with_claim (claim_behind C tail type_id len) (end_after C tail (span len)) (looked (front ++ loads) tail head v)
   pub few : length v.producer.claims ≤ a.place
+  pub behind : EndBelow tail v.producer.claims
 
 -- c is the last claim of the view, made from the tail on for len bytes. No header is stored, and the others lie before
 pub record IsNewest (tail place len : ℕ) (cs : List StagedClaim) (c : StagedClaim) (v : View) : Type 0 where
@@ -79,3 +80,14 @@ pub record HasNewest (tail place len : ℕ) (v : View) : Type 0 where
   pub others : List StagedClaim
   pub claim : StagedClaim
   pub newest : IsNewest tail place len others claim v
+
+-- the last claim of the view was just made behind the tail, and is open
+pub record IsJustMade (C tail : ℕ) (type_id : ℤ) (len place : ℕ) (cs : List StagedClaim) (v : View) : Type 0 where
+  pub claims : v.producer.claims ≡ cs ++ claim_behind C tail type_id len ∷ []
+  pub behind : EndBelow tail cs
+  pub place_is : place ≡ next_place C tail (span len)
+
+pub record HasJustMade (C : ℕ) (type_id : ℤ) (len place : ℕ) (v : View) : Type 0 where
+  pub tail : ℕ
+  pub others : List StagedClaim
+  pub made : IsJustMade C tail type_id len place others v

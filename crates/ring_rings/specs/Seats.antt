@@ -1,6 +1,7 @@
 -- What clauses say of rings and of those who work on them.
-use Rattle.std.specs.Prelude.{◌≡◌, ℕ, ◌+◌, ◌%◌, List}
+use Rattle.std.specs.Prelude.{◌≡◌, ℕ, ◌+◌, ◌%◌, ◌≤◌, List}
 use Rattle.ring_layout.specs.History.{IsMessage}
+use Rattle.ring_layout.specs.Places.{max_position}
 use Rattle.ring_words.specs.Open.{ClaimAt}
 use Rattle.ring_table.specs.Changes.{blank}
 use Rattle.ring_table.specs.ProducerSteps.{HasClaimAt, IsOpen}
@@ -71,4 +72,5 @@ pub record IsConsumerOf {K : Type 0} (ring : Ring K) (c : Consumer) : Type 0 whe
 pub record IsOpenClaimOf {K : Type 0} (ring : Ring K) (p : Producer) (t : ClaimAt) : Type 0 where
   pub index : t.index ≡ t.place % ring.capacity + 8
   pub message : IsMessage ring.capacity (blank t.type_id t.len)
+  pub limit : t.place ≤ max_position
   pub claim : HasClaimAt p.seat.me.0 t.place (IsOpen t.type_id t.len)

@@ -1,14 +1,20 @@
 //! Bytes put into the body of an open claim, a word at a time.
-ghost use Rattle.std.specs.Prelude.{◌≡◌, ℕ, ◌+◌, ◌<◌, ◌≤◌, List, length};
+ghost use Rattle.std.specs.Prelude.{◌≡◌, ℕ, ◌+◌, ◌<◌, ◌≤◌, List, [], ◌∷◌, ◌++◌, length};
+ghost use Rattle.ring_layout.specs.History.{IsMessage};
 ghost use Rattle.ring_layout.specs.Places.{index, max_position};
-ghost use Rattle.ring_table.specs.Changes.{changed};
+ghost use Rattle.ring_table.specs.declared.claim.StagedClaim.{StagedClaim};
+ghost use Rattle.ring_table.specs.Changes.{blank, changed};
 ghost use Rattle.ring_table.specs.ProducerSteps.{HasClaimAt};
 ghost use Rattle.ring_table.specs.Seats.{IsSameSeat, IsSeatOf};
 ghost use Rattle.ring_table.specs.Views.{with_claims};
-ghost use Rattle.ring_rings.specs.Bodies.{loaded, put_at, HasRoom, IsBlank, MergesWord};
+ghost use Rattle.ring_rings.specs.Bodies.{loaded, put_at, HasRoom, IsBlank, MergesWord, PutsBytes};
+ghost use Rattle.ring_rings.specs.Claiming.{record_behind};
+ghost use Rattle.ring_rings.specs.Making.{HasJustMade, IsJustMade};
 
 use ring_layout::{first_word, put_bytes_word};
-use ring_table::{RingSeat, SharedRing, load_own_word, store_body_word};
+use ring_table::{
+    RingSeat, SharedRing, Wanted, load_own_word, store_body_word, store_committed_header,
+};
 
 /// Stores a whole body into a claim of its length whose bytes are 0.
 pub(crate) fn store_body(
@@ -29,6 +35,27 @@ pub(crate) fn store_body(
         let word = first_word(&body[8 * k..]);
         store_body_word(words, seat, capacity, place, 8 * k as u64, word);
     }
+}
+
+/// Stores the body of the claim that was just made, and commits it.
+pub(crate) fn store_message(
+    words: &SharedRing,
+    seat: &mut RingSeat,
+    capacity: u32,
+    place: u64,
+    wanted: Wanted,
+    body: &[u8],
+)
+    requires seat { IsSeatOf words.now.table_id words.now.key capacity seat.old }
+    requires message { IsMessage capacity (blank wanted.type_id wanted.len) }
+    requires place { place ≤ max_position }
+    requires len { length body.now ≡ wanted.len }
+    requires made { HasJustMade capacity wanted.type_id wanted.len place seat.old.me.0 }
+    ensures seat { IsSameSeat seat.old seat.new }
+    ensures stored { (tail : ℕ) (cs : List StagedClaim) → IsJustMade capacity tail wanted.type_id wanted.len place cs seat.old.me.0 → seat.new.me.0 ≡ with_claims (cs ++ record_behind capacity tail wanted.type_id body.now ∷ []) seat.old.me.0 }
+{
+    store_body(words, seat, capacity, place, body);
+    store_committed_header(words, seat, capacity, place, wanted);
 }
 
 /// The word of an open claim's body with these bytes in place of its own from the byte `at` on. The word is loaded where
@@ -68,7 +95,7 @@ pub(crate) fn put_bytes(
     requires claim { HasClaimAt seat.old.me.0 place (HasRoom (offset + length bytes.now)) }
     requires short { offset + length bytes.now ≤ capacity }
     ensures seat { IsSameSeat seat.old seat.new }
-    ensures view { (loads : List (ℕ × ℕ)) × (seat.new.me.0 ≡ with_claims (changed place (put_at offset bytes.now) seat.old.me.0.producer.claims) (loaded loads seat.old.me.0)) }
+    ensures put { PutsBytes place offset bytes.now seat.old.me.0 seat.new.me.0 }
 {
     let mut done = 0;
     while done < bytes.len() {

@@ -16,9 +16,12 @@ mod producer;
 mod reading;
 mod room;
 mod seats;
+mod service;
 mod settling;
+mod source;
 #[cfg(test)]
 mod tests;
+mod waiting;
 
 pub use claim::Claim;
 pub use fault::{CloseFault, NoShares, TryFault};
@@ -26,3 +29,4 @@ pub use ring_words::{Action, ClaimFault, Handler, MakeFault, Positions, PutRange
 pub use seats::{
     CloseRefused, Consumer, ManyToOne, ManyToOneRing, OneToOne, OneToOneRing, Producer, Ring,
 };
+pub use source::CommandSource;

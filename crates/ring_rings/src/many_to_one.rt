@@ -1,11 +1,12 @@
 //! The calls of a ring with any number of producers.
-ghost use Rattle.std.specs.Prelude.{◌≡◌, ◌↔◌, IfErr, IfOk, IsTrue, OnErr, OnOk, is_err};
+ghost use Rattle.std.specs.Prelude.{◌≡◌, ◌≢◌, ◌↔◌, length, IfErr, IfOk, IsTrue, OnErr, OnOk, is_err};
 ghost use Rattle.ring_table.specs.Views.{producer_alone, without_share};
 ghost use Rattle.ring_words.specs.Open.{ClaimAt};
-ghost use Rattle.ring_rings.specs.Claiming.{Claims, RefusesTry};
+ghost use Rattle.ring_rings.specs.Claiming.{Claims, RefusesTry, Writes};
 ghost use Rattle.ring_rings.specs.Joining.{Joins};
 ghost use Rattle.ring_rings.specs.Seats.{capacity_of, shares_of, view_of, IsOpenClaimOf, IsProducerOf};
 
+use crate::bodies::store_message;
 use crate::claim::Claim;
 use crate::claiming::try_claim;
 use crate::fault::{NoShares, TryFault};
@@ -32,6 +33,7 @@ impl Ring<ManyToOne> {
         ensures refused { IfErr result (λ fault. RefusesTry (capacity_of self.now) type_id len (view_of producer.old) fault (view_of producer.new)) }
         ensures is_open { IfOk result (IsOpenClaimOf self.now producer.new) }
         ensures claims { (t : ClaimAt) → IsOpenClaimOf self.now producer.old t → IsOpenClaimOf self.now producer.new t }
+        ensures apart { IfOk result (λ new. (t : ClaimAt) → IsOpenClaimOf self.now producer.old t → t.place ≢ new.place) }
     {
         let wanted = Wanted { type_id, len };
         let admission = try_claim(
@@ -43,6 +45,37 @@ impl Ring<ManyToOne> {
         producer.own_tail = admission.end;
         producer.open_claims += 1;
         Ok(Claim::new(self.capacity, admission.place, wanted))
+    }
+
+    /// Makes one try to write a message: it is claimed, stored and committed. The refusals are those of `claim_once`.
+    pub fn write_once(
+        &self,
+        producer: &mut Producer,
+        type_id: i32,
+        body: &[u8],
+    ) -> Result<(), TryFault>
+        requires producer { IsProducerOf self.now producer.old }
+        ensures producer { IsProducerOf self.now producer.new }
+        ensures written { OnOk result (Writes (capacity_of self.now) type_id body.now (view_of producer.old) (view_of producer.new)) }
+        ensures refused { IfErr result (λ fault. RefusesTry (capacity_of self.now) type_id (length body.now) (view_of producer.old) fault (view_of producer.new)) }
+        ensures claims { (t : ClaimAt) → IsOpenClaimOf self.now producer.old t → IsOpenClaimOf self.now producer.new t }
+    {
+        let wanted = Wanted {
+            type_id,
+            len: body.len(),
+        };
+        let words = &self.table.shared;
+        let admission = try_claim(words, &mut producer.seat, self.capacity, wanted)?;
+        store_message(
+            words,
+            &mut producer.seat,
+            self.capacity,
+            admission.place,
+            wanted,
+            body,
+        );
+        producer.own_tail = admission.end;
+        Ok(())
     }
 
     /// Makes another producer with one share of this one's, without claims, draws or heartbeats read. `NoShares` where

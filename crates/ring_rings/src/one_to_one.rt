@@ -1,9 +1,10 @@
 //! The calls of a ring with one producer.
-ghost use Rattle.std.specs.Prelude.{◌≡◌, IfErr, IfOk};
+ghost use Rattle.std.specs.Prelude.{◌≡◌, ◌≢◌, length, IfErr, IfOk, OnOk};
 ghost use Rattle.ring_words.specs.Open.{ClaimAt};
-ghost use Rattle.ring_rings.specs.Claiming.{ClaimsAlone, RefusesAlone};
+ghost use Rattle.ring_rings.specs.Claiming.{ClaimsAlone, RefusesAlone, WritesAlone};
 ghost use Rattle.ring_rings.specs.Seats.{capacity_of, shares_of, view_of, IsOpenClaimOf, IsProducerOf};
 
+use crate::bodies::store_message;
 use crate::claim::Claim;
 use crate::claiming::claim_alone;
 use crate::seats::{OneToOne, Producer, Ring};
@@ -29,6 +30,7 @@ impl Ring<OneToOne> {
         ensures refused { IfErr result (λ fault. RefusesAlone (capacity_of self.now) type_id len (view_of producer.old) fault (view_of producer.new)) }
         ensures is_open { IfOk result (IsOpenClaimOf self.now producer.new) }
         ensures claims { (t : ClaimAt) → IsOpenClaimOf self.now producer.old t → IsOpenClaimOf self.now producer.new t }
+        ensures apart { IfOk result (λ new. (t : ClaimAt) → IsOpenClaimOf self.now producer.old t → t.place ≢ new.place) }
     {
         let wanted = Wanted { type_id, len };
         let tail = producer.own_tail;
@@ -42,5 +44,37 @@ impl Ring<OneToOne> {
         producer.own_tail = admission.end;
         producer.open_claims += 1;
         Ok(Claim::new(self.capacity, admission.place, wanted))
+    }
+
+    /// Writes a message: it is claimed, stored and committed. The refusals are those of `claim`.
+    pub fn write(
+        &self,
+        producer: &mut Producer,
+        type_id: i32,
+        body: &[u8],
+    ) -> Result<(), ClaimFault>
+        requires producer { IsProducerOf self.now producer.old }
+        requires sole { shares_of producer.old ≡ 65536 }
+        ensures producer { IsProducerOf self.now producer.new }
+        ensures written { OnOk result (WritesAlone (capacity_of self.now) type_id body.now (view_of producer.old) (view_of producer.new)) }
+        ensures refused { IfErr result (λ fault. RefusesAlone (capacity_of self.now) type_id (length body.now) (view_of producer.old) fault (view_of producer.new)) }
+        ensures claims { (t : ClaimAt) → IsOpenClaimOf self.now producer.old t → IsOpenClaimOf self.now producer.new t }
+    {
+        let wanted = Wanted {
+            type_id,
+            len: body.len(),
+        };
+        let (words, tail) = (&self.table.shared, producer.own_tail);
+        let admission = claim_alone(words, &mut producer.seat, self.capacity, tail, wanted)?;
+        store_message(
+            words,
+            &mut producer.seat,
+            self.capacity,
+            admission.place,
+            wanted,
+            body,
+        );
+        producer.own_tail = admission.end;
+        Ok(())
     }
 }

@@ -1,1 +1,10 @@
+mod bench;
+mod claims;
+mod closing;
+mod faults;
 mod reading;
+mod script;
+mod services;
+mod threads;
+mod waiting;
+mod writing;

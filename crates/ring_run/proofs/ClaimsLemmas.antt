@@ -1,10 +1,10 @@
 -- How the claims of a ring stay open.
-use Rattle.std.proofs.Common.{Result, Ok, Err, OnOk, OnErr, MatchResult, ◌≡◌, ◌≢◌, ℕ, ◌+◌, ◌<◌, List, [], ◌∷◌, ◌++◌, length, set, Option, Some, None, sym, ◌∙◌, subst, arith, ◌⊎◌, inl, inr, get_or-set_same, get_or-set_other}
-use Rattle.std.proofs.lemmas.Bool.{cases_lt}
-use Rattle.std.proofs.lemmas.List.{get_or_append_left, get_or_push, get_or_past, length-append}
+use Rattle.std.proofs.Common.{Result, Ok, Err, OnOk, OnErr, MatchResult, ◌≡◌, ◌≢◌, ℕ, List, [], ◌∷◌, ◌++◌, set, Option, Some, None, sym, ◌∙◌, subst, arith, inl, inr}
+use Rattle.std.proofs.lemmas.List.{get_or_past}
 use Rattle.ring_words.specs.Ring.{Ring}
 use Rattle.ring_words.specs.Open.{ClaimAt, IsOpen}
 use Rattle.ring_run.specs.Claims.{HasClaim, AreOpen}
+use Rattle.ring_run.proofs.HeldLemmas.{held_inside, in_pushed, in_set}
 
 -- there are no claims at first
 pub none_open : (r : Ring) → AreOpen r []
@@ -16,22 +16,6 @@ none_open r = record {
 -- a step after which the open claims of the ring are still open
 pub still_open : (old new : Ring) (claims : List (Option ClaimAt)) → AreOpen old claims → ((t : ClaimAt) → IsOpen old t → IsOpen new t) → AreOpen new claims
 still_open old new claims are keeps = record { open_in = λ i t has. keeps t (are.open_in i t has); apart = are.apart }
-
--- a claim of the list with one more is one of the list, or that one
-in_pushed : (claims : List (Option ClaimAt)) (t s : ClaimAt) (i : ℕ) → HasClaim (claims ++ Some t ∷ []) i s → HasClaim claims i s ⊎ ((i ≡ length claims) × (t ≡ s))
-in_pushed claims t s i has =
-    elim (cases_lt i (length claims)) as (λ _. HasClaim claims i s ⊎ ((i ≡ length claims) × (t ≡ s))) [
-      | inl within ↦ inl (sym (get_or_append_left claims (Some t ∷ []) None i within) ∙ has)
-      | inr past ↦
-          elim (cases_lt (length claims) i) as (λ _. HasClaim claims i s ⊎ ((i ≡ length claims) × (t ≡ s))) [
-            | inl beyond ↦
-                let long : length (claims ++ Some t ∷ []) ≡ length claims + 1 = length-append claims (Some t ∷ []) in
-                let clash : None ≡ Some s = sym (get_or_past (claims ++ Some t ∷ []) i None (omega (arith, long, beyond))) ∙ has in absurd cc
-            | inr last ↦
-                let at : length claims ≡ i = omega (arith, past, last) in
-                let same : Some t ≡ Some s = sym (get_or_push claims (Some t) None i at) ∙ has in inr (sym at, cc)
-          ]
-    ]
 
 -- one more claim
 pub one_more_open : (old new : Ring) (claims : List (Option ClaimAt)) (t : ClaimAt) → AreOpen old claims → ((s : ClaimAt) → IsOpen old s → IsOpen new s) → IsOpen new t
@@ -62,19 +46,8 @@ one_more_open old new claims t are keeps is_open elsewhere = record { open_in = 
 
 -- a claim of the list without one is another one of the list
 in_taken : (claims : List (Option ClaimAt)) (k : ℕ) (t s : ClaimAt) (i : ℕ) → HasClaim claims k t → HasClaim (set claims k None) i s → (i ≢ k) × HasClaim claims i s
-in_taken claims k t s i had has = (other, sym (get_or-set_other claims k i None None other) ∙ has)
-  where
-    within : k < length claims
-    within =
-        elim (cases_lt k (length claims)) as (λ _. k < length claims) [
-          | inl inside ↦ inside
-          | inr past ↦ let clash : None ≡ Some t = sym (get_or_past claims k None past) ∙ had in absurd cc
-        ]
-
-    other : i ≢ k
-    other e =
-        let here : HasClaim (set claims k None) k s = subst (λ n. HasClaim (set claims k None) n s) e has in
-        let clash : None ≡ Some s = sym (get_or-set_same claims k None None within) ∙ here in absurd cc
+in_taken claims k t s i had has =
+    elim (in_set claims k None s i (held_inside claims k t had) has) as (λ _. (i ≢ k) × HasClaim claims i s) [ inl put ↦ absurd cc | inr other ↦ other ]
 
 -- a claim is settled and taken from the list
 pub one_less_open : (old new : Ring) (claims : List (Option ClaimAt)) (k : ℕ) (t : ClaimAt) → AreOpen old claims → HasClaim claims k t

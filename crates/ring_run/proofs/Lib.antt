@@ -1,2 +1,3 @@
+mod HeldLemmas
 mod ClaimsLemmas
 mod TextLemmas

@@ -1,5 +1,7 @@
 pub mod Claims
 pub mod Faults
 pub mod Lines
+pub mod Receivers
+pub mod Sizes
 pub mod Text
 pub mod Words

@@ -1,7 +1,7 @@
 -- What the words of a line ask for.
 use Rattle.std.specs.Prelude.{◌≡◌, ℕ, List, [], ◌∷◌, codes}
 use Rattle.ring_run.specs.declared.call.Call.{Call}
-use Rattle.ring_run.specs.declared.call.Call.TheVariants.{Write, Claim, Put, Commit, Abort, Read, Control, Positions}
+use Rattle.ring_run.specs.declared.call.Call.TheVariants.{Write, Claim, Put, Commit, Abort, Read, Control, Positions, Transmit, Subscribe, Receive, Leave}
 use Rattle.ring_run.specs.declared.line.Line.{Line}
 use Rattle.ring_run.specs.declared.line.Line.TheVariants as line
 use Rattle.ring_run.specs.Text.{IsBlank}
@@ -22,6 +22,11 @@ AsksFor (Control limit actions) words = (limit_word action_word : List ℕ) × (
     × SpellsUnsigned 32 limit_word limit × SpellsActions action_word actions.items
 AsksFor Positions words = words ≡ codes "positions" ∷ []
 AsksFor (Read limit) words = (limit_word : List ℕ) × (words ≡ codes "read" ∷ limit_word ∷ []) × SpellsUnsigned 32 limit_word limit
+AsksFor (Transmit type_id body) words = (type_word body_word : List ℕ) × (words ≡ codes "transmit" ∷ type_word ∷ body_word ∷ [])
+    × SpellsI32 type_word type_id × SpellsBytes body_word body.items
+AsksFor Subscribe words = words ≡ codes "subscribe" ∷ []
+AsksFor (Receive number) words = (number_word : List ℕ) × (words ≡ codes "receive" ∷ number_word ∷ []) × SpellsUnsigned 64 number_word number
+AsksFor (Leave number) words = (number_word : List ℕ) × (words ≡ codes "leave" ∷ number_word ∷ []) × SpellsUnsigned 64 number_word number
 
 -- the words are this line
 abbrev pub IsLine : Line → List (List ℕ) → Type 0

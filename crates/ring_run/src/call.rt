@@ -7,7 +7,7 @@ use crate::words::Words;
 use ring_words::Action;
 use std::alloc::Global;
 
-/// A call of a ring, as a line asks for it.
+/// A call of the ring or of the broadcast buffer, as a line asks for it.
 #[derive(Drop)]
 pub enum Call {
     /// `write TYPE HEX`
@@ -45,6 +45,21 @@ pub enum Call {
     },
     /// `positions`
     Positions,
+    /// `transmit TYPE HEX`
+    Transmit {
+        type_id: i32,
+        body: Vec<u8>,
+    },
+    /// `subscribe`
+    Subscribe,
+    /// `receive K`
+    Receive {
+        number: usize,
+    },
+    /// `leave K`
+    Leave {
+        number: usize,
+    },
 }
 
 impl Call {
@@ -62,7 +77,11 @@ impl Call {
             b"abort" => Self::abort(words),
             b"read" => Self::read(words),
             b"control" => Self::control(alloc, words),
+            b"receive" => Self::receive(words),
+            b"leave" => Self::leave(words),
             _ if name == b"positions".as_slice() => Self::positions(words),
+            _ if name == b"transmit".as_slice() => Self::transmit(alloc, words),
+            _ if name == b"subscribe".as_slice() => Self::subscribe(words),
             _ => Err(LineFault::Bad),
         }
     }
@@ -137,5 +156,37 @@ impl Call {
     {
         words.finish()?;
         Ok(Call::Positions)
+    }
+
+    fn transmit(alloc: Global, words: &mut Words) -> Result<Call, LineFault>
+        ensures { IfOk result (λ call. AsksFor call (codes "transmit" ∷ words_of words.old.rest.now)) }
+    {
+        let type_id = words.number()?;
+        let body = words.bytes(alloc)?;
+        words.finish()?;
+        Ok(Call::Transmit { type_id, body })
+    }
+
+    fn subscribe(words: &mut Words) -> Result<Call, LineFault>
+        ensures { IfOk result (λ call. AsksFor call (codes "subscribe" ∷ words_of words.old.rest.now)) }
+    {
+        words.finish()?;
+        Ok(Call::Subscribe)
+    }
+
+    fn receive(words: &mut Words) -> Result<Call, LineFault>
+        ensures { IfOk result (λ call. AsksFor call (codes "receive" ∷ words_of words.old.rest.now)) }
+    {
+        let number = words.number()?;
+        words.finish()?;
+        Ok(Call::Receive { number })
+    }
+
+    fn leave(words: &mut Words) -> Result<Call, LineFault>
+        ensures { IfOk result (λ call. AsksFor call (codes "leave" ∷ words_of words.old.rest.now)) }
+    {
+        let number = words.number()?;
+        words.finish()?;
+        Ok(Call::Leave { number })
     }
 }

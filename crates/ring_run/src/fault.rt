@@ -8,7 +8,7 @@ use thiserror::Error;
 /// Why a run ends before its scenario does. Its text goes to standard error.
 #[derive(Clone, Copy, Debug, PartialEq, Eq, Error)]
 pub enum RunFault {
-    /// `--ring` is no lawful capacity of a ring.
+    /// `--ring` is no lawful capacity of a ring, or `--board` none of a broadcast buffer.
     #[error("1 BadCapacity")]
     BadCapacity,
     /// The runner got no memory for its own parts.

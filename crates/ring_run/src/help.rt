@@ -1,7 +1,7 @@
 //! The texts of the help.
 
 pub const ABOUT: &str =
-    "Runs a scenario on rings of messages: reads it from standard input and prints what each line gave.";
+    "Runs a scenario on a ring of messages and a broadcast buffer: reads it from standard input and prints what each line gave.";
 
 pub const RING: &str = "Bytes of the ring: a power of two, 128 to 16777216";
 
@@ -31,11 +31,19 @@ A scenario is a text with one call on each line, executed in order:
                          take it and stop), c (commit) or n (continue);
                          `-` for no letters
   positions              prints where the next read and write begin
+  transmit TYPE HEX      transmits a message on the broadcast buffer, which
+                         never waits and overwrites the oldest messages
+  subscribe              makes a receiver; the line that it prints gives its
+                         number K
+  receive K              prints the next message that the receiver has not
+                         seen and its place, or `none`; or `lapped` and how
+                         often, where it missed messages
+  leave K                takes the receiver away
   end                    prints how many messages were read and how many are
                          left; each scenario ends so
   # TEXT                 a comment
 
-A call that the ring refuses prints `refused`, and the scenario goes on.
+A call that is refused prints `refused`, and the scenario goes on.
 A line that is none of these ends the run with `fault: 25 BadLine`.
 
 For example the scenario

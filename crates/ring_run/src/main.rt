@@ -1,4 +1,4 @@
-//! Runs a scenario on rings of messages: it reads lines on standard input and writes on standard output.
+//! Runs a scenario on a ring of messages and a broadcast buffer: it reads lines on standard input and writes on standard output.
 #![tactic(auto)]
 
 mod call;
@@ -8,9 +8,11 @@ mod help;
 mod input;
 mod line;
 mod lines;
+mod loose_board;
 mod loose_ring;
 mod options;
 mod printer;
+mod received;
 mod runner;
 mod scenario;
 #[cfg(test)]

@@ -1,10 +1,11 @@
 //! The command line.
 ghost use Rattle.std.specs.Prelude.{◌≡◌, true, false, MatchResult};
-ghost use Rattle.ring_layout.specs.Places.{is_capacity};
+ghost use Rattle.ring_board.specs.Layout.{is_board_capacity};
 
 use crate::fault::RunFault;
 use crate::help;
 use clap::{Arg, ArgAction, ArgMatches, Command, Error, value_parser};
+use ring_layout::broadcast_buffer_descriptor::{MAX_CAPACITY, MIN_CAPACITY};
 use ring_layout::is_capacity;
 use std::alloc::Global;
 
@@ -38,12 +39,24 @@ impl Default for Options {
     }
 }
 
+/// Tests whether a broadcast buffer may have this capacity: a power of two from 256 to 2^24.
+fn is_board_capacity(capacity: u32) -> bool
+    ensures { result ≡ is_board_capacity capacity }
+{
+    capacity.is_power_of_two() && capacity >= MIN_CAPACITY && capacity <= MAX_CAPACITY
+}
+
 impl Options {
+    ghost use Rattle.ring_run.specs.Sizes.{are_capacities};
+
     /// Tests the options of the parts that there are.
     pub fn test(&self) -> Result<(), RunFault>
-        ensures { MatchResult result (λ _. is_capacity self.now.ring ≡ true) (λ fault. (fault ≡ RunFault.BadCapacity) × (is_capacity self.now.ring ≡ false)) }
+        ensures { MatchResult result (λ _. are_capacities self.now ≡ true) (λ fault. (fault ≡ RunFault.BadCapacity) × (are_capacities self.now ≡ false)) }
     {
         if !is_capacity(self.ring) {
+            return Err(RunFault::BadCapacity);
+        }
+        if !is_board_capacity(self.board) {
             return Err(RunFault::BadCapacity);
         }
         Ok(())

@@ -1,12 +1,14 @@
 //! What a run holds, and what its calls print.
 ghost use Rattle.std.specs.Prelude.{◌≡◌, true, IsOkUnless};
-ghost use Rattle.ring_layout.specs.Places.{is_capacity};
+ghost use Rattle.ring_run.specs.Sizes.{are_capacities};
 
 use crate::call::Call;
 use crate::fault::{LineFault, RunFault};
+use crate::loose_board::{LooseBoard, from_board_make};
 use crate::loose_ring::{Claimed, LooseRing};
 use crate::options::Options;
-use crate::printer::{Ignore, Printer};
+use crate::printer::{Ignore, Printer, hex_word};
+use crate::received::Received;
 use ring_words::{Action, MakeFault, Positions, ReadEnd, Stop};
 use std::alloc::{AllocError, Global};
 use std::fmt::Display;
@@ -16,6 +18,7 @@ use std::fmt::Display;
 pub struct Runner {
     alloc: Global,
     loose: LooseRing,
+    board: LooseBoard,
     messages: u64,
 }
 
@@ -31,13 +34,15 @@ pub struct Ended {
 impl Runner {
     /// Makes the parts that the options describe.
     pub fn new(alloc: Global, options: &Options) -> Result<Self, RunFault>
-        requires { is_capacity options.now.ring ≡ true }
+        requires { are_capacities options.now ≡ true }
         ensures { IsOkUnless result RunFault.OutOfMemory }
     {
         let loose = LooseRing::new(alloc, options.ring).map_err(from_make)?;
+        let board = LooseBoard::new(alloc, options.board).map_err(from_board_make)?;
         Ok(Runner {
             alloc,
             loose,
+            board,
             messages: 0,
         })
     }
@@ -63,6 +68,13 @@ impl Runner {
             Call::Read { limit } => self.read(limit)?,
             Call::Control { limit, actions } => self.control(limit, actions.as_slice())?,
             Call::Positions => self.positions()?,
+            Call::Transmit { type_id, body } => self.transmit(type_id, body.as_slice())?,
+            Call::Subscribe => self.subscribe()?,
+            Call::Receive { number } => self.receive(number)?,
+            Call::Leave { number } => {
+                self.board.leave(number).ok_or(LineFault::Bad)?;
+                self.ok()?
+            }
         };
         Ok(text)
     }
@@ -128,9 +140,47 @@ impl Runner {
         format!(in self.alloc; "head {head} tail {tail}\n")
     }
 
-    /// Aborts the open claims, and counts the messages that are left.
+    fn transmit(&mut self, type_id: i32, body: &[u8]) -> Result<String, AllocError> {
+        match self.board.transmit(type_id, body) {
+            Ok(()) => self.ok(),
+            Err(fault) => self.refused(fault),
+        }
+    }
+
+    fn subscribe(&mut self) -> Result<String, AllocError> {
+        match self.board.subscribe(self.alloc)? {
+            Ok(number) => format!(in self.alloc; "receiver {number}\n"),
+            Err(fault) => self.refused(fault),
+        }
+    }
+
+    fn receive(&mut self, number: usize) -> Result<String, LineFault> {
+        let received = self
+            .board
+            .receive(self.alloc, number)
+            .ok_or(LineFault::Bad)??;
+        Ok(self.received_text(received)?)
+    }
+
+    fn received_text(&self, received: Received) -> Result<String, AllocError> {
+        match received {
+            Received::Copy {
+                place,
+                type_id,
+                body,
+            } => {
+                let digits = hex_word(self.alloc, body.as_slice())?;
+                format!(in self.alloc; "copy {type_id} {digits} place {place}\n")
+            }
+            Received::Nothing => String::from_str(self.alloc, "none\n"),
+            Received::Lapped(lapped) => format!(in self.alloc; "lapped {}\n", lapped.count),
+        }
+    }
+
+    /// Aborts the open claims, joins the receivers, and counts the messages that are left.
     pub fn close(mut self) -> Ended {
         self.loose.abort_all();
+        self.board.close();
         let mut left = 0u64;
         for _ in 0..u64::MAX {
             let end = self.loose.read(u32::MAX, &mut Ignore);

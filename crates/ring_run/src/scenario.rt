@@ -1,7 +1,7 @@
 //! Runs a scenario.
 ghost use Rattle.std.specs.Prelude.{◌≡◌, false, IfSome, OnOk, IfErr};
-ghost use Rattle.ring_layout.specs.Places.{is_capacity};
 ghost use Rattle.ring_run.specs.Faults.{IsEarly};
+ghost use Rattle.ring_run.specs.Sizes.{are_capacities};
 ghost use Rattle.ring_run.specs.Text.{lines_of, AllBlank, IsEnded, TakesEnd};
 
 use crate::fault::RunFault;
@@ -25,8 +25,8 @@ pub fn run_scenario<R: AllocGlobal, I: Read, O: Write>(
     ensures ended { OnOk result (IfSome (I.remaining reader.old) IsEnded) }
 
     // A bad capacity is found before anything is read, and nothing else is called so.
-    ensures capacity { is_capacity options.now.ring ≡ false → (result ≡ Err RunFault.BadCapacity) × (reader.new ≡ reader.old) }
-    ensures only_then { result ≡ Err RunFault.BadCapacity → is_capacity options.now.ring ≡ false }
+    ensures capacity { are_capacities options.now ≡ false → (result ≡ Err RunFault.BadCapacity) × (reader.new ≡ reader.old) }
+    ensures only_then { result ≡ Err RunFault.BadCapacity → are_capacities options.now ≡ false }
 
     // Nothing is written before the input was read.
     ensures silent { IfErr result (λ fault. IsEarly fault → writer.new ≡ writer.old) }

@@ -3,6 +3,7 @@ mod claims;
 mod examples;
 mod fakes;
 mod input_output;
+mod receivers;
 mod scripts;
 
 use crate::fault::RunFault;
@@ -21,4 +22,19 @@ fn run_with(rt: &HostRuntime, options: &Options, script: &[u8]) -> (Result<(), R
 /// The same with default options.
 fn run(rt: &HostRuntime, script: &[u8]) -> (Result<(), RunFault>, Vec<u8>) {
     run_with(rt, &Options::default(), script)
+}
+
+/// A script, and what it prints.
+#[derive(Clone, Copy)]
+struct Row {
+    script: &'static str,
+    wanted: &'static str,
+}
+
+impl Row {
+    /// Tests whether the script ends and prints what is wanted.
+    fn holds(&self, rt: &HostRuntime) -> bool {
+        let (outcome, output) = run(rt, self.script.as_bytes());
+        outcome == Ok(()) && output.as_slice() == self.wanted.as_bytes()
+    }
 }

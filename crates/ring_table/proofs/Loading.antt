@@ -176,13 +176,12 @@ module _ (C start : ℕ) where
               let to = m.clears_to in
               let room = m.room in
               let p : ℕ = c.place + 8 + o in
-              let len : ℕ = length c.message.body in
-              (
+              let len : ℕ = length c.message.body in (
                 ap (λ z. get_or s.words z 0) (sym same ∙ ap (λ z. index z p) cap)
-                ∙ m.shows p (omega arith) (omega arith) (omega arith)
-                ∙ ap (λ b. cond b 0 (staged_word_at (all_of h) p)) (le-ltb p r.consumer.cleared (omega arith))
-                ∙ word_of_claim C start h st.nth (id, c) p m.placed st.there (omega arith) (omega arith)
-                ∙ staged_word-stored c p o (subst IsStored (sym is_open) tt) refl,
+                    ∙ m.shows p (omega arith) (omega arith) (omega arith)
+                    ∙ ap (λ b. cond b 0 (staged_word_at (all_of h) p)) (le-ltb p r.consumer.cleared (omega arith))
+                    ∙ word_of_claim C start h st.nth (id, c) p m.placed st.there (omega arith) (omega arith)
+                    ∙ staged_word-stored c p o (subst IsStored (sym is_open) tt) refl,
                 st.lies.message.bytes,
               )),
           subst AreRising (sym k.claims) (rising_owned_by C start id h m.placed),

@@ -1,20 +1,18 @@
+mod messages;
+mod owner;
+
 use crate::{
-    Key, Wanted, clear_word, close, draw_correlation_id, join_consumer, join_producer, load_cache,
-    load_first_header, load_head, load_heartbeat, load_tail, move_tail, open, split_consumer,
-    split_producer, store_aborted_header, store_body_word, store_cache, store_claimed_header,
-    store_committed_header, store_head, store_heartbeat,
+    Wanted, close, draw_correlation_id, join_consumer, join_producer, load_cache, load_head,
+    load_heartbeat, load_tail, move_tail, split_consumer, split_producer, store_body_word,
+    store_cache, store_claimed_header, store_committed_header, store_heartbeat,
 };
+use owner::fresh_ring;
 use std::test::Fail;
 
+#[tactic(auto, using(crate::proofs::TestLemmas::stays_seat))]
 #[test]
 fn writes_one_record(rt: HostRuntime) -> Result<(), Fail> {
-    let (table, mut seat) = open(
-        rt.alloc(),
-        Key {
-            capacity: 128,
-            start: 0,
-        },
-    )?;
+    let (table, mut seat) = fresh_ring(rt.alloc())?;
     let wanted = Wanted { type_id: 7, len: 5 };
     let found = move_tail(&table.shared, &mut seat, 128, 0, 16, wanted);
     assert!(rt; found == 0);
@@ -32,15 +30,10 @@ fn writes_one_record(rt: HostRuntime) -> Result<(), Fail> {
     Ok(())
 }
 
+#[tactic(auto, using(crate::proofs::TestLemmas::stays_seat))]
 #[test]
 fn serves_two_producers(rt: HostRuntime) -> Result<(), Fail> {
-    let (table, mut first) = open(
-        rt.alloc(),
-        Key {
-            capacity: 128,
-            start: 0,
-        },
-    )?;
+    let (table, mut first) = fresh_ring(rt.alloc())?;
     let mut consumer = split_consumer(&table.shared, &mut first);
     let mut second = split_producer(&table.shared, &mut first);
     let one = draw_correlation_id(&table.shared, &mut first, 128);
@@ -59,31 +52,5 @@ fn serves_two_producers(rt: HostRuntime) -> Result<(), Fail> {
     assert_eq!(rt; (one, two, heartbeat), (0, 1, 77));
     assert_eq!(rt; (tail, head, cache), (0, 0, 0));
     assert_eq!(rt; words, [2, 77, 0]);
-    Ok(())
-}
-
-#[test]
-fn passes_an_aborted_record(rt: HostRuntime) -> Result<(), Fail> {
-    let (table, mut seat) = open(
-        rt.alloc(),
-        Key {
-            capacity: 128,
-            start: 0,
-        },
-    )?;
-    let wanted = Wanted { type_id: 7, len: 5 };
-    let found = move_tail(&table.shared, &mut seat, 128, 0, 16, wanted);
-    assert!(rt; found == 0);
-    store_claimed_header(&table.shared, &mut seat, 128, 0, wanted);
-    store_aborted_header(&table.shared, &mut seat, 128, 0, wanted);
-    let header = load_first_header(&table.shared, &mut seat, 128, 0);
-    assert!(rt; header == 0xffff_ffff_0000_000d);
-    clear_word(&table.shared, &mut seat, 128, 0);
-    clear_word(&table.shared, &mut seat, 128, 8);
-    store_head(&table.shared, &mut seat, 128, 16);
-    let closed = close(table, seat);
-    let words = [closed.word(0), closed.word(32), closed.word(64)];
-    closed.free();
-    assert_eq!(rt; words, [0, 16, 16]);
     Ok(())
 }

@@ -4,17 +4,7 @@ ghost use Rattle.std.specs.Int.{from_le_bytes, w64};
 ghost use Rattle.ring_layout.specs.History.{overwritten};
 ghost use Rattle.ring_words.specs.Storing.{HoldsBody};
 
-use ring_layout::put_bytes_word;
-
-/// The first 8 bytes as a little-endian word, with zeros where there are fewer.
-fn first_word(bytes: &[u8]) -> u64
-    ensures { result ≡ from_le_bytes w64 bytes.now }
-{
-    let len = bytes.len().min(8);
-    let mut padded = [0; 8];
-    padded[..len].copy_from_slice(&bytes[..len]);
-    u64::from_le_bytes(padded)
-}
+use ring_layout::{first_word, put_bytes_word};
 
 /// Stores a body from the word `at` on, with zeros up to the end of its last word.
 pub(crate) fn store_body(words: &mut [u64], at: usize, body: &[u8])

@@ -2,7 +2,8 @@ ghost use Rattle.std.specs.Prelude.{◌≡◌, IfOk};
 ghost use Rattle.ring_board.specs.Seats.{IsTransmitterOf, IsReceiverOf, IsBegunOf, begun_len};
 
 use crate::{
-    Begun, Board, CopyReceiver, Lapped, ReceiversOut, SubscribeFault, TransmitFault, Transmitter,
+    Begun, Board, CopyReceiver, Lapped, NoShares, ReceiversOut, SubscribeFault, TransmitFault,
+    Transmitter,
 };
 use std::test::Fail;
 
@@ -135,6 +136,35 @@ fn an_intent_alone_laps(rt: HostRuntime) -> Result<(), Fail> {
 }
 
 #[test]
+fn nothing_comes_before_the_tail_moved(rt: HostRuntime) -> Result<(), Fail> {
+    let (board, mut transmitter) = Board::new(rt.alloc(), 256)?;
+    let mut receiver = board.subscribe(rt.alloc(), &mut transmitter)?;
+    let begun = begun(&board, transmitter)?;
+    assert_eq!(rt; received(&board, &mut receiver), Answer::Nothing);
+    let filled = board.fill(begun, &[7; 24]);
+    assert_eq!(rt; received(&board, &mut receiver), Answer::Nothing);
+    transmitter = board.publish(filled);
+    assert_eq!(rt; received(&board, &mut receiver), Answer::Copy(0, 1, 24));
+    assert_eq!(rt; transmitter.shares(), 65535);
+    Ok(())
+}
+
+#[test]
+fn a_transmission_kept_aside_holds_nothing_up(rt: HostRuntime) -> Result<(), Fail> {
+    let (board, mut transmitter) = Board::new(rt.alloc(), 256)?;
+    let mut receiver = board.subscribe(rt.alloc(), &mut transmitter)?;
+    send(&board, &mut transmitter, 2, 24);
+    let begun = begun(&board, transmitter)?;
+    assert_eq!(rt; received(&board, &mut receiver), Answer::Copy(0, 1, 24));
+    assert_eq!(rt; received(&board, &mut receiver), Answer::Copy(32, 1, 24));
+    assert_eq!(rt; received(&board, &mut receiver), Answer::Nothing);
+    assert_eq!(rt; received(&board, &mut receiver), Answer::Nothing);
+    transmitter = board.publish(board.fill(begun, &[7; 24]));
+    assert_eq!(rt; transmitter.shares(), 65535);
+    Ok(())
+}
+
+#[test]
 fn closes_once_receivers_are_back(rt: HostRuntime) -> Result<(), Fail> {
     let (board, mut transmitter) = Board::new(rt.alloc(), 256)?;
     let receiver = board.subscribe(rt.alloc(), &mut transmitter)?;
@@ -158,6 +188,7 @@ fn faults_of_receivers_have_texts(rt: HostRuntime) -> Result<(), Fail> {
         intent: 256,
     };
     let texts = [
+        (format!(in rt.alloc(); "{}", NoShares)?, "12 NoShares"),
         (
             format!(in rt.alloc(); "{}", SubscribeFault::NoShares)?,
             "12 NoShares",

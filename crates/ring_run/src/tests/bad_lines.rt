@@ -30,6 +30,13 @@ fn refuses_a_line_that_is_no_line(rt: HostRuntime) {
         b"control 1",
         b"control 1 a b",
         b"positions 1",
+        b"transmit 1",
+        b"transmit 1 - -",
+        b"subscribe 1",
+        b"receive",
+        b"receive 1 2",
+        b"leave",
+        b"leave 1 2",
         // words that are no numbers
         b"write x -",
         b"write - -",
@@ -47,6 +54,9 @@ fn refuses_a_line_that_is_no_line(rt: HostRuntime) {
         b"put -1 0 -",
         b"commit +1",
         b"commit -0",
+        b"transmit x -",
+        b"receive +1",
+        b"leave -1",
         // numbers out of range
         b"write 2147483648 -",
         b"write -2147483649 -",
@@ -56,6 +66,8 @@ fn refuses_a_line_that_is_no_line(rt: HostRuntime) {
         b"put 1 18446744073709551616 -",
         b"commit 18446744073709551616",
         b"control 4294967296 -",
+        b"transmit 2147483648 -",
+        b"receive 18446744073709551616",
         // words that are no actions
         b"control 1 x",
         b"control 1 aA",
@@ -68,6 +80,7 @@ fn refuses_a_line_that_is_no_line(rt: HostRuntime) {
         b"write 1 -0",
         b"write 1 0x00",
         b"write 1 00\xff",
+        b"transmit 1 0g",
     ];
     for line in lines {
         let (outcome, output) = run(&rt, line);

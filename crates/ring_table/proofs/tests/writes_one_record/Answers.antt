@@ -2,19 +2,10 @@ use Rattle.std.proofs.Common.{◌≡◌, ◌++◌, [], ◌∷◌, List, pos, ap,
 use lib.ListN.{get_elem?}
 use Rattle.ring_table.specs.Staged.{StagedClaim}
 use Rattle.ring_table.specs.Changes.{changed, fresh, opened, written}
-use Rattle.ring_table.specs.Views.{Key, View}
+use Rattle.ring_table.specs.Views.{View}
 use Rattle.ring_table.specs.ProducerSteps.{Mine}
-use Rattle.ring_table.proofs.TestLemmas.{behind_five, capacity_128, lawful_128, stays_seat}
+use Rattle.ring_table.proofs.TestLemmas.{behind_five}
 use Rattle.ring_table.proofs.tests.writes_one_record.Goals as goal
-
-pub open-requires-clause-lawful : goal.open-requires-clause-lawful
-open-requires-clause-lawful g c = lawful_128
-
-pub move_tail-found-requires-clause-seat : goal.move_tail-found-requires-clause-seat
-move_tail-found-requires-clause-seat g c = let t = c.in_ok-table.ensures in record { table_is = t.seat; words_are = t.words; key_is = ap (λ (k : Key). k.capacity) t.key; view_is = ap (λ (m : Mine). m.0.capacity) t.view; lawful = capacity_128 }
-
-pub store_claimed_header-requires-clause-seat : goal.store_claimed_header-requires-clause-seat
-store_claimed_header-requires-clause-seat g c = let t = c.in_ok-table.ensures in stays_seat _ _ _ _ _ (record { table_is = t.seat; words_are = t.words; key_is = ap (λ (k : Key). k.capacity) t.key; view_is = ap (λ (m : Mine). m.0.capacity) t.view; lawful = capacity_128 }) c.move_tail-found.ensures.seat
 
 pub store_claimed_header-requires-clause-claim : goal.store_claimed_header-requires-clause-claim
 store_claimed_header-requires-clause-claim g c =
@@ -22,9 +13,6 @@ store_claimed_header-requires-clause-claim g c =
     let made : StagedClaim = fresh 128 0 (pos 7) 5 in
     let one : c.move_tail-found.new.producer.me.0.producer.claims ≡ made ∷ [] = ap (λ (v : View). v.producer.claims) (c.move_tail-found.ensures.told.hit (search rules)) ∙ ap (λ (m : Mine). m.0.producer.claims ++ made ∷ []) t.view in
     record { nth = 0; claim = made; there = ap (λ (l : List StagedClaim). get_elem? l 0) one; at_place = refl; holds = record { stage = refl; same_span = refl } }
-
-pub store_body_word-requires-clause-seat : goal.store_body_word-requires-clause-seat
-store_body_word-requires-clause-seat g c = let t = c.in_ok-table.ensures in stays_seat _ _ _ _ _ (stays_seat _ _ _ _ _ (record { table_is = t.seat; words_are = t.words; key_is = ap (λ (k : Key). k.capacity) t.key; view_is = ap (λ (m : Mine). m.0.capacity) t.view; lawful = capacity_128 }) c.move_tail-found.ensures.seat) c.store_claimed_header.ensures.seat
 
 pub store_body_word-requires-clause-claim : goal.store_body_word-requires-clause-claim
 store_body_word-requires-clause-claim g c =
@@ -34,9 +22,6 @@ store_body_word-requires-clause-claim g c =
     let opened_one : StagedClaim = opened (pos 7) 5 made in
     let two : c.store_claimed_header.new.producer.me.0.producer.claims ≡ opened_one ∷ [] = ap (λ (v : View). v.producer.claims) c.store_claimed_header.ensures.view ∙ ap (changed 0 (opened (pos 7) 5)) one in
     record { nth = 0; claim = opened_one; there = ap (λ (l : List StagedClaim). get_elem? l 0) two; at_place = refl; holds = record { stage = refl; aligned = refl; inside = omega arith; zeros = behind_five } }
-
-pub store_committed_header-requires-clause-seat : goal.store_committed_header-requires-clause-seat
-store_committed_header-requires-clause-seat g c = let t = c.in_ok-table.ensures in stays_seat _ _ _ _ _ (stays_seat _ _ _ _ _ (stays_seat _ _ _ _ _ (record { table_is = t.seat; words_are = t.words; key_is = ap (λ (k : Key). k.capacity) t.key; view_is = ap (λ (m : Mine). m.0.capacity) t.view; lawful = capacity_128 }) c.move_tail-found.ensures.seat) c.store_claimed_header.ensures.seat) c.store_body_word.ensures.seat
 
 pub store_committed_header-requires-clause-claim : goal.store_committed_header-requires-clause-claim
 store_committed_header-requires-clause-claim g c =

@@ -1,0 +1,54 @@
+-- Bodies that a raw receiver loads, and validates.
+use Rattle.std.specs.Prelude.{◌≡◌, ℕ, Bool, ◌+◌, ◌*◌, ◌<◌, ◌≤◌, nat_lt, List, ◌++◌, length, take, slice_index}
+use mathlib.Core.Option.{some}
+use lib.ListN.{get_elem?}
+use Rattle.atomic_table.specs.Table.{Step}
+use Rattle.ring_layout.specs.Places.{index}
+use Rattle.ring_layout.specs.History.{span}
+use Rattle.ring_board.specs.declared.view.Taken.{Taken}
+use Rattle.ring_board.specs.declared.view.View.{View}
+use Rattle.ring_board.specs.declared.view.Load.{Load}
+use Rattle.ring_board.specs.declared.view.Load.TheVariants.{Word, Intent}
+use Rattle.ring_board.specs.declared.seats.RawRecord.{RawRecord}
+use Rattle.ring_board.specs.Records.{word_count, bytes_of}
+use Rattle.ring_board.specs.Steps.{Sat, logged, last_tail}
+
+-- the word w was loaded at the position p, when the tail was beyond it
+abbrev pub WasLoaded : ℕ → List Load → ℕ → ℕ → Type 0
+WasLoaded C log p w = (l : ℕ) × (t : ℕ) × (get_elem? log l ≡ some (Word (index C p) t w)) × (p < t)
+
+-- each of these words was loaded at its position behind the header at a place
+abbrev pub WereLoaded : ℕ → List Load → ℕ → List ℕ → Type 0
+WereLoaded C log place ws = (j : ℕ) → j < length ws → WasLoaded C log (place + 8 + 8 * j) (slice_index ws j)
+
+-- the bytes are those of words that were loaded behind the header at a place
+abbrev pub IsLoaded : ℕ → List Load → ℕ → List ℕ → Type 0
+IsLoaded C log place body = (ws : List ℕ) × WereLoaded C log place ws × (length ws ≡ word_count (length body)) × (body ≡ take (length body) (bytes_of ws))
+
+-- a body was loaded, and all else is as before
+abbrev pub GaveBody : ℕ → List ℕ → Sat → Sat → Type 0
+GaveBody place body m m' = (loads : List Load) × (m' ≡ (record m.0 { log = m.0.log ++ loads }, m.1)) × IsLoaded m.0.capacity loads place body
+
+-- where the intent x has not reached the place plus the capacity, what was loaded as a record's body is the body that the transmitter gave it
+abbrev pub AreRight : View → ℕ → Type 0
+AreRight v x = (n : ℕ) (c : Taken) (body : List ℕ) → get_elem? v.copies n ≡ some c → x < c.place + v.capacity → IsLoaded v.capacity v.log c.place body
+    → length body ≡ length c.message.body → body ≡ c.message.body
+
+-- the body of this record, wherever it was loaded, is the one that the transmitter gave it
+abbrev pub IsRight : View → RawRecord → Type 0
+IsRight v r = (n : ℕ) (c : Taken) (body : List ℕ) → get_elem? v.copies n ≡ some c → c.place ≡ r.place → IsLoaded v.capacity v.log r.place body
+    → length body ≡ length c.message.body → body ≡ c.message.body
+
+-- an intent was loaded, all else is as before, and the answer is whether it lies below the place plus the capacity
+abbrev pub Validated : RawRecord → Bool → Sat → Sat → Type 0
+Validated r valid m m' = (x : ℕ) × (m' ≡ (logged m.0 (Intent x), m.1)) × (valid ≡ nat_lt x (r.place + m.0.capacity))
+
+-- The steps ----------------------------------------------------------------
+
+-- a word was loaded, and the tail was t, which is no less than the one seen last, nor than the end of any record that was answered
+abbrev pub SeesBody : Step (Unit {0}) → Sat → ℕ → Sat → Type 0
+SeesBody st m x m' = (t : ℕ) × (m' ≡ (logged m.0 (Word st.word t x), m.1)) × (last_tail m.0.log 0 ≤ t)
+    × ((n : ℕ) (c : Taken) → get_elem? m.0.copies n ≡ some c → c.place + span (length c.message.body) ≤ t)
+
+abbrev pub SeesValid : Step (Unit {0}) → Sat → ℕ → Sat → Type 0
+SeesValid st m x m' = (m' ≡ (logged m.0 (Intent x), m.1)) × AreRight m.0 x

@@ -1,0 +1,5 @@
+use Rattle.ring_rings.proofs.WaitLemmas.{Tried}
+use Rattle.ring_rings.proofs.waiting.Ring+ManyToOne.write.Given as goal
+
+abbrev pub invariant-loop : goal.invariant-loop
+invariant-loop g l = Tried l.self l.initial.producer l.producer
