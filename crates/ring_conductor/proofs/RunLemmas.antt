@@ -17,17 +17,11 @@ module _ (cycles : List Cycle) (v : View) (l : Ledger) where
   counted_as : (w : View) (k : Ledger) (m n : ℕ) (stopped : WorkStop) → m ≡ n → Runs cycles Limit v w l k (report m stopped) → Runs cycles Limit v w l k (report n stopped)
   counted_as w k m n stopped e r = subst (λ (x : ℕ). Runs cycles Limit v w l k (report x stopped)) e r
 
-  pub leads_all : Leads cycles v l cycles Limit 0 v l
-  leads_all w k others r = counted_as w k others.messages (0 + others.messages) others.stopped (omega arith) r
-
   module _ (c : Cycle) (cs : List Cycle) (last : WorkStop) (n : ℕ) (u y : View) (j z : Ledger) (first : Work) (leads : Leads cycles v l (c ∷ cs) last n u j) (works : Works c.now c.limit u y j z first) where
     pub leads_on : first.stopped ≢ BoardEnd → Leads cycles v l cs first.stopped (n + first.messages) y z
     leads_on on w k others r =
         counted_as w k (n + (first.messages + others.messages)) (n + first.messages + others.messages) others.stopped (omega arith)
         (leads w k (report (first.messages + others.messages) others.stopped) (y, z, first, works, inr (on, (others, r, refl))))
-
-    pub leads_off : first.stopped ≡ BoardEnd → Runs cycles Limit v y l z (report (n + first.messages) first.stopped)
-    leads_off off = leads y z first (y, z, first, works, inl (off, refl, refl, refl))
 
   pub leads_out : (last : WorkStop) (n : ℕ) (u : View) (j : Ledger) → Leads cycles v l [] last n u j → Runs cycles Limit v u l j (report n last)
   leads_out last n u j leads = counted_as u j (n + 0) n last (omega arith) (leads u j (report 0 last) (refl, refl, refl))

@@ -1,14 +1,13 @@
 -- The claim that was made last.
-use Rattle.std.proofs.Common.{◌≡◌, ℕ, ◌+◌, ◌≤◌, ◌<◌, List, [], ◌∷◌, ◌++◌, sym, refl, ap, ◌∙◌, subst, length, eq-eqb, ne_eqb, arith}
+use Rattle.std.proofs.Common.{◌≡◌, ℕ, ◌+◌, ◌≤◌, ◌<◌, List, [], ◌∷◌, ◌++◌, sym, refl, ap, ◌∙◌, subst, length, ne_eqb, arith}
 use mathlib.Core.Option.{some}
 use lib.ListN.{get_elem?}
 use Rattle.atomic_table.proofs.Lists.{at_last}
 use Rattle.ring_table.specs.declared.claim.StagedClaim.{StagedClaim}
-use Rattle.ring_table.specs.declared.claim.Stage.TheVariants.{Moved, Padded}
+use Rattle.ring_table.specs.declared.claim.Stage.TheVariants.{Moved}
 use Rattle.ring_table.specs.declared.view.View.{View}
 use Rattle.ring_table.specs.Staged.{AreAbove, AreRising}
-use Rattle.ring_table.specs.Changes.{changed, staged, fresh_stage}
-use Rattle.ring_table.specs.Views.{with_claims}
+use Rattle.ring_table.specs.Changes.{changed, fresh_stage}
 use Rattle.ring_table.specs.ProducerSteps.{EndBelow, HasClaimAt}
 use Rattle.ring_table.proofs.LawLemmas.{changed_newest}
 use Rattle.ring_rings.specs.Making.{IsNewest}
@@ -29,17 +28,8 @@ module _ (v : View) (cs : List StagedClaim) (c : StagedClaim) (last : v.producer
   changes_last tail behind le f =
       ap (changed place f) last ∙ subst (λ p. changed p f (cs ++ c ∷ []) ≡ cs ++ f c ∷ []) there (changed_newest tail cs c f behind (omega arith))
 
-pub stage_padded : (tail place len : ℕ) (cs : List StagedClaim) (c : StagedClaim) (v : View) → IsNewest tail place len cs c v → place ≡ tail → c.stage ≡ Padded
-stage_padded tail place len cs c v n e = n.stage_is ∙ ap fresh_stage (eq-eqb tail place (sym e))
-
 pub stage_moved : (tail place len : ℕ) (cs : List StagedClaim) (c : StagedClaim) (v : View) → IsNewest tail place len cs c v → tail < place → c.stage ≡ Moved
 stage_moved tail place len cs c v n lt = n.stage_is ∙ ap fresh_stage (ne_eqb tail place (λ e. omega arith))
-
--- it stays where it is with its padding stored, so that it is still the newest one of the view
-pub padded_is : (tail place len : ℕ) (cs : List StagedClaim) (c : StagedClaim) (v : View) → IsNewest tail place len cs c v → place ≡ tail → v ≡ with_claims (cs ++ staged Padded c ∷ []) v
-padded_is tail place len cs c v n e =
-    let same : staged Padded c ≡ c = ap (λ s. staged s c) (sym (stage_padded tail place len cs c v n e)) in
-    ap (λ l. with_claims l v) (n.claims ∙ ap (λ d. cs ++ d ∷ []) (sym same))
 
 -- places that rise leave no room for many claims
 above_few : (p : ℕ) (cs : List StagedClaim) (c : StagedClaim) → AreAbove p (cs ++ c ∷ []) → AreRising (cs ++ c ∷ []) → p + 1 + length cs ≤ c.place
