@@ -2,7 +2,7 @@
 
 ghost use Rattle.std.specs.Prelude.{◌≡◌, IfOk, OnOk, length};
 ghost use Rattle.ring_rings.specs.Closing.{HandsOut, IsRefusedAs, Serves};
-ghost use Rattle.ring_rings.specs.Seats.{capacity_of, claims_of, open_claims_of, shares_of, view_of, IsProducerOf};
+ghost use Rattle.ring_rings.specs.Seats.{claims_of, open_claims_of, shares_of, view_of};
 ghost use Rattle.ring_board.specs.Closing.{IsClosed, closed_capacity, closed_words};
 ghost use Rattle.ring_board.specs.Seats.{capacity_of as board_capacity_of, shares_of as board_shares_of, start_of, transmitted};
 ghost use Rattle.ring_conductor.specs.Conducting.{IsConductorOf, counters_of, received_of, ring_view, transmitter_of};
@@ -12,7 +12,7 @@ use crate::conductor::Conductor;
 use crate::finish_fault::{FinishFault, FinishRefused};
 use ring_board::{Board, ClosedBoard};
 use ring_counters::{CounterValues, CountersManager};
-use ring_rings::{Producer, Ring};
+use ring_rings::{CommandSource, Producer};
 use ring_words::SoloRing;
 
 /// The shares of a ring, and of a board.
@@ -61,21 +61,21 @@ fn test_finish(conductor: &Conductor, producer: &Producer) -> Result<(), FinishF
 ///
 /// It refuses with `ClaimsOpen`, then with `ProducersOut`, and then with `ReceiversOut`, before anything is closed; all five
 /// come back then as they were.
-pub fn finish<K>(
-    ring: Ring<K>,
+pub fn finish<R: CommandSource>(
+    ring: R,
     board: Board,
     values: CounterValues,
     conductor: Conductor,
     producer: Producer,
-) -> Result<Finished, FinishRefused<Ring<K>>>
-    requires conductor { IsConductorOf ring board values conductor }
-    requires producer { IsProducerOf ring producer }
+) -> Result<Finished, FinishRefused<R>>
+    requires conductor { IsConductorOf R.is_consumer ring board values conductor }
+    requires producer { R.is_producer ring producer }
     ensures refused { IsRefusedAs (handed_back ring board values conductor producer) (finish_refusal_of (open_claims_of producer) (shares_of producer) (board_shares_of (transmitter_of conductor))) result }
 
     // What was received, followed by what still lies in the ring, is the committed records, each whole and once.
     ensures whole { IfOk result (λ f. IsWhole (claims_of producer) (received_of conductor) f.rest) }
-    ensures rest { IfOk result (λ f. HandsOut (capacity_of ring) (view_of producer) (ring_view conductor) f.rest) }
-    ensures service { IfOk result (λ f. Serves (capacity_of ring) (view_of producer) (ring_view conductor) f.rest) }
+    ensures rest { IfOk result (λ f. HandsOut (R.bytes ring) (view_of producer) (ring_view conductor) f.rest) }
+    ensures service { IfOk result (λ f. Serves (R.bytes ring) (view_of producer) (ring_view conductor) f.rest) }
     ensures board { IfOk result (λ f. (closed_capacity f.board ≡ board_capacity_of board) × IsClosed (board_capacity_of board) (start_of board) (transmitted (transmitter_of conductor)) (closed_words f.board)) }
     ensures values { IfOk result (λ f. f.values ≡ values) }
     ensures counters { IfOk result (λ f. f.counters ≡ counters_of conductor) }

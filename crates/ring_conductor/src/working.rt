@@ -9,7 +9,7 @@ use crate::conductor::{Conductor, Work, WorkStop};
 use crate::serving::Serving;
 use ring_board::{Board, Transmitter};
 use ring_counters::{CounterValues, CountersManager};
-use ring_rings::{Consumer, Ring};
+use ring_rings::{CommandSource, Consumer};
 use ring_words::Stop;
 
 fn work_stop(stopped: Stop) -> WorkStop
@@ -53,17 +53,17 @@ impl Conductor {
     ///
     /// It stops as a controlled read of the ring does, or with `BoardEnd` where a reply of 12 bytes would end above 2^62
     /// on the board. The command stays in the ring then, not applied.
-    pub fn do_work<K>(
+    pub fn do_work<R: CommandSource>(
         &mut self,
-        ring: &Ring<K>,
+        ring: &R,
         board: &Board,
         values: &CounterValues,
         now: u64,
         limit: u32,
     ) -> Work
-        requires conductor { IsConductorOf ring.now board.now values.now self.old }
+        requires conductor { IsConductorOf R.is_consumer ring.now board.now values.now self.old }
         requires now { now ≤ 2 ^ 62 }
-        ensures conductor { IsConductorOf ring.now board.now values.now self.new }
+        ensures conductor { IsConductorOf R.is_consumer ring.now board.now values.now self.new }
         ensures works { Works now limit (ring_view self.old) (ring_view self.new) (ledger_of self.old) (ledger_of self.new) result }
         ensures value_shares { value_shares_of self.new ≡ value_shares_of self.old }
     {

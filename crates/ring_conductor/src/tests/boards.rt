@@ -1,4 +1,4 @@
-ghost use Rattle.ring_rings.specs.Seats.{IsProducerOf};
+ghost use Rattle.ring_rings.specs.Seats.{IsConsumerOf, IsProducerOf};
 ghost use Rattle.ring_conductor.specs.Conducting.{IsConductorOf};
 
 use super::commands::{send, work};
@@ -40,7 +40,7 @@ pub(super) fn finished(
     conductor: Conductor,
     producer: Producer,
 ) -> Result<Finished, FinishFault>
-    requires conductor { IsConductorOf ring board values conductor }
+    requires conductor { IsConductorOf IsConsumerOf ring board values conductor }
     requires producer { IsProducerOf ring producer }
 {
     match finish(ring, board, values, conductor, producer) {
