@@ -1,6 +1,6 @@
 //! How a conductor finishes.
 
-ghost use Rattle.std.specs.Prelude.{◌≡◌, IfOk, OnOk, length};
+ghost use Rattle.std.specs.Prelude.{◌≡◌, IfErr, IfOk, OnOk, length};
 ghost use Rattle.ring_rings.specs.Closing.{HandsOut, IsRefusedAs, Serves};
 ghost use Rattle.ring_rings.specs.Seats.{claims_of, open_claims_of, shares_of, view_of};
 ghost use Rattle.ring_board.specs.Closing.{IsClosed, closed_capacity, closed_words};
@@ -60,7 +60,7 @@ fn test_finish(conductor: &Conductor, producer: &Producer) -> Result<(), FinishF
 /// ring, the board with all replies, and the counters. Readers of the values may be out still.
 ///
 /// It refuses with `ClaimsOpen`, then with `ProducersOut`, and then with `ReceiversOut`, before anything is closed; all five
-/// come back then as they were.
+/// come back then as they were, and the call can be made again.
 pub fn finish<R: CommandSource>(
     ring: R,
     board: Board,
@@ -71,6 +71,8 @@ pub fn finish<R: CommandSource>(
     requires conductor { IsConductorOf R.is_consumer ring board values conductor }
     requires producer { R.is_producer ring producer }
     ensures refused { IsRefusedAs (handed_back ring board values conductor producer) (finish_refusal_of (open_claims_of producer) (shares_of producer) (board_shares_of (transmitter_of conductor))) result }
+    ensures same { IfErr result (λ r. (r.ring ≡ ring) × (r.board ≡ board) × (r.values ≡ values) × (r.conductor ≡ conductor) × (r.producer ≡ producer)) }
+    ensures back { IfErr result (λ r. IsConductorOf R.is_consumer r.ring r.board r.values r.conductor × R.is_producer r.ring r.producer) }
 
     // What was received, followed by what still lies in the ring, is the committed records, each whole and once.
     ensures whole { IfOk result (λ f. IsWhole (claims_of producer) (received_of conductor) f.rest) }

@@ -1,3 +1,5 @@
 mod boards;
 mod codec;
 mod commands;
+mod finishing;
+mod sending;
