@@ -1,3 +1,4 @@
 mod boards;
 mod codec;
 mod commands;
+mod storms;
