@@ -8,3 +8,5 @@ pub mod FoldLemmas
 pub mod WorkLemmas
 pub mod FinishLemmas
 pub mod RunLemmas
+pub mod SendingLemmas
+pub mod StormLemmas

@@ -12,3 +12,4 @@ pub mod Serving
 pub mod Conducting
 pub mod Finishing
 pub mod Running
+pub mod Storming

@@ -15,6 +15,7 @@ mod listening;
 mod replies;
 mod running;
 mod serving;
+mod storming;
 mod working;
 
 pub use commands::Command;
@@ -28,6 +29,7 @@ pub use laws::{command_round_trip, one_command, one_reply, reply_round_trip};
 pub use replies::Reply;
 pub use replies::decode::decode_reply;
 pub use replies::encode::encode_reply;
+pub use storming::{Gate, OpenGate, StormFault, StormPlan, StormReport, storm};
 
 #[cfg(test)]
 mod tests;

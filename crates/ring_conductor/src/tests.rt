@@ -3,3 +3,4 @@ mod codec;
 mod commands;
 mod finishing;
 mod sending;
+mod storms;

@@ -1,0 +1,79 @@
+//! What a storm is to do, and what it says afterwards.
+ghost use Rattle.std.specs.Prelude.{◌≡◌, ◌*◌, ◌↔◌, IsTrue};
+ghost use Rattle.ring_conductor.specs.Storming.{IsBoardFor, IsPlan};
+
+use thiserror::Error;
+
+/// What a storm is to do.
+#[derive(Clone, Copy, Debug, PartialEq, Eq)]
+pub struct StormPlan {
+    /// How many clients there are: 1 to 64.
+    pub clients: u32,
+    /// How many commands each client sends: 1 to 10,000.
+    pub commands: u32,
+    /// The capacity of the command ring in bytes: a power of two from 256 to 2^24.
+    pub ring: u32,
+    /// How many turns each wait may take: at least one.
+    pub turns: u64,
+}
+
+/// What a storm did.
+#[derive(Clone, Copy, Debug, PartialEq, Eq)]
+pub struct StormReport {
+    /// How many commands the conductor took.
+    pub received: u64,
+    /// How many commands were left in the ring.
+    pub left: u64,
+    /// How many replies came to the clients that had sent their commands.
+    pub seen: u64,
+    /// How many counters are in use.
+    pub live: u32,
+    /// The sum of their values.
+    pub sum: i64,
+}
+
+/// Why a storm gives no report.
+#[derive(Clone, Copy, Debug, PartialEq, Eq, Error)]
+pub enum StormFault {
+    /// A number of the plan is not allowed.
+    #[error("26 BadPlan")]
+    BadPlan,
+    /// Memory is wanting, or a thread could not be started.
+    #[error("3 OutOfMemory")]
+    OutOfMemory,
+    /// A wait took as many turns as it may.
+    #[error("27 TurnsSpent")]
+    TurnsSpent,
+}
+
+impl StormPlan {
+    /// Whether each number is allowed.
+    pub(crate) fn is_lawful(&self) -> bool
+        ensures { IsTrue result ↔ IsPlan self.now }
+    {
+        1 <= self.clients
+            && self.clients <= 64
+            && 1 <= self.commands
+            && self.commands <= 10_000
+            && 256 <= self.ring
+            && self.ring <= 1 << 24
+            && self.ring.is_power_of_two()
+            && 1 <= self.turns
+    }
+
+    /// How many commands all clients send.
+    pub(crate) fn all_commands(&self) -> u32
+        requires { IsPlan self.now }
+        ensures { result ≡ self.now.clients * self.now.commands }
+    {
+        self.clients * self.commands
+    }
+
+    /// The capacity of a board on which no reply of all is overtaken.
+    pub(crate) fn board_capacity(&self) -> u32
+        requires { IsPlan self.now }
+        ensures { IsBoardFor self.now result }
+    {
+        (24 * self.all_commands() + 1).next_power_of_two().max(256)
+    }
+}
