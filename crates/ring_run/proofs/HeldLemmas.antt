@@ -1,11 +1,12 @@
 -- What is held by number: a list with None where nothing is.
-use Rattle.std.proofs.Common.{◌≡◌, ◌≢◌, ℕ, suc, ◌+◌, ◌<◌, List, [], ◌∷◌, ◌++◌, length, set, slice_index_or, cond, is_some, refl, ap, Option, Some, None, sym, ◌∙◌, subst, arith, ◌⊎◌, inl, inr, get_or-set_same, get_or-set_other}
+use Rattle.std.proofs.Common.{◌≡◌, ◌≢◌, ℕ, suc, ◌+◌, ◌-◌, ◌<◌, MatchOption, IfNone, List, [], ◌∷◌, ◌++◌, length, set, slice_index_or, cond, is_some, refl, ap, Option, Some, None, sym, ◌∙◌, subst, arith, ◌⊎◌, inl, inr, get_or-set_same, get_or-set_other}
 use mathlib.Core.Logic.{dite}
 use native.Mathlib.Decide.{ℕ_discrete}
 use Rattle.std.proofs.lemmas.Bool.{cases_lt}
 use Rattle.std.specs.List.{count_by}
 use Rattle.std.proofs.lemmas.List.Sums.{sum_by-append, sum_by-set}
-use Rattle.std.proofs.lemmas.List.{get_or_append_left, get_or_push, get_or_past, length-append}
+use Rattle.std.proofs.lemmas.List.{get_or_append_left, get_or_push, get_or_past, length-append, length-set}
+use Rattle.ring_run.specs.Held.{IsFree}
 
 module _ {A : Type 0} where
   -- x is held at this index
@@ -62,6 +63,37 @@ module _ {A : Type 0} where
       let rest = count_none xs (λ k lt. all (suc k) (omega arith)) in
       let both = sum_by-append one_if_some (x ∷ []) xs in
       omega arith
+
+  -- nothing is held below the index i
+  abbrev pub AreGone : List (Option A) → ℕ → Type 0
+  AreGone xs i = (k : ℕ) → k < i → slice_index_or xs k None ≡ None
+
+  none_of : (o : Option A) → ((x : A) → o ≡ Some x → ⊥) → o ≡ None
+  none_of None free = refl
+  none_of (Some x) free = absurd (free x refl)
+
+  one_more_gone : (xs : List (Option A)) (i : ℕ) → AreGone xs i → slice_index_or xs i None ≡ None → AreGone xs (i + 1)
+  one_more_gone xs i below here k lt =
+      elim (cases_lt k i) as (λ _. slice_index_or xs k None ≡ None) [
+        | inl before ↦ below k before
+        | inr past ↦ let same : i ≡ k = omega (arith, past, lt) in subst (λ n. slice_index_or xs n None ≡ None) same here
+      ]
+
+  set_gone : (xs : List (Option A)) (i : ℕ) → i < length xs → AreGone xs i → AreGone (set xs i None) (i + 1)
+  set_gone xs i inside below =
+      one_more_gone (set xs i None) i (λ k lt. get_or-set_other xs i k None None (λ e. omega (arith, lt, e)) ∙ below k lt) (get_or-set_same xs i None None inside)
+
+  -- once what is held at the index i is given up, nothing is held up to there
+  pub given_up : {U : Type 0} (r : Option U) (xs ys : List (Option A)) (i : ℕ) (P : U → Type 0) → MatchOption r (ys ≡ xs) P → ((u : U) → P u → ys ≡ set xs (i + 1 - 1) None)
+      → IfNone r (IsFree xs (i + 1)) → i < length xs → AreGone xs i → (length ys ≡ length xs) × AreGone ys (i + 1)
+  given_up None xs ys i P same took free inside below =
+      let at : i + 1 - 1 ≡ i = omega arith in
+      let here : slice_index_or xs i None ≡ None =
+      none_of (slice_index_or xs i None) (λ x has. free x (record { positive = omega arith; has = subst (λ n. Holds xs n x) (sym at) has })) in
+      subst (λ l. (length l ≡ length xs) × AreGone l (i + 1)) (sym same) (refl, one_more_gone xs i below here)
+  given_up (Some u) xs ys i P left took free inside below =
+      let at : i + 1 - 1 ≡ i = omega arith in
+      subst (λ l. (length l ≡ length xs) × AreGone l (i + 1)) (sym (took u left ∙ ap (λ n. set xs n None) at)) (length-set xs i None, set_gone xs i inside below)
 
   module _ (P : A → Type 0) where
     -- P holds of all that is held

@@ -1,3 +1,5 @@
 mod HeldLemmas
 mod ClaimsLemmas
+mod RequestLemmas
+mod ServiceLemmas
 mod TextLemmas

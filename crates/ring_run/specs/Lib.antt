@@ -1,7 +1,12 @@
 pub mod Claims
 pub mod Faults
+pub mod Held
 pub mod Lines
 pub mod Receivers
+pub mod Requests
+pub mod Serving
+pub mod ServiceLines
 pub mod Sizes
 pub mod Text
+pub mod Watchers
 pub mod Words

@@ -1,9 +1,10 @@
 -- What the words of a line ask for.
 use Rattle.std.specs.Prelude.{◌≡◌, ℕ, List, [], ◌∷◌, codes}
 use Rattle.ring_run.specs.declared.call.Call.{Call}
-use Rattle.ring_run.specs.declared.call.Call.TheVariants.{Write, Claim, Put, Commit, Abort, Read, Control, Positions, Transmit, Subscribe, Receive, Leave}
+use Rattle.ring_run.specs.declared.call.Call.TheVariants.{Write, Claim, Put, Commit, Abort, Read, Control, Positions, Transmit, Subscribe, Receive, Leave, Service}
 use Rattle.ring_run.specs.declared.line.Line.{Line}
 use Rattle.ring_run.specs.declared.line.Line.TheVariants as line
+use Rattle.ring_run.specs.ServiceLines.{AsksToServe}
 use Rattle.ring_run.specs.Text.{IsBlank}
 use Rattle.ring_run.specs.Words.{SpellsActions, SpellsUnsigned, SpellsI32, SpellsBytes}
 
@@ -27,6 +28,7 @@ AsksFor (Transmit type_id body) words = (type_word body_word : List ℕ) × (wor
 AsksFor Subscribe words = words ≡ codes "subscribe" ∷ []
 AsksFor (Receive number) words = (number_word : List ℕ) × (words ≡ codes "receive" ∷ number_word ∷ []) × SpellsUnsigned 64 number_word number
 AsksFor (Leave number) words = (number_word : List ℕ) × (words ≡ codes "leave" ∷ number_word ∷ []) × SpellsUnsigned 64 number_word number
+AsksFor (Service call) words = AsksToServe call words
 
 -- the words are this line
 abbrev pub IsLine : Line → List (List ℕ) → Type 0

@@ -1,12 +1,12 @@
 -- Numbered receivers of a broadcast buffer.
-use Rattle.std.specs.Prelude.{◌≡◌, ℕ, ◌-◌, ◌<◌, ◌++◌, ◌∷◌, List, [], length, Option, Some, None, slice_index_or, slice_set, is_some}
-use Rattle.std.specs.List.{count_by}
+use Rattle.std.specs.Prelude.{◌≡◌, ℕ, ◌-◌, ◌++◌, ◌∷◌, List, [], length, Option, Some, None, slice_set}
 use Rattle.ring_board.specs.declared.seats.Board.{Board}
 use Rattle.ring_board.specs.declared.seats.Transmitter.{Transmitter}
 use Rattle.ring_board.specs.declared.seats.CopyReceiver.{CopyReceiver}
 use Rattle.ring_board.specs.Receiving.{GotCopy, GotLapped, GotNothing}
 use Rattle.ring_board.specs.Seats.{view_of, IsReceiverOf, receiver_seat, receiver_view}
 use Rattle.ring_board.specs.Steps.{Sat, fewer, newcomer, joined}
+use Rattle.ring_run.specs.Held.{HasAt, IsHeld}
 use Rattle.ring_run.specs.declared.received.Received.{Received}
 use Rattle.ring_run.specs.declared.received.Received.TheVariants.{Copy, Nothing, Lapped}
 
@@ -15,29 +15,12 @@ pub record Crowd : Type 0 where
   pub transmitter : Transmitter
   pub receivers : List (Option CopyReceiver)
 
--- the receiver at this index has not left
-abbrev pub HasReceiver : List (Option CopyReceiver) → ℕ → CopyReceiver → Type 0
-HasReceiver receivers index r = slice_index_or receivers index None ≡ Some r
-
 -- the receivers are this board's
 abbrev pub AreReceivers : Board → List (Option CopyReceiver) → Type 0
-AreReceivers board receivers = (i : ℕ) (r : CopyReceiver) → HasReceiver receivers i r → IsReceiverOf board r
+AreReceivers board receivers = (i : ℕ) (r : CopyReceiver) → HasAt receivers i r → IsReceiverOf board r
 
 abbrev pub crowd : Transmitter → List (Option CopyReceiver) → Crowd
 crowd t receivers = record { transmitter = t; receivers = receivers }
-
--- the receiver of this number has not left
-pub record IsHere (receivers : List (Option CopyReceiver)) (number : ℕ) (r : CopyReceiver) : Type 0 where
-  pub positive : 0 < number
-  pub has : HasReceiver receivers (number - 1) r
-
--- no receiver of this number is here
-abbrev pub IsGone : List (Option CopyReceiver) → ℕ → Type 0
-IsGone receivers number = (r : CopyReceiver) → ¬ IsHere receivers number r
-
--- how many receivers have not left
-abbrev pub held_count : List (Option CopyReceiver) → ℕ
-held_count receivers = count_by is_some receivers
 
 -- a receiver was made, and has the next number
 pub record Subscribes (old : Crowd) (next : ℕ) (new : Crowd) : Type 0 where
@@ -57,13 +40,13 @@ IsTold (Lapped lapped) old new = GotLapped lapped old new
 pub record ReceivesAt (told : Received) (old : List (Option CopyReceiver)) (number : ℕ) (new : List (Option CopyReceiver)) : Type 0 where
   pub before : CopyReceiver
   pub after : CopyReceiver
-  pub here : IsHere old number before
+  pub here : IsHeld old number before
   pub told_it : IsTold told (receiver_seat before) (receiver_seat after)
   pub others : new ≡ slice_set old (number - 1) (Some after)
 
 -- the receiver of this number left, and its number is given up
 pub record Leaves (old : Crowd) (number : ℕ) (new : Crowd) : Type 0 where
   pub receiver : CopyReceiver
-  pub here : IsHere old.receivers number receiver
+  pub here : IsHeld old.receivers number receiver
   pub share : view_of new.transmitter ≡ joined (view_of old.transmitter) (receiver_view receiver)
   pub given_up : new.receivers ≡ slice_set old.receivers (number - 1) None

@@ -3,11 +3,12 @@ ghost use Rattle.std.specs.Prelude.{◌∷◌, IfOk, codes};
 ghost use Rattle.ring_run.specs.Text.{words_of};
 
 use crate::fault::LineFault;
+use crate::service_call::ServiceCall;
 use crate::words::Words;
 use ring_words::Action;
 use std::alloc::Global;
 
-/// A call of the ring or of the broadcast buffer, as a line asks for it.
+/// A call of the ring, of the broadcast buffer or of the conductor's side, as a line asks for it.
 #[derive(Drop)]
 pub enum Call {
     /// `write TYPE HEX`
@@ -60,6 +61,8 @@ pub enum Call {
     Leave {
         number: usize,
     },
+    /// A line of the conductor's side.
+    Service(ServiceCall),
 }
 
 impl Call {
@@ -82,7 +85,7 @@ impl Call {
             _ if name == b"positions".as_slice() => Self::positions(words),
             _ if name == b"transmit".as_slice() => Self::transmit(alloc, words),
             _ if name == b"subscribe".as_slice() => Self::subscribe(words),
-            _ => Err(LineFault::Bad),
+            _ => Ok(Call::Service(ServiceCall::parse(alloc, name, words)?)),
         }
     }
 

@@ -8,12 +8,15 @@ use thiserror::Error;
 /// Why a run ends before its scenario does. Its text goes to standard error.
 #[derive(Clone, Copy, Debug, PartialEq, Eq, Error)]
 pub enum RunFault {
-    /// `--ring` is no lawful capacity of a ring, or `--board` none of a broadcast buffer.
+    /// `--ring` or `--commands` is no lawful capacity of a ring, or `--board` or `--replies` none of a broadcast buffer.
     #[error("1 BadCapacity")]
     BadCapacity,
     /// The runner got no memory for its own parts.
     #[error("3 OutOfMemory")]
     OutOfMemory,
+    /// `--counters` is 0 or above 4,096.
+    #[error("15 BadCount")]
+    BadCount,
     /// This line is no line of a scenario; lines count from 1.
     #[error("25 BadLine {line}")]
     BadLine { line: u32 },

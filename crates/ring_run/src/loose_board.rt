@@ -4,10 +4,13 @@ ghost use Rattle.ring_board.specs.Refusals.{make_refusal_of, subscribe_refusal_o
 ghost use Rattle.ring_board.specs.Layout.{all_shares};
 ghost use Rattle.ring_board.specs.Seats.{capacity_of, next_record, shares_of, tail_of, view_of, IsTransmitterOf};
 ghost use Rattle.ring_board.specs.Steps.{sent_on};
-ghost use Rattle.ring_run.specs.Receivers.{AreReceivers, IsGone, IsHere, Leaves, ReceivesAt, Subscribes, crowd, held_count};
+ghost use Rattle.ring_run.specs.Held.{IsFree, held_count};
+ghost use Rattle.ring_run.specs.Receivers.{AreReceivers, Leaves, ReceivesAt, Subscribes, crowd};
 
 use crate::fault::RunFault;
+use crate::held::take_held;
 use crate::received::Received;
+use crate::receiving::receive_at;
 use ring_board::{Board, CopyReceiver, MakeFault, SubscribeFault, TransmitFault, Transmitter};
 use std::alloc::{AllocError, Global};
 
@@ -31,18 +34,6 @@ pub fn from_board_make(fault: MakeFault) -> RunFault
         MakeFault::OutOfMemory => RunFault::OutOfMemory,
         MakeFault::BadCapacity | MakeFault::BadStart => RunFault::BadCapacity,
     }
-}
-
-/// Takes the receiver of this number, if it is here.
-fn take_receiver(receivers: &mut [Option<CopyReceiver>], number: usize) -> Option<CopyReceiver>
-    ensures taken { MatchOption result (receivers.new ≡ receivers.old) (λ receiver. IsHere receivers.old number receiver × (receivers.new ≡ slice_set receivers.old (number - 1) None)) }
-    ensures gone { IfNone result (IsGone receivers.old number) }
-{
-    let index = number.checked_sub(1)?;
-    if index >= receivers.len() {
-        return None;
-    }
-    receivers[index].take()
 }
 
 /// Makes a receiver, and keeps it under the next number, which is given. The room to keep it is made first.
@@ -69,29 +60,6 @@ fn make_receiver(
     Ok(Ok(receivers.len()))
 }
 
-/// Asks the receiver of this number for the next message, if it is here.
-fn receive_at(
-    alloc: Global,
-    board: &Board,
-    receivers: &mut [Option<CopyReceiver>],
-    number: usize,
-) -> Option<Result<Received, AllocError>>
-    requires { AreReceivers board.now receivers.old }
-    ensures receivers { AreReceivers board.now receivers.new }
-    ensures told { IfSome result (λ answer. IfOk answer (λ told. ReceivesAt told receivers.old number receivers.new)) }
-    ensures gone { IfNone result (IsGone receivers.old number) }
-    ensures count { held_count receivers.new ≡ held_count receivers.old }
-{
-    let index = number.checked_sub(1)?;
-    if index >= receivers.len() {
-        return None;
-    }
-    match &mut receivers[index] {
-        Some(receiver) => Some(Received::of(alloc, board, receiver)),
-        None => None,
-    }
-}
-
 /// Joins the receiver of this number, if it is here.
 fn join_receiver(
     board: &Board,
@@ -104,10 +72,10 @@ fn join_receiver(
     ensures transmitter { IsTransmitterOf board.now transmitter.new }
     ensures receivers { AreReceivers board.now receivers.new }
     ensures left { MatchOption result ((transmitter.new ≡ transmitter.old) × (receivers.new ≡ receivers.old)) (λ _. Leaves (crowd transmitter.old receivers.old) number (crowd transmitter.new receivers.new)) }
-    ensures gone { IfNone result (IsGone receivers.old number) }
+    ensures gone { IfNone result (IsFree receivers.old number) }
     ensures shares { shares_of transmitter.new + held_count receivers.new ≡ shares_of transmitter.old + held_count receivers.old }
 {
-    let receiver = take_receiver(receivers, number)?;
+    let receiver = take_held(receivers, number)?;
     board.join(transmitter, receiver);
     Some(())
 }
@@ -150,7 +118,7 @@ impl LooseBoard {
     /// Asks the receiver of this number for the next message; `None` where it is not here.
     pub fn receive(&mut self, alloc: Global, number: usize) -> Option<Result<Received, AllocError>>
         ensures told { IfSome result (λ answer. IfOk answer (λ told. ReceivesAt told self.old.receivers.items number self.new.receivers.items)) }
-        ensures gone { IfNone result (IsGone self.old.receivers.items number) }
+        ensures gone { IfNone result (IsFree self.old.receivers.items number) }
     {
         receive_at(alloc, &self.board, &mut self.receivers, number)
     }
@@ -158,7 +126,7 @@ impl LooseBoard {
     /// Joins the receiver of this number; `None` where it is not here.
     pub fn leave(&mut self, number: usize) -> Option<()>
         ensures left { MatchOption result (self.new.receivers.items ≡ self.old.receivers.items) (λ _. Leaves (crowd self.old.transmitter self.old.receivers.items) number (crowd self.new.transmitter self.new.receivers.items)) }
-        ensures gone { IfNone result (IsGone self.old.receivers.items number) }
+        ensures gone { IfNone result (IsFree self.old.receivers.items number) }
     {
         join_receiver(
             &self.board,

@@ -1,11 +1,13 @@
 //! The command line.
-ghost use Rattle.std.specs.Prelude.{◌≡◌, true, false, MatchResult};
+ghost use Rattle.std.specs.Prelude.{◌≡◌, None, Some, is_none, MatchResult};
 ghost use Rattle.ring_board.specs.Layout.{is_board_capacity};
+ghost use Rattle.ring_counters.specs.Registry.{make_refusal_of};
 
 use crate::fault::RunFault;
 use crate::help;
 use clap::{Arg, ArgAction, ArgMatches, Command, Error, value_parser};
 use ring_layout::broadcast_buffer_descriptor::{MAX_CAPACITY, MIN_CAPACITY};
+use ring_layout::counter_descriptor::MAX_COUNTERS;
 use ring_layout::is_capacity;
 use std::alloc::Global;
 
@@ -46,18 +48,35 @@ fn is_board_capacity(capacity: u32) -> bool
     capacity.is_power_of_two() && capacity >= MIN_CAPACITY && capacity <= MAX_CAPACITY
 }
 
-impl Options {
-    ghost use Rattle.ring_run.specs.Sizes.{are_capacities};
+/// Tests whether there may be so many counters: 1 to 4,096.
+fn is_counter_count(count: u32) -> bool
+    ensures { result ≡ is_none (make_refusal_of count) }
+{
+    count > 0 && count <= MAX_COUNTERS
+}
 
-    /// Tests the options of the parts that there are.
+impl Options {
+    ghost use Rattle.ring_run.specs.Sizes.{size_fault_of};
+
+    /// Tests the options: `BadCapacity` where a ring or a broadcast buffer may not have its capacity, and then `BadCount`
+    /// where there may not be so many counters.
     pub fn test(&self) -> Result<(), RunFault>
-        ensures { MatchResult result (λ _. are_capacities self.now ≡ true) (λ fault. (fault ≡ RunFault.BadCapacity) × (are_capacities self.now ≡ false)) }
+        ensures { MatchResult result (λ _. size_fault_of self.now ≡ None) (λ fault. size_fault_of self.now ≡ Some fault) }
     {
         if !is_capacity(self.ring) {
             return Err(RunFault::BadCapacity);
         }
         if !is_board_capacity(self.board) {
             return Err(RunFault::BadCapacity);
+        }
+        if !is_capacity(self.commands) {
+            return Err(RunFault::BadCapacity);
+        }
+        if !is_board_capacity(self.replies) {
+            return Err(RunFault::BadCapacity);
+        }
+        if !is_counter_count(self.counters) {
+            return Err(RunFault::BadCount);
         }
         Ok(())
     }

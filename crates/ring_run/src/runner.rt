@@ -1,6 +1,8 @@
 //! What a run holds, and what its calls print.
-ghost use Rattle.std.specs.Prelude.{◌≡◌, true, IsOkUnless};
-ghost use Rattle.ring_run.specs.Sizes.{are_capacities};
+ghost use Rattle.std.specs.Prelude.{◌≡◌, None, IsOkUnless};
+ghost use Rattle.ring_run.specs.Sizes.{size_fault_of};
+
+mod serving;
 
 use crate::call::Call;
 use crate::fault::{LineFault, RunFault};
@@ -9,9 +11,11 @@ use crate::loose_ring::{Claimed, LooseRing};
 use crate::options::Options;
 use crate::printer::{Ignore, Printer, hex_word};
 use crate::received::Received;
+use crate::service::{CommandService, Served};
 use ring_words::{Action, MakeFault, Positions, ReadEnd, Stop};
 use std::alloc::{AllocError, Global};
 use std::fmt::Display;
+use std::sync::Wait;
 
 /// What a run holds.
 #[derive(Drop)]
@@ -19,36 +23,44 @@ pub struct Runner {
     alloc: Global,
     loose: LooseRing,
     board: LooseBoard,
+    service: CommandService,
     messages: u64,
+    /// Whether a line asked something of the conductor's side.
+    serves: bool,
 }
 
 /// What `end` tells.
-#[derive(Clone, Copy, Debug, PartialEq, Eq)]
+#[derive(Drop)]
 pub struct Ended {
     /// How many messages the reads consumed.
     pub messages: u64,
     /// How many messages were left.
     pub left: u64,
+    /// What the conductor handed out, where a line asked something of its side.
+    pub served: Option<Served>,
 }
 
 impl Runner {
     /// Makes the parts that the options describe.
     pub fn new(alloc: Global, options: &Options) -> Result<Self, RunFault>
-        requires { are_capacities options.now ≡ true }
+        requires { size_fault_of options.now ≡ None }
         ensures { IsOkUnless result RunFault.OutOfMemory }
     {
         let loose = LooseRing::new(alloc, options.ring).map_err(from_make)?;
         let board = LooseBoard::new(alloc, options.board).map_err(from_board_make)?;
+        let service = CommandService::new(alloc, options)?;
         Ok(Runner {
             alloc,
             loose,
             board,
+            service,
             messages: 0,
+            serves: false,
         })
     }
 
     /// Executes a call, and gives the lines that it prints.
-    pub fn execute(&mut self, call: Call) -> Result<String, LineFault> {
+    pub fn execute<R: Wait>(&mut self, rt: &R, call: Call) -> Result<String, LineFault> {
         let text = match call {
             Call::Write { type_id, body } => self.write(type_id, body.as_slice())?,
             Call::Claim { type_id, len } => self.claim(type_id, len)?,
@@ -75,6 +87,7 @@ impl Runner {
                 self.board.leave(number).ok_or(LineFault::Bad)?;
                 self.ok()?
             }
+            Call::Service(call) => self.serve(rt, call)?,
         };
         Ok(text)
     }
@@ -177,10 +190,11 @@ impl Runner {
         }
     }
 
-    /// Aborts the open claims, joins the receivers, and counts the messages that are left.
+    /// Aborts the open claims, joins receivers, listeners and watchers, closes all, and counts the messages that are left.
     pub fn close(mut self) -> Ended {
         self.loose.abort_all();
         self.board.close();
+        let served = self.service.close();
         let mut left = 0u64;
         for _ in 0..u64::MAX {
             let end = self.loose.read(u32::MAX, &mut Ignore);
@@ -192,6 +206,7 @@ impl Runner {
         Ended {
             messages: self.messages,
             left,
+            served: self.serves.then_some(served),
         }
     }
 }

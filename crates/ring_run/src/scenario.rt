@@ -1,7 +1,7 @@
 //! Runs a scenario.
-ghost use Rattle.std.specs.Prelude.{◌≡◌, false, IfSome, OnOk, IfErr};
+ghost use Rattle.std.specs.Prelude.{◌≡◌, Some, IfSome, OnOk, IfErr};
 ghost use Rattle.ring_run.specs.Faults.{IsEarly};
-ghost use Rattle.ring_run.specs.Sizes.{are_capacities};
+ghost use Rattle.ring_run.specs.Sizes.{size_fault_of};
 ghost use Rattle.ring_run.specs.Text.{lines_of, AllBlank, IsEnded, TakesEnd};
 
 use crate::fault::RunFault;
@@ -10,12 +10,14 @@ use crate::line::Line;
 use crate::lines::Lines;
 use crate::options::Options;
 use crate::runner::{Ended, Runner};
+use crate::service::Served;
 use std::alloc::Global;
 use std::io::{Read, Write};
+use std::sync::Wait;
 
 /// Reads a scenario whole, executes its lines in order, and writes what each of them gives.
-pub fn run_scenario<R: AllocGlobal, I: Read, O: Write>(
-    _rt: &R,
+pub fn run_scenario<R: AllocGlobal + Wait, I: Read, O: Write>(
+    rt: &R,
     alloc: Global,
     options: &Options,
     reader: &mut I,
@@ -24,9 +26,10 @@ pub fn run_scenario<R: AllocGlobal, I: Read, O: Write>(
     // The last line that is no blank one is `end`.
     ensures ended { OnOk result (IfSome (I.remaining reader.old) IsEnded) }
 
-    // A bad capacity is found before anything is read, and nothing else is called so.
-    ensures capacity { are_capacities options.now ≡ false → (result ≡ Err RunFault.BadCapacity) × (reader.new ≡ reader.old) }
-    ensures only_then { result ≡ Err RunFault.BadCapacity → are_capacities options.now ≡ false }
+    // An option that does not do is found before anything is read, and nothing else is called so.
+    ensures sizes { IfSome (size_fault_of options.now) (λ fault. (result ≡ Err fault) × (reader.new ≡ reader.old)) }
+    ensures capacity { result ≡ Err RunFault.BadCapacity → size_fault_of options.now ≡ Some RunFault.BadCapacity }
+    ensures count { result ≡ Err RunFault.BadCount → size_fault_of options.now ≡ Some RunFault.BadCount }
 
     // Nothing is written before the input was read.
     ensures silent { IfErr result (λ fault. IsEarly fault → writer.new ≡ writer.old) }
@@ -35,7 +38,7 @@ pub fn run_scenario<R: AllocGlobal, I: Read, O: Write>(
     let mut runner = Runner::new(alloc, options)?;
     let input = read_input(alloc, reader)?;
     let mut lines = Lines::of(input.as_slice());
-    let outcome = run_to_end(alloc, &mut runner, &mut lines, writer);
+    let outcome = run_to_end(rt, alloc, &mut runner, &mut lines, writer);
     let ended = runner.close();
     outcome?;
     write_end(alloc, ended, writer)?;
@@ -43,7 +46,8 @@ pub fn run_scenario<R: AllocGlobal, I: Read, O: Write>(
 }
 
 /// Executes the lines before the line `end`, and takes that line.
-fn run_to_end<O: Write>(
+fn run_to_end<R: Wait, O: Write>(
+    rt: &R,
     alloc: Global,
     runner: &mut Runner,
     lines: &mut Lines,
@@ -57,7 +61,7 @@ fn run_to_end<O: Write>(
         match Line::parse(alloc, text).map_err(|fault| fault.at(number))? {
             Line::Nothing => {}
             Line::Call(call) => {
-                let output = runner.execute(call).map_err(|fault| fault.at(number))?;
+                let output = runner.execute(rt, call).map_err(|fault| fault.at(number))?;
                 write_text(writer, output.as_str())?;
             }
             Line::End => return Ok(()),
@@ -83,10 +87,30 @@ fn rest_is_blank(alloc: Global, lines: &mut Lines) -> Result<(), RunFault>
     Ok(())
 }
 
+/// Writes what `end` tells: a line, and one more where a conductor finished.
 fn write_end<O: Write>(alloc: Global, ended: Ended, writer: &mut O) -> Result<(), RunFault>
     ensures late { IfErr result (λ fault. ¬ IsEarly fault) }
 {
     let text = format!(in alloc; "end messages {} left {}\n", ended.messages, ended.left)?;
+    write_text(writer, text.as_str())?;
+    match ended.served {
+        Some(served) => write_finished(alloc, &served, writer),
+        None => Ok(()),
+    }
+}
+
+fn write_finished<O: Write>(alloc: Global, served: &Served, writer: &mut O) -> Result<(), RunFault>
+    ensures late { IfErr result (λ fault. ¬ IsEarly fault) }
+{
+    let Ok(live) = served.counters.live(alloc) else {
+        return Err(RunFault::OutOfMemory);
+    };
+    let text = format!(in alloc;
+        "finished received {} left {} live {}\n",
+        served.received,
+        served.left,
+        live.len()
+    )?;
     write_text(writer, text.as_str())
 }
 

@@ -1,5 +1,5 @@
 use Rattle.std.proofs.Common.{◌≡◌, arith}
-use Rattle.ring_run.specs.Receivers.{held_count}
+use Rattle.ring_run.specs.Held.{held_count}
 use Rattle.ring_run.proofs.HeldLemmas.{count_none}
 use Rattle.ring_run.proofs.loose_board.LooseBoard.join_all.Goals as goal
 

@@ -1,6 +1,7 @@
 use Rattle.std.proofs.Common.{◌+◌, ◌∙◌, sym, ap, subst, arith}
 use Rattle.std.proofs.lemmas.List.{with_items_is}
-use Rattle.ring_run.specs.Receivers.{AreReceivers, held_count}
+use Rattle.ring_run.specs.Held.{held_count}
+use Rattle.ring_run.specs.Receivers.{AreReceivers}
 use Rattle.ring_run.proofs.loose_board.LooseBoard.leave.Goals as goal
 
 pub invariant_of-self-clause-receive : goal.invariant_of-self-clause-receive

@@ -2,9 +2,9 @@ use Rattle.std.proofs.Common.{◌≡◌, ◌∙◌, None, Some, ap, slice_set, s
 use Rattle.std.proofs.lemmas.List.{get_or_default}
 use Rattle.std.proofs.lemmas.Result.{IfOk-weaker}
 use Rattle.ring_board.specs.Seats.{IsReceiverOf}
-use Rattle.ring_run.specs.Receivers.{HasReceiver, IsHere}
+use Rattle.ring_run.specs.Held.{HasAt, IsHeld}
 use Rattle.ring_run.proofs.HeldLemmas.{of_set}
-use Rattle.ring_run.proofs.loose_board.receive_at.Goals as goal
+use Rattle.ring_run.proofs.receiving.receive_at.Goals as goal
 
 pub of-requires : goal.of-requires
 of-requires c =
@@ -23,7 +23,7 @@ returns-in-Some-clause-told c =
     let receivers = c.args.receivers.now in
     let index = c.in_ok-index.index in
     let at = c.in_ok-index.ensures in
-    let has : HasReceiver receivers index c.in-Some.receiver = get_or_default receivers index None c.index-receivers-index.result c.if-index-receivers.false ∙ c.in-Some.is in
-    let here : IsHere receivers c.args.number c.in-Some.receiver =
-    record { positive = omega (arith, at.0); has = subst (λ i. HasReceiver receivers i c.in-Some.receiver) at.1 has } in
+    let has : HasAt receivers index c.in-Some.receiver = get_or_default receivers index None c.index-receivers-index.result c.if-index-receivers.false ∙ c.in-Some.is in
+    let here : IsHeld receivers c.args.number c.in-Some.receiver =
+    record { positive = omega (arith, at.0); has = subst (λ i. HasAt receivers i c.in-Some.receiver) at.1 has } in
     IfOk-weaker c.of.result _ _ (λ told h. record { before = c.in-Some.receiver; after = c.of.new.receiver; here = here; told_it = h; others = ap (λ i. slice_set receivers i (Some c.of.new.receiver)) at.1 }) c.of.ensures.told

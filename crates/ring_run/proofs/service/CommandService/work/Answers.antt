@@ -1,0 +1,11 @@
+use Rattle.std.proofs.Common.{◌∙◌, ◌+◌, ap}
+use Rattle.ring_conductor.specs.Conducting.{ledger_of}
+use Rattle.ring_conductor.specs.Fold.{Ledger}
+use Rattle.ring_run.specs.Held.{held_count}
+use Rattle.ring_run.proofs.ServiceLemmas.{shares-fold}
+use Rattle.ring_run.proofs.service.CommandService.work.Goals as goal
+
+pub invariant_of-self-clause-shares : goal.invariant_of-self-clause-shares
+invariant_of-self-clause-shares c =
+    let same = ap (λ (l : Ledger). l.board.shares) c.do_work.ensures.works.folded ∙ shares-fold (ledger_of c.args.self.now.conductor) _ _ in
+    ap (λ n. n + held_count c.args.self.now.listeners.items) same ∙ c.args.self.now.shares
