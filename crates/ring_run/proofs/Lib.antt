@@ -1,3 +1,5 @@
 mod HeldLemmas
 mod ClaimsLemmas
+mod TryLemmas
+mod LooseLemmas
 mod TextLemmas

@@ -1,6 +1,7 @@
 pub mod Claims
 pub mod Faults
 pub mod Lines
+pub mod Loose
 pub mod Receivers
 pub mod Sizes
 pub mod Text

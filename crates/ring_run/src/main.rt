@@ -21,8 +21,10 @@ mod words;
 
 use fault::RunFault;
 use scenario::run_scenario;
-use std::env;
+use std::env::Env;
 use std::process::ExitCode;
+use std::sync::Wait;
+use std::{env, io};
 
 fn main(rt: HostRuntime) -> ExitCode {
     match run(&rt) {
@@ -35,7 +37,7 @@ fn main(rt: HostRuntime) -> ExitCode {
 }
 
 /// Parses the arguments and runs the scenario.
-fn run(rt: &HostRuntime) -> Result<ExitCode, RunFault> {
+fn run<R: AllocGlobal + Env + Input + Print + Eprint + Wait>(rt: &R) -> Result<ExitCode, RunFault> {
     let alloc = rt.alloc();
     let arguments = env::args(rt).map_err(|_| RunFault::OutOfMemory)?;
     let words: Vec<String> = arguments.collect(alloc)?;
@@ -46,6 +48,6 @@ fn run(rt: &HostRuntime) -> Result<ExitCode, RunFault> {
             return Ok(ExitCode::from(error.exit_code() as u8));
         }
     };
-    run_scenario(rt, alloc, &options, &mut rt.stdin(), &mut rt.stdout())?;
+    run_scenario(rt, alloc, &options, &mut rt.reader(), &mut io::writer(rt))?;
     Ok(ExitCode::SUCCESS)
 }

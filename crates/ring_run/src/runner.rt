@@ -9,9 +9,10 @@ use crate::loose_ring::{Claimed, LooseRing};
 use crate::options::Options;
 use crate::printer::{Ignore, Printer, hex_word};
 use crate::received::Received;
-use ring_words::{Action, MakeFault, Positions, ReadEnd, Stop};
+use ring_words::{Action, MakeFault, Positions, ReadEnd, SoloRing, Stop};
 use std::alloc::{AllocError, Global};
 use std::fmt::Display;
+use std::sync::Wait;
 
 /// What a run holds.
 #[derive(Drop)]
@@ -48,10 +49,10 @@ impl Runner {
     }
 
     /// Executes a call, and gives the lines that it prints.
-    pub fn execute(&mut self, call: Call) -> Result<String, LineFault> {
+    pub fn execute<R: Wait>(&mut self, rt: &R, call: Call) -> Result<String, LineFault> {
         let text = match call {
-            Call::Write { type_id, body } => self.write(type_id, body.as_slice())?,
-            Call::Claim { type_id, len } => self.claim(type_id, len)?,
+            Call::Write { type_id, body } => self.write(rt, type_id, body.as_slice())?,
+            Call::Claim { type_id, len } => self.claim(rt, type_id, len)?,
             Call::Put {
                 number,
                 offset,
@@ -68,6 +69,12 @@ impl Runner {
             Call::Read { limit } => self.read(limit)?,
             Call::Control { limit, actions } => self.control(limit, actions.as_slice())?,
             Call::Positions => self.positions()?,
+            Call::Correlation => self.correlation()?,
+            Call::Beat { value } => {
+                self.loose.set_heartbeat(value);
+                self.ok()?
+            }
+            Call::Heartbeat => self.heartbeat()?,
             Call::Transmit { type_id, body } => self.transmit(type_id, body.as_slice())?,
             Call::Subscribe => self.subscribe()?,
             Call::Receive { number } => self.receive(number)?,
@@ -87,15 +94,15 @@ impl Runner {
         format!(in self.alloc; "refused {fault}\n")
     }
 
-    fn write(&mut self, type_id: i32, body: &[u8]) -> Result<String, AllocError> {
-        match self.loose.write(type_id, body) {
+    fn write<R: Wait>(&mut self, rt: &R, type_id: i32, body: &[u8]) -> Result<String, AllocError> {
+        match self.loose.write(rt, type_id, body) {
             Ok(()) => self.ok(),
             Err(fault) => self.refused(fault),
         }
     }
 
-    fn claim(&mut self, type_id: i32, len: usize) -> Result<String, AllocError> {
-        match self.loose.claim(type_id, len)? {
+    fn claim<R: Wait>(&mut self, rt: &R, type_id: i32, len: usize) -> Result<String, AllocError> {
+        match self.loose.claim(rt, type_id, len)? {
             Ok(Claimed { number, index }) => format!(in self.alloc;
                 "claim {number} index {index}\n"
             ),
@@ -135,9 +142,19 @@ impl Runner {
         Ok(text)
     }
 
-    fn positions(&self) -> Result<String, AllocError> {
+    fn positions(&mut self) -> Result<String, AllocError> {
         let Positions { head, tail } = self.loose.positions();
         format!(in self.alloc; "head {head} tail {tail}\n")
+    }
+
+    fn correlation(&mut self) -> Result<String, AllocError> {
+        let id = self.loose.next_correlation_id();
+        format!(in self.alloc; "correlation {id}\n")
+    }
+
+    fn heartbeat(&mut self) -> Result<String, AllocError> {
+        let value = self.loose.heartbeat();
+        format!(in self.alloc; "heartbeat {value}\n")
     }
 
     fn transmit(&mut self, type_id: i32, body: &[u8]) -> Result<String, AllocError> {
@@ -177,23 +194,31 @@ impl Runner {
         }
     }
 
-    /// Aborts the open claims, joins the receivers, and counts the messages that are left.
-    pub fn close(mut self) -> Ended {
-        self.loose.abort_all();
-        self.board.close();
-        let mut left = 0u64;
-        for _ in 0..u64::MAX {
-            let end = self.loose.read(u32::MAX, &mut Ignore);
-            left = left.saturating_add(u64::from(end.messages));
-            if end.stopped == Stop::Unpublished {
-                break;
-            }
-        }
-        Ended {
-            messages: self.messages,
-            left,
+    /// Aborts the open claims, closes the ring, joins the receivers, and counts the messages that are left.
+    pub fn close(self) -> Ended {
+        let Runner {
+            loose,
+            board,
+            messages,
+            ..
+        } = self;
+        let left = count_left(loose.close());
+        board.close();
+        Ended { messages, left }
+    }
+}
+
+/// Reads all messages that a closed ring has left, and counts them.
+fn count_left(mut ring: SoloRing) -> u64 {
+    let mut left = 0u64;
+    for _ in 0..u64::MAX {
+        let end = ring.read(u32::MAX, &mut Ignore);
+        left = left.saturating_add(u64::from(end.messages));
+        if end.stopped == Stop::Unpublished {
+            break;
         }
     }
+    left
 }
 
 fn from_make(fault: MakeFault) -> RunFault

@@ -12,10 +12,11 @@ use crate::options::Options;
 use crate::runner::{Ended, Runner};
 use std::alloc::Global;
 use std::io::{Read, Write};
+use std::sync::Wait;
 
 /// Reads a scenario whole, executes its lines in order, and writes what each of them gives.
-pub fn run_scenario<R: AllocGlobal, I: Read, O: Write>(
-    _rt: &R,
+pub fn run_scenario<R: AllocGlobal + Wait, I: Read, O: Write>(
+    rt: &R,
     alloc: Global,
     options: &Options,
     reader: &mut I,
@@ -35,7 +36,7 @@ pub fn run_scenario<R: AllocGlobal, I: Read, O: Write>(
     let mut runner = Runner::new(alloc, options)?;
     let input = read_input(alloc, reader)?;
     let mut lines = Lines::of(input.as_slice());
-    let outcome = run_to_end(alloc, &mut runner, &mut lines, writer);
+    let outcome = run_to_end(rt, alloc, &mut runner, &mut lines, writer);
     let ended = runner.close();
     outcome?;
     write_end(alloc, ended, writer)?;
@@ -43,7 +44,8 @@ pub fn run_scenario<R: AllocGlobal, I: Read, O: Write>(
 }
 
 /// Executes the lines before the line `end`, and takes that line.
-fn run_to_end<O: Write>(
+fn run_to_end<R: Wait, O: Write>(
+    rt: &R,
     alloc: Global,
     runner: &mut Runner,
     lines: &mut Lines,
@@ -57,7 +59,7 @@ fn run_to_end<O: Write>(
         match Line::parse(alloc, text).map_err(|fault| fault.at(number))? {
             Line::Nothing => {}
             Line::Call(call) => {
-                let output = runner.execute(call).map_err(|fault| fault.at(number))?;
+                let output = runner.execute(rt, call).map_err(|fault| fault.at(number))?;
                 write_text(writer, output.as_str())?;
             }
             Line::End => return Ok(()),

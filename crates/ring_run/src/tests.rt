@@ -9,10 +9,14 @@ mod scripts;
 use crate::fault::RunFault;
 use crate::options::Options;
 use crate::scenario::run_scenario;
-use std::alloc::Global;
+use std::sync::Wait;
 
 /// Runs a script with these options, and gives how it ended and what it printed.
-fn run_with(rt: &HostRuntime, options: &Options, script: &[u8]) -> (Result<(), RunFault>, Vec<u8>) {
+fn run_with<R: AllocGlobal + Wait>(
+    rt: &R,
+    options: &Options,
+    script: &[u8],
+) -> (Result<(), RunFault>, Vec<u8>) {
     let mut reader = script;
     let mut output = Vec::new(rt.alloc());
     let outcome = run_scenario(rt, rt.alloc(), options, &mut reader, &mut output);
@@ -20,7 +24,7 @@ fn run_with(rt: &HostRuntime, options: &Options, script: &[u8]) -> (Result<(), R
 }
 
 /// The same with default options.
-fn run(rt: &HostRuntime, script: &[u8]) -> (Result<(), RunFault>, Vec<u8>) {
+fn run<R: AllocGlobal + Wait>(rt: &R, script: &[u8]) -> (Result<(), RunFault>, Vec<u8>) {
     run_with(rt, &Options::default(), script)
 }
 
@@ -33,7 +37,7 @@ struct Row {
 
 impl Row {
     /// Tests whether the script ends and prints what is wanted.
-    fn holds(&self, rt: &HostRuntime) -> bool {
+    fn holds<R: AllocGlobal + Wait>(&self, rt: &R) -> bool {
         let (outcome, output) = run(rt, self.script.as_bytes());
         outcome == Ok(()) && output.as_slice() == self.wanted.as_bytes()
     }
