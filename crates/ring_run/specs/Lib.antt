@@ -2,6 +2,7 @@ pub mod Claims
 pub mod Faults
 pub mod Held
 pub mod Lines
+pub mod Loose
 pub mod Receivers
 pub mod Requests
 pub mod Serving

@@ -1,7 +1,7 @@
 -- What the words of a line ask for.
 use Rattle.std.specs.Prelude.{◌≡◌, ℕ, List, [], ◌∷◌, codes}
 use Rattle.ring_run.specs.declared.call.Call.{Call}
-use Rattle.ring_run.specs.declared.call.Call.TheVariants.{Write, Claim, Put, Commit, Abort, Read, Control, Positions, Transmit, Subscribe, Receive, Leave, Service}
+use Rattle.ring_run.specs.declared.call.Call.TheVariants.{Write, Claim, Put, Commit, Abort, Read, Control, Positions, Correlation, Beat, Heartbeat, Transmit, Subscribe, Receive, Leave, Service}
 use Rattle.ring_run.specs.declared.line.Line.{Line}
 use Rattle.ring_run.specs.declared.line.Line.TheVariants as line
 use Rattle.ring_run.specs.ServiceLines.{AsksToServe}
@@ -22,6 +22,9 @@ AsksFor (Abort number) words = (number_word : List ℕ) × (words ≡ codes "abo
 AsksFor (Control limit actions) words = (limit_word action_word : List ℕ) × (words ≡ codes "control" ∷ limit_word ∷ action_word ∷ [])
     × SpellsUnsigned 32 limit_word limit × SpellsActions action_word actions.items
 AsksFor Positions words = words ≡ codes "positions" ∷ []
+AsksFor Correlation words = words ≡ codes "correlation" ∷ []
+AsksFor (Beat value) words = (value_word : List ℕ) × (words ≡ codes "beat" ∷ value_word ∷ []) × SpellsUnsigned 64 value_word value
+AsksFor Heartbeat words = words ≡ codes "heartbeat" ∷ []
 AsksFor (Read limit) words = (limit_word : List ℕ) × (words ≡ codes "read" ∷ limit_word ∷ []) × SpellsUnsigned 32 limit_word limit
 AsksFor (Transmit type_id body) words = (type_word body_word : List ℕ) × (words ≡ codes "transmit" ∷ type_word ∷ body_word ∷ [])
     × SpellsI32 type_word type_id × SpellsBytes body_word body.items

@@ -46,6 +46,14 @@ pub enum Call {
     },
     /// `positions`
     Positions,
+    /// `correlation`
+    Correlation,
+    /// `beat N`
+    Beat {
+        value: u64,
+    },
+    /// `heartbeat`
+    Heartbeat,
     /// `transmit TYPE HEX`
     Transmit {
         type_id: i32,
@@ -80,9 +88,12 @@ impl Call {
             b"abort" => Self::abort(words),
             b"read" => Self::read(words),
             b"control" => Self::control(alloc, words),
+            b"beat" => Self::beat(words),
             b"receive" => Self::receive(words),
             b"leave" => Self::leave(words),
             _ if name == b"positions".as_slice() => Self::positions(words),
+            _ if name == b"correlation".as_slice() => Self::correlation(words),
+            _ if name == b"heartbeat".as_slice() => Self::heartbeat(words),
             _ if name == b"transmit".as_slice() => Self::transmit(alloc, words),
             _ if name == b"subscribe".as_slice() => Self::subscribe(words),
             _ => Ok(Call::Service(ServiceCall::parse(alloc, name, words)?)),
@@ -159,6 +170,28 @@ impl Call {
     {
         words.finish()?;
         Ok(Call::Positions)
+    }
+
+    fn correlation(words: &mut Words) -> Result<Call, LineFault>
+        ensures { IfOk result (λ call. AsksFor call (codes "correlation" ∷ words_of words.old.rest.now)) }
+    {
+        words.finish()?;
+        Ok(Call::Correlation)
+    }
+
+    fn beat(words: &mut Words) -> Result<Call, LineFault>
+        ensures { IfOk result (λ call. AsksFor call (codes "beat" ∷ words_of words.old.rest.now)) }
+    {
+        let value = words.number()?;
+        words.finish()?;
+        Ok(Call::Beat { value })
+    }
+
+    fn heartbeat(words: &mut Words) -> Result<Call, LineFault>
+        ensures { IfOk result (λ call. AsksFor call (codes "heartbeat" ∷ words_of words.old.rest.now)) }
+    {
+        words.finish()?;
+        Ok(Call::Heartbeat)
     }
 
     fn transmit(alloc: Global, words: &mut Words) -> Result<Call, LineFault>

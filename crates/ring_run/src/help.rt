@@ -31,6 +31,9 @@ A scenario is a text with one call on each line, executed in order:
                          take it and stop), c (commit) or n (continue);
                          `-` for no letters
   positions              prints where the next read and write begin
+  correlation            draws the next correlation id: 0, 1, 2 and so on
+  beat N                 stores the reader's heartbeat
+  heartbeat              prints the heartbeat stored last, 0 before the first
   transmit TYPE HEX      transmits a message on the broadcast buffer, which
                          never waits and overwrites the oldest messages
   subscribe              makes a receiver; the line that it prints gives its

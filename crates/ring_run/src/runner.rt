@@ -9,8 +9,9 @@ use crate::fault::{LineFault, RunFault};
 use crate::loose_board::{LooseBoard, from_board_make};
 use crate::loose_ring::{Claimed, LooseRing};
 use crate::options::Options;
-use crate::printer::{Ignore, Printer, hex_word};
+use crate::printer::{Printer, hex_word};
 use crate::received::Received;
+use crate::rest::count_left;
 use crate::service::{CommandService, Served};
 use ring_words::{Action, MakeFault, Positions, ReadEnd, Stop};
 use std::alloc::{AllocError, Global};
@@ -62,8 +63,8 @@ impl Runner {
     /// Executes a call, and gives the lines that it prints.
     pub fn execute<R: Wait>(&mut self, rt: &R, call: Call) -> Result<String, LineFault> {
         let text = match call {
-            Call::Write { type_id, body } => self.write(type_id, body.as_slice())?,
-            Call::Claim { type_id, len } => self.claim(type_id, len)?,
+            Call::Write { type_id, body } => self.write(rt, type_id, body.as_slice())?,
+            Call::Claim { type_id, len } => self.claim(rt, type_id, len)?,
             Call::Put {
                 number,
                 offset,
@@ -80,6 +81,12 @@ impl Runner {
             Call::Read { limit } => self.read(limit)?,
             Call::Control { limit, actions } => self.control(limit, actions.as_slice())?,
             Call::Positions => self.positions()?,
+            Call::Correlation => self.correlation()?,
+            Call::Beat { value } => {
+                self.loose.set_heartbeat(value);
+                self.ok()?
+            }
+            Call::Heartbeat => self.heartbeat()?,
             Call::Transmit { type_id, body } => self.transmit(type_id, body.as_slice())?,
             Call::Subscribe => self.subscribe()?,
             Call::Receive { number } => self.receive(number)?,
@@ -100,15 +107,15 @@ impl Runner {
         format!(in self.alloc; "refused {fault}\n")
     }
 
-    fn write(&mut self, type_id: i32, body: &[u8]) -> Result<String, AllocError> {
-        match self.loose.write(type_id, body) {
+    fn write<R: Wait>(&mut self, rt: &R, type_id: i32, body: &[u8]) -> Result<String, AllocError> {
+        match self.loose.write(rt, type_id, body) {
             Ok(()) => self.ok(),
             Err(fault) => self.refused(fault),
         }
     }
 
-    fn claim(&mut self, type_id: i32, len: usize) -> Result<String, AllocError> {
-        match self.loose.claim(type_id, len)? {
+    fn claim<R: Wait>(&mut self, rt: &R, type_id: i32, len: usize) -> Result<String, AllocError> {
+        match self.loose.claim(rt, type_id, len)? {
             Ok(Claimed { number, index }) => format!(in self.alloc;
                 "claim {number} index {index}\n"
             ),
@@ -148,9 +155,19 @@ impl Runner {
         Ok(text)
     }
 
-    fn positions(&self) -> Result<String, AllocError> {
+    fn positions(&mut self) -> Result<String, AllocError> {
         let Positions { head, tail } = self.loose.positions();
         format!(in self.alloc; "head {head} tail {tail}\n")
+    }
+
+    fn correlation(&mut self) -> Result<String, AllocError> {
+        let id = self.loose.next_correlation_id();
+        format!(in self.alloc; "correlation {id}\n")
+    }
+
+    fn heartbeat(&mut self) -> Result<String, AllocError> {
+        let value = self.loose.heartbeat();
+        format!(in self.alloc; "heartbeat {value}\n")
     }
 
     fn transmit(&mut self, type_id: i32, body: &[u8]) -> Result<String, AllocError> {
@@ -191,22 +208,22 @@ impl Runner {
     }
 
     /// Aborts the open claims, joins receivers, listeners and watchers, closes all, and counts the messages that are left.
-    pub fn close(mut self) -> Ended {
-        self.loose.abort_all();
-        self.board.close();
-        let served = self.service.close();
-        let mut left = 0u64;
-        for _ in 0..u64::MAX {
-            let end = self.loose.read(u32::MAX, &mut Ignore);
-            left = left.saturating_add(u64::from(end.messages));
-            if end.stopped == Stop::Unpublished {
-                break;
-            }
-        }
+    pub fn close(self) -> Ended {
+        let Runner {
+            loose,
+            board,
+            service,
+            messages,
+            serves,
+            ..
+        } = self;
+        let left = count_left(&mut loose.close());
+        board.close();
+        let served = service.close();
         Ended {
-            messages: self.messages,
+            messages,
             left,
-            served: self.serves.then_some(served),
+            served: serves.then_some(served),
         }
     }
 }

@@ -1,17 +1,17 @@
-use Rattle.std.proofs.Common.{◌-◌, sym, subst}
+use Rattle.std.proofs.Common.{◌-◌, ap, sym, subst}
+use Rattle.ring_layout.specs.declared.message.ClaimState.TheVariants.{Committed}
+use Rattle.ring_table.specs.declared.view.View.{View}
 use Rattle.ring_run.specs.Claims.{AreOpen}
 use Rattle.ring_run.proofs.ClaimsLemmas.{one_less_open}
 use Rattle.ring_run.proofs.loose_ring.commit_claim.Goals as goal
 
-pub commit-requires : goal.commit-requires
-commit-requires c = c.requires.open_in (c.args.number - 1) c.in_ok-claim.claim c.in_ok-claim.ensures.0.has
+pub commit-requires-clause-claim : goal.commit-requires-clause-claim
+commit-requires-clause-claim c = c.requires.claims.open_of (c.args.number - 1) c.in_ok-claim.claim c.in_ok-claim.ensures.taken.0.has
 
 pub returns-clause-claims : goal.returns-clause-claims
 returns-clause-claims c =
-    let taken = c.in_ok-claim.ensures in
-    subst (AreOpen c.commit.new.self) (sym taken.1)
-    (one_less_open c.args.ring.now c.commit.new.self c.args.claims.now (c.args.number - 1) c.in_ok-claim.claim c.requires taken.0.has c.commit.ensures.others)
-
-pub returns-clause-settled : goal.returns-clause-settled
-returns-clause-settled c =
-    let taken = c.in_ok-claim.ensures in record { claim = c.in_ok-claim.claim; holds = taken.0; settled = c.commit.ensures.settled; given_up = taken.1 }
+    let taken = c.in_ok-claim.ensures.taken in
+    let change = ap (λ (v : View). v.producer.claims) c.commit.ensures.settled in
+    subst (AreOpen c.args.ring.now c.commit.new.producer) (sym taken.1)
+    (one_less_open c.args.ring.now c.args.producer.now c.commit.new.producer c.args.claims.now (c.args.number - 1) c.in_ok-claim.claim Committed (λ same. absurd cc)
+    c.requires.claims taken.0.has c.commit.ensures.others change)

@@ -1,5 +1,0 @@
-use Rattle.ring_run.proofs.ClaimsLemmas.{still_open}
-use Rattle.ring_run.proofs.loose_ring.LooseRing.controlled_read.Goals as goal
-
-pub invariant_of-self : goal.invariant_of-self
-invariant_of-self g c = still_open _ _ _ c.self.invariant c.controlled_read.ensures.claims
