@@ -1,7 +1,7 @@
 -- What the words of a line ask for.
 use Rattle.std.specs.Prelude.{◌≡◌, ℕ, List, [], ◌∷◌, codes}
 use Rattle.ring_run.specs.declared.call.Call.{Call}
-use Rattle.ring_run.specs.declared.call.Call.TheVariants.{Write, Claim, Put, Commit, Abort, Read, Control, Positions, Correlation, Beat, Heartbeat, Transmit, Subscribe, Receive, Leave, Service}
+use Rattle.ring_run.specs.declared.call.Call.TheVariants.{Write, Claim, Put, Commit, Abort, Read, Control, Positions, Correlation, Beat, Heartbeat, Transmit, Subscribe, Receive, Leave, Storm, Service}
 use Rattle.ring_run.specs.declared.line.Line.{Line}
 use Rattle.ring_run.specs.declared.line.Line.TheVariants as line
 use Rattle.ring_run.specs.ServiceLines.{AsksToServe}
@@ -31,6 +31,8 @@ AsksFor (Transmit type_id body) words = (type_word body_word : List ℕ) × (wor
 AsksFor Subscribe words = words ≡ codes "subscribe" ∷ []
 AsksFor (Receive number) words = (number_word : List ℕ) × (words ≡ codes "receive" ∷ number_word ∷ []) × SpellsUnsigned 64 number_word number
 AsksFor (Leave number) words = (number_word : List ℕ) × (words ≡ codes "leave" ∷ number_word ∷ []) × SpellsUnsigned 64 number_word number
+AsksFor (Storm clients commands) words = (clients_word commands_word : List ℕ) × (words ≡ codes "storm" ∷ clients_word ∷ commands_word ∷ [])
+    × SpellsUnsigned 32 clients_word clients × SpellsUnsigned 32 commands_word commands
 AsksFor (Service call) words = AsksToServe call words
 
 -- the words are this line

@@ -69,6 +69,11 @@ pub enum Call {
     Leave {
         number: usize,
     },
+    /// `storm CLIENTS COMMANDS`
+    Storm {
+        clients: u32,
+        commands: u32,
+    },
     /// A line of the conductor's side.
     Service(ServiceCall),
 }
@@ -91,6 +96,7 @@ impl Call {
             b"beat" => Self::beat(words),
             b"receive" => Self::receive(words),
             b"leave" => Self::leave(words),
+            b"storm" => Self::storm(words),
             _ if name == b"positions".as_slice() => Self::positions(words),
             _ if name == b"correlation".as_slice() => Self::correlation(words),
             _ if name == b"heartbeat".as_slice() => Self::heartbeat(words),
@@ -224,5 +230,14 @@ impl Call {
         let number = words.number()?;
         words.finish()?;
         Ok(Call::Leave { number })
+    }
+
+    fn storm(words: &mut Words) -> Result<Call, LineFault>
+        ensures { IfOk result (λ call. AsksFor call (codes "storm" ∷ words_of words.old.rest.now)) }
+    {
+        let clients = words.number()?;
+        let commands = words.number()?;
+        words.finish()?;
+        Ok(Call::Storm { clients, commands })
     }
 }

@@ -31,6 +31,7 @@ use scenario::run_scenario;
 use std::env::Env;
 use std::process::ExitCode;
 use std::sync::Wait;
+use std::thread::Threads;
 use std::{env, io};
 
 fn main(rt: HostRuntime) -> ExitCode {
@@ -44,7 +45,9 @@ fn main(rt: HostRuntime) -> ExitCode {
 }
 
 /// Parses the arguments and runs the scenario.
-fn run<R: AllocGlobal + Env + Input + Print + Eprint + Wait>(rt: &R) -> Result<ExitCode, RunFault> {
+fn run<R: AllocGlobal + Env + Input + Print + Eprint + Threads + Wait>(
+    rt: &R,
+) -> Result<ExitCode, RunFault> {
     let alloc = rt.alloc();
     let arguments = env::args(rt).map_err(|_| RunFault::OutOfMemory)?;
     let words: Vec<String> = arguments.collect(alloc)?;

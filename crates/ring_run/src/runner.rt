@@ -3,6 +3,7 @@ ghost use Rattle.std.specs.Prelude.{◌≡◌, None, IsOkUnless};
 ghost use Rattle.ring_run.specs.Sizes.{size_fault_of};
 
 mod serving;
+mod storming;
 
 use crate::call::Call;
 use crate::fault::{LineFault, RunFault};
@@ -17,6 +18,7 @@ use ring_words::{Action, MakeFault, Positions, ReadEnd, Stop};
 use std::alloc::{AllocError, Global};
 use std::fmt::Display;
 use std::sync::Wait;
+use std::thread::Threads;
 
 /// What a run holds.
 #[derive(Drop)]
@@ -25,6 +27,8 @@ pub struct Runner {
     loose: LooseRing,
     board: LooseBoard,
     service: CommandService,
+    /// Capacity of the command ring, and of a storm's.
+    commands: u32,
     messages: u64,
     /// Whether a line asked something of the conductor's side.
     serves: bool,
@@ -55,13 +59,14 @@ impl Runner {
             loose,
             board,
             service,
+            commands: options.commands,
             messages: 0,
             serves: false,
         })
     }
 
     /// Executes a call, and gives the lines that it prints.
-    pub fn execute<R: Wait>(&mut self, rt: &R, call: Call) -> Result<String, LineFault> {
+    pub fn execute<R: Threads + Wait>(&mut self, rt: &R, call: Call) -> Result<String, LineFault> {
         let text = match call {
             Call::Write { type_id, body } => self.write(rt, type_id, body.as_slice())?,
             Call::Claim { type_id, len } => self.claim(rt, type_id, len)?,
@@ -94,6 +99,7 @@ impl Runner {
                 self.board.leave(number).ok_or(LineFault::Bad)?;
                 self.ok()?
             }
+            Call::Storm { clients, commands } => self.storm(rt, clients, commands)?,
             Call::Service(call) => self.serve(rt, call)?,
         };
         Ok(text)

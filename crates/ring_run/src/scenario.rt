@@ -14,9 +14,10 @@ use crate::service::Served;
 use std::alloc::Global;
 use std::io::{Read, Write};
 use std::sync::Wait;
+use std::thread::Threads;
 
 /// Reads a scenario whole, executes its lines in order, and writes what each of them gives.
-pub fn run_scenario<R: AllocGlobal + Wait, I: Read, O: Write>(
+pub fn run_scenario<R: AllocGlobal + Threads + Wait, I: Read, O: Write>(
     rt: &R,
     alloc: Global,
     options: &Options,
@@ -46,7 +47,7 @@ pub fn run_scenario<R: AllocGlobal + Wait, I: Read, O: Write>(
 }
 
 /// Executes the lines before the line `end`, and takes that line.
-fn run_to_end<R: Wait, O: Write>(
+fn run_to_end<R: Threads + Wait, O: Write>(
     rt: &R,
     alloc: Global,
     runner: &mut Runner,
