@@ -1,8 +1,8 @@
 -- How the claims that a producer holds are aborted, one after another.
-use Rattle.std.proofs.Common.{Result, IsOk, ◌≡◌, ℕ, suc, ◌+◌, ◌-◌, ◌<◌, ◌≤◌, List, ◌∷◌, drop, length, set, Option, Some, None, MatchOption, IfNone, slice_index_or, refl, sym, ap, ◌∙◌, subst, arith, inl, inr, get_or-set_same, get_or-set_other}
+use Rattle.std.proofs.Common.{Result, IsOk, ◌≡◌, ℕ, suc, ◌+◌, ◌-◌, ◌<◌, List, ◌∷◌, drop, length, set, Option, Some, None, MatchOption, IfNone, slice_index_or, refl, sym, ap, ◌∙◌, subst, arith, inl, inr, get_or-set_same, get_or-set_other}
 use Rattle.std.proofs.Math.Seq.{drop-cons}
 use Rattle.std.proofs.lemmas.Bool.{cases_lt}
-use Rattle.std.proofs.lemmas.List.{drop-set-lt, drop_all, get_or_past, length-set}
+use Rattle.std.proofs.lemmas.List.{drop-set-lt, length-set}
 use Rattle.ring_layout.specs.declared.message.ClaimState.TheVariants.{Aborted}
 use Rattle.ring_words.specs.Open.{ClaimAt}
 use Rattle.ring_table.specs.declared.view.View.{View}
@@ -13,7 +13,7 @@ use Rattle.ring_rings.specs.declared.seats.Producer.{Producer}
 use Rattle.ring_rings.specs.declared.seats.Consumer.{Consumer}
 use Rattle.ring_rings.specs.Seats.{view_of, IsProducerOf}
 use Rattle.ring_rings.specs.Closing.{close_refusal_of, IsRefusedAs}
-use Rattle.ring_run.specs.Claims.{HasClaim, Holder, HoldsNone, HoldsNothing, SettlesAt}
+use Rattle.ring_run.specs.Claims.{HasClaim, Holder, HoldsNone, SettlesAt}
 use Rattle.ring_run.proofs.ClaimsLemmas.{same_open}
 use Rattle.ring_run.proofs.TryLemmas.{Keeps}
 use Rattle.ring_run.specs.Loose.{AreSeats, Loose, aborted_view, all_aborted, with_holder}
@@ -86,18 +86,6 @@ module _ (start : Loose) (count n : ℕ) (now : Loose) (so_far : AbortedTo start
     pub aborted_on : {T : Type 0} (r : Option T) → MatchOption r (next ≡ now) (λ _. SettlesAt Aborted now.holder (n + 1) next.holder) → IfNone r (HoldsNone now.holder.claims (n + 1)) → AbortedTo start count (n + 1) next
     aborted_on None same gone = passes same gone
     aborted_on (Some x) did gone = aborts did
-
-  module _ (done : count ≤ n) where
-    pub nothing_held : HoldsNothing now.holder.claims
-    nothing_held k = elim (cases_lt k n) as (λ _. slice_index_or now.holder.claims k None ≡ None) [
-      | inl before ↦ so_far.none k before
-      | inr past ↦ let counted = so_far.counted in get_or_past now.holder.claims k None (omega (arith, past, done, counted))
-    ]
-
-    pub view_aborted : now.holder.view ≡ aborted_view start.holder
-    view_aborted =
-        let counted = so_far.counted in
-        ap (λ l. with_claims (all_aborted l now.holder.view.producer.claims) now.holder.view) (sym (drop_all n now.holder.claims (omega (arith, done, counted)))) ∙ so_far.view
 
 -- a producer with all shares that has no open claim is not refused
 pub not_refused : {T E : Type 0} (error : CloseFault → E) (open_claims shares : ℕ) (result : Result T E) → open_claims ≡ 0 → shares ≡ 65536 → IsRefusedAs error (close_refusal_of open_claims shares) result → IsOk result
