@@ -1,4 +1,4 @@
-use Rattle.std.proofs.Common.{◌≡◌, ◌∙◌, ◌+◌, ◌<◌, ℕ, List, Option, length, arith}
+use Rattle.std.proofs.Common.{◌≡◌, ◌∙◌, ◌+◌, ◌<◌, ℕ, length, arith}
 use Rattle.ring_conductor.specs.Conducting.{transmitter_of}
 use Rattle.ring_run.specs.Receivers.{Leaves, crowd}
 use Rattle.ring_run.specs.Held.{held_count}

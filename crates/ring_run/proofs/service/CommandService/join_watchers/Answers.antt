@@ -1,4 +1,4 @@
-use Rattle.std.proofs.Common.{◌≡◌, ◌∙◌, ◌+◌, ◌<◌, ℕ, List, Option, length, arith}
+use Rattle.std.proofs.Common.{◌≡◌, ◌∙◌, ◌+◌, ◌<◌, ℕ, length, arith}
 use Rattle.ring_run.specs.Watchers.{Unwatches}
 use Rattle.ring_run.specs.Held.{held_count}
 use Rattle.ring_run.proofs.HeldLemmas.{count_none, given_up}

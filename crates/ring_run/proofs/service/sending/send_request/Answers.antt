@@ -1,4 +1,4 @@
-use Rattle.std.proofs.Common.{◌≡◌, ◌∙◌, ℕ, ◌≤◌, take, IsSome, None, refl, ap, subst, sym, arith, length, to_z, of_z, w32, true≢false}
+use Rattle.std.proofs.Common.{◌∙◌, ℕ, take, IsSome, None, refl, ap, subst, sym, arith, length, to_z, of_z, w32, true≢false}
 use Rattle.ring_rings.specs.Seats.{capacity_of, view_of}
 use Rattle.ring_conductor.specs.Command.{spelling_of, type_id_of}
 use Rattle.ring_run.proofs.RequestLemmas.{fits_any, named_refused, named_written, same_type, start_of}
