@@ -36,9 +36,23 @@ pub fn run_scenario<R: AllocGlobal + Threads + Wait, I: Read, O: Write>(
     ensures silent { IfErr result (λ fault. IsEarly fault → writer.new ≡ writer.old) }
 {
     options.test()?;
-    let mut runner = Runner::new(alloc, options)?;
+    let runner = Runner::new(alloc, options)?;
     let input = read_input(alloc, reader)?;
-    let mut lines = Lines::of(input.as_slice());
+    run_text(rt, alloc, runner, input.as_slice(), writer)
+}
+
+/// Executes the lines of a text in order, closes what the runner holds, and tells how it ended.
+fn run_text<R: Threads + Wait, O: Write>(
+    rt: &R,
+    alloc: Global,
+    mut runner: Runner,
+    text: &[u8],
+    writer: &mut O,
+) -> Result<(), RunFault>
+    ensures ended { OnOk result (IsEnded text.now) }
+    ensures late { IfErr result (λ fault. ¬ IsEarly fault) }
+{
+    let mut lines = Lines::of(text);
     let outcome = run_to_end(rt, alloc, &mut runner, &mut lines, writer);
     let ended = runner.close();
     outcome?;
