@@ -7,7 +7,7 @@ use Rattle.std.specs.List.{slice_split, onto_first, position, position_or_len}
 use Rattle.std.proofs.lemmas.Bool.{cases_lt}
 use Rattle.std.proofs.lemmas.List.Splits.{slice_split_first, slice_split_none, slice_split-cons_yes}
 use Rattle.std.proofs.lemmas.List.Sums.{fails_before_first, passes_at_first}
-use Rattle.ring_run.specs.Text.{lines_of, words_of, without_empty_end}
+use Rattle.ring_run.specs.Text.{AllBlank, IsEnded, TakesEnd, lines_of, without_empty_end, words_of}
 
 abbrev is_line_feed : ℕ → Bool
 is_line_feed byte = byte == 10
@@ -162,3 +162,8 @@ words_of-next text start end found is_end =
 -- one more was taken
 pub one_more : {X : Type 0} (all taken left : List X) (x : X) (next : List X) → all ≡ taken ++ left → left ≡ x ∷ next → all ≡ (taken ++ x ∷ []) ++ next
 one_more all taken left x next so_far cut = so_far ∙ ap (λ more. taken ++ more) cut ∙ sym (append_assoc taken (x ∷ []) next)
+
+-- a text whose lines were taken up to `end`, with blank ones behind it
+pub ended : (text old new : List ℕ) → old ≡ text → TakesEnd old new → AllBlank (lines_of new) → IsEnded text
+ended text old new same taken blank =
+    record { before = taken.before; line = taken.line; after = lines_of new; whole = ap lines_of (sym same) ∙ taken.whole; end_alone = taken.end_alone; blank = blank }

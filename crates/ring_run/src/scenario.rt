@@ -1,11 +1,11 @@
 //! Runs a scenario.
-ghost use Rattle.std.specs.Prelude.{◌≡◌, Some, IfSome, OnOk, IfErr};
+ghost use Rattle.std.specs.Prelude.{◌≡◌, ◌≤◌, length, Some, IfSome, OnOk, IfErr};
 ghost use Rattle.ring_run.specs.Faults.{IsEarly};
 ghost use Rattle.ring_run.specs.Sizes.{size_fault_of};
 ghost use Rattle.ring_run.specs.Text.{lines_of, AllBlank, IsEnded, TakesEnd};
 
 use crate::fault::RunFault;
-use crate::input::read_input;
+use crate::input::{MAX_INPUT, read_input};
 use crate::line::Line;
 use crate::lines::Lines;
 use crate::options::Options;
@@ -49,6 +49,7 @@ fn run_text<R: Threads + Wait, O: Write>(
     text: &[u8],
     writer: &mut O,
 ) -> Result<(), RunFault>
+    requires { length text.now ≤ MAX_INPUT }
     ensures ended { OnOk result (IsEnded text.now) }
     ensures late { IfErr result (λ fault. ¬ IsEarly fault) }
 {
