@@ -1,9 +1,11 @@
 //! One thread that writes a batch of messages and reads it.
+ghost use Rattle.std.specs.Prelude.{IfOk};
+
 use crate::entry::Contender;
 use crate::fault::Fault;
 use crate::message::{Body, Sum, TYPE_ID};
 use crate::request::Request;
-use crate::sample::Sample;
+use crate::sample::{Sample, nanos_since};
 use crate::shared::{Attempt, SharedRing};
 use ring_rings::{Consumer, ManyToOneRing, OneToOneRing, Producer};
 use ring_words::SoloRing;
@@ -22,10 +24,17 @@ const READS: u32 = 1_000_000;
 
 /// A ring in the hands of one thread, which writes it and reads it.
 trait Lane {
-    /// Whether the message was written.
-    fn put(&mut self, body: &[u8]) -> bool;
+    /// The seats are the ring's.
+    ghost whole: { Self → Type 0 } = { λ _. Unit {0} };
 
-    fn take(&mut self, sum: &mut Sum);
+    /// Whether the message was written.
+    fn put(&mut self, body: &[u8]) -> bool
+        requires { whole self.old }
+        ensures { whole self.new };
+
+    fn take(&mut self, sum: &mut Sum)
+        requires { whole self.old }
+        ensures { whole self.new };
 }
 
 impl Lane for SoloRing {
@@ -40,16 +49,16 @@ impl Lane for SoloRing {
 
 /// A shared ring with all its seats.
 #[derive(Drop)]
-struct Seated<R: SharedRing> {
+struct Seated<R> {
     ring: R,
     producer: Producer,
     consumer: Consumer,
-    ghost writes: { R.writes ring producer },
-    ghost reads: { R.reads ring consumer },
 }
 
 impl<R: SharedRing> Seated<R> {
-    fn open(alloc: Global, capacity: u32) -> Result<Seated<R>, Fault> {
+    fn open(alloc: Global, capacity: u32) -> Result<Seated<R>, Fault>
+        ensures { IfOk result (λ s. R.writes s.ring s.producer × R.is_consumer s.ring s.consumer) }
+    {
         let (ring, producer, consumer) = R::open(alloc, capacity)?;
         Ok(Seated {
             ring,
@@ -60,6 +69,8 @@ impl<R: SharedRing> Seated<R> {
 }
 
 impl<R: SharedRing> Lane for Seated<R> {
+    ghost whole = { λ s. R.writes s.ring s.producer × R.is_consumer s.ring s.consumer };
+
     fn put(&mut self, body: &[u8]) -> bool {
         self.ring.try_write(&mut self.producer, TYPE_ID, body) == Attempt::Written
     }
@@ -70,7 +81,10 @@ impl<R: SharedRing> Lane for Seated<R> {
 }
 
 /// Writes the messages from this number on, as many as a batch has.
-fn put_batch<L: Lane>(lane: &mut L, body: &mut Body, from: u64) -> Result<(), Fault> {
+fn put_batch<L: Lane>(lane: &mut L, body: &mut Body, from: u64) -> Result<(), Fault>
+    requires { L.whole lane.old }
+    ensures { L.whole lane.new }
+{
     for k in 0..BATCH {
         if !lane.put(body.numbered(from.wrapping_add(k))) {
             return Err(Fault::Refused);
@@ -80,7 +94,10 @@ fn put_batch<L: Lane>(lane: &mut L, body: &mut Body, from: u64) -> Result<(), Fa
 }
 
 /// Reads until so many messages came in all.
-fn take_batch<L: Lane>(lane: &mut L, sum: &mut Sum, count: u64) -> Result<(), Fault> {
+fn take_batch<L: Lane>(lane: &mut L, sum: &mut Sum, count: u64) -> Result<(), Fault>
+    requires { L.whole lane.old }
+    ensures { L.whole lane.new }
+{
     for _ in 0..READS {
         if sum.count >= count {
             return Ok(());
@@ -95,7 +112,9 @@ fn run_lane<L: Lane, R: Clock>(
     lane: &mut L,
     body: &mut Body,
     times: u64,
-) -> Result<Sample, Fault> {
+) -> Result<Sample, Fault>
+    requires { L.whole lane.old }
+{
     let mut sum = Sum::new();
     let mut number = 0u64;
     let start = Instant::now(rt)?;
@@ -104,9 +123,9 @@ fn run_lane<L: Lane, R: Clock>(
         number = number.wrapping_add(BATCH);
         take_batch(lane, &mut sum, number)?;
     }
-    let sample = Sample::since(rt, start, number)?;
+    let nanos = nanos_since(rt, start)?;
     sum.check(number)?;
-    Ok(sample)
+    Ok(Sample::new(nanos, number))
 }
 
 /// Writes and reads so many messages. `NoContender` where the contender is no ring, or the size is no multiple of 8;

@@ -1,5 +1,7 @@
 //! Why a measurement gives no figures.
-use ring_rings::MakeFault;
+use ring_board::{MakeFault as BoardFault, SubscribeFault};
+use ring_counters::{MakeFault as CountersFault, NoShares as NoValueShares};
+use ring_rings::{MakeFault, NoShares};
 use std::alloc::{AllocError, AllocFailed};
 use std::io;
 use thiserror::Error;
@@ -13,6 +15,14 @@ pub enum Fault {
     BadRequest,
     #[error("the ring cannot be made: {0}")]
     NoRing(MakeFault),
+    #[error("the board cannot be made: {0}")]
+    NoBoard(BoardFault),
+    #[error("the counters cannot be made: {0}")]
+    NoCounters(CountersFault),
+    #[error("there is no receiver: {0}")]
+    NoReceiver(SubscribeFault),
+    #[error("no shares are left")]
+    NoShares,
     #[error("no memory")]
     OutOfMemory,
     #[error("clock or output cannot be used")]
@@ -31,6 +41,36 @@ pub enum Fault {
 impl From<MakeFault> for Fault {
     fn from(fault: MakeFault) -> Fault {
         Fault::NoRing(fault)
+    }
+}
+
+impl From<BoardFault> for Fault {
+    fn from(fault: BoardFault) -> Fault {
+        Fault::NoBoard(fault)
+    }
+}
+
+impl From<CountersFault> for Fault {
+    fn from(fault: CountersFault) -> Fault {
+        Fault::NoCounters(fault)
+    }
+}
+
+impl From<SubscribeFault> for Fault {
+    fn from(fault: SubscribeFault) -> Fault {
+        Fault::NoReceiver(fault)
+    }
+}
+
+impl From<NoValueShares> for Fault {
+    fn from(_fault: NoValueShares) -> Fault {
+        Fault::NoShares
+    }
+}
+
+impl From<NoShares> for Fault {
+    fn from(_fault: NoShares) -> Fault {
+        Fault::NoShares
     }
 }
 

@@ -3,9 +3,13 @@
 #![tactic(auto)]
 
 mod batches;
+mod broadcast;
+mod counting;
 mod decimal;
 mod entry;
 mod fault;
+mod flow;
+mod gate;
 mod job;
 mod measuring;
 mod message;
@@ -13,6 +17,8 @@ mod request;
 mod rest;
 mod sample;
 mod shared;
+mod trips;
+mod watching;
 
 use entry::ENTRIES;
 use fault::Fault;

@@ -1,11 +1,16 @@
 //! Finds how much fills the time that is asked for, and measures.
 use crate::batches::run_batches;
+use crate::broadcast::run_broadcast;
+use crate::counting::run_counters;
 use crate::fault::Fault;
+use crate::flow::run_flow;
 use crate::job::Job;
 use crate::request::Request;
 use crate::sample::Sample;
+use crate::trips::run_trips;
 use std::alloc::Global;
 use std::rt::Clock;
+use std::thread::Threads;
 
 /// How often a job fills the time of a request.
 #[derive(Clone, Copy, Debug)]
@@ -45,7 +50,12 @@ impl Measurer {
     }
 
     /// Runs a job more and more often, until it takes about as long as is asked for.
-    fn fill<R: Clock>(&self, rt: &R, request: &Request, job: Job) -> Result<u64, Fault> {
+    fn fill<R: Clock + Threads + Sync>(
+        &self,
+        rt: &R,
+        request: &Request,
+        job: Job,
+    ) -> Result<u64, Fault> {
         let wanted = request.milliseconds.clamp(1, 1000) * 1_000_000;
         let mut times = job.least();
         for _ in 0..TRIES {
@@ -63,7 +73,7 @@ impl Measurer {
     }
 
     /// Runs a job so many times.
-    fn run<R: Clock>(
+    fn run<R: Clock + Threads + Sync>(
         &self,
         rt: &R,
         request: &Request,
@@ -72,12 +82,22 @@ impl Measurer {
     ) -> Result<Sample, Fault> {
         match job {
             Job::Batches => run_batches(rt, self.alloc, request, times),
-            _ => Err(Fault::NoContender),
+            Job::Trips => run_trips(rt, self.alloc, request, times),
+            Job::Flow => run_flow(rt, self.alloc, request, times),
+            Job::Broadcast => run_broadcast(rt, self.alloc, request, times),
+            Job::Sets | Job::Gets | Job::Cycles | Job::WatchedSets => {
+                run_counters(rt, self.alloc, request, job, times)
+            }
         }
     }
 
     /// Measures a job once.
-    fn measure<R: Clock>(&mut self, rt: &R, request: &Request, job: Job) -> Result<Sample, Fault> {
+    fn measure<R: Clock + Threads + Sync>(
+        &mut self,
+        rt: &R,
+        request: &Request,
+        job: Job,
+    ) -> Result<Sample, Fault> {
         let times = match self.known(request, job) {
             Some(times) => times,
             None => {
@@ -94,7 +114,11 @@ impl Measurer {
     }
 
     /// Answers a request, of which these are the words behind `run`.
-    pub fn answer<R: Clock + Print>(&mut self, rt: &R, words: &[&str]) -> Result<(), Fault> {
+    pub fn answer<R: Clock + Print + Threads + Sync>(
+        &mut self,
+        rt: &R,
+        words: &[&str],
+    ) -> Result<(), Fault> {
         let request = Request::parse(words)?;
         for job in request.workload.jobs() {
             let sample = self.measure(rt, &request, *job)?;

@@ -1,5 +1,5 @@
 //! The messages that are sent, and what is made of those that come.
-ghost use Rattle.std.specs.Prelude.{◌≡◌, ◌≤◌, vec_len};
+ghost use Rattle.std.specs.Prelude.{◌≡◌};
 ghost use Rattle.ring_words.specs.declared.action.Action.TheVariants.{Continue};
 
 use crate::fault::Fault;
@@ -19,7 +19,6 @@ const FILL: u64 = 0x0707_0707_0707_0707;
 #[derive(Drop)]
 pub struct Body {
     bytes: Vec<u8>,
-    ghost room: { 8 ≤ vec_len bytes },
 }
 
 impl Body {
@@ -34,7 +33,9 @@ impl Body {
 
     /// The bytes, with this number in front.
     pub fn numbered(&mut self, number: u64) -> &[u8] {
-        self.bytes[..WORD].copy_from_slice(&number.to_le_bytes());
+        if let Some(first) = self.bytes.first_chunk_mut::<WORD>() {
+            *first = number.to_le_bytes();
+        }
         self.bytes.as_slice()
     }
 }
@@ -85,6 +86,63 @@ impl Handler for Sum {
         self.count = self.count.wrapping_add(1);
         self.total = self.total.wrapping_add(first);
         self.stray |= stray;
+        Action::Continue
+    }
+}
+
+/// The producers that a tally knows.
+pub const PRODUCERS: usize = 4;
+
+/// The bits of a number of a message. The ones above them are its producer.
+const NUMBER_BITS: u32 = 48;
+
+/// The first word of a message.
+pub fn first_word(producer: u64, number: u64) -> u64 {
+    (producer << NUMBER_BITS) | number
+}
+
+/// Follows the messages that come from each producer.
+#[derive(Clone, Copy, Debug)]
+pub struct Tally {
+    pub count: u64,
+    next: [u64; PRODUCERS],
+    stray: u64,
+}
+
+impl Tally {
+    pub fn new() -> Tally {
+        Tally {
+            count: 0,
+            next: [0; PRODUCERS],
+            stray: 0,
+        }
+    }
+
+    /// `WrongMessage` where a message came out of turn, or not so many came.
+    pub fn check(&self, count: u64) -> Result<(), Fault> {
+        if self.count == count && self.stray == 0 {
+            Ok(())
+        } else {
+            Err(Fault::WrongMessage)
+        }
+    }
+}
+
+impl Handler for Tally {
+    ghost step = { λ _ _ _ action. action ≡ Continue };
+
+    fn on_message(&mut self, _type_id: i32, body: &[u8]) -> Action {
+        let (first, stray) = look(body).unwrap_or((u64::MAX, 1));
+        self.count = self.count.wrapping_add(1);
+        self.stray |= stray;
+        let number = first & ((1 << NUMBER_BITS) - 1);
+        match self.next.get_mut((first >> NUMBER_BITS) as usize) {
+            Some(next) => {
+                self.stray |= *next ^ number;
+                *next = number.wrapping_add(1);
+            }
+            None => self.stray = 1,
+        }
         Action::Continue
     }
 }

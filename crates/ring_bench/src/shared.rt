@@ -1,13 +1,16 @@
 //! The rings that threads share, one kind as the other.
-ghost use Rattle.std.specs.Prelude.{◌≡◌, IfOk};
+ghost use Rattle.std.specs.Prelude.{◌≡◌, [], IfOk};
 ghost use Rattle.ring_rings.specs.declared.seats.Producer.{Producer as TheProducer};
-ghost use Rattle.ring_rings.specs.declared.seats.Consumer.{Consumer as TheConsumer};
-ghost use Rattle.ring_rings.specs.Seats.{shares_of, IsProducerOf, IsConsumerOf};
+ghost use Rattle.ring_rings.specs.Seats.{shares_of, taken_of, IsProducerOf};
 
+use crate::fault::Fault;
+use crate::rest::{Rest, TRIES};
 use ring_rings::{
-    ClaimFault, Consumer, Handler, MakeFault, ManyToOneRing, OneToOneRing, Producer, TryFault,
+    ClaimFault, CommandSource, Consumer, Handler, MakeFault, ManyToOneRing, OneToOneRing, Producer,
+    TryFault,
 };
 use std::alloc::Global;
+use std::hint::spin_loop;
 
 /// What a try to write came to.
 #[derive(Clone, Copy, Debug, PartialEq, Eq)]
@@ -31,16 +34,15 @@ impl From<ClaimFault> for Attempt {
 }
 
 /// A ring that threads share.
-pub trait SharedRing: Sized {
+pub trait SharedRing: CommandSource {
     /// The producer may write into this ring.
     ghost writes: { Self → TheProducer → Type 0 };
 
-    /// The consumer reads this ring.
-    ghost reads: { Self → TheConsumer → Type 0 };
-
     /// Makes an empty ring of so many bytes, as `Ring::new` does.
     fn open(alloc: Global, capacity: u32) -> Result<(Self, Producer, Consumer), MakeFault>
-        ensures { IfOk result (λ made. writes made.0 made.1 × reads made.0 made.2) };
+        ensures producer { IfOk result (λ made. writes made.0 made.1) }
+        ensures consumer { IfOk result (λ made. Self.is_consumer made.0 made.2) }
+        ensures new { IfOk result (λ made. taken_of made.2 ≡ []) };
 
     /// Tries once to write a message.
     fn try_write(&self, producer: &mut Producer, type_id: i32, body: &[u8]) -> Attempt
@@ -54,16 +56,14 @@ pub trait SharedRing: Sized {
 
     /// Reads at most `limit` messages, and says how many it read.
     fn read<H: Handler>(&self, consumer: &mut Consumer, limit: u32, handler: &mut H) -> u32
-        requires consumer { reads self.now consumer.old }
+        requires consumer { Self.is_consumer self.now consumer.old }
         requires ready { H.ready handler.old }
-        ensures consumer { reads self.now consumer.new }
+        ensures consumer { Self.is_consumer self.now consumer.new }
         ensures ready { H.ready handler.new };
 }
 
 impl SharedRing for OneToOneRing {
     ghost writes = { λ ring producer. IsProducerOf ring producer × (shares_of producer ≡ 65536) };
-
-    ghost reads = { IsConsumerOf };
 
     fn open(alloc: Global, capacity: u32) -> Result<(Self, Producer, Consumer), MakeFault> {
         OneToOneRing::new(alloc, capacity)
@@ -88,8 +88,6 @@ impl SharedRing for OneToOneRing {
 impl SharedRing for ManyToOneRing {
     ghost writes = { IsProducerOf };
 
-    ghost reads = { IsConsumerOf };
-
     fn open(alloc: Global, capacity: u32) -> Result<(Self, Producer, Consumer), MakeFault> {
         ManyToOneRing::new(alloc, capacity)
     }
@@ -109,4 +107,27 @@ impl SharedRing for ManyToOneRing {
     fn read<H: Handler>(&self, consumer: &mut Consumer, limit: u32, handler: &mut H) -> u32 {
         ManyToOneRing::read(self, consumer, limit, handler).messages
     }
+}
+
+/// Writes a message, and waits while there is no room. `Refused` where such a message is never taken, `Stuck` where there
+/// was no room for a long time.
+pub fn send<S: SharedRing>(
+    ring: &S,
+    producer: &mut Producer,
+    type_id: i32,
+    body: &[u8],
+) -> Result<(), Fault>
+    requires { S.writes ring.now producer.old }
+    ensures { S.writes ring.now producer.new }
+{
+    let mut rest = Rest::new();
+    for _ in 0..TRIES {
+        match ring.try_write(producer, type_id, body) {
+            Attempt::Written => return Ok(()),
+            Attempt::Full => rest.wait(),
+            Attempt::Contended => spin_loop(),
+            Attempt::Refused => return Err(Fault::Refused),
+        }
+    }
+    Err(Fault::Stuck)
 }
