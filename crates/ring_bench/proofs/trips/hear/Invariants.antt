@@ -1,0 +1,5 @@
+use Rattle.ring_board.specs.Seats.{IsReceiverOf}
+use Rattle.ring_bench.proofs.trips.hear.Given as goal
+
+abbrev pub invariant-loop : goal.invariant-loop
+invariant-loop l = IsReceiverOf l.board l.receiver

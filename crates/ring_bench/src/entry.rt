@@ -1,0 +1,84 @@
+//! Workloads, and who takes part in them.
+use crate::job::Job;
+
+/// What is measured.
+#[derive(Clone, Copy, Debug, PartialEq, Eq)]
+pub enum Workload {
+    /// One thread writes a batch of messages and reads it.
+    Batches,
+    /// One producer and one consumer, each on a thread.
+    Pair,
+    /// Several producers and one consumer, each on a thread.
+    Crowd,
+    /// A client sends commands, one after another, and waits for each reply of a conductor on another thread.
+    Trips,
+    /// One transmitter and two receivers, each on a thread.
+    Broadcast,
+    /// Counters are set, read, allocated and freed.
+    Counters,
+}
+
+impl Workload {
+    /// Its name in requests.
+    pub fn name(self) -> &'static str {
+        match self {
+            Workload::Batches => "W1",
+            Workload::Pair => "W2",
+            Workload::Crowd => "W3",
+            Workload::Trips => "W4",
+            Workload::Broadcast => "W5",
+            Workload::Counters => "W6",
+        }
+    }
+
+    /// What is run for it, one after another.
+    pub fn jobs(self) -> &'static [Job] {
+        match self {
+            Workload::Batches => &[Job::Batches],
+            Workload::Pair | Workload::Crowd => &[Job::Flow],
+            Workload::Trips => &[Job::Trips],
+            Workload::Broadcast => &[Job::Broadcast],
+            Workload::Counters => &[Job::Sets, Job::Gets, Job::Cycles, Job::WatchedSets],
+        }
+    }
+}
+
+/// Who is measured.
+#[derive(Clone, Copy, Debug, PartialEq, Eq)]
+pub enum Contender {
+    /// The ring of one owner.
+    Solo,
+    /// The ring of one producer.
+    OneToOne,
+    /// The ring of many producers.
+    ManyToOne,
+    Board,
+    Counters,
+}
+
+impl Contender {
+    /// Its name in requests.
+    pub fn name(self) -> &'static str {
+        match self {
+            Contender::Solo => "ours-solo",
+            Contender::OneToOne => "ours-o2o",
+            Contender::ManyToOne => "ours-m2o",
+            Contender::Board => "ours-board",
+            Contender::Counters => "ours-counters",
+        }
+    }
+}
+
+/// Who takes part in which workload.
+pub const ENTRIES: [(Workload, Contender); 10] = [
+    (Workload::Batches, Contender::Solo),
+    (Workload::Batches, Contender::OneToOne),
+    (Workload::Batches, Contender::ManyToOne),
+    (Workload::Pair, Contender::OneToOne),
+    (Workload::Pair, Contender::ManyToOne),
+    (Workload::Crowd, Contender::ManyToOne),
+    (Workload::Trips, Contender::OneToOne),
+    (Workload::Trips, Contender::ManyToOne),
+    (Workload::Broadcast, Contender::Board),
+    (Workload::Counters, Contender::Counters),
+];

@@ -1,0 +1,148 @@
+//! The messages that are sent, and what is made of those that come.
+ghost use Rattle.std.specs.Prelude.{◌≡◌};
+ghost use Rattle.ring_words.specs.declared.action.Action.TheVariants.{Continue};
+
+use crate::fault::Fault;
+use ring_rings::{Action, Handler};
+use std::alloc::{AllocError, Global};
+
+/// The type id of all messages.
+pub const TYPE_ID: i32 = 1;
+
+/// The bytes of a word.
+const WORD: usize = 8;
+
+/// What a body has behind its first word.
+const FILL: u64 = 0x0707_0707_0707_0707;
+
+/// A body to be sent. Its first word is a number.
+#[derive(Drop)]
+pub struct Body {
+    bytes: Vec<u8>,
+}
+
+impl Body {
+    /// A body of so many bytes. `NoContender` where that is no multiple of 8, or 0.
+    pub fn new(alloc: Global, size: usize) -> Result<Body, Fault> {
+        if size < WORD || size % WORD != 0 {
+            return Err(Fault::NoContender);
+        }
+        let bytes = vec![in alloc; 7u8; size]?;
+        Ok(Body { bytes })
+    }
+
+    /// The bytes, with this number in front.
+    pub fn numbered(&mut self, number: u64) -> &[u8] {
+        if let Some(first) = self.bytes.first_chunk_mut::<WORD>() {
+            *first = number.to_le_bytes();
+        }
+        self.bytes.as_slice()
+    }
+}
+
+/// The first word of a body, and what its last word has that it should not; `None` where it has no words.
+pub fn look(body: &[u8]) -> Option<(u64, u64)> {
+    let first = u64::from_le_bytes(*body.first_chunk::<WORD>()?);
+    if body.len() == WORD {
+        return Some((first, 0));
+    }
+    let last = u64::from_le_bytes(*body.last_chunk::<WORD>()?);
+    Some((first, last ^ FILL))
+}
+
+/// Adds up the numbers of the messages that come.
+#[derive(Clone, Copy, Debug)]
+pub struct Sum {
+    pub count: u64,
+    total: u64,
+    stray: u64,
+}
+
+impl Sum {
+    pub fn new() -> Sum {
+        Sum {
+            count: 0,
+            total: 0,
+            stray: 0,
+        }
+    }
+
+    /// `WrongMessage` where not the messages with the numbers below `count` came, each once.
+    pub fn check(&self, count: u64) -> Result<(), Fault> {
+        let pairs = count.wrapping_mul(count.wrapping_sub(1)) / 2;
+        if self.count == count && self.total == pairs && self.stray == 0 {
+            Ok(())
+        } else {
+            Err(Fault::WrongMessage)
+        }
+    }
+}
+
+impl Handler for Sum {
+    ghost step = { λ _ _ _ action. action ≡ Continue };
+
+    fn on_message(&mut self, _type_id: i32, body: &[u8]) -> Action {
+        let (first, stray) = look(body).unwrap_or((0, 1));
+        self.count = self.count.wrapping_add(1);
+        self.total = self.total.wrapping_add(first);
+        self.stray |= stray;
+        Action::Continue
+    }
+}
+
+/// The producers that a tally knows.
+pub const PRODUCERS: usize = 4;
+
+/// The bits of a number of a message. The ones above them are its producer.
+const NUMBER_BITS: u32 = 48;
+
+/// The first word of a message.
+pub fn first_word(producer: u64, number: u64) -> u64 {
+    (producer << NUMBER_BITS) | number
+}
+
+/// Follows the messages that come from each producer.
+#[derive(Clone, Copy, Debug)]
+pub struct Tally {
+    pub count: u64,
+    next: [u64; PRODUCERS],
+    stray: u64,
+}
+
+impl Tally {
+    pub fn new() -> Tally {
+        Tally {
+            count: 0,
+            next: [0; PRODUCERS],
+            stray: 0,
+        }
+    }
+
+    /// `WrongMessage` where a message came out of turn, or not so many came.
+    pub fn check(&self, count: u64) -> Result<(), Fault> {
+        if self.count == count && self.stray == 0 {
+            Ok(())
+        } else {
+            Err(Fault::WrongMessage)
+        }
+    }
+}
+
+impl Handler for Tally {
+    ghost step = { λ _ _ _ action. action ≡ Continue };
+
+    fn on_message(&mut self, _type_id: i32, body: &[u8]) -> Action {
+        let (first, stray) = look(body).unwrap_or((u64::MAX, 1));
+        self.count = self.count.wrapping_add(1);
+        self.stray |= stray;
+        let number = first & ((1 << NUMBER_BITS) - 1);
+        match self.next.get_mut((first >> NUMBER_BITS) as usize) {
+            Some(next) => {
+                self.stray |= *next ^ number;
+                *next = number.wrapping_add(1);
+            }
+            None => self.stray = 1,
+        }
+        Action::Continue
+    }
+}
