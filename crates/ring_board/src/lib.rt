@@ -1,7 +1,6 @@
 //! A broadcast buffer: one transmitter that never waits, and receivers that learn when they missed something.
 #![tactic(auto)]
 
-mod body_words;
 mod copying;
 mod fault;
 mod found;

@@ -1,10 +1,10 @@
 //! Raw receivers.
 ghost use Rattle.std.specs.Prelude.{◌≡◌, ◌==◌, ℕ, ◌+◌, ◌≤◌, true, length, take, drop, IfOk, OnErr, MatchResult, MatchOption};
 
-use crate::body_words::put_part;
 use crate::fault::{Lapped, NoShares};
 use crate::seats::{Board, RawRecord, Receiver, Transmitter};
 use crate::view::BoardSeat;
+use ring_layout::put_part;
 
 impl Board {
     ghost use Rattle.ring_board.specs.Runs.{AreRuns};

@@ -9,10 +9,10 @@ ghost use Rattle.ring_board.specs.Records.{announced, body_len, word_count, is_p
 ghost use Rattle.ring_board.specs.Steps.{IsSound};
 ghost use Rattle.ring_board.specs.Receiving.{FoundIs, NearIs, IsInside, CopiedWords, TookAll, TookNone, GotNothing, GotCopy, GotRecord, GotMiss};
 
-use crate::body_words::put_word;
 use crate::found::{Found, Front, Miss};
 use crate::seats::{Board, RawRecord};
 use crate::view::BoardSeat;
+use ring_layout::put_word;
 use ring_layout::record_descriptor::{HEADER_LENGTH, unpack_header};
 
 /// The bytes that a header announces, its own among them.

@@ -1,5 +1,6 @@
 //! A board, and those who work on it.
-ghost use Rattle.std.specs.Prelude.{◌≡◌, ℕ, ◌+◌, ◌*◌, ◌/◌, ◌%◌, ◌^◌, ◌<◌, ◌≤◌, pos, ◌≤ℤ◌, [], length, vec_len};
+ghost use Rattle.std.specs.Prelude.{◌≡◌, ℕ, ◌+◌, ◌*◌, ◌/◌, ◌%◌, ◌^◌, ◌<◌, ◌≤◌, pos, ◌≤ℤ◌, [], length, vec_len, IsTrue};
+ghost use Rattle.std.specs.Int.{is_power_of_two};
 ghost use Rattle.ring_layout.specs.History.{IsMessage, span};
 ghost use Rattle.ring_layout.specs.Places.{max_position, next_place};
 ghost use Rattle.ring_board.specs.declared.view.Stage.TheVariants.{Idle, Written, Resting};
@@ -19,6 +20,7 @@ pub struct Board {
     ghost key: { table.shared.key.capacity ≡ capacity },
     ghost wide: { (table.shared.table_id.words ≡ capacity / 8 + 16) × (table.shared.table_id.slots ≡ 0) × (vec_len words ≡ capacity / 8 + 16) },
     ghost lawful: { (256 ≤ capacity) × (capacity ≤ 2 ^ 24) × (capacity % 64 ≡ 0) },
+    ghost power: { IsTrue (is_power_of_two capacity) },
 }
 
 /// The one who transmits on a board.

@@ -16,14 +16,14 @@ use crate::view::BoardSeat;
 use ring_layout::broadcast_buffer_descriptor::{
     LATEST_COUNTER_WORD, TAIL_COUNTER_WORD, TAIL_INTENT_COUNTER_WORD,
 };
-use ring_layout::first_word;
+use ring_layout::{first_word, word_index};
 
 impl Board {
     /// The index of the word at a position.
     pub(crate) fn index(&self, position: u64) -> usize
         ensures { (result ≡ index self.now.capacity position) × (result < self.now.capacity / 8) }
     {
-        (position % u64::from(self.capacity) / 8) as usize
+        word_index(self.capacity, position)
     }
 
     /// The index of a word of the trailer.

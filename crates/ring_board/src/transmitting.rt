@@ -13,9 +13,9 @@ ghost use Rattle.ring_board.specs.Seats.{capacity_of, view_of, tail_of, shares_o
 use crate::fault::TransmitFault;
 use crate::seats::{BeginRefused, Begun, Board, Filled, Transmitter};
 use crate::view::BoardSeat;
-use ring_layout::max_message;
 use ring_layout::record_descriptor::{HEADER_LENGTH, PADDING_MSG_TYPE_ID, pack_header};
 use ring_layout::ring_buffer_descriptor::MAX_POSITION;
+use ring_layout::{byte_index, max_message};
 
 /// Where a record goes.
 #[derive(Clone, Copy)]
@@ -57,8 +57,7 @@ impl Board {
             return Err(TransmitFault::TooLong { len, max });
         }
         let span = (HEADER_LENGTH + len).next_multiple_of(8) as u64;
-        let capacity = u64::from(self.capacity);
-        let room = capacity - tail % capacity;
+        let room = u64::from(self.capacity) - byte_index(self.capacity, tail);
         let place = if span <= room { tail } else { tail + room };
         let end = place + span;
         if end > MAX_POSITION {

@@ -1,18 +1,9 @@
 //! Bytes in words, little-endian.
 ghost use Rattle.std.specs.Prelude.{◌≡◌, ℕ, ◌+◌, ◌*◌, ◌/◌, ◌<◌, ◌≤◌, length, slice_index};
-ghost use Rattle.std.specs.Int.{from_le_bytes, w64};
 ghost use Rattle.ring_counters.specs.Counter.{word_of_bytes};
 ghost use Rattle.ring_counters.specs.Records.{byte_at};
 
-/// The first 8 bytes as a word, with zeros where there are fewer.
-fn first_word(bytes: &[u8]) -> u64
-    ensures { result ≡ from_le_bytes w64 bytes.now }
-{
-    let len = bytes.len().min(8);
-    let mut padded = [0; 8];
-    padded[..len].copy_from_slice(&bytes[..len]);
-    u64::from_le_bytes(padded)
-}
+use ring_layout::first_word;
 
 /// Stores bytes from the word `at` on, with zeros up to the end of their last word.
 pub(crate) fn store_bytes(words: &mut [u64], at: usize, bytes: &[u8])

@@ -1,7 +1,8 @@
 //! Where a record may go.
 ghost use Rattle.std.specs.Prelude.{◌≡◌, ℕ, ◌+◌, ◌-◌, ◌*◌, ◌/◌, ◌%◌, ◌^◌, ◌<◌, ◌≤◌, ◌↔◌, IsTrue, true, false, List, [], ◌∷◌, ◌++◌, length, slice_index};
 ghost use Rattle.ring_layout.specs.History.{Claim, span, span_of, IsMessage};
-ghost use Rattle.ring_layout.specs.Places.{is_capacity, IsCapacity, max_position, next_place, end_after, end_of, Fits};
+ghost use Rattle.std.specs.Int.{is_power_of_two};
+ghost use Rattle.ring_layout.specs.Places.{is_capacity, IsCapacity, index, max_position, next_place, end_after, end_of, Fits};
 ghost use Rattle.ring_layout.specs.Headers.{padding_header};
 ghost use Rattle.ring_layout.specs.Picture.{claim_word, word_at};
 
@@ -23,6 +24,23 @@ pub fn max_message(capacity: u32) -> u32
     capacity / 8
 }
 
+/// The byte index of a position, in bytes, in a buffer whose capacity is a power of two.
+pub fn byte_index(capacity: u32, position: u64) -> u64
+    requires { IsTrue (is_power_of_two capacity) }
+    ensures { result ≡ position % capacity }
+{
+    // The mask is what the remainder is, without a division.
+    position & u64::from(capacity - 1)
+}
+
+/// The index of the word at a position, in bytes, in a buffer whose capacity is a power of two.
+pub fn word_index(capacity: u32, position: u64) -> usize
+    requires { IsTrue (is_power_of_two capacity) }
+    ensures { result ≡ index capacity position }
+{
+    byte_index(capacity, position) as usize / 8
+}
+
 /// The bytes of padding that a record with `len` bytes of body needs at this tail, and the record's span: the bytes
 /// that it takes. Padding goes up to the end of the buffer, where the record would cross that.
 pub fn pad_and_span(capacity: u32, tail: u64, len: usize) -> (u64, u64)
@@ -33,9 +51,8 @@ pub fn pad_and_span(capacity: u32, tail: u64, len: usize) -> (u64, u64)
     ensures place { tail + result.0 ≡ next_place capacity tail (span len) }
     ensures span { result.1 ≡ span len }
 {
-    let capacity = u64::from(capacity);
     let span = (HEADER_LENGTH + len).next_multiple_of(8) as u64;
-    let room = capacity - tail % capacity;
+    let room = u64::from(capacity) - byte_index(capacity, tail);
     (if span <= room { 0 } else { room }, span)
 }
 

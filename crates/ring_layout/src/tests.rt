@@ -1,6 +1,7 @@
 use crate::{
-    align8, fits, get_byte_word, is_capacity, max_message, pack_header, pad_and_span,
-    put_bytes_word, unpack_header, word_depends_on_one_claim,
+    align8, byte_index, first_word, fits, get_byte_word, is_capacity, max_message, pack_header,
+    pad_and_span, put_bytes_word, put_part, put_word, unpack_header, word_depends_on_one_claim,
+    word_index,
 };
 
 #[test]
@@ -42,4 +43,27 @@ fn puts_bytes_into_a_word(rt: HostRuntime) {
     let word = put_bytes_word(0, 3, &[0xAA, 0xBB]);
     assert_eq!(rt; word, 0x0000_00BB_AA00_0000);
     assert_eq!(rt; get_byte_word(word, 4), 0xBB);
+}
+
+#[test]
+fn wraps_positions(rt: HostRuntime) {
+    let capacity = 128;
+    assert!(rt; is_capacity(capacity));
+    assert_eq!(rt; byte_index(capacity, 296), 40);
+    assert_eq!(rt; word_index(capacity, 296), 5);
+    assert_eq!(rt; word_index(capacity, 256), 0);
+    assert_eq!(rt; word_index(capacity, 120), 15);
+}
+
+#[test]
+fn writes_words_over_bytes(rt: HostRuntime) {
+    let mut bytes = [9; 11];
+    put_word(&mut bytes, 1, 0x0807_0605_0403_0201);
+    assert_eq!(rt; bytes, [9, 1, 2, 3, 4, 5, 6, 7, 8, 9, 9]);
+    put_part(&mut bytes, 9, 0x0807_0605_0403_0201);
+    assert_eq!(rt; bytes, [9, 1, 2, 3, 4, 5, 6, 7, 8, 1, 2]);
+    put_part(&mut bytes, 3, 0);
+    assert_eq!(rt; bytes, [9, 1, 2, 0, 0, 0, 0, 0, 0, 0, 0]);
+    assert_eq!(rt; first_word(&bytes), 0x0002_0109);
+    assert_eq!(rt; first_word(&bytes[..2]), 0x0109);
 }

@@ -1,5 +1,5 @@
 //! Bytes inside a word, the first one lowest.
-ghost use Rattle.std.specs.Prelude.{◌≡◌, ◌+◌, ◌*◌, ◌/◌, ◌%◌, ◌^◌, ◌<◌, ◌≤◌, length};
+ghost use Rattle.std.specs.Prelude.{◌≡◌, ◌+◌, ◌-◌, ◌*◌, ◌/◌, ◌%◌, ◌^◌, ◌<◌, ◌≤◌, length, take};
 ghost use Rattle.std.specs.Int.{from_le_bytes, to_le_bytes, w64};
 ghost use Rattle.ring_layout.specs.History.{overwritten};
 
@@ -17,10 +17,41 @@ pub fn put_bytes_word(word: u64, at: usize, bytes: &[u8]) -> u64
 pub fn first_word(bytes: &[u8]) -> u64
     ensures { result ≡ from_le_bytes w64 bytes.now }
 {
-    let len = bytes.len().min(8);
+    match bytes.first_chunk::<8>() {
+        Some(chunk) => u64::from_le_bytes(*chunk),
+        None => padded_word(bytes),
+    }
+}
+
+/// Fewer than 8 bytes as a little-endian word, with zeros behind them.
+fn padded_word(bytes: &[u8]) -> u64
+    requires { length bytes.now < 8 }
+    ensures { result ≡ from_le_bytes w64 bytes.now }
+{
     let mut padded = [0; 8];
-    padded[..len].copy_from_slice(&bytes[..len]);
+    padded[..bytes.len()].copy_from_slice(bytes);
     u64::from_le_bytes(padded)
+}
+
+/// Writes the 8 bytes of a word over those from `at` on.
+pub fn put_word(bytes: &mut [u8], at: usize, word: u64)
+    requires { at + 8 ≤ length bytes.old }
+    ensures { bytes.new ≡ overwritten at (to_le_bytes w64 word) bytes.old }
+{
+    bytes[at..at + 8].copy_from_slice(&word.to_le_bytes());
+}
+
+/// Writes the bytes of a word over those from `at` on, as far as there are bytes to write over.
+pub fn put_part(bytes: &mut [u8], at: usize, word: u64)
+    requires { at ≤ length bytes.old }
+    ensures { bytes.new ≡ overwritten at (take (length bytes.old - at) (to_le_bytes w64 word)) bytes.old }
+{
+    let room = bytes.len() - at;
+    if room >= 8 {
+        put_word(bytes, at, word);
+    } else {
+        bytes[at..].copy_from_slice(&word.to_le_bytes()[..room]);
+    }
 }
 
 /// The byte `at` of a word, 0 to 7.

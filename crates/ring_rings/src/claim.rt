@@ -1,4 +1,5 @@
 //! Claims in the hands of producers.
+use ring_layout::byte_index;
 use ring_layout::record_descriptor::HEADER_LENGTH;
 use ring_table::Wanted;
 use std::marker::Model;
@@ -31,7 +32,7 @@ impl Claim {
     {
         Claim {
             place,
-            index: (place % u64::from(capacity)) as u32 + HEADER_LENGTH as u32,
+            index: byte_index(capacity, place) as u32 + HEADER_LENGTH as u32,
             type_id: wanted.type_id,
             len: wanted.len,
         }

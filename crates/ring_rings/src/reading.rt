@@ -14,6 +14,7 @@ ghost use Rattle.ring_rings.specs.Reading.{Controls, IsBlocked, Reads};
 ghost use Rattle.ring_rings.specs.ReadingSteps.{IsAt, Settles, heeded};
 
 use crate::seats::{Consumer, Ring};
+use ring_layout::byte_index;
 use ring_words::{Action, Handler, ReadEnd, Stop};
 use turn::Turn;
 
@@ -22,7 +23,7 @@ impl<K> Ring<K> {
     fn is_block_end(&self, start: u64, scan: u64) -> bool
         ensures { result ≡ (nat_lt start scan && scan % capacity_of self.now == 0) }
     {
-        start < scan && scan % u64::from(self.capacity) == 0
+        start < scan && byte_index(self.capacity, scan) == 0
     }
 
     /// Ends a read that began at the head `start` and has come to `scan`: clears what it passed, and stores the head.

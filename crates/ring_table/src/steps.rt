@@ -5,7 +5,6 @@ pub mod seats;
 pub mod service;
 
 ghost use Rattle.std.specs.Prelude.{◌≡◌, ◌+◌, ◌/◌, ◌<◌};
-ghost use Rattle.ring_layout.specs.Places.{index};
 
 use crate::rule::RingRule;
 use crate::view::{Key, View, Wanted};
@@ -23,12 +22,4 @@ fn trailer_word(capacity: u32, word: usize) -> usize
     ensures { result ≡ capacity / 8 + word }
 {
     capacity as usize / 8 + word
-}
-
-/// The index of the word at a position.
-fn word_at(capacity: u32, position: u64) -> usize
-    requires { 0 < capacity }
-    ensures { result ≡ index capacity position }
-{
-    (position % u64::from(capacity)) as usize / 8
 }

@@ -1,12 +1,12 @@
 -- The body of the record at the head, from the words.
-use Rattle.std.proofs.Common.{◌≡◌, ℕ, ◌+◌, ◌-◌, ◌*◌, ◌/◌, ◌%◌, ◌^◌, ◌<◌, ◌≤◌, List, ◌∷◌, length, drop, slice_index, ap, sym, ◌∙◌, arith, inl, inr, ℤ}
-use Rattle.std.specs.Int.{from_le_bytes, w64}
+use Rattle.std.proofs.Common.{◌≡◌, ℕ, ◌+◌, ◌-◌, ◌*◌, ◌/◌, ◌%◌, ◌^◌, ◌<◌, ◌≤◌, List, ◌∷◌, length, take, drop, slice_index, ap, sym, ◌∙◌, arith, inl, inr, min, ℤ}
+use Rattle.std.specs.Int.{from_le_bytes, to_le_bytes, w64}
 use Rattle.std.proofs.lemmas.Bool.{cases_lt, ne_eqb, cond-false}
-use Rattle.std.proofs.lemmas.List.{ext_get_or, get_or-drop, get_or_past}
+use Rattle.std.proofs.lemmas.List.{ext_get_or, get_or-drop, get_or-take, get_or_past, length-take}
 use Rattle.std.proofs.lemmas.List.Elements.{All-head, All-get_or}
 use Rattle.ring_layout.specs.declared.message.Claim.{Claim}
 use Rattle.ring_layout.specs.declared.message.Message.{Message}
-use Rattle.ring_layout.specs.History.{IsMessage, span_of}
+use Rattle.ring_layout.specs.History.{IsMessage, overwritten, span_of}
 use Rattle.ring_layout.specs.Places.{next_place}
 use Rattle.ring_layout.specs.Picture.{claim_word}
 use Rattle.ring_words.specs.Ring.{Ring, Has, IsRing, head_of}
@@ -15,7 +15,33 @@ use Rattle.ring_layout.proofs.Laps.{index_step}
 use Rattle.ring_layout.proofs.CapacityLemmas.{capacity_blocks}
 use Rattle.ring_layout.proofs.PlaceLemmas.{next_within, span_bounds}
 use Rattle.ring_layout.proofs.PictureLemmas.{word_at_record}
-use Rattle.ring_layout.proofs.WordBytes.{byte_of_word}
+use Rattle.ring_layout.proofs.WordBytes.{byte_of_bytes, byte_of_word, length-overwritten, overwritten_before, overwritten_inside}
+
+-- the first n bytes are those of the words from `at` on
+abbrev pub CopiesWords : List ℕ → ℕ → ℕ → List ℕ → Type 0
+CopiesWords words at n bytes = (j : ℕ) → j < n → j < length bytes → slice_index bytes j ≡ slice_index words (at + j / 8) / 2 ^ (8 * (j % 8)) % 256
+
+pub one_more_copied : (words old new : List ℕ) (at k word : ℕ) → 8 * k < length old → new ≡ overwritten (8 * k) (take (length old - 8 * k) (to_le_bytes w64 word)) old
+    → word ≡ slice_index words (at + k) → CopiesWords words at (8 * k) old → (length new ≡ length old) × CopiesWords words at (8 * k + 8) new
+one_more_copied words old new at k word lt is told before =
+    let part : List ℕ = take (length old - 8 * k) (to_le_bytes w64 word) in
+    let part_len : length part ≡ min (length old - 8 * k) 8 = length-take (length old - 8 * k) (to_le_bytes w64 word) in
+    let room : 8 * k + length part ≤ length old = omega arith in
+    let len : length new ≡ length old = ap length is ∙ length-overwritten (8 * k) part old room in (
+      len,
+      λ j below inside. ap (λ l. slice_index l j) is ∙ elim (cases_lt j (8 * k)) as (λ _. slice_index (overwritten (8 * k) part old) j ≡ slice_index words (at + j / 8) / 2 ^ (8 * (j % 8)) % 256) [
+        | inl early ↦ overwritten_before (8 * k) part old j room early ∙ before j early (omega arith)
+        | inr late ↦
+            let quotient : j / 8 ≡ k = omega arith in
+            let remainder : j % 8 ≡ j - 8 * k = omega arith in
+            overwritten_inside (8 * k) part old j room late (omega arith)
+            ∙ get_or-take (length old - 8 * k) (to_le_bytes w64 word) (j - 8 * k) 0 (omega arith)
+            ∙ byte_of_bytes word (j - 8 * k) (omega arith)
+            ∙ ap (λ w. w / 2 ^ (8 * (j - 8 * k)) % 256) told
+            ∙ ap (λ i. slice_index words (at + k) / 2 ^ (8 * i) % 256) (sym remainder)
+            ∙ ap (λ i. slice_index words (at + i) / 2 ^ (8 * (j % 8)) % 256) (sym quotient)
+      ],
+    )
 
 module _ (r : Ring) (c : Claim) (rest : List Claim) (ok : IsRing r) (has : Has r (c ∷ rest)) (at : IsAtHead r c) where
   lawful : IsMessage r.capacity c.message

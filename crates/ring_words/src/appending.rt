@@ -7,9 +7,9 @@ ghost use Rattle.ring_words.specs.Change.{AppendsClaim, opened, written};
 ghost use Rattle.ring_words.specs.Storing.{IsAdmitted, padded};
 
 use crate::words::store_body;
-use ring_layout::pack_header;
 use ring_layout::record_descriptor::{HEADER_LENGTH, PADDING_MSG_TYPE_ID};
 use ring_layout::ring_buffer_descriptor::TAIL_POSITION_WORD;
+use ring_layout::{pack_header, word_index};
 
 /// Where a record may go: it is claimed from `tail` on, lies at `place` and ends at `end`.
 #[derive(Clone, Copy)]
@@ -28,14 +28,10 @@ fn store_headers(words: &mut [u64], capacity: u32, admission: Admission, header:
     ensures { words.new ≡ slice_set (padded capacity admission.tail admission.place words.old) (index capacity admission.place) header }
 {
     let Admission { tail, place, .. } = admission;
-    let capacity = u64::from(capacity);
     if place > tail {
-        words[(tail % capacity / 8) as usize] = pack_header(
-            (place - tail) as i32,
-            PADDING_MSG_TYPE_ID,
-        );
+        words[word_index(capacity, tail)] = pack_header((place - tail) as i32, PADDING_MSG_TYPE_ID);
     }
-    words[(place % capacity / 8) as usize] = header;
+    words[word_index(capacity, place)] = header;
 }
 
 /// Appends an open claim to the words of a ring. The words behind the tail are 0, and so is its body.
@@ -75,7 +71,7 @@ pub(crate) fn append_message(
 {
     let header = pack_header((HEADER_LENGTH + body.len()) as i32, type_id);
     store_headers(words, capacity, admission, header);
-    let at = (admission.place % u64::from(capacity) / 8) as usize;
+    let at = word_index(capacity, admission.place);
     store_body(words, at + 1, body);
     words[capacity as usize / 8 + TAIL_POSITION_WORD] = admission.end;
 }

@@ -7,7 +7,7 @@ pub struct SoloClaim {
     place: u64,
     index: u32,
     type_id: i32,
-    len: usize,
+    body_len: usize,
 }
 
 impl Model for SoloClaim {
@@ -15,7 +15,7 @@ impl Model for SoloClaim {
 
     ghost Value = { ClaimAt };
 
-    ghost view = { λ c. record { place = c.place; index = c.index; type_id = c.type_id; len = c.len } };
+    ghost view = { λ c. record { place = c.place; index = c.index; type_id = c.type_id; len = c.body_len } };
 }
 
 impl SoloClaim {
@@ -28,7 +28,7 @@ impl SoloClaim {
             place,
             index,
             type_id,
-            len,
+            body_len: len,
         }
     }
 
@@ -57,13 +57,13 @@ impl SoloClaim {
     pub fn len(&self) -> usize
         ensures { result ≡ self.now.len }
     {
-        self.len
+        self.body_len
     }
 
     /// Tests whether its body has no byte.
     pub fn is_empty(&self) -> bool
         ensures { IsTrue result ↔ (self.now.len ≡ 0) }
     {
-        self.len == 0
+        self.len() == 0
     }
 }

@@ -12,7 +12,7 @@ use crate::handler::Handler;
 use crate::words::{clear, load_body};
 use ring_layout::record_descriptor::HEADER_LENGTH;
 use ring_layout::ring_buffer_descriptor::HEAD_POSITION_WORD;
-use ring_layout::unpack_header;
+use ring_layout::{unpack_header, word_index};
 
 /// The header of a settled record.
 #[derive(Clone, Copy)]
@@ -27,7 +27,7 @@ pub(crate) fn settled_at_head(words: &[u64], capacity: u32) -> Option<Settled>
     ensures { (h : List Claim) → Has (ring capacity words.now) h → Sees (ring capacity words.now) h result }
 {
     let head = words[capacity as usize / 8 + HEAD_POSITION_WORD];
-    let (len, type_id) = unpack_header(words[(head % u64::from(capacity) / 8) as usize]);
+    let (len, type_id) = unpack_header(words[word_index(capacity, head)]);
     if len > 0 {
         Some(Settled {
             len: len as u32,
@@ -46,7 +46,7 @@ pub(crate) fn load_at_head(words: &[u64], capacity: u32, body: &mut [u8])
         → length c.message.body ≡ length body.new → body.new ≡ c.message.body }
 {
     let head = words[capacity as usize / 8 + HEAD_POSITION_WORD];
-    load_body(words, (head % u64::from(capacity) / 8) as usize + 1, body);
+    load_body(words, word_index(capacity, head) + 1, body);
 }
 
 /// Shows the message at the head to the handler, from a copy.
@@ -84,10 +84,6 @@ pub(crate) fn take_at_head(words: &mut [u64], capacity: u32, settled: Settled)
     let trailer = capacity as usize / 8;
     let head = words[trailer + HEAD_POSITION_WORD];
     let span = settled.len.next_multiple_of(8);
-    clear(
-        words,
-        (head % u64::from(capacity) / 8) as usize,
-        span as usize / 8,
-    );
+    clear(words, word_index(capacity, head), span as usize / 8);
     words[trailer + HEAD_POSITION_WORD] = head + u64::from(span);
 }

@@ -4,7 +4,7 @@ ghost use Rattle.std.specs.Int.{from_le_bytes, w64};
 ghost use Rattle.ring_layout.specs.History.{overwritten};
 ghost use Rattle.ring_words.specs.Storing.{HoldsBody};
 
-use ring_layout::{first_word, put_bytes_word};
+use ring_layout::{first_word, put_bytes_word, put_part};
 
 /// Stores a body from the word `at` on, with zeros up to the end of its last word.
 pub(crate) fn store_body(words: &mut [u64], at: usize, body: &[u8])
@@ -40,8 +40,8 @@ pub(crate) fn load_body(words: &[u64], at: usize, body: &mut [u8])
     requires { at + (length body.old + 7) / 8 ≤ length words.now }
     ensures { (k : ℕ) → k < length body.new → slice_index body.new k ≡ slice_index words.now (at + k / 8) / 2 ^ (8 * (k % 8)) % 256 }
 {
-    for (k, byte) in body.iter_mut().enumerate() {
-        *byte = ((words[at + k / 8] >> (8 * (k % 8))) & 0xff) as u8;
+    for k in 0..body.len().div_ceil(8) {
+        put_part(body, 8 * k, words[at + k]);
     }
 }
 

@@ -1,13 +1,12 @@
 //! Loads of a running read.
 ghost use Rattle.std.specs.Prelude.{◌≡◌, ◌≢◌, ℕ, ◌+◌, ◌*◌, ◌/◌, ◌<◌, ◌≤◌, List, [], ◌∷◌, ◌++◌, length, take, All, true};
-ghost use Rattle.std.specs.Int.{to_le_bytes, w64};
-ghost use Rattle.ring_layout.specs.History.{overwritten};
 ghost use Rattle.ring_layout.specs.Places.{max_position};
 ghost use Rattle.ring_table.specs.declared.claim.PlacedMessage.{PlacedMessage};
 ghost use Rattle.ring_table.specs.Seats.{IsSameSeat, IsSeatOf};
 ghost use Rattle.ring_table.specs.ConsumerSteps.{LoadsHeader};
 ghost use Rattle.ring_rings.specs.ReadingSteps.{CopiesBody, HasGotLast, IsAt, OnlyLoads};
 
+use ring_layout::put_word;
 use ring_layout::record_descriptor::HEADER_LENGTH;
 use ring_table::{RingSeat, SharedRing, load_body_word, load_first_header, load_next_header};
 
@@ -32,14 +31,6 @@ pub(super) fn load_header(
     } else {
         load_next_header(ring, seat, capacity, scan)
     }
-}
-
-/// Writes the bytes of a word over those from `at` on.
-fn put_word(bytes: &mut [u8], at: usize, word: u64)
-    requires { at + 8 ≤ length bytes.old }
-    ensures { bytes.new ≡ overwritten at (to_le_bytes w64 word) bytes.old }
-{
-    bytes[at..at + 8].copy_from_slice(&word.to_le_bytes());
 }
 
 /// Copies the body of the message that the read got last to the front of the scratch.

@@ -8,8 +8,9 @@ ghost use Rattle.ring_table.specs.Seats.{IsSameSeat, IsSeatOf};
 use crate::plays::consumer::{
     ClearWord, LoadBody, LoadFirstHeader, LoadNextHeader, StoreHead, StoreHeadBefore,
 };
-use crate::steps::{RingSeat, SharedRing, trailer_word, word_at};
+use crate::steps::{RingSeat, SharedRing, trailer_word};
 use ring_layout::ring_buffer_descriptor::HEAD_POSITION_WORD;
+use ring_layout::word_index;
 
 /// Loads the header at the head, as a read begins. What an earlier read got beyond the head is forgotten.
 pub fn load_first_header(
@@ -25,7 +26,7 @@ pub fn load_first_header(
     ensures seat { IsSameSeat consumer.old consumer.new }
     ensures told { LoadsHeader capacity head consumer.old.me.0.consumer.taken consumer.old.me.0 result consumer.new.me.0 }
 {
-    ring.load::<LoadFirstHeader>(consumer, word_at(capacity, head))
+    ring.load::<LoadFirstHeader>(consumer, word_index(capacity, head))
 }
 
 /// Loads the header where the running read has come to.
@@ -37,7 +38,7 @@ pub fn load_next_header(ring: &SharedRing, consumer: &mut RingSeat, capacity: u3
     ensures seat { IsSameSeat consumer.old consumer.new }
     ensures told { LoadsHeader capacity scan consumer.old.me.0.consumer.got consumer.old.me.0 result consumer.new.me.0 }
 {
-    ring.load::<LoadNextHeader>(consumer, word_at(capacity, scan))
+    ring.load::<LoadNextHeader>(consumer, word_index(capacity, scan))
 }
 
 /// Loads the word at a position, which tells what a message that the running read has got has there.
@@ -53,7 +54,7 @@ pub fn load_body_word(
     ensures view { consumer.new.me.0 ≡ logged (index capacity position) result consumer.old.me.0 }
     ensures told { LoadsBody (index capacity position) consumer.old.me.0 result }
 {
-    ring.load::<LoadBody>(consumer, word_at(capacity, position))
+    ring.load::<LoadBody>(consumer, word_index(capacity, position))
 }
 
 /// Sets the next word that the read has passed to 0.
@@ -65,7 +66,7 @@ pub fn clear_word(ring: &SharedRing, consumer: &mut RingSeat, capacity: u32, cle
     ensures seat { IsSameSeat consumer.old consumer.new }
     ensures told { ClearsWord consumer.old.me.0 consumer.new.me.0 }
 {
-    ring.store::<ClearWord>(consumer, word_at(capacity, cleared), 0);
+    ring.store::<ClearWord>(consumer, word_index(capacity, cleared), 0);
 }
 
 /// Stores the head behind all that the read has passed, which is cleared.

@@ -13,11 +13,11 @@ use crate::plays::producer::{
     LoadHead, LoadOwn, LoadTail, MoveOwnTail, MoveTail, StoreAborted, StoreBody, StoreClaimed,
     StoreCommitted, StorePadding,
 };
-use crate::steps::{RingSeat, SharedRing, trailer_word, word_at};
+use crate::steps::{RingSeat, SharedRing, trailer_word};
 use crate::view::Wanted;
-use ring_layout::pack_header;
 use ring_layout::record_descriptor::{HEADER_LENGTH, PADDING_MSG_TYPE_ID};
 use ring_layout::ring_buffer_descriptor::{HEAD_POSITION_WORD, TAIL_POSITION_WORD};
+use ring_layout::{pack_header, word_index};
 
 /// Loads the tail, in bytes. A producer that has all shares finds the tail that it has seen.
 pub fn load_tail(ring: &SharedRing, producer: &mut RingSeat, capacity: u32) -> u64
@@ -90,7 +90,7 @@ pub fn store_padding_header(
     ensures rising { AreRising producer.old.me.0.producer.claims }
 {
     let header = pack_header((place - from) as i32, PADDING_MSG_TYPE_ID);
-    ring.store::<StorePadding>(producer, word_at(capacity, from), header);
+    ring.store::<StorePadding>(producer, word_index(capacity, from), header);
 }
 
 /// Stores the header of a claim of `len` bytes, its length negated. The claim is open from then on, with zeros for its
@@ -111,7 +111,7 @@ pub fn store_claimed_header(
 {
     let len = (HEADER_LENGTH + wanted.len) as i32;
     let header = pack_header(-len, wanted.type_id);
-    ring.store::<StoreClaimed>(producer, word_at(capacity, place), header);
+    ring.store::<StoreClaimed>(producer, word_index(capacity, place), header);
 }
 
 /// Stores the header of a claim that is committed.
@@ -130,7 +130,7 @@ pub fn store_committed_header(
     ensures rising { AreRising producer.old.me.0.producer.claims }
 {
     let header = pack_header((HEADER_LENGTH + wanted.len) as i32, wanted.type_id);
-    ring.store::<StoreCommitted>(producer, word_at(capacity, place), header);
+    ring.store::<StoreCommitted>(producer, word_index(capacity, place), header);
 }
 
 /// Stores the header of a claim that is aborted: the type id of padding.
@@ -149,7 +149,7 @@ pub fn store_aborted_header(
     ensures rising { AreRising producer.old.me.0.producer.claims }
 {
     let header = pack_header((HEADER_LENGTH + wanted.len) as i32, PADDING_MSG_TYPE_ID);
-    ring.store::<StoreAborted>(producer, word_at(capacity, place), header);
+    ring.store::<StoreAborted>(producer, word_index(capacity, place), header);
 }
 
 /// Stores the word of an open claim's body at the byte offset `at`, a multiple of 8.
@@ -168,7 +168,7 @@ pub fn store_body_word(
     ensures view { producer.new.me.0 ≡ with_claims (changed place (written at word) producer.old.me.0.producer.claims) producer.old.me.0 }
     ensures rising { AreRising producer.old.me.0.producer.claims }
 {
-    ring.store::<StoreBody>(producer, word_at(capacity, place + 8 + at), word);
+    ring.store::<StoreBody>(producer, word_index(capacity, place + 8 + at), word);
 }
 
 /// Loads the word at a position, which tells what the producer's own open claim has there.
@@ -184,5 +184,5 @@ pub fn load_own_word(
     ensures told { LoadsOwn (index capacity position) producer.old.me.0 result }
     ensures rising { AreRising producer.old.me.0.producer.claims }
 {
-    ring.load::<LoadOwn>(producer, word_at(capacity, position))
+    ring.load::<LoadOwn>(producer, word_index(capacity, position))
 }

@@ -15,14 +15,14 @@ use crate::fault::{ClaimFault, PutRange};
 use crate::settling::{put_bytes, settle};
 use ring_layout::record_descriptor::HEADER_LENGTH;
 use ring_layout::ring_buffer_descriptor::MAX_POSITION;
-use ring_layout::{ClaimState, max_message, pad_and_span};
+use ring_layout::{ClaimState, byte_index, max_message, pad_and_span};
 
 /// The claim of a record that was admitted.
 fn new_claim(capacity: u32, admission: Admission, type_id: i32, len: usize) -> SoloClaim
     requires { IsCapacity capacity }
     ensures { result ≡ record { place = admission.place; index = admission.place % capacity + 8; type_id = type_id; len = len } }
 {
-    let index = (admission.place % u64::from(capacity)) as u32 + HEADER_LENGTH as u32;
+    let index = byte_index(capacity, admission.place) as u32 + HEADER_LENGTH as u32;
     SoloClaim::new(admission.place, index, type_id, len)
 }
 

@@ -13,6 +13,7 @@ use crate::action::Action;
 use crate::handler::Handler;
 use crate::read_end::{ReadEnd, Stop};
 use crate::taking::{Settled, settled_at_head, show_at_head, take_at_head};
+use ring_layout::byte_index;
 use ring_layout::record_descriptor::PADDING_MSG_TYPE_ID;
 
 impl SoloRing {
@@ -58,7 +59,7 @@ impl SoloRing {
         ensures { result ≡ (nat_lt start (head_of self.now) && head_of self.now % self.now.capacity == 0) }
     {
         let head = self.positions().head;
-        start < head && head % u64::from(self.capacity) == 0
+        start < head && byte_index(self.capacity, head) == 0
     }
 
     /// What a read that began at the head `start` did.

@@ -1,4 +1,4 @@
-use Rattle.std.proofs.Common.{◌≡◌, ◌%◌, ◌/◌, ℕ, ◌+◌, List, length, pos, to_z, arith, ap, ◌∙◌}
+use Rattle.std.proofs.Common.{◌≡◌, ℕ, ◌+◌, List, length, pos, to_z, arith, ap, ◌∙◌}
 use Rattle.std.specs.Int.{w32}
 use Rattle.std.proofs.lemmas.Int.{to_z-of_z, to_z_pos}
 use Rattle.ring_layout.specs.History.{span}
@@ -23,8 +23,7 @@ store_body-requires c =
     let ok = c.requires.ring in
     let lawful = written_lawful c.args.capacity c.args.type_id body c.requires.type_id c.ranges.type_id c.requires.admitted.short (λ k. omega (arith, c.type_inv.body k)) in
     let within = inside r claim place end ok lawful c.requires.admitted in
-    let same : place % c.from.result / 8 ≡ place % c.args.capacity / 8 = ap (λ n. place % n / 8) c.from.ensures in
-    omega (arith, same, within, c.store_headers.auto.words, ok.length)
+    omega (arith, c.word_index-at.ensures, within, c.store_headers.auto.words, ok.length)
 
 pub returns : goal.returns
 returns c =
@@ -39,6 +38,6 @@ returns c =
     let word : c.pack_header-header.result ≡ header_of claim =
     c.pack_header-header.ensures ∙ (λ i. header (len i) (to_z-of_z w32 c.args.type_id c.ranges.type_id i)) in
     let words = c.store_headers.ensures ∙ headed_is r claim place end ok lawful c.requires.admitted c.args.admission.tail c.pack_header-header.result c.requires.tail word in
-    let stored = rw (c.from.ensures, words) at c.store_body.ensures in
+    let stored = rw (c.word_index-at.ensures, words) at c.store_body.ensures in
     let both = appended_with r claim place end ok lawful c.requires.admitted c.store_body.new.words (c.store_body.auto.words ∙ ap length words) stored.inside stored.below stored.above in
     record { claimed = both.0; ring = both.1 }

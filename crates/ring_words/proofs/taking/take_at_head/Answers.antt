@@ -8,8 +8,8 @@ pub returns : goal.returns
 returns c =
     let r : Ring = ring c.args.capacity c.args.words.now in
     let n : ℕ = c.next_multiple_of-span.result in
-    let e = rw c.from.ensures at c.clear.ensures in
+    let e = rw c.word_index.ensures at c.clear.ensures in
     let cleared : Cleared c.args.capacity (head_of r) n c.args.words.now c.clear.new.words = record { length = c.clear.auto.words; inside = e.inside; below = e.below; above = e.above } in
     let all = taken_by r c.args.settled n c.clear.new.words c.requires.ring c.requires.seen (omega (arith, c.next_multiple_of-span.ensures.value)) cleared in
-    let t = subst (λ (k : ℕ). Taken r c.args.settled (ring c.args.capacity (slice_set c.clear.new.words (head_index c.args.capacity) (head_of r + k)))) (sym c.from-2.ensures) all in
+    let t = subst (λ (k : ℕ). Taken r c.args.settled (ring c.args.capacity (slice_set c.clear.new.words (head_index c.args.capacity) (head_of r + k)))) (sym c.from.ensures) all in
     record { ring = t.ring; moves = t.moves; on = t.on; leaves = t.leaves }

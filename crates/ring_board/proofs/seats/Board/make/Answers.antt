@@ -16,6 +16,7 @@ invariant_of-board c = let h = c.requires.capacity in let t = c.in_ok-table.ensu
   key = ap (λ (k : Shape). k.capacity) t.5;
   wide = ((let g : c.in_ok-table.table.shared.table_id.words ≡ n / 8 + 16 = omega arith in g), t.1, (let g : c.in_ok-words.words.len ≡ n / 8 + 16 = omega arith in g));
   lawful = (h.least, h.most, capacity_whole n h);
+  power = h.power;
 }
 
 pub invariant_of-transmitter : goal.invariant_of-transmitter

@@ -11,8 +11,8 @@ load-requires c =
     let s = c.requires.seat in
     let me : Mine = c.args.consumer.now.me in (
       s.table_is,
-      in_records _ c.args.capacity _ (c.args.scan) s.words_are s.lawful c.word_at.ensures,
-      at_index c.args.ring.now.key c.args.capacity _ _ _ s.key_is _ _ (c.word_at.ensures ∙ ap (index c.args.capacity) (sym c.requires.scan)) (λ n. n) (λ n me'. (me'.1 ≡ me.1) × LoadsHeader me.0.capacity me.0.consumer.scan me.0.consumer.got me.0 n me'.0)
+      in_records _ c.args.capacity _ (c.args.scan) s.words_are s.lawful c.word_index.ensures,
+      at_index c.args.ring.now.key c.args.capacity _ _ _ s.key_is _ _ (c.word_index.ensures ∙ ap (index c.args.capacity) (sym c.requires.scan)) (λ n. n) (λ n me'. (me'.1 ≡ me.1) × LoadsHeader me.0.capacity me.0.consumer.scan me.0.consumer.got me.0 n me'.0)
           (loads_next c.args.capacity c.args.ring.now.key.start _ _ me s.view_is c.requires.consumes (let at = c.requires.scan in let near = c.requires.near in omega arith)),
     )
 
