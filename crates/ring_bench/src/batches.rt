@@ -151,6 +151,6 @@ pub fn run_batches<R: Clock>(
             let mut ring = Seated::<ManyToOneRing>::open(alloc, capacity)?;
             run_lane(rt, &mut ring, &mut body, times)
         }
-        Contender::Board | Contender::Counters => Err(Fault::NoContender),
+        Contender::Board | Contender::Counters | Contender::Storm => Err(Fault::NoContender),
     }
 }

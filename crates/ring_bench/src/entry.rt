@@ -16,6 +16,8 @@ pub enum Workload {
     Broadcast,
     /// Counters are set, read, allocated and freed.
     Counters,
+    /// Clients send commands to a conductor, all on threads of their own, and each waits for every reply.
+    Storm,
 }
 
 impl Workload {
@@ -28,6 +30,7 @@ impl Workload {
             Workload::Trips => "W4",
             Workload::Broadcast => "W5",
             Workload::Counters => "W6",
+            Workload::Storm => "W7",
         }
     }
 
@@ -39,6 +42,7 @@ impl Workload {
             Workload::Trips => &[Job::Trips],
             Workload::Broadcast => &[Job::Broadcast],
             Workload::Counters => &[Job::Sets, Job::Gets, Job::Cycles, Job::WatchedSets],
+            Workload::Storm => &[Job::Storm],
         }
     }
 }
@@ -54,6 +58,8 @@ pub enum Contender {
     ManyToOne,
     Board,
     Counters,
+    /// Clients and a conductor, with all that they share.
+    Storm,
 }
 
 impl Contender {
@@ -65,12 +71,13 @@ impl Contender {
             Contender::ManyToOne => "ours-m2o",
             Contender::Board => "ours-board",
             Contender::Counters => "ours-counters",
+            Contender::Storm => "ours-storm",
         }
     }
 }
 
 /// Who takes part in which workload.
-pub const ENTRIES: [(Workload, Contender); 10] = [
+pub const ENTRIES: [(Workload, Contender); 11] = [
     (Workload::Batches, Contender::Solo),
     (Workload::Batches, Contender::OneToOne),
     (Workload::Batches, Contender::ManyToOne),
@@ -81,4 +88,5 @@ pub const ENTRIES: [(Workload, Contender); 10] = [
     (Workload::Trips, Contender::ManyToOne),
     (Workload::Broadcast, Contender::Board),
     (Workload::Counters, Contender::Counters),
+    (Workload::Storm, Contender::Storm),
 ];

@@ -1,5 +1,6 @@
 //! Why a measurement gives no figures.
 use ring_board::{MakeFault as BoardFault, SubscribeFault};
+use ring_conductor::StormFault;
 use ring_counters::{MakeFault as CountersFault, NoShares as NoValueShares};
 use ring_rings::{MakeFault, NoShares};
 use std::alloc::{AllocError, AllocFailed};
@@ -21,6 +22,8 @@ pub enum Fault {
     NoCounters(CountersFault),
     #[error("there is no receiver: {0}")]
     NoReceiver(SubscribeFault),
+    #[error("the storm gives no report: {0}")]
+    NoStorm(StormFault),
     #[error("no shares are left")]
     NoShares,
     #[error("no memory")]
@@ -59,6 +62,12 @@ impl From<CountersFault> for Fault {
 impl From<SubscribeFault> for Fault {
     fn from(fault: SubscribeFault) -> Fault {
         Fault::NoReceiver(fault)
+    }
+}
+
+impl From<StormFault> for Fault {
+    fn from(fault: StormFault) -> Fault {
+        Fault::NoStorm(fault)
     }
 }
 

@@ -19,13 +19,15 @@ pub enum Job {
     Cycles,
     /// A counter is set while two threads read it.
     WatchedSets,
+    /// Each client sends a command and waits for its reply.
+    Storm,
 }
 
 impl Job {
     /// What its time is called in an answer.
     pub fn metric(self) -> &'static str {
         match self {
-            Job::Batches | Job::Flow | Job::Broadcast => "ns",
+            Job::Batches | Job::Flow | Job::Broadcast | Job::Storm => "ns",
             Job::Trips => "mean",
             Job::Sets => "set",
             Job::Gets => "get",
@@ -40,6 +42,7 @@ impl Job {
             Job::Batches | Job::Flow | Job::Broadcast => 2_000,
             Job::Trips => 500,
             Job::Sets | Job::Gets | Job::Cycles | Job::WatchedSets => 4_096,
+            Job::Storm => 50,
         }
     }
 
@@ -50,6 +53,7 @@ impl Job {
             Job::Trips => 1_000_000,
             Job::Sets | Job::Gets => 100_000_000,
             Job::Cycles => 10_000_000,
+            Job::Storm => 10_000,
         }
     }
 }

@@ -1,4 +1,4 @@
-//! Measures the rings, the broadcast buffer and the counters. It answers requests on standard input, one a line:
+//! Measures the rings, the broadcast buffer, the counters and storms. It answers requests on standard input, one a line:
 //! `list`, `run WORKLOAD CONTENDER SIZE CAPACITY THREADS MILLISECONDS` and `quit`. The last line of each answer is `end`.
 #![tactic(auto)]
 
@@ -17,6 +17,7 @@ mod request;
 mod rest;
 mod sample;
 mod shared;
+mod storm;
 mod trips;
 mod watching;
 

@@ -7,9 +7,11 @@ use crate::flow::run_flow;
 use crate::job::Job;
 use crate::request::Request;
 use crate::sample::Sample;
+use crate::storm::run_storm;
 use crate::trips::run_trips;
 use std::alloc::Global;
 use std::rt::Clock;
+use std::sync::Wait;
 use std::thread::Threads;
 
 /// How often a job fills the time of a request.
@@ -50,7 +52,7 @@ impl Measurer {
     }
 
     /// Runs a job more and more often, until it takes about as long as is asked for.
-    fn fill<R: Clock + Threads + Sync>(
+    fn fill<R: Clock + Threads + Sync + Wait>(
         &self,
         rt: &R,
         request: &Request,
@@ -73,7 +75,7 @@ impl Measurer {
     }
 
     /// Runs a job so many times.
-    fn run<R: Clock + Threads + Sync>(
+    fn run<R: Clock + Threads + Sync + Wait>(
         &self,
         rt: &R,
         request: &Request,
@@ -88,11 +90,12 @@ impl Measurer {
             Job::Sets | Job::Gets | Job::Cycles | Job::WatchedSets => {
                 run_counters(rt, self.alloc, request, job, times)
             }
+            Job::Storm => run_storm(rt, self.alloc, request, times),
         }
     }
 
     /// Measures a job once.
-    fn measure<R: Clock + Threads + Sync>(
+    fn measure<R: Clock + Threads + Sync + Wait>(
         &mut self,
         rt: &R,
         request: &Request,
@@ -114,7 +117,7 @@ impl Measurer {
     }
 
     /// Answers a request, of which these are the words behind `run`.
-    pub fn answer<R: Clock + Print + Threads + Sync>(
+    pub fn answer<R: Clock + Print + Threads + Sync + Wait>(
         &mut self,
         rt: &R,
         words: &[&str],

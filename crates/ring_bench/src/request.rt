@@ -11,7 +11,7 @@ pub struct Request {
     pub size: usize,
     /// The bytes of a buffer.
     pub capacity: u32,
-    /// Producers, or receivers.
+    /// Producers, receivers or clients.
     pub threads: u64,
     /// For about how long to measure.
     pub milliseconds: u64,

@@ -225,6 +225,8 @@ pub fn run_trips<R: Clock + Threads + Sync>(
     match request.contender {
         Contender::OneToOne => run_served::<R, OneToOneRing>(rt, alloc, capacity, times),
         Contender::ManyToOne => run_served::<R, ManyToOneRing>(rt, alloc, capacity, times),
-        Contender::Solo | Contender::Board | Contender::Counters => Err(Fault::NoContender),
+        Contender::Solo | Contender::Board | Contender::Counters | Contender::Storm => Err(
+            Fault::NoContender,
+        ),
     }
 }
