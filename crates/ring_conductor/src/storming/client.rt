@@ -73,18 +73,26 @@ fn try_write(ring: &ManyToOneRing, producer: &mut Producer, type_id: i32, body: 
     ring.write_once(producer, type_id, body).is_ok()
 }
 
-/// The reply to the command with this correlation id, if it is what comes next on the board.
-fn try_hear(board: &Board, receiver: &mut CopyReceiver, correlation: u64) -> Option<Reply>
+/// What comes next on the board, for one who waits for the reply to a command.
+enum Heard {
+    Nothing,
+    /// The reply to another command.
+    Another,
+    Awaited(Reply),
+}
+
+/// Takes what comes next on the board, for one who waits for the reply to the command with this correlation id.
+fn try_hear(board: &Board, receiver: &mut CopyReceiver, correlation: u64) -> Heard
     requires { IsReceiverOf board.now receiver.old }
     ensures { IsReceiverOf board.now receiver.new }
 {
     match receiver.receive(board) {
         Ok(Some(copied)) => match decode_reply(copied.type_id, copied.body) {
-            Ok(reply) if correlation_of(reply) == correlation => Some(reply),
-            _ => None,
+            Ok(reply) if correlation_of(reply) == correlation => Heard::Awaited(reply),
+            _ => Heard::Another,
         },
-        Ok(None) => None,
-        Err(_lapped) => None,
+        Ok(None) => Heard::Nothing,
+        Err(_lapped) => Heard::Nothing,
     }
 }
 
@@ -133,11 +141,12 @@ impl<G: Gate> Shared<'_, G> {
             if self.is_stopped() {
                 return None;
             }
-            let reply = try_hear(self.board, receiver, correlation);
-            if reply.is_some() {
-                return reply;
+            match try_hear(self.board, receiver, correlation) {
+                Heard::Awaited(reply) => return Some(reply),
+                // More may lie behind it already.
+                Heard::Another => backoff.reset(),
+                Heard::Nothing => backoff.snooze(),
             }
-            backoff.snooze();
         }
         None
     }
