@@ -16,7 +16,7 @@ use Rattle.ring_rings.specs.Closing.{HandsOut}
 use Rattle.ring_rings.specs.Reading.{messages_of}
 use Rattle.ring_conductor.specs.Finishing.{IsWhole}
 
-messages_of-append : (a b : List PlacedMessage) → messages_of (a ++ b) ≡ messages_of a ++ messages_of b
+pub messages_of-append : (a b : List PlacedMessage) → messages_of (a ++ b) ≡ messages_of a ++ messages_of b
 messages_of-append [] b = refl
 messages_of-append (m ∷ a) b = ap (λ l. m.message ∷ l) (messages_of-append a b)
 

@@ -1,6 +1,9 @@
 -- What a storm counts.
-use Rattle.std.proofs.Common.{◌≡◌, ℕ, ◌+◌, ◌*◌, ◌≤◌, List, [], ◌∷◌, ◌++◌, ◌/◌, ◌<◌, length, length-append, append_assoc, max, Result, Ok, Err, IfOk, refl, sym, ap, ◌∙◌, subst, inl, inr, arith}
-use Rattle.std.specs.Int.{IsPowerOfTwo}
+use Rattle.std.proofs.Common.{◌≡◌, ℕ, ◌+◌, ◌*◌, ◌≤◌, List, [], ◌∷◌, ◌++◌, ◌/◌, ◌<◌, length, length-append, append_assoc, max, ℤ, ◌+ℤ◌, ◌==◌, Bool, true, false, if◌then◌else◌, fold, Option, Some, None, Result, Ok, Err, IfOk, suc, refl, sym, ap, ◌∙◌, subst, inl, inr, arith}
+use Rattle.std.specs.Int.{IsPowerOfTwo, saturate_signed, w64}
+use Rattle.std.proofs.lemmas.List.{length-map, length-replicate, length-set}
+use Rattle.std.proofs.lemmas.List.FromFn.{length-range_with_len}
+use Rattle.std.proofs.lemmas.List.Sums.{count_by-le-length, length-filter}
 use Rattle.std.proofs.lemmas.Bool.{cases_lt}
 use Rattle.ring_layout.specs.declared.message.Claim.{Claim}
 use Rattle.ring_layout.specs.declared.message.Message.{Message}
@@ -16,14 +19,29 @@ use Rattle.ring_table.specs.declared.claim.Stage.TheVariants.{Moved, Padded, Sto
 use Rattle.ring_table.specs.declared.view.View.{View}
 use Rattle.ring_table.specs.Passing.{placed_committed_of, placed_message, shown_at}
 use Rattle.ring_rings.specs.Reading.{messages_of}
+use Rattle.ring_counters.specs.declared.fault.AllocateRefused.{AllocateRefused}
+use Rattle.ring_counters.specs.declared.fault.IdFault.{IdFault}
+use Rattle.ring_counters.specs.declared.info.CounterInfo.{CounterInfo}
+use Rattle.ring_counters.specs.declared.rule.ValueWrite.{ValueWrite}
+use Rattle.ring_counters.specs.Counter.{Counter, unused_counter}
+use Rattle.ring_counters.specs.Infos.{AreInfos}
+use Rattle.ring_counters.specs.Registry.{Registry, allocation_of, closed_in, count_of, counter_at, fresh_registry, id_refusal_of, ids_of, is_allocated, live_ids, live_of, new_counter, owned_ids, reclaimed_in, status_at, with_value}
+use Rattle.ring_counters.specs.Views.{value_write}
 use Rattle.ring_conductor.specs.declared.conductor.Work.{Work}
+use Rattle.ring_conductor.specs.declared.faults.Bad.{Bad}
+use Rattle.ring_conductor.specs.declared.replies.Reply.TheVariants.{Closed}
 use Rattle.ring_conductor.specs.declared.storming.plan.StormFault.{StormFault}
 use Rattle.ring_conductor.specs.declared.storming.plan.StormPlan.{StormPlan}
 use Rattle.ring_conductor.specs.declared.storming.plan.StormReport.{StormReport}
+use Rattle.ring_conductor.specs.Applied.{allocated, applied, done_unless, obeyed, obeyed_if_read, refused}
+use Rattle.ring_conductor.specs.Codes.{bad_owner_code}
+use Rattle.ring_conductor.specs.Command.{Instruction, Allocate, AllocateOwned, Close, Free, Set}
 use Rattle.ring_conductor.specs.Conducting.{Works}
 use Rattle.ring_conductor.specs.Finishing.{IsWhole}
-use Rattle.ring_conductor.specs.Storming.{IsBoardFor, IsReportOf, all_commands}
+use Rattle.ring_conductor.specs.Storming.{IsBoardFor, IsReportOf, all_commands, counters_after, storm_counters, sum_of, with_value_of}
 use Rattle.ring_conductor.specs.Fold.{Ledger, fold_of, at_moment, served}
+use Rattle.ring_conductor.specs.Reading.{command_of}
+use Rattle.ring_conductor.proofs.FinishLemmas.{messages_of-append}
 use Rattle.ring_conductor.proofs.FoldLemmas.{lengths}
 
 -- What the conductor does ------------------------------------------------------
@@ -38,6 +56,96 @@ module _ (now limit : ℕ) (v w : View) (l k : Ledger) (done : Work) (works : Wo
 
   pub work_taken : length w.consumer.taken ≡ length v.consumer.taken + done.messages
   work_taken = let counted = works.counted in ap length works.received ∙ (length-append v.consumer.taken works.messages ∙ (omega arith))
+
+-- The counters -----------------------------------------------------------------
+
+fold_counters : (l : Ledger) (ms : List Message) → (fold_of l (at_moment 0 ms)).registry ≡ counters_after l.registry ms
+fold_counters l [] = refl
+fold_counters l (m ∷ ms) = fold_counters (served l 0 m) ms
+
+counters_after-append : (r : Registry) (a b : List Message) → counters_after r (a ++ b) ≡ counters_after (counters_after r a) b
+counters_after-append r [] b = refl
+counters_after-append r (m ∷ a) b = counters_after-append (applied 0 r m).registry a b
+
+module _ (p : StormPlan) (limit : ℕ) (v w : View) (l k : Ledger) (done : Work) (works : Works 0 limit v w l k done) where
+  -- the counters are still those of the messages taken
+  pub work_counters : l.registry ≡ storm_counters p (messages_of v.consumer.taken) → k.registry ≡ storm_counters p (messages_of w.consumer.taken)
+  work_counters before =
+      let old = messages_of v.consumer.taken in
+      let new = messages_of works.messages in
+      let after : k.registry ≡ counters_after l.registry new = ap (λ (x : Ledger). x.registry) works.folded ∙ fold_counters l new in
+      let all : messages_of w.consumer.taken ≡ old ++ new = ap messages_of works.received ∙ messages_of-append v.consumer.taken works.messages in
+      after ∙ (ap (λ r. counters_after r new) before ∙ (sym (counters_after-append (fresh_registry p.clients 0) old new) ∙ sym (ap (storm_counters p) all)))
+
+-- How many counters there are --------------------------------------------------
+
+allocated_count : (r : Registry) (correlation : ℕ) (c : Counter) (found : Result ℕ AllocateRefused) → count_of (allocated r correlation c found).registry ≡ count_of r
+allocated_count r correlation c (Ok id) = length-set r.counters id c
+allocated_count r correlation c (Err fault) = refl
+
+done_count : (refusal : Option IdFault) (r : Registry) (correlation : ℕ) (new : Registry) (writes : List ValueWrite) → count_of new ≡ count_of r → count_of (done_unless refusal r correlation new writes).registry ≡ count_of r
+done_count None r correlation new writes same = same
+done_count (Some fault) r correlation new writes same = refl
+
+closed_count : (now : ℕ) (ids : List ℕ) (r : Registry) → count_of (fold (λ s id. reclaimed_in s now id) r ids) ≡ count_of r
+closed_count now [] r = refl
+closed_count now (id ∷ ids) r = closed_count now ids (reclaimed_in r now id) ∙ length-set r.counters id _
+
+obeyed_count : (r : Registry) (command : Instruction) → count_of (obeyed 0 r command).registry ≡ count_of r
+obeyed_count r (Allocate correlation type_id key label) = allocated_count r correlation (new_counter type_id key label correlation 0) (allocation_of r 0 key label)
+obeyed_count r (AllocateOwned correlation type_id owner key label) = allocated_count r correlation (new_counter type_id key label correlation owner) (allocation_of r 0 key label)
+obeyed_count r (Free correlation id) = done_count (id_refusal_of r id) r correlation (reclaimed_in r 0 id) [] (length-set r.counters id _)
+obeyed_count r (Set correlation id value) = done_count (id_refusal_of r id) r correlation (with_value r id value) (value_write id value ∷ []) (length-set r.counters id _)
+obeyed_count r (Close correlation owner) = by (owner == 0)
+  where
+    by : (b : Bool) → count_of (if b then refused r correlation bad_owner_code else record { registry = closed_in r 0 owner; writes = []; reply = Closed correlation (length (owned_ids r owner)) }).registry ≡ count_of r
+    by true = refl
+    by false = closed_count 0 (owned_ids r owner) r
+
+read_count : (r : Registry) (command : Result Instruction Bad) → count_of (obeyed_if_read 0 r command).registry ≡ count_of r
+read_count r (Ok command) = obeyed_count r command
+read_count r (Err bad) = refl
+
+after_count : (r : Registry) (ms : List Message) → count_of (counters_after r ms) ≡ count_of r
+after_count r [] = refl
+after_count r (m ∷ ms) = after_count (applied 0 r m).registry ms ∙ read_count r (command_of m.type_id m.body)
+
+-- there are as many as clients
+pub storm_count : (p : StormPlan) (ms : List Message) → count_of (storm_counters p ms) ≡ p.clients
+storm_count p ms = after_count (fresh_registry p.clients 0) ms ∙ length-replicate p.clients unused_counter
+
+few_live : (r : Registry) → length (live_of r) ≤ count_of r
+few_live r =
+    let entry : ℕ → ℕ × Counter = λ id. (id, counter_at r id) in
+    let is_live : ℕ → Bool = λ id. is_allocated (status_at r id) in
+    let mapped = length-map (live_ids r) entry in
+    let filtered = length-filter is_live (ids_of r) in
+    let few = count_by-le-length is_live (ids_of r) in
+    let all = length-range_with_len 0 (count_of r) in
+    omega arith
+
+-- What a listing counts --------------------------------------------------------
+
+pub infos_length : (infos : List CounterInfo) (counters : List (ℕ × Counter)) → AreInfos infos counters → length infos ≡ length counters
+infos_length [] [] are = refl
+infos_length [] (c ∷ cs) are = absurd are
+infos_length (i ∷ is) [] are = absurd are
+infos_length (i ∷ is) (c ∷ cs) are = ap suc (infos_length is cs are.1)
+
+pub few_infos : (r : Registry) (infos : List CounterInfo) → AreInfos infos (live_of r) → length infos ≤ count_of r
+few_infos r infos are =
+    let same = infos_length infos (live_of r) are in
+    let few = few_live r in
+    omega arith
+
+abbrev pub with_info : ℤ → CounterInfo → ℤ
+with_info sum info = saturate_signed w64 (sum +ℤ info.value)
+
+pub infos_sum : (sum : ℤ) (infos : List CounterInfo) (counters : List (ℕ × Counter)) → AreInfos infos counters → fold with_info sum infos ≡ fold with_value_of sum counters
+infos_sum sum [] [] are = refl
+infos_sum sum [] (c ∷ cs) are = absurd are
+infos_sum sum (i ∷ is) [] are = absurd are
+infos_sum sum (i ∷ is) (c ∷ cs) are = ap (λ v. fold with_info (saturate_signed w64 (sum +ℤ v)) is) are.0.value ∙ infos_sum (with_value_of sum c) is cs are.1
 
 -- What is left -----------------------------------------------------------------
 
@@ -89,17 +197,26 @@ few_left claims received rest h has whole =
     let few = few_committed claims in
     omega arith
 
-module _ (p : StormPlan) (claims : List StagedClaim) (taken : List PlacedMessage) (rest : Ring) (h : List Claim) (has : Has rest h) (whole : IsWhole claims taken rest) (sent : length claims ≤ all_commands p) (done : all_commands p ≤ length taken) where
-  report_of : (r : StormReport) → r.received ≡ length taken → r.seen ≡ all_commands p → r.left ≤ length (committed_of h) → IsReportOf p r
-  report_of r received seen left =
+module _ (p : StormPlan) (claims : List StagedClaim) (taken : List PlacedMessage) (rest : Ring) (h : List Claim) (has : Has rest h) (whole : IsWhole claims taken rest) (sent : length claims ≤ all_commands p) (done : all_commands p ≤ length taken)
+    (counters : Registry) (folded : counters ≡ storm_counters p (messages_of taken)) where
+  report_of : (r : StormReport) → r.received ≡ length taken → r.seen ≡ all_commands p → r.left ≤ length (committed_of h) → r.live ≡ length (live_of counters) → r.sum ≡ sum_of (live_of counters) → IsReportOf p r
+  report_of r received seen left live sum =
       let few = few_left claims taken rest h has whole in
-      record { received = omega arith; left = omega arith; seen = seen }
+      record {
+        received = omega arith;
+        left = omega arith;
+        seen = seen;
+        messages = messages_of taken;
+        taken = lengths taken ∙ sym received;
+        live = live ∙ ap (λ c. length (live_of c)) folded;
+        sum = sum ∙ ap (λ c. sum_of (live_of c)) folded;
+      }
 
   -- the report of a storm that took all commands
   pub reported : (result : Result StormReport StormFault) (n m : ℕ) → n ≡ length taken → m ≡ all_commands p → IfOk result (λ r. (r.received ≡ n) × (r.seen ≡ m)) → IfOk result (λ r. (g : List Claim) → Has rest g → r.left ≤ length (committed_of g))
-      → IfOk result (IsReportOf p)
-  reported (Ok r) n m n_is m_is counts left = report_of r (counts.0 ∙ n_is) (counts.1 ∙ m_is) (left h has)
-  reported (Err fault) n m n_is m_is counts left = counts
+      → IfOk result (λ r. r.live ≡ length (live_of counters)) → IfOk result (λ r. r.sum ≡ sum_of (live_of counters)) → IfOk result (IsReportOf p)
+  reported (Ok r) n m n_is m_is counts left live sum = report_of r (counts.0 ∙ n_is) (counts.1 ∙ m_is) (left h has) live sum
+  reported (Err fault) n m n_is m_is counts left live sum = counts
 
 -- The board --------------------------------------------------------------------
 

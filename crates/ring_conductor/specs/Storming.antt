@@ -1,18 +1,24 @@
 -- What clauses say of a storm.
-use Rattle.std.specs.Prelude.{◌≡◌, ◌⊎◌, ℕ, ◌*◌, ◌/◌, ◌<◌, ◌≤◌, ◌^◌, IsTrue, length}
-use Rattle.std.specs.Int.{is_power_of_two, IsPowerOfTwo}
+use Rattle.std.specs.Prelude.{◌≡◌, ◌⊎◌, ℕ, ◌*◌, ◌/◌, ◌<◌, ◌≤◌, ◌^◌, ℤ, pos, ◌+ℤ◌, IsTrue, List, [], ◌∷◌, fold, length}
+use Rattle.std.specs.Int.{is_power_of_two, IsPowerOfTwo, saturate_signed, w64}
+use Rattle.ring_layout.specs.declared.message.Message.{Message}
 use Rattle.ring_rings.specs.declared.seats.Ring.{Ring}
 use Rattle.ring_rings.specs.declared.seats.Producer.{Producer}
+use Rattle.ring_rings.specs.Reading.{messages_of}
 use Rattle.ring_rings.specs.Seats.{claims_of, open_claims_of, shares_of, IsConsumerOf, IsProducerOf}
 use Rattle.ring_board.specs.declared.seats.Board.{Board}
 use Rattle.ring_board.specs.Seats.{IsReceiverOf, shares_of as board_shares}
 use Rattle.ring_counters.specs.declared.seats.CounterValues.{CounterValues}
+use Rattle.ring_counters.specs.Counter.{Counter}
+use Rattle.ring_counters.specs.Manager.{registry_of}
+use Rattle.ring_counters.specs.Registry.{Registry, fresh_registry, live_of}
 use Rattle.ring_conductor.specs.declared.conductor.Conductor.{Conductor}
 use Rattle.ring_conductor.specs.declared.storming.plan.StormPlan.{StormPlan}
 use Rattle.ring_conductor.specs.declared.storming.plan.StormReport.{StormReport}
 use Rattle.ring_conductor.specs.declared.storming.seats.Client.{Client}
 use Rattle.ring_conductor.specs.declared.storming.seats.Hub.{Hub}
-use Rattle.ring_conductor.specs.Conducting.{IsConductorOf, received_of, transmitter_of}
+use Rattle.ring_conductor.specs.Applied.{applied}
+use Rattle.ring_conductor.specs.Conducting.{IsConductorOf, counters_of, received_of, transmitter_of}
 
 -- The plan ---------------------------------------------------------------------
 
@@ -33,6 +39,25 @@ pub record IsBoardFor (p : StormPlan) (C : ℕ) : Type 0 where
   pub least : 256 ≤ C
   pub room : 24 * all_commands p < C
   pub tight : C ≡ 256 ⊎ C / 2 ≤ 24 * all_commands p
+
+-- The counters -----------------------------------------------------------------
+
+-- the counters after these messages, all at the moment 0
+abbrev pub counters_after : Registry → List Message → Registry
+counters_after r [] = r
+counters_after r (m ∷ ms) = counters_after (applied 0 r m).registry ms
+
+-- what these messages make of fresh counters, one for each client
+abbrev pub storm_counters : StormPlan → List Message → Registry
+storm_counters p ms = counters_after (fresh_registry p.clients 0) ms
+
+-- a sum with the value of one more counter, held within 64 bits
+abbrev pub with_value_of : ℤ → ℕ × Counter → ℤ
+with_value_of sum c = saturate_signed w64 (sum +ℤ c.1.values.value)
+
+-- the sum of the values of these counters
+abbrev pub sum_of : List (ℕ × Counter) → ℤ
+sum_of counters = fold with_value_of (pos 0) counters
 
 -- The seats --------------------------------------------------------------------
 
@@ -55,9 +80,13 @@ IsClientOf ring board c = IsClientSeat ring c.producer × IsReceiverOf board c.r
 abbrev pub taken_by : Conductor → ℕ
 taken_by c = length (received_of c)
 
--- producer and conductor belong to this ring, this board and these values
-abbrev pub IsHubOf : {K : Type 0} → Ring K → Board → CounterValues → Hub → Type 0
-IsHubOf ring board values hub = IsProducerOf ring hub.producer × IsConductorOf IsConsumerOf ring board values hub.conductor
+-- the counters are what the messages that the conductor took make of fresh ones
+abbrev pub HasCounters : StormPlan → Conductor → Type 0
+HasCounters p c = registry_of (counters_of c) ≡ storm_counters p (messages_of (received_of c))
+
+-- producer and conductor belong to this ring, this board and these values, and the counters are those of the messages taken
+abbrev pub IsHubOf : {K : Type 0} → StormPlan → Ring K → Board → CounterValues → Hub → Type 0
+IsHubOf p ring board values hub = IsProducerOf ring hub.producer × IsConductorOf IsConsumerOf ring board values hub.conductor × HasCounters p hub.conductor
 
 -- no share is away, and no claim is open
 pub record HasAll (hub : Hub) : Type 0 where
@@ -67,8 +96,13 @@ pub record HasAll (hub : Hub) : Type 0 where
 
 -- The report -------------------------------------------------------------------
 
--- all commands were taken, none is left, and each client had all replies
+-- all commands were taken, none is left, and each client had all replies; the live counters, and the sum of their values,
+-- are those that messages, as many as were taken, make of fresh counters
 pub record IsReportOf (p : StormPlan) (r : StormReport) : Type 0 where
   pub received : r.received ≡ all_commands p
   pub left : r.left ≡ 0
   pub seen : r.seen ≡ all_commands p
+  pub messages : List Message
+  pub taken : length messages ≡ r.received
+  pub live : r.live ≡ length (live_of (storm_counters p messages))
+  pub sum : r.sum ≡ sum_of (live_of (storm_counters p messages))

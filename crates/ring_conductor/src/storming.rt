@@ -3,7 +3,7 @@ ghost use Rattle.std.specs.Prelude.{◌≡◌, ◌↔◌, ◌≤◌, IfOk, Err, 
 ghost use Rattle.ring_conductor.specs.declared.storming.plan.StormFault.TheVariants.{BadPlan};
 ghost use Rattle.ring_conductor.specs.Storming.{HasAll, IsHubOf, IsPlan, IsReportOf, all_commands, sent_by, taken_by};
 
-mod client;
+pub(crate) mod client;
 mod conducting;
 mod gate;
 mod hub;
@@ -106,10 +106,10 @@ fn run_threads<R: Threads + Wait, G: Gate + Sync>(
     hub: Hub,
 ) -> LevelEnd
     requires plan { IsPlan plan.now }
-    requires hub { IsHubOf ring.now board.now values.now hub }
+    requires hub { IsHubOf plan.now ring.now board.now values.now hub }
     requires whole { HasAll hub }
     requires new { sent_by hub.producer ≡ 0 }
-    ensures hub { IsHubOf ring.now board.now values.now result.hub }
+    ensures hub { IsHubOf plan.now ring.now board.now values.now result.hub }
     ensures whole { HasAll result.hub }
     ensures sent { sent_by result.hub.producer ≤ all_commands plan.now }
     ensures done { (result.failure ≡ None) → (all_commands plan.now ≤ taken_by result.hub.conductor) × (result.seen ≡ all_commands plan.now) }
@@ -122,10 +122,10 @@ fn run_threads<R: Threads + Wait, G: Gate + Sync>(
         rt,
         |scope| -> LevelEnd
             requires plan { IsPlan plan }
-            requires hub { IsHubOf ring.now board.now values.now hub }
+            requires hub { IsHubOf plan ring.now board.now values.now hub }
             requires whole { HasAll hub }
             requires new { sent_by hub.producer ≡ 0 }
-            ensures hub { IsHubOf ring.entry.now board.entry.now values.entry.now result.hub }
+            ensures hub { IsHubOf plan ring.entry.now board.entry.now values.entry.now result.hub }
             ensures whole { HasAll result.hub }
             ensures sent { sent_by result.hub.producer ≤ all_commands plan }
             ensures done { (result.failure ≡ None) → (all_commands plan ≤ taken_by result.hub.conductor) × (result.seen ≡ all_commands plan) }

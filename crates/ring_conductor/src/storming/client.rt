@@ -30,8 +30,21 @@ fn correlation_of(reply: Reply) -> u64 {
     }
 }
 
+/// The label of a client's counter, and how long it is: `c` and the client's number, which is below 100.
+pub(crate) fn label_of(client: u32) -> ([u8; 3], usize)
+    ensures { result.1 ≤ 3 }
+{
+    let tens = b'0' + (client / 10 % 10) as u8;
+    let ones = b'0' + (client % 10) as u8;
+    if client < 10 {
+        ([b'c', ones, 0], 2)
+    } else {
+        ([b'c', tens, ones], 3)
+    }
+}
+
 /// Writes the client's command with this number into the buffer, and says how long it is and what type id it has. The first
-/// one allocates a counter with the label `c` and the client's number, each further one sets it to the command's number.
+/// one allocates a counter with the client's label, each further one sets it to the command's number.
 fn spell(
     client: &Client,
     number: u32,
@@ -40,18 +53,13 @@ fn spell(
 ) -> Option<(i32, usize)>
     ensures { IfSome result (λ spelled. spelled.1 ≤ 32) }
 {
-    let label = [
-        b'c',
-        b'0' + (client.index / 10 % 10) as u8,
-        b'0' + (client.index % 10) as u8,
-    ];
-    let short = [label[0], label[2]];
+    let (label, label_len) = label_of(client.index);
     let command = if number == 1 {
         Command::Allocate {
             correlation,
             type_id: COUNTER_TYPE,
             key: &[],
-            label: if client.index < 10 { &short } else { &label },
+            label: &label[..label_len],
         }
     } else {
         Command::Set {

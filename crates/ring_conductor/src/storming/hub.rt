@@ -16,9 +16,9 @@ impl<G> Shared<'_, G> {
         hub: &mut Hub,
         index: u32,
     ) -> Result<Client, SubscribeFault>
-        requires hub { IsHubOf self.now.ring.now self.now.board.now self.now.values.now hub.old }
+        requires hub { IsHubOf self.now.plan self.now.ring.now self.now.board.now self.now.values.now hub.old }
         requires shares { (1 < shares_of hub.old.producer) × (1 < board_shares_of hub.old.conductor) }
-        ensures hub { IsHubOf self.now.ring.now self.now.board.now self.now.values.now hub.new }
+        ensures hub { IsHubOf self.now.plan self.now.ring.now self.now.board.now self.now.values.now hub.new }
         ensures client { IfOk result (λ c. IsClientOf self.now.ring.now self.now.board.now c × (sent_by c.producer ≡ 0) × (c.seen ≡ 0)) }
         ensures producers { OnOk result (shares_of hub.new.producer + 1 ≡ shares_of hub.old.producer) }
         ensures receivers { OnOk result (board_shares_of hub.new.conductor + 1 ≡ board_shares_of hub.old.conductor) }
@@ -42,9 +42,9 @@ impl<G> Shared<'_, G> {
 
     /// Takes a client's seats back, and says how many of its commands were answered.
     pub(crate) fn join_client(&self, hub: &mut Hub, client: Client) -> u64
-        requires hub { IsHubOf self.now.ring.now self.now.board.now self.now.values.now hub.old }
+        requires hub { IsHubOf self.now.plan self.now.ring.now self.now.board.now self.now.values.now hub.old }
         requires client { IsClientOf self.now.ring.now self.now.board.now client }
-        ensures hub { IsHubOf self.now.ring.now self.now.board.now self.now.values.now hub.new }
+        ensures hub { IsHubOf self.now.plan self.now.ring.now self.now.board.now self.now.values.now hub.new }
         ensures producers { shares_of hub.new.producer ≡ shares_of hub.old.producer + 1 }
         ensures receivers { board_shares_of hub.new.conductor ≡ board_shares_of hub.old.conductor + 1 }
         ensures claims { (open_claims_of hub.new.producer ≡ open_claims_of hub.old.producer) × (sent_by hub.new.producer ≡ sent_by hub.old.producer + sent_by client.producer) }

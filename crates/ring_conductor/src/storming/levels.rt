@@ -3,7 +3,7 @@ ghost use Rattle.std.specs.Prelude.{◌≡◌, ◌+◌, ◌*◌, ◌<◌, ◌≤
 ghost use Rattle.ring_conductor.specs.declared.storming.seats.Failure.TheVariants.{OutOfMemory};
 ghost use Rattle.ring_rings.specs.Seats.{open_claims_of, shares_of, IsConsumerOf};
 ghost use Rattle.ring_conductor.specs.Conducting.{IsConductorOf};
-ghost use Rattle.ring_conductor.specs.Storming.{IsClientOf, IsHubOf, IsPlan, all_commands, board_shares_of, sent_by, taken_by};
+ghost use Rattle.ring_conductor.specs.Storming.{HasCounters, IsClientOf, IsHubOf, IsPlan, all_commands, board_shares_of, sent_by, taken_by};
 
 use crate::storming::conducting::ConductorEnd;
 use crate::storming::gate::Gate;
@@ -44,8 +44,8 @@ fn conduct<'s, E, R: Threads, G: Gate + Sync>(
     hub: Hub,
 ) -> LevelEnd
     requires plan { IsPlan shared.plan }
-    requires hub { IsHubOf shared.ring.now shared.board.now shared.values.now hub }
-    ensures hub { IsHubOf shared.entry.ring.now shared.entry.board.now shared.entry.values.now result.hub }
+    requires hub { IsHubOf shared.plan shared.ring.now shared.board.now shared.values.now hub }
+    ensures hub { IsHubOf shared.entry.plan shared.entry.ring.now shared.entry.board.now shared.entry.values.now result.hub }
     ensures producer { result.hub.producer ≡ hub.producer }
     ensures receivers { board_shares_of result.hub.conductor ≡ board_shares_of hub.conductor }
     ensures seen { result.seen ≡ 0 }
@@ -76,8 +76,9 @@ fn conduct<'s, E, R: Threads, G: Gate + Sync>(
             plan,
         },
         move || -> ConductorEnd
-            requires { IsPlan plan × IsConductorOf IsConsumerOf ring.now board.now values.now conductor }
+            requires { IsPlan plan × IsConductorOf IsConsumerOf ring.now board.now values.now conductor × HasCounters plan conductor }
             ensures conductor { IsConductorOf IsConsumerOf ring.entry.now board.entry.now values.entry.now result.conductor }
+            ensures counters { HasCounters plan result.conductor }
             ensures shares { board_shares_of result.conductor ≡ board_shares_of conductor }
             ensures done { IsTrue result.is_done → all_commands plan ≤ taken_by result.conductor }
         {
@@ -132,9 +133,9 @@ pub(crate) fn level<'s, E, R: Threads, G: Gate + Sync>(
     mut hub: Hub,
 ) -> LevelEnd
     requires plan { IsPlan shared.plan × (remaining ≤ 64) }
-    requires hub { IsHubOf shared.ring.now shared.board.now shared.values.now hub }
+    requires hub { IsHubOf shared.plan shared.ring.now shared.board.now shared.values.now hub }
     requires shares { (remaining < shares_of hub.producer) × (remaining < board_shares_of hub.conductor) }
-    ensures hub { IsHubOf shared.entry.ring.now shared.entry.board.now shared.entry.values.now result.hub }
+    ensures hub { IsHubOf shared.entry.plan shared.entry.ring.now shared.entry.board.now shared.entry.values.now result.hub }
     ensures producers { shares_of result.hub.producer ≡ shares_of hub.producer }
     ensures receivers { board_shares_of result.hub.conductor ≡ board_shares_of hub.conductor }
     ensures open_claims { open_claims_of result.hub.producer ≡ open_claims_of hub.producer }
@@ -199,12 +200,12 @@ pub(crate) fn level<'s, E, R: Threads, G: Gate + Sync>(
 /// Takes a client's seats back. It has spent its turns if a reply is wanting.
 fn gather<G>(shared: Shared<'_, G>, index: u32, end: LevelEnd, client: Client) -> LevelEnd
     requires plan { IsPlan shared.plan × (index < 64) }
-    requires hub { IsHubOf shared.ring.now shared.board.now shared.values.now end.hub }
+    requires hub { IsHubOf shared.plan shared.ring.now shared.board.now shared.values.now end.hub }
     requires client { IsClientOf shared.ring.now shared.board.now client }
     requires sent { sent_by client.producer ≤ shared.plan.commands }
     requires seen { (client.seen ≤ shared.plan.commands) × (end.seen ≤ index * shared.plan.commands) }
     requires done { (end.failure ≡ None) → (all_commands shared.plan ≤ taken_by end.hub.conductor) × (end.seen ≡ index * shared.plan.commands) }
-    ensures hub { IsHubOf shared.entry.ring.now shared.entry.board.now shared.entry.values.now result.hub }
+    ensures hub { IsHubOf shared.entry.plan shared.entry.ring.now shared.entry.board.now shared.entry.values.now result.hub }
     ensures producers { shares_of result.hub.producer ≡ shares_of end.hub.producer + 1 }
     ensures receivers { board_shares_of result.hub.conductor ≡ board_shares_of end.hub.conductor + 1 }
     ensures open_claims { open_claims_of result.hub.producer ≡ open_claims_of end.hub.producer }

@@ -2,7 +2,7 @@
 ghost use Rattle.std.specs.Prelude.{◌≡◌, ◌≤◌, IsTrue};
 ghost use Rattle.ring_rings.specs.Seats.{IsConsumerOf};
 ghost use Rattle.ring_conductor.specs.Conducting.{IsConductorOf};
-ghost use Rattle.ring_conductor.specs.Storming.{IsClientOf, all_commands, board_shares_of, sent_by, taken_by};
+ghost use Rattle.ring_conductor.specs.Storming.{HasCounters, IsClientOf, all_commands, board_shares_of, sent_by, taken_by};
 
 use crate::storming::conducting::ConductorEnd;
 use crate::storming::plan::StormPlan;
@@ -35,5 +35,5 @@ pub(crate) struct ConductorBack<'a> {
 }
 
 impl<'a> Promise<ConductorEnd> for ConductorBack<'a> {
-    ghost kept_by = { λ p r. IsConductorOf IsConsumerOf p.ring.now p.board.now p.values.now r.conductor × (board_shares_of r.conductor ≡ p.shares) × (IsTrue r.is_done → all_commands p.plan ≤ taken_by r.conductor) };
+    ghost kept_by = { λ p r. IsConductorOf IsConsumerOf p.ring.now p.board.now p.values.now r.conductor × HasCounters p.plan r.conductor × (board_shares_of r.conductor ≡ p.shares) × (IsTrue r.is_done → all_commands p.plan ≤ taken_by r.conductor) };
 }

@@ -1,3 +1,4 @@
+use crate::storming::client::label_of;
 use crate::storming::storm_without;
 use crate::{Gate, OpenGate, StormFault, StormPlan, StormReport, storm};
 use std::sync::Wait;
@@ -256,5 +257,19 @@ fn a_thread_that_cannot_be_started_is_told_as_memory(rt: HostRuntime) {
     for thread in 0..5 {
         let report = storm_without(&rt, rt.alloc(), &plan(4, 100), &OpenGate, Some(thread));
         assert_eq!(rt; report, Err(StormFault::OutOfMemory));
+    }
+}
+
+#[test]
+fn labels_have_the_clients_number_without_leading_zeros(rt: HostRuntime) {
+    let labels = [
+        (0, &b"c0"[..]),
+        (9, &b"c9"[..]),
+        (10, &b"c10"[..]),
+        (63, &b"c63"[..]),
+    ];
+    for (client, expected) in labels {
+        let (label, len) = label_of(client);
+        assert_eq!(rt; &label[..len], expected);
     }
 }

@@ -1,3 +1,6 @@
+use Rattle.std.proofs.Common.{◌∙◌, ap}
+use Rattle.ring_counters.specs.declared.manager.CountersManager.{CountersManager}
+use Rattle.ring_counters.specs.Manager.{registry_of}
 use Rattle.ring_conductor.proofs.StormLemmas.{reported}
 use Rattle.ring_conductor.proofs.storming.storm_without.Goals as goal
 
@@ -6,4 +9,6 @@ returns-in-None-clause-report g c =
     let e = c.in-Ok-finish.ensures in
     let threads = c.run_threads-hub.ensures in
     let done = threads.done c.in-None.is in
-    reported _ _ _ _ _ e.rest.has e.whole threads.sent done.0 c.report.result _ _ e.received done.1 c.report.ensures.received c.report.ensures.left
+    let folded = ap (λ (m : CountersManager). registry_of m) e.counters ∙ threads.hub.2 in
+    let said = c.report.ensures in
+    reported _ _ _ _ _ e.rest.has e.whole threads.sent done.0 _ folded c.report.result _ _ e.received done.1 said.received said.left said.live said.sum
