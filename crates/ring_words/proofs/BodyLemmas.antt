@@ -1,8 +1,8 @@
 -- The body of the record at the head, from the words.
-use Rattle.std.proofs.Common.{◌≡◌, ℕ, ◌+◌, ◌-◌, ◌*◌, ◌/◌, ◌%◌, ◌^◌, ◌<◌, ◌≤◌, List, ◌∷◌, length, take, drop, slice_index, ap, sym, ◌∙◌, arith, inl, inr, min, ℤ}
+use Rattle.std.proofs.Common.{◌≡◌, ℕ, ◌+◌, ◌-◌, ◌*◌, ◌/◌, ◌%◌, ◌^◌, ◌<◌, ◌≤◌, List, ◌∷◌, length, take, drop, slice_index, ap, sym, ◌∙◌, arith, inl, inr, ℤ}
 use Rattle.std.specs.Int.{from_le_bytes, to_le_bytes, w64}
 use Rattle.std.proofs.lemmas.Bool.{cases_lt, ne_eqb, cond-false}
-use Rattle.std.proofs.lemmas.List.{ext_get_or, get_or-drop, get_or-take, get_or_past, length-take}
+use Rattle.std.proofs.lemmas.List.{ext_get_or, get_or-drop, get_or-take, get_or_past, length-take-le}
 use Rattle.std.proofs.lemmas.List.Elements.{All-head, All-get_or}
 use Rattle.ring_layout.specs.declared.message.Claim.{Claim}
 use Rattle.ring_layout.specs.declared.message.Message.{Message}
@@ -21,27 +21,40 @@ use Rattle.ring_layout.proofs.WordBytes.{byte_of_bytes, byte_of_word, length-ove
 abbrev pub CopiesWords : List ℕ → ℕ → ℕ → List ℕ → Type 0
 CopiesWords words at n bytes = (j : ℕ) → j < n → j < length bytes → slice_index bytes j ≡ slice_index words (at + j / 8) / 2 ^ (8 * (j % 8)) % 256
 
-pub one_more_copied : (words old new : List ℕ) (at k word : ℕ) → 8 * k < length old → new ≡ overwritten (8 * k) (take (length old - 8 * k) (to_le_bytes w64 word)) old
-    → word ≡ slice_index words (at + k) → CopiesWords words at (8 * k) old → (length new ≡ length old) × CopiesWords words at (8 * k + 8) new
-one_more_copied words old new at k word lt is told before =
-    let part : List ℕ = take (length old - 8 * k) (to_le_bytes w64 word) in
-    let part_len : length part ≡ min (length old - 8 * k) 8 = length-take (length old - 8 * k) (to_le_bytes w64 word) in
-    let room : 8 * k + length part ≤ length old = omega arith in
-    let len : length new ≡ length old = ap length is ∙ length-overwritten (8 * k) part old room in (
-      len,
-      λ j below inside. ap (λ l. slice_index l j) is ∙ elim (cases_lt j (8 * k)) as (λ _. slice_index (overwritten (8 * k) part old) j ≡ slice_index words (at + j / 8) / 2 ^ (8 * (j % 8)) % 256) [
+-- the next bytes come from one word
+pub more_copied : (words old new part : List ℕ) (at k : ℕ) → 8 * k + length part ≤ length old → length part ≤ 8 → new ≡ overwritten (8 * k) part old
+    → ((i : ℕ) → i < length part → slice_index part i ≡ slice_index words (at + k) / 2 ^ (8 * i) % 256)
+    → CopiesWords words at (8 * k) old → (length new ≡ length old) × CopiesWords words at (8 * k + length part) new
+more_copied words old new part at k room few is told before = (
+  ap length is ∙ length-overwritten (8 * k) part old room,
+  λ j below inside. ap (λ l. slice_index l j) is
+      ∙ elim (cases_lt j (8 * k)) as (λ _. slice_index (overwritten (8 * k) part old) j ≡ slice_index words (at + j / 8) / 2 ^ (8 * (j % 8)) % 256) [
         | inl early ↦ overwritten_before (8 * k) part old j room early ∙ before j early (omega arith)
         | inr late ↦
             let quotient : j / 8 ≡ k = omega arith in
             let remainder : j % 8 ≡ j - 8 * k = omega arith in
             overwritten_inside (8 * k) part old j room late (omega arith)
-            ∙ get_or-take (length old - 8 * k) (to_le_bytes w64 word) (j - 8 * k) 0 (omega arith)
-            ∙ byte_of_bytes word (j - 8 * k) (omega arith)
-            ∙ ap (λ w. w / 2 ^ (8 * (j - 8 * k)) % 256) told
+            ∙ told (j - 8 * k) (omega arith)
             ∙ ap (λ i. slice_index words (at + k) / 2 ^ (8 * i) % 256) (sym remainder)
             ∙ ap (λ i. slice_index words (at + i) / 2 ^ (8 * (j % 8)) % 256) (sym quotient)
       ],
-    )
+)
+
+pub word_copied : (words old new : List ℕ) (at k : ℕ) → 8 * k + 8 ≤ length old → new ≡ overwritten (8 * k) (to_le_bytes w64 (slice_index words (at + k))) old
+    → CopiesWords words at (8 * k) old → (length new ≡ length old) × CopiesWords words at (8 * k + 8) new
+word_copied words old new at k room is before =
+    more_copied words old new (to_le_bytes w64 (slice_index words (at + k))) at k room (omega arith) is (byte_of_bytes (slice_index words (at + k))) before
+
+pub rest_copied : (words old new : List ℕ) (at k : ℕ) → 8 * k < length old → length old < 8 * k + 8
+    → new ≡ overwritten (8 * k) (take (length old - 8 * k) (to_le_bytes w64 (slice_index words (at + k)))) old
+    → CopiesWords words at (8 * k) old → (length new ≡ length old) × CopiesWords words at (length old) new
+rest_copied words old new at k some few is before =
+    let word : ℕ = slice_index words (at + k) in
+    let part : List ℕ = take (length old - 8 * k) (to_le_bytes w64 word) in
+    let len : length part ≡ length old - 8 * k = length-take-le (length old - 8 * k) (to_le_bytes w64 word) (omega arith) in
+    let more = more_copied words old new part at k (omega arith) (omega arith) is
+    (λ i lt. get_or-take (length old - 8 * k) (to_le_bytes w64 word) i 0 (omega arith) ∙ byte_of_bytes word i (omega arith)) before in
+    (more.0, λ j lt. more.1 j (omega arith))
 
 module _ (r : Ring) (c : Claim) (rest : List Claim) (ok : IsRing r) (has : Has r (c ∷ rest)) (at : IsAtHead r c) where
   lawful : IsMessage r.capacity c.message

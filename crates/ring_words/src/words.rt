@@ -4,7 +4,7 @@ ghost use Rattle.std.specs.Int.{from_le_bytes, w64};
 ghost use Rattle.ring_layout.specs.History.{overwritten};
 ghost use Rattle.ring_words.specs.Storing.{HoldsBody};
 
-use ring_layout::{first_word, put_bytes_word, put_part};
+use ring_layout::{first_word, put_bytes_word, put_part, put_word};
 
 /// Stores a body from the word `at` on, with zeros up to the end of its last word.
 pub(crate) fn store_body(words: &mut [u64], at: usize, body: &[u8])
@@ -13,8 +13,12 @@ pub(crate) fn store_body(words: &mut [u64], at: usize, body: &[u8])
     ensures below { (i : ℕ) → i < at → slice_index words.new i ≡ slice_index words.old i }
     ensures above { (i : ℕ) → at + (length body.now + 7) / 8 ≤ i → slice_index words.new i ≡ slice_index words.old i }
 {
-    for k in 0..body.len().div_ceil(8) {
-        words[at + k] = first_word(&body[8 * k..]);
+    let whole = body.len() / 8;
+    for k in 0..whole {
+        words[at + k] = first_word(&body[8 * k..8 * k + 8]);
+    }
+    if body.len() % 8 > 0 {
+        words[at + whole] = first_word(&body[8 * whole..]);
     }
 }
 
@@ -40,8 +44,12 @@ pub(crate) fn load_body(words: &[u64], at: usize, body: &mut [u8])
     requires { at + (length body.old + 7) / 8 ≤ length words.now }
     ensures { (k : ℕ) → k < length body.new → slice_index body.new k ≡ slice_index words.now (at + k / 8) / 2 ^ (8 * (k % 8)) % 256 }
 {
-    for k in 0..body.len().div_ceil(8) {
-        put_part(body, 8 * k, words[at + k]);
+    let whole = body.len() / 8;
+    for k in 0..whole {
+        put_word(body, 8 * k, words[at + k]);
+    }
+    if body.len() % 8 > 0 {
+        put_part(body, 8 * whole, words[at + whole]);
     }
 }
 

@@ -1,17 +1,26 @@
-use Rattle.std.proofs.Common.{ℕ, ◌+◌, ◌*◌, ◌<◌, ◌≢◌, length, arith, get_or-set_other, get_or-set_same, below_more, ◌∙◌, ap}
-use Rattle.std.proofs.lemmas.List.{take_rest}
+use Rattle.std.proofs.Common.{◌≡◌, ℕ, ◌+◌, ◌*◌, ◌-◌, ◌<◌, ◌≢◌, List, length, take, drop, slice_set, arith, get_or-set_other, get_or-set_same, below_more, ◌∙◌}
+use Rattle.std.proofs.lemmas.List.{get_or-take}
 use Rattle.std.specs.Int.{from_le_bytes, w64}
+use Rattle.ring_layout.proofs.WordBytes.{from_le_bytes-same}
+use Rattle.ring_words.proofs.words.store_body.Invariants.{Stored}
 use Rattle.ring_words.proofs.words.store_body.Goals as goal
+
+-- one more word of the body is stored
+stored_on : (old words body : List ℕ) (at k word : ℕ) → at + k < length words → word ≡ from_le_bytes w64 (drop (8 * k) body) → Stored old words body at k
+    → Stored old (slice_set words (at + k) word) body at (k + 1)
+stored_on old words body at k word fits is before = record {
+  inside = below_more _ _
+      (λ j h. let ne : at + j ≢ at + k = omega arith in get_or-set_other words (at + k) (at + j) word 0 ne ∙ before.inside j h)
+      (get_or-set_same words (at + k) word 0 fits ∙ is);
+  below = λ i h. let ne : i ≢ at + k = omega arith in get_or-set_other words (at + k) i word 0 ne ∙ before.below i h;
+  above = λ i h. let ne : i ≢ at + k = omega arith in get_or-set_other words (at + k) i word 0 ne ∙ before.above i (omega arith);
+}
+
+-- a word is told by its eight bytes
+word_of_eight : (n : ℕ) (bytes : List ℕ) → n ≡ 8 → from_le_bytes w64 (take n bytes) ≡ from_le_bytes w64 bytes
+word_of_eight n bytes is = from_le_bytes-same (take n bytes) bytes (λ i lt. get_or-take n bytes i 0 (omega arith))
 
 pub loop-k-preserved : goal.loop-k-preserved
 loop-k-preserved c =
-    let at : ℕ = c.args.at + c.loop-k.k in
-    let inv = c.loop-k.invariant in
-    let fits : at < length c.loop-k.words = omega arith in
-    record {
-      inside = below_more _ _
-          (λ j h. let ne : c.args.at + j ≢ at = omega arith in get_or-set_other c.loop-k.words at (c.args.at + j) c.first_word.result 0 ne ∙ inv.inside j h)
-          (get_or-set_same c.loop-k.words at c.first_word.result 0 fits ∙ c.first_word.ensures ∙ ap (from_le_bytes w64) (take_rest c.args.body.now (8 * c.loop-k.k)));
-      below = λ i h. let ne : i ≢ at = omega arith in get_or-set_other c.loop-k.words at i c.first_word.result 0 ne ∙ inv.below i h;
-      above = λ i h. let ne : i ≢ at = omega arith in get_or-set_other c.loop-k.words at i c.first_word.result 0 ne ∙ inv.above i (omega arith);
-    }
+    stored_on c.args.words.now c.loop-k.words c.args.body.now c.args.at c.loop-k.k c.first_word.result (omega arith)
+    (c.first_word.ensures ∙ word_of_eight (8 * c.loop-k.k + 8 - 8 * c.loop-k.k) (drop (8 * c.loop-k.k) c.args.body.now) (omega arith)) c.loop-k.invariant
