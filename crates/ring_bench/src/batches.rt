@@ -16,7 +16,7 @@ use std::time::Instant;
 /// The messages that a read may take.
 const LIMIT: u32 = 64;
 
-/// The messages of a batch.
+/// The most messages of a batch.
 const BATCH: u64 = 16;
 
 /// The tries to read a batch.
@@ -80,12 +80,12 @@ impl<R: SharedRing> Lane for Seated<R> {
     }
 }
 
-/// Writes the messages from this number on, as many as a batch has.
-fn put_batch<L: Lane>(lane: &mut L, body: &mut Body, from: u64) -> Result<(), Fault>
+/// Writes so many messages, from this number on.
+fn put_batch<L: Lane>(lane: &mut L, body: &mut Body, from: u64, count: u64) -> Result<(), Fault>
     requires { L.whole lane.old }
     ensures { L.whole lane.new }
 {
-    for k in 0..BATCH {
+    for k in 0..count {
         if !lane.put(body.numbered(from.wrapping_add(k))) {
             return Err(Fault::Refused);
         }
@@ -118,9 +118,10 @@ fn run_lane<L: Lane, R: Clock>(
     let mut sum = Sum::new();
     let mut number = 0u64;
     let start = Instant::now(rt)?;
-    for _ in 0..times.div_ceil(BATCH) {
-        put_batch(lane, body, number)?;
-        number = number.wrapping_add(BATCH);
+    while number < times {
+        let count = BATCH.min(times - number);
+        put_batch(lane, body, number, count)?;
+        number += count;
         take_batch(lane, &mut sum, number)?;
     }
     let nanos = nanos_since(rt, start)?;
