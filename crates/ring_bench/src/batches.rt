@@ -118,10 +118,10 @@ fn run_lane<L: Lane, R: Clock>(
     let mut sum = Sum::new();
     let mut number = 0u64;
     let start = Instant::now(rt)?;
-    while number < times {
-        let count = BATCH.min(times - number);
+    for _ in 0..times.div_ceil(BATCH) {
+        let count = BATCH.min(times.saturating_sub(number));
         put_batch(lane, body, number, count)?;
-        number += count;
+        number = number.wrapping_add(count);
         take_batch(lane, &mut sum, number)?;
     }
     let nanos = nanos_since(rt, start)?;
