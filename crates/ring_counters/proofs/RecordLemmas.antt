@@ -1,11 +1,11 @@
 -- The words of a record say what the record is.
-use Rattle.std.proofs.Common.{◌≡◌, ℕ, zero, suc, ◌+◌, ◌-◌, ◌*◌, ◌/◌, ◌%◌, ◌^◌, ◌<◌, ◌≤◌, ℤ, pos, negsuc, FitsSigned, List, [], ◌∷◌, ◌++◌, length, take, drop, set, replicate, slice_index, refl, sym, ap, subst, ◌∙◌, arith, inl, inr, get_or-set_other, get_or-set_same, All}
+use Rattle.std.proofs.Common.{◌≡◌, ℕ, zero, suc, ◌+◌, ◌-◌, ◌*◌, ◌/◌, ◌%◌, ◌^◌, ◌<◌, ◌≤◌, ℤ, pos, negsuc, FitsSigned, List, [], ◌∷◌, ◌++◌, length, drop, set, replicate, slice_index, refl, sym, ap, subst, ◌∙◌, arith, inl, inr, get_or-set_other, get_or-set_same, All}
 use Rattle.std.proofs.Math.ListN.{length-set}
-use Rattle.std.specs.Int.{Width, cast_signed, cast_unsigned, to_le_bytes, w32, w64}
+use Rattle.std.specs.Int.{Width, cast_signed, cast_unsigned, w32, w64}
 use Rattle.std.proofs.lemmas.Bool.{cases_lt, lt-ltb, le-ltb, ne_eqb, cond-true, cond-false}
 use Rattle.std.proofs.lemmas.Int.{to_z-of_z}
 use Rattle.std.proofs.lemmas.Nat.{mod_low, shr_high, from_le_bytes-to_le_bytes_4}
-use Rattle.std.proofs.lemmas.List.{ext_get_or, length-append, length-replicate, length-take, get_or-drop, get_or-take, get_or_past, get_or_append_left, get_or-append_right}
+use Rattle.std.proofs.lemmas.List.{ext_get_or, length-append, length-replicate, get_or-drop, get_or_past, get_or_append_left, get_or-append_right}
 use Rattle.std.proofs.lemmas.List.Elements.{All-get_or, All-from_get_or}
 use Rattle.std.proofs.lemmas.List.FromFn.{length-map-range_with_len, get_or-map-range_with_len}
 use Rattle.ring_counters.specs.Counter.{Status, Unused, Allocated, Reclaimed, Metadata, Values, padded, unused_metadata, unused_values, state_of, deadline_of, word_of_bytes, state_word, label_text, metadata_word, value_word}
@@ -287,17 +287,6 @@ reclaimed_shown words m state deadline h len is = record {
       (λ k lo hi. first k (omega arith) ∙ h.shows k hi ∙ metadata_word-label m k lo);
 }
 
--- the front of a full label, as far as its text goes
-pub text_at : (n : ℕ) (full label : List ℕ) → n ≡ 4 + length label → ((i : ℕ) → slice_index full i ≡ slice_index (label_text label) i)
-    → (i : ℕ) → slice_index (take n full) i ≡ slice_index (label_text label) i
-text_at n full label is same i =
-    elim (cases_lt i n) as (λ _. slice_index (take n full) i ≡ slice_index (label_text label) i) [
-      | inl inside ↦ get_or-take n full i 0 inside ∙ same i
-      | inr behind ↦
-          let whole : length (label_text label) ≡ 4 + length label = length-append (to_le_bytes w32 (length label)) label in
-          get_or_past (take n full) i 0 (omega (arith, length-take n full)) ∙ sym (get_or_past (label_text label) i 0 (omega arith))
-    ]
-
 -- a record of zeros after all of an allocated counter was stored
 pub allocated_shown : (type_id : ℤ) (key label text w0 w1 w2 : List ℕ) (state : ℕ) → FitsSigned w32 type_id → AreSmall key → AreSmall label → length key ≤ 112 → length label ≤ 380
     → state ≡ state_word (pos 1) type_id
@@ -305,13 +294,13 @@ pub allocated_shown : (type_id : ℤ) (key label text w0 w1 w2 : List ℕ) (stat
     → ((k : ℕ) → 8 * k < length key → slice_index w1 (2 + k) ≡ word_of_bytes key k)
     → ((i : ℕ) → i < 2 → slice_index w1 i ≡ slice_index w0 i)
     → ((i : ℕ) → 2 + (length key + 7) / 8 ≤ i → slice_index w1 i ≡ slice_index w0 i)
+    → length text ≡ 384
     → ((i : ℕ) → slice_index text i ≡ slice_index (label_text label) i)
     → ((k : ℕ) → 8 * k < length text → slice_index w2 (16 + k) ≡ word_of_bytes text k)
     → ((i : ℕ) → i < 16 → slice_index w2 i ≡ slice_index w1 i)
-    → ((i : ℕ) → 16 + (length text + 7) / 8 ≤ i → slice_index w2 i ≡ slice_index w1 i)
     → IsMetadata w2 record { status = Allocated; type_id = type_id; key = padded 112 key; label = label }
 unfolding AreSmall
-allocated_shown type_id key label text w0 w1 w2 state fits small_key small_label few_key few_label is_state is_w0 inside below above text_is text_inside text_below text_above =
+allocated_shown type_id key label text w0 w1 w2 state fits small_key small_label few_key few_label is_state is_w0 inside below above text_length text_is text_inside text_below =
     let m : Metadata = record { status = Allocated; type_id = type_id; key = padded 112 key; label = label } in
     record {
       lawful = record {
@@ -325,7 +314,9 @@ allocated_shown type_id key label text w0 w1 w2 state fits small_key small_label
           (text_below 0 (omega arith) ∙ below 0 (omega arith) ∙ ap (λ l. slice_index l 0) is_w0 ∙ is_state)
           (text_below 1 (omega arith) ∙ below 1 (omega arith) ∙ ap (λ l. slice_index l 1) is_w0)
           (λ k lo hi. text_below k hi ∙ key_word k lo hi ∙ word_of-padded 112 key (k - 2))
-          (λ k lo hi. label_word k lo ∙ word_of-same text (label_text label) text_is (k - 16));
+          (λ k lo hi.
+          let at : 16 + (k - 16) ≡ k = omega arith in
+          sym (ap (slice_index w2) at) ∙ text_inside (k - 16) (omega arith) ∙ word_of-same text (label_text label) text_is (k - 16));
     }
   where
     blank : (k : ℕ) → 2 ≤ k → slice_index w0 k ≡ 0
@@ -340,13 +331,6 @@ allocated_shown type_id key label text w0 w1 w2 state fits small_key small_label
         elim (cases_lt (8 * (k - 2)) (length key)) as (λ _. slice_index w1 k ≡ word_of_bytes key (k - 2)) [
           | inl less ↦ (let at : 2 + (k - 2) ≡ k = omega arith in sym (ap (slice_index w1) at) ∙ inside (k - 2) less)
           | inr more ↦ above k (omega arith) ∙ blank k lo ∙ sym (word_of-past key (k - 2) more)
-        ]
-
-    label_word : (k : ℕ) → 16 ≤ k → slice_index w2 k ≡ word_of_bytes text (k - 16)
-    label_word k lo =
-        elim (cases_lt (8 * (k - 16)) (length text)) as (λ _. slice_index w2 k ≡ word_of_bytes text (k - 16)) [
-          | inl less ↦ (let at : 16 + (k - 16) ≡ k = omega arith in sym (ap (slice_index w2) at) ∙ text_inside (k - 16) less)
-          | inr more ↦ text_above k (omega arith) ∙ above k (omega arith) ∙ blank k (omega arith) ∙ sym (word_of-past text (k - 16) more)
         ]
 
 pub allocated_values_shown : (registration owner : ℕ) → IsValues (set (set (replicate 16 0) 1 registration) 2 owner) record { value = pos 0; registration = registration; owner = owner }

@@ -63,12 +63,7 @@ impl MetadataRecord {
         words[STATE_WORD] = pack_state(RECORD_ALLOCATED, type_id);
         words[FREE_FOR_REUSE_DEADLINE_WORD] = NOT_FREE_FOR_REUSE;
         store_bytes(&mut words, KEY_WORD, key);
-        let text = full_label(label);
-        store_bytes(
-            &mut words,
-            LABEL_WORD,
-            &text[..LABEL_LENGTH_BYTES + label.len()],
-        );
+        store_bytes(&mut words, LABEL_WORD, &full_label(label));
         MetadataRecord { words }
     }
 

@@ -2,7 +2,7 @@ use Rattle.std.proofs.Common.{◌∙◌, ap, refl, pos, rules}
 use Rattle.std.specs.Int.{w32}
 use Rattle.std.proofs.lemmas.Int.{to_z-of_z}
 use Rattle.ring_counters.specs.Counter.{state_word}
-use Rattle.ring_counters.proofs.RecordLemmas.{AreSmall, metadata_decoded, allocated_shown, text_at}
+use Rattle.ring_counters.proofs.RecordLemmas.{AreSmall, metadata_decoded, allocated_shown}
 use Rattle.ring_counters.proofs.metadata.MetadataRecord.allocated.Goals as goal
 
 pub invariant_of-result : goal.invariant_of-result
@@ -11,7 +11,7 @@ invariant_of-result c = (
   _,
   allocated_shown c.args.type_id c.args.key.now c.args.label.now _ _ _ _ _ c.ranges.type_id (λ i. (c.type_inv.key i).fits) (λ i. (c.type_inv.label i).fits) c.requires.key c.requires.label
       (c.pack_state.ensures ∙ ap (state_word (pos 1)) (to_z-of_z w32 _ c.ranges.type_id)) refl
-      c.store_bytes.ensures.inside c.store_bytes.ensures.below c.store_bytes.ensures.above (text_at _ _ c.args.label.now (search rules) c.full_label-text.ensures) c.store_bytes-2.ensures.inside c.store_bytes-2.ensures.below c.store_bytes-2.ensures.above,
+      c.store_bytes.ensures.inside c.store_bytes.ensures.below c.store_bytes.ensures.above (search rules) c.full_label.ensures c.store_bytes-2.ensures.inside c.store_bytes-2.ensures.below,
 )
 
 pub returns : goal.returns
@@ -20,4 +20,4 @@ returns c =
     metadata_decoded _ _
     (allocated_shown c.args.type_id c.args.key.now c.args.label.now _ _ _ _ _ c.ranges.type_id (λ i. (c.type_inv.key i).fits) (λ i. (c.type_inv.label i).fits) c.requires.key c.requires.label
     (c.pack_state.ensures ∙ ap (state_word (pos 1)) (to_z-of_z w32 _ c.ranges.type_id)) refl
-    c.store_bytes.ensures.inside c.store_bytes.ensures.below c.store_bytes.ensures.above (text_at _ _ c.args.label.now (search rules) c.full_label-text.ensures) c.store_bytes-2.ensures.inside c.store_bytes-2.ensures.below c.store_bytes-2.ensures.above)
+    c.store_bytes.ensures.inside c.store_bytes.ensures.below c.store_bytes.ensures.above (search rules) c.full_label.ensures c.store_bytes-2.ensures.inside c.store_bytes-2.ensures.below)
