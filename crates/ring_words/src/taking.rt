@@ -22,11 +22,11 @@ pub(crate) struct Settled {
 }
 
 /// The settled record or padding at the head, if there is one.
-pub(crate) fn settled_at_head(words: &[u64], capacity: u32) -> Option<Settled>
-    requires { IsRing (ring capacity words.now) }
+pub(crate) fn settled_at_head(words: &[u64], capacity: u32, head: u64) -> Option<Settled>
+    requires ring { IsRing (ring capacity words.now) }
+    requires head { head ≡ head_of (ring capacity words.now) }
     ensures { (h : List Claim) → Has (ring capacity words.now) h → Sees (ring capacity words.now) h result }
 {
-    let head = words[capacity as usize / 8 + HEAD_POSITION_WORD];
     let (len, type_id) = unpack_header(words[word_index(capacity, head)]);
     if len > 0 {
         Some(Settled {
@@ -39,13 +39,13 @@ pub(crate) fn settled_at_head(words: &[u64], capacity: u32) -> Option<Settled>
 }
 
 /// Copies the body of the committed record at the head out of the words.
-pub(crate) fn load_at_head(words: &[u64], capacity: u32, body: &mut [u8])
+pub(crate) fn load_at_head(words: &[u64], capacity: u32, head: u64, body: &mut [u8])
     requires ring { IsRing (ring capacity words.now) }
+    requires head { head ≡ head_of (ring capacity words.now) }
     requires within { head_of (ring capacity words.now) % capacity + span (length body.old) ≤ capacity }
     ensures { (c : Claim) (rest : List Claim) → Has (ring capacity words.now) (c ∷ rest) → IsAtHead (ring capacity words.now) c
         → length c.message.body ≡ length body.new → body.new ≡ c.message.body }
 {
-    let head = words[capacity as usize / 8 + HEAD_POSITION_WORD];
     load_body(words, word_index(capacity, head) + 1, body);
 }
 
@@ -53,11 +53,13 @@ pub(crate) fn load_at_head(words: &[u64], capacity: u32, body: &mut [u8])
 pub(crate) fn show_at_head<H: Handler>(
     words: &[u64],
     capacity: u32,
+    head: u64,
     scratch: &mut [u8],
     settled: Settled,
     handler: &mut H,
 ) -> Action
     requires ring { IsRing (ring capacity words.now) }
+    requires head { head ≡ head_of (ring capacity words.now) }
     requires room { length scratch.old ≡ capacity / 8 }
     requires seen { (h : List Claim) → Has (ring capacity words.now) h → Sees (ring capacity words.now) h (Some settled) }
     requires message { settled.type_id ≢ padding_type }
@@ -68,22 +70,24 @@ pub(crate) fn show_at_head<H: Handler>(
 {
     let len = settled.len as usize - HEADER_LENGTH;
     let body = &mut scratch[..len];
-    load_at_head(words, capacity, body);
+    load_at_head(words, capacity, head, body);
     handler.on_message(settled.type_id, body)
 }
 
-/// Clears the settled record or padding at the head, and moves the head behind it.
-pub(crate) fn take_at_head(words: &mut [u64], capacity: u32, settled: Settled)
+/// Clears the settled record or padding at the head, moves the head behind it, and answers the new head.
+pub(crate) fn take_at_head(words: &mut [u64], capacity: u32, head: u64, settled: Settled) -> u64
     requires ring { IsRing (ring capacity words.old) }
+    requires head { head ≡ head_of (ring capacity words.old) }
     requires seen { (h : List Claim) → Has (ring capacity words.old) h → Sees (ring capacity words.old) h (Some settled) }
+    ensures next { result ≡ head_of (ring capacity words.new) }
     ensures ring { IsRing (ring capacity words.new) }
     ensures moves { MovesHead (ring capacity words.old) (ring capacity words.new) }
     ensures on { head_of (ring capacity words.old) < head_of (ring capacity words.new) }
     ensures leaves { (h : List Claim) → Has (ring capacity words.old) h → Leaves (ring capacity words.old) h settled (ring capacity words.new) }
 {
-    let trailer = capacity as usize / 8;
-    let head = words[trailer + HEAD_POSITION_WORD];
     let span = settled.len.next_multiple_of(8);
     clear(words, word_index(capacity, head), span as usize / 8);
-    words[trailer + HEAD_POSITION_WORD] = head + u64::from(span);
+    let next = head + u64::from(span);
+    words[capacity as usize / 8 + HEAD_POSITION_WORD] = next;
+    next
 }

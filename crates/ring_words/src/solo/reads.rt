@@ -18,15 +18,17 @@ use ring_layout::record_descriptor::PADDING_MSG_TYPE_ID;
 
 impl SoloRing {
     /// The settled record or padding at the head, if there is one.
-    fn settled(&self) -> Option<Settled>
+    fn settled(&self, head: u64) -> Option<Settled>
+        requires { head ≡ head_of self.now }
         ensures ring { IsRing self.now }
         ensures sees { (h : List Claim) → Has self.now h → Sees self.now h result }
     {
-        settled_at_head(&self.words, self.capacity)
+        settled_at_head(&self.words, self.capacity, head)
     }
 
     /// Shows the message at the head to the handler.
-    fn show<H: Handler>(&mut self, settled: Settled, handler: &mut H) -> Action
+    fn show<H: Handler>(&mut self, head: u64, settled: Settled, handler: &mut H) -> Action
+        requires head { head ≡ head_of self.old }
         requires seen { (h : List Claim) → Has self.old h → Sees self.old h (Some settled) }
         requires message { settled.type_id ≢ padding_type }
         requires ready { H.ready handler.old }
@@ -38,40 +40,44 @@ impl SoloRing {
         show_at_head(
             &self.words,
             self.capacity,
+            head,
             &mut self.scratch,
             settled,
             handler,
         )
     }
 
-    /// Passes the settled record or padding at the head.
-    fn pass(&mut self, settled: Settled)
-        requires { (h : List Claim) → Has self.old h → Sees self.old h (Some settled) }
+    /// Passes the settled record or padding at the head, and answers the new head.
+    fn pass(&mut self, head: u64, settled: Settled) -> u64
+        requires head { head ≡ head_of self.old }
+        requires seen { (h : List Claim) → Has self.old h → Sees self.old h (Some settled) }
+        ensures next { result ≡ head_of self.new }
         ensures moves { MovesHead self.old self.new }
         ensures on { head_of self.old < head_of self.new }
         ensures leaves { (h : List Claim) → Has self.old h → Leaves self.old h settled self.new }
     {
-        take_at_head(&mut self.words, self.capacity, settled);
+        take_at_head(&mut self.words, self.capacity, head, settled)
     }
 
     /// Tests whether the head went from `start` to the end of the buffer.
-    fn is_at_end(&self, start: u64) -> bool
+    fn is_at_end(&self, start: u64, head: u64) -> bool
+        requires { head ≡ head_of self.now }
         ensures { result ≡ (nat_lt start (head_of self.now) && head_of self.now % self.now.capacity == 0) }
     {
-        let head = self.positions().head;
         start < head && byte_index(self.capacity, head) == 0
     }
 
     /// What a read that began at the head `start` did.
-    fn read_end(&self, start: u64, messages: u32, stopped: Stop) -> ReadEnd
-        requires { start ≤ head_of self.now }
+    fn read_end(&self, start: u64, head: u64, messages: u32, stopped: Stop) -> ReadEnd
+        requires head { head ≡ head_of self.now }
+        requires order { start ≤ head_of self.now }
         ensures messages { result.messages ≡ messages }
         ensures bytes { start + result.bytes ≡ head_of self.now }
         ensures stopped { result.stopped ≡ stopped }
     {
         ReadEnd {
             messages,
-            bytes: self.positions().head - start,
+            bytes: head - start,
             stopped,
         }
     }
@@ -92,22 +98,23 @@ impl SoloRing {
         ensures claims { (t : ClaimAt) → IsOpen self.old t → IsOpen self.new t }
     {
         let start = self.positions().head;
+        let mut head = start;
         let mut messages = 0;
         'turns: loop {
             if messages == limit {
-                return self.read_end(start, messages, Stop::Limit);
+                return self.read_end(start, head, messages, Stop::Limit);
             }
-            if self.is_at_end(start) {
-                return self.read_end(start, messages, Stop::Block);
+            if self.is_at_end(start, head) {
+                return self.read_end(start, head, messages, Stop::Block);
             }
-            let Some(settled) = self.settled() else {
-                return self.read_end(start, messages, Stop::Unpublished);
+            let Some(settled) = self.settled(head) else {
+                return self.read_end(start, head, messages, Stop::Unpublished);
             };
             if settled.type_id != PADDING_MSG_TYPE_ID {
-                self.show(settled, handler);
+                self.show(head, settled, handler);
                 messages += 1;
             }
-            self.pass(settled);
+            head = self.pass(head, settled);
         }
     }
 
@@ -124,29 +131,30 @@ impl SoloRing {
         ensures claims { (t : ClaimAt) → IsOpen self.old t → IsOpen self.new t }
     {
         let start = self.positions().head;
+        let mut head = start;
         let mut messages = 0;
         'turns: loop {
             if messages == limit {
-                return self.read_end(start, messages, Stop::Limit);
+                return self.read_end(start, head, messages, Stop::Limit);
             }
-            if self.is_at_end(start) {
-                return self.read_end(start, messages, Stop::Block);
+            if self.is_at_end(start, head) {
+                return self.read_end(start, head, messages, Stop::Block);
             }
-            let Some(settled) = self.settled() else {
-                return self.read_end(start, messages, Stop::Unpublished);
+            let Some(settled) = self.settled(head) else {
+                return self.read_end(start, head, messages, Stop::Unpublished);
             };
             if settled.type_id == PADDING_MSG_TYPE_ID {
-                self.pass(settled);
+                head = self.pass(head, settled);
                 continue;
             }
-            match self.show(settled, handler) {
-                Action::Abort => return self.read_end(start, messages, Stop::Action),
+            match self.show(head, settled, handler) {
+                Action::Abort => return self.read_end(start, head, messages, Stop::Action),
                 Action::Break => {
-                    self.pass(settled);
-                    return self.read_end(start, messages + 1, Stop::Action);
+                    head = self.pass(head, settled);
+                    return self.read_end(start, head, messages + 1, Stop::Action);
                 }
                 Action::Commit | Action::Continue => {
-                    self.pass(settled);
+                    head = self.pass(head, settled);
                     messages += 1;
                 }
             }

@@ -10,7 +10,7 @@ use Rattle.ring_words.proofs.ReadLemmas.{ReadsOn, reads_on_none, reads_on_quiet,
 use Rattle.ring_words.proofs.solo.SoloRing.controlled_read.Goals as goal
 
 pub turns-init : goal.turns-init
-turns-init g c = (reads_on_none g.H.Handler.step c.args.limit c.args.self.now c.args.handler.now, c.positions-start.ensures.head, omega arith, c.requires)
+turns-init g c = (reads_on_none g.H.Handler.step c.args.limit c.args.self.now c.args.handler.now, c.positions-start.ensures.head, omega arith, c.requires, c.positions-start.ensures.head)
 
 pub returns-then-messages-limit-clause-controls : goal.returns-then-messages-limit-clause-controls
 returns-then-messages-limit-clause-controls g c =
@@ -43,17 +43,18 @@ turns-preserved-then-settled g c =
     let inside : head_of old < head_of mid → head_of mid % old.capacity ≢ 0 =
     λ lt. rw (sym inv.0.0.moves.capacity) (inside_from mid.capacity c.positions-start.result.head (head_of mid) test (omega (arith, inv.1))) in
     let fits : FitsSigned w32 settled.type_id = search rules in (
-      reads_on_quiet g.H.Handler.step c.args.limit c.args.self.now mid c.pass.new.self c.args.handler.now c.turns.handler c.turns.messages settled c.in-Some.ensures.ring inv.0
-          c.if-messages-limit.false inside c.pass.ensures.moves c.pass.ensures.leaves (padding_from settled.type_id fits c.if-settled.true),
+      reads_on_quiet g.H.Handler.step c.args.limit c.args.self.now mid c.pass-head.new.self c.args.handler.now c.turns.handler c.turns.messages settled c.in-Some.ensures.ring inv.0
+          c.if-messages-limit.false inside c.pass-head.ensures.moves c.pass-head.ensures.leaves (padding_from settled.type_id fits c.if-settled.true),
       inv.1,
       inv.2,
       inv.3,
+      c.pass-head.ensures.next,
     )
 
 pub turns-smaller-then-settled : goal.turns-smaller-then-settled
 turns-smaller-then-settled g c =
     let moves = (turns-preserved-then-settled g c).0.0.moves in
-    omega (arith, c.pass.ensures.on, moves.within)
+    omega (arith, c.pass-head.ensures.on, moves.within)
 
 pub turns-preserved : goal.turns-preserved
 turns-preserved g c =
@@ -65,10 +66,10 @@ turns-preserved g c =
     let inside : head_of old < head_of mid → head_of mid % old.capacity ≢ 0 =
     λ lt. rw (sym inv.0.0.moves.capacity) (inside_from mid.capacity c.positions-start.result.head (head_of mid) test (omega (arith, inv.1))) in
     let fits : FitsSigned w32 settled.type_id = search rules in
-    let new : Ring = c.pass-in-Commit.new.self in
+    let new : Ring = c.pass-head-in-Commit.new.self in
     let loud : settled.type_id ≢ padding_type = λ e. c.if-settled.false (ap (of_z w32) e) in
-    let moved = subst (λ (r : Ring). MovesHead r new) c.show.ensures.same c.pass-in-Commit.ensures.moves in
-    let left = subst (λ (r : Ring). (h : List Claim) → Has r h → Leaves r h settled new) c.show.ensures.same c.pass-in-Commit.ensures.leaves in
+    let moved = subst (λ (r : Ring). MovesHead r new) c.show.ensures.same c.pass-head-in-Commit.ensures.moves in
+    let left = subst (λ (r : Ring). (h : List Claim) → Has r h → Leaves r h settled new) c.show.ensures.same c.pass-head-in-Commit.ensures.leaves in
     let e = c.show.ensures.shown in
     let goes : GoesOn c.show.result = elim c.in-Commit.is as (λ _. GoesOn c.show.result) [ inl e ↦ subst GoesOn (sym e) tt | inr e ↦ subst GoesOn (sym e) tt ] in (
       reads_on_message g.H.Handler.step c.args.limit c.args.self.now mid new c.args.handler.now c.turns.handler c.turns.messages settled c.in-Some.ensures.ring inv.0
@@ -76,11 +77,12 @@ turns-preserved g c =
       inv.1,
       omega (arith, inv.2, c.if-messages-limit.false),
       c.show.ensures.ready,
+      c.pass-head-in-Commit.ensures.next,
     )
 
 pub turns-smaller : goal.turns-smaller
 turns-smaller g c =
-    let on = subst (λ (r : Ring). head_of r < head_of c.pass-in-Commit.new.self) c.show.ensures.same c.pass-in-Commit.ensures.on in
+    let on = subst (λ (r : Ring). head_of r < head_of c.pass-head-in-Commit.new.self) c.show.ensures.same c.pass-head-in-Commit.ensures.on in
     let moves = (turns-preserved g c).0.0.moves in
     omega (arith, on, moves.within)
 
@@ -94,10 +96,10 @@ returns-in-Break-clause-controls g c =
     let inside : head_of old < head_of mid → head_of mid % old.capacity ≢ 0 =
     λ lt. rw (sym inv.0.0.moves.capacity) (inside_from mid.capacity c.positions-start.result.head (head_of mid) test (omega (arith, inv.1))) in
     let fits : FitsSigned w32 settled.type_id = search rules in
-    let new : Ring = c.pass-in-Break.new.self in
+    let new : Ring = c.pass-head-in-Break.new.self in
     let loud : settled.type_id ≢ padding_type = λ e. c.if-settled.false (ap (of_z w32) e) in
-    let moved = subst (λ (r : Ring). MovesHead r new) c.show.ensures.same c.pass-in-Break.ensures.moves in
-    let left = subst (λ (r : Ring). (h : List Claim) → Has r h → Leaves r h settled new) c.show.ensures.same c.pass-in-Break.ensures.leaves in
+    let moved = subst (λ (r : Ring). MovesHead r new) c.show.ensures.same c.pass-head-in-Break.ensures.moves in
+    let left = subst (λ (r : Ring). (h : List Claim) → Has r h → Leaves r h settled new) c.show.ensures.same c.pass-head-in-Break.ensures.leaves in
     let e = c.show.ensures.shown in
     inr (inl (broke g.H.Handler.step c.args.limit c.args.self.now mid new c.args.handler.now c.turns.handler c.turns.messages settled c.in-Some.ensures.ring inv.0
     c.if-messages-limit.false inside moved left e.0 c.show.result c.show.new.handler loud e.1 e.2 c.read_end-in-Break.result c.in-Break.is c.read_end-in-Break.ensures.messages c.read_end-in-Break.ensures.stopped))
@@ -112,10 +114,10 @@ returns-in-Break-clause-claims g c =
     let inside : head_of old < head_of mid → head_of mid % old.capacity ≢ 0 =
     λ lt. rw (sym inv.0.0.moves.capacity) (inside_from mid.capacity c.positions-start.result.head (head_of mid) test (omega (arith, inv.1))) in
     let fits : FitsSigned w32 settled.type_id = search rules in
-    let new : Ring = c.pass-in-Break.new.self in
+    let new : Ring = c.pass-head-in-Break.new.self in
     let loud : settled.type_id ≢ padding_type = λ e. c.if-settled.false (ap (of_z w32) e) in
-    let moved = subst (λ (r : Ring). MovesHead r new) c.show.ensures.same c.pass-in-Break.ensures.moves in
-    let left = subst (λ (r : Ring). (h : List Claim) → Has r h → Leaves r h settled new) c.show.ensures.same c.pass-in-Break.ensures.leaves in
+    let moved = subst (λ (r : Ring). MovesHead r new) c.show.ensures.same c.pass-head-in-Break.ensures.moves in
+    let left = subst (λ (r : Ring). (h : List Claim) → Has r h → Leaves r h settled new) c.show.ensures.same c.pass-head-in-Break.ensures.leaves in
     let e = c.show.ensures.shown in
     let r = broke g.H.Handler.step c.args.limit c.args.self.now mid new c.args.handler.now c.turns.handler c.turns.messages settled c.in-Some.ensures.ring inv.0
     c.if-messages-limit.false inside moved left e.0 c.show.result c.show.new.handler loud e.1 e.2 c.read_end-in-Break.result c.in-Break.is c.read_end-in-Break.ensures.messages c.read_end-in-Break.ensures.stopped in
@@ -143,8 +145,8 @@ pub returns-in-Abort-clause-claims : goal.returns-in-Abort-clause-claims
 returns-in-Abort-clause-claims g c = λ t o.
     subst (λ (r : Ring). IsOpen r t) (sym c.show.ensures.same) (reads_keeps g.H.Handler.step c.args.limit c.args.self.now c.turns.self c.args.handler.now c.turns.handler c.turns.messages c.positions-start.ensures.ring c.turns.invariant.0.0 t o)
 
-pub pass-requires-in-Break : goal.pass-requires-in-Break
-pass-requires-in-Break g c = subst (λ (r : Ring). (h : List Claim) → Has r h → Sees r h (Some c.in-Some.settled)) (sym c.show.ensures.same) c.in-Some.ensures.sees
+pub pass-head-requires-in-Break-clause-seen : goal.pass-head-requires-in-Break-clause-seen
+pass-head-requires-in-Break-clause-seen g c = subst (λ (r : Ring). (h : List Claim) → Has r h → Sees r h (Some c.in-Some.settled)) (sym c.show.ensures.same) c.in-Some.ensures.sees
 
-pub pass-requires-in-Commit : goal.pass-requires-in-Commit
-pass-requires-in-Commit g c = subst (λ (r : Ring). (h : List Claim) → Has r h → Sees r h (Some c.in-Some.settled)) (sym c.show.ensures.same) c.in-Some.ensures.sees
+pub pass-head-requires-in-Commit-clause-seen : goal.pass-head-requires-in-Commit-clause-seen
+pass-head-requires-in-Commit-clause-seen g c = subst (λ (r : Ring). (h : List Claim) → Has r h → Sees r h (Some c.in-Some.settled)) (sym c.show.ensures.same) c.in-Some.ensures.sees

@@ -8,7 +8,7 @@ use Rattle.ring_words.proofs.solo.SoloRing.pass.Goals as goal
 pub take_at_head-requires-clause-seen : goal.take_at_head-requires-clause-seen
 take_at_head-requires-clause-seen c =
     let is : ring c.self.inside.capacity c.deref_mut.result.now ≡ c.args.self.now = ap (ring c.self.inside.capacity) c.deref_mut.ensures.value ∙ c.self.view_is in
-    subst (λ (r : Ring). (h : List Claim) → Has r h → Sees r h (Some c.args.settled)) (sym is) c.requires
+    subst (λ (r : Ring). (h : List Claim) → Has r h → Sees r h (Some c.args.settled)) (sym is) c.requires.seen
 
 pub returns-clause-leaves : goal.returns-clause-leaves
 returns-clause-leaves c =
