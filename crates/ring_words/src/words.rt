@@ -53,12 +53,35 @@ pub(crate) fn load_body(words: &[u64], at: usize, body: &mut [u8])
     }
 }
 
-/// Sets `count` words from `at` on to 0.
-pub(crate) fn clear(words: &mut [u64], at: usize, count: usize)
+/// Sets `count` words from `at` on to 0, by one fill.
+fn fill_zeros(words: &mut [u64], at: usize, count: usize)
     requires { at + count ≤ length words.old }
     ensures inside { (i : ℕ) → at ≤ i → i < at + count → slice_index words.new i ≡ 0 }
     ensures below { (i : ℕ) → i < at → slice_index words.new i ≡ slice_index words.old i }
     ensures above { (i : ℕ) → at + count ≤ i → slice_index words.new i ≡ slice_index words.old i }
 {
     words[at..at + count].fill(0);
+}
+
+/// Sets `count` words from `at` on to 0.
+///
+/// Fewer than 8 are covered from both ends by fills of a fixed length, which are plain stores. One fill of a length that is
+/// not known beforehand is a call, and the next load behind so short a store may have to wait for it.
+pub(crate) fn clear(words: &mut [u64], at: usize, count: usize)
+    requires { at + count ≤ length words.old }
+    ensures inside { (i : ℕ) → at ≤ i → i < at + count → slice_index words.new i ≡ 0 }
+    ensures below { (i : ℕ) → i < at → slice_index words.new i ≡ slice_index words.old i }
+    ensures above { (i : ℕ) → at + count ≤ i → slice_index words.new i ≡ slice_index words.old i }
+{
+    if count >= 8 {
+        fill_zeros(words, at, count);
+    } else if count >= 4 {
+        fill_zeros(words, at, 4);
+        fill_zeros(words, at + count - 4, 4);
+    } else if count >= 2 {
+        fill_zeros(words, at, 2);
+        fill_zeros(words, at + count - 2, 2);
+    } else if count == 1 {
+        words[at] = 0;
+    }
 }
