@@ -1,5 +1,6 @@
 pub mod RecordLemmas
 pub mod QueueLemmas
+mod FlagLemmas
 pub mod KeptLemmas
 pub mod ShownLemmas
 pub mod ValueSteps

@@ -1,7 +1,8 @@
 -- The words of a record say what the record is.
-use Rattle.std.proofs.Common.{◌≡◌, ℕ, zero, suc, ◌+◌, ◌-◌, ◌*◌, ◌/◌, ◌%◌, ◌^◌, ◌<◌, ◌≤◌, ℤ, pos, negsuc, FitsSigned, List, [], ◌∷◌, ◌++◌, length, drop, set, replicate, slice_index, refl, sym, ap, subst, ◌∙◌, arith, inl, inr, get_or-set_other, get_or-set_same, All}
+use Rattle.std.proofs.Common.{◌≡◌, ℕ, zero, suc, ◌+◌, ◌-◌, ◌*◌, ◌/◌, ◌%◌, ◌^◌, ◌<◌, ◌≤◌, ℤ, pos, negsuc, FitsSigned, List, [], length, drop, set, replicate, slice_index, refl, sym, ap, subst, ◌∙◌, arith, inl, inr, get_or-set_other, get_or-set_same, All}
 use Rattle.std.proofs.Math.ListN.{length-set}
-use Rattle.std.specs.Int.{Width, cast_signed, cast_unsigned, w32, w64}
+use Rattle.std.specs.Prelude.{min}
+use Rattle.std.specs.Int.{Width, from_le_bytes, cast_signed, cast_unsigned, w32, w64}
 use Rattle.std.proofs.lemmas.Bool.{cases_lt, lt-ltb, le-ltb, ne_eqb, cond-true, cond-false}
 use Rattle.std.proofs.lemmas.Int.{to_z-of_z}
 use Rattle.std.proofs.lemmas.Nat.{mod_low, shr_high, from_le_bytes-to_le_bytes_4}
@@ -10,7 +11,6 @@ use Rattle.std.proofs.lemmas.List.Elements.{All-get_or, All-from_get_or}
 use Rattle.std.proofs.lemmas.List.FromFn.{length-map-range_with_len, get_or-map-range_with_len}
 use Rattle.ring_counters.specs.Counter.{Status, Unused, Allocated, Reclaimed, Metadata, Values, padded, unused_metadata, unused_values, state_of, deadline_of, word_of_bytes, state_word, label_text, metadata_word, value_word}
 use Rattle.ring_counters.specs.Records.{byte_at, bytes_at, status_from, metadata_of, values_of, IsMetadata, SomeMetadata, IsValues, SomeValues}
-use borrow.Rule.Slice.PartMut.{put_mid}
 use Rattle.ring_layout.proofs.HeaderLemmas.{pattern_below}
 use Rattle.ring_layout.proofs.WordBytes.{byte_of_word, from_le_bytes-same}
 
@@ -78,17 +78,27 @@ word_of-zeros bytes zeros k = word_of-same bytes [] zeros k ∙ no_word k
 pub word_of-past : (bytes : List ℕ) (k : ℕ) → length bytes ≤ 8 * k → word_of_bytes bytes k ≡ 0
 word_of-past bytes k h = from_le_bytes-same (drop (8 * k) bytes) [] (λ i less. get_or-drop (8 * k) bytes i 0 ∙ get_or_past bytes (8 * k + i) 0 (omega arith))
 
--- what comes behind the bytes is 0, so it may be left out
-zeros_behind : (bytes tail : List ℕ) → ((i : ℕ) → slice_index tail i ≡ 0) → (i : ℕ) → slice_index (bytes ++ tail) i ≡ slice_index bytes i
-zeros_behind [] tail zeros i = zeros i
-zeros_behind (x ∷ bytes) tail zeros zero = refl
-zeros_behind (x ∷ bytes) tail zeros (suc i) = zeros_behind bytes tail zeros i
+-- ---- a label behind its length
 
--- a buffer of zeros after the first four bytes and the label behind them were stored
-pub full_label_at : (a b c d k : ℕ) (head label : List ℕ) → head ≡ a ∷ b ∷ c ∷ d ∷ [] → (i : ℕ) → slice_index (put_mid 4 k (head ++ drop 4 (replicate 384 0)) label) i ≡ slice_index (a ∷ b ∷ c ∷ d ∷ label) i
-full_label_at a b c d k head label is =
-    let P : List ℕ → Type 0 = λ l. (i : ℕ) → slice_index (put_mid 4 k (l ++ drop 4 (replicate 384 0)) label) i ≡ slice_index (a ∷ b ∷ c ∷ d ∷ label) i in
-    subst P (sym is) (zeros_behind (a ∷ b ∷ c ∷ d ∷ label) (drop k (replicate 380 0)) (λ i. get_or-drop k (replicate 380 0) i 0 ∙ zero_past 380 (k + i)))
+module _ (label : List ℕ) (short : length label ≤ 380) where
+  -- its first 4 bytes stand in one word with its length
+  pub first_of_text : AreSmall label → from_le_bytes w64 label * 2 ^ 32 % 2 ^ 64 + length label ≡ word_of_bytes (label_text label) 0
+  unfolding AreSmall
+  first_of_text small = omega (arith, from_le_bytes-to_le_bytes_4 (length label) (omega arith), small 0, small 1, small 2, small 3, small 4, small 5, small 6, small 7)
+
+  -- the words behind it are those of the bytes from the fifth on
+  pub rest_of_text : (n k : ℕ) → n ≡ min (length label) 4 → word_of_bytes (drop n label) k ≡ word_of_bytes (label_text label) (suc k)
+  rest_of_text n k is =
+      from_le_bytes-same (drop (8 * k) (drop n label)) (drop (8 * suc k) (label_text label))
+      (λ i h. get_or-drop (8 * k) (drop n label) i 0 ∙ get_or-drop n label (8 * k + i) 0 ∙ behind (8 * k + i)
+      ∙ (let at : suc (suc (suc (suc (4 + (8 * k + i))))) ≡ 8 * suc k + i = omega arith in ap (slice_index (label_text label)) at) ∙ sym (get_or-drop (8 * suc k) (label_text label) i 0))
+    where
+      behind : (i : ℕ) → slice_index label (n + i) ≡ slice_index (label_text label) (suc (suc (suc (suc (4 + i)))))
+      behind i =
+          elim (cases_lt (length label) 4) as (λ _. slice_index label (n + i) ≡ slice_index (label_text label) (suc (suc (suc (suc (4 + i)))))) [
+            | inl less ↦ get_or_past label (n + i) 0 (omega arith) ∙ sym (get_or_past label (4 + i) 0 (omega arith))
+            | inr more ↦ ap (slice_index label) (omega arith)
+          ]
 
 -- ---- words of a metadata record
 
@@ -288,19 +298,18 @@ reclaimed_shown words m state deadline h len is = record {
 }
 
 -- a record of zeros after all of an allocated counter was stored
-pub allocated_shown : (type_id : ℤ) (key label text w0 w1 w2 : List ℕ) (state : ℕ) → FitsSigned w32 type_id → AreSmall key → AreSmall label → length key ≤ 112 → length label ≤ 380
+pub allocated_shown : (type_id : ℤ) (key label w0 w1 w2 : List ℕ) (state : ℕ) → FitsSigned w32 type_id → AreSmall key → AreSmall label → length key ≤ 112 → length label ≤ 380
     → state ≡ state_word (pos 1) type_id
     → w0 ≡ set (set (replicate 64 0) 0 state) 1 (2 ^ 63 - 1)
     → ((k : ℕ) → 8 * k < length key → slice_index w1 (2 + k) ≡ word_of_bytes key k)
     → ((i : ℕ) → i < 2 → slice_index w1 i ≡ slice_index w0 i)
     → ((i : ℕ) → 2 + (length key + 7) / 8 ≤ i → slice_index w1 i ≡ slice_index w0 i)
-    → length text ≡ 384
-    → ((i : ℕ) → slice_index text i ≡ slice_index (label_text label) i)
-    → ((k : ℕ) → 8 * k < length text → slice_index w2 (16 + k) ≡ word_of_bytes text k)
+    → ((k : ℕ) → 8 * k < length label + 4 → slice_index w2 (16 + k) ≡ word_of_bytes (label_text label) k)
     → ((i : ℕ) → i < 16 → slice_index w2 i ≡ slice_index w1 i)
+    → ((i : ℕ) → 16 + (length label + 11) / 8 ≤ i → slice_index w2 i ≡ slice_index w1 i)
     → IsMetadata w2 record { status = Allocated; type_id = type_id; key = padded 112 key; label = label }
 unfolding AreSmall
-allocated_shown type_id key label text w0 w1 w2 state fits small_key small_label few_key few_label is_state is_w0 inside below above text_length text_is text_inside text_below =
+allocated_shown type_id key label w0 w1 w2 state fits small_key small_label few_key few_label is_state is_w0 inside below above text_inside text_below text_above =
     let m : Metadata = record { status = Allocated; type_id = type_id; key = padded 112 key; label = label } in
     record {
       lawful = record {
@@ -314,9 +323,7 @@ allocated_shown type_id key label text w0 w1 w2 state fits small_key small_label
           (text_below 0 (omega arith) ∙ below 0 (omega arith) ∙ ap (λ l. slice_index l 0) is_w0 ∙ is_state)
           (text_below 1 (omega arith) ∙ below 1 (omega arith) ∙ ap (λ l. slice_index l 1) is_w0)
           (λ k lo hi. text_below k hi ∙ key_word k lo hi ∙ word_of-padded 112 key (k - 2))
-          (λ k lo hi.
-          let at : 16 + (k - 16) ≡ k = omega arith in
-          sym (ap (slice_index w2) at) ∙ text_inside (k - 16) (omega arith) ∙ word_of-same text (label_text label) text_is (k - 16));
+          (λ k lo hi. label_word k lo);
     }
   where
     blank : (k : ℕ) → 2 ≤ k → slice_index w0 k ≡ 0
@@ -331,6 +338,13 @@ allocated_shown type_id key label text w0 w1 w2 state fits small_key small_label
         elim (cases_lt (8 * (k - 2)) (length key)) as (λ _. slice_index w1 k ≡ word_of_bytes key (k - 2)) [
           | inl less ↦ (let at : 2 + (k - 2) ≡ k = omega arith in sym (ap (slice_index w1) at) ∙ inside (k - 2) less)
           | inr more ↦ above k (omega arith) ∙ blank k lo ∙ sym (word_of-past key (k - 2) more)
+        ]
+
+    label_word : (k : ℕ) → 16 ≤ k → slice_index w2 k ≡ word_of_bytes (label_text label) (k - 16)
+    label_word k lo =
+        elim (cases_lt (8 * (k - 16)) (length label + 4)) as (λ _. slice_index w2 k ≡ word_of_bytes (label_text label) (k - 16)) [
+          | inl less ↦ (let at : 16 + (k - 16) ≡ k = omega arith in sym (ap (slice_index w2) at) ∙ text_inside (k - 16) less)
+          | inr more ↦ text_above k (omega arith) ∙ above k (omega arith) ∙ blank k (omega arith) ∙ sym (word_of-past (label_text label) (k - 16) (omega arith))
         ]
 
 pub allocated_values_shown : (registration owner : ℕ) → IsValues (set (set (replicate 16 0) 1 registration) 2 owner) record { value = pos 0; registration = registration; owner = owner }

@@ -1,13 +1,17 @@
 -- How a registry is kept in two lists of records.
-use Rattle.std.specs.Prelude.{◌≡◌, ◌≢◌, ℕ, ◌<◌, ◌≤◌, Bool, true, false, List, [], ◌∷◌, count_by, length, slice_index_or}
+use Rattle.std.specs.Prelude.{◌≡◌, ◌≢◌, ℕ, ◌<◌, ◌≤◌, Bool, true, false, List, [], ◌∷◌, map, count_by, length, slice_index_or}
 use Rattle.ring_counters.specs.Counter.{Metadata, Values, Counter, unused_counter, deadline_of}
-use Rattle.ring_counters.specs.Registry.{Registry, count_of, counter_at, status_at, is_unused, is_reclaimed}
+use Rattle.ring_counters.specs.Registry.{Registry, count_of, counter_at, status_at, is_unused, is_allocated, is_reclaimed}
 
 -- the counters of these records
 abbrev pub counters_of : List Metadata → List Values → List Counter
 counters_of [] vs = []
 counters_of (m ∷ ms) [] = []
 counters_of (m ∷ ms) (v ∷ vs) = record { metadata = m; values = v } ∷ counters_of ms vs
+
+-- whether each counter is in use
+abbrev pub live_flags : List Metadata → List Bool
+live_flags ms = map (λ m. is_allocated m.status) ms
 
 abbrev pub IsAbsent : ℕ → List ℕ → Type 0
 IsAbsent id [] = Unit {0}

@@ -1,5 +1,5 @@
 -- The counters as a registry, and what each call changes in it.
-use Rattle.std.specs.Prelude.{ℕ, ◌+◌, ◌==◌, Bool, true, false, ◌&&◌, ◌||◌, nat_lt, nat_le, if◌then◌else◌, ℤ, pos, List, [], ◌∷◌, ◌++◌, map, filter, fold, find, position, length, replicate, slice_set, slice_index_or, Option, Some, None, Result, Ok, Err}
+use Rattle.std.specs.Prelude.{ℕ, ◌+◌, ◌≤◌, ◌==◌, Bool, true, false, ◌&&◌, ◌||◌, nat_lt, nat_le, if◌then◌else◌, ℤ, pos, List, [], ◌∷◌, ◌++◌, map, filter, fold, find, position, length, replicate, slice_set, slice_index_or, Option, Some, None, Result, Ok, Err}
 use Rattle.std.specs.List.{list_all, range_with_len}
 use Rattle.ring_counters.specs.declared.fault.AllocateRefused.{AllocateRefused}
 use Rattle.ring_counters.specs.declared.fault.AllocateRefused.TheVariants.{KeyTooLong, LabelTooLong, LabelNotAscii, NoFreeCounter}
@@ -77,6 +77,9 @@ text_refusal_of key label =
     else (if nat_lt 380 (length label) then Some LabelTooLong
     else (if list_all (λ b. nat_lt b 128) label then None
     else Some LabelNotAscii))
+
+abbrev pub AreShort : List ℕ → List ℕ → Type 0
+AreShort key label = (length key ≤ 112) × (length label ≤ 380)
 
 abbrev pub given : Option AllocateRefused → Option ℕ → Result ℕ AllocateRefused
 given (Some fault) id = Err fault

@@ -7,10 +7,9 @@ ghost use Rattle.ring_counters.specs.Manager.{registry_of, writes_of, shares_of,
 
 use crate::fault::{AllocateRefused, BadOwner, IdFault, MakeFault};
 use crate::manager::CountersManager;
-use crate::metadata::MetadataRecord;
 use crate::records::Records;
 use crate::seats::CounterValues;
-use crate::values_record::ValueRecord;
+use crate::wanted::Wanted;
 use ring_layout::counter_descriptor::{MAX_COUNTERS, MAX_KEY_LENGTH, MAX_LABEL_LENGTH};
 use std::alloc::Global;
 
@@ -18,7 +17,12 @@ use std::alloc::Global;
 fn is_ascii(label: &[u8]) -> bool
     ensures { result ≡ list_all (λ b. nat_lt b 128) label.now }
 {
-    label.iter().all(|byte| *byte < 128)
+    // Every byte is looked at, so that many are at once.
+    let mut ascii = true;
+    for byte in label {
+        ascii &= *byte < 128;
+    }
+    ascii
 }
 
 /// Refuses a key or a label that breaks its limit.
@@ -112,9 +116,14 @@ impl CountersManager {
         ensures err { OnErr result (self.new ≡ self.old) }
     {
         check_texts(key, label)?;
-        let metadata = MetadataRecord::allocated(type_id, key, label);
-        let record = ValueRecord::allocated(registration, owner);
-        match self.records.allocate(now, metadata, record) {
+        let wanted = Wanted {
+            type_id,
+            key,
+            label,
+            registration,
+            owner,
+        };
+        match self.records.allocate(now, wanted) {
             Some(id) => {
                 values.store(&mut self.writer, id, 0);
                 Ok(id)

@@ -13,6 +13,7 @@ mod rule;
 mod seats;
 mod values;
 mod values_record;
+mod wanted;
 
 pub use fault::{AllocateRefused, BadId, BadOwner, IdFault, MakeFault, NoShares, OutOfMemory};
 pub use info::CounterInfo;

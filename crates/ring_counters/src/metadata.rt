@@ -1,13 +1,14 @@
 //! A metadata record of 64 words.
-ghost use Rattle.std.specs.Prelude.{◌≡◌, ℕ, ◌^◌, ◌<◌, ◌≤◌, length, slice_index};
-ghost use Rattle.ring_counters.specs.Counter.{Metadata, Allocated, Reclaimed, padded, unused_metadata, state_of, deadline_of, state_word, label_text, metadata_word};
+ghost use Rattle.std.specs.Prelude.{◌≡◌, ℕ, ◌+◌, ◌*◌, ◌/◌, ◌^◌, ◌<◌, ◌≤◌, length, slice_index};
+ghost use Rattle.ring_counters.specs.Counter.{Metadata, Allocated, Reclaimed, padded, unused_metadata, state_of, deadline_of, state_word, label_text, metadata_word, word_of_bytes};
 
 use crate::bytes::{load_bytes, store_bytes};
 use ring_layout::counter_descriptor::{
-    FREE_FOR_REUSE_DEADLINE_WORD, FULL_LABEL_LENGTH, KEY_OFFSET, KEY_WORD, LABEL_LENGTH_BYTES,
-    LABEL_OFFSET, LABEL_WORD, MAX_KEY_LENGTH, MAX_LABEL_LENGTH, METADATA_WORDS, NOT_FREE_FOR_REUSE,
+    FREE_FOR_REUSE_DEADLINE_WORD, KEY_OFFSET, KEY_WORD, LABEL_LENGTH_BYTES, LABEL_OFFSET,
+    LABEL_WORD, MAX_KEY_LENGTH, MAX_LABEL_LENGTH, METADATA_WORDS, NOT_FREE_FOR_REUSE,
     RECORD_ALLOCATED, RECORD_RECLAIMED, STATE_WORD,
 };
+use ring_layout::first_word;
 use std::marker::Model;
 
 #[derive(Drop)]
@@ -33,15 +34,17 @@ fn pack_state(state: i32, type_id: i32) -> u64
     u64::from(type_id.cast_unsigned()) << 32 | u64::from(state.cast_unsigned())
 }
 
-/// A label's length and the label, with zeros after it.
-fn full_label(label: &[u8]) -> [u8; FULL_LABEL_LENGTH]
-    requires { length label.now ≤ 380 }
-    ensures { (i : ℕ) → slice_index result i ≡ slice_index (label_text label.now) i }
+/// Stores a label's length and the label from the word `at` on, with zeros up to the end of their last word.
+fn store_label(words: &mut [u64], at: usize, label: &[u8])
+    requires short { length label.now ≤ 380 }
+    requires room { at + (length label.now + 11) / 8 ≤ length words.old }
+    ensures inside { (k : ℕ) → 8 * k < length label.now + 4 → slice_index words.new (at + k) ≡ word_of_bytes (label_text label.now) k }
+    ensures below { (i : ℕ) → i < at → slice_index words.new i ≡ slice_index words.old i }
+    ensures above { (i : ℕ) → at + (length label.now + 11) / 8 ≤ i → slice_index words.new i ≡ slice_index words.old i }
 {
-    let mut full = [0; FULL_LABEL_LENGTH];
-    full[..LABEL_LENGTH_BYTES].copy_from_slice(&(label.len() as u32).to_le_bytes());
-    full[LABEL_LENGTH_BYTES..LABEL_LENGTH_BYTES + label.len()].copy_from_slice(label);
-    full
+    // The label's first 4 bytes stand in one word with its length.
+    words[at] = first_word(label) << 32 | label.len() as u64;
+    store_bytes(words, at + 1, &label[label.len().min(LABEL_LENGTH_BYTES)..]);
 }
 
 impl MetadataRecord {
@@ -53,18 +56,17 @@ impl MetadataRecord {
         }
     }
 
-    /// The record of a counter in use.
-    pub(crate) fn allocated(type_id: i32, key: &[u8], label: &[u8]) -> Self
+    /// Makes the record that of a counter in use, with all its words.
+    pub(crate) fn allocate(&mut self, type_id: i32, key: &[u8], label: &[u8])
         requires key { length key.now ≤ 112 }
         requires label { length label.now ≤ 380 }
-        ensures { result ≡ record { status = Allocated; type_id = type_id; key = padded 112 key.now; label = label.now } }
+        ensures { self.new ≡ record { status = Allocated; type_id = type_id; key = padded 112 key.now; label = label.now } }
     {
-        let mut words = [0; METADATA_WORDS];
-        words[STATE_WORD] = pack_state(RECORD_ALLOCATED, type_id);
-        words[FREE_FOR_REUSE_DEADLINE_WORD] = NOT_FREE_FOR_REUSE;
-        store_bytes(&mut words, KEY_WORD, key);
-        store_bytes(&mut words, LABEL_WORD, &full_label(label));
-        MetadataRecord { words }
+        self.words = [0; METADATA_WORDS];
+        self.words[STATE_WORD] = pack_state(RECORD_ALLOCATED, type_id);
+        self.words[FREE_FOR_REUSE_DEADLINE_WORD] = NOT_FREE_FOR_REUSE;
+        store_bytes(&mut self.words, KEY_WORD, key);
+        store_label(&mut self.words, LABEL_WORD, label);
     }
 
     /// Marks the record as reclaimed. All else stays until the id is given again.

@@ -1,14 +1,15 @@
 //! The counters over vectors of records, and the queue of freed ids.
 ghost use Rattle.std.specs.Prelude.{◌≡◌, ◌≢◌, ℕ, ◌+◌, ◌-◌, ◌*◌, ◌^◌, ◌<◌, ◌≤◌, true, false, position, IfOk, IfSome, IfNone, MatchOption, length, replicate, slice_index, slice_index_or, slice_set, remove};
 ghost use Rattle.ring_counters.specs.Counter.{Metadata, Values, Counter, Allocated, deadline_of, unused_metadata, unused_values, unused_counter};
-ghost use Rattle.ring_counters.specs.Registry.{Registry, count_of, counter_at, status_at, is_due, is_allocated, next_id, due_id, unused_id, allocated_in, reclaimed_in, with_value, fresh_registry, answer, id_refusal_of, range_refusal_of, is_owned, owned_ids, closed_in, live_of};
+ghost use Rattle.ring_counters.specs.Registry.{Registry, count_of, counter_at, status_at, is_due, is_allocated, next_id, due_id, unused_id, allocated_in, reclaimed_in, with_value, fresh_registry, answer, id_refusal_of, range_refusal_of, is_owned, owned_ids, closed_in, live_of, new_counter, AreShort};
 ghost use Rattle.ring_counters.specs.Infos.{IsInfoOf, AreInfos};
 
 use crate::fault::IdFault;
 use crate::info::CounterInfo;
 use crate::metadata::MetadataRecord;
 use crate::values_record::ValueRecord;
-use ring_layout::counter_descriptor::{MAX_KEY_LENGTH, MAX_LABEL_LENGTH, RECORD_ALLOCATED};
+use crate::wanted::Wanted;
+use ring_layout::counter_descriptor::{MAX_KEY_LENGTH, MAX_LABEL_LENGTH};
 use std::alloc::{AllocError, Global};
 use std::collections::VecDeque;
 use std::marker::Model;
@@ -17,6 +18,8 @@ use std::marker::Model;
 pub(crate) struct Records {
     metadata: Vec<MetadataRecord>,
     values: Vec<ValueRecord>,
+    /// Whether each counter is in use, as its metadata say: close together, for a call that looks at nothing else there.
+    live: Vec<bool>,
     /// The freed ids in order of freeing, with room for every id.
     freed: VecDeque<u32>,
     /// Whether the deadlines never fall along the queue, so that where the first id is not due none is.
@@ -30,13 +33,13 @@ impl Model for Records {
     ghost use Rattle.std.specs.Prelude.{◌≡◌, length};
     ghost use Rattle.std.specs.VecDeque.{deque_capacity};
     ghost use Rattle.ring_counters.specs.Registry.{Registry};
-    ghost use Rattle.ring_counters.specs.Kept.{counters_of, IsKept};
+    ghost use Rattle.ring_counters.specs.Kept.{counters_of, live_flags, IsKept};
 
     ghost Value = { Registry };
 
     ghost view = { λ a. record { counters = counters_of a.metadata.items a.values.items; freed = a.freed.items; reuse_ms = a.reuse_ms } };
 
-    ghost invariant = { λ a. (length a.values.items ≡ length a.metadata.items) × IsKept (record { counters = counters_of a.metadata.items a.values.items; freed = a.freed.items; reuse_ms = a.reuse_ms }) (deque_capacity a.freed) a.used a.in_order };
+    ghost invariant = { λ a. (length a.values.items ≡ length a.metadata.items) × IsKept (record { counters = counters_of a.metadata.items a.values.items; freed = a.freed.items; reuse_ms = a.reuse_ms }) (deque_capacity a.freed) a.used a.in_order × (a.live.items ≡ live_flags a.metadata.items) };
 }
 
 /// This many metadata records that were never used.
@@ -59,6 +62,23 @@ fn unused_value_records(alloc: Global, count: u32) -> Result<Vec<ValueRecord>, A
         records.push_reserved(ValueRecord::unused());
     }
     Ok(records)
+}
+
+/// Makes the records of an id those of a counter in use.
+fn fill(metadata: &mut MetadataRecord, values: &mut ValueRecord, wanted: Wanted<'_>)
+    requires { AreShort wanted.key.now wanted.label.now }
+    ensures metadata { metadata.new ≡ (new_counter wanted.entry.type_id wanted.entry.key.now wanted.entry.label.now wanted.entry.registration wanted.entry.owner).metadata }
+    ensures values { values.new ≡ (new_counter wanted.entry.type_id wanted.entry.key.now wanted.entry.label.now wanted.entry.registration wanted.entry.owner).values }
+{
+    let Wanted {
+        type_id,
+        key,
+        label,
+        registration,
+        owner,
+    } = wanted;
+    metadata.allocate(type_id, key, label);
+    values.allocate(registration, owner);
 }
 
 /// Whether the deadlines along the queue still never fall after one more with this deadline.
@@ -85,6 +105,7 @@ impl Records {
         Ok(Records {
             metadata: unused_metadata_records(alloc, count)?,
             values: unused_value_records(alloc, count)?,
+            live: vec![in alloc; false; count as usize]?,
             freed: VecDeque::with_capacity(alloc, count as usize)?,
             in_order: true,
             used: 0,
@@ -137,51 +158,50 @@ impl Records {
     }
 
     /// Gives the freed id at this place of the queue again.
-    fn reuse(&mut self, at: usize, metadata: MetadataRecord, values: ValueRecord) -> u32
+    fn reuse(&mut self, at: usize, wanted: Wanted<'_>) -> u32
         requires at { at < length self.old.freed }
-        requires status { metadata.status ≡ Allocated }
+        requires short { AreShort wanted.key.now wanted.label.now }
         ensures id { result ≡ slice_index self.old.freed at }
         ensures inside { result < count_of self.old }
-        ensures changes { self.new.counters ≡ slice_set self.old.counters result (record { metadata = metadata; values = values }) }
+        ensures changes { self.new.counters ≡ slice_set self.old.counters result (new_counter wanted.entry.type_id wanted.entry.key.now wanted.entry.label.now wanted.entry.registration wanted.entry.owner) }
         ensures queue { self.new.freed ≡ remove self.old.freed at }
         ensures timeout { self.new.reuse_ms ≡ self.old.reuse_ms }
     {
         let Some(id) = self.freed.remove(at) else {
             unreachable!()
         };
-        self.metadata[id as usize] = metadata;
-        self.values[id as usize] = values;
+        let metadata = &mut self.metadata[id as usize];
+        let values = &mut self.values[id as usize];
+        fill(metadata, values, wanted);
+        self.live[id as usize] = true;
         id
     }
 
     /// Gives an id for the first time.
-    fn begin(&mut self, id: u32, metadata: MetadataRecord, values: ValueRecord)
+    fn begin(&mut self, id: u32, wanted: Wanted<'_>)
         requires id { unused_id self.old ≡ Some id }
-        requires status { metadata.status ≡ Allocated }
-        ensures { self.new ≡ allocated_in self.old id (record { metadata = metadata; values = values }) }
+        requires short { AreShort wanted.key.now wanted.label.now }
+        ensures { self.new ≡ allocated_in self.old id (new_counter wanted.entry.type_id wanted.entry.key.now wanted.entry.label.now wanted.entry.registration wanted.entry.owner) }
     {
-        self.metadata[id as usize] = metadata;
-        self.values[id as usize] = values;
+        let metadata = &mut self.metadata[id as usize];
+        let values = &mut self.values[id as usize];
+        fill(metadata, values, wanted);
+        self.live[id as usize] = true;
         self.used = id + 1;
     }
 
     /// Gives an id to a counter, if there is one.
-    pub(crate) fn allocate(
-        &mut self,
-        now: u64,
-        metadata: MetadataRecord,
-        values: ValueRecord,
-    ) -> Option<u32>
-        requires { metadata.status ≡ Allocated }
+    pub(crate) fn allocate(&mut self, now: u64, wanted: Wanted<'_>) -> Option<u32>
+        requires { AreShort wanted.key.now wanted.label.now }
         ensures id { result ≡ next_id self.old now }
-        ensures some { IfSome result (λ id. (id < count_of self.old) × (self.new ≡ allocated_in self.old id (record { metadata = metadata; values = values }))) }
+        ensures some { IfSome result (λ id. (id < count_of self.old) × (self.new ≡ allocated_in self.old id (new_counter wanted.entry.type_id wanted.entry.key.now wanted.entry.label.now wanted.entry.registration wanted.entry.owner))) }
         ensures none { IfNone result (self.new ≡ self.old) }
     {
         match self.first_due(now) {
-            Some(at) => Some(self.reuse(at, metadata, values)),
+            Some(at) => Some(self.reuse(at, wanted)),
             None => match self.first_unused() {
                 Some(id) => {
-                    self.begin(id, metadata, values);
+                    self.begin(id, wanted);
                     Some(id)
                 }
                 None => None,
@@ -199,6 +219,7 @@ impl Records {
         self.in_order = stays_in_order(self.in_order, &self.freed, &self.metadata, deadline);
         let record = &mut self.metadata[id as usize];
         record.reclaim(deadline);
+        self.live[id as usize] = false;
         self.freed.push_back_reserved(id);
     }
 
@@ -260,7 +281,7 @@ impl Records {
         requires { id < count_of self.now }
         ensures { result ≡ is_allocated (status_at self.now id) }
     {
-        self.metadata(id).state() == RECORD_ALLOCATED
+        self.live[id as usize]
     }
 
     /// Whether the counter is in use and has this owner.

@@ -32,14 +32,13 @@ impl ValueRecord {
         }
     }
 
-    /// The record of a counter in use, its value 0.
-    pub(crate) fn allocated(registration: u64, owner: u64) -> Self
-        ensures { result ≡ record { value = pos 0; registration = registration; owner = owner } }
+    /// Makes the record that of a counter in use, with all its words. The value is 0.
+    pub(crate) fn allocate(&mut self, registration: u64, owner: u64)
+        ensures { self.new ≡ record { value = pos 0; registration = registration; owner = owner } }
     {
-        let mut words = [0; COUNTER_WORDS];
-        words[REGISTRATION_ID_WORD] = registration;
-        words[OWNER_ID_WORD] = owner;
-        ValueRecord { words }
+        self.words = [0; COUNTER_WORDS];
+        self.words[REGISTRATION_ID_WORD] = registration;
+        self.words[OWNER_ID_WORD] = owner;
     }
 
     pub(crate) fn set(&mut self, value: i64)

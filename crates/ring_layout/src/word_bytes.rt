@@ -1,5 +1,5 @@
 //! Bytes inside a word, the first one lowest.
-ghost use Rattle.std.specs.Prelude.{◌≡◌, ◌+◌, ◌-◌, ◌*◌, ◌/◌, ◌%◌, ◌^◌, ◌<◌, ◌≤◌, length, take};
+ghost use Rattle.std.specs.Prelude.{◌≡◌, ◌+◌, ◌-◌, ◌*◌, ◌/◌, ◌%◌, ◌^◌, ◌<◌, ◌≤◌, length, slice_index, take};
 ghost use Rattle.std.specs.Int.{from_le_bytes, to_le_bytes, w64};
 ghost use Rattle.ring_layout.specs.History.{overwritten};
 
@@ -23,14 +23,29 @@ pub fn first_word(bytes: &[u8]) -> u64
     }
 }
 
+/// The byte at this place, 0 where there is none.
+fn byte_or_zero(bytes: &[u8], at: usize) -> u8
+    ensures { result ≡ slice_index bytes.now at }
+{
+    bytes.get(at).copied().unwrap_or(0)
+}
+
 /// Fewer than 8 bytes as a little-endian word, with zeros behind them.
 fn padded_word(bytes: &[u8]) -> u64
     requires { length bytes.now < 8 }
     ensures { result ≡ from_le_bytes w64 bytes.now }
 {
-    let mut padded = [0; 8];
-    padded[..bytes.len()].copy_from_slice(bytes);
-    u64::from_le_bytes(padded)
+    // Byte by byte: a word read where shorter copies were just written would wait for all stores before them.
+    u64::from_le_bytes([
+        byte_or_zero(bytes, 0),
+        byte_or_zero(bytes, 1),
+        byte_or_zero(bytes, 2),
+        byte_or_zero(bytes, 3),
+        byte_or_zero(bytes, 4),
+        byte_or_zero(bytes, 5),
+        byte_or_zero(bytes, 6),
+        0,
+    ])
 }
 
 /// Writes the 8 bytes of a word over those from `at` on.

@@ -1,18 +1,19 @@
-use Rattle.std.proofs.Common.{◌∙◌, sym, ap}
+use Rattle.std.proofs.Common.{◌∙◌, refl, sym, ap}
+use Rattle.std.specs.Int.{cast_signed, cast_unsigned, w32}
 use Rattle.atomic_table.specs.Seated.{TableId}
-use Rattle.ring_counters.specs.Counter.{Counter, Values}
-use Rattle.ring_counters.specs.Registry.{Registry}
+use Rattle.ring_counters.specs.Counter.{Counter}
+use Rattle.ring_counters.specs.Registry.{Registry, new_counter}
 use Rattle.ring_counters.proofs.AgreeLemmas.{agree_stored, count_stored}
 use Rattle.ring_counters.proofs.manager.CountersManager.allocate_owned.Goals as goal
 
 pub invariant_of-self : goal.invariant_of-self
 invariant_of-self c =
     let old = c.args.self.now in
-    let is : Counter = record { metadata = c.allocated-metadata.result; values = c.allocated-record.result } in
+    let is : Counter = new_counter (cast_signed w32 (cast_unsigned w32 c.args.type_id)) c.args.key.now c.args.label.now c.args.registration c.args.owner in
     let some = c.in-Some.ensures.some in
     let stored = ap (λ (r : Registry). r.counters) some.1 in
     record {
       agree = agree_stored old.records c.allocate.new.self c.in-Some.id is stored old.writer.seat.me.0.seen c.store.new.writer.seat.me.0.seen _ old.agree
-          some.0 (ap (λ (v : Values). v.value) c.allocated-record.ensures) c.store.ensures.writes;
+          some.0 refl c.store.ensures.writes;
       counts = ap (λ (t : TableId). t.words) (c.store.ensures.writer ∙ sym c.requires) ∙ old.counts ∙ sym (count_stored old.records c.allocate.new.self c.in-Some.id is stored);
     }

@@ -1,6 +1,8 @@
-use Rattle.std.proofs.Common.{◌≡◌, ℕ, List, true, ◌+◌, ◌-◌, ◌<◌, ◌≤◌, ◌∙◌, ap, arith, length, get_or}
+use Rattle.std.proofs.Common.{◌≡◌, ℕ, List, true, ◌+◌, ◌-◌, ◌<◌, ◌≤◌, ◌∙◌, sym, ap, arith, length, get_or}
 use Rattle.std.proofs.lemmas.List.{get_or_default}
-use Rattle.ring_counters.specs.Counter.{Reclaimed, deadline_of, unused_metadata}
+use Rattle.ring_counters.specs.Counter.{Metadata, Reclaimed, deadline_of, unused_metadata}
+use Rattle.ring_counters.specs.Registry.{is_allocated}
+use Rattle.ring_counters.proofs.FlagLemmas.{flags_size, flags_stored}
 use Rattle.ring_counters.proofs.KeptLemmas.{kept_room}
 use Rattle.ring_counters.proofs.ShownLemmas.{Shows, all_inside, allocated_below, room_left, reclaimed_shown, reclaimed_kept}
 use Rattle.ring_counters.proofs.records.Records.reclaim.Goals as goal
@@ -9,6 +11,11 @@ pub index_mut-record-requires : goal.index_mut-record-requires
 index_mut-record-requires c =
     let s : Shows c.args.self.now _ _ _ _ _ _ _ = record { view = c.self.view_is; same = c.self.invariant.0; kept = c.self.invariant.1 } in
     omega (arith, allocated_below _ _ _ _ _ _ _ _ s _ c.requires.allocated, c.self.inside.metadata.ok.0)
+
+pub index_mut-requires : goal.index_mut-requires
+index_mut-requires c =
+    let s : Shows c.args.self.now _ _ _ _ _ _ _ = record { view = c.self.view_is; same = c.self.invariant.0; kept = c.self.invariant.1 } in
+    omega (arith, allocated_below _ _ _ _ _ _ _ _ s _ c.requires.allocated, flags_size _ _ c.self.invariant.2, c.self.inside.live.ok.0)
 
 pub push_back_reserved-requires : goal.push_back_reserved-requires
 push_back_reserved-requires c =
@@ -30,7 +37,7 @@ invariant_of-self c =
     → (c.self.inside.in_order ≡ true) × (deadline_of (get_or c.self.inside.metadata.items last unused_metadata).status ≤ c.args.now + c.self.inside.reuse_ms) =
     λ o some. (let h = c.stays_in_order-self-inside.ensures o some in (h.0, omega (arith, h.1, same, c.from.ensures))) in
     let kept = reclaimed_kept _ _ _ _ _ _ _ _ s _ c.requires.allocated _ _ c.args.now c.stays_in_order-self-inside.result still is c.push_back_reserved.ensures.items in
-    (kept.0, kept_room _ _ _ _ _ c.push_back_reserved.ensures.capacity kept.1)
+    (kept.0, kept_room _ _ _ _ _ c.push_back_reserved.ensures.capacity kept.1, flags_stored _ _ c.self.invariant.2 _ _ _ (sym (ap (λ (m : Metadata). is_allocated m.status) is)))
 
 pub returns : goal.returns
 returns c =
