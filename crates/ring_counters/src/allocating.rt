@@ -17,12 +17,12 @@ use std::alloc::Global;
 fn is_ascii(label: &[u8]) -> bool
     ensures { result ≡ list_all (λ b. nat_lt b 128) label.now }
 {
-    // Every byte is looked at, so that many are at once.
-    let mut ascii = true;
+    // Every byte is looked at, so that many are at once: their union has its highest bit where one of them has.
+    let mut union = 0;
     for byte in label {
-        ascii &= *byte < 128;
+        union |= *byte;
     }
-    ascii
+    union < 128
 }
 
 /// Refuses a key or a label that breaks its limit.

@@ -1,5 +1,6 @@
 //! The counters over vectors of records, and the queue of freed ids.
 ghost use Rattle.std.specs.Prelude.{◌≡◌, ◌≢◌, ℕ, ◌+◌, ◌-◌, ◌*◌, ◌^◌, ◌<◌, ◌≤◌, true, false, position, IfOk, IfSome, IfNone, MatchOption, length, replicate, slice_index, slice_index_or, slice_set, remove};
+ghost use Rattle.std.specs.VecDeque.{deque_capacity};
 ghost use Rattle.ring_counters.specs.Counter.{Metadata, Values, Counter, Allocated, deadline_of, unused_metadata, unused_values, unused_counter};
 ghost use Rattle.ring_counters.specs.Registry.{Registry, count_of, counter_at, status_at, is_due, is_allocated, next_id, due_id, unused_id, allocated_in, reclaimed_in, with_value, fresh_registry, answer, id_refusal_of, range_refusal_of, is_owned, owned_ids, closed_in, live_of, new_counter, AreShort};
 ghost use Rattle.ring_counters.specs.Infos.{IsInfoOf, AreInfos};
@@ -79,6 +80,25 @@ fn fill(metadata: &mut MetadataRecord, values: &mut ValueRecord, wanted: Wanted<
     } = wanted;
     metadata.allocate(type_id, key, label);
     values.allocate(registration, owner);
+}
+
+/// Takes the id at this place out of the queue. The first one, which it mostly is, leaves without a look at which way is shorter.
+fn take_freed(freed: &mut VecDeque<u32>, at: usize) -> u32
+    requires { at < length freed.old.items }
+    ensures id { result ≡ slice_index freed.old.items at }
+    ensures items { freed.new.items ≡ remove freed.old.items at }
+    ensures capacity { deque_capacity freed.new ≡ deque_capacity freed.old }
+{
+    if at > 0 {
+        let Some(id) = freed.remove(at) else {
+            unreachable!()
+        };
+        return id;
+    }
+    let Some(id) = freed.pop_front() else {
+        unreachable!()
+    };
+    id
 }
 
 /// Whether the deadlines along the queue still never fall after one more with this deadline.
@@ -167,9 +187,7 @@ impl Records {
         ensures queue { self.new.freed ≡ remove self.old.freed at }
         ensures timeout { self.new.reuse_ms ≡ self.old.reuse_ms }
     {
-        let Some(id) = self.freed.remove(at) else {
-            unreachable!()
-        };
+        let id = take_freed(&mut self.freed, at);
         let metadata = &mut self.metadata[id as usize];
         let values = &mut self.values[id as usize];
         fill(metadata, values, wanted);

@@ -1,5 +1,4 @@
 use Rattle.std.proofs.Common.{◌≡◌, ◌<◌, ◌∙◌, sym, ap, arith, length, set, get_or, remove}
-use Rattle.std.proofs.lemmas.List.{get_or_default}
 use Rattle.ring_counters.specs.Counter.{Metadata, Allocated}
 use Rattle.ring_counters.specs.Registry.{Registry, is_allocated}
 use Rattle.ring_counters.proofs.FlagLemmas.{flags_size, flags_stored}
@@ -10,57 +9,57 @@ use Rattle.ring_counters.proofs.records.Records.reuse.Goals as goal
 pub index_mut-metadata-requires : goal.index_mut-metadata-requires
 index_mut-metadata-requires c =
     let s : Shows c.args.self.now _ _ _ _ _ _ _ = record { view = c.self.view_is; same = c.self.invariant.0; kept = c.self.invariant.1 } in
-    let found = c.in-Some.ensures in
+    let found = c.take_freed-id.ensures in
     let queue = shown_queue _ _ _ _ _ _ _ _ s in
     let less : c.args.at < length c.self.inside.freed.items = omega (arith, ap length queue, c.requires.at) in
-    let is : c.in-Some.id ≡ get_or c.args.self.now.freed c.args.at 0 = found.value ∙ get_or_default _ _ _ 0 less ∙ ap (λ l. get_or l c.args.at 0) queue in
-    let rest : c.remove.new.self.items ≡ remove c.args.self.now.freed c.args.at = found.items ∙ ap (λ l. remove l c.args.at) queue in
-    omega (arith, reused_inside _ _ _ _ _ _ _ _ s _ c.in-Some.id _ c.requires.at is rest, c.self.inside.metadata.ok.0)
+    let is : c.take_freed-id.result ≡ get_or c.args.self.now.freed c.args.at 0 = found.id ∙ ap (λ l. get_or l c.args.at 0) queue in
+    let rest : c.take_freed-id.new.freed.items ≡ remove c.args.self.now.freed c.args.at = found.items ∙ ap (λ l. remove l c.args.at) queue in
+    omega (arith, reused_inside _ _ _ _ _ _ _ _ s _ c.take_freed-id.result _ c.requires.at is rest, c.self.inside.metadata.ok.0)
 
 pub index_mut-values-requires : goal.index_mut-values-requires
 index_mut-values-requires c =
     let s : Shows c.args.self.now _ _ _ _ _ _ _ = record { view = c.self.view_is; same = c.self.invariant.0; kept = c.self.invariant.1 } in
-    let found = c.in-Some.ensures in
+    let found = c.take_freed-id.ensures in
     let queue = shown_queue _ _ _ _ _ _ _ _ s in
     let less : c.args.at < length c.self.inside.freed.items = omega (arith, ap length queue, c.requires.at) in
-    let is : c.in-Some.id ≡ get_or c.args.self.now.freed c.args.at 0 = found.value ∙ get_or_default _ _ _ 0 less ∙ ap (λ l. get_or l c.args.at 0) queue in
-    let rest : c.remove.new.self.items ≡ remove c.args.self.now.freed c.args.at = found.items ∙ ap (λ l. remove l c.args.at) queue in
-    omega (arith, reused_inside _ _ _ _ _ _ _ _ s _ c.in-Some.id _ c.requires.at is rest, s.same, c.self.inside.values.ok.0)
+    let is : c.take_freed-id.result ≡ get_or c.args.self.now.freed c.args.at 0 = found.id ∙ ap (λ l. get_or l c.args.at 0) queue in
+    let rest : c.take_freed-id.new.freed.items ≡ remove c.args.self.now.freed c.args.at = found.items ∙ ap (λ l. remove l c.args.at) queue in
+    omega (arith, reused_inside _ _ _ _ _ _ _ _ s _ c.take_freed-id.result _ c.requires.at is rest, s.same, c.self.inside.values.ok.0)
 
 pub index_mut-requires : goal.index_mut-requires
 index_mut-requires c =
     let s : Shows c.args.self.now _ _ _ _ _ _ _ = record { view = c.self.view_is; same = c.self.invariant.0; kept = c.self.invariant.1 } in
-    let found = c.in-Some.ensures in
+    let found = c.take_freed-id.ensures in
     let queue = shown_queue _ _ _ _ _ _ _ _ s in
     let less : c.args.at < length c.self.inside.freed.items = omega (arith, ap length queue, c.requires.at) in
-    let is : c.in-Some.id ≡ get_or c.args.self.now.freed c.args.at 0 = found.value ∙ get_or_default _ _ _ 0 less ∙ ap (λ l. get_or l c.args.at 0) queue in
-    let rest : c.remove.new.self.items ≡ remove c.args.self.now.freed c.args.at = found.items ∙ ap (λ l. remove l c.args.at) queue in
-    omega (arith, reused_inside _ _ _ _ _ _ _ _ s _ c.in-Some.id _ c.requires.at is rest, flags_size _ _ c.self.invariant.2, c.self.inside.live.ok.0)
+    let is : c.take_freed-id.result ≡ get_or c.args.self.now.freed c.args.at 0 = found.id ∙ ap (λ l. get_or l c.args.at 0) queue in
+    let rest : c.take_freed-id.new.freed.items ≡ remove c.args.self.now.freed c.args.at = found.items ∙ ap (λ l. remove l c.args.at) queue in
+    omega (arith, reused_inside _ _ _ _ _ _ _ _ s _ c.take_freed-id.result _ c.requires.at is rest, flags_size _ _ c.self.invariant.2, c.self.inside.live.ok.0)
 
 pub invariant_of-self : goal.invariant_of-self
 invariant_of-self c =
     let s : Shows c.args.self.now _ _ _ _ _ _ _ = record { view = c.self.view_is; same = c.self.invariant.0; kept = c.self.invariant.1 } in
-    let found = c.in-Some.ensures in
+    let found = c.take_freed-id.ensures in
     let queue = shown_queue _ _ _ _ _ _ _ _ s in
     let less : c.args.at < length c.self.inside.freed.items = omega (arith, ap length queue, c.requires.at) in
-    let is : c.in-Some.id ≡ get_or c.args.self.now.freed c.args.at 0 = found.value ∙ get_or_default _ _ _ 0 less ∙ ap (λ l. get_or l c.args.at 0) queue in
-    let rest : c.remove.new.self.items ≡ remove c.args.self.now.freed c.args.at = found.items ∙ ap (λ l. remove l c.args.at) queue in
+    let is : c.take_freed-id.result ≡ get_or c.args.self.now.freed c.args.at 0 = found.id ∙ ap (λ l. get_or l c.args.at 0) queue in
+    let rest : c.take_freed-id.new.freed.items ≡ remove c.args.self.now.freed c.args.at = found.items ∙ ap (λ l. remove l c.args.at) queue in
     let status : c.fill.new.metadata.status ≡ Allocated = ap (λ (m : Metadata). m.status) c.fill.ensures.metadata in
-    let kept = reused_kept _ _ _ _ _ _ _ _ s _ c.in-Some.id _ c.requires.at is rest _ _ status in
+    let kept = reused_kept _ _ _ _ _ _ _ _ s _ c.take_freed-id.result _ c.requires.at is rest _ _ status in
     (kept.0, kept_room _ _ _ _ _ found.capacity kept.1, flags_stored _ _ c.self.invariant.2 _ _ _ (sym (ap is_allocated status)))
 
 pub returns-clause-changes : goal.returns-clause-changes
 returns-clause-changes c =
     let s : Shows c.args.self.now _ _ _ _ _ _ _ = record { view = c.self.view_is; same = c.self.invariant.0; kept = c.self.invariant.1 } in
-    ap (λ (r : Registry). r.counters) (stored _ _ _ _ _ _ _ _ s _ _ _ c.remove.new.self.items)
-    ∙ (λ i. set c.args.self.now.counters c.in-Some.id record { metadata = c.fill.ensures.metadata i; values = c.fill.ensures.values i })
+    ap (λ (r : Registry). r.counters) (stored _ _ _ _ _ _ _ _ s _ _ _ c.take_freed-id.new.freed.items)
+    ∙ (λ i. set c.args.self.now.counters c.take_freed-id.result record { metadata = c.fill.ensures.metadata i; values = c.fill.ensures.values i })
 
 pub returns-clause-inside : goal.returns-clause-inside
 returns-clause-inside c =
     let s : Shows c.args.self.now _ _ _ _ _ _ _ = record { view = c.self.view_is; same = c.self.invariant.0; kept = c.self.invariant.1 } in
-    let found = c.in-Some.ensures in
+    let found = c.take_freed-id.ensures in
     let queue = shown_queue _ _ _ _ _ _ _ _ s in
     let less : c.args.at < length c.self.inside.freed.items = omega (arith, ap length queue, c.requires.at) in
-    let is : c.in-Some.id ≡ get_or c.args.self.now.freed c.args.at 0 = found.value ∙ get_or_default _ _ _ 0 less ∙ ap (λ l. get_or l c.args.at 0) queue in
-    let rest : c.remove.new.self.items ≡ remove c.args.self.now.freed c.args.at = found.items ∙ ap (λ l. remove l c.args.at) queue in
-    omega (arith, reused_inside _ _ _ _ _ _ _ _ s _ c.in-Some.id _ c.requires.at is rest, shown_size _ _ _ _ _ _ _ _ s)
+    let is : c.take_freed-id.result ≡ get_or c.args.self.now.freed c.args.at 0 = found.id ∙ ap (λ l. get_or l c.args.at 0) queue in
+    let rest : c.take_freed-id.new.freed.items ≡ remove c.args.self.now.freed c.args.at = found.items ∙ ap (λ l. remove l c.args.at) queue in
+    omega (arith, reused_inside _ _ _ _ _ _ _ _ s _ c.take_freed-id.result _ c.requires.at is rest, shown_size _ _ _ _ _ _ _ _ s)
