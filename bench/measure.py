@@ -6,6 +6,8 @@ sys.path.insert(0, sys.argv.pop(1))
 
 import run
 
+# The name of storms in the requests of run.py.
+STORM = "W7"
 CLIENTS = (1, 2, 4, 16, 64)
 peers_points = run.points
 
@@ -17,8 +19,8 @@ def points(quick):
         had.add((point[0], point[3]))
         yield point
     for clients in CLIENTS:
-        if ("W7", clients) not in had:
-            yield "W7", 20, 1024, clients, 30, False
+        if (STORM, clients) not in had:
+            yield STORM, 20, 1024, clients, 30, False
 
 
 run.points = points
