@@ -93,6 +93,7 @@ module _ (C e : ℕ) (s : St) (by : ℕ) (mine : View) (h : IsBoard C e by mine 
           exact = h.exact;
           each_seat = seats_stay (λ j u. Knows C e by mine j u u.stage) s.views id w mine_knows (λ j u _ on. h.each_seat j u on);
           each_copy = seats_stay (λ j u. AreRuns mine.sent u.from u.copies) s.views id w runs (λ j u _ on. h.each_copy j u on);
+          each_heard = h.each_heard;
           each_log = seats_stay (λ j u. Logged C e mine.sent mine.stage u.log) s.views id w logs (λ j u _ on. h.each_log j u on);
           shares = let a = total_set s.views id v w at in let b = h.shares in omega arith;
         },

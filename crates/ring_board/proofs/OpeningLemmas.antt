@@ -66,6 +66,7 @@ module _ (C e : ℕ) (roomy : 256 ≤ C) (narrow : C ≤ 2 ^ 24) (whole : C % 64
       exact = zeros;
       each_seat = one (λ j y. Knows C e 0 (opening_view C e) j y y.stage) refl;
       each_log = one (λ j y. Logged C e [] Idle y.log) (no_log C e [] Idle);
+      each_heard = λ i j g. absurd (some-ne-none j (sym g));
       each_copy = one (λ j y. AreRuns [] y.from y.copies) (no_copies [] e);
       shares = refl;
     },

@@ -12,7 +12,8 @@ use Rattle.ring_board.specs.declared.view.Stage.TheVariants.{Idle, Resting}
 use Rattle.ring_board.specs.Records.{Chain, last_of}
 use Rattle.ring_board.specs.Runs.{AreRuns}
 use Rattle.ring_board.specs.Rule.{Logged, intent, latest, shown, Before, Fresh, Receives, Knows, total_shares, Holds}
-use Rattle.ring_board.specs.Steps.{Sat, fewer, newcomer, joined, spent, Learns}
+use Rattle.ring_board.specs.declared.view.Joined.{Joined}
+use Rattle.ring_board.specs.Steps.{Sat, as_joined, fewer, newcomer, joined, spent, Learns}
 use Rattle.ring_board.proofs.PlaceLemmas.{chain_last, last_low}
 use Rattle.ring_board.proofs.OpeningLemmas.{no_copies, no_log}
 use Rattle.ring_board.proofs.SeatLemmas.{in_list, total_set, seats_stay, knows_moves, owner}
@@ -86,6 +87,7 @@ module _ (C e : ℕ) where
               (λ j y _ on. h.each_copy j y on) j x old)
               (λ (is : u ≡ x). subst (λ (y : View). AreRuns v.sent y.from y.copies) is (no_copies v.sent u.from))
               (at_snoc (set s.views id w) u x j g);
+          each_heard = h.each_heard;
           each_log = λ j x g. ⊎_elim (λ old. seats_stay (λ j y. Logged C e v.sent v.stage y.log) s.views id w (h.each_log id v at)
               (λ j y _ on. h.each_log j y on) j x old)
               (λ (is : u ≡ x). subst (λ (y : View). Logged C e v.sent v.stage y.log) is (no_log C e v.sent v.stage))
@@ -125,6 +127,7 @@ module _ (C e : ℕ) where
               (λ j y _ on. keep j y y.stage (h.each_seat j y on)) j x on);
           each_copy = seats_stay (λ j y. AreRuns v.sent y.from y.copies) (set s.views id u) other spent (no_copies v.sent 0) (λ j x _ on.
               seats_stay (λ j y. AreRuns v.sent y.from y.copies) s.views id u (h.each_copy other w was) (λ j y _ on. h.each_copy j y on) j x on);
+          each_heard = λ j x g. ⊎_elim (λ old. h.each_heard j x old) (λ (is : as_joined w ≡ x). subst (λ (y : Joined). AreRuns v.sent y.from y.copies) is (h.each_copy other w was)) (at_snoc v.heard (as_joined w) x j g);
           each_log = seats_stay (λ j y. Logged C e v.sent v.stage y.log) (set s.views id u) other spent (no_log C e v.sent v.stage) (λ j x _ on.
               seats_stay (λ j y. Logged C e v.sent v.stage y.log) s.views id u (h.each_log id v at) (λ j y _ on. h.each_log j y on) j x on);
           shares = let a = total_set s.views id v u at in let d = total_set (set s.views id u) other w spent there in let f = h.shares in omega arith;

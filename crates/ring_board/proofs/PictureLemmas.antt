@@ -13,6 +13,7 @@ use Rattle.ring_board.specs.declared.view.Stage.TheVariants.{Idle}
 use Rattle.ring_board.specs.Layout.{intent_index, tail_index, latest_index, board_words}
 use Rattle.ring_board.specs.Records.{end, Chain, stores, stores_of, last_at, IsNewest, IsBoardWord}
 use Rattle.ring_board.specs.Rule.{Holds, intent, latest, so_far}
+use Rattle.ring_board.specs.Runs.{AreAllRuns}
 use Rattle.ring_board.specs.Closing.{IsClosed}
 use Rattle.ring_board.proofs.PlaceLemmas.{apart, lies_after, lies_near, lies_whole}
 use Rattle.ring_board.proofs.StoreLemmas.{stores_where, at_joined}
@@ -126,7 +127,7 @@ module _ (C : ℕ) (roomy : 256 ≤ C) (whole : C % 64 ≡ 0) where
 
 -- what a closed board contains, and what copies its words
 pub closed_as : (C e id : ℕ) (me : View) (ws : List ℕ) (xs : List (Unit {0})) → me.stage ≡ Idle → Final (Seen (Holds C e) id me) ws xs
-    → (256 ≤ C) × (C % 64 ≡ 0) × IsClosed C e me.sent ws
+    → (256 ≤ C) × (C % 64 ≡ 0) × IsClosed C e me.sent ws × AreAllRuns me.sent me.heard
 closed_as C e id me ws xs eq f = let s = f.0 in let h = owner C e s f.1.0 id me Idle (λ by mine k. k) f.1.1 eq in let is = f.2 in (
   h.roomy,
   h.whole,
@@ -138,6 +139,7 @@ closed_as C e id me ws xs eq f = let s = f.0 in let h = owner C e s f.1.0 id me 
     tail = h.tail_is;
     latest = h.latest_is ∙ ap (λ (st : Stage). latest e me.sent st) eq;
   }),
+  h.each_heard,
 )
 
 pub closed_copy : (C e : ℕ) (sent : List Record) (ws ws' : List ℕ) → ((i : ℕ) → i < board_words C → get_or ws' i 0 ≡ get_or ws i 0)

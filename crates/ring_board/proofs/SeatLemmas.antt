@@ -14,7 +14,7 @@ use Rattle.ring_board.specs.declared.view.Stage.{Stage}
 use Rattle.ring_board.specs.declared.view.Stage.TheVariants.{Spent, Idle, Begun, Storing, Written, Shown, Resting, Sure, Headed, Padded, Again, Reading, Behind}
 use Rattle.ring_board.specs.Layout.{intent_index, tail_index, latest_index, board_words}
 use Rattle.ring_board.specs.Records.{end, Follows, Chain, end_of, stores, last_at}
-use Rattle.ring_board.specs.Runs.{Neighbours, AreRuns}
+use Rattle.ring_board.specs.Runs.{Neighbours, AreAllRuns, AreRuns}
 use Rattle.ring_board.specs.Rule.{intent, latest, shown, so_far, Running, Receives, Knows, total_shares, LoadOk, Logged, IsBoard, Holds}
 use Rattle.ring_board.proofs.PlaceLemmas.{end_snoc, last_snoc, lies_after, lies_cases, lies_whole}
 use Rattle.ring_board.proofs.StoreLemmas.{stores_where}
@@ -154,9 +154,9 @@ module _ (C e : ℕ) where
         → Running C (end_of e w.sent) ws w.stage → ((i : ℕ) → i < C / 8 → get_or ws i 0 ≡ last_at C (so_far w.sent w.stage) i 0)
         → Knows C e id w id w w.stage → ((j : ℕ) (v : View) → Knows C e id me j v v.stage → Knows C e id w j v v.stage)
         → ((v : View) → AreRuns me.sent v.from v.copies → AreRuns w.sent v.from v.copies) → w.from ≡ me.from → w.copies ≡ me.copies
-        → w.shares ≡ me.shares → ((l : Load) → LoadOk C e me.sent me.stage l → LoadOk C e w.sent w.stage l) → w.log ≡ me.log
+        → w.shares ≡ me.shares → ((l : Load) → LoadOk C e me.sent me.stage l → LoadOk C e w.sent w.stage l) → w.log ≡ me.log → w.heard ≡ me.heard
         → IsBoard C e id w record { words = ws; homes = s.homes; views = set s.views id w }
-    rebuilt wide capacity started behind chain low i t l valid running exact mine others runs from copies shares logs same_log = record {
+    rebuilt wide capacity started behind chain low i t l valid running exact mine others runs from copies shares logs same_log same_heard = record {
       wide = wide;
       roomy = h.roomy;
       narrow = h.narrow;
@@ -178,6 +178,7 @@ module _ (C e : ℕ) where
       each_copy = seats_stay (λ j v. AreRuns w.sent v.from v.copies) s.views id w
           (subst (λ (x : ℕ × List Taken). AreRuns w.sent x.0 x.1) (λ k. (sym from k, sym copies k)) (runs me (h.each_copy id me h.here)))
           (λ j v _ at. runs v (h.each_copy j v at));
+      each_heard = subst (AreAllRuns w.sent) (sym same_heard) (λ i j on. runs record me { from = j.from; copies = j.copies } (h.each_heard i j on));
       each_log = seats_stay (λ j v. Logged C e w.sent w.stage v.log) s.views id w
           (subst (Logged C e w.sent w.stage) (sym same_log) (λ i l on. logs l (h.each_log id me h.here i l on)))
           (λ j v _ at i l on. logs l (h.each_log j v at i l on));

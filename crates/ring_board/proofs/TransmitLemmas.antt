@@ -70,7 +70,7 @@ module _ (C e : ℕ) where
         (λ j v. knows_moves C e id me (staged me st) (λ u. subst (λ (l : List Record). Receives e me.sent l u) (sym sh)) (λ k r at. at)
         (subst (λ (y : ℕ). intent e me.sent me.stage ≤ y) (sym i) (omega arith)) j v v.stage)
         (λ v u. u) refl refl refl (loads_rise C e me.sent me.stage st (subst (λ (y : ℕ). intent e me.sent me.stage ≤ y) (sym i) (omega arith))
-        (subst (λ (y : ℕ). latest e me.sent me.stage ≤ y) (sym l) (omega arith))) refl
+        (subst (λ (y : ℕ). latest e me.sent me.stage ≤ y) (sym l) (omega arith))) refl refl
 
     module _ (d : Draft) (eq : me.stage ≡ Storing d) where
       ran : Lies C (end_of e me.sent) d.before d.place d.end × (d.place + 8 + 8 * length d.words ≤ d.end) × Stand C s.words
@@ -182,7 +182,7 @@ module _ (C e : ℕ) where
         running (λ c lt. inner 0 z c lt ∙ (h.exact c lt ∙ ap (λ (l : List (ℕ × ℕ)). last_at C l c 0) (ap (so_far me.sent) eq ∙ sym grows))) mine
         (λ j v. knows_moves C e id me (staged me st) (λ u. subst (λ (l : List Record). Receives e me.sent l u) (ap (shown me.sent) eq ∙ sym sh))
         (λ k r at. at) risen j v v.stage)
-        (λ v u. u) refl refl refl (loads_rise C e me.sent me.stage st risen (let same = ap (latest e me.sent) eq in omega arith)) refl
+        (λ v u. u) refl refl refl (loads_rise C e me.sent me.stage st risen (let same = ap (latest e me.sent) eq in omega arith)) refl refl
 
     begins_in : (z : ℕ) → me.stage ≡ Idle → z ≤ max_position → Lies C (end_of e me.sent) me.at (place_before me.capacity me.at z) z
         → Kept (C / 8 + 0) z (started me z)
@@ -212,7 +212,7 @@ module _ (C e : ℕ) where
         (λ v u. u) refl refl refl (loads_rise C e me.sent me.stage (Shown r) (let le = same in
         omega arith) (subst (λ (u : Stage). latest e me.sent u ≤ r.place) (sym eq)
         (let low = last_low C roomy whole e me.sent h.chain in
-        let a = lies_after C (end_of e me.sent) r.before r.place (end r) run.0.fits roomy whole in let b = run.0.fits.begins in omega arith))) refl
+        let a = lies_after C (end_of e me.sent) r.before r.place (end r) run.0.fits roomy whole in let b = run.0.fits.begins in omega arith))) refl refl
 
     sends_in : (r : Record) → me.stage ≡ Shown r → Kept (C / 8 + 1) (end r) (sent_on me r)
     sends_in r eq = let run = subst (Running C (end_of e me.sent) s.words) eq h.running in let x : ℕ = end r in
@@ -233,7 +233,7 @@ module _ (C e : ℕ) where
         (subst (λ (l : Stage). Receives e me.sent (shown me.sent l) u) eq k)) (λ k q at. at_longer me.sent (r ∷ []) k q at) (let le = same in
         omega arith) j v v.stage)
         (λ v u. runs_more me.sent r v.from v.copies u) refl refl refl
-        (λ l k. loads_sent C e me.sent r roomy whole run.0 l (subst (λ (u : Stage). LoadOk C e me.sent u l) eq k)) refl
+        (λ l k. loads_sent C e me.sent r roomy whole run.0 l (subst (λ (u : Stage). LoadOk C e me.sent u l) eq k)) refl refl
 
   -- The steps
   moved : (s : St) (id : ℕ) (cs : List (ℕ × (Unit {0}))) (i j x y : ℕ) (w v : View) → i ≡ j → x ≡ y → w ≡ v

@@ -14,7 +14,7 @@ use Rattle.ring_board.specs.declared.view.Load.TheVariants.{Word, Intent, Tail, 
 use Rattle.ring_board.specs.declared.view.Stage.{Stage}
 use Rattle.ring_board.specs.declared.view.Stage.TheVariants.{Spent, Idle, Begun, Storing, Written, Shown, Resting, Sure, Headed, Padded, Again, Reading, Behind}
 use Rattle.ring_board.specs.Records.{end, Lies, Follows, Chain, end_of, last_of, words_of, header_of, filled, stores, stores_of, last_at}
-use Rattle.ring_board.specs.Runs.{IsCopy, AreRuns}
+use Rattle.ring_board.specs.Runs.{IsCopy, AreAllRuns, AreRuns}
 
 -- The transmitter ----------------------------------------------------------
 
@@ -142,6 +142,7 @@ pub record IsBoard (C e by : ℕ) (mine : View) (s : State (Unit {0}) View) : Ty
   pub exact : (i : ℕ) → i < C / 8 → slice_index s.words i ≡ last_at C (so_far mine.sent mine.stage) i 0
   pub each_seat : (j : ℕ) (v : View) → get_elem? s.views j ≡ some v → Knows C e by mine j v v.stage
   pub each_copy : (j : ℕ) (v : View) → get_elem? s.views j ≡ some v → AreRuns mine.sent v.from v.copies
+  pub each_heard : AreAllRuns mine.sent mine.heard
   pub each_log : (j : ℕ) (v : View) → get_elem? s.views j ≡ some v → Logged C e mine.sent mine.stage v.log
   pub shares : total_shares s.views ≡ all_shares
 
@@ -150,4 +151,4 @@ Holds C e s = (by : ℕ) × (mine : View) × IsBoard C e by mine s
 
 -- the view of a new board's transmitter
 abbrev pub opening_view : ℕ → ℕ → View
-opening_view C e = record { stage = Idle; shares = all_shares; capacity = C; start = e; sent = []; from = e; at = e; next = 0; count = 0; copies = []; log = [] }
+opening_view C e = record { stage = Idle; shares = all_shares; capacity = C; start = e; sent = []; from = e; at = e; next = 0; count = 0; copies = []; log = []; heard = [] }

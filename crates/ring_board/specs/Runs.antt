@@ -4,6 +4,7 @@ use mathlib.Core.Option.{some}
 use lib.ListN.{get_elem?}
 use Rattle.ring_board.specs.declared.view.Record.{Record}
 use Rattle.ring_board.specs.declared.view.Taken.{Taken}
+use Rattle.ring_board.specs.declared.view.Joined.{Joined}
 
 -- a copy of this record
 pub record IsCopy (r : Record) (c : Taken) : Type 0 where
@@ -21,3 +22,7 @@ pub record AreRuns (sent : List Record) (from : ℕ) (copies : List Taken) : Typ
   pub entries : (i : ℕ) (c : Taken) → get_elem? copies i ≡ some c → (k : ℕ) × (r : Record) × (get_elem? sent k ≡ some r) × IsCopy r c
   pub follow : (i : ℕ) (a b : Taken) → get_elem? copies i ≡ some a → get_elem? copies (suc i) ≡ some b → Neighbours sent a b
   pub first : (c : Taken) → get_elem? copies 0 ≡ some c → c.count ≡ 0 → c.place ≡ from
+
+-- what each of these receivers copied are runs of the transmitted list
+abbrev pub AreAllRuns : List Record → List Joined → Type 0
+AreAllRuns sent heard = (i : ℕ) (j : Joined) → get_elem? heard i ≡ some j → AreRuns sent j.from j.copies

@@ -17,6 +17,7 @@ use Rattle.ring_board.specs.declared.seats.Receiver.{Receiver}
 use Rattle.ring_board.specs.declared.seats.RawRecord.{RawRecord}
 use Rattle.ring_board.specs.declared.seats.Copied.{Copied}
 use Rattle.ring_board.specs.declared.view.Taken.{Taken}
+use Rattle.ring_board.specs.declared.view.Joined.{Joined}
 use Rattle.ring_board.specs.declared.fault.Lapped.{Lapped}
 use Rattle.ring_board.specs.Receiving.{GotNothing, GotCopy, GotLapped, IsInside}
 use Rattle.ring_board.specs.Steps.{Sat, staged, draft, drafted, record_at}
@@ -36,6 +37,10 @@ view_of t = t.seat.me.0
 
 abbrev pub transmitted : Transmitter → List Record
 transmitted t = t.seat.me.0.sent
+
+-- the receivers that were joined, the oldest first
+abbrev pub heard_by : Transmitter → List Joined
+heard_by t = t.seat.me.0.heard
 
 abbrev pub shares_of : Transmitter → ℕ
 shares_of t = t.seat.me.0.shares

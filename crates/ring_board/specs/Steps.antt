@@ -8,6 +8,7 @@ use Rattle.ring_board.specs.declared.view.Load.TheVariants.{Word, Intent, Tail, 
 use Rattle.ring_board.specs.declared.view.Stage.TheVariants.{Spent, Idle, Begun, Storing, Written, Shown, Resting, Sure, Headed, Padded, Again, Reading, Behind}
 use Rattle.ring_board.specs.declared.view.Record.{Record}
 use Rattle.ring_board.specs.declared.view.Taken.{Taken}
+use Rattle.ring_board.specs.declared.view.Joined.{Joined}
 use Rattle.ring_board.specs.declared.view.Draft.{Draft}
 use Rattle.ring_board.specs.declared.view.View.{View}
 use Rattle.ring_board.specs.declared.view.Load.{Load}
@@ -199,14 +200,18 @@ fewer v = record v { shares = v.shares - 1 }
 -- a receiver at latest
 abbrev pub newcomer : View → View
 newcomer v = let p = last_of v.start v.sent in
-    record { stage = Resting; shares = 1; capacity = v.capacity; start = v.start; sent = []; from = p; at = p; next = length v.sent - 1; count = 0; copies = []; log = [] }
+    record { stage = Resting; shares = 1; capacity = v.capacity; start = v.start; sent = []; from = p; at = p; next = length v.sent - 1; count = 0; copies = []; log = []; heard = [] }
 
--- the transmitter takes back a receiver's share, and has its copies for a moment
+-- a receiver with this view, as it is known once it was joined
+abbrev pub as_joined : View → Joined
+as_joined u = record { from = u.from; copies = u.copies }
+
+-- the transmitter takes back a receiver's share, and has its copies
 abbrev pub joined : View → View → View
-joined v u = record v { shares = v.shares + u.shares; from = u.from; copies = u.copies }
+joined v u = record v { shares = v.shares + u.shares; from = u.from; copies = u.copies; heard = v.heard ++ as_joined u ∷ [] }
 
 abbrev pub spent : View
-spent = record { stage = Spent; shares = 0; capacity = 0; start = 0; sent = []; from = 0; at = 0; next = 0; count = 0; copies = []; log = [] }
+spent = record { stage = Spent; shares = 0; capacity = 0; start = 0; sent = []; from = 0; at = 0; next = 0; count = 0; copies = []; log = []; heard = [] }
 
 -- what the transmitter learns by a load of latest
 abbrev pub Learns : Step (Unit {0}) → Sat → ℕ → Sat → Type 0

@@ -5,7 +5,8 @@ ghost use Rattle.ring_layout.specs.Places.{max_position};
 ghost use Rattle.ring_board.specs.Layout.{is_board_capacity, IsBoardCapacity, intent_index, tail_index, latest_index};
 ghost use Rattle.ring_board.specs.Rule.{opening_view};
 ghost use Rattle.ring_board.specs.Refusals.{make_refusal_of, IsMadeUnless, IsRefusedAs};
-ghost use Rattle.ring_board.specs.Seats.{capacity_of, start_of, view_of, tail_of, shares_of, transmitted, IsTransmitterOf};
+ghost use Rattle.ring_board.specs.Runs.{AreAllRuns};
+ghost use Rattle.ring_board.specs.Seats.{capacity_of, start_of, view_of, tail_of, heard_by, shares_of, transmitted, IsTransmitterOf};
 ghost use Rattle.ring_board.specs.Closing.{IsClosed, closed_words, closed_capacity, close_refusal_of, kept_open};
 
 use crate::fault::{MakeFault, ReceiversOut};
@@ -112,6 +113,7 @@ impl Board {
         requires { IsTransmitterOf self transmitter }
         ensures refused { IsRefusedAs (kept_open self transmitter) (close_refusal_of (shares_of transmitter)) result }
         ensures closed { IfOk result (λ c. (closed_capacity c ≡ capacity_of self) × IsClosed (capacity_of self) (start_of self) (transmitted transmitter) (closed_words c)) }
+        ensures runs { IfOk result (λ _. AreAllRuns (transmitted transmitter) (heard_by transmitter)) }
     {
         if transmitter.shares != ALL_SHARES {
             return Err(BoardCloseRefused {

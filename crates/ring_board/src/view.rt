@@ -26,6 +26,12 @@ pub struct Taken {
     pub count: u64,
 }
 
+/// Where a receiver that was joined had subscribed, and what it copied.
+pub struct Joined {
+    pub from: u64,
+    pub copies: LinkedList<Taken>,
+}
+
 /// A load of the buffer, with its index, a tail that was there before it and the word, or of one of the three counters.
 /// The tail is the one seen last; with the body of a record that was answered unread, the one of the moment.
 pub enum Load {
@@ -65,8 +71,9 @@ pub enum Stage {
     Behind,
 }
 
-/// What a seat knows. The transmitter has the list `sent`. A receiver subscribed at `from`, is at `at`, where the
-/// entry `next` of that list comes next, was lapped `count` times, and has its copies. Each has a log of its loads.
+/// What a seat knows. The transmitter has the list `sent`, and the receivers `heard` that were joined into it. A receiver
+/// subscribed at `from`, is at `at`, where the entry `next` of that list comes next, was lapped `count` times, and has
+/// its copies. Each has a log of its loads.
 pub struct View {
     pub stage: Stage,
     pub shares: u64,
@@ -79,6 +86,7 @@ pub struct View {
     pub count: u64,
     pub copies: LinkedList<Taken>,
     pub log: LinkedList<Load>,
+    pub heard: LinkedList<Joined>,
 }
 
 /// The capacity of a board in bytes, and the position at which it began.

@@ -39,9 +39,9 @@ same_committed (c ∷ cs) =
     let here = shown_at c.stage (placed_message c) in
     (λ i. same_shown c.from c.place c.message c.stage i ++ same_committed cs i) ∙ sym (messages_of-append here (placed_committed_of cs))
 
-pub whole : (C : ℕ) (p r : View) (rest : Ring) → HandsOut C p r rest → ((h g : List Claim) → Has rest h → Has rest g → committed_of h ≡ committed_of g)
+pub whole : (C start : ℕ) (p r : View) (rest : Ring) → HandsOut C start p r rest → ((h g : List Claim) → Has rest h → Has rest g → committed_of h ≡ committed_of g)
     → IsWhole p.producer.claims r.consumer.taken rest
-whole C p r rest out one h has =
+whole C start p r rest out one h has =
     let left = ap (λ l. messages_of r.consumer.taken ++ l) (one h (claims_of out.left) has out.has ∙ same_committed out.left) in
     let passed = ap (λ l. messages_of l ++ messages_of (placed_committed_of out.left)) out.messages in
     let all = ap (λ l. messages_of (placed_committed_of l)) out.whole ∙ (ap messages_of (placed_committed_of-append out.passed out.left) ∙ messages_of-append (placed_committed_of out.passed) (placed_committed_of out.left)) in

@@ -8,5 +8,7 @@ pub mod FoldLemmas
 pub mod WorkLemmas
 pub mod FinishLemmas
 pub mod RunLemmas
+pub mod SizeLemmas
+pub mod AccountLemmas
 pub mod SendingLemmas
 pub mod StormLemmas

@@ -1,5 +1,5 @@
 -- What is left of a run's cycles leads to the whole run.
-use Rattle.std.proofs.Common.{◌≡◌, ◌≢◌, ℕ, ◌+◌, List, [], ◌∷◌, refl, subst, inl, inr, arith}
+use Rattle.std.proofs.Common.{◌≡◌, ◌≢◌, ℕ, ◌+◌, List, [], ◌∷◌, refl, subst, inr, arith}
 use Rattle.ring_table.specs.declared.view.View.{View}
 use Rattle.ring_conductor.specs.declared.conductor.Cycle.{Cycle}
 use Rattle.ring_conductor.specs.declared.conductor.Work.{Work}

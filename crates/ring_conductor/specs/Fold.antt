@@ -3,6 +3,8 @@ use Rattle.std.specs.Prelude.{ℕ, List, [], ◌∷◌, ◌++◌}
 use Rattle.ring_layout.specs.declared.message.Message.{Message}
 use Rattle.ring_counters.specs.declared.rule.ValueWrite.{ValueWrite}
 use Rattle.ring_counters.specs.Registry.{Registry}
+use Rattle.ring_board.specs.declared.view.Joined.{Joined}
+use Rattle.ring_board.specs.declared.view.Taken.{Taken}
 use Rattle.ring_board.specs.declared.view.View.{View}
 use Rattle.ring_board.specs.Seats.{next_record}
 use Rattle.ring_board.specs.Steps.{sent_on}
@@ -30,6 +32,10 @@ served l now m =
 abbrev pub fold_of : Ledger → List (ℕ × Message) → Ledger
 fold_of l [] = l
 fold_of l (p ∷ ps) = fold_of (served l p.0 p.1) ps
+
+-- what the transmitter knows of its shares, and of the receivers that it took back, is this
+abbrev pub with_receivers : ℕ → ℕ → List Taken → List Joined → Ledger → Ledger
+with_receivers shares from copies heard l = record l { board = record l.board { shares = shares; from = from; copies = copies; heard = heard } }
 
 -- these messages, all at one moment
 abbrev pub at_moment : ℕ → List Message → List (ℕ × Message)

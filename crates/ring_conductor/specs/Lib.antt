@@ -7,6 +7,7 @@ pub mod Writing
 pub mod Codes
 pub mod Applied
 pub mod Fold
+pub mod Account
 pub mod Applying
 pub mod Serving
 pub mod Conducting

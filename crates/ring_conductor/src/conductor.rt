@@ -2,6 +2,7 @@
 ghost use Rattle.std.specs.Prelude.{◌≡◌, ◌+◌, ◌*◌, ◌≤◌, length};
 ghost use Rattle.ring_rings.specs.Seats.{taken_of};
 ghost use Rattle.ring_board.specs.Seats.{view_of};
+ghost use Rattle.ring_conductor.specs.Account.{HasFold};
 
 use ring_board::Transmitter;
 use ring_counters::CountersManager;
@@ -19,6 +20,7 @@ pub struct Conductor {
     pub(crate) received: u64,
     ghost counted: { received ≡ length (taken_of consumer) },
     ghost answered: { 8 * received ≤ (view_of transmitter).at },
+    ghost folded: { ∥ HasFold consumer counters transmitter ∥₁ },
 }
 
 /// Why the conductor stopped.

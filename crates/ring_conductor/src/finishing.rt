@@ -1,10 +1,14 @@
 //! How a conductor finishes.
 
 ghost use Rattle.std.specs.Prelude.{◌≡◌, IfErr, IfOk, OnOk, length};
-ghost use Rattle.ring_rings.specs.Closing.{HandsOut, IsRefusedAs, Serves};
+ghost use Rattle.ring_rings.specs.Closing.{AreOrdered, HandsOut, IsRefusedAs, Serves};
 ghost use Rattle.ring_rings.specs.Seats.{claims_of, open_claims_of, shares_of, view_of};
 ghost use Rattle.ring_board.specs.Closing.{IsClosed, closed_capacity, closed_words};
-ghost use Rattle.ring_board.specs.Seats.{capacity_of as board_capacity_of, shares_of as board_shares_of, start_of, transmitted};
+ghost use Rattle.ring_board.specs.Seats.{capacity_of as board_capacity_of, heard_by, shares_of as board_shares_of, start_of, transmitted};
+ghost use Rattle.ring_board.specs.Runs.{AreAllRuns};
+ghost use Rattle.ring_counters.specs.Manager.{registry_of, writes_of};
+ghost use Rattle.ring_rings.specs.Reading.{messages_of};
+ghost use Rattle.ring_conductor.specs.Account.{IsFoldOf, messages_in};
 ghost use Rattle.ring_conductor.specs.Conducting.{IsConductorOf, counters_of, received_of, ring_view, transmitter_of};
 ghost use Rattle.ring_conductor.specs.Finishing.{IsWhole, finish_refusal_of, handed_back};
 
@@ -74,14 +78,23 @@ pub fn finish<R: CommandSource>(
     ensures same { IfErr result (λ r. (r.ring ≡ ring) × (r.board ≡ board) × (r.values ≡ values) × (r.conductor ≡ conductor) × (r.producer ≡ producer)) }
     ensures back { IfErr result (λ r. IsConductorOf R.is_consumer r.ring r.board r.values r.conductor × R.is_producer r.ring r.producer) }
 
+    // The claims lie one behind the other from the ring's start on, so that their places rise and none occurs twice.
+    ensures ordered { IfOk result (λ _. AreOrdered (R.bytes ring) (R.start ring) (claims_of producer)) }
+
     // What was received, followed by what still lies in the ring, is the committed records, each whole and once.
     ensures whole { IfOk result (λ f. IsWhole (claims_of producer) (received_of conductor) f.rest) }
-    ensures rest { IfOk result (λ f. HandsOut (R.bytes ring) (view_of producer) (ring_view conductor) f.rest) }
+    ensures rest { IfOk result (λ f. HandsOut (R.bytes ring) (R.start ring) (view_of producer) (ring_view conductor) f.rest) }
     ensures service { IfOk result (λ f. Serves (R.bytes ring) (view_of producer) (ring_view conductor) f.rest) }
     ensures board { IfOk result (λ f. (closed_capacity f.board ≡ board_capacity_of board) × IsClosed (board_capacity_of board) (start_of board) (transmitted (transmitter_of conductor)) (closed_words f.board)) }
     ensures values { IfOk result (λ f. f.values ≡ values) }
     ensures counters { IfOk result (λ f. f.counters ≡ counters_of conductor) }
     ensures received { IfOk result (λ f. f.received ≡ length (received_of conductor)) }
+
+    // The messages received, each at a moment, make of fresh counters these counters, all value writes and the replies.
+    ensures folded { IfOk result (λ f. ∥ IsFoldOf (messages_of (received_of conductor)) (registry_of f.counters) (writes_of f.counters) (messages_in (transmitted (transmitter_of conductor))) ∥₁) }
+
+    // What each receiver copied that was joined are runs of all replies.
+    ensures runs { IfOk result (λ _. AreAllRuns (transmitted (transmitter_of conductor)) (heard_by (transmitter_of conductor))) }
 {
     if let Err(reason) = test_finish(&conductor, &producer) {
         return Err(FinishRefused {

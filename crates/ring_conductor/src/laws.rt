@@ -1,7 +1,12 @@
 //! What the grammar promises: each spelling is of one message, and what was encoded is decoded again.
 
-ghost use Rattle.std.specs.Prelude.{◌≡◌, ℕ, ℤ, List, take, Some, Ok};
+ghost use Rattle.std.specs.Prelude.{◌≡◌, ◌++◌, ℕ, ℤ, List, take, Some, Ok};
 ghost use Rattle.ring_conductor.specs.declared.replies.Reply.{Reply as AnyReply};
+ghost use Rattle.ring_layout.specs.declared.message.Message.{Message};
+ghost use Rattle.ring_board.specs.declared.view.Joined.{Joined};
+ghost use Rattle.ring_board.specs.declared.view.Taken.{Taken};
+ghost use Rattle.ring_conductor.specs.Conducting.{Begins};
+ghost use Rattle.ring_conductor.specs.Fold.{Ledger, fold_of, with_receivers};
 ghost use Rattle.ring_conductor.specs.Command.{Instruction, type_id_of, Spells};
 ghost use Rattle.ring_conductor.specs.Reply as reply;
 ghost use Rattle.ring_conductor.specs.Reading.{command_of, reply_of};
@@ -31,4 +36,19 @@ pub fn reply_round_trip()
         → reply_of (reply.type_id_of r) (take n new) ≡ Ok r }
     ensures bytes { (type_id : ℤ) (body : List ℕ) (r : AnyReply) (old new : List ℕ) (n : ℕ) → reply.Spells type_id body r
         → EncodesReply r old new n → take n new ≡ body }
+{}
+
+/// The fold of two lists of messages, one behind the other, is a fold of the second from where the first came to.
+pub fn fold_of_fold()
+    ensures { (l : Ledger) (first second : List (ℕ × Message)) → fold_of l (first ++ second) ≡ fold_of (fold_of l first) second }
+{}
+
+/// A fold only lengthens the transmitted list.
+pub fn fold_lengthens()
+    ensures { (l : Ledger) (messages : List (ℕ × Message)) → Begins l.board.sent (fold_of l messages).board.sent }
+{}
+
+/// A fold does not depend on what the transmitter knows of its shares, and of the receivers that it took back.
+pub fn fold_ignores_receivers()
+    ensures { (l : Ledger) (shares from : ℕ) (copies : List Taken) (heard : List Joined) (messages : List (ℕ × Message)) → fold_of (with_receivers shares from copies heard l) messages ≡ with_receivers shares from copies heard (fold_of l messages) }
 {}

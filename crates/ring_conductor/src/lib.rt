@@ -25,7 +25,10 @@ pub use conductor::{Conductor, Cycle, Work, WorkStop};
 pub use faults::Bad;
 pub use finish_fault::{FinishFault, FinishRefused};
 pub use finishing::{Finished, finish};
-pub use laws::{command_round_trip, one_command, one_reply, reply_round_trip};
+pub use laws::{
+    command_round_trip, fold_ignores_receivers, fold_lengthens, fold_of_fold, one_command,
+    one_reply, reply_round_trip,
+};
 pub use replies::Reply;
 pub use replies::decode::decode_reply;
 pub use replies::encode::encode_reply;

@@ -1,10 +1,10 @@
 //! Those who listen to the conductor's replies, and those who read the counters' values.
 
-ghost use Rattle.std.specs.Prelude.{◌≡◌, ◌+◌, ◌<◌, ◌↔◌, [], IfOk, IsOk, OnErr, OnOk};
+ghost use Rattle.std.specs.Prelude.{◌≡◌, ◌+◌, ◌++◌, ◌<◌, ◌↔◌, [], ◌∷◌, IfOk, IsOk, OnErr, OnOk};
 ghost use Rattle.ring_board.specs.Refusals.{subscribe_refusal_of, IsSubscribedUnless};
 ghost use Rattle.ring_board.specs.Runs.{AreRuns};
-ghost use Rattle.ring_board.specs.Seats.{view_of, shares_of, transmitted, IsTransmitterOf, IsReceiverOf, receiver_view, subscribed_at, copies_of};
-ghost use Rattle.ring_board.specs.Steps.{fewer, newcomer, joined};
+ghost use Rattle.ring_board.specs.Seats.{view_of, heard_by, shares_of, transmitted, IsTransmitterOf, IsReceiverOf, receiver_view, subscribed_at, copies_of};
+ghost use Rattle.ring_board.specs.Steps.{as_joined, fewer, newcomer, joined};
 ghost use Rattle.ring_counters.specs.Agree.{Agree};
 ghost use Rattle.ring_counters.specs.Manager.{registry_of, writes_of, IsManagerOf};
 ghost use Rattle.ring_counters.specs.Seats.{IsReaderOf, made_of, seen_by, loads_of};
@@ -43,6 +43,7 @@ impl Conductor {
         ensures runs { AreRuns (transmitted (transmitter_of self.old)) (subscribed_at receiver) (copies_of receiver) }
         ensures joined { view_of (transmitter_of self.new) ≡ joined (view_of (transmitter_of self.old)) (receiver_view receiver) }
         ensures shares { shares_of (transmitter_of self.new) ≡ shares_of (transmitter_of self.old) + 1 }
+        ensures heard { heard_by (transmitter_of self.new) ≡ heard_by (transmitter_of self.old) ++ as_joined (receiver_view receiver) ∷ [] }
         ensures others { KeepsTheRest self.old self.new }
     {
         board.join(&mut self.transmitter, receiver);

@@ -1,8 +1,9 @@
 //! The conductor at work for several cycles.
 
 ghost use Rattle.std.specs.Prelude.{◌≡◌, ◌^◌, ◌≤◌, All};
+ghost use Rattle.ring_board.specs.Seats.{heard_by, transmitted};
 ghost use Rattle.ring_conductor.specs.declared.conductor.WorkStop.TheVariants.{Limit};
-ghost use Rattle.ring_conductor.specs.Conducting.{IsConductorOf, ledger_of, ring_view, value_shares_of};
+ghost use Rattle.ring_conductor.specs.Conducting.{Begins, IsConductorOf, ledger_of, ring_view, transmitter_of, value_shares_of};
 ghost use Rattle.ring_conductor.specs.Running.{Runs};
 
 use crate::conductor::{Conductor, Cycle, Work, WorkStop};
@@ -24,6 +25,8 @@ impl Conductor {
         requires moments { All (λ cycle. cycle.now ≤ 2 ^ 62) cycles.now }
         ensures conductor { IsConductorOf R.is_consumer ring.now board.now values.now self.new }
         ensures runs { Runs cycles.now Limit (ring_view self.old) (ring_view self.new) (ledger_of self.old) (ledger_of self.new) result }
+        ensures grows { Begins (transmitted (transmitter_of self.old)) (transmitted (transmitter_of self.new)) }
+        ensures heard { heard_by (transmitter_of self.new) ≡ heard_by (transmitter_of self.old) }
         ensures value_shares { value_shares_of self.new ≡ value_shares_of self.old }
     {
         let mut messages = 0;

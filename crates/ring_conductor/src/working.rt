@@ -2,8 +2,8 @@
 
 ghost use Rattle.std.specs.Prelude.{◌≡◌, ◌^◌, ◌≤◌, []};
 ghost use Rattle.ring_rings.specs.Seats.{taken_of};
-ghost use Rattle.ring_board.specs.Seats.{transmitted};
-ghost use Rattle.ring_conductor.specs.Conducting.{AreUnused, IsConductorOf, Works, consumer_of, counters_of, ledger_of, ring_view, transmitter_of, value_shares_of, work_stop};
+ghost use Rattle.ring_board.specs.Seats.{heard_by, transmitted};
+ghost use Rattle.ring_conductor.specs.Conducting.{AreUnused, Begins, IsConductorOf, Works, consumer_of, counters_of, ledger_of, ring_view, transmitter_of, value_shares_of, work_stop};
 
 use crate::conductor::{Conductor, Work, WorkStop};
 use crate::serving::Serving;
@@ -65,6 +65,8 @@ impl Conductor {
         requires now { now ≤ 2 ^ 62 }
         ensures conductor { IsConductorOf R.is_consumer ring.now board.now values.now self.new }
         ensures works { Works now limit (ring_view self.old) (ring_view self.new) (ledger_of self.old) (ledger_of self.new) result }
+        ensures grows { Begins (transmitted (transmitter_of self.old)) (transmitted (transmitter_of self.new)) }
+        ensures heard { heard_by (transmitter_of self.new) ≡ heard_by (transmitter_of self.old) }
         ensures value_shares { value_shares_of self.new ≡ value_shares_of self.old }
     {
         let Conductor {

@@ -1,5 +1,5 @@
 -- What a closed table hands on.
-use Rattle.std.proofs.Common.{◌≡◌, ℕ, zero, suc, ◌≤◌, List, [], ◌∷◌, length, get_or, slice_index, refl, sym, ap, ◌∙◌, subst, arith}
+use Rattle.std.proofs.Common.{◌≡◌, ℕ, zero, suc, ◌≤◌, ◌<◌, List, [], ◌∷◌, length, get_or, slice_index, refl, sym, ap, ◌∙◌, subst, arith}
 use Rattle.std.specs.Prelude.{All}
 use Rattle.std.proofs.lemmas.List.Elements.{All-cons, All-nil}
 use mathlib.Core.Option.{some, some-injective, some-ne-none}
@@ -9,13 +9,14 @@ use Rattle.ring_layout.specs.History.{IsMessage}
 use Rattle.ring_layout.specs.Places.{end_of}
 use Rattle.ring_layout.specs.Picture.{IsPicture}
 use Rattle.ring_layout.specs.Layout.{head_cache_index, heartbeat_index}
+use Rattle.ring_layout.proofs.PlaceLemmas.{next_le, span_bounds}
 use Rattle.ring_table.specs.declared.view.ProducerView.{ProducerView}
 use Rattle.ring_table.specs.declared.view.ConsumerView.{ConsumerView}
 use Rattle.ring_table.specs.Services.{AreServed, once_below, times_drawn}
 use Rattle.ring_words.specs.Ring.{Has, IsRing, ring}
 use Rattle.ring_table.specs.declared.claim.StagedClaim.{StagedClaim}
 use Rattle.ring_table.specs.declared.view.View.{View}
-use Rattle.ring_table.specs.Staged.{ArePlaced, claim_end, claims_of}
+use Rattle.ring_table.specs.Staged.{AreAbove, ArePlaced, AreRising, claim_end, claims_of, staged_span}
 use Rattle.ring_table.specs.Closed.{IsClosed, LeavesRest, restarted}
 use Rattle.ring_table.specs.OpenClaims.{open_count}
 use Rattle.ring_table.specs.Views.{with_consumer_of}
@@ -31,6 +32,20 @@ read_at (x ∷ xs) (suc i) a e = read_at xs i a e
 placed_lawful : (C e : ℕ) (cs : List StagedClaim) → ArePlaced C e cs → All (λ (c : Claim). IsMessage C c.message) (claims_of cs)
 placed_lawful C e [] placed = All-nil (λ (c : Claim). IsMessage C c.message)
 placed_lawful C e (c ∷ cs) placed = All-cons (λ (d : Claim). IsMessage C d.message) _ (claims_of cs) placed.0.message (placed_lawful C (claim_end c) cs placed.1)
+
+-- placed claims rise
+placed_above : (C e p : ℕ) (cs : List StagedClaim) → ArePlaced C e cs → p < e → AreAbove p cs
+placed_above C e p [] placed lt = tt
+placed_above C e p (c ∷ cs) placed lt =
+    let n = next_le C e (staged_span c) in
+    let at = placed.0.place in
+    (omega arith, placed_above C (claim_end c) p cs placed.1 (omega arith))
+
+placed_rising : (C e : ℕ) (cs : List StagedClaim) → ArePlaced C e cs → AreRising cs
+placed_rising C e [] placed = tt
+placed_rising C e (c ∷ cs) placed =
+    let bytes = (span_bounds (length c.message.body)).1 in
+    (placed_above C (claim_end c) c.place cs placed.1 (omega arith), placed_rising C (claim_end c) cs placed.1)
 
 -- v is the view of the seat that closed the ring, and nothing of a read is cleared beyond the head
 module _ (C start : ℕ) (words : List ℕ) (v : View) (closed : IsClosed C start words v) (leaves : LeavesRest C words v) where
@@ -65,10 +80,12 @@ module _ (C start : ℕ) (words : List ℕ) (v : View) (closed : IsClosed C star
 
   -- v is p with the consumer's part of r
   module _ (p r : View) (both : v ≡ with_consumer_of p r) where
-    hands_out : HandsOut C p r (ring C words)
+    hands_out : HandsOut C start p r (ring C words)
     hands_out =
         let head : v.consumer.head ≡ r.consumer.head = ap (λ (u : View). u.consumer.head) both in
+        let placed : ArePlaced C start p.producer.claims = subst (ArePlaced C start) (ap (λ (u : View). u.producer.claims) both) closed.memory.placed in
         record {
+          ordered = record { placed = placed; rising = placed_rising C start p.producer.claims placed };
           passed = leaves.taken;
           left = leaves.rest;
           whole = sym (ap (λ (u : View). u.producer.claims) both) ∙ leaves.whole;
@@ -105,8 +122,8 @@ module _ (K C start : ℕ) (same : K ≡ C) (words items : List ℕ) (copied : i
   pub closes_to_ring : IsRing (ring C items)
   closes_to_ring = carried (λ k l. IsRing (ring k l)) (rest_is_ring K start words v closed left)
 
-  pub closes_with_rest : HandsOut C p r (ring C items)
-  closes_with_rest = carried (λ k l. HandsOut k p r (ring k l)) (hands_out K start words v closed left p r both)
+  pub closes_with_rest : HandsOut C start p r (ring C items)
+  closes_with_rest = carried (λ k l. HandsOut k start p r (ring k l)) (hands_out K start words v closed left p r both)
 
   pub closes_with_service : Serves C p r (ring C items)
   closes_with_service = carried (λ k l. Serves k p r (ring k l)) (serves K start words v closed left p r both)

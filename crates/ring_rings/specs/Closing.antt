@@ -6,7 +6,7 @@ use Rattle.ring_layout.specs.Layout.{correlation_index, heartbeat_index, head_ca
 use Rattle.ring_words.specs.Ring.{Ring, Has, head_of}
 use Rattle.ring_table.specs.declared.claim.StagedClaim.{StagedClaim}
 use Rattle.ring_table.specs.declared.view.View.{View}
-use Rattle.ring_table.specs.Staged.{ArePlaced, claims_of}
+use Rattle.ring_table.specs.Staged.{AreRising, ArePlaced, claims_of}
 use Rattle.ring_table.specs.Passing.{AreSettled, placed_committed_of}
 use Rattle.ring_table.specs.Closed.{restarted}
 use Rattle.ring_table.specs.Services.{times_drawn, once_below, AreServed}
@@ -31,8 +31,14 @@ kept_open ring producer consumer reason = record { reason = reason; ring = ring;
 abbrev pub IsRefusedAs : {T E F : Type 0} → (F → E) → Option F → Result T E → Type 0
 IsRefusedAs error refusal result = MatchOption refusal (IsOk result) (λ fault. result ≡ Err (error fault))
 
--- The producer p has all claims of the ring and r was its consumer. The first claims are settled, and the messages that r took are the committed ones among them, with their places. The others are a history that the rest has, at the same places
-pub record HandsOut (C : ℕ) (p r : View) (rest : Ring) : Type 0 where
+-- claims lie one behind the other from the start on, so that their places rise and none occurs twice
+pub record AreOrdered (C start : ℕ) (cs : List StagedClaim) : Type 0 where
+  pub placed : ArePlaced C start cs
+  pub rising : AreRising cs
+
+-- The producer p has all claims of the ring, which lie one behind the other from its start on, and r was its consumer. The first claims are settled, and the messages that r took are the committed ones among them, with their places. The others are a history that the rest has, at the same places
+pub record HandsOut (C start : ℕ) (p r : View) (rest : Ring) : Type 0 where
+  pub ordered : AreOrdered C start p.producer.claims
   pub passed : List StagedClaim
   pub left : List StagedClaim
   pub whole : p.producer.claims ≡ passed ++ left

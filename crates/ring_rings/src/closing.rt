@@ -2,7 +2,7 @@
 ghost use Rattle.std.specs.Prelude.{◌≡◌, IfOk, OnOk, vec_len};
 ghost use Rattle.std.specs.Slots.{slots_items, slots_len, IsFull};
 ghost use Rattle.ring_rings.specs.Closing.{close_refusal_of, kept_open, HandsOut, IsRefusedAs, Serves};
-ghost use Rattle.ring_rings.specs.Seats.{capacity_of, consumer_view, open_claims_of, shares_of, view_of, IsConsumerOf, IsProducerOf};
+ghost use Rattle.ring_rings.specs.Seats.{capacity_of, consumer_view, open_claims_of, shares_of, start_of, view_of, IsConsumerOf, IsProducerOf};
 
 use crate::fault::CloseFault;
 use crate::making::ALL_SHARES;
@@ -52,7 +52,7 @@ impl<K> Ring<K> {
         requires producer { IsProducerOf self producer }
         requires consumer { IsConsumerOf self consumer }
         ensures refused { IsRefusedAs (kept_open self producer consumer) (close_refusal_of (open_claims_of producer) (shares_of producer)) result }
-        ensures rest { IfOk result (HandsOut (capacity_of self) (view_of producer) (consumer_view consumer)) }
+        ensures rest { IfOk result (HandsOut (capacity_of self) (start_of self) (view_of producer) (consumer_view consumer)) }
         ensures service { IfOk result (Serves (capacity_of self) (view_of producer) (consumer_view consumer)) }
     {
         match test_close(&producer) {

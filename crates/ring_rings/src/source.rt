@@ -5,7 +5,7 @@ ghost use Rattle.ring_rings.specs.declared.seats.Consumer.{Consumer as TheConsum
 ghost use Rattle.ring_rings.specs.declared.seats.Producer.{Producer as TheProducer};
 ghost use Rattle.ring_rings.specs.Closing.{close_refusal_of, kept_open, HandsOut, IsRefusedAs, Serves};
 ghost use Rattle.ring_rings.specs.Reading.{Controls, IsBlocked};
-ghost use Rattle.ring_rings.specs.Seats.{capacity_of, consumer_view, head_of, open_claims_of, shares_of, view_of, IsConsumerOf, IsProducerOf};
+ghost use Rattle.ring_rings.specs.Seats.{capacity_of, consumer_view, head_of, open_claims_of, shares_of, start_of, view_of, IsConsumerOf, IsProducerOf};
 
 use crate::seats::{CloseRefused, Consumer, Producer, Ring};
 use ring_words::{Handler, ReadEnd, SoloRing, Stop};
@@ -14,6 +14,9 @@ use ring_words::{Handler, ReadEnd, SoloRing, Stop};
 pub trait CommandSource: Sized {
     /// The bytes of its buffer.
     ghost bytes: { Self → ℕ };
+
+    /// The position of its first claim.
+    ghost start: { Self → ℕ };
 
     /// A producer of this ring.
     ghost is_producer: { Self → TheProducer → Type 0 };
@@ -43,12 +46,14 @@ pub trait CommandSource: Sized {
         requires producer { is_producer self producer }
         requires consumer { is_consumer self consumer }
         ensures refused { IsRefusedAs (kept_open self producer consumer) (close_refusal_of (open_claims_of producer) (shares_of producer)) result }
-        ensures rest { IfOk result (HandsOut (bytes self) (view_of producer) (consumer_view consumer)) }
+        ensures rest { IfOk result (HandsOut (bytes self) (start self) (view_of producer) (consumer_view consumer)) }
         ensures service { IfOk result (Serves (bytes self) (view_of producer) (consumer_view consumer)) };
 }
 
 impl<K> CommandSource for Ring<K> {
     ghost bytes = { capacity_of };
+
+    ghost start = { start_of };
 
     ghost is_producer = { IsProducerOf };
 

@@ -94,4 +94,4 @@ not_refused error open_claims shares result none all refused =
 
 -- a step of the producer that leaves its shares and claims as they are
 pub same_seats : {K : Type 0} (ring : Ring K) (old new : Producer) (c : Consumer) (claims : List (Option ClaimAt)) → AreSeats ring old c claims → IsProducerOf ring new → Keeps (view_of old) (view_of new) → AreSeats ring new c claims
-same_seats ring old new c claims seats is keeps = record { producer = is; alone = keeps.shares ∙ seats.alone; consumer = seats.consumer; held = same_open ring old new claims keeps.claims seats.held }
+same_seats ring old new c claims seats is keeps = record { start = seats.start; producer = is; alone = keeps.shares ∙ seats.alone; consumer = seats.consumer; held = same_open ring old new claims keeps.claims seats.held }

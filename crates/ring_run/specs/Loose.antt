@@ -11,7 +11,7 @@ use Rattle.ring_rings.specs.declared.seats.Ring.{Ring}
 use Rattle.ring_rings.specs.declared.seats.Producer.{Producer}
 use Rattle.ring_rings.specs.declared.seats.Consumer.{Consumer}
 use Rattle.ring_rings.specs.Opening.{first_consumer, first_producer}
-use Rattle.ring_rings.specs.Seats.{shares_of, IsConsumerOf, IsProducerOf}
+use Rattle.ring_rings.specs.Seats.{shares_of, start_of, IsConsumerOf, IsProducerOf}
 use Rattle.ring_run.specs.Claims.{AreOpen, Holder, holder}
 
 -- a ring's capacity, what its producer knows and holds, and what its consumer knows
@@ -20,8 +20,9 @@ pub record Loose : Type 0 where
   pub holder : Holder
   pub consumer : View
 
--- the producer and the consumer are this ring's, no other producer has a share, and the claims are the producer's open ones
+-- the ring began at 0, the producer and the consumer are its own, no other producer has a share, and the claims are the producer's open ones
 pub record AreSeats {K : Type 0} (ring : Ring K) (p : Producer) (c : Consumer) (claims : List (Option ClaimAt)) : Type 0 where
+  pub start : start_of ring ≡ 0
   pub producer : IsProducerOf ring p
   pub alone : shares_of p ≡ 65536
   pub consumer : IsConsumerOf ring c

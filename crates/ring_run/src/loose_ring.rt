@@ -304,7 +304,7 @@ impl LooseRing {
 
     /// Aborts all open claims, in rising order of their numbers, and closes the ring.
     pub fn close(mut self) -> SoloRing
-        ensures rest { HandsOut self.capacity (aborted_view self.holder) self.consumer result }
+        ensures rest { HandsOut self.capacity 0 (aborted_view self.holder) self.consumer result }
         ensures service { Serves self.capacity (aborted_view self.holder) self.consumer result }
     {
         self.abort_all();

@@ -1,9 +1,11 @@
 use Rattle.std.proofs.Common.{refl, sym, subst}
+use Rattle.std.proofs.Math.Logic.{∥∥₁_map}
 use Rattle.ring_board.specs.Seats.{IsTransmitterOf}
 use Rattle.ring_counters.specs.Manager.{IsManagerOf}
 use Rattle.ring_conductor.specs.declared.conductor.Work.{Work}
 use Rattle.ring_conductor.specs.Conducting.{work_stop}
 use Rattle.ring_conductor.proofs.WorkLemmas.{stays, worked, took, took_room}
+use Rattle.ring_conductor.proofs.AccountLemmas.{works_on, works_grow, works_heard}
 use Rattle.ring_conductor.proofs.conductor.Conductor.do_work.Goals as goal
 
 pub shape_of-self : goal.shape_of-self
@@ -42,3 +44,22 @@ invariant_of-self-clause-answered g c =
     let done : Work = record { messages = c.from-messages.result; stopped = work_stop c.controlled_read-end.result.stopped } in
     let works = worked _ _ _ _ _ _ done (record { messages = c.from-messages.ensures; stopped = refl; within = e.within; bytes = e.bytes; blocked = e.blocked }) e.controls in
     took_room _ _ _ _ _ _ _ works c.args.self.now.received c.args.self.now.answered
+
+pub invariant_of-self-clause-folded : goal.invariant_of-self-clause-folded
+invariant_of-self-clause-folded g c =
+    let e = c.controlled_read-end.ensures in
+    let done : Work = record { messages = c.from-messages.result; stopped = work_stop c.controlled_read-end.result.stopped } in
+    let works = worked _ _ _ _ _ _ done (record { messages = c.from-messages.ensures; stopped = refl; within = e.within; bytes = e.bytes; blocked = e.blocked }) e.controls in
+    ∥∥₁_map c.args.self.now.folded (works_on _ _ _ _ _ _ _ works c.requires.now)
+
+pub returns-clause-grows : goal.returns-clause-grows
+returns-clause-grows g c =
+    let e = c.controlled_read-end.ensures in
+    let done : Work = record { messages = c.from-messages.result; stopped = work_stop c.controlled_read-end.result.stopped } in
+    works_grow _ _ _ _ _ _ done (worked _ _ _ _ _ _ done (record { messages = c.from-messages.ensures; stopped = refl; within = e.within; bytes = e.bytes; blocked = e.blocked }) e.controls)
+
+pub returns-clause-heard : goal.returns-clause-heard
+returns-clause-heard g c =
+    let e = c.controlled_read-end.ensures in
+    let done : Work = record { messages = c.from-messages.result; stopped = work_stop c.controlled_read-end.result.stopped } in
+    works_heard _ _ _ _ _ _ done (worked _ _ _ _ _ _ done (record { messages = c.from-messages.ensures; stopped = refl; within = e.within; bytes = e.bytes; blocked = e.blocked }) e.controls)

@@ -12,7 +12,7 @@ pub invariant_of-self : goal.invariant_of-self
 invariant_of-self g c =
     let seats = c.self.invariant in
     let done = wrote c.write.result _ _ _ _ _ c.write.ensures.written c.write.ensures.refused in
-    record { producer = c.write.ensures.producer; alone = done.0 ∙ seats.alone; consumer = seats.consumer; held = still_open _ _ _ _ seats.held c.write.ensures.claims (done.1 _ seats.held.all) }
+    record { start = seats.start; producer = c.write.ensures.producer; alone = done.0 ∙ seats.alone; consumer = seats.consumer; held = still_open _ _ _ _ seats.held c.write.ensures.claims (done.1 _ seats.held.all) }
 
 pub returns-clause-refused : goal.returns-clause-refused
 returns-clause-refused g c =
