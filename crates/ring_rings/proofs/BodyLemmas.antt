@@ -83,6 +83,11 @@ module _ (k : ℕ) (body b0 : List ℕ) (same : length body ≡ length b0) (insi
       all_of : (i : ℕ) → slice_index (take (length body - 8 * k) (drop (8 * k) body)) i ≡ slice_index (drop (8 * k) body) i
       all_of i = let left = length-drop (8 * k) body in ap (λ (l : List ℕ). slice_index l i) (ap (λ n. take n (drop (8 * k) body)) (sym left) ∙ take-length (drop (8 * k) body))
 
+  -- also where more bytes follow
+  pub whole_word_there : (n : ℕ) → 8 ≤ n → from_le_bytes w64 (take n (drop (8 * k) body)) ≡ from_le_bytes w64 (drop (8 * k) (overwritten 0 (take (8 * (k + 1)) body) b0))
+  whole_word_there n long = from_le_bytes-same (take n (drop (8 * k) body)) (drop (8 * k) (overwritten 0 (take (8 * (k + 1)) body) b0)) (λ i lt.
+      get_or-take n (drop (8 * k) body) i 0 (omega arith) ∙ get_or-drop (8 * k) body i 0 ∙ sym (byte_there (8 * k + i) (omega arith) (omega arith)) ∙ sym (get_or-drop (8 * k) (overwritten 0 (take (8 * (k + 1)) body) b0) i 0))
+
   pub small_there : ((j : ℕ) → slice_index body j < 256) → (j : ℕ) → 8 * k ≤ j → j < 8 * k + 8 → slice_index (overwritten 0 (take (8 * (k + 1)) body) b0) j < 256
   small_there small j from to = let e = byte_there j from to in let b = small j in omega arith
 

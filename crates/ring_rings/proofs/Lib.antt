@@ -16,3 +16,4 @@ pub mod ReadingEnds
 pub mod ReadingHeeds
 pub mod ReadingTurns
 pub mod WaitLemmas
+pub mod IndexLemmas

@@ -1,6 +1,7 @@
 -- The turns of a read, as its loop takes them.
 use Rattle.std.proofs.Common.{◌≡◌, ◌≢◌, ℕ, ◌+◌, ◌-◌, ◌%◌, ◌<◌, ◌≤◌, List, [], ◌∷◌, ◌++◌, ap, sym, ◌∙◌, subst, arith, inl, inr, nat_lt, ◌&&◌, ◌==◌, true, false}
 use Rattle.std.proofs.lemmas.Bool.{and_parts, eqb-true, ltb-true}
+use Rattle.std.proofs.lemmas.Nat.{mod_below}
 use Rattle.ring_words.specs.declared.action.Action.{Action}
 use Rattle.ring_words.specs.declared.action.Action.TheVariants.{Abort, Break}
 use Rattle.ring_words.specs.declared.read_end.ReadEnd.{ReadEnd}
@@ -13,6 +14,7 @@ use Rattle.ring_table.specs.declared.claim.PlacedMessage.{PlacedMessage}
 use Rattle.ring_table.specs.declared.view.View.{View}
 use Rattle.ring_rings.specs.Reading.{Controls, IsBlocked, WentOn}
 use Rattle.ring_rings.specs.ReadingSteps.{FindsNothing, FindsQuiet, IsAt, IsLeft, Settles, ShowsOne}
+use Rattle.ring_rings.proofs.IndexLemmas.{inside_block}
 use Rattle.ring_rings.proofs.ReadingRuns.{Runs, RunsOn, inside_of, runs_on_broken, runs_on_committed, runs_on_quiet, runs_on_shown, runs_quiet, runs_shown, stands_shown, stays_near}
 use Rattle.ring_rings.proofs.ReadingEnds.{aborts, broke, ends_nothing, ends_now, is_blocked, nothing_stands, settles_more, shown_left, stops_block, stops_limit, stops_unpublished, went_on}
 
@@ -39,6 +41,11 @@ module _ {S : Type 0} {step : S → Message → S → Action → Type 0} {limit 
       let on = ltb-true start scan test.0 in
       let at_end : scan % v.capacity ≡ 0 = ap (λ (k : ℕ). scan % k) cap ∙ eqb-true (scan % C) 0 test.1 in
       inl (went_on step limit v w y s t scan count r [] e end d.messages (d.stopped ∙ stops_block v.capacity limit count scan end.bytes below at_end (omega (arith, on, d.bytes))))
+
+-- what was read so far lies in the block of the head
+pub runs_inside : {S : Type 0} {step : S → Message → S → Action → Type 0} {limit C : ℕ} {v w : View} {s t : S} {scan count : ℕ} → Runs step limit v w s t scan count → v.capacity ≡ C → 0 < v.capacity → w.consumer.head % C + scan ≤ w.consumer.head + C
+runs_inside {S} {step} {limit} {C} {v} {w} {s} {t} {scan} {count} r cap some =
+    subst (λ (k : ℕ). w.consumer.head % k + scan ≤ w.consumer.head + k) cap (inside_block v.capacity v.consumer.head w.consumer.head scan some r.from r.to r.within)
 
 -- a read that goes on: it has come neither to the limit nor to the end of the buffer
 pub record GoesTo {S : Type 0} (step : S → Message → S → Action → Type 0) (limit C start : ℕ) (v w : View) (s t : S) (scan count : ℕ) : Type 0 where
@@ -89,6 +96,9 @@ module _ {S : Type 0} {step : S → Message → S → Action → Type 0} {limit 
     unfolding r
     blocked_at = nothing_stands v.capacity scan got w x r.stands finds
 
+    pub blocked_inside : x.consumer.head % C + scan ≤ x.consumer.head + C
+    blocked_inside = subst (λ (h : ℕ). h % C + scan ≤ h + C) (sym (ap (λ (z : View). z.consumer.head) told.0.view)) (runs_inside q.runs.0 q.capacity q.some)
+
     module _ {y : View} (p : Settles scan got x y) where
       pub ends_blocked : {end : ReadEnd} → Ended start scan count Unpublished end → Controls step limit v y s u end
       ends_blocked {end} d =
@@ -129,6 +139,10 @@ module _ {S : Type 0} {step : S → Message → S → Action → Type 0} {limit 
     unfolding got_more
     shown_at = stands_shown step limit v w s t scan count q.runs.0 q.some apart q.inside n a x u shows
 
+    -- and it lies in the block of the head too
+    pub shown_inside : x.consumer.head % C + (scan + n) ≤ x.consumer.head + C
+    shown_inside = runs_inside (runs_shown step limit v w s t scan count q.runs.0 q.some apart q.inside n a x u shows) q.capacity q.some
+
     pub runs_on : GoesOn a → RunsOn step limit v x s u (scan + n) (count + 1)
     runs_on goes = runs_on_shown step limit v w s t scan count q.runs q.some apart q.inside n a x u goes shows
 
@@ -150,6 +164,9 @@ module _ {S : Type 0} {step : S → Message → S → Action → Type 0} {limit 
         inr (inl (broke step limit v x y s u (scan + n) (count + 1) more.0 q.runs.0.actions q.runs.1 last p' end d.messages d.stopped))
 
     -- it is to be left
+    pub left_inside : x.consumer.head % C + scan ≤ x.consumer.head + C
+    left_inside = let all = shown_inside in omega (arith, all)
+
     pub left_at : IsLeft scan got x
     unfolding r
     left_at = shown_left step v.capacity scan got w x t u n a r.stands shows
@@ -158,6 +175,9 @@ module _ {S : Type 0} {step : S → Message → S → Action → Type 0} {limit 
       pub left_near : (start ≤ z.consumer.head) × (z.consumer.head ≤ scan) × (scan % 8 ≡ 0) × (scan ≤ max_position)
       unfolding r
       left_near = (omega (arith, p.head, r.from, r.to, q.head), omega (arith, p.head), r.whole, r.low)
+
+      pub left_done : z.consumer.head % C + scan ≤ z.consumer.head + C
+      left_done = let low = mod_below z.consumer.head C (omega (arith, q.capacity, q.some)) in omega (arith, low, p.head)
 
       pub ends_aborted : {y : View} {end : ReadEnd} → a ≡ Abort → Settles scan got z y → Ended start scan count Stop.Action end → Controls step limit v y s u end
       ends_aborted {y} {end} is p' d =

@@ -1,5 +1,5 @@
 //! Bytes put into the body of an open claim, a word at a time.
-ghost use Rattle.std.specs.Prelude.{◌≡◌, ℕ, ◌+◌, ◌<◌, ◌≤◌, List, [], ◌∷◌, ◌++◌, length};
+ghost use Rattle.std.specs.Prelude.{◌≡◌, ℕ, ◌+◌, ◌%◌, ◌<◌, ◌≤◌, List, [], ◌∷◌, ◌++◌, length};
 ghost use Rattle.ring_layout.specs.History.{IsMessage};
 ghost use Rattle.ring_layout.specs.Places.{index, max_position};
 ghost use Rattle.ring_table.specs.declared.claim.StagedClaim.{StagedClaim};
@@ -11,12 +11,13 @@ ghost use Rattle.ring_rings.specs.Bodies.{loaded, put_at, HasRoom, IsBlank, Merg
 ghost use Rattle.ring_rings.specs.Claiming.{record_behind};
 ghost use Rattle.ring_rings.specs.Making.{HasJustMade, IsJustMade};
 
-use ring_layout::{first_word, put_bytes_word};
+use ring_layout::{first_word, put_bytes_word, word_index};
 use ring_table::{
     RingSeat, SharedRing, Wanted, load_own_word, store_body_word, store_committed_header,
 };
 
 /// Stores a whole body into a claim of its length whose bytes are 0.
+#[inline(always)]
 pub(crate) fn store_body(
     words: &SharedRing,
     seat: &mut RingSeat,
@@ -27,17 +28,25 @@ pub(crate) fn store_body(
     requires seat { IsSeatOf words.now.table_id words.now.key capacity seat.old }
     requires place { place ≤ max_position }
     requires claim { HasClaimAt seat.old.me.0 place (IsBlank (length body.now)) }
-    requires short { length body.now ≤ capacity }
+    requires inside { place % capacity + 8 + length body.now ≤ capacity }
     ensures seat { IsSameSeat seat.old seat.new }
     ensures view { seat.new.me.0 ≡ with_claims (changed place (put_at 0 body.now) seat.old.me.0.producer.claims) seat.old.me.0 }
 {
-    for k in 0..body.len().div_ceil(8) {
-        let word = first_word(&body[8 * k..]);
-        store_body_word(words, seat, capacity, place, 8 * k as u64, word);
+    // A record does not cross the end of the buffer, so its words lie side by side.
+    let first = word_index(capacity, place) + 1;
+    let whole = body.len() / 8;
+    for k in 0..whole {
+        let word = first_word(&body[8 * k..8 * k + 8]);
+        store_body_word(words, seat, capacity, place, 8 * k as u64, first + k, word);
+    }
+    if 8 * whole < body.len() {
+        let word = first_word(&body[8 * whole..]);
+        store_body_word(words, seat, capacity, place, 8 * whole as u64, first + whole, word);
     }
 }
 
 /// Stores the body of the claim that was just made, and commits it.
+#[inline(always)]
 pub(crate) fn store_message(
     words: &SharedRing,
     seat: &mut RingSeat,
@@ -105,7 +114,8 @@ pub(crate) fn put_bytes(
         let at = 8 * index as u64;
         let position = place + 8 + at;
         let word = merged_word(words, seat, capacity, position, byte, chunk);
-        store_body_word(words, seat, capacity, place, at, word);
+        let target = word_index(capacity, position);
+        store_body_word(words, seat, capacity, place, at, target, word);
         done += count;
     }
 }

@@ -14,6 +14,7 @@ use ring_table::{RingSeat, SharedRing, Wanted, load_tail, move_tail, store_tail}
 use ring_words::ClaimFault;
 
 /// The claim of the only producer, whose own tail is the ring's.
+#[inline(always)]
 pub(crate) fn claim_alone(
     words: &SharedRing,
     seat: &mut RingSeat,
@@ -38,6 +39,7 @@ pub(crate) fn claim_alone(
 }
 
 /// One try of a claim, by one of many producers.
+#[inline(always)]
 pub(crate) fn try_claim(
     words: &SharedRing,
     seat: &mut RingSeat,

@@ -48,6 +48,7 @@ impl Ring<ManyToOne> {
     }
 
     /// Makes one try to write a message: it is claimed, stored and committed. The refusals are those of `claim_once`.
+    #[inline(always)]
     pub fn write_once(
         &self,
         producer: &mut Producer,

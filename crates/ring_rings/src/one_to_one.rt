@@ -47,6 +47,7 @@ impl Ring<OneToOne> {
     }
 
     /// Writes a message: it is claimed, stored and committed. The refusals are those of `claim`.
+    #[inline(always)]
     pub fn write(
         &self,
         producer: &mut Producer,

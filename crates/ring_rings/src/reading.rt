@@ -38,6 +38,7 @@ impl<K> Ring<K> {
         requires consumer { IsConsumerOf self.now consumer.old }
         requires from { (start ≤ head_of consumer.old) × (head_of consumer.old ≤ scan) × (scan % 8 ≡ 0) × (scan ≤ max_position) }
         requires at { (got : List PlacedMessage) × IsAt scan got (consumer_view consumer.old) }
+        requires inside { head_of consumer.old % capacity_of self.now + scan ≤ head_of consumer.old + capacity_of self.now }
         ensures consumer { IsConsumerOf self.now consumer.new }
         ensures seat { IsSameSeat consumer.old.seat consumer.new.seat }
         ensures settles { (got : List PlacedMessage) → IsAt scan got (consumer_view consumer.old) → Settles scan got (consumer_view consumer.old) (consumer_view consumer.new) }

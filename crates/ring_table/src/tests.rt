@@ -17,7 +17,7 @@ fn writes_one_record(rt: HostRuntime) -> Result<(), Fail> {
     let found = move_tail(&table.shared, &mut seat, 128, 0, 16, wanted);
     assert!(rt; found == 0);
     store_claimed_header(&table.shared, &mut seat, 128, 0, wanted);
-    store_body_word(&table.shared, &mut seat, 128, 0, 0, 0x05_0403_0201);
+    store_body_word(&table.shared, &mut seat, 128, 0, 0, 1, 0x05_0403_0201);
     store_committed_header(&table.shared, &mut seat, 128, 0, wanted);
     let closed = close(table, seat);
     let header = closed.word(0);

@@ -1,12 +1,12 @@
 //! Loads of a running read.
-ghost use Rattle.std.specs.Prelude.{◌≡◌, ◌≢◌, ℕ, ◌+◌, ◌*◌, ◌/◌, ◌<◌, ◌≤◌, List, [], ◌∷◌, ◌++◌, length, take, All, true};
+ghost use Rattle.std.specs.Prelude.{◌≡◌, ◌≢◌, ℕ, ◌+◌, ◌*◌, ◌/◌, ◌%◌, ◌<◌, ◌≤◌, List, [], ◌∷◌, ◌++◌, length, take, All, true};
 ghost use Rattle.ring_layout.specs.Places.{max_position};
 ghost use Rattle.ring_table.specs.declared.claim.PlacedMessage.{PlacedMessage};
 ghost use Rattle.ring_table.specs.Seats.{IsSameSeat, IsSeatOf};
 ghost use Rattle.ring_table.specs.ConsumerSteps.{LoadsHeader};
 ghost use Rattle.ring_rings.specs.ReadingSteps.{CopiesBody, HasGotLast, IsAt, OnlyLoads};
 
-use ring_layout::put_word;
+use ring_layout::{put_word, word_index};
 use ring_layout::record_descriptor::HEADER_LENGTH;
 use ring_table::{RingSeat, SharedRing, load_body_word, load_first_header, load_next_header};
 
@@ -45,14 +45,17 @@ pub(super) fn load_body(
     requires seat { IsSeatOf ring.now.table_id ring.now.key capacity seat.old }
     requires consumes { seat.old.me.0.consumes ≡ true }
     requires place { (seat.old.me.0.consumer.cleared ≤ place) × (place ≤ max_position) }
+    requires inside { place % capacity + 8 + len ≤ capacity }
     requires room { (length scratch.old ≡ capacity / 8) × (len ≤ capacity / 8) }
     ensures seat { IsSameSeat seat.old seat.new }
     ensures rest { OnlyLoads seat.old.me.0 seat.new.me.0 }
     ensures copies { (m : PlacedMessage) → HasGotLast m seat.old.me.0 → m.place ≡ place → length m.message.body ≡ len → CopiesBody capacity m seat.old.me.0 scratch.new seat.new.me.0 }
 {
-    let first = place + HEADER_LENGTH as u64;
+    // A record does not cross the end of the buffer, so its words lie side by side.
+    let first = word_index(capacity, place) + 1;
     for k in 0..len.div_ceil(8) {
-        let word = load_body_word(ring, seat, capacity, first + 8 * k as u64);
+        let position = place + HEADER_LENGTH as u64 + 8 * k as u64;
+        let word = load_body_word(ring, seat, capacity, position, first + k);
         put_word(scratch, 8 * k, word);
     }
 }

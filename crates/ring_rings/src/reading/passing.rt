@@ -4,10 +4,11 @@ ghost use Rattle.ring_layout.specs.Places.{max_position};
 ghost use Rattle.ring_table.specs.declared.claim.PlacedMessage.{PlacedMessage};
 ghost use Rattle.ring_table.specs.Seats.{IsSameSeat, IsSeatOf};
 ghost use Rattle.ring_table.specs.Views.{cleared_to, with_consumer};
-ghost use Rattle.ring_rings.specs.Seats.{IsConsumerOf, consumer_view, head_of};
+ghost use Rattle.ring_rings.specs.Seats.{IsConsumerOf, capacity_of, consumer_view, head_of};
 ghost use Rattle.ring_rings.specs.ReadingSteps.{IsAt, IsLeft, Settles};
 
 use crate::seats::{Consumer, Ring};
+use ring_layout::word_index;
 use ring_table::{RingSeat, SharedRing, clear_word, store_head, store_head_before};
 
 /// Sets the words from the head up to the position `to`, which the read has passed, to 0.
@@ -17,11 +18,23 @@ fn clear_up(ring: &SharedRing, seat: &mut RingSeat, capacity: u32, head: u64, to
     requires cleared { seat.old.me.0.consumer.cleared ≡ head }
     requires passed { (head ≤ to) × (to ≤ seat.old.me.0.consumer.scan) }
     requires whole { (head % 8 ≡ 0) × (to % 8 ≡ 0) }
+    requires inside { head % capacity + to ≤ head + capacity }
     ensures seat { IsSameSeat seat.old seat.new }
     ensures view { seat.new.me.0 ≡ with_consumer (cleared_to to seat.old.me.0.consumer) seat.old.me.0 }
 {
-    for k in 0..(to - head) / 8 {
-        clear_word(ring, seat, capacity, head + 8 * k);
+    // A read does not cross the end of the buffer, so the words lie side by side.
+    let first = word_index(capacity, head);
+    let count = (to - head) / 8;
+    // Four in a turn, since the compiler keeps a turn for each.
+    for k in 0..count / 4 {
+        let (at, target) = (head + 32 * k, first + 4 * k as usize);
+        clear_word(ring, seat, capacity, at, target);
+        clear_word(ring, seat, capacity, at + 8, target + 1);
+        clear_word(ring, seat, capacity, at + 16, target + 2);
+        clear_word(ring, seat, capacity, at + 24, target + 3);
+    }
+    for j in count / 4 * 4..count {
+        clear_word(ring, seat, capacity, head + 8 * j, first + j as usize);
     }
 }
 
@@ -31,6 +44,7 @@ impl<K> Ring<K> {
         requires consumer { IsConsumerOf self.now consumer.old }
         requires from { (head_of consumer.old ≤ scan) × (scan % 8 ≡ 0) × (scan ≤ max_position) }
         requires at { (got : List PlacedMessage) × IsAt scan got (consumer_view consumer.old) }
+        requires inside { head_of consumer.old % capacity_of self.now + scan ≤ head_of consumer.old + capacity_of self.now }
         ensures consumer { IsConsumerOf self.now consumer.new }
         ensures seat { IsSameSeat consumer.old.seat consumer.new.seat }
         ensures settles { (got : List PlacedMessage) → IsAt scan got (consumer_view consumer.old) → Settles scan got (consumer_view consumer.old) (consumer_view consumer.new) }
@@ -53,6 +67,7 @@ impl<K> Ring<K> {
         requires consumer { IsConsumerOf self.now consumer.old }
         requires from { (head_of consumer.old ≤ place) × (place % 8 ≡ 0) × (place ≤ max_position) }
         requires left { (got : List PlacedMessage) × IsLeft place got (consumer_view consumer.old) }
+        requires inside { head_of consumer.old % capacity_of self.now + place ≤ head_of consumer.old + capacity_of self.now }
         ensures consumer { IsConsumerOf self.now consumer.new }
         ensures seat { IsSameSeat consumer.old.seat consumer.new.seat }
         ensures settles { (got : List PlacedMessage) → IsLeft place got (consumer_view consumer.old) → Settles place got (consumer_view consumer.old) (consumer_view consumer.new) }

@@ -37,6 +37,7 @@ impl<K> Ring<K> {
         requires ready { H.ready handler.old }
         requires place { (head_of consumer.old ≤ place) × (place ≤ max_position) }
         requires room { len ≤ capacity_of self.now / 8 }
+        requires inside { place % capacity_of self.now + 8 + len ≤ capacity_of self.now }
         ensures consumer { IsConsumerOf self.now consumer.new }
         ensures ready { H.ready handler.new }
         ensures seat { IsSameSeat consumer.old.seat consumer.new.seat }

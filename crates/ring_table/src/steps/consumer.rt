@@ -41,32 +41,42 @@ pub fn load_next_header(ring: &SharedRing, consumer: &mut RingSeat, capacity: u3
     ring.load::<LoadNextHeader>(consumer, word_index(capacity, scan))
 }
 
-/// Loads the word at a position, which tells what a message that the running read has got has there.
+/// Loads the word at a position, which tells what a message that the running read has got has there. Its index in the
+/// buffer is `target`.
 pub fn load_body_word(
     ring: &SharedRing,
     consumer: &mut RingSeat,
     capacity: u32,
     position: u64,
+    target: usize,
 ) -> u64
     requires seat { IsSeatOf ring.now.table_id ring.now.key capacity consumer.old }
+    requires target { target ≡ index capacity position }
     requires consumes { consumer.old.me.0.consumes ≡ true }
     ensures seat { IsSameSeat consumer.old consumer.new }
     ensures view { consumer.new.me.0 ≡ logged (index capacity position) result consumer.old.me.0 }
     ensures told { LoadsBody (index capacity position) consumer.old.me.0 result }
 {
-    ring.load::<LoadBody>(consumer, word_index(capacity, position))
+    ring.load::<LoadBody>(consumer, target)
 }
 
-/// Sets the next word that the read has passed to 0.
-pub fn clear_word(ring: &SharedRing, consumer: &mut RingSeat, capacity: u32, cleared: u64)
+/// Sets the next word that the read has passed to 0. Its index in the buffer is `target`.
+pub fn clear_word(
+    ring: &SharedRing,
+    consumer: &mut RingSeat,
+    capacity: u32,
+    cleared: u64,
+    target: usize,
+)
     requires seat { IsSeatOf ring.now.table_id ring.now.key capacity consumer.old }
+    requires target { target ≡ index capacity cleared }
     requires consumes { consumer.old.me.0.consumes ≡ true }
     requires cleared { consumer.old.me.0.consumer.cleared ≡ cleared }
     requires passed { cleared < consumer.old.me.0.consumer.scan }
     ensures seat { IsSameSeat consumer.old consumer.new }
     ensures told { ClearsWord consumer.old.me.0 consumer.new.me.0 }
 {
-    ring.store::<ClearWord>(consumer, word_index(capacity, cleared), 0);
+    ring.store::<ClearWord>(consumer, target, 0);
 }
 
 /// Stores the head behind all that the read has passed, which is cleared.

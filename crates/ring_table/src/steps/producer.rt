@@ -152,23 +152,24 @@ pub fn store_aborted_header(
     ring.store::<StoreAborted>(producer, word_index(capacity, place), header);
 }
 
-/// Stores the word of an open claim's body at the byte offset `at`, a multiple of 8.
+/// Stores the word of an open claim's body at the byte offset `at`, a multiple of 8. Its index in the buffer is `target`.
 pub fn store_body_word(
     ring: &SharedRing,
     producer: &mut RingSeat,
     capacity: u32,
     place: u64,
     at: u64,
+    target: usize,
     word: u64,
 )
     requires seat { IsSeatOf ring.now.table_id ring.now.key capacity producer.old }
-    requires range { place + 8 + at < 2 ^ 64 }
+    requires target { target ≡ index capacity (place + 8 + at) }
     requires claim { HasClaimAt producer.old.me.0 place (TakesWord at word) }
     ensures seat { IsSameSeat producer.old producer.new }
     ensures view { producer.new.me.0 ≡ with_claims (changed place (written at word) producer.old.me.0.producer.claims) producer.old.me.0 }
     ensures rising { AreRising producer.old.me.0.producer.claims }
 {
-    ring.store::<StoreBody>(producer, word_index(capacity, place + 8 + at), word);
+    ring.store::<StoreBody>(producer, target, word);
 }
 
 /// Loads the word at a position, which tells what the producer's own open claim has there.

@@ -1,9 +1,10 @@
-use Rattle.std.proofs.Common.{◌≡◌, ℕ, List, [], ◌∷◌, ◌++◌, length, replicate, refl, sym, ap, ◌∙◌, arith}
+use Rattle.std.proofs.Common.{◌≡◌, ℕ, List, [], ◌∷◌, ◌++◌, ◌%◌, length, replicate, refl, sym, ap, ◌∙◌, arith}
 use Rattle.std.proofs.lemmas.List.{length-replicate}
 use Rattle.ring_layout.specs.declared.message.ClaimState.TheVariants.{Committed}
 use Rattle.ring_layout.specs.History.{span}
 use Rattle.ring_layout.specs.Places.{next_place}
-use Rattle.ring_layout.proofs.PlaceLemmas.{next_le}
+use Rattle.ring_layout.proofs.CapacityLemmas.{capacity_blocks}
+use Rattle.ring_layout.proofs.PlaceLemmas.{next_le, next_within, span_bounds}
 use Rattle.ring_table.specs.declared.claim.StagedClaim.{StagedClaim}
 use Rattle.ring_table.specs.declared.claim.Stage.TheVariants.{Stored}
 use Rattle.ring_table.specs.declared.view.View.{View}
@@ -53,3 +54,16 @@ returns-clause-stored c tail cs made =
     ∙ ap (λ (l : List StagedClaim). with_claims l w) commits
     ∙ ap (with_claims (cs ++ staged (Stored Committed) (put_at 0 body first) ∷ [])) c.store_body.ensures.view
     ∙ ap (λ (d : StagedClaim). with_claims (cs ++ d ∷ []) v) is
+
+pub store_body-requires-clause-inside : goal.store_body-requires-clause-inside
+store_body-requires-clause-inside c =
+    let C : ℕ = c.args.capacity in
+    let len : ℕ = c.args.wanted.len in
+    let m = c.requires.made in
+    let lawful = c.requires.seat.lawful in
+    let bounds = span_bounds len in
+    let short = c.requires.message.short in
+    let zeros : length (replicate {A = ℕ} len 0) ≡ len = length-replicate len 0 in
+    let within = next_within C m.tail (span len) (omega (arith, lawful.least)) (omega (arith, lawful.least, capacity_blocks C lawful, short, zeros, bounds.2)) in
+    let same : c.args.place % C ≡ next_place C m.tail (span len) % C = ap (λ (n : ℕ). n % C) m.made.place_is in
+    omega (arith, within, same, bounds.1, c.requires.len)

@@ -3,6 +3,7 @@ use Rattle.ring_layout.specs.Places.{index}
 use Rattle.ring_layout.proofs.CapacityLemmas.{capacity_blocks}
 use Rattle.ring_table.specs.declared.view.View.{View}
 use Rattle.ring_table.specs.Views.{logged}
+use Rattle.ring_rings.proofs.IndexLemmas.{index_of_body}
 use Rattle.ring_rings.proofs.ReadingCopies.{copies_none, copies_more, copies_all, word_is}
 use Rattle.ring_rings.proofs.ReadingSeats.{log_more, same_none, same_more}
 use Rattle.ring_rings.proofs.reading.loading.load_body.Goals as goal
@@ -38,3 +39,7 @@ loop-k-preserved c =
 pub returns-clause-copies : goal.returns-clause-copies
 returns-clause-copies c = λ m last at len.
     copies_all c.args.capacity m c.loop-k.k c.args.seat.now.me.0 c.loop-k.seat.me.0 c.loop-k.scratch (omega (arith, c.loop-k-test.false, c.div_ceil-k-end.ensures, c.loop-k.auto.k-end, len)) (omega (arith, c.requires.room, c.loop-k.auto.scratch, len)) (c.loop-k.invariant.copied m last at len)
+
+pub load_body_word-word-requires-clause-target : goal.load_body_word-word-requires-clause-target
+load_body_word-word-requires-clause-target c =
+    ap (λ (n : ℕ). n + 1 + c.loop-k.k) c.word_index-first.ensures ∙ index_of_body c.args.capacity c.args.place c.loop-k.k (omega (arith, c.loop-k-test.true, c.div_ceil-k-end.ensures, c.requires.inside))

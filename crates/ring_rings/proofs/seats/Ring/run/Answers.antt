@@ -5,7 +5,7 @@ use Rattle.ring_rings.specs.ReadingSteps.{heeded}
 use Rattle.ring_rings.proofs.ReadingSeats.{same_none, same_more}
 use Rattle.ring_rings.proofs.ReadingRuns.{RunsOn, runs_on_none}
 use Rattle.ring_rings.proofs.ReadingEnds.{settled_stands}
-use Rattle.ring_rings.proofs.ReadingTurns.{blocked, blocked_at, ends_aborted, ends_block, ends_blocked, ends_broken, ends_limit, goes_to, got, got_more, is_near, left_at, left_near, less_passed, less_shown, runs_committed, runs_on, runs_passed, shown_at, stands}
+use Rattle.ring_rings.proofs.ReadingTurns.{blocked, blocked_at, blocked_inside, ends_aborted, ends_block, ends_blocked, ends_broken, ends_limit, goes_to, got, got_more, is_near, left_at, left_done, left_inside, left_near, less_passed, less_shown, runs_committed, runs_inside, runs_on, runs_passed, shown_at, shown_inside, stands}
 use Rattle.ring_rings.proofs.seats.Ring.run.Goals as goal
 
 pub turns-init : goal.turns-init
@@ -179,3 +179,42 @@ turns-smaller g c =
     let q = goes_to c.turns.invariant.runs c.requires.consumer.capacity c.args.consumer.now.stands.0 c.args.self.now.lawful.least c.turns.invariant.below c.if-messages-limit.false (sym c.is_block_end.ensures ∙ c.if-is_block_end.false) in
     let told = c.in-Shown.ensures.turn (got q) (stands q) in
     less_shown q told
+
+pub finish-requires-clause-inside : goal.finish-requires-clause-inside
+finish-requires-clause-inside g c =
+    runs_inside c.turns.invariant.runs.0 c.requires.consumer.capacity (omega (arith, c.requires.consumer.capacity, c.args.self.now.lawful.least))
+
+pub finish-requires-then-is_block_end-clause-inside : goal.finish-requires-then-is_block_end-clause-inside
+finish-requires-then-is_block_end-clause-inside g c =
+    runs_inside c.turns.invariant.runs.0 c.requires.consumer.capacity (omega (arith, c.requires.consumer.capacity, c.args.self.now.lawful.least))
+
+pub finish-requires-in-Blocked-clause-inside : goal.finish-requires-in-Blocked-clause-inside
+finish-requires-in-Blocked-clause-inside g c =
+    let q = goes_to c.turns.invariant.runs c.requires.consumer.capacity c.args.consumer.now.stands.0 c.args.self.now.lawful.least c.turns.invariant.below c.if-messages-limit.false (sym c.is_block_end.ensures ∙ c.if-is_block_end.false) in
+    let told = c.in-Blocked.ensures.turn (got q) (stands q) in
+    blocked_inside q told
+
+pub move_head_before-requires-clause-inside : goal.move_head_before-requires-clause-inside
+move_head_before-requires-clause-inside g c =
+    let q = goes_to c.turns.invariant.runs c.requires.consumer.capacity c.args.consumer.now.stands.0 c.args.self.now.lawful.least c.turns.invariant.below c.if-messages-limit.false (sym c.is_block_end.ensures ∙ c.if-is_block_end.false) in
+    let told = c.in-Shown.ensures.turn (got q) (stands q) in
+    left_inside q told
+
+pub finish-requires-in-Abort-clause-inside : goal.finish-requires-in-Abort-clause-inside
+finish-requires-in-Abort-clause-inside g c =
+    let q = goes_to c.turns.invariant.runs c.requires.consumer.capacity c.args.consumer.now.stands.0 c.args.self.now.lawful.least c.turns.invariant.below c.if-messages-limit.false (sym c.is_block_end.ensures ∙ c.if-is_block_end.false) in
+    let told = c.in-Shown.ensures.turn (got q) (stands q) in
+    let p = c.move_head_before.ensures.settles (got q) (left_at q told) in
+    left_done q told p
+
+pub finish-requires-in-Break-clause-inside : goal.finish-requires-in-Break-clause-inside
+finish-requires-in-Break-clause-inside g c =
+    let q = goes_to c.turns.invariant.runs c.requires.consumer.capacity c.args.consumer.now.stands.0 c.args.self.now.lawful.least c.turns.invariant.below c.if-messages-limit.false (sym c.is_block_end.ensures ∙ c.if-is_block_end.false) in
+    let told = c.in-Shown.ensures.turn (got q) (stands q) in
+    shown_inside q told
+
+pub move_head-requires-clause-inside : goal.move_head-requires-clause-inside
+move_head-requires-clause-inside g c =
+    let q = goes_to c.turns.invariant.runs c.requires.consumer.capacity c.args.consumer.now.stands.0 c.args.self.now.lawful.least c.turns.invariant.below c.if-messages-limit.false (sym c.is_block_end.ensures ∙ c.if-is_block_end.false) in
+    let told = c.in-Shown.ensures.turn (got q) (stands q) in
+    shown_inside q told
