@@ -1,0 +1,7 @@
+//! Tests of the counters.
+#![tactic(auto)]
+
+#[cfg(test)]
+mod counters;
+#[cfg(test)]
+mod threads;

@@ -1,0 +1,5 @@
+//! Tests of the ring of one owner.
+#![tactic(auto)]
+
+#[cfg(test)]
+mod solo;
