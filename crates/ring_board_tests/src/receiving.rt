@@ -1,10 +1,8 @@
+//! What copying receivers answer.
 ghost use Rattle.std.specs.Prelude.{◌≡◌, IfOk};
 ghost use Rattle.ring_board.specs.Seats.{IsTransmitterOf, IsReceiverOf, IsBegunOf, begun_len};
 
-use ring_board::{
-    Begun, Board, CopyReceiver, Lapped, NoShares, ReceiversOut, SubscribeFault, TransmitFault,
-    Transmitter,
-};
+use ring_board::{Begun, Board, CopyReceiver, Lapped, ReceiversOut, TransmitFault, Transmitter};
 use std::test::Fail;
 
 /// What a receiver answers: the place, the type id and the length of a copy.
@@ -136,6 +134,24 @@ fn an_intent_alone_laps(rt: HostRuntime) -> Result<(), Fail> {
 }
 
 #[test]
+fn a_raw_receiver_beside_it_changes_nothing(rt: HostRuntime) -> Result<(), Fail> {
+    let (board, mut transmitter) = Board::new(rt.alloc(), 256)?;
+    let mut raw = board.subscribe_raw(&mut transmitter)?;
+    let mut receiver = board.subscribe(rt.alloc(), &mut transmitter)?;
+    send(&board, &mut transmitter, 7, 24);
+    assert!(rt; raw.receive_next(&board).is_ok());
+    let _begun = begun(&board, transmitter)?;
+    let lapped = Lapped {
+        count: 1,
+        place: 0,
+        intent: 256,
+    };
+    assert_eq!(rt; received(&board, &mut receiver), Answer::Lapped(lapped));
+    assert_eq!(rt; received(&board, &mut receiver), Answer::Copy(192, 1, 24));
+    Ok(())
+}
+
+#[test]
 fn nothing_comes_before_the_tail_moved(rt: HostRuntime) -> Result<(), Fail> {
     let (board, mut transmitter) = Board::new(rt.alloc(), 256)?;
     let mut receiver = board.subscribe(rt.alloc(), &mut transmitter)?;
@@ -177,37 +193,5 @@ fn closes_once_receivers_are_back(rt: HostRuntime) -> Result<(), Fail> {
     board.join(&mut transmitter, receiver);
     let closed = board.close(transmitter).map_err(|refused| refused.reason)?;
     assert_eq!(rt; closed.tail(), 0);
-    Ok(())
-}
-
-#[test]
-fn faults_of_receivers_have_texts(rt: HostRuntime) -> Result<(), Fail> {
-    let lapped = Lapped {
-        count: 1,
-        place: 0,
-        intent: 256,
-    };
-    let texts = [
-        (format!(in rt.alloc(); "{}", NoShares)?, "12 NoShares"),
-        (
-            format!(in rt.alloc(); "{}", SubscribeFault::NoShares)?,
-            "12 NoShares",
-        ),
-        (
-            format!(in rt.alloc(); "{}", SubscribeFault::OutOfMemory)?,
-            "3 OutOfMemory",
-        ),
-        (
-            format!(in rt.alloc(); "{lapped}")?,
-            "13 Lapped 1 place 0 intent 256",
-        ),
-        (
-            format!(in rt.alloc(); "{}", ReceiversOut { receivers: 1 })?,
-            "14 ReceiversOut 1",
-        ),
-    ];
-    for (text, want) in &texts {
-        assert_eq!(rt; text.as_str(), *want);
-    }
     Ok(())
 }

@@ -1,3 +1,4 @@
+//! What a transmitter stores and refuses.
 use ring_board::{Board, ClosedBoard, MakeFault, TransmitFault};
 use std::test::Fail;
 
@@ -102,38 +103,4 @@ fn lawful_capacities_and_starts(rt: HostRuntime) {
             Some(MakeFault::BadStart)
         );
     }
-}
-
-#[test]
-fn faults_have_texts(rt: HostRuntime) -> Result<(), Fail> {
-    let texts = [
-        (
-            format!(in rt.alloc(); "{}", MakeFault::BadCapacity)?,
-            "1 BadCapacity",
-        ),
-        (
-            format!(in rt.alloc(); "{}", MakeFault::BadStart)?,
-            "2 BadStart",
-        ),
-        (
-            format!(in rt.alloc(); "{}", MakeFault::OutOfMemory)?,
-            "3 OutOfMemory",
-        ),
-        (
-            format!(in rt.alloc(); "{}", TransmitFault::BadType { type_id: -7 })?,
-            "4 BadType -7",
-        ),
-        (
-            format!(in rt.alloc(); "{}", TransmitFault::TooLong { len: 33, max: 32 })?,
-            "5 TooLong 33 max 32",
-        ),
-        (
-            format!(in rt.alloc(); "{}", TransmitFault::PositionLimit { tail: 8 })?,
-            "6 PositionLimit tail 8",
-        ),
-    ];
-    for (text, want) in &texts {
-        assert_eq!(rt; text.as_str(), *want);
-    }
-    Ok(())
 }

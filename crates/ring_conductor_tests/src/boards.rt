@@ -1,9 +1,8 @@
 //! The conductor at the end of its board.
-use crate::sending::{send, work};
-use ring_board::Board;
-use ring_conductor::{Command, Conductor, WorkStop, finish};
-use ring_counters::CountersManager;
-use ring_rings::ManyToOneRing;
+use crate::bench::Bench;
+use crate::sending::work;
+use ring_conductor::{Command, WorkStop};
+use ring_rings::ManyToOne;
 use ring_words::{Action, Handler};
 use std::test::Fail;
 
@@ -25,15 +24,10 @@ fn free(id: u32) -> Command<'static> {
 
 #[test]
 fn leaves_a_command_where_the_board_is_at_its_end(rt: HostRuntime) -> Result<(), Fail> {
-    let (ring, mut producer, consumer) = ManyToOneRing::new(rt.alloc(), 1024)?;
-    let (board, transmitter) = Board::new_at(rt.alloc(), 256, 4611686018427387904)?;
-    let (values, counters) = CountersManager::new(rt.alloc(), 4, 50)?;
-    let mut conductor = Conductor::new(consumer, transmitter, counters);
-    send(&ring, &mut producer, &[free(0)])?;
-
-    let none = conductor.do_work(&ring, &board, &values, 0, 20);
-    assert_eq!(rt; none, work(0, WorkStop::BoardEnd));
-    let finished = finish(ring, board, values, conductor, producer).map_err(|back| back.reason)?;
+    let mut bench = Bench::<ManyToOne>::new_at(rt.alloc(), 4, 4611686018427387904)?;
+    bench.send(&[free(0)])?;
+    assert_eq!(rt; bench.work(20), work(0, WorkStop::BoardEnd));
+    let finished = bench.finish_alone()?;
     let mut rest = finished.rest;
     assert_eq!(rt; finished.received, 0);
     assert_eq!(rt; rest.read(9, &mut Anyone).messages, 1);
@@ -42,20 +36,16 @@ fn leaves_a_command_where_the_board_is_at_its_end(rt: HostRuntime) -> Result<(),
 
 #[test]
 fn answers_up_to_the_end_of_the_board(rt: HostRuntime) -> Result<(), Fail> {
-    let (ring, mut producer, consumer) = ManyToOneRing::new(rt.alloc(), 1024)?;
-    let (board, transmitter) = Board::new_at(rt.alloc(), 256, 4611686018427387648)?;
-    let (values, counters) = CountersManager::new(rt.alloc(), 4, 50)?;
-    let mut conductor = Conductor::new(consumer, transmitter, counters);
-    send(&ring, &mut producer, &[free(9); 11])?;
-
-    let ten = conductor.do_work(&ring, &board, &values, 0, 20);
-    assert_eq!(rt; ten, work(10, WorkStop::BoardEnd));
-    let none = conductor.do_work(&ring, &board, &values, 0, 20);
-    assert_eq!(rt; none, work(0, WorkStop::BoardEnd));
-    let finished = finish(ring, board, values, conductor, producer).map_err(|back| back.reason)?;
+    let mut bench = Bench::<ManyToOne>::new_at(rt.alloc(), 4, 4611686018427387648)?;
+    bench.send(&[free(9); 11])?;
+    assert_eq!(rt; bench.work(20), work(10, WorkStop::BoardEnd));
+    assert_eq!(rt; bench.work(20), work(0, WorkStop::BoardEnd));
+    let finished = bench.finish_alone()?;
     let mut rest = finished.rest;
-    assert_eq!(rt; finished.received, 10);
-    assert_eq!(rt; finished.board.tail(), 4611686018427387888);
+    assert_eq!(rt;
+        (finished.received, finished.board.tail()),
+        (10, 4611686018427387888)
+    );
     assert_eq!(rt; rest.read(9, &mut Anyone).messages, 1);
     Ok(())
 }

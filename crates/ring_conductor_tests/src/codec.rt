@@ -208,13 +208,3 @@ fn replies_have_one_spelling_each(rt: HostRuntime) {
         assert_eq!(rt; decode_reply(type_id, &out[..len - 1]).is_err(), true);
     }
 }
-
-#[test]
-fn faults_are_told_by_number_and_name(rt: HostRuntime) -> Result<(), std::test::Fail> {
-    let malformed = format!(in rt.alloc(); "{}", Bad::Malformed { correlation: 1 })?;
-    let unknown = format!(in rt.alloc(); "{}", Bad::UnknownType { correlation: 1 })?;
-
-    assert_eq!(rt; malformed.as_str(), "22 Malformed");
-    assert_eq!(rt; unknown.as_str(), "23 UnknownType");
-    Ok(())
-}

@@ -1,10 +1,51 @@
 //! When a conductor finishes, and what it hands out.
+ghost use Rattle.std.specs.Prelude.{◌≡◌, IfOk};
+ghost use Rattle.ring_rings.specs.Seats.{IsConsumerOf, IsProducerOf};
+ghost use Rattle.ring_conductor.specs.Conducting.{IsConductorOf};
+
 use crate::sending::work;
 use ring_board::Board;
-use ring_conductor::{Conductor, FinishFault, FinishRefused, WorkStop, finish};
-use ring_counters::CountersManager;
-use ring_rings::ManyToOneRing;
+use ring_conductor::{Conductor, FinishFault, FinishRefused, Finished, WorkStop, finish};
+use ring_counters::{CounterValues, CountersManager};
+use ring_rings::{ManyToOneRing, Producer};
 use std::test::Fail;
+
+/// What the conductor hands out, or why it does not.
+fn finished(
+    ring: ManyToOneRing,
+    board: Board,
+    values: CounterValues,
+    conductor: Conductor,
+    producer: Producer,
+) -> Result<Finished, FinishFault>
+    requires conductor { IsConductorOf IsConsumerOf ring board values conductor }
+    requires producer { IsProducerOf ring producer }
+{
+    match finish(ring, board, values, conductor, producer) {
+        Ok(finished) => Ok(finished),
+        Err(back) => Err(back.reason),
+    }
+}
+
+/// The refusal of a conductor that is not to finish yet.
+fn refusal(
+    ring: ManyToOneRing,
+    board: Board,
+    values: CounterValues,
+    conductor: Conductor,
+    producer: Producer,
+) -> Result<FinishRefused<ManyToOneRing>, Fail>
+    requires conductor { IsConductorOf IsConsumerOf ring board values conductor }
+    requires producer { IsProducerOf ring producer }
+    ensures ring { IfOk result (λ back. back.ring ≡ ring) }
+    ensures conductor { IfOk result (λ back. IsConductorOf IsConsumerOf back.ring back.board back.values back.conductor) }
+    ensures producer { IfOk result (λ back. back.producer ≡ producer) }
+{
+    match finish(ring, board, values, conductor, producer) {
+        Ok(_finished) => Err(Fail::from("finished")),
+        Err(back) => Ok(back),
+    }
+}
 
 #[test]
 fn finishes_once_producers_and_claims_are_back(rt: HostRuntime) -> Result<(), Fail> {
@@ -13,39 +54,26 @@ fn finishes_once_producers_and_claims_are_back(rt: HostRuntime) -> Result<(), Fa
     let (values, counters) = CountersManager::new(rt.alloc(), 4, 50)?;
     let conductor = Conductor::new(consumer, transmitter, counters);
     let other = ring.split(&mut producer)?;
-
-    let Err(
-        FinishRefused {
-            reason,
-            ring,
-            board,
-            values,
-            conductor,
-            mut producer,
-        },
-    ) = finish(ring, board, values, conductor, producer)
-    else {
-        return Err(Fail::from("finished with a producer out"));
-    };
-    assert_eq!(rt; reason, FinishFault::ProducersOut { shares: 1 });
-    let claim = ring.claim_once(&mut producer, 2, 12)?;
-    let Err(
-        FinishRefused {
-            reason,
-            ring,
-            board,
-            values,
-            conductor,
-            mut producer,
-        },
-    ) = finish(ring, board, values, conductor, producer)
-    else {
-        return Err(Fail::from("finished with an open claim"));
-    };
-    assert_eq!(rt; reason, FinishFault::ClaimsOpen { claims: 1 });
-    ring.abort(&mut producer, claim);
-    ring.join(&mut producer, other);
-    let finished = finish(ring, board, values, conductor, producer).map_err(|back| back.reason)?;
+    let mut back = refusal(ring, board, values, conductor, producer)?;
+    assert_eq!(rt; back.reason, FinishFault::ProducersOut { shares: 1 });
+    let claim = back.ring.claim_once(&mut back.producer, 2, 12)?;
+    let mut back = refusal(
+        back.ring,
+        back.board,
+        back.values,
+        back.conductor,
+        back.producer,
+    )?;
+    assert_eq!(rt; back.reason, FinishFault::ClaimsOpen { claims: 1 });
+    back.ring.abort(&mut back.producer, claim);
+    back.ring.join(&mut back.producer, other);
+    let finished = finished(
+        back.ring,
+        back.board,
+        back.values,
+        back.conductor,
+        back.producer,
+    )?;
     assert_eq!(rt; finished.received, 0);
     Ok(())
 }
@@ -57,26 +85,20 @@ fn goes_on_after_it_did_not_finish(rt: HostRuntime) -> Result<(), Fail> {
     let (values, counters) = CountersManager::new(rt.alloc(), 4, 50)?;
     let conductor = Conductor::new(consumer, transmitter, counters);
     let mut other = ring.split(&mut producer)?;
-
-    let Err(
-        FinishRefused {
-            reason: _reason,
-            ring,
-            board,
-            values,
-            mut conductor,
-            mut producer,
-        },
-    ) = finish(ring, board, values, conductor, producer)
-    else {
-        return Err(Fail::from("finished with a producer out"));
-    };
-    ring.write_once(&mut other, 2, &[])?;
-    ring.join(&mut producer, other);
-    let one = conductor.do_work(&ring, &board, &values, 0, 9);
+    let mut back = refusal(ring, board, values, conductor, producer)?;
+    back.ring.write_once(&mut other, 2, &[])?;
+    back.ring.join(&mut back.producer, other);
+    let one = back
+        .conductor
+        .do_work(&back.ring, &back.board, &back.values, 0, 9);
     assert_eq!(rt; one, work(1, WorkStop::Unpublished));
-    let finished = finish(ring, board, values, conductor, producer).map_err(|back| back.reason)?;
-    assert_eq!(rt; finished.received, 1);
-    assert_eq!(rt; finished.board.tail(), 24);
+    let finished = finished(
+        back.ring,
+        back.board,
+        back.values,
+        back.conductor,
+        back.producer,
+    )?;
+    assert_eq!(rt; (finished.received, finished.board.tail()), (1, 24));
     Ok(())
 }

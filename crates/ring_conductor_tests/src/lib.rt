@@ -2,11 +2,15 @@
 #![tactic(auto)]
 
 #[cfg(test)]
+mod bench;
+#[cfg(test)]
 mod boards;
 #[cfg(test)]
 mod codec;
 #[cfg(test)]
 mod commands;
+#[cfg(test)]
+mod faults;
 #[cfg(test)]
 mod finishing;
 #[cfg(test)]

@@ -3,7 +3,7 @@ ghost use Rattle.std.specs.Prelude.{◌≡◌};
 ghost use Rattle.ring_rings.specs.Seats.{shares_of, IsProducerOf};
 ghost use Rattle.ring_board.specs.Seats.{IsReceiverOf};
 
-use ring_board::{Board, CopyReceiver};
+use ring_board::{Board, Copied, CopyReceiver, Lapped};
 use ring_conductor::{Command, Reply, Work, WorkStop, decode_reply, encode_command};
 use ring_rings::{ManyToOne, OneToOne, Producer, Ring, TryFault};
 use std::test::Fail;
@@ -64,12 +64,9 @@ pub fn send<K: Kind>(
     Ok(())
 }
 
-/// The next reply, with its place.
-pub fn heard(board: &Board, receiver: &mut CopyReceiver) -> Option<(u64, Reply)>
-    requires { IsReceiverOf board.now receiver.old }
-    ensures { IsReceiverOf board.now receiver.new }
-{
-    match receiver.receive(board) {
+/// What was copied, read as a reply with its place.
+fn reply_of(copied: Result<Option<Copied>, Lapped>) -> Option<(u64, Reply)> {
+    match copied {
         Ok(Some(copied)) => match decode_reply(copied.type_id, copied.body) {
             Ok(reply) => Some((copied.place, reply)),
             Err(_bad) => None,
@@ -77,6 +74,26 @@ pub fn heard(board: &Board, receiver: &mut CopyReceiver) -> Option<(u64, Reply)>
         Ok(None) => None,
         Err(_lapped) => None,
     }
+}
+
+/// The next reply, with its place.
+fn heard(board: &Board, receiver: &mut CopyReceiver) -> Option<(u64, Reply)>
+    requires { IsReceiverOf board.now receiver.old }
+    ensures { IsReceiverOf board.now receiver.new }
+{
+    reply_of(receiver.receive(board))
+}
+
+/// Tests whether these are the next replies, with their places, and nothing comes behind them.
+pub fn hears(board: &Board, receiver: &mut CopyReceiver, replies: &[(u64, Reply)]) -> bool
+    requires { IsReceiverOf board.now receiver.old }
+    ensures { IsReceiverOf board.now receiver.new }
+{
+    let mut all = true;
+    for (place, reply) in replies {
+        all = heard(board, receiver) == Some((*place, *reply)) && all;
+    }
+    all && heard(board, receiver).is_none()
 }
 
 /// How work ends.

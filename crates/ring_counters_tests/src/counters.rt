@@ -6,8 +6,7 @@ use ring_counters::{
     AllocateRefused, BadId, BadOwner, CounterInfo, CounterValues, CountersManager, IdFault,
     MakeFault, NoShares, OutOfMemory,
 };
-use std::alloc::{AllocError, Global};
-use std::fmt;
+use std::alloc::Global;
 use std::test::*;
 
 /// A manager with its values.
@@ -278,45 +277,6 @@ fn readers_load_values(rt: HostRuntime) -> Result<(), Fail> {
     Ok(())
 }
 
-/// Whether this is how the fault is told.
-fn tells(alloc: Global, fault: impl fmt::Display + Drop, text: &str) -> Result<bool, AllocError> {
-    Ok(fault.to_string(alloc)?.as_str() == text)
-}
-
-#[test]
-fn tells_why_none_is_made_or_allocated(rt: HostRuntime) -> Result<(), Fail> {
-    for (fault, text) in [
-        (MakeFault::BadCount, "15 BadCount"),
-        (MakeFault::OutOfMemory, "3 OutOfMemory"),
-    ] {
-        assert!(rt; tells(rt.alloc(), fault, text)?);
-    }
-    for (fault, text) in [
-        (AllocateRefused::KeyTooLong, "16 KeyTooLong"),
-        (AllocateRefused::LabelTooLong, "17 LabelTooLong"),
-        (AllocateRefused::LabelNotAscii, "18 LabelNotAscii"),
-        (AllocateRefused::NoFreeCounter, "19 NoFreeCounter"),
-    ] {
-        assert!(rt; tells(rt.alloc(), fault, text)?);
-    }
-    Ok(())
-}
-
-#[test]
-fn tells_why_ids_and_readers_are_refused(rt: HostRuntime) -> Result<(), Fail> {
-    for (fault, text) in [
-        (IdFault::BadId, "20 BadId"),
-        (IdFault::NotAllocated, "21 NotAllocated"),
-    ] {
-        assert!(rt; tells(rt.alloc(), fault, text)?);
-    }
-    assert!(rt; tells(rt.alloc(), BadId, "20 BadId")?);
-    assert!(rt; tells(rt.alloc(), BadOwner, "28 BadOwner")?);
-    assert!(rt; tells(rt.alloc(), NoShares, "12 NoShares")?);
-    assert!(rt; tells(rt.alloc(), OutOfMemory, "3 OutOfMemory")?);
-    Ok(())
-}
-
 /// No call of these looks at all the counters.
 #[test]
 fn reuses_all_counters(rt: HostRuntime) -> Result<(), Fail> {
@@ -333,6 +293,32 @@ fn reuses_all_counters(rt: HostRuntime) -> Result<(), Fail> {
     }
     for id in 0..4096u32 {
         assert_eq!(rt; desk.allocate(1_004_095), Ok(id));
+    }
+    Ok(())
+}
+
+/// The label of one of many counters: its id in four digits.
+fn label_of(id: u32) -> [u8; 4] {
+    [1000, 100, 10, 1].map(|unit| b'0' + (id / unit % 10) as u8)
+}
+
+/// The value of one of many counters.
+fn value_of(id: u32) -> i64 {
+    i64::from(u32::MAX - id)
+}
+
+#[test]
+fn lists_all_counters(rt: HostRuntime) -> Result<(), Fail> {
+    let mut desk = Desk::new(rt.alloc(), 4096, 0)?;
+    for id in 0..4096u32 {
+        assert_eq!(rt; desk.allocate_with(&[], &label_of(id)), Ok(id));
+        desk.set(id, value_of(id))?;
+    }
+    let live = desk.live(rt.alloc())?;
+    assert_eq!(rt; live.len(), 4096);
+    for (id, info) in (0..4096u32).zip(live.iter()) {
+        assert_eq!(rt; (info.id, info.value), (id, value_of(id)));
+        assert_eq!(rt; info.label.as_slice(), label_of(id).as_slice());
     }
     Ok(())
 }

@@ -4,4 +4,6 @@
 #[cfg(test)]
 mod counters;
 #[cfg(test)]
+mod faults;
+#[cfg(test)]
 mod threads;

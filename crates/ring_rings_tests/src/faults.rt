@@ -1,63 +1,53 @@
-use ring_rings::{ClaimFault, CloseFault, MakeFault, NoShares, PutRange, TryFault};
+//! How refusals are told: by number and name.
+use ring_rings::{ClaimFault, CloseFault, NoShares, TryFault};
+use std::alloc::{AllocError, Global};
+use std::fmt;
 use std::test::Fail;
 
+/// Tests whether this is how the fault is told.
+fn tells(alloc: Global, fault: impl fmt::Display + Drop, text: &str) -> Result<bool, AllocError> {
+    Ok(fault.to_string(alloc)?.as_str() == text)
+}
+
 #[test]
-fn refusals_of_claims_have_texts(rt: HostRuntime) -> Result<(), Fail> {
-    let texts = [
-        (ClaimFault::BadType { type_id: -7 }, "4 BadType -7"),
+fn tells_why_nothing_is_claimed_at_once(rt: HostRuntime) -> Result<(), Fail> {
+    for (fault, text) in [
         (
-            ClaimFault::TooLong { len: 17, max: 16 },
+            TryFault::from(ClaimFault::BadType { type_id: -7 }),
+            "4 BadType -7",
+        ),
+        (
+            TryFault::from(ClaimFault::TooLong { len: 17, max: 16 }),
             "5 TooLong 17 max 16",
         ),
         (
-            ClaimFault::PositionLimit {
+            TryFault::from(ClaimFault::PositionLimit {
                 tail: 4611686018427387904,
-            },
+            }),
             "6 PositionLimit tail 4611686018427387904",
         ),
         (
-            ClaimFault::InsufficientCapacity { tail: 120, head: 0 },
+            TryFault::from(ClaimFault::InsufficientCapacity { tail: 120, head: 0 }),
             "7 InsufficientCapacity tail 120 head 0",
         ),
-    ];
-    for (fault, want) in texts {
-        let text = format!(in rt.alloc(); "{}", TryFault::from(fault))?;
-        assert_eq!(rt; text.as_str(), want);
+        (
+            TryFault::Contended { tail: 8, seen: 24 },
+            "8 Contended tail 8 seen 24",
+        ),
+    ] {
+        assert!(rt; tells(rt.alloc(), fault, text)?, "{text}");
     }
-    let contended = TryFault::Contended { tail: 8, seen: 24 };
-    let text = format!(in rt.alloc(); "{contended}")?;
-    assert_eq!(rt; text.as_str(), "8 Contended tail 8 seen 24");
     Ok(())
 }
 
 #[test]
-fn other_faults_have_texts(rt: HostRuntime) -> Result<(), Fail> {
-    let texts = [
-        (
-            format!(in rt.alloc(); "{}", MakeFault::BadCapacity)?,
-            "1 BadCapacity",
-        ),
-        (
-            format!(in rt.alloc(); "{}", MakeFault::BadStart)?,
-            "2 BadStart",
-        ),
-        (
-            format!(in rt.alloc(); "{}", MakeFault::OutOfMemory)?,
-            "3 OutOfMemory",
-        ),
-        (format!(in rt.alloc(); "{}", PutRange)?, "9 PutRange"),
-        (
-            format!(in rt.alloc(); "{}", CloseFault::ClaimsOpen { claims: 3 })?,
-            "10 ClaimsOpen 3",
-        ),
-        (
-            format!(in rt.alloc(); "{}", CloseFault::ProducersOut { shares: 5 })?,
-            "11 ProducersOut 5",
-        ),
-        (format!(in rt.alloc(); "{}", NoShares)?, "12 NoShares"),
-    ];
-    for (text, want) in &texts {
-        assert_eq!(rt; text.as_str(), *want);
+fn tells_why_it_is_not_closed_or_split(rt: HostRuntime) -> Result<(), Fail> {
+    for (fault, text) in [
+        (CloseFault::ClaimsOpen { claims: 3 }, "10 ClaimsOpen 3"),
+        (CloseFault::ProducersOut { shares: 5 }, "11 ProducersOut 5"),
+    ] {
+        assert!(rt; tells(rt.alloc(), fault, text)?, "{text}");
     }
+    assert!(rt; tells(rt.alloc(), NoShares, "12 NoShares")?);
     Ok(())
 }

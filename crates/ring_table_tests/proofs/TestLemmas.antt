@@ -11,9 +11,13 @@ use Rattle.ring_layout.specs.Headers.{header, padding_type}
 use Rattle.ring_layout.specs.Places.{IsCapacity, end_after}
 use Rattle.ring_layout.proofs.PlaceLemmas.{next_cases}
 use Rattle.ring_table.specs.Rule.{IsLawful}
-use Rattle.ring_table.specs.Staged.{StagedClaim, PlacedMessage}
+use Rattle.ring_table.specs.declared.claim.StagedClaim.{StagedClaim}
+use Rattle.ring_table.specs.declared.claim.PlacedMessage.{PlacedMessage}
 use Rattle.ring_table.specs.Changes.{changed, changed_at}
-use Rattle.ring_table.specs.Views.{Key, View, Wanted, with_claim, with_claims}
+use Rattle.ring_table.specs.declared.view.Key.{Key}
+use Rattle.ring_table.specs.declared.view.View.{View}
+use Rattle.ring_table.specs.declared.view.Wanted.{Wanted}
+use Rattle.ring_table.specs.Views.{with_claim, with_claims}
 use Rattle.ring_table.specs.ProducerSteps.{HasClaimAt}
 use Rattle.ring_table.specs.ConsumerSteps.{FindsMessage, LoadsHeader, PassesPadding}
 use Rattle.ring_table.specs.Seats.{IsSeatOf, IsSameSeat}

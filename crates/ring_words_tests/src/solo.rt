@@ -1,119 +1,73 @@
-use ring_words::{
-    Action, ClaimFault, Handler, MakeFault, Positions, PutRange, ReadEnd, SoloRing, Stop,
-};
+//! The ring of one owner, as its messages come and go.
+ghost use Rattle.ring_words.specs.Open.{ClaimAt, IsOpen};
+
+use crate::script::{BODY, Script, end};
+use ring_words::{Action, ClaimFault, MakeFault, Positions, PutRange, ReadEnd, SoloRing, Stop};
 use std::test::Fail;
 
-/// Notes the first messages that it is shown, and answers them by a script; behind the script it goes on.
-#[derive(Drop)]
-struct Script<'a> {
-    actions: &'a [Action],
-    shown: usize,
-    type_ids: [i32; 8],
-    bodies: [[u8; 16]; 8],
+/// Reads at most nine messages.
+fn read(ring: &mut SoloRing, script: &mut Script<'_>) -> ReadEnd
+    ensures claims { (t : ClaimAt) → IsOpen ring.old t → IsOpen ring.new t }
+{
+    ring.read(9, script)
 }
 
-impl<'a> Script<'a> {
-    fn new(actions: &'a [Action]) -> Self {
-        Script {
-            actions,
-            shown: 0,
-            type_ids: [0; 8],
-            bodies: [[0; 16]; 8],
-        }
-    }
-
-    fn type_id(&self, index: usize) -> Option<i32> {
-        self.type_ids.get(index).copied()
-    }
-
-    /// The body, with zeros behind it.
-    fn body(&self, index: usize) -> Option<[u8; 16]> {
-        self.bodies.get(index).copied()
-    }
+/// Reads at most so many messages, and answers them by a script.
+fn controlled_read(ring: &mut SoloRing, limit: u32, actions: &[Action]) -> ReadEnd {
+    ring.controlled_read(limit, &mut Script::new(actions))
 }
 
-impl Handler for Script<'_> {
-    ghost step = { λ s m t action. Unit {0} };
-
-    fn on_message(&mut self, type_id: i32, body: &[u8]) -> Action {
-        let index = self.shown;
-        if let Some(slot) = self.type_ids.get_mut(index) {
-            *slot = type_id;
-        }
-        if let Some(slot) = self.bodies.get_mut(index) {
-            for (to, from) in slot.iter_mut().zip(body) {
-                *to = *from;
-            }
-        }
-        self.shown = index.saturating_add(1);
-        self.actions.get(index).copied().unwrap_or(Action::Continue)
-    }
+fn write(ring: &mut SoloRing, type_id: i32, body: &[u8]) -> Result<(), ClaimFault> {
+    ring.write(type_id, body)
 }
 
-const BODY: [u8; 16] = [0, 1, 2, 3, 4, 5, 6, 7, 8, 9, 10, 11, 12, 13, 14, 15];
+/// Writes a body of 16 bytes so many times.
+fn write_often(ring: &mut SoloRing, times: u32) -> Result<(), ClaimFault> {
+    for _ in 0..times {
+        ring.write(1, &BODY)?;
+    }
+    Ok(())
+}
 
 #[test]
 fn stores_records_little_endian(rt: HostRuntime) -> Result<(), Fail> {
     let mut ring = SoloRing::new(rt.alloc(), 128)?;
-    ring.write(7, &[1, 2, 3, 4, 5])?;
-    assert_eq!(rt; ring.word(0), Some(0x0000_0007_0000_000D));
-    assert_eq!(rt; ring.word(1), Some(0x0000_0005_0403_0201));
-    assert_eq!(rt; ring.positions().tail, 16);
-    let mut empty = SoloRing::new(rt.alloc(), 128)?;
-    empty.write(1, &[])?;
-    assert_eq!(rt; empty.word(0), Some(0x0000_0001_0000_0008));
-    assert_eq!(rt; empty.positions(), Positions { head: 0, tail: 8 });
-    assert_eq!(rt; empty.word(112), None);
-    assert_eq!(rt; empty.capacity(), 128);
+    write(&mut ring, 7, &[1, 2, 3, 4, 5])?;
+    let words = [Some(0x0000_0007_0000_000D), Some(0x0000_0005_0403_0201)];
+    assert_eq!(rt; [ring.word(0), ring.word(1)], words);
+    assert_eq!(rt; ring.positions(), Positions { head: 0, tail: 16 });
+    Ok(())
+}
+
+#[test]
+fn stores_an_empty_message_as_its_header(rt: HostRuntime) -> Result<(), Fail> {
+    let mut ring = SoloRing::new(rt.alloc(), 128)?;
+    write(&mut ring, 1, &[])?;
+    let words = [Some(0x0000_0001_0000_0008), None];
+    assert_eq!(rt; [ring.word(0), ring.word(112)], words);
+    assert_eq!(rt; ring.positions(), Positions { head: 0, tail: 8 });
+    assert_eq!(rt; ring.capacity(), 128);
     Ok(())
 }
 
 #[test]
 fn wraps_with_padding(rt: HostRuntime) -> Result<(), Fail> {
     let mut ring = SoloRing::new(rt.alloc(), 128)?;
-    for _ in 0..4 {
-        ring.write(1, &BODY)?;
-    }
-    ring.write(1, &BODY[..8])?;
     let mut script = Script::new(&[]);
-    let end = ring.read(9, &mut script);
+    write_often(&mut ring, 4)?;
+    write(&mut ring, 1, &BODY[..8])?;
     assert_eq!(rt;
-        end,
-        ReadEnd {
-            messages: 5,
-            bytes: 112,
-            stopped: Stop::Unpublished
-        }
+        read(&mut ring, &mut script),
+        end(5, 112, Stop::Unpublished)
     );
     assert_eq!(rt; script.body(3), Some(BODY));
-    ring.write(1, &BODY)?;
-    assert_eq!(rt; ring.word(14), Some(0xFFFF_FFFF_0000_0010));
-    assert_eq!(rt; ring.word(0), Some(0x0000_0001_0000_0018));
-    assert_eq!(rt;
-        ring.positions(),
-        Positions {
-            head: 112,
-            tail: 152
-        }
-    );
-    let end = ring.read(9, &mut script);
-    assert_eq!(rt;
-        end,
-        ReadEnd {
-            messages: 0,
-            bytes: 16,
-            stopped: Stop::Block
-        }
-    );
-    let end = ring.read(9, &mut script);
-    assert_eq!(rt;
-        end,
-        ReadEnd {
-            messages: 1,
-            bytes: 24,
-            stopped: Stop::Unpublished
-        }
-    );
+    write(&mut ring, 1, &BODY)?;
+    let words = [Some(0xFFFF_FFFF_0000_0010), Some(0x0000_0001_0000_0018)];
+    assert_eq!(rt; [ring.word(14), ring.word(0)], words);
+    let positions = ring.positions();
+    assert_eq!(rt; (positions.head, positions.tail), (112, 152));
+    assert_eq!(rt; read(&mut ring, &mut script), end(0, 16, Stop::Block));
+    assert_eq!(rt; read(&mut ring, &mut script), end(1, 24, Stop::Unpublished));
     assert_eq!(rt; ring.word(14), Some(0));
     Ok(())
 }
@@ -121,34 +75,34 @@ fn wraps_with_padding(rt: HostRuntime) -> Result<(), Fail> {
 #[test]
 fn refuses_in_order(rt: HostRuntime) -> Result<(), Fail> {
     let mut ring = SoloRing::new(rt.alloc(), 128)?;
-    assert_eq!(rt;
-        ring.write(0, &[0; 17]),
-        Err(ClaimFault::BadType { type_id: 0 })
-    );
-    assert_eq!(rt;
-        ring.write(1, &[0; 17]),
-        Err(ClaimFault::TooLong { len: 17, max: 16 })
-    );
-    for _ in 0..5 {
-        ring.write(1, &BODY)?;
-    }
+    let long = [0; 17];
     let full = ClaimFault::InsufficientCapacity { tail: 120, head: 0 };
-    assert_eq!(rt; ring.write(1, &BODY), Err(full));
+    for (type_id, body, answer) in [
+        (0, &long[..], Err(ClaimFault::BadType { type_id: 0 })),
+        (0, &[], Err(ClaimFault::BadType { type_id: 0 })),
+        (1, &long, Err(ClaimFault::TooLong { len: 17, max: 16 })),
+        (1, &BODY, Ok(())),
+        (1, &BODY, Ok(())),
+        (1, &BODY, Ok(())),
+        (1, &BODY, Ok(())),
+        (1, &BODY, Ok(())),
+        (1, &BODY, Err(full)),
+    ] {
+        assert_eq!(rt; write(&mut ring, type_id, body), answer);
+    }
     assert_eq!(rt; ring.claim(1, 16).err(), Some(full));
-    ring.write(1, &[])?;
+    write(&mut ring, 1, &[])?;
     let full = ClaimFault::InsufficientCapacity { tail: 128, head: 0 };
-    assert_eq!(rt; ring.write(1, &[]), Err(full));
+    assert_eq!(rt; write(&mut ring, 1, &[]), Err(full));
     Ok(())
 }
 
 #[test]
 fn fills_up_to_the_end_without_padding(rt: HostRuntime) -> Result<(), Fail> {
     let mut ring = SoloRing::new(rt.alloc(), 128)?;
-    for _ in 0..4 {
-        ring.write(1, &BODY)?;
-    }
-    ring.write(1, &[])?;
-    ring.write(1, &BODY)?;
+    write_often(&mut ring, 4)?;
+    write(&mut ring, 1, &[])?;
+    write(&mut ring, 1, &BODY)?;
     assert_eq!(rt; ring.positions(), Positions { head: 0, tail: 128 });
     Ok(())
 }
@@ -156,35 +110,17 @@ fn fills_up_to_the_end_without_padding(rt: HostRuntime) -> Result<(), Fail> {
 #[test]
 fn waits_for_an_open_claim(rt: HostRuntime) -> Result<(), Fail> {
     let mut ring = SoloRing::new(rt.alloc(), 128)?;
-    let first = ring.claim(1, 0)?;
-    assert_eq!(rt; first.index(), 8);
-    let second = ring.claim(2, 0)?;
-    assert_eq!(rt; second.index(), 16);
-    assert_eq!(rt; second.place(), 8);
-    assert_eq!(rt; second.is_empty(), true);
-    ring.commit(second);
     let mut script = Script::new(&[]);
-    let end = ring.read(9, &mut script);
-    assert_eq!(rt;
-        end,
-        ReadEnd {
-            messages: 0,
-            bytes: 0,
-            stopped: Stop::Unpublished
-        }
-    );
+    let first = ring.claim(1, 0)?;
+    let second = ring.claim(2, 0)?;
+    assert_eq!(rt; [first.index(), second.index()], [8, 16]);
+    assert_eq!(rt; (second.place(), second.is_empty()), (8, true));
+    ring.commit(second);
+    assert_eq!(rt; read(&mut ring, &mut script), end(0, 0, Stop::Unpublished));
     ring.commit(first);
-    let end = ring.read(9, &mut script);
-    assert_eq!(rt;
-        end,
-        ReadEnd {
-            messages: 2,
-            bytes: 16,
-            stopped: Stop::Unpublished
-        }
-    );
-    assert_eq!(rt; script.type_id(0), Some(1));
-    assert_eq!(rt; script.type_id(1), Some(2));
+    assert_eq!(rt; read(&mut ring, &mut script), end(2, 16, Stop::Unpublished));
+    let shown = [script.type_id(0), script.type_id(1)];
+    assert_eq!(rt; shown, [Some(1), Some(2)]);
     Ok(())
 }
 
@@ -196,15 +132,7 @@ fn passes_an_aborted_claim(rt: HostRuntime) -> Result<(), Fail> {
     ring.abort(first);
     ring.commit(second);
     let mut script = Script::new(&[]);
-    let end = ring.read(9, &mut script);
-    assert_eq!(rt;
-        end,
-        ReadEnd {
-            messages: 1,
-            bytes: 16,
-            stopped: Stop::Unpublished
-        }
-    );
+    assert_eq!(rt; read(&mut ring, &mut script), end(1, 16, Stop::Unpublished));
     assert_eq!(rt; script.type_id(0), Some(2));
     Ok(())
 }
@@ -212,38 +140,36 @@ fn passes_an_aborted_claim(rt: HostRuntime) -> Result<(), Fail> {
 #[test]
 fn puts_bytes_into_a_claim(rt: HostRuntime) -> Result<(), Fail> {
     let mut ring = SoloRing::new(rt.alloc(), 128)?;
+    let mut script = Script::new(&[]);
     let mut claim = ring.claim(3, 8)?;
-    assert_eq!(rt; claim.len(), 8);
-    assert_eq!(rt; ring.word(0), Some(0x0000_0003_FFFF_FFF0));
+    assert_eq!(rt;
+        (claim.len(), ring.word(0)),
+        (8, Some(0x0000_0003_FFFF_FFF0))
+    );
     ring.put(&mut claim, 3, &[0xAA, 0xBB])?;
     ring.commit(claim);
-    let mut script = Script::new(&[]);
-    let end = ring.read(9, &mut script);
-    assert_eq!(rt;
-        end,
-        ReadEnd {
-            messages: 1,
-            bytes: 16,
-            stopped: Stop::Unpublished
-        }
-    );
+    assert_eq!(rt; read(&mut ring, &mut script), end(1, 16, Stop::Unpublished));
     let bytes = [0, 0, 0, 0xAA, 0xBB, 0, 0, 0, 0, 0, 0, 0, 0, 0, 0, 0];
     assert_eq!(rt; script.body(0), Some(bytes));
+    Ok(())
+}
+
+#[test]
+fn refuses_bytes_outside_a_claim(rt: HostRuntime) -> Result<(), Fail> {
+    let mut ring = SoloRing::new(rt.alloc(), 128)?;
+    let mut script = Script::new(&[]);
+    write(&mut ring, 3, &BODY[..8])?;
+    assert_eq!(rt; read(&mut ring, &mut script), end(1, 16, Stop::Unpublished));
     let mut claim = ring.claim(3, 8)?;
     assert_eq!(rt; claim.index(), 24);
-    assert_eq!(rt; ring.put(&mut claim, 7, &[0xAA, 0xBB]), Err(PutRange));
-    assert_eq!(rt; ring.put(&mut claim, usize::MAX, &[0xAA]), Err(PutRange));
-    ring.put(&mut claim, 8, &[])?;
+    let answers = [
+        ring.put(&mut claim, 7, &[0xAA, 0xBB]),
+        ring.put(&mut claim, usize::MAX, &[0xAA]),
+        ring.put(&mut claim, 8, &[]),
+    ];
+    assert_eq!(rt; answers, [Err(PutRange), Err(PutRange), Ok(())]);
     ring.abort(claim);
-    let end = ring.read(9, &mut script);
-    assert_eq!(rt;
-        end,
-        ReadEnd {
-            messages: 0,
-            bytes: 16,
-            stopped: Stop::Unpublished
-        }
-    );
+    assert_eq!(rt; read(&mut ring, &mut script), end(0, 16, Stop::Unpublished));
     Ok(())
 }
 
@@ -266,35 +192,11 @@ fn leaves_an_aborted_message(rt: HostRuntime) -> Result<(), Fail> {
         ring.write(type_id, &[])?;
     }
     let mut script = Script::new(&[Action::Continue, Action::Commit, Action::Abort]);
-    let end = ring.controlled_read(9, &mut script);
-    assert_eq!(rt;
-        end,
-        ReadEnd {
-            messages: 2,
-            bytes: 16,
-            stopped: Stop::Action
-        }
-    );
-    assert_eq!(rt; script.shown, 3);
-    let end = ring.read(0, &mut script);
-    assert_eq!(rt;
-        end,
-        ReadEnd {
-            messages: 0,
-            bytes: 0,
-            stopped: Stop::Limit
-        }
-    );
+    let left = ring.controlled_read(9, &mut script);
+    assert_eq!(rt; (left, script.shown), (end(2, 16, Stop::Action), 3));
+    assert_eq!(rt; ring.read(0, &mut script), end(0, 0, Stop::Limit));
     let mut script = Script::new(&[Action::Abort]);
-    let end = ring.read(9, &mut script);
-    assert_eq!(rt;
-        end,
-        ReadEnd {
-            messages: 1,
-            bytes: 8,
-            stopped: Stop::Unpublished
-        }
-    );
+    assert_eq!(rt; read(&mut ring, &mut script), end(1, 8, Stop::Unpublished));
     assert_eq!(rt; script.type_id(0), Some(3));
     Ok(())
 }
@@ -302,27 +204,13 @@ fn leaves_an_aborted_message(rt: HostRuntime) -> Result<(), Fail> {
 #[test]
 fn takes_the_message_of_a_break(rt: HostRuntime) -> Result<(), Fail> {
     let mut ring = SoloRing::new(rt.alloc(), 128)?;
-    ring.write(1, &[])?;
-    ring.write(2, &[])?;
-    let end = ring.controlled_read(9, &mut Script::new(&[Action::Commit, Action::Abort]));
-    assert_eq!(rt;
-        end,
-        ReadEnd {
-            messages: 1,
-            bytes: 8,
-            stopped: Stop::Action
-        }
-    );
+    write(&mut ring, 1, &[])?;
+    write(&mut ring, 2, &[])?;
+    let committed = controlled_read(&mut ring, 9, &[Action::Commit, Action::Abort]);
+    assert_eq!(rt; committed, end(1, 8, Stop::Action));
     assert_eq!(rt; ring.positions(), Positions { head: 8, tail: 16 });
-    let end = ring.controlled_read(1, &mut Script::new(&[Action::Break]));
-    assert_eq!(rt;
-        end,
-        ReadEnd {
-            messages: 1,
-            bytes: 8,
-            stopped: Stop::Action
-        }
-    );
+    let broke = controlled_read(&mut ring, 1, &[Action::Break]);
+    assert_eq!(rt; broke, end(1, 8, Stop::Action));
     assert_eq!(rt; ring.positions(), Positions { head: 16, tail: 16 });
     Ok(())
 }
@@ -332,16 +220,9 @@ fn keeps_passed_records_before_an_aborted_message(rt: HostRuntime) -> Result<(),
     let mut ring = SoloRing::new(rt.alloc(), 128)?;
     let first = ring.claim(1, 0)?;
     ring.abort(first);
-    ring.write(2, &[])?;
-    let end = ring.controlled_read(9, &mut Script::new(&[Action::Abort]));
-    assert_eq!(rt;
-        end,
-        ReadEnd {
-            messages: 0,
-            bytes: 8,
-            stopped: Stop::Action
-        }
-    );
+    write(&mut ring, 2, &[])?;
+    let left = controlled_read(&mut ring, 9, &[Action::Abort]);
+    assert_eq!(rt; left, end(0, 8, Stop::Action));
     let next = ring.claim(3, 0)?;
     assert_eq!(rt; next.index(), 24);
     ring.abort(next);
@@ -351,23 +232,16 @@ fn keeps_passed_records_before_an_aborted_message(rt: HostRuntime) -> Result<(),
 #[test]
 fn ends_at_the_last_position(rt: HostRuntime) -> Result<(), Fail> {
     let mut ring = SoloRing::new_at(rt.alloc(), 128, 4611686018427387776)?;
-    for _ in 0..5 {
-        ring.write(1, &BODY)?;
-    }
-    ring.write(1, &[])?;
-    let end = ring.read(9, &mut Script::new(&[]));
+    write_often(&mut ring, 5)?;
+    write(&mut ring, 1, &[])?;
     assert_eq!(rt;
-        end,
-        ReadEnd {
-            messages: 6,
-            bytes: 128,
-            stopped: Stop::Block
-        }
+        read(&mut ring, &mut Script::new(&[])),
+        end(6, 128, Stop::Block)
     );
     let limit = ClaimFault::PositionLimit {
         tail: 4611686018427387904,
     };
-    assert_eq!(rt; ring.write(1, &[]), Err(limit));
+    assert_eq!(rt; write(&mut ring, 1, &[]), Err(limit));
     Ok(())
 }
 

@@ -1,5 +1,5 @@
 use Rattle.std.proofs.Common.{ap}
-use Rattle.ring_table.specs.Views.{Key}
+use Rattle.ring_table.specs.declared.view.Key.{Key}
 use Rattle.ring_table.specs.ProducerSteps.{Mine}
 use Rattle.ring_table_tests.proofs.TestLemmas.{capacity_128, lawful_128}
 use Rattle.ring_table_tests.proofs.owner.fresh_ring.Goals as goal

@@ -1,8 +1,8 @@
 use Rattle.std.proofs.Common.{◌≡◌, ◌++◌, [], ◌∷◌, List, pos, ap, refl, ◌∙◌, arith, rules}
 use lib.ListN.{get_elem?}
-use Rattle.ring_table.specs.Staged.{StagedClaim}
+use Rattle.ring_table.specs.declared.claim.StagedClaim.{StagedClaim}
 use Rattle.ring_table.specs.Changes.{changed, fresh, opened, written}
-use Rattle.ring_table.specs.Views.{View}
+use Rattle.ring_table.specs.declared.view.View.{View}
 use Rattle.ring_table.specs.ProducerSteps.{Mine}
 use Rattle.ring_table_tests.proofs.TestLemmas.{behind_five}
 use Rattle.ring_table_tests.proofs.records.writes_one_record.Goals as goal

@@ -3,7 +3,7 @@ use Rattle.std.proofs.lemmas.List.{length-replicate}
 use Rattle.ring_layout.specs.History.{span}
 use Rattle.ring_layout.specs.Places.{end_after, next_place}
 use Rattle.ring_table.specs.Changes.{fresh, fresh_stage}
-use Rattle.ring_table.specs.Views.{View}
+use Rattle.ring_table.specs.declared.view.View.{View}
 use Rattle.ring_table_tests.proofs.TestLemmas.{claim_made, same_end}
 use Rattle.ring_table_tests.proofs.owner.Owner.claim_by_store.Goals as goal
 

@@ -1,5 +1,5 @@
 use Rattle.std.proofs.Common.{◌∙◌, ap, refl, rules}
-use Rattle.ring_table.specs.Views.{View}
+use Rattle.ring_table.specs.declared.view.View.{View}
 use Rattle.ring_table_tests.proofs.owner.Owner.leave_next.Goals as goal
 
 pub store_head_before-requires-clause-last : goal.store_head_before-requires-clause-last

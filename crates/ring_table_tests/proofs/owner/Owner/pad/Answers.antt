@@ -1,5 +1,5 @@
 use Rattle.std.proofs.Common.{sym, refl}
-use Rattle.ring_table.specs.Staged.{Padded}
+use Rattle.ring_table.specs.declared.claim.Stage.TheVariants.{Padded}
 use Rattle.ring_table.specs.Changes.{staged}
 use Rattle.ring_table_tests.proofs.TestLemmas.{claim_changed}
 use Rattle.ring_table_tests.proofs.owner.Owner.pad.Goals as goal

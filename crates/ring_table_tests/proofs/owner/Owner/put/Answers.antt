@@ -1,6 +1,6 @@
 use Rattle.std.proofs.Common.{◌∙◌, ap, pos, refl, arith}
 use Rattle.ring_table.specs.Changes.{written}
-use Rattle.ring_table.specs.Views.{View}
+use Rattle.ring_table.specs.declared.view.View.{View}
 use Rattle.ring_table.specs.ProducerSteps.{IsOpen}
 use Rattle.ring_table.proofs.BodyWords.{length-with_word}
 use Rattle.ring_table_tests.proofs.TestLemmas.{claim_changed, claim_kept}
