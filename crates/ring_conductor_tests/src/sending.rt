@@ -77,7 +77,7 @@ fn reply_of(copied: Result<Option<Copied>, Lapped>) -> Option<(u64, Reply)> {
 }
 
 /// The next reply, with its place.
-fn heard(board: &Board, receiver: &mut CopyReceiver) -> Option<(u64, Reply)>
+pub fn heard(board: &Board, receiver: &mut CopyReceiver) -> Option<(u64, Reply)>
     requires { IsReceiverOf board.now receiver.old }
     ensures { IsReceiverOf board.now receiver.new }
 {

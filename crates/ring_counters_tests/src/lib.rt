@@ -4,6 +4,8 @@
 #[cfg(test)]
 mod counters;
 #[cfg(test)]
+mod desk;
+#[cfg(test)]
 mod faults;
 #[cfg(test)]
 mod threads;

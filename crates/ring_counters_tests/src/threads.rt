@@ -3,7 +3,7 @@ ghost use Rattle.std.specs.Thread.{IsSync};
 ghost use Rattle.ring_counters.specs.Seats.{IsReaderOf};
 ghost use Rattle.ring_counters.specs.Manager.{IsManagerOf};
 
-use crate::counters::Desk;
+use crate::desk::Desk;
 use ring_counters::{CounterValues, CountersManager, NoShares, ValueReader};
 use std::test::*;
 use std::thread::{Threads, join};
