@@ -48,7 +48,7 @@ fn refusal(
 }
 
 #[test]
-fn finishes_once_producers_and_claims_are_back(rt: HostRuntime) -> Result<(), Fail> {
+fn finishes_once_producers_are_back(rt: HostRuntime) -> Result<(), Fail> {
     let (ring, mut producer, consumer) = ManyToOneRing::new(rt.alloc(), 1024)?;
     let (board, transmitter) = Board::new(rt.alloc(), 256)?;
     let (values, counters) = CountersManager::new(rt.alloc(), 4, 50)?;
@@ -56,14 +56,28 @@ fn finishes_once_producers_and_claims_are_back(rt: HostRuntime) -> Result<(), Fa
     let other = ring.split(&mut producer)?;
     let mut back = refusal(ring, board, values, conductor, producer)?;
     assert_eq!(rt; back.reason, FinishFault::ProducersOut { shares: 1 });
-    let claim = back.ring.claim_once(&mut back.producer, 2, 12)?;
-    let mut back = refusal(
+    back.ring.join(&mut back.producer, other);
+    let finished = finished(
         back.ring,
         back.board,
         back.values,
         back.conductor,
         back.producer,
     )?;
+    assert_eq!(rt; finished.received, 0);
+    Ok(())
+}
+
+/// Open claims are told before producers that are out.
+#[test]
+fn finishes_once_claims_are_settled(rt: HostRuntime) -> Result<(), Fail> {
+    let (ring, mut producer, consumer) = ManyToOneRing::new(rt.alloc(), 1024)?;
+    let (board, transmitter) = Board::new(rt.alloc(), 256)?;
+    let (values, counters) = CountersManager::new(rt.alloc(), 4, 50)?;
+    let conductor = Conductor::new(consumer, transmitter, counters);
+    let other = ring.split(&mut producer)?;
+    let claim = ring.claim_once(&mut producer, 2, 12)?;
+    let mut back = refusal(ring, board, values, conductor, producer)?;
     assert_eq!(rt; back.reason, FinishFault::ClaimsOpen { claims: 1 });
     back.ring.abort(&mut back.producer, claim);
     back.ring.join(&mut back.producer, other);
