@@ -62,10 +62,8 @@ fn lists_counters_in_use(rt: HostRuntime) -> Result<(), Fail> {
     let live = desk.live(rt.alloc())?;
     assert_eq!(rt; live.len(), 2);
     for (info, id) in live.iter().zip([0, 2]) {
-        assert_eq!(rt; info.id, id);
-        assert_eq!(rt; info.type_id, 5);
-        assert_eq!(rt; info.registration, 9);
-        assert_eq!(rt; info.owner, 0);
+        let facts = (info.id, info.type_id, info.registration, info.owner);
+        assert_eq!(rt; facts, (id, 5, 9, 0));
         assert_eq!(rt; info.key[0], 7);
         assert_eq!(rt; info.label.as_slice(), b"name".as_slice());
     }
@@ -152,13 +150,15 @@ fn closes_owner(rt: HostRuntime) -> Result<(), Fail> {
         assert_eq!(rt; desk.allocate_owned(owner), Ok(id));
     }
     assert_eq!(rt; desk.owner(1), Ok(8));
-    assert_eq!(rt; desk.close_owner(100, 9), Ok(2));
-    assert_eq!(rt; desk.close_owner(100, 0), Err(BadOwner));
+    let closed = [desk.close_owner(100, 9), desk.close_owner(100, 0)];
+    assert_eq!(rt; closed, [Ok(2), Err(BadOwner)]);
     for (id, state) in [(0u32, -1i32), (1, 1), (2, -1), (3, 0)] {
         assert_eq!(rt; desk.state(id), Ok(state));
     }
-    assert_eq!(rt; desk.deadline(2), Ok(150));
-    assert_eq!(rt; desk.value_word(0, 2), Some(9));
+    assert_eq!(rt;
+        (desk.deadline(2), desk.value_word(0, 2)),
+        (Ok(150), Some(9))
+    );
     for id in [0, 2, 3] {
         assert_eq!(rt; desk.allocate(150), Ok(id));
     }
@@ -201,9 +201,14 @@ fn reuses_all_counters(rt: HostRuntime) -> Result<(), Fail> {
     Ok(())
 }
 
+/// The last digit of a number.
+fn digit(number: u32) -> u8 {
+    b'0' + (number % 10) as u8
+}
+
 /// The label of one of many counters: its id in four digits.
 fn label_of(id: u32) -> [u8; 4] {
-    [1000, 100, 10, 1].map(|unit| b'0' + (id / unit % 10) as u8)
+    [digit(id / 1000), digit(id / 100), digit(id / 10), digit(id)]
 }
 
 /// The value of one of many counters.
