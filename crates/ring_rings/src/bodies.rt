@@ -41,7 +41,15 @@ pub(crate) fn store_body(
     }
     if 8 * whole < body.len() {
         let word = first_word(&body[8 * whole..]);
-        store_body_word(words, seat, capacity, place, 8 * whole as u64, first + whole, word);
+        store_body_word(
+            words,
+            seat,
+            capacity,
+            place,
+            8 * whole as u64,
+            first + whole,
+            word,
+        );
     }
 }
 

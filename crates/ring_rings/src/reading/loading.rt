@@ -6,8 +6,8 @@ ghost use Rattle.ring_table.specs.Seats.{IsSameSeat, IsSeatOf};
 ghost use Rattle.ring_table.specs.ConsumerSteps.{LoadsHeader};
 ghost use Rattle.ring_rings.specs.ReadingSteps.{CopiesBody, HasGotLast, IsAt, OnlyLoads};
 
-use ring_layout::{put_word, word_index};
 use ring_layout::record_descriptor::HEADER_LENGTH;
+use ring_layout::{put_word, word_index};
 use ring_table::{RingSeat, SharedRing, load_body_word, load_first_header, load_next_header};
 
 /// Loads the header at `scan`, where a read has come to.

@@ -18,8 +18,7 @@ use crate::{
 };
 use atomic_table::Closed;
 use ring_layout::ring_buffer_descriptor::MAX_POSITION;
-use ring_layout::word_index;
-use ring_layout::{fits, pad_and_span};
+use ring_layout::{fits, pad_and_span, word_index};
 use std::alloc::{AllocError, Global};
 use std::process::Abort;
 
@@ -301,8 +300,20 @@ impl Owner {
         requires { place ≤ max_position }
     {
         let table = &self.table;
-        let first = load_body_word(&table.shared, &mut self.seat, 128, place + 8, word_index(128, place + 8));
-        let second = load_body_word(&table.shared, &mut self.seat, 128, place + 16, word_index(128, place + 16));
+        let first = load_body_word(
+            &table.shared,
+            &mut self.seat,
+            128,
+            place + 8,
+            word_index(128, place + 8),
+        );
+        let second = load_body_word(
+            &table.shared,
+            &mut self.seat,
+            128,
+            place + 16,
+            word_index(128, place + 16),
+        );
         [first, second]
     }
 
@@ -315,7 +326,13 @@ impl Owner {
         ensures got { self.new.seat.me.0.consumer.got ≡ self.old.seat.me.0.consumer.got }
     {
         let table = &self.table;
-        clear_word(&table.shared, &mut self.seat, 128, self.cleared, word_index(128, self.cleared));
+        clear_word(
+            &table.shared,
+            &mut self.seat,
+            128,
+            self.cleared,
+            word_index(128, self.cleared),
+        );
         self.cleared += 8;
     }
 
