@@ -1,5 +1,5 @@
 -- Seats from step to step.
-use Rattle.std.proofs.Common.{◌≡◌, ℕ, List, [], ◌∷◌, ◌++◌, refl, sym, ap, ◌∙◌}
+use Rattle.std.proofs.Common.{◌≡◌, ℕ, List, refl, sym, ap, ◌∙◌}
 use Rattle.atomic_table.specs.declared.shared.Seat.{Seat}
 use Rattle.ring_table.specs.declared.view.View.{View}
 use Rattle.ring_table.specs.declared.view.Wanted.{Wanted}

@@ -1,4 +1,4 @@
-use Rattle.std.proofs.Common.{◌≡◌, ℕ, ◌*◌, length}
+use Rattle.std.proofs.Common.{◌≡◌, ◌*◌, length}
 use Rattle.ring_table.specs.declared.claim.PlacedMessage.{PlacedMessage}
 use Rattle.ring_table.specs.Seats.{IsSameSeat}
 use Rattle.ring_rings.specs.ReadingSteps.{CopiesWords, HasGotLast, OnlyLoads}
