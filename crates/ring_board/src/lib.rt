@@ -21,6 +21,3 @@ pub use seats::{
     BeginRefused, Begun, Board, BoardCloseRefused, ClosedBoard, Copied, CopyReceiver, Filled,
     RawRecord, Receiver, Transmitter,
 };
-
-#[cfg(test)]
-mod tests;

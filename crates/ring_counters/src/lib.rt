@@ -20,6 +20,3 @@ pub use info::CounterInfo;
 pub use manager::CountersManager;
 pub use rule::{ValueLoad, ValueWrite, ValuesView};
 pub use seats::{CounterValues, ValueReader};
-
-#[cfg(test)]
-mod tests;

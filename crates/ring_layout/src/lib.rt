@@ -15,6 +15,3 @@ pub use picture_law::word_depends_on_one_claim;
 pub use placement::{byte_index, fits, is_capacity, max_message, pad_and_span, word_index};
 pub use record_descriptor::{align8, pack_header, unpack_header};
 pub use word_bytes::{first_word, get_byte_word, put_bytes_word, put_part, put_word};
-
-#[cfg(test)]
-mod tests;

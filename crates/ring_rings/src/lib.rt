@@ -19,8 +19,6 @@ mod seats;
 mod service;
 mod settling;
 mod source;
-#[cfg(test)]
-mod tests;
 mod waiting;
 
 pub use claim::Claim;

@@ -21,4 +21,3 @@ pub mod Closing
 pub mod Calls
 pub mod HeaderCalls
 pub mod LawLemmas
-pub mod TestLemmas

@@ -7,8 +7,6 @@ mod plays;
 mod rule;
 mod steps;
 mod table;
-#[cfg(test)]
-mod tests;
 mod view;
 
 pub use claim::{PlacedMessage, Stage, StagedClaim};

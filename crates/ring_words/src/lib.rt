@@ -18,6 +18,3 @@ pub use fault::{ClaimFault, MakeFault, PutRange};
 pub use handler::Handler;
 pub use read_end::{ReadEnd, Stop};
 pub use solo::{Positions, SoloRing};
-
-#[cfg(test)]
-mod tests;

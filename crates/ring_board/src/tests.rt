@@ -1,4 +1,0 @@
-mod raw;
-mod receiving;
-mod threads;
-mod transmitting;

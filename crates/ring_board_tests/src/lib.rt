@@ -1,0 +1,13 @@
+//! Tests of the broadcast buffer.
+#![tactic(auto)]
+
+#[cfg(test)]
+mod faults;
+#[cfg(test)]
+mod raw;
+#[cfg(test)]
+mod receiving;
+#[cfg(test)]
+mod threads;
+#[cfg(test)]
+mod transmitting;

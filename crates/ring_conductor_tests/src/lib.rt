@@ -1,0 +1,19 @@
+//! Tests of the conductor, its protocol and its storms.
+#![tactic(auto)]
+
+#[cfg(test)]
+mod bench;
+#[cfg(test)]
+mod boards;
+#[cfg(test)]
+mod codec;
+#[cfg(test)]
+mod commands;
+#[cfg(test)]
+mod faults;
+#[cfg(test)]
+mod finishing;
+#[cfg(test)]
+mod sending;
+#[cfg(test)]
+mod storms;

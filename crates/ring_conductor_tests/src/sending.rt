@@ -1,0 +1,107 @@
+//! Commands as a client sends them, and replies as a listener hears them.
+ghost use Rattle.std.specs.Prelude.{◌≡◌};
+ghost use Rattle.ring_rings.specs.Seats.{shares_of, IsProducerOf};
+ghost use Rattle.ring_board.specs.Seats.{IsReceiverOf};
+
+use ring_board::{Board, Copied, CopyReceiver, Lapped};
+use ring_conductor::{Command, Reply, Work, WorkStop, decode_reply, encode_command};
+use ring_rings::{ManyToOne, OneToOne, Producer, Ring, TryFault};
+use std::test::Fail;
+
+/// A kind of ring, as a sole producer writes into it.
+pub trait Kind: Sized {
+    fn write(
+        ring: &Ring<Self>,
+        producer: &mut Producer,
+        type_id: i32,
+        body: &[u8],
+    ) -> Result<(), TryFault>
+        requires producer { IsProducerOf ring.now producer.old }
+        requires sole { shares_of producer.old ≡ 65536 }
+        ensures producer { IsProducerOf ring.now producer.new }
+        ensures sole { shares_of producer.new ≡ 65536 };
+}
+
+impl Kind for OneToOne {
+    fn write(
+        ring: &Ring<Self>,
+        producer: &mut Producer,
+        type_id: i32,
+        body: &[u8],
+    ) -> Result<(), TryFault> {
+        Ok(ring.write(producer, type_id, body)?)
+    }
+}
+
+impl Kind for ManyToOne {
+    fn write(
+        ring: &Ring<Self>,
+        producer: &mut Producer,
+        type_id: i32,
+        body: &[u8],
+    ) -> Result<(), TryFault> {
+        ring.write_once(producer, type_id, body)
+    }
+}
+
+/// Sends the commands, one after another.
+pub fn send<K: Kind>(
+    ring: &Ring<K>,
+    producer: &mut Producer,
+    commands: &[Command],
+) -> Result<(), Fail>
+    requires producer { IsProducerOf ring.now producer.old }
+    requires sole { shares_of producer.old ≡ 65536 }
+    ensures producer { IsProducerOf ring.now producer.new }
+    ensures sole { shares_of producer.new ≡ 65536 }
+{
+    let mut bytes = [0; 64];
+    for command in commands {
+        let len = encode_command(command, &mut bytes).ok_or("no room for a command")?;
+        let body = bytes.get(..len).ok_or("no such bytes")?;
+        K::write(ring, producer, command.type_id(), body)?;
+    }
+    Ok(())
+}
+
+/// What was copied, read as a reply with its place.
+fn reply_of(copied: Result<Option<Copied>, Lapped>) -> Option<(u64, Reply)> {
+    match copied {
+        Ok(Some(copied)) => match decode_reply(copied.type_id, copied.body) {
+            Ok(reply) => Some((copied.place, reply)),
+            Err(_bad) => None,
+        },
+        Ok(None) => None,
+        Err(_lapped) => None,
+    }
+}
+
+/// The next reply, with its place.
+pub fn heard(board: &Board, receiver: &mut CopyReceiver) -> Option<(u64, Reply)>
+    requires { IsReceiverOf board.now receiver.old }
+    ensures { IsReceiverOf board.now receiver.new }
+{
+    reply_of(receiver.receive(board))
+}
+
+/// Tests whether these are the next replies, with their places, and nothing comes behind them.
+pub fn hears(board: &Board, receiver: &mut CopyReceiver, replies: &[(u64, Reply)]) -> bool
+    requires { IsReceiverOf board.now receiver.old }
+    ensures { IsReceiverOf board.now receiver.new }
+{
+    let mut all = true;
+    for (place, reply) in replies {
+        all = heard(board, receiver) == Some((*place, *reply)) && all;
+    }
+    all && heard(board, receiver).is_none()
+}
+
+/// How work ends.
+pub fn work(messages: u64, stopped: WorkStop) -> Work {
+    Work { messages, stopped }
+}
+
+/// A refusal as a reply.
+pub fn refused(correlation: u64, code: i32) -> Reply {
+    Reply::Refused { correlation, code }
+}

@@ -1,0 +1,251 @@
+use ring_conductor::{Gate, OpenGate, StormFault, StormPlan, StormReport, storm};
+use std::sync::Wait;
+use std::sync::atomic::AtomicBool;
+use std::sync::atomic::Ordering::SeqCst;
+use std::test::Fail;
+use std::thread::Threads;
+
+/// The turns of a storm that is to end well.
+const TURNS: u64 = 50_000_000;
+
+/// The tries of a gate that waits inside itself.
+const TRIES: u32 = 100_000_000;
+
+fn plan(clients: u32, commands: u32) -> StormPlan {
+    StormPlan {
+        clients,
+        commands,
+        ring: 1024,
+        turns: TURNS,
+    }
+}
+
+/// Two clients of two commands.
+fn two_clients(turns: u64) -> StormPlan {
+    StormPlan {
+        clients: 2,
+        commands: 2,
+        ring: 256,
+        turns,
+    }
+}
+
+fn two_clients_report() -> StormReport {
+    StormReport {
+        received: 4,
+        left: 0,
+        seen: 4,
+        live: 2,
+        sum: 4,
+    }
+}
+
+#[test]
+fn four_clients_send_a_hundred_commands_each(rt: HostRuntime) -> Result<(), Fail> {
+    let report = storm(&rt, rt.alloc(), &plan(4, 100), &OpenGate)?;
+    let all = StormReport {
+        received: 400,
+        left: 0,
+        seen: 400,
+        live: 4,
+        sum: 400,
+    };
+    assert_eq!(rt; report, all);
+    Ok(())
+}
+
+#[test]
+fn sixty_four_clients_send_a_hundred_commands_each(rt: HostRuntime) -> Result<(), Fail> {
+    let report = storm(&rt, rt.alloc(), &plan(64, 100), &OpenGate)?;
+    let all = StormReport {
+        received: 6_400,
+        left: 0,
+        seen: 6_400,
+        live: 64,
+        sum: 6_400,
+    };
+    assert_eq!(rt; report, all);
+    Ok(())
+}
+
+#[test]
+fn plans_out_of_their_limits_are_refused(rt: HostRuntime) {
+    let lawful = plan(1, 1);
+    let bad = [
+        StormPlan {
+            clients: 0,
+            ..lawful
+        },
+        StormPlan {
+            clients: 65,
+            ..lawful
+        },
+        StormPlan {
+            commands: 0,
+            ..lawful
+        },
+        StormPlan {
+            commands: 10_001,
+            ..lawful
+        },
+        StormPlan { ring: 0, ..lawful },
+        StormPlan {
+            ring: 128,
+            ..lawful
+        },
+        StormPlan {
+            ring: 300,
+            ..lawful
+        },
+        StormPlan {
+            ring: 33_554_432,
+            ..lawful
+        },
+        StormPlan { turns: 0, ..lawful },
+    ];
+    for plan in bad.iter() {
+        let refused = storm(&rt, rt.alloc(), plan, &OpenGate);
+        assert_eq!(rt; refused, Err(StormFault::BadPlan));
+    }
+}
+
+/// Client 0 sends its first command after client 1's first was answered, and client 1 its second after client 0's first.
+#[derive(Drop)]
+struct InTurn {
+    answered: [AtomicBool; 2],
+}
+
+impl Gate for InTurn {
+    fn may_send(&self, client: u32, number: u32) -> bool {
+        match (client, number) {
+            (0, 1) => self.answered[1].load(SeqCst),
+            (1, 2) => self.answered[0].load(SeqCst),
+            _ => true,
+        }
+    }
+
+    fn answered(&self, client: u32, number: u32) {
+        if number == 1 {
+            if let Some(flag) = self.answered.get(client as usize) {
+                flag.store(true, SeqCst);
+            }
+        }
+    }
+}
+
+#[test]
+fn clients_send_as_the_gate_lets_them(rt: HostRuntime) -> Result<(), Fail> {
+    let gate = InTurn {
+        answered: [AtomicBool::new(false), AtomicBool::new(false)],
+    };
+    let report = storm(&rt, rt.alloc(), &two_clients(10_000_000), &gate)?;
+    assert_eq!(rt; report, two_clients_report());
+    Ok(())
+}
+
+/// Lets nobody send.
+#[derive(Drop)]
+struct Shut;
+
+impl Gate for Shut {
+    fn may_send(&self, _client: u32, _number: u32) -> bool {
+        false
+    }
+
+    fn answered(&self, _client: u32, _number: u32) {}
+}
+
+#[test]
+fn turns_are_spent_at_a_gate_that_never_opens(rt: HostRuntime) {
+    let report = storm(&rt, rt.alloc(), &two_clients(1_000), &Shut);
+    assert_eq!(rt; report, Err(StormFault::TurnsSpent));
+}
+
+/// Notes whether both clients are inside the gate at one time.
+#[derive(Drop)]
+struct Meeting {
+    inside: [AtomicBool; 2],
+    met: AtomicBool,
+}
+
+impl Meeting {
+    fn meets(&self, other: usize) -> bool {
+        self.met.load(SeqCst) || self.inside.get(other).is_some_and(|flag| flag.load(SeqCst))
+    }
+}
+
+impl Gate for Meeting {
+    fn may_send(&self, client: u32, number: u32) -> bool {
+        if number != 1 || client > 1 {
+            return true;
+        }
+        let mine = client as usize;
+        self.inside[mine].store(true, SeqCst);
+        for _ in 0..TRIES {
+            if self.meets(1 - mine) {
+                self.met.store(true, SeqCst);
+                break;
+            }
+        }
+        self.inside[mine].store(false, SeqCst);
+        true
+    }
+
+    fn answered(&self, _client: u32, _number: u32) {}
+}
+
+#[test]
+fn clients_meet_inside_the_gate(rt: HostRuntime) -> Result<(), Fail> {
+    let gate = Meeting {
+        inside: [AtomicBool::new(false), AtomicBool::new(false)],
+        met: AtomicBool::new(false),
+    };
+    let report = storm(&rt, rt.alloc(), &two_clients(1_000_000_000), &gate)?;
+    assert_eq!(rt; report, two_clients_report());
+    assert!(rt; gate.met.load(SeqCst));
+    Ok(())
+}
+
+/// Keeps one client inside until the other's first command was answered.
+#[derive(Drop)]
+struct Waiting {
+    client: u32,
+    answered: AtomicBool,
+    noted: AtomicBool,
+}
+
+impl Gate for Waiting {
+    fn may_send(&self, client: u32, number: u32) -> bool {
+        if client != self.client || number != 1 {
+            return true;
+        }
+        for _ in 0..TRIES {
+            if self.answered.load(SeqCst) {
+                self.noted.store(true, SeqCst);
+                break;
+            }
+        }
+        true
+    }
+
+    fn answered(&self, client: u32, number: u32) {
+        if client != self.client && number == 1 {
+            self.answered.store(true, SeqCst);
+        }
+    }
+}
+
+#[test]
+fn one_client_is_answered_while_the_other_waits(rt: HostRuntime) -> Result<(), Fail> {
+    for client in 0..2 {
+        let gate = Waiting {
+            client,
+            answered: AtomicBool::new(false),
+            noted: AtomicBool::new(false),
+        };
+        let report = storm(&rt, rt.alloc(), &two_clients(1_000_000_000), &gate)?;
+        assert_eq!(rt; report, two_clients_report());
+        assert!(rt; gate.noted.load(SeqCst));
+    }
+    Ok(())
+}

@@ -1,0 +1,11 @@
+//! Tests of the counters.
+#![tactic(auto)]
+
+#[cfg(test)]
+mod counters;
+#[cfg(test)]
+mod desk;
+#[cfg(test)]
+mod faults;
+#[cfg(test)]
+mod threads;

@@ -1,0 +1,91 @@
+//! Readers on other threads.
+ghost use Rattle.std.specs.Thread.{IsSync};
+ghost use Rattle.ring_counters.specs.Seats.{IsReaderOf};
+ghost use Rattle.ring_counters.specs.Manager.{IsManagerOf};
+
+use crate::desk::Desk;
+use ring_counters::{CounterValues, CountersManager, NoShares, ValueReader};
+use std::test::*;
+use std::thread::{Threads, join};
+
+/// Sets the counter 0 to 1, 2, .. up to the last.
+fn count_up(values: &CounterValues, mut counters: CountersManager, last: i64) -> CountersManager
+    requires { IsManagerOf values.now counters }
+    ensures { IsManagerOf values.now result }
+{
+    for value in 1..=last {
+        let _ = counters.set(values, 0, value);
+    }
+    counters
+}
+
+/// Whether the last value was seen, and no smaller one after a greater one.
+fn watch(values: &CounterValues, mut reader: ValueReader, last: i64) -> (ValueReader, bool)
+    requires { IsReaderOf values.now reader }
+    ensures { IsReaderOf values.now result.0 }
+{
+    let mut most = 0;
+    for _turn in 0..50_000_000u32 {
+        match values.load(&mut reader, 0) {
+            Ok(value) if value >= most => most = value,
+            _ => return (reader, false),
+        }
+        if most == last {
+            return (reader, true);
+        }
+        std::hint::spin_loop();
+    }
+    (reader, false)
+}
+
+/// One thread counts up while two others watch.
+fn counts_and_watches<R: Threads + Sync>(
+    rt: &R,
+    values: &CounterValues,
+    mut counters: CountersManager,
+    last: i64,
+) -> Result<bool, NoShares>
+    requires { IsManagerOf values.now counters }
+{
+    let one = counters.reader(values)?;
+    let two = counters.reader(values)?;
+    let (mut counters, (one, two)) = join(
+        rt,
+        move || -> CountersManager
+            requires { IsManagerOf values.now counters }
+            ensures { IsManagerOf values.entry.now result }
+        { count_up(values, counters, last) },
+        move || -> ((ValueReader, bool), (ValueReader, bool))
+            requires { IsSync R.row × IsReaderOf values.now one × IsReaderOf values.now two }
+            ensures { IsReaderOf values.entry.now result.0.0 × IsReaderOf values.entry.now result.1.0 }
+        {
+            join(
+                rt,
+                move || -> (ValueReader, bool)
+                    requires { IsReaderOf values.now one }
+                    ensures { IsReaderOf values.entry.now result.0 }
+                { watch(values, one, last) },
+                move || -> (ValueReader, bool)
+                    requires { IsReaderOf values.now two }
+                    ensures { IsReaderOf values.entry.now result.0 }
+                { watch(values, two, last) },
+            )
+        },
+    );
+    let (one, first) = one;
+    let (two, second) = two;
+    counters.join_reader(values, one);
+    counters.join_reader(values, two);
+    Ok(first && second)
+}
+
+#[test]
+fn readers_never_see_values_fall(rt: HostRuntime) -> Result<(), Fail> {
+    for _round in 0..100u32 {
+        let mut desk = Desk::new(rt.alloc(), 1, 0)?;
+        assert_eq!(rt; desk.allocate(0), Ok(0));
+        let Desk { values, counters } = desk;
+        assert_eq!(rt; counts_and_watches(&rt, &values, counters, 1000), Ok(true));
+    }
+    Ok(())
+}

@@ -1,0 +1,5 @@
+//! Tests of what lies in a ring: headers, places, words and bytes.
+#![tactic(auto)]
+
+#[cfg(test)]
+mod words;

@@ -1,0 +1,69 @@
+use ring_layout::{
+    align8, byte_index, first_word, fits, get_byte_word, is_capacity, max_message, pack_header,
+    pad_and_span, put_bytes_word, put_part, put_word, unpack_header, word_depends_on_one_claim,
+    word_index,
+};
+
+#[test]
+fn rounds_up_to_eight(rt: HostRuntime) {
+    assert_eq!(rt; align8(13), 16);
+    assert_eq!(rt; align8(16), 16);
+    assert_eq!(rt; align8(0), 0);
+}
+
+#[test]
+fn packs_length_and_type_id(rt: HostRuntime) {
+    assert_eq!(rt; pack_header(13, 7), 0x0000_0007_0000_000D);
+    assert_eq!(rt; pack_header(-8, 1), 0x0000_0001_FFFF_FFF8);
+    assert_eq!(rt; unpack_header(0x0000_0001_FFFF_FFF8), (-8, 1));
+    assert_eq!(rt; unpack_header(0xFFFF_FFFF_0000_0010), (16, -1));
+}
+
+#[test]
+fn pads_to_the_end_of_the_buffer(rt: HostRuntime) {
+    let capacity = 128;
+    assert!(rt; is_capacity(capacity));
+    assert_eq!(rt; pad_and_span(capacity, 112, 16), (16, 24));
+    assert_eq!(rt; pad_and_span(capacity, 104, 16), (0, 24));
+}
+
+#[test]
+fn admits_what_fits(rt: HostRuntime) {
+    let capacity = 128;
+    assert!(rt; is_capacity(capacity));
+    assert_eq!(rt; is_capacity(100), false);
+    assert_eq!(rt; fits(capacity, 120, 0, 16), false);
+    assert_eq!(rt; fits(capacity, 120, 0, 0), true);
+    assert_eq!(rt; max_message(capacity), 16);
+    word_depends_on_one_claim();
+}
+
+#[test]
+fn puts_bytes_into_a_word(rt: HostRuntime) {
+    let word = put_bytes_word(0, 3, &[0xAA, 0xBB]);
+    assert_eq!(rt; word, 0x0000_00BB_AA00_0000);
+    assert_eq!(rt; get_byte_word(word, 4), 0xBB);
+}
+
+#[test]
+fn wraps_positions(rt: HostRuntime) {
+    let capacity = 128;
+    assert!(rt; is_capacity(capacity));
+    assert_eq!(rt; byte_index(capacity, 296), 40);
+    assert_eq!(rt; word_index(capacity, 296), 5);
+    assert_eq!(rt; word_index(capacity, 256), 0);
+    assert_eq!(rt; word_index(capacity, 120), 15);
+}
+
+#[test]
+fn writes_words_over_bytes(rt: HostRuntime) {
+    let mut bytes = [9; 11];
+    put_word(&mut bytes, 1, 0x0807_0605_0403_0201);
+    assert_eq!(rt; bytes, [9, 1, 2, 3, 4, 5, 6, 7, 8, 9, 9]);
+    put_part(&mut bytes, 9, 0x0807_0605_0403_0201);
+    assert_eq!(rt; bytes, [9, 1, 2, 3, 4, 5, 6, 7, 8, 1, 2]);
+    put_part(&mut bytes, 3, 0);
+    assert_eq!(rt; bytes, [9, 1, 2, 0, 0, 0, 0, 0, 0, 0, 0]);
+    assert_eq!(rt; first_word(&bytes), 0x0002_0109);
+    assert_eq!(rt; first_word(&bytes[..2]), 0x0109);
+}

@@ -1,0 +1,53 @@
+//! How refusals are told: by number and name.
+use ring_rings::{ClaimFault, CloseFault, NoShares, TryFault};
+use std::alloc::{AllocError, Global};
+use std::fmt;
+use std::test::Fail;
+
+/// Tests whether this is how the fault is told.
+fn tells(alloc: Global, fault: impl fmt::Display + Drop, text: &str) -> Result<bool, AllocError> {
+    Ok(fault.to_string(alloc)?.as_str() == text)
+}
+
+#[test]
+fn tells_why_nothing_is_claimed_at_once(rt: HostRuntime) -> Result<(), Fail> {
+    for (fault, text) in [
+        (
+            TryFault::from(ClaimFault::BadType { type_id: -7 }),
+            "4 BadType -7",
+        ),
+        (
+            TryFault::from(ClaimFault::TooLong { len: 17, max: 16 }),
+            "5 TooLong 17 max 16",
+        ),
+        (
+            TryFault::from(ClaimFault::PositionLimit {
+                tail: 4611686018427387904,
+            }),
+            "6 PositionLimit tail 4611686018427387904",
+        ),
+        (
+            TryFault::from(ClaimFault::InsufficientCapacity { tail: 120, head: 0 }),
+            "7 InsufficientCapacity tail 120 head 0",
+        ),
+        (
+            TryFault::Contended { tail: 8, seen: 24 },
+            "8 Contended tail 8 seen 24",
+        ),
+    ] {
+        assert!(rt; tells(rt.alloc(), fault, text)?, "{text}");
+    }
+    Ok(())
+}
+
+#[test]
+fn tells_why_it_is_not_closed_or_split(rt: HostRuntime) -> Result<(), Fail> {
+    for (fault, text) in [
+        (CloseFault::ClaimsOpen { claims: 3 }, "10 ClaimsOpen 3"),
+        (CloseFault::ProducersOut { shares: 5 }, "11 ProducersOut 5"),
+    ] {
+        assert!(rt; tells(rt.alloc(), fault, text)?, "{text}");
+    }
+    assert!(rt; tells(rt.alloc(), NoShares, "12 NoShares")?);
+    Ok(())
+}

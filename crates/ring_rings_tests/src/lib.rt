@@ -1,0 +1,23 @@
+//! Tests of the rings that threads share.
+#![tactic(auto)]
+
+#[cfg(test)]
+mod bench;
+#[cfg(test)]
+mod claims;
+#[cfg(test)]
+mod closing;
+#[cfg(test)]
+mod faults;
+#[cfg(test)]
+mod reading;
+#[cfg(test)]
+mod script;
+#[cfg(test)]
+mod services;
+#[cfg(test)]
+mod threads;
+#[cfg(test)]
+mod waiting;
+#[cfg(test)]
+mod writing;

@@ -1,0 +1,311 @@
+ghost use Rattle.std.specs.Prelude.{◌≡◌, ◌≤◌};
+ghost use Rattle.std.specs.Thread.{IsSync};
+ghost use Rattle.ring_rings.specs.Seats.{shares_of, IsConsumerOf, IsProducerOf};
+
+use ring_rings::{
+    Action, ClaimFault, Consumer, Handler, ManyToOneRing, OneToOneRing, Positions, Producer,
+    TryFault,
+};
+use std::test::Fail;
+use std::thread::{Threads, join, yield_now};
+
+/// What one thread tries at most.
+const TURNS: u32 = 50_000_000;
+
+/// The messages through the ring with one producer.
+const NUMBERS: u64 = 1_000;
+
+/// The messages of each of four producers.
+const SHARE: u32 = 2_500;
+
+/// Takes the numbers from 0 on, each in a message of type 1.
+#[derive(Drop)]
+struct Numbers {
+    next: u64,
+    right: bool,
+}
+
+impl Handler for Numbers {
+    ghost step = { λ s m t action. Unit {0} };
+
+    fn on_message(&mut self, type_id: i32, body: &[u8]) -> Action {
+        let is_next = type_id == 1 && body == self.next.to_le_bytes().as_slice();
+        self.right = self.right && is_next;
+        self.next = self.next.saturating_add(1);
+        Action::Continue
+    }
+}
+
+/// Writes the numbers from 0 on, and says how many it wrote.
+fn write_numbers(ring: &OneToOneRing, mut producer: Producer) -> (Producer, u64)
+    requires producer { IsProducerOf ring.now producer }
+    requires sole { shares_of producer ≡ 65536 }
+    ensures { IsProducerOf ring.now result.0 }
+{
+    let mut written = 0;
+    'turns: for _ in 0..TURNS {
+        if written == NUMBERS {
+            break;
+        }
+        match ring.write(&mut producer, 1, &written.to_le_bytes()) {
+            Ok(()) => written += 1,
+            Err(ClaimFault::InsufficientCapacity { .. }) => yield_now(),
+            Err(_) => break,
+        }
+    }
+    (producer, written)
+}
+
+/// Reads until all numbers have come.
+fn read_numbers(ring: &OneToOneRing, mut consumer: Consumer) -> (Consumer, Numbers)
+    requires { IsConsumerOf ring.now consumer }
+    ensures { IsConsumerOf ring.now result.0 }
+{
+    let mut numbers = Numbers {
+        next: 0,
+        right: true,
+    };
+    'turns: for _ in 0..TURNS {
+        if numbers.next >= NUMBERS {
+            break;
+        }
+        if ring.read(&mut consumer, 9, &mut numbers).messages == 0 {
+            yield_now();
+        }
+    }
+    (consumer, numbers)
+}
+
+#[test]
+fn numbers_come_in_order(rt: HostRuntime) -> Result<(), Fail> {
+    let (ring, producer, consumer) = OneToOneRing::new(rt.alloc(), 128)?;
+    let shared = &ring;
+    let ((producer, written), (consumer, numbers)) = join(
+        &rt,
+        move || -> (Producer, u64)
+            requires { IsProducerOf shared.now producer × (shares_of producer ≡ 65536) }
+            ensures { IsProducerOf shared.entry.now result.0 }
+        { write_numbers(shared, producer) },
+        move || -> (Consumer, Numbers)
+            requires { IsConsumerOf shared.now consumer }
+            ensures { IsConsumerOf shared.entry.now result.0 }
+        { read_numbers(shared, consumer) },
+    );
+    assert_eq!(rt; written, NUMBERS);
+    assert_eq!(rt; numbers.next, NUMBERS);
+    assert!(rt; numbers.right);
+    let rest = ring
+        .close(producer, consumer)
+        .map_err(|refused| refused.reason)?;
+    assert_eq!(rt;
+        rest.positions(),
+        Positions {
+            head: 16_000,
+            tail: 16_000
+        }
+    );
+    Ok(())
+}
+
+/// What a producer came to: how many messages it wrote, and the ids that it drew.
+#[derive(Drop)]
+struct Written {
+    producer: Producer,
+    count: u32,
+    ids: [u64; 3],
+}
+
+/// The number of a producer and the number of its message.
+fn body_of(index: u32, number: u32) -> [u8; 8] {
+    let mut body = [0; 8];
+    body[0..4].copy_from_slice(&index.to_le_bytes());
+    body[4..8].copy_from_slice(&number.to_le_bytes());
+    body
+}
+
+/// Takes the messages of four producers, each producer's in order.
+#[derive(Drop)]
+struct Tally {
+    next: [u32; 4],
+    received: u32,
+    right: bool,
+}
+
+impl Handler for Tally {
+    ghost step = { λ s m t action. Unit {0} };
+
+    fn on_message(&mut self, type_id: i32, body: &[u8]) -> Action {
+        self.received = self.received.saturating_add(1);
+        let index = body.first().copied().unwrap_or(4);
+        match self.next.get_mut(index as usize) {
+            Some(next) => {
+                let is_next = type_id == 1 && body == body_of(u32::from(index), *next).as_slice();
+                self.right = self.right && is_next;
+                *next = next.saturating_add(1);
+            }
+            None => self.right = false,
+        }
+        Action::Continue
+    }
+}
+
+/// Draws three ids, and writes the messages of the producer with this number.
+fn write_share(ring: &ManyToOneRing, mut producer: Producer, index: u32) -> Written
+    requires { IsProducerOf ring.now producer }
+    ensures { IsProducerOf ring.now result.producer }
+{
+    let first = ring.next_correlation_id(&mut producer);
+    let second = ring.next_correlation_id(&mut producer);
+    let third = ring.next_correlation_id(&mut producer);
+    let mut count = 0;
+    'turns: for _ in 0..TURNS {
+        if count == SHARE {
+            break;
+        }
+        match ring.write_once(&mut producer, 1, &body_of(index, count)) {
+            Ok(()) => count += 1,
+            Err(TryFault::Contended { .. }) => {}
+            Err(TryFault::Refused(ClaimFault::InsufficientCapacity { .. })) => yield_now(),
+            Err(TryFault::Refused(_)) => break,
+        }
+    }
+    Written {
+        producer,
+        count,
+        ids: [first, second, third],
+    }
+}
+
+/// Reads until the messages of four producers have come.
+fn read_shares(ring: &ManyToOneRing, mut consumer: Consumer) -> (Consumer, Tally)
+    requires { IsConsumerOf ring.now consumer }
+    ensures { IsConsumerOf ring.now result.0 }
+{
+    let mut tally = Tally {
+        next: [0; 4],
+        received: 0,
+        right: true,
+    };
+    'turns: for _ in 0..TURNS {
+        if tally.received >= 4 * SHARE {
+            break;
+        }
+        if ring.read(&mut consumer, 9, &mut tally).messages == 0 {
+            yield_now();
+        }
+    }
+    (consumer, tally)
+}
+
+/// Two producers, each on a thread of its own.
+fn write_two<R: Threads + Sync>(
+    rt: &R,
+    ring: &ManyToOneRing,
+    producers: (Producer, Producer),
+    index: u32,
+) -> (Written, Written)
+    requires producers { IsProducerOf ring.now producers.0 × IsProducerOf ring.now producers.1 }
+    requires index { index ≤ 2 }
+    ensures { IsProducerOf ring.now result.0.producer × IsProducerOf ring.now result.1.producer }
+{
+    let (one, two) = producers;
+    join(
+        rt,
+        move || -> Written
+            requires { IsProducerOf ring.now one }
+            ensures { IsProducerOf ring.entry.now result.producer }
+        { write_share(ring, one, index) },
+        move || -> Written
+            requires { IsProducerOf ring.now two × (index ≤ 2) }
+            ensures { IsProducerOf ring.entry.now result.producer }
+        { write_share(ring, two, index + 1) },
+    )
+}
+
+/// Four producers and the consumer, each on a thread of its own.
+fn run_shares<R: Threads + Sync>(
+    rt: &R,
+    ring: &ManyToOneRing,
+    first: (Producer, Producer),
+    last: (Producer, Producer),
+    consumer: Consumer,
+) -> ((Consumer, Tally), ((Written, Written), (Written, Written)))
+    requires first { IsProducerOf ring.now first.0 × IsProducerOf ring.now first.1 }
+    requires last { IsProducerOf ring.now last.0 × IsProducerOf ring.now last.1 }
+    requires consumer { IsConsumerOf ring.now consumer }
+    ensures consumer { IsConsumerOf ring.now result.0.0 }
+    ensures first { IsProducerOf ring.now result.1.0.0.producer × IsProducerOf ring.now result.1.0.1.producer }
+    ensures last { IsProducerOf ring.now result.1.1.0.producer × IsProducerOf ring.now result.1.1.1.producer }
+{
+    join(
+        rt,
+        move || -> (Consumer, Tally)
+            requires { IsConsumerOf ring.now consumer }
+            ensures { IsConsumerOf ring.entry.now result.0 }
+        { read_shares(ring, consumer) },
+        move || -> ((Written, Written), (Written, Written))
+            requires sync { IsSync R.row }
+            requires first { IsProducerOf ring.now first.0 × IsProducerOf ring.now first.1 }
+            requires last { IsProducerOf ring.now last.0 × IsProducerOf ring.now last.1 }
+            ensures first { IsProducerOf ring.entry.now result.0.0.producer × IsProducerOf ring.entry.now result.0.1.producer }
+            ensures last { IsProducerOf ring.entry.now result.1.0.producer × IsProducerOf ring.entry.now result.1.1.producer }
+        {
+            join(
+                rt,
+                move || -> (Written, Written)
+                    requires { IsSync R.row × IsProducerOf ring.now first.0 × IsProducerOf ring.now first.1 }
+                    ensures { IsProducerOf ring.entry.now result.0.producer × IsProducerOf ring.entry.now result.1.producer }
+                { write_two(rt, ring, first, 0) },
+                move || -> (Written, Written)
+                    requires { IsSync R.row × IsProducerOf ring.now last.0 × IsProducerOf ring.now last.1 }
+                    ensures { IsProducerOf ring.entry.now result.0.producer × IsProducerOf ring.entry.now result.1.producer }
+                { write_two(rt, ring, last, 2) },
+            )
+        },
+    )
+}
+
+/// How many of the producers drew an id.
+fn count_draws(all: &[&Written], id: u64) -> usize {
+    all.iter()
+        .filter(|written| written.ids.contains(&id))
+        .count()
+}
+
+#[test]
+fn four_producers_lose_no_message(rt: HostRuntime) -> Result<(), Fail> {
+    let (ring, mut one, consumer) = ManyToOneRing::new(rt.alloc(), 1024)?;
+    let two = ring.split(&mut one)?;
+    let three = ring.split(&mut one)?;
+    let four = ring.split(&mut one)?;
+    let ((consumer, tally), ((one, two), (three, four))) = run_shares(
+        &rt,
+        &ring,
+        (one, two),
+        (three, four),
+        consumer,
+    );
+    let all = [&one, &two, &three, &four];
+    assert!(rt; all.iter().all(|written| written.count == SHARE));
+    for id in 0..12u64 {
+        assert_eq!(rt; count_draws(&all, id), 1);
+    }
+    assert!(rt; tally.right);
+    assert_eq!(rt; tally.received, 4 * SHARE);
+    assert_eq!(rt; tally.next, [SHARE; 4]);
+    let mut producer = one.producer;
+    ring.join(&mut producer, two.producer);
+    ring.join(&mut producer, three.producer);
+    ring.join(&mut producer, four.producer);
+    let rest = ring
+        .close(producer, consumer)
+        .map_err(|refused| refused.reason)?;
+    assert_eq!(rt;
+        rest.positions(),
+        Positions {
+            head: 160_000,
+            tail: 160_000
+        }
+    );
+    Ok(())
+}

@@ -1,8 +1,0 @@
-use Rattle.std.proofs.Common.{◌∙◌, ap, refl, rules}
-use Rattle.ring_table.specs.Views.{View}
-use Rattle.ring_table.proofs.tests.owner.Owner.leave_next.Goals as goal
-
-pub store_head_before-requires-clause-last : goal.store_head_before-requires-clause-last
-store_head_before-requires-clause-last g c =
-    let f = c.find_next.ensures.found in
-    record { front = _; last = _; got = c.clear.ensures.got ∙ ap (λ (v : View). v.consumer.got) f.view; place = refl; cleared = c.clear.new.self.cleared_is ∙ search rules }
