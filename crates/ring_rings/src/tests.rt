@@ -2,6 +2,7 @@ mod bench;
 mod claims;
 mod closing;
 mod faults;
+mod joining;
 mod reading;
 mod script;
 mod services;
