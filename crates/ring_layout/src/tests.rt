@@ -1,3 +1,5 @@
+mod spans;
+
 use crate::{
     align8, byte_index, first_word, fits, get_byte_word, is_capacity, max_message, pack_header,
     pad_and_span, put_bytes_word, put_part, put_word, unpack_header, word_depends_on_one_claim,
