@@ -6,6 +6,7 @@ mod appending;
 mod claim;
 mod fault;
 mod handler;
+mod positions;
 mod read_end;
 mod settling;
 mod solo;
@@ -16,8 +17,9 @@ pub use action::Action;
 pub use claim::SoloClaim;
 pub use fault::{ClaimFault, MakeFault, PutRange};
 pub use handler::Handler;
+pub use positions::{Positions, Standing};
 pub use read_end::{ReadEnd, Stop};
-pub use solo::{Positions, SoloRing};
+pub use solo::SoloRing;
 
 #[cfg(test)]
 mod tests;

@@ -1,3 +1,5 @@
+mod standing;
+
 use crate::{Action, ClaimFault, Handler, MakeFault, Positions, PutRange, ReadEnd, SoloRing, Stop};
 use std::test::Fail;
 
