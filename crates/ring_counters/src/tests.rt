@@ -10,7 +10,9 @@ use std::alloc::{AllocError, Global};
 use std::fmt;
 use std::test::*;
 
+mod listing;
 mod threads;
+mod updating;
 
 /// A manager with its values.
 #[derive(Drop)]
