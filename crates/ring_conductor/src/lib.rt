@@ -10,6 +10,7 @@ mod fields;
 mod finish_fault;
 mod finishing;
 mod handling;
+mod heartbeat;
 mod laws;
 mod listening;
 mod replies;

@@ -2,5 +2,6 @@ mod boards;
 mod codec;
 mod commands;
 mod finishing;
+mod heartbeats;
 mod sending;
 mod storms;
