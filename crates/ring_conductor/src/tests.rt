@@ -3,5 +3,6 @@ mod codec;
 mod commands;
 mod finishing;
 mod heartbeats;
+mod protocol;
 mod sending;
 mod storms;
