@@ -1,7 +1,7 @@
 //! The conductor's heartbeat, as clients load it.
 use crate::sending::{heard, work};
-use ring_conductor::{Conductor, Reply, WorkStop};
 use ring_board::Board;
+use ring_conductor::{Conductor, Reply, WorkStop};
 use ring_counters::CountersManager;
 use ring_rings::{ManyToOne, OneToOne, Ring};
 use std::alloc::Global;
