@@ -1,7 +1,7 @@
 //! One thread that writes a batch of messages and reads it.
 ghost use Rattle.std.specs.Prelude.{IfOk};
 
-use crate::entry::Contender;
+use crate::entry::{Contender, Workload};
 use crate::fault::Fault;
 use crate::message::{Body, Sum, TYPE_ID};
 use crate::request::Request;
@@ -137,7 +137,10 @@ pub fn run_batches<R: Clock>(
     request: &Request,
     times: u64,
 ) -> Result<Sample, Fault> {
-    let mut body = Body::new(alloc, request.size)?;
+    let mut body = match request.workload {
+        Workload::Sparse => Body::sparse(alloc, request.size)?,
+        _ => Body::new(alloc, request.size)?,
+    };
     let capacity = request.capacity;
     match request.contender {
         Contender::Solo => {

@@ -6,6 +6,8 @@ use crate::job::Job;
 pub enum Workload {
     /// One thread writes a batch of messages and reads it.
     Batches,
+    /// The same with bodies of which every other word is 0.
+    Sparse,
     /// One producer and one consumer, each on a thread.
     Pair,
     /// Several producers and one consumer, each on a thread.
@@ -25,6 +27,7 @@ impl Workload {
     pub fn name(self) -> &'static str {
         match self {
             Workload::Batches => "W1",
+            Workload::Sparse => "sparse",
             Workload::Pair => "W2",
             Workload::Crowd => "W3",
             Workload::Trips => "W4",
@@ -37,7 +40,7 @@ impl Workload {
     /// What is run for it, one after another.
     pub fn jobs(self) -> &'static [Job] {
         match self {
-            Workload::Batches => &[Job::Batches],
+            Workload::Batches | Workload::Sparse => &[Job::Batches],
             Workload::Pair | Workload::Crowd => &[Job::Flow],
             Workload::Trips => &[Job::Trips],
             Workload::Broadcast => &[Job::Broadcast],
@@ -77,10 +80,13 @@ impl Contender {
 }
 
 /// Who takes part in which workload.
-pub const ENTRIES: [(Workload, Contender); 11] = [
+pub const ENTRIES: [(Workload, Contender); 14] = [
     (Workload::Batches, Contender::Solo),
     (Workload::Batches, Contender::OneToOne),
     (Workload::Batches, Contender::ManyToOne),
+    (Workload::Sparse, Contender::Solo),
+    (Workload::Sparse, Contender::OneToOne),
+    (Workload::Sparse, Contender::ManyToOne),
     (Workload::Pair, Contender::OneToOne),
     (Workload::Pair, Contender::ManyToOne),
     (Workload::Crowd, Contender::ManyToOne),

@@ -31,6 +31,18 @@ impl Body {
         Ok(Body { bytes })
     }
 
+    /// The same with zeros in every other word, but for the first and the last.
+    pub fn sparse(alloc: Global, size: usize) -> Result<Body, Fault> {
+        let mut body = Body::new(alloc, size)?;
+        let last = size.saturating_sub(WORD);
+        for (k, byte) in body.bytes.as_mut_slice().iter_mut().enumerate() {
+            if k < last && (k / WORD) % 2 == 1 {
+                *byte = 0;
+            }
+        }
+        Ok(body)
+    }
+
     /// The bytes, with this number in front.
     pub fn numbered(&mut self, number: u64) -> &[u8] {
         if let Some(first) = self.bytes.first_chunk_mut::<WORD>() {

@@ -69,6 +69,7 @@ impl SharedRing for OneToOneRing {
         OneToOneRing::new(alloc, capacity)
     }
 
+    #[inline(always)]
     fn try_write(&self, producer: &mut Producer, type_id: i32, body: &[u8]) -> Attempt {
         match self.write(producer, type_id, body) {
             Ok(()) => Attempt::Written,
@@ -92,6 +93,7 @@ impl SharedRing for ManyToOneRing {
         ManyToOneRing::new(alloc, capacity)
     }
 
+    #[inline(always)]
     fn try_write(&self, producer: &mut Producer, type_id: i32, body: &[u8]) -> Attempt {
         match self.write_once(producer, type_id, body) {
             Ok(()) => Attempt::Written,

@@ -4,6 +4,7 @@ pub mod ReadCommands
 pub mod ReadReplies
 pub mod Joined
 pub mod Written
+pub mod Lengths
 pub mod FoldLemmas
 pub mod WorkLemmas
 pub mod FinishLemmas

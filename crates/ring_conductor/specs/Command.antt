@@ -1,5 +1,5 @@
 -- What commands are, and the one spelling of each.
-use Rattle.std.specs.Prelude.{◌≡◌, ℕ, ℤ, pos, ◌<◌, ◌^◌, List, ◌++◌, length, FitsSigned}
+use Rattle.std.specs.Prelude.{◌≡◌, ℕ, ℤ, pos, ◌<◌, ◌≤◌, ◌^◌, List, ◌++◌, length, FitsSigned}
 use Rattle.std.specs.Int.{w32, w64}
 use Rattle.ring_conductor.specs.declared.commands.Command.{Command}
 use Rattle.ring_conductor.specs.declared.commands.Command.TheVariants as of
@@ -20,6 +20,14 @@ type_id_of (Free correlation id) = pos 2
 type_id_of (Set correlation id value) = pos 3
 type_id_of (AllocateOwned correlation type_id owner key label) = pos 4
 type_id_of (Close correlation owner) = pos 5
+
+-- its correlation id
+abbrev pub correlation_id_of : Instruction → ℕ
+correlation_id_of (Allocate correlation type_id key label) = correlation
+correlation_id_of (Free correlation id) = correlation
+correlation_id_of (Set correlation id value) = correlation
+correlation_id_of (AllocateOwned correlation type_id owner key label) = correlation
+correlation_id_of (Close correlation owner) = correlation
 
 -- its body: the fields in this order, and nothing more
 abbrev pub spelling_of : Instruction → List ℕ
@@ -52,6 +60,12 @@ abbrev pub HasShortTexts : Instruction → Type 0
 HasShortTexts (Allocate correlation type_id key label) = (length key < 2 ^ 32) × (length label < 2 ^ 32)
 HasShortTexts (AllocateOwned correlation type_id owner key label) = (length key < 2 ^ 32) × (length label < 2 ^ 32)
 HasShortTexts c = Unit {0}
+
+-- the key and the label are no longer than those of a counter may be
+abbrev pub HasLawfulTexts : Instruction → Type 0
+HasLawfulTexts (Allocate correlation type_id key label) = (length key ≤ 112) × (length label ≤ 380)
+HasLawfulTexts (AllocateOwned correlation type_id owner key label) = (length key ≤ 112) × (length label ≤ 380)
+HasLawfulTexts c = Unit {0}
 
 -- a type id and a body are the spelling of a command
 pub record Spells (type_id : ℤ) (body : List ℕ) (c : Instruction) : Type 0 where

@@ -58,6 +58,11 @@ pub record KeepsTheRest (old new : Conductor) : Type 0 where
   pub consumer : consumer_of new ≡ consumer_of old
   pub counters : counters_of new ≡ counters_of old
 
+-- only the consumer may be another
+pub record KeepsWhatItServes (old new : Conductor) : Type 0 where
+  pub transmitter : transmitter_of new ≡ transmitter_of old
+  pub counters : counters_of new ≡ counters_of old
+
 -- only the counters may be others
 pub record KeepsSeats (old new : Conductor) : Type 0 where
   pub consumer : consumer_of new ≡ consumer_of old

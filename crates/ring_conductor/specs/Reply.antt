@@ -12,6 +12,13 @@ type_id_of (Done correlation) = pos 102
 type_id_of (Refused correlation code) = pos 103
 type_id_of (Closed correlation freed) = pos 104
 
+-- the correlation id of the command that it answers
+abbrev pub correlation_id_of : Reply → ℕ
+correlation_id_of (Allocated correlation id) = correlation
+correlation_id_of (Done correlation) = correlation
+correlation_id_of (Refused correlation code) = correlation
+correlation_id_of (Closed correlation freed) = correlation
+
 -- its body: the fields in this order, and nothing more
 abbrev pub spelling_of : Reply → List ℕ
 spelling_of (Allocated correlation id) = u64_field correlation ++ u32_field id

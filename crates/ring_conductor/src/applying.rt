@@ -7,7 +7,7 @@ ghost use Rattle.ring_conductor.specs.Command.{content_of, Free as FreeOf, Set a
 ghost use Rattle.ring_conductor.specs.Applied.{allocated, applied, obeyed};
 ghost use Rattle.ring_conductor.specs.Applying.{Applies};
 
-use crate::codes::{BAD_OWNER, allocate_code, id_code};
+use crate::codes::RefusalCode;
 use crate::commands::Command;
 use crate::commands::decode::decode_command;
 use crate::replies::Reply;
@@ -42,7 +42,7 @@ fn allocate(
         Ok(id) => Reply::Allocated { correlation, id },
         Err(fault) => Reply::Refused {
             correlation,
-            code: allocate_code(fault),
+            code: RefusalCode::from(fault).number(),
         },
     }
 }
@@ -55,7 +55,7 @@ fn free(counters: &mut CountersManager, now: u64, correlation: u64, id: u32) -> 
         Ok(()) => Reply::Done { correlation },
         Err(fault) => Reply::Refused {
             correlation,
-            code: id_code(fault),
+            code: RefusalCode::from(fault).number(),
         },
     }
 }
@@ -74,7 +74,7 @@ fn set(
         Ok(()) => Reply::Done { correlation },
         Err(fault) => Reply::Refused {
             correlation,
-            code: id_code(fault),
+            code: RefusalCode::from(fault).number(),
         },
     }
 }
@@ -85,9 +85,9 @@ fn close(counters: &mut CountersManager, now: u64, correlation: u64, owner: u64)
 {
     match counters.close_owner(now, owner) {
         Ok(freed) => Reply::Closed { correlation, freed },
-        Err(_fault) => Reply::Refused {
+        Err(fault) => Reply::Refused {
             correlation,
-            code: BAD_OWNER,
+            code: RefusalCode::from(fault).number(),
         },
     }
 }

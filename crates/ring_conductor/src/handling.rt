@@ -9,13 +9,10 @@ ghost use Rattle.ring_conductor.specs.Serving.{IsReady, Serves};
 
 use crate::applying::apply;
 use crate::replies::encode::encode_reply;
-use crate::replies::{Reply, type_ids};
+use crate::replies::{LONGEST_REPLY, Reply, type_ids};
 use crate::serving::Serving;
 use ring_board::{Board, Transmitter};
 use ring_words::{Action, Handler};
-
-/// The bytes of the longest reply.
-const LONGEST_REPLY: usize = 12;
 
 /// Transmits a reply.
 fn answer(board: &Board, transmitter: &mut Transmitter, reply: &Reply)

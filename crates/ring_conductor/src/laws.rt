@@ -1,13 +1,13 @@
 //! What the grammar promises: each spelling is of one message, and what was encoded is decoded again.
 
-ghost use Rattle.std.specs.Prelude.{◌≡◌, ◌++◌, ℕ, ℤ, List, take, Some, Ok};
+ghost use Rattle.std.specs.Prelude.{◌≡◌, ◌≤◌, ◌++◌, length, ℕ, ℤ, List, take, Some, Ok};
 ghost use Rattle.ring_conductor.specs.declared.replies.Reply.{Reply as AnyReply};
 ghost use Rattle.ring_layout.specs.declared.message.Message.{Message};
 ghost use Rattle.ring_board.specs.declared.view.Joined.{Joined};
 ghost use Rattle.ring_board.specs.declared.view.Taken.{Taken};
 ghost use Rattle.ring_conductor.specs.Conducting.{Begins};
 ghost use Rattle.ring_conductor.specs.Fold.{Ledger, fold_of, with_receivers};
-ghost use Rattle.ring_conductor.specs.Command.{Instruction, type_id_of, Spells};
+ghost use Rattle.ring_conductor.specs.Command.{Instruction, spelling_of, type_id_of, HasLawfulTexts, Spells};
 ghost use Rattle.ring_conductor.specs.Reply as reply;
 ghost use Rattle.ring_conductor.specs.Reading.{command_of, reply_of};
 ghost use Rattle.ring_conductor.specs.Writing.{Encodes, EncodesReply};
@@ -20,6 +20,11 @@ pub fn one_command()
 /// A type id and a body together spell one reply at most.
 pub fn one_reply()
     ensures { (type_id : ℤ) (body : List ℕ) (r s : AnyReply) → reply.Spells type_id body r → reply.Spells type_id body s → r ≡ s }
+{}
+
+/// A command whose key and label a counter may have is spelled by at most `LONGEST_COMMAND` bytes.
+pub fn longest_command()
+    ensures { (c : Instruction) → HasLawfulTexts c → length (spelling_of c) ≤ 520 }
 {}
 
 /// A command that was encoded is decoded again, and the bytes of a command that was decoded are encoded again.

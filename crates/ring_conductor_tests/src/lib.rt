@@ -14,6 +14,10 @@ mod faults;
 #[cfg(test)]
 mod finishing;
 #[cfg(test)]
+mod heartbeats;
+#[cfg(test)]
+mod protocol;
+#[cfg(test)]
 mod sending;
 #[cfg(test)]
 mod storms;

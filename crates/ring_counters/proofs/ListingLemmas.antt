@@ -1,11 +1,11 @@
 -- Walks over all counters, by rising id.
-use Rattle.std.proofs.Common.{◌≡◌, ℕ, zero, suc, ◌+◌, ◌≤◌, ◌==◌, Bool, true, false, true≢false, cond, List, [], ◌∷◌, ◌++◌, map, length, refl, sym, ap, subst, ◌∙◌, arith, inl, inr, get_or-set_other, append-nil, filter, fold, ◌&&◌}
+use Rattle.std.proofs.Common.{◌≡◌, ℕ, zero, suc, ◌+◌, ◌-◌, ◌<◌, ◌≤◌, ◌==◌, Bool, true, false, true≢false, cond, List, [], ◌∷◌, ◌++◌, map, length, refl, sym, ap, subst, ◌∙◌, arith, inl, inr, get_or-set_other, append-nil, filter, fold, ◌&&◌}
 use Rattle.std.specs.List.{range_with_len}
 use Rattle.std.proofs.Math.ListN.{length-set}
 use Rattle.std.proofs.lemmas.Bool.{cases_lt}
 use Rattle.std.proofs.lemmas.List.{length_push}
 use Rattle.ring_counters.specs.Counter.{Reclaimed, Counter, unused_counter}
-use Rattle.ring_counters.specs.Registry.{Registry, count_of, counter_at, status_at, is_allocated, is_owned, owned_ids, closed_in, reclaimed_in, live_of}
+use Rattle.ring_counters.specs.Registry.{Registry, count_of, counter_at, status_at, is_allocated, is_owned, owned_ids, closed_in, reclaimed_in, live_of, live_from}
 use Rattle.ring_counters.specs.declared.info.CounterInfo.{CounterInfo}
 use Rattle.ring_counters.specs.Infos.{IsInfoOf, AreInfos}
 
@@ -163,3 +163,36 @@ module _ (r : Registry) (infos : List CounterInfo) (id : ℕ) (h : AreInfos info
       subst (AreInfos infos)
       (sym (ap (map entry) (passing_all (λ k. is_allocated (status_at r k)) id (count_of r) le (λ k lo. ap (λ (c : Counter). is_allocated c.metadata.status) (behind k lo)))))
       h
+
+-- ---- the counters in use are gone over
+
+filter-none : (p : ℕ → Bool) (first n : ℕ) → ((k : ℕ) → first ≤ k → p k ≡ false) → filter p (range_with_len first n) ≡ []
+filter-none p first zero none = refl
+filter-none p first (suc n) none = ap (λ b. cond b (first ∷ filter p (range_with_len (first + 1) n)) (filter p (range_with_len (first + 1) n))) (none first (omega arith)) ∙ filter-none p (first + 1) n (λ k le. none k (omega arith))
+
+module _ (r : Registry) (first : ℕ) where
+  abbrev entry : ℕ → ℕ × Counter
+  entry k = (k, counter_at r k)
+
+  abbrev in_use : ℕ → Bool
+  in_use k = is_allocated (status_at r k)
+
+  -- one look: the first id is the first of the list where it is in use, and else passed over
+  one_look : first < count_of r → live_from r first ≡ cond (in_use first) ((first, counter_at r first) ∷ live_from r (first + 1)) (live_from r (first + 1))
+  one_look less =
+      let size : count_of r - first ≡ suc (count_of r - (first + 1)) = omega arith in
+      ap (λ n. map entry (filter in_use (range_with_len first n))) size ∙ by (in_use first)
+    where
+      by : (b : Bool) → map entry (cond b (first ∷ filter in_use (range_with_len (first + 1) (count_of r - (first + 1)))) (filter in_use (range_with_len (first + 1) (count_of r - (first + 1)))))
+          ≡ cond b ((first, counter_at r first) ∷ live_from r (first + 1)) (live_from r (first + 1))
+      by true = refl
+      by false = refl
+
+  pub live_here : first < count_of r → is_allocated (status_at r first) ≡ true → live_from r first ≡ (first, counter_at r first) ∷ live_from r (first + 1)
+  live_here less is = one_look less ∙ ap (λ b. cond b ((first, counter_at r first) ∷ live_from r (first + 1)) (live_from r (first + 1))) is
+
+  pub live_behind : first < count_of r → is_allocated (status_at r first) ≡ false → live_from r first ≡ live_from r (first + 1)
+  live_behind less is = one_look less ∙ ap (λ b. cond b ((first, counter_at r first) ∷ live_from r (first + 1)) (live_from r (first + 1))) is
+
+  pub none_left : ((k : ℕ) → first ≤ k → counter_at r k ≡ unused_counter) → live_from r first ≡ []
+  none_left unused = ap (map entry) (filter-none in_use first (count_of r - first) (λ k le. ap (λ (c : Counter). is_allocated c.metadata.status) (unused k le)))

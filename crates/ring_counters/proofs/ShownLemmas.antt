@@ -147,15 +147,20 @@ module _ (r : Registry) (ms : List Metadata) (vs : List Values) (queue : List �
 
 -- ---- the first id that is due
 
-pub position_some : (p : ℕ → Bool) (ids : List ℕ) (i : ℕ) → i < length ids → ((k : ℕ) → k < i → p (get_or ids k 0) ≡ false) → p (get_or ids i 0) ≡ true → position p ids ≡ Some i
-position_some p ids i less before here =
-    let e = position_or_len_is p ids i 0 (omega arith) before (λ _. here) in
-    ap (λ n. cond (nat_lt n (length ids)) (Some n) None) e ∙ cond-true _ _ _ (lt-ltb i (length ids) less)
+module _ {A : Type 0} (p : A → Bool) (xs : List A) (d : A) where
+  -- none of the first i passes
+  abbrev pub NoneBefore : ℕ → Type 0
+  NoneBefore i = (k : ℕ) → k < i → p (get_or xs k d) ≡ false
 
-pub position_none : (p : ℕ → Bool) (ids : List ℕ) → ((k : ℕ) → k < length ids → p (get_or ids k 0) ≡ false) → position p ids ≡ None
-position_none p ids before =
-    let e = position_or_len_is p ids (length ids) 0 (omega arith) before (λ less. absurd (omega arith)) in
-    ap (λ n. cond (nat_lt n (length ids)) (Some n) None) e ∙ cond-false _ _ _ (le-ltb (length ids) (length ids) (omega arith))
+  pub position_some : (i : ℕ) → i < length xs → NoneBefore i → p (get_or xs i d) ≡ true → position p xs ≡ Some i
+  position_some i less before here =
+      let e = position_or_len_is p xs i d (omega arith) before (λ _. here) in
+      ap (λ n. cond (nat_lt n (length xs)) (Some n) None) e ∙ cond-true _ _ _ (lt-ltb i (length xs) less)
+
+  pub position_none : NoneBefore (length xs) → position p xs ≡ None
+  position_none before =
+      let e = position_or_len_is p xs (length xs) d (omega arith) before (λ less. absurd (omega arith)) in
+      ap (λ n. cond (nat_lt n (length xs)) (Some n) None) e ∙ cond-false _ _ _ (le-ltb (length xs) (length xs) (omega arith))
 
 pub due_from_deadline : (now : ℕ) (s : Status) → is_reclaimed s ≡ true → deadline_of s ≤ now → is_due now s ≡ true
 due_from_deadline now Unused e h = e

@@ -1,6 +1,8 @@
 -- The counters as a registry, and what each call changes in it.
-use Rattle.std.specs.Prelude.{ℕ, ◌+◌, ◌≤◌, ◌==◌, Bool, true, false, ◌&&◌, ◌||◌, nat_lt, nat_le, if◌then◌else◌, ℤ, pos, List, [], ◌∷◌, ◌++◌, map, filter, fold, find, position, length, replicate, slice_set, slice_index_or, Option, Some, None, Result, Ok, Err}
+use Rattle.std.specs.Prelude.{ℕ, ◌+◌, ◌-◌, ◌≤◌, ◌==◌, Bool, true, false, ◌&&◌, ◌||◌, nat_lt, nat_le, if◌then◌else◌, ℤ, pos, int_lt, List, [], ◌∷◌, ◌++◌, map, filter, fold, find, position, length, replicate, slice_set, slice_index_or, Option, Some, None, Result, Ok, Err}
 use Rattle.std.specs.List.{list_all, range_with_len}
+use Rattle.std.specs.Int.{int_wrapping_add, w64}
+use Rattle.std.specs.Ordering.{int_eq}
 use Rattle.ring_counters.specs.declared.fault.AllocateRefused.{AllocateRefused}
 use Rattle.ring_counters.specs.declared.fault.AllocateRefused.TheVariants.{KeyTooLong, LabelTooLong, LabelNotAscii, NoFreeCounter}
 use Rattle.ring_counters.specs.declared.fault.MakeFault.{MakeFault}
@@ -128,6 +130,17 @@ with_value r id value =
     let c = counter_at r id in
     record r { counters = slice_set r.counters id (record c { values = record c.values { value = value } }) }
 
+abbrev pub value_at : Registry → ℕ → ℤ
+value_at r id = (counter_at r id).values.value
+
+-- the value of a counter with more added, modulo 2^64
+abbrev pub value_plus : Registry → ℕ → ℤ → ℤ
+value_plus r id delta = int_wrapping_add w64 (value_at r id) delta
+
+-- whether a counter's value is below this one
+abbrev pub is_raised_by : Registry → ℕ → ℤ → Bool
+is_raised_by r id value = int_lt (value_at r id) value
+
 -- a counter is freed at a moment: its id may be given again after the timeout, and its other words stay
 abbrev pub reclaimed_in : Registry → ℕ → ℕ → Registry
 reclaimed_in r now id =
@@ -149,6 +162,18 @@ live_ids r = filter (λ id. is_allocated (status_at r id)) (ids_of r)
 -- the finite map of the allocated ids, by rising id
 abbrev pub live_of : Registry → List (ℕ × Counter)
 live_of r = map (λ id. (id, counter_at r id)) (live_ids r)
+
+-- the counters from this id on that are in use, by rising id
+abbrev pub live_from : Registry → ℕ → List (ℕ × Counter)
+live_from r first = map (λ id. (id, counter_at r id)) (filter (λ id. is_allocated (status_at r id)) (range_with_len first (count_of r - first)))
+
+abbrev pub is_registered : ℤ → ℕ → Counter → Bool
+is_registered type_id registration c =
+    is_allocated c.metadata.status && int_eq c.metadata.type_id type_id && c.values.registration == registration
+
+-- the lowest id in use with this type and registration
+abbrev pub registered_id : Registry → ℤ → ℕ → Option ℕ
+registered_id r type_id registration = position (is_registered type_id registration) r.counters
 
 abbrev pub is_owned : ℕ → Counter → Bool
 is_owned owner c = is_allocated c.metadata.status && c.values.owner == owner

@@ -3,6 +3,7 @@ ghost use Rattle.std.specs.Prelude.{◌≡◌, ◌+◌, ◌^◌, ◌<◌, ◌≤
 ghost use Rattle.std.specs.List.{list_all};
 ghost use Rattle.ring_counters.specs.Registry.{fresh_registry, make_refusal_of, new_counter, text_refusal_of, allocation_of, allocated_in, id_refusal_of, answer, with_value, reclaimed_in, owned_ids, closed_in};
 ghost use Rattle.ring_counters.specs.Views.{value_write};
+ghost use Rattle.ring_counters.specs.Seats.{values_count};
 ghost use Rattle.ring_counters.specs.Manager.{registry_of, writes_of, shares_of, IsManagerOf, KeepsValues};
 
 use crate::fault::{AllocateRefused, BadOwner, IdFault, MakeFault};
@@ -55,6 +56,7 @@ impl CountersManager {
     ) -> Result<(CounterValues, CountersManager), MakeFault>
         ensures refusal { MatchOption (make_refusal_of count) (IsOkUnless result MakeFault.OutOfMemory) (λ fault. result ≡ Err fault) }
         ensures values { IfOk result (λ made. IsManagerOf made.0 made.1) }
+        ensures count { IfOk result (λ made. values_count made.0 ≡ count) }
         ensures registry { IfOk result (λ made. registry_of made.1 ≡ fresh_registry count reuse_ms) }
         ensures writes { IfOk result (λ made. writes_of made.1 ≡ []) }
         ensures shares { IfOk result (λ made. shares_of made.1 ≡ 65536) }

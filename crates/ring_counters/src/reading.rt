@@ -2,7 +2,7 @@
 ghost use Rattle.std.specs.Prelude.{◌≡◌, ℕ, ◌+◌, ◌<◌, ◌↔◌, [], length, IfOk, IfErr, OnOk, OnErr, IsOk};
 ghost use Rattle.ring_counters.specs.Counter.{padded, state_of, deadline_of};
 ghost use Rattle.ring_counters.specs.Counter.{metadata_word as metadata_word_of, value_word as value_word_of};
-ghost use Rattle.ring_counters.specs.Registry.{count_of, counter_at, status_at, id_refusal_of, range_refusal_of, answer, live_of};
+ghost use Rattle.ring_counters.specs.Registry.{count_of, counter_at, status_at, id_refusal_of, range_refusal_of, answer, live_of, registered_id};
 ghost use Rattle.ring_counters.specs.Infos.{AreInfos};
 ghost use Rattle.ring_counters.specs.Agree.{Agree};
 ghost use Rattle.ring_counters.specs.ValueWrites.{AreLoads};
@@ -17,6 +17,13 @@ use ring_layout::counter_descriptor::{MAX_KEY_LENGTH, MAX_LABEL_LENGTH};
 use std::alloc::Global;
 
 impl CountersManager {
+    /// The number of counters that it was made with: an id is in range where it is below this.
+    pub fn count(&self) -> u32
+        ensures { result ≡ count_of (registry_of self.now) }
+    {
+        self.records.count()
+    }
+
     /// The value of a counter in use.
     ///
     /// `BadId` comes where the id is not below the number of counters, `NotAllocated` where no counter in use has it.
@@ -33,6 +40,30 @@ impl CountersManager {
     {
         self.records.check_allocated(id)?;
         Ok(self.records.values(id).owner())
+    }
+
+    /// The type that a counter in use was allocated with. `BadId` and `NotAllocated` come as for `value`.
+    pub fn type_id(&self, id: u32) -> Result<i32, IdFault>
+        ensures { result ≡ answer (id_refusal_of (registry_of self.now) id) (counter_at (registry_of self.now) id).metadata.type_id }
+    {
+        self.records.check_allocated(id)?;
+        Ok(self.records.metadata(id).type_id())
+    }
+
+    /// The registration id that a counter in use was allocated with. `BadId` and `NotAllocated` come as for `value`.
+    pub fn registration(&self, id: u32) -> Result<u64, IdFault>
+        ensures { result ≡ answer (id_refusal_of (registry_of self.now) id) (counter_at (registry_of self.now) id).values.registration }
+    {
+        self.records.check_allocated(id)?;
+        Ok(self.records.values(id).registration())
+    }
+
+    /// The lowest id in use with this type and registration id, `None` where there is none. It looks at every id that was
+    /// ever used.
+    pub fn find(&self, type_id: i32, registration: u64) -> Option<u32>
+        ensures { result ≡ registered_id (registry_of self.now) type_id registration }
+    {
+        self.records.find(type_id, registration)
     }
 
     /// Copies the label of a counter in use, with zeros after it, and gives its length in bytes. `BadId` and `NotAllocated`

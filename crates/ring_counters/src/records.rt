@@ -2,7 +2,7 @@
 ghost use Rattle.std.specs.Prelude.{◌≡◌, ◌≢◌, ℕ, ◌+◌, ◌-◌, ◌*◌, ◌^◌, ◌<◌, ◌≤◌, true, false, position, IfOk, IfSome, IfNone, MatchOption, length, replicate, slice_index, slice_index_or, slice_set, remove};
 ghost use Rattle.std.specs.VecDeque.{deque_capacity};
 ghost use Rattle.ring_counters.specs.Counter.{Metadata, Values, Counter, Allocated, deadline_of, unused_metadata, unused_values, unused_counter};
-ghost use Rattle.ring_counters.specs.Registry.{Registry, count_of, counter_at, status_at, is_due, is_allocated, next_id, due_id, unused_id, allocated_in, reclaimed_in, with_value, fresh_registry, answer, id_refusal_of, range_refusal_of, is_owned, owned_ids, closed_in, live_of, new_counter, AreShort};
+ghost use Rattle.ring_counters.specs.Registry.{Registry, count_of, counter_at, status_at, is_due, is_allocated, next_id, due_id, unused_id, allocated_in, reclaimed_in, with_value, fresh_registry, answer, id_refusal_of, range_refusal_of, is_owned, owned_ids, closed_in, live_of, new_counter, AreShort, is_registered, registered_id};
 ghost use Rattle.ring_counters.specs.Infos.{IsInfoOf, AreInfos};
 
 use crate::fault::IdFault;
@@ -295,7 +295,7 @@ impl Records {
     }
 
     /// Whether the counter is in use.
-    fn is_live(&self, id: u32) -> bool
+    pub(crate) fn is_live(&self, id: u32) -> bool
         requires { id < count_of self.now }
         ensures { result ≡ is_allocated (status_at self.now id) }
     {
@@ -308,6 +308,28 @@ impl Records {
         ensures { result ≡ is_owned owner (counter_at self.now id) }
     {
         self.is_live(id) && self.values(id).owner() == owner
+    }
+
+    /// Whether the counter is in use, with this type and registration.
+    fn is_registered(&self, id: u32, type_id: i32, registration: u64) -> bool
+        requires { id < count_of self.now }
+        ensures { result ≡ is_registered type_id registration (counter_at self.now id) }
+    {
+        self.is_live(id)
+            && self.metadata(id).type_id() == type_id
+            && self.values(id).registration() == registration
+    }
+
+    /// The lowest id in use with this type and registration.
+    pub(crate) fn find(&self, type_id: i32, registration: u64) -> Option<u32>
+        ensures { result ≡ registered_id self.now type_id registration }
+    {
+        for id in 0..self.used() {
+            if self.is_registered(id, type_id, registration) {
+                return Some(id);
+            }
+        }
+        None
     }
 
     /// Frees the counters of an owner, by rising id, and gives their number.

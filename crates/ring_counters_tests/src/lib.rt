@@ -8,4 +8,8 @@ mod desk;
 #[cfg(test)]
 mod faults;
 #[cfg(test)]
+mod listing;
+#[cfg(test)]
 mod threads;
+#[cfg(test)]
+mod updating;

@@ -1,5 +1,5 @@
 -- The words of a ring's trailer, which follow those of its buffer of C bytes.
-use Rattle.std.specs.Prelude.{ℕ, ◌+◌, ◌/◌}
+use Rattle.std.specs.Prelude.{◌≢◌, ℕ, ◌+◌, ◌/◌, ◌≤◌}
 
 abbrev pub tail_index : ℕ → ℕ
 tail_index C = C / 8 + 16
@@ -19,3 +19,12 @@ heartbeat_index C = C / 8 + 80
 -- how many words a ring has
 abbrev pub ring_words : ℕ → ℕ
 ring_words C = C / 8 + 96
+
+-- a word behind the buffer that is none of the five
+pub record IsUnnamed (C i : ℕ) : Type 0 where
+  pub behind : C / 8 ≤ i
+  pub not_tail : i ≢ tail_index C
+  pub not_cache : i ≢ head_cache_index C
+  pub not_head : i ≢ head_index C
+  pub not_correlation : i ≢ correlation_index C
+  pub not_heartbeat : i ≢ heartbeat_index C

@@ -3,6 +3,7 @@
 
 pub mod broadcast_buffer_descriptor;
 pub mod counter_descriptor;
+mod formats;
 mod message;
 mod picture_law;
 mod placement;
@@ -13,5 +14,5 @@ mod word_bytes;
 pub use message::{Claim, ClaimState, Message};
 pub use picture_law::word_depends_on_one_claim;
 pub use placement::{byte_index, fits, is_capacity, max_message, pad_and_span, word_index};
-pub use record_descriptor::{align8, pack_header, unpack_header};
+pub use record_descriptor::{align8, pack_header, span, unpack_header};
 pub use word_bytes::{first_word, get_byte_word, put_bytes_word, put_part, put_word};

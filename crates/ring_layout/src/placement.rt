@@ -6,7 +6,7 @@ ghost use Rattle.ring_layout.specs.Places.{is_capacity, IsCapacity, index, max_p
 ghost use Rattle.ring_layout.specs.Headers.{padding_header};
 ghost use Rattle.ring_layout.specs.Picture.{claim_word, word_at};
 
-use crate::record_descriptor::HEADER_LENGTH;
+use crate::record_descriptor;
 use crate::ring_buffer_descriptor::{MAX_CAPACITY, MIN_CAPACITY};
 
 /// Tests whether a ring may have this capacity: a power of two from 128 to 2^24.
@@ -51,7 +51,7 @@ pub fn pad_and_span(capacity: u32, tail: u64, len: usize) -> (u64, u64)
     ensures place { tail + result.0 ≡ next_place capacity tail (span len) }
     ensures span { result.1 ≡ span len }
 {
-    let span = (HEADER_LENGTH + len).next_multiple_of(8) as u64;
+    let span = record_descriptor::span(len);
     let room = u64::from(capacity) - byte_index(capacity, tail);
     (if span <= room { 0 } else { room }, span)
 }

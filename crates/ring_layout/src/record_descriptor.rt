@@ -13,6 +13,7 @@
 ghost use Rattle.std.specs.Prelude.{◌≡◌, ◌+◌, ◌-◌, ◌*◌, ◌/◌, ◌%◌, ◌^◌, ◌≤◌, ℤ, FitsSigned};
 ghost use Rattle.std.specs.Int.{cast_signed, w32};
 ghost use Rattle.ring_layout.specs.Headers.{header};
+ghost use Rattle.ring_layout.specs.History.{span};
 
 /// The bytes of a header.
 pub const HEADER_LENGTH: usize = 8;
@@ -38,6 +39,15 @@ pub fn align8(bytes: u64) -> u64
     ensures { result ≡ (bytes + 7) / 8 * 8 }
 {
     (bytes + 7) & !7
+}
+
+/// The bytes that a record takes whose message has `len` bytes, at most 2^64 - 16: a header and the message, rounded up
+/// to a multiple of 8. Padding before it is not counted.
+pub fn span(len: usize) -> u64
+    requires { len ≤ 2 ^ 64 - 16 }
+    ensures { result ≡ span len }
+{
+    align8(HEADER_LENGTH as u64 + len as u64)
 }
 
 /// The header word of a record: the length in the low half, the type id in the high half.

@@ -2,4 +2,6 @@
 #![tactic(auto)]
 
 #[cfg(test)]
+mod spans;
+#[cfg(test)]
 mod words;

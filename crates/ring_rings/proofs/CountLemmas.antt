@@ -13,6 +13,7 @@ use Rattle.ring_table.specs.ProducerSteps.{HasClaimAt, IsOpen}
 use Rattle.ring_table.specs.Views.{with_claims}
 use Rattle.ring_rings.specs.Matching.{Matches}
 use Rattle.ring_table.proofs.LawLemmas.{open_count-changed}
+use Rattle.ring_rings.proofs.RisingLemmas.{rising_kept}
 
 -- an open claim that is settled counts no more
 pub settles_one : (v : View) (place at : ℕ) (type_id : ℤ) (len : ℕ) (s : ClaimState) → HasClaimAt v place (IsOpen type_id len) → at ≡ place → AreRising v.producer.claims → one_if_open s ≡ 0
@@ -93,6 +94,7 @@ matches_settled v w shares open_claims own_tail place at type_id len s known h s
       some = known.some;
       most = known.most;
       counted = omega arith;
+      rising = rising_kept (staged (Stored s)) at (λ d. refl) v.producer.claims rising;
       stored = stored_changed (staged (Stored s)) at (λ d. tt) v.producer.claims known.stored;
       own = known.own;
       whole = known.whole;

@@ -39,10 +39,13 @@ module _ (C n : ℕ) (v w u u2 : View) (both : u ≡ with_producer_of v w) (load
         later_too = omega arith;
       }
 
-  module _ (shares open_claims own_tail other_shares other_open other_tail : ℕ) (known : Matches v shares open_claims own_tail) (other : Matches w other_shares other_open other_tail) where
-    claims_are : u.producer.claims ≡ interleaved v.producer.claims w.producer.claims
-    claims_are = ap (λ (z : View). z.producer.claims) both
+  claims_are : u.producer.claims ≡ interleaved v.producer.claims w.producer.claims
+  claims_are = ap (λ (z : View). z.producer.claims) both
 
+  pub joined_claims : u2.producer.claims ≡ interleaved v.producer.claims w.producer.claims
+  joined_claims = ap (λ (z : View). z.producer.claims) loaded.view ∙ claims_are
+
+  module _ (shares open_claims own_tail other_shares other_open other_tail : ℕ) (known : Matches v shares open_claims own_tail) (other : Matches w other_shares other_open other_tail) where
     open_are : open_count u.producer.claims ≡ open_claims + other_open
     open_are =
         let a = known.counted in
@@ -72,6 +75,7 @@ module _ (C n : ℕ) (v w u u2 : View) (both : u ≡ with_producer_of v w) (load
           some = omega arith;
           most = omega arith;
           counted = ap open_count claims ∙ open_are;
+          rising = subst AreRising (sym claims) loaded.rising;
           stored = subst AreStored (sym (claims ∙ claims_are)) (stored_interleaved v.producer.claims w.producer.claims known.stored other.stored);
           own = λ all. ap (λ (z : View). z.producer.seen_tail) loaded.view;
           whole = loaded.position.aligned;

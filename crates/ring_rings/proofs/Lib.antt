@@ -2,6 +2,7 @@ pub mod NewestLemmas
 pub mod LookLemmas
 pub mod RefusalLemmas
 pub mod CountLemmas
+pub mod RisingLemmas
 pub mod MadeLemmas
 pub mod CloseLemmas
 pub mod JoinLemmas

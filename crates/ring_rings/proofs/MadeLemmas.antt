@@ -11,7 +11,7 @@ use Rattle.ring_layout.specs.Places.{end_after}
 use Rattle.ring_layout.proofs.PlaceLemmas.{next_le}
 use Rattle.ring_table.specs.OpenClaims.{open_count}
 use Rattle.ring_table.specs.Views.{with_claim, with_claims}
-use Rattle.ring_table.specs.Staged.{AreStored}
+use Rattle.ring_table.specs.Staged.{AreRising, AreStored}
 use Rattle.ring_table.specs.ProducerSteps.{HasClaimAt, IsOpen}
 use Rattle.ring_rings.specs.declared.admission.Admission.{Admission}
 use Rattle.ring_rings.specs.Claiming.{claim_behind, looked, record_behind, tail_refusal_of}
@@ -19,6 +19,7 @@ use Rattle.ring_rings.specs.Making.{HasJustMade, IsJustMade, Makes}
 use Rattle.ring_rings.specs.Matching.{Matches}
 use Rattle.ring_rings.proofs.CountLemmas.{open_count-more, open_few, stored_more}
 use Rattle.ring_rings.proofs.NewestLemmas.{has_last}
+use Rattle.ring_rings.proofs.RisingLemmas.{rising_more}
 
 -- a claim stays where others come behind it
 pub has_more : (v w : View) (c : StagedClaim) (place : ℕ) (P : StagedClaim → Type 0) → w.producer.claims ≡ v.producer.claims ++ c ∷ [] → HasClaimAt v place P → HasClaimAt w place P
@@ -61,6 +62,7 @@ module _ (C tail : ℕ) (type_id : ℤ) (len : ℕ) (front : List (ℕ × ℕ)) 
           some = known.some;
           most = known.most;
           counted = omega arith;
+          rising = subst AreRising (sym made_claims) (rising_more tail v.producer.claims (claim_behind C tail type_id len) known.rising made.behind (next_le C tail (span len)));
           stored = subst AreStored (sym made_claims) (stored_more v.producer.claims (claim_behind C tail type_id len) known.stored tt);
           own = λ all. ap (λ (u : View). u.producer.seen_tail) made.view ∙ sym end;
           whole = whole;
@@ -108,6 +110,7 @@ module _ (C tail : ℕ) (type_id : ℤ) (len : ℕ) (front : List (ℕ × ℕ)) 
           some = known.some;
           most = known.most;
           counted = omega arith;
+          rising = subst AreRising (sym written_claims) (rising_more tail v.producer.claims (record_behind C tail type_id body) known.rising made.behind (next_le C tail (span (length body))));
           stored = subst AreStored (sym written_claims) (stored_more v.producer.claims (record_behind C tail type_id body) known.stored tt);
           own = λ all. ap (λ (z : View). z.producer.seen_tail) (stored ∙ ap (with_claims (v.producer.claims ++ record_behind C tail type_id body ∷ [])) made.view) ∙ sym end;
           whole = made.whole;

@@ -15,12 +15,7 @@ use Rattle.ring_table.specs.declared.view.View.{View}
 use Rattle.ring_table.specs.Views.{logged}
 use Rattle.ring_table.specs.ConsumerSteps.{LoadsBody as TellsBody}
 use Rattle.ring_rings.specs.Reading.{body_loads}
-use Rattle.ring_rings.specs.ReadingSteps.{CopiesBody, HasGotLast}
-
--- the first k words of the body were loaded, and their bytes stand at the front of `out`
-pub record CopiesWords (C : ℕ) (m : PlacedMessage) (k : ℕ) (v : View) (out : List ℕ) (w : View) : Type 0 where
-  pub view : w ≡ record v { log = v.log ++ body_loads C m k }
-  pub bytes : (i : ℕ) → i < 8 * k → i < length m.message.body → slice_index out i ≡ slice_index m.message.body i
+use Rattle.ring_rings.specs.ReadingSteps.{CopiesBody, CopiesWords, HasGotLast}
 
 pub copies_none : (C : ℕ) (m : PlacedMessage) (v : View) (out : List ℕ) → CopiesWords C m 0 v out v
 copies_none C m v out = record {
@@ -84,11 +79,14 @@ last_at : (front : List PlacedMessage) (m : PlacedMessage) → get_elem? (front 
 last_at [] m = refl
 last_at (x ∷ front) m = last_at front m
 
+-- of the view only the log changed
+pub copies_loads : (C : ℕ) (m : PlacedMessage) (k : ℕ) (v : View) (out : List ℕ) (w : View) → CopiesWords C m k v out w → w ≡ record v { log = w.log }
+copies_loads C m k v out w so = so.view ∙ ap (λ (l : List (ℕ × ℕ)). record v { log = l }) (sym (ap (λ (x : View). x.log) so.view))
+
 -- a word that was loaded is the body's
-pub word_is : (C p k word : ℕ) (m : PlacedMessage) (v w : View) → w ≡ record v { log = w.log } → HasGotLast m v → v.capacity ≡ C → v.consumer.cleared ≤ m.place → p ≡ m.place + 8 + 8 * k → 8 * k < length m.message.body
+pub word_is : (C p k word : ℕ) (m : PlacedMessage) (v w : View) → w ≡ record v { log = w.log } → HasGotLast m v → w.capacity ≡ C → w.consumer.cleared ≤ m.place → p ≡ m.place + 8 + 8 * k → 8 * k < length m.message.body
     → TellsBody (index C p) w word → word ≡ body_word m.message.body (8 * k)
 word_is C p k word m v w rest last same cleared there inside told =
     let got : w.consumer.got ≡ last.0 ++ m ∷ [] = ap (λ (x : View). x.consumer.got) rest ∙ last.1 in
-    let low : w.consumer.cleared ≤ m.place = subst (λ (n : ℕ). n ≤ m.place) (sym (ap (λ (x : View). x.consumer.cleared) rest)) cleared in
-    told (length last.0) m (8 * k) (subst (λ (l : List PlacedMessage). get_elem? l (length last.0) ≡ some m) (sym got) (last_at last.0 m)) low (omega arith) inside
-    (ap (λ (n : ℕ). index n (m.place + 8 + 8 * k)) (ap (λ (x : View). x.capacity) rest ∙ same) ∙ ap (index C) (sym there))
+    told (length last.0) m (8 * k) (subst (λ (l : List PlacedMessage). get_elem? l (length last.0) ≡ some m) (sym got) (last_at last.0 m)) cleared (omega arith) inside
+    (ap (λ (n : ℕ). index n (m.place + 8 + 8 * k)) same ∙ ap (index C) (sym there))

@@ -1,5 +1,5 @@
 -- Seats from step to step.
-use Rattle.std.proofs.Common.{◌≡◌, ℕ, List, [], ◌∷◌, ◌++◌, refl, sym, ap, ◌∙◌}
+use Rattle.std.proofs.Common.{◌≡◌, ℕ, List, refl, sym, ap, ◌∙◌}
 use Rattle.atomic_table.specs.declared.shared.Seat.{Seat}
 use Rattle.ring_table.specs.declared.view.View.{View}
 use Rattle.ring_table.specs.declared.view.Wanted.{Wanted}
@@ -12,11 +12,13 @@ same_none s = record { table = refl; id = refl; slots = refl; capacity = refl }
 pub same_more : (a b c : Seat Wanted View) → IsSameSeat a b → IsSameSeat b c → IsSameSeat a c
 same_more a b c p q = record { table = q.table ∙ p.table; id = q.id ∙ p.id; slots = q.slots ∙ p.slots; capacity = q.capacity ∙ p.capacity }
 
+-- a load is one of the log
+pub log_is : (v w : View) (i n : ℕ) → w ≡ logged i n v → w ≡ record v { log = w.log }
+log_is v w i n load = load ∙ ap (λ (l : List (ℕ × ℕ)). record v { log = l }) (sym (ap (λ (x : View). x.log) load))
+
 -- loads one after another
-pub log_more : (v w x : View) (i n : ℕ) → w ≡ record v { log = w.log } → x ≡ logged i n w → x ≡ record v { log = x.log }
-log_more v w x i n rest load =
-    let whole : x ≡ record v { log = w.log ++ (i, n) ∷ [] } = load ∙ ap (logged i n) rest in
-    whole ∙ ap (λ (l : List (ℕ × ℕ)). record v { log = l }) (sym (ap (λ (y : View). y.log) whole))
+pub loads_more : (v w x : View) → w ≡ record v { log = w.log } → x ≡ record w { log = x.log } → x ≡ record v { log = x.log }
+loads_more v w x first then = then ∙ ap (λ (y : View). record y { log = x.log }) first
 
 -- loads leave a consumer what its struct says of its seat
 pub record KeepsSeat (v w : View) : Type 0 where

@@ -1,5 +1,5 @@
 -- Bytes put into an open claim.
-use Rattle.std.specs.Prelude.{◌≡◌, ℕ, ◌+◌, ◌*◌, ◌≤◌, ◌<◌, List, ◌++◌, length, drop, replicate, slice_index}
+use Rattle.std.specs.Prelude.{◌≡◌, ℕ, ◌+◌, ◌*◌, ◌≤◌, ◌<◌, List, [], ◌∷◌, ◌++◌, length, drop, replicate, slice_index}
 use Rattle.std.specs.Int.{from_le_bytes, w64}
 use Rattle.ring_layout.specs.declared.message.ClaimState.TheVariants.{Open}
 use Rattle.ring_layout.specs.History.{overwritten}
@@ -7,7 +7,7 @@ use Rattle.ring_layout.specs.Places.{index}
 use Rattle.ring_table.specs.declared.view.View.{View}
 use Rattle.ring_table.specs.Changes.{changed}
 use Rattle.ring_table.specs.Views.{with_claims}
-use Rattle.ring_table.specs.ProducerSteps.{HasClaim}
+use Rattle.ring_table.specs.ProducerSteps.{EndBelow, HasClaim, TakesWord}
 use Rattle.ring_table.specs.declared.claim.StagedClaim.{StagedClaim}
 use Rattle.ring_table.specs.declared.claim.Stage.TheVariants.{Stored}
 
@@ -24,6 +24,23 @@ pub record HasRoom (len : ℕ) (c : StagedClaim) : Type 0 where
 pub record IsBlank (len : ℕ) (c : StagedClaim) : Type 0 where
   pub stage : c.stage ≡ Stored Open
   pub zeros : c.message.body ≡ replicate len 0
+
+-- c is the last claim of the view and lies at the place, and the others end before it
+pub record IsLast (place : ℕ) (cs : List StagedClaim) (c : StagedClaim) (v : View) : Type 0 where
+  pub claims : v.producer.claims ≡ cs ++ c ∷ []
+  pub behind : EndBelow place cs
+  pub place_is : c.place ≡ place
+
+-- and it is open, with so many bytes that are 0
+pub record IsFresh (place len : ℕ) (cs : List StagedClaim) (c : StagedClaim) (v : View) : Type 0 where
+  pub last : IsLast place cs c v
+  pub blank : IsBlank len c
+
+-- or it may take the word at the offset `at`, from which on its bytes are 0
+pub record TakesFresh (place at word : ℕ) (cs : List StagedClaim) (c : StagedClaim) (v : View) : Type 0 where
+  pub last : IsLast place cs c v
+  pub takes : TakesWord at word c
+  pub zeros : (j : ℕ) → at ≤ j → slice_index c.message.body j ≡ 0
 
 -- the view with these loads
 abbrev pub loaded : List (ℕ × ℕ) → View → View

@@ -1,5 +1,5 @@
 -- What a running read does: v is the consumer's view before a turn, w the view after it, and `scan` how far the read had come.
-use Rattle.std.specs.Prelude.{◌≡◌, ◌≢◌, ℕ, ◌+◌, ◌/◌, ◌%◌, ◌≤◌, ◌<◌, List, [], ◌∷◌, ◌++◌, length, take, All, ℤ, pos, Bool, true, false}
+use Rattle.std.specs.Prelude.{◌≡◌, ◌≢◌, ℕ, ◌+◌, ◌/◌, ◌%◌, ◌*◌, ◌≤◌, ◌<◌, List, [], ◌∷◌, ◌++◌, length, slice_index, take, All, ℤ, pos, Bool, true, false}
 use Rattle.ring_words.specs.declared.action.Action.{Action}
 use Rattle.ring_words.specs.declared.action.Action.TheVariants.{Continue}
 use Rattle.ring_layout.specs.declared.message.Message.{Message}
@@ -41,6 +41,15 @@ LoadsBody C m v w = w ≡ record v { log = v.log ++ body_loads C m ((length m.me
 pub record CopiesBody (C : ℕ) (m : PlacedMessage) (v : View) (out : List ℕ) (w : View) : Type 0 where
   pub view : LoadsBody C m v w
   pub copy : take (length m.message.body) out ≡ m.message.body
+
+-- the first k words of the body were loaded, and their bytes stand at the front of `out`
+pub record CopiesWords (C : ℕ) (m : PlacedMessage) (k : ℕ) (v : View) (out : List ℕ) (w : View) : Type 0 where
+  pub view : w ≡ record v { log = v.log ++ body_loads C m k }
+  pub bytes : (i : ℕ) → i < 8 * k → i < length m.message.body → slice_index out i ≡ slice_index m.message.body i
+
+-- where the first k words of the body at a place were copied, there is one more
+abbrev pub CopiesWord : ℕ → ℕ → ℕ → View → List ℕ → View → List ℕ → Type 0
+CopiesWord C place k v out w out' = (m : PlacedMessage) (u : View) → HasGotLast m u → m.place ≡ place → 8 * k < length m.message.body → CopiesWords C m k u out v → CopiesWords C m (k + 1) u out' w
 
 -- of the view only the log changes
 abbrev pub OnlyLoads : View → View → Type 0

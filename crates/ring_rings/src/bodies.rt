@@ -3,11 +3,11 @@ ghost use Rattle.std.specs.Prelude.{◌≡◌, ℕ, ◌+◌, ◌%◌, ◌<◌, �
 ghost use Rattle.ring_layout.specs.History.{IsMessage};
 ghost use Rattle.ring_layout.specs.Places.{index, max_position};
 ghost use Rattle.ring_table.specs.declared.claim.StagedClaim.{StagedClaim};
-ghost use Rattle.ring_table.specs.Changes.{blank, changed};
+ghost use Rattle.ring_table.specs.Changes.{blank, written};
 ghost use Rattle.ring_table.specs.ProducerSteps.{HasClaimAt};
 ghost use Rattle.ring_table.specs.Seats.{IsSameSeat, IsSeatOf};
 ghost use Rattle.ring_table.specs.Views.{with_claims};
-ghost use Rattle.ring_rings.specs.Bodies.{loaded, put_at, HasRoom, IsBlank, MergesWord, PutsBytes};
+ghost use Rattle.ring_rings.specs.Bodies.{loaded, put_at, HasRoom, IsFresh, MergesWord, PutsBytes, TakesFresh};
 ghost use Rattle.ring_rings.specs.Claiming.{record_behind};
 ghost use Rattle.ring_rings.specs.Making.{HasJustMade, IsJustMade};
 
@@ -16,7 +16,31 @@ use ring_table::{
     RingSeat, SharedRing, Wanted, load_own_word, store_body_word, store_committed_header,
 };
 
-/// Stores a whole body into a claim of its length whose bytes are 0.
+/// Stores a word of the newest claim's body, which is 0 so far from the byte offset `at` on. Its index in the buffer is
+/// `target`.
+#[inline(always)]
+fn store_fresh_word(
+    words: &SharedRing,
+    seat: &mut RingSeat,
+    capacity: u32,
+    place: u64,
+    at: u64,
+    target: usize,
+    word: u64,
+)
+    requires seat { IsSeatOf words.now.table_id words.now.key capacity seat.old }
+    requires target { target ≡ index capacity (place + 8 + at) }
+    requires fresh { (cs : List StagedClaim) × (c : StagedClaim) × TakesFresh place at word cs c seat.old.me.0 }
+    ensures seat { IsSameSeat seat.old seat.new }
+    ensures stored { (cs : List StagedClaim) (c : StagedClaim) → TakesFresh place at word cs c seat.old.me.0 → seat.new.me.0 ≡ with_claims (cs ++ written at word c ∷ []) seat.old.me.0 }
+{
+    // What is 0 already needs no store.
+    if word != 0 {
+        store_body_word(words, seat, capacity, place, at, target, word);
+    }
+}
+
+/// Stores a whole body into the newest claim, which has its length and zeros for its bytes.
 #[inline(always)]
 pub(crate) fn store_body(
     words: &SharedRing,
@@ -27,21 +51,22 @@ pub(crate) fn store_body(
 )
     requires seat { IsSeatOf words.now.table_id words.now.key capacity seat.old }
     requires place { place ≤ max_position }
-    requires claim { HasClaimAt seat.old.me.0 place (IsBlank (length body.now)) }
+    requires fresh { (cs : List StagedClaim) × (c : StagedClaim) × IsFresh place (length body.now) cs c seat.old.me.0 }
     requires inside { place % capacity + 8 + length body.now ≤ capacity }
     ensures seat { IsSameSeat seat.old seat.new }
-    ensures view { seat.new.me.0 ≡ with_claims (changed place (put_at 0 body.now) seat.old.me.0.producer.claims) seat.old.me.0 }
+    ensures stored { (cs : List StagedClaim) (c : StagedClaim) → IsFresh place (length body.now) cs c seat.old.me.0 → seat.new.me.0 ≡ with_claims (cs ++ put_at 0 body.now c ∷ []) seat.old.me.0 }
 {
     // A record does not cross the end of the buffer, so its words lie side by side.
     let first = word_index(capacity, place) + 1;
     let whole = body.len() / 8;
     for k in 0..whole {
         let word = first_word(&body[8 * k..8 * k + 8]);
-        store_body_word(words, seat, capacity, place, 8 * k as u64, first + k, word);
+        store_fresh_word(words, seat, capacity, place, 8 * k as u64, first + k, word);
     }
     if 8 * whole < body.len() {
         let word = first_word(&body[8 * whole..]);
-        store_body_word(words, seat, capacity, place, 8 * whole as u64, first + whole, word);
+        let at = 8 * whole as u64;
+        store_fresh_word(words, seat, capacity, place, at, first + whole, word);
     }
 }
 

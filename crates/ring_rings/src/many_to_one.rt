@@ -1,10 +1,11 @@
 //! The calls of a ring with any number of producers.
 ghost use Rattle.std.specs.Prelude.{◌≡◌, ◌≢◌, ◌↔◌, length, IfErr, IfOk, IsTrue, OnErr, OnOk, is_err};
+ghost use Rattle.ring_table.specs.Staged.{AreRising};
 ghost use Rattle.ring_table.specs.Views.{producer_alone, without_share};
 ghost use Rattle.ring_words.specs.Open.{ClaimAt};
 ghost use Rattle.ring_rings.specs.Claiming.{Claims, RefusesTry, Writes};
 ghost use Rattle.ring_rings.specs.Joining.{Joins};
-ghost use Rattle.ring_rings.specs.Seats.{capacity_of, shares_of, view_of, IsOpenClaimOf, IsProducerOf};
+ghost use Rattle.ring_rings.specs.Seats.{capacity_of, claims_of, shares_of, view_of, IsOpenClaimOf, IsProducerOf};
 
 use crate::bodies::store_message;
 use crate::claim::Claim;
@@ -88,6 +89,7 @@ impl Ring<ManyToOne> {
         ensures same { OnErr result (producer.new ≡ producer.old) }
         ensures left { OnOk result (view_of producer.new ≡ without_share (view_of producer.old)) }
         ensures right { IfOk result (λ other. IsProducerOf self.now other × (view_of other ≡ producer_alone (view_of producer.old))) }
+        ensures claims { (t : ClaimAt) → IsOpenClaimOf self.now producer.old t → IsOpenClaimOf self.now producer.new t }
     {
         if producer.shares == 1 {
             return Err(NoShares);
@@ -103,11 +105,17 @@ impl Ring<ManyToOne> {
     }
 
     /// Takes another producer in, with its shares and its claims. Afterwards the tail is loaded.
+    ///
+    /// Claims that are open stay so, those of either; this producer settles them all from then on.
     pub fn join(&self, producer: &mut Producer, other: Producer)
         requires producer { IsProducerOf self.now producer.old }
         requires other { IsProducerOf self.now other }
         ensures producer { IsProducerOf self.now producer.new }
         ensures joined { Joins (capacity_of self.now) (view_of producer.old) (view_of other) (view_of producer.new) }
+        ensures rising { AreRising (claims_of producer.new) }
+        ensures claims { (t : ClaimAt) → IsOpenClaimOf self.now producer.old t → IsOpenClaimOf self.now producer.new t }
+        ensures others { (t : ClaimAt) → IsOpenClaimOf self.now other t → IsOpenClaimOf self.now producer.new t }
+        ensures apart { (t u : ClaimAt) → IsOpenClaimOf self.now producer.old t → IsOpenClaimOf self.now other u → t.place ≢ u.place }
     {
         let Producer {
             seat,

@@ -4,6 +4,7 @@ ghost use Rattle.ring_words.specs.Open.{ClaimAt};
 ghost use Rattle.ring_layout.specs.declared.message.ClaimState.TheVariants.{Aborted, Committed};
 ghost use Rattle.ring_table.specs.declared.claim.Stage.TheVariants.{Stored};
 ghost use Rattle.ring_table.specs.Changes.{changed, staged};
+ghost use Rattle.ring_table.specs.Staged.{AreRising};
 ghost use Rattle.ring_table.specs.Views.{with_claims};
 ghost use Rattle.ring_rings.specs.Bodies.{PutsBytes};
 ghost use Rattle.ring_rings.specs.Seats.{claims_of, view_of, IsOpenClaimOf, IsProducerOf};
@@ -29,6 +30,7 @@ impl<K> Ring<K> {
         ensures producer { IsProducerOf self.now producer.new }
         ensures refused { IsTrue (is_err result) ↔ (claim.old.len < offset + length bytes.now) }
         ensures same { OnErr result (producer.new ≡ producer.old) }
+        ensures rising { AreRising (claims_of producer.old) }
         ensures put { OnOk result (PutsBytes claim.old.place offset bytes.now (view_of producer.old) (view_of producer.new)) }
         ensures claim { claim.new ≡ claim.old }
         ensures is_open { IsOpenClaimOf self.now producer.new claim.new }
@@ -54,6 +56,7 @@ impl<K> Ring<K> {
         requires producer { IsProducerOf self.now producer.old }
         requires claim { IsOpenClaimOf self.now producer.old claim }
         ensures producer { IsProducerOf self.now producer.new }
+        ensures rising { AreRising (claims_of producer.old) }
         ensures settled { view_of producer.new ≡ with_claims (changed claim.place (staged (Stored Committed)) (claims_of producer.old)) (view_of producer.old) }
         ensures others { (t : ClaimAt) → IsOpenClaimOf self.now producer.old t → t.place ≢ claim.place → IsOpenClaimOf self.now producer.new t }
     {
@@ -76,6 +79,7 @@ impl<K> Ring<K> {
         requires producer { IsProducerOf self.now producer.old }
         requires claim { IsOpenClaimOf self.now producer.old claim }
         ensures producer { IsProducerOf self.now producer.new }
+        ensures rising { AreRising (claims_of producer.old) }
         ensures settled { view_of producer.new ≡ with_claims (changed claim.place (staged (Stored Aborted)) (claims_of producer.old)) (view_of producer.old) }
         ensures others { (t : ClaimAt) → IsOpenClaimOf self.now producer.old t → t.place ≢ claim.place → IsOpenClaimOf self.now producer.new t }
     {

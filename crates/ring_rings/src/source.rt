@@ -1,6 +1,7 @@
 //! What a conductor needs of a ring, whatever its kind.
 ghost use Rattle.std.specs.Prelude.{◌≡◌, ℕ, ◌+◌, ◌≤◌, IfOk};
 ghost use Rattle.ring_table.specs.Seats.{IsSameSeat};
+ghost use Rattle.ring_table.specs.Views.{beaten, with_consumer};
 ghost use Rattle.ring_rings.specs.declared.seats.Consumer.{Consumer as TheConsumer};
 ghost use Rattle.ring_rings.specs.declared.seats.Producer.{Producer as TheProducer};
 ghost use Rattle.ring_rings.specs.Closing.{close_refusal_of, kept_open, HandsOut, IsRefusedAs, Serves};
@@ -41,6 +42,13 @@ pub trait CommandSource: Sized {
         ensures bytes { head_of consumer.old + result.bytes ≡ head_of consumer.new }
         ensures blocked { result.stopped ≡ Stop.Unpublished → IsBlocked (consumer_view consumer.old) (consumer_view consumer.new) };
 
+    /// Stores the consumer's heartbeat, as `Ring::set_heartbeat` does.
+    fn set_heartbeat(&self, consumer: &mut Consumer, value: u64)
+        requires consumer { is_consumer self.now consumer.old }
+        ensures consumer { is_consumer self.now consumer.new }
+        ensures seat { IsSameSeat consumer.old.seat consumer.new.seat }
+        ensures view { consumer_view consumer.new ≡ with_consumer (beaten value (consumer_view consumer.old).consumer) (consumer_view consumer.old) };
+
     /// Takes the ring apart, as `Ring::close` does.
     fn close(self, producer: Producer, consumer: Consumer) -> Result<SoloRing, CloseRefused<Self>>
         requires producer { is_producer self producer }
@@ -66,6 +74,10 @@ impl<K> CommandSource for Ring<K> {
         handler: &mut H,
     ) -> ReadEnd {
         Ring::controlled_read(self, consumer, limit, handler)
+    }
+
+    fn set_heartbeat(&self, consumer: &mut Consumer, value: u64) {
+        Ring::set_heartbeat(self, consumer, value);
     }
 
     fn close(self, producer: Producer, consumer: Consumer) -> Result<SoloRing, CloseRefused<Self>> {

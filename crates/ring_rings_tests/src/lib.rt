@@ -10,6 +10,8 @@ mod closing;
 #[cfg(test)]
 mod faults;
 #[cfg(test)]
+mod joining;
+#[cfg(test)]
 mod reading;
 #[cfg(test)]
 mod script;

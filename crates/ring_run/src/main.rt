@@ -1,33 +1,10 @@
 //! Runs a scenario on a ring of messages and a broadcast buffer: it reads lines on standard input and writes on standard output.
 #![tactic(auto)]
 
-mod call;
-mod cut;
-mod fault;
-mod held;
+mod command_line;
 mod help;
-mod input;
-mod line;
-mod lines;
-mod loose_board;
-mod loose_ring;
-mod moment;
-mod options;
-mod printer;
-mod received;
-mod receiving;
-mod request;
-mod rest;
-mod runner;
-mod scenario;
-mod service;
-mod service_call;
-#[cfg(test)]
-mod tests;
-mod words;
 
-use fault::RunFault;
-use scenario::run_scenario;
+use ring_scenario::{RunFault, run_scenario};
 use std::env::Env;
 use std::process::ExitCode;
 use std::sync::Wait;
@@ -51,7 +28,7 @@ fn run<R: AllocGlobal + Env + Input + Print + Eprint + Threads + Wait>(
     let alloc = rt.alloc();
     let arguments = env::args(rt).map_err(|_| RunFault::OutOfMemory)?;
     let words: Vec<String> = arguments.collect(alloc)?;
-    let options = match options::parse(alloc, words.as_slice()) {
+    let options = match command_line::parse(alloc, words.as_slice()) {
         Ok(options) => options,
         Err(error) => {
             let _ = error.print(rt);

@@ -1,5 +1,5 @@
 -- The moves of the tail keep the rule.
-use Rattle.std.proofs.Common.{◌≡◌, ℕ, ◌+◌, ◌%◌, ◌≤◌, ◌<◌, ℤ, List, [], ◌∷◌, ◌++◌, eqb, set, slice_index, sym, refl, ap, ◌∙◌, subst, length, arith}
+use Rattle.std.proofs.Common.{◌≡◌, ◌≢◌, ℕ, ◌+◌, ◌%◌, ◌≤◌, ◌<◌, ℤ, List, [], ◌∷◌, ◌++◌, eqb, set, slice_index, sym, refl, ap, ◌∙◌, subst, length, arith}
 use mathlib.Core.Option.{some, some-injective}
 use lib.ListN.{get_elem?}
 use prog.Atomic.{either}
@@ -13,7 +13,7 @@ use Rattle.ring_layout.proofs.PlaceLemmas.{next_le}
 use Rattle.ring_table.specs.Staged.{StagedClaim, claim_end, staged_end}
 use Rattle.ring_table.specs.Changes.{blank, fresh}
 use Rattle.ring_table.specs.Owners.{OwnedHistory, all_of}
-use Rattle.ring_table.specs.Views.{View, Wanted, logged, with_producer, with_tail, with_claim}
+use Rattle.ring_table.specs.Views.{Logs, View, Wanted, logged, with_producer, with_tail, with_claim}
 use Rattle.ring_table.specs.Rule.{Kept}
 use Rattle.ring_table.specs.ProducerSteps.{Mine, EndBelow, IsClaimable, MovesTail, MovesOwnTail}
 use Rattle.ring_table.proofs.StagedPlaces.{capacity_aligned, start_aligned, lies_in, end_aligned}
@@ -53,7 +53,7 @@ module _ (C start : ℕ) where
         memory = memory_appended C start r.lawful words r.consumer h r.memory x new
             (record { from = old_is; place = ap (λ z. next_place C old (span z)) (sym long) ∙ ap (λ e. next_place C e (span (length c.message.body))) old_is; message = claimable.message })
             new_is limit (omega arith) (λ p p8. staged_word-fresh C old type_id n p);
-        service = service_elsewhere C start r.lawful words r.consumer r.drawn r.service (tail_index C) new (λ e. omega arith) (λ e. omega arith) (λ e. omega arith) r.consumer (omega arith) refl;
+        service = service_elsewhere C start r.lawful words r.consumer r.drawn r.service (tail_index C) new (λ e. omega arith) (λ e. omega arith) (λ e. omega arith) (λ j un. un.not_tail) r.consumer (omega arith) refl;
         seated = reseated top h r.reader r.consumer r.drawn views r.seated id v at (staged_end start (all_of (h ++ x ∷ []))) (h ++ x ∷ []) r.consumer r.drawn w
             (record {
               claims = ap (λ l. l ++ c ∷ []) k.claims ∙ sym (owned_by-append id h c);
@@ -78,7 +78,7 @@ module _ (C start : ℕ) where
       }
 
   pub moves_tail : (slots id : ℕ) (me : Mine) → me.0.capacity ≡ C → (old new : ℕ) (wanted : Wanted) → 0 < me.0.producer.shares → IsClaimable C old new wanted.type_id wanted.len me.0.producer.seen_head
-      → Allows (Ok C start) slots id me (tail_index C) (λ n. either (eqb n old) new n) (λ n me'. (me'.1 ≡ me.1) × ((said : Wanted) → some wanted ≡ some said → MovesTail me.0.capacity old new said me.0 n me'.0))
+      → Allows (Ok C start) slots id me (tail_index C) (λ n. either (eqb n old) new n) (λ n me'. (me'.1 ≡ me.1) × ((said : Wanted) → some wanted ≡ some said → MovesTail me.0.capacity old new said me.0 n me'.0) × (n ≢ old → Logs (tail_index C) n me.0 me'.0))
   moves_tail slots id me cap old new wanted rich claimable s r wide at small =
       let v : View = me.0 in
       let n : ℕ = slice_index s.words (tail_index C) in
@@ -89,7 +89,7 @@ module _ (C start : ℕ) where
       let limit = r.memory.limit in
       let least = r.lawful.capacity.least in
       let aligned : top % 8 ≡ 0 = end_aligned C start (all_of r.hist) (omega arith) (capacity_aligned C r.lawful.capacity) (start_aligned C start r.lawful) r.memory.placed in
-      let told : Mine → Type 0 = λ me'. (me'.1 ≡ me.1) × ((said : Wanted) → some wanted ≡ some said → MovesTail me.0.capacity old new said me.0 n me'.0) in
+      let told : Mine → Type 0 = λ me'. (me'.1 ≡ me.1) × ((said : Wanted) → some wanted ≡ some said → MovesTail me.0.capacity old new said me.0 n me'.0) × (n ≢ old → Logs (tail_index C) n me.0 me'.0) in
       let at_sole = λ (all : v.producer.shares ≡ 65536). is ∙ sym (sole_sees_top s.views id v top r.seated.shares r.seated.latest at all) in
       exchanged n old new (May C start s (tail_index C) id me told)
       (λ hit. (
@@ -107,6 +107,7 @@ module _ (C start : ℕ) where
             position = record { aligned = omega arith; limit = omega arith };
             sole = at_sole;
           },
+          λ other. absurd (other hit),
         ),
       ))
       (λ missed. (
@@ -124,6 +125,7 @@ module _ (C start : ℕ) where
             position = record { aligned = omega arith; limit = omega arith };
             sole = at_sole;
           },
+          λ _. refl,
         ),
       ))
 

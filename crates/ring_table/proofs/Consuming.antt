@@ -12,13 +12,13 @@ use Rattle.atomic_table.specs.Table.{State, keeps, Allows}
 use Rattle.ring_layout.specs.History.{IsMessage}
 use Rattle.ring_layout.specs.Places.{index}
 use Rattle.ring_layout.specs.Headers.{header, padding_type}
-use Rattle.ring_layout.specs.Layout.{tail_index, head_cache_index, head_index, correlation_index, heartbeat_index}
+use Rattle.ring_layout.specs.Layout.{tail_index, head_cache_index, head_index, correlation_index, heartbeat_index, IsUnnamed}
 use Rattle.ring_layout.proofs.HeaderLemmas.{fits_pos}
 use Rattle.ring_table.specs.Staged.{PlacedMessage, staged_end, staged_word_at}
 use Rattle.ring_table.specs.Owners.{OwnedHistory, all_of}
 use Rattle.ring_table.specs.Passing.{Reaches}
 use Rattle.ring_table.specs.Services.{AreServed}
-use Rattle.ring_table.specs.Views.{ConsumerView, View, Wanted, logged, with_consumer, scanned, cleared_to, stands_at}
+use Rattle.ring_table.specs.Views.{Logs, ConsumerView, View, Wanted, logged, with_consumer, scanned, cleared_to, stands_at}
 use Rattle.ring_table.specs.Rule.{IsMemory, Kept}
 use Rattle.ring_table.specs.ProducerSteps.{Mine}
 use Rattle.ring_table.specs.ConsumerSteps.{with_scan, rounded, IsInside, LoadsHeader, LoadsBody, ClearsWord, StoresHead, StoresHeadBefore}
@@ -71,9 +71,9 @@ not_positive (negsuc n) fits le t = let high = t.1 in omega (arith, fits.sfits)
 module _ (C start : ℕ) where
   -- the consumer steps: one word changes, and it is where `now` says
   consumed : (words : List ℕ) (views : List View) (r : Kept C start words views) (id : ℕ) (v : View) → get_elem? views id ≡ some v → v.consumes ≡ true → (i value : ℕ) (now : ConsumerView) (log : List (ℕ × ℕ))
-      → IsMemory C start (set words i value) (all_of r.hist) now → r.consumer.head ≤ now.head → now.heartbeats ≡ r.consumer.heartbeats → i ≢ head_cache_index C → i ≢ correlation_index C → i ≢ heartbeat_index C
+      → IsMemory C start (set words i value) (all_of r.hist) now → r.consumer.head ≤ now.head → now.heartbeats ≡ r.consumer.heartbeats → i ≢ head_cache_index C → i ≢ correlation_index C → i ≢ heartbeat_index C → ((j : ℕ) → IsUnnamed C j → j ≢ i)
       → Kept C start (set words i value) (set views id (record v { consumer = now; log = log }))
-  consumed words views r id v at consumes i value now log m rises beats not_cache not_correlation not_heartbeat =
+  consumed words views r id v at consumes i value now log m rises beats not_cache not_correlation not_heartbeat named =
       let top : ℕ = staged_end start (all_of r.hist) in
       let own = r.seated.each id v at in
       let mine = own.consumes consumes in
@@ -84,7 +84,7 @@ module _ (C start : ℕ) where
         consumer = now;
         drawn = r.drawn;
         memory = m;
-        service = service_elsewhere C start r.lawful words r.consumer r.drawn r.service i value not_cache not_correlation not_heartbeat now rises beats;
+        service = service_elsewhere C start r.lawful words r.consumer r.drawn r.service i value not_cache not_correlation not_heartbeat named now rises beats;
         seated = reseated top r.hist r.reader r.consumer r.drawn views r.seated id v at top r.hist now r.drawn (record v { consumer = now; log = log })
             (record {
               claims = own.claims;
@@ -131,11 +131,11 @@ module _ (C start : ℕ) where
         clears_to = le;
         clears_words = m.clears_words;
         shows = m.shows;
-      })) (omega arith) refl (λ e. omega arith) (λ e. omega arith) (λ e. omega arith))
+      })) (omega arith) refl (λ e. omega arith) (λ e. omega arith) (λ e. omega arith) (λ j un. not_inside C start r.lawful p j un.behind))
 
   -- a load of a header at the position q, which the head or the read has reached with the messages got
   loads_header : (q : ℕ) (got : List PlacedMessage) (slots id : ℕ) (me : Mine) → me.0.capacity ≡ C → me.0.consumes ≡ true → (s : State Wanted View) (r : Ok C start s) → get_elem? s.views id ≡ some me.0 → Reaches q start (all_of r.hist) got → r.consumer.cleared ≤ q → q < r.consumer.head + C
-      → May C start s (index C q) id me (λ me'. (me'.1 ≡ me.1) × LoadsHeader me.0.capacity q got me.0 (slice_index s.words (index C q)) me'.0) (slice_index s.words (index C q))
+      → May C start s (index C q) id me (λ me'. (me'.1 ≡ me.1) × LoadsHeader me.0.capacity q got me.0 (slice_index s.words (index C q)) me'.0 × Logs (index C q) (slice_index s.words (index C q)) me.0 me'.0) (slice_index s.words (index C q))
   loads_header q got slots id me cap consumes s r at reaches le near =
       let v : View = me.0 in
       let n : ℕ = slice_index s.words (index C q) in
@@ -162,7 +162,7 @@ module _ (C start : ℕ) where
         message = λ len type_id some small fits other e. let t = halves len type_id small e in let len_is = t.0 in absurd (none (omega arith, omega arith));
         unpublished = λ len type_id _ _ _ _. ap (λ c. with_scan (index c q) n q got v) (sym cap);
       } in
-      let step : May C start s (index C q) id me (λ me'. (me'.1 ≡ me.1) × Told me'.0) n = (now q got, keeps, tt, scans s r id v at consumes q got reaches le q n, (refl, told)) in step in
+      let step : May C start s (index C q) id me (λ me'. (me'.1 ≡ me.1) × Told me'.0 × Logs (index C q) n me.0 me'.0) n = (now q got, keeps, tt, scans s r id v at consumes q got reaches le q n, (refl, told, refl)) in step in
       ⊎_elim (λ (lo : 0 < low). ⊎_elim (λ (hi : low < 2 ^ 31).
       let t : Leads C q start (all_of h) got n = leads C q start (all_of h) got n law.capacity start8 m.placed reaches is lo hi in
       let far : ℕ = q + rounded low in
@@ -186,7 +186,7 @@ module _ (C start : ℕ) where
         message = λ len type_id some small fits other e. let halves_are = halves len type_id small e in absurd (other (padding_bits type_id fits (sym halves_are.1 ∙ pad)));
         unpublished = λ len type_id fits _ le e. absurd (positive len type_id fits le e);
       } in
-      (now far got, keeps, tt, scans s r id v at consumes far got on (omega arith) q n, (refl, told)))
+      (now far got, keeps, tt, scans s r id v at consumes far got on (omega arith) q n, (refl, told, refl)))
       (λ other.
       let found = t.message other in
       let all : List PlacedMessage = got ++ (record { place = q; message = found.message }) ∷ [] in
@@ -207,12 +207,12 @@ module _ (C start : ℕ) where
             };
         unpublished = λ len type_id fits _ le e. absurd (positive len type_id fits le e);
       } in
-      (now far all, keeps, tt, scans s r id v at consumes far all found.reaches (omega arith) q n, (refl, told))))
+      (now far all, keeps, tt, scans s r id v at consumes far all found.reaches (omega arith) q n, (refl, told, refl))))
       (λ (hi : 2 ^ 31 ≤ low). no_length (λ t. let above = t.1 in omega arith)) (cases_lt low (2 ^ 31)))
       (λ (lo : low ≤ 0). no_length (λ t. let above = t.0 in omega arith)) (cases_lt 0 low)
 
   pub loads_first : (slots id : ℕ) (me : Mine) → me.0.capacity ≡ C → me.0.consumes ≡ true → me.0.consumer.cleared ≡ me.0.consumer.head
-      → Allows (Ok C start) slots id me (index C me.0.consumer.head) (λ n. n) (λ n me'. (me'.1 ≡ me.1) × LoadsHeader me.0.capacity me.0.consumer.head me.0.consumer.taken me.0 n me'.0)
+      → Allows (Ok C start) slots id me (index C me.0.consumer.head) (λ n. n) (λ n me'. (me'.1 ≡ me.1) × LoadsHeader me.0.capacity me.0.consumer.head me.0.consumer.taken me.0 n me'.0 × Logs (index C me.0.consumer.head) n me.0 me'.0)
   loads_first slots id me cap consumes none_cleared s r wide at small =
       let mine = ((r.seated.each id me.0 at).consumes consumes).1 in
       let heads : me.0.consumer.head ≡ r.consumer.head = ap (λ (z : ConsumerView). z.head) mine in
@@ -221,7 +221,7 @@ module _ (C start : ℕ) where
       loads_header me.0.consumer.head me.0.consumer.taken slots id me cap consumes s r at (subst (λ (z : ConsumerView). Reaches z.head start (all_of r.hist) z.taken) (sym mine) r.memory.took) (omega arith) (omega arith)
 
   pub loads_next : (slots id : ℕ) (me : Mine) → me.0.capacity ≡ C → me.0.consumes ≡ true → me.0.consumer.scan < me.0.consumer.head + C
-      → Allows (Ok C start) slots id me (index C me.0.consumer.scan) (λ n. n) (λ n me'. (me'.1 ≡ me.1) × LoadsHeader me.0.capacity me.0.consumer.scan me.0.consumer.got me.0 n me'.0)
+      → Allows (Ok C start) slots id me (index C me.0.consumer.scan) (λ n. n) (λ n me'. (me'.1 ≡ me.1) × LoadsHeader me.0.capacity me.0.consumer.scan me.0.consumer.got me.0 n me'.0 × Logs (index C me.0.consumer.scan) n me.0 me'.0)
   loads_next slots id me cap consumes near s r wide at small =
       let mine = ((r.seated.each id me.0 at).consumes consumes).1 in
       let heads : me.0.consumer.head ≡ r.consumer.head = ap (λ (z : ConsumerView). z.head) mine in
@@ -315,7 +315,7 @@ module _ (C start : ℕ) where
                   ∙ sym (ap (λ b. cond b 0 (staged_word_at (all_of h) p)) (lt-ltb p (r.consumer.cleared + 8) (omega arith))))
                   (λ ne. get_or-set_other s.words (index C q) (index C p) 0 0 (λ e. ne (one_position C start law head p q p8 (omega arith) p0 p1 (omega arith) (omega arith) e))
                   ∙ m.shows p p8 p0 p1 ∙ same_shown p r.consumer.cleared (staged_word_at (all_of h) p) (λ x. omega arith));
-            }) (omega arith) refl (λ e. omega arith) (λ e. omega arith) (λ e. omega arith)),
+            }) (omega arith) refl (λ e. omega arith) (λ e. omega arith) (λ e. omega arith) (λ j un. not_inside C start law q j un.behind)),
         (refl, refl),
       )
 
@@ -365,7 +365,7 @@ module _ (C start : ℕ) where
             ∙ sym (nothing_behind C start (all_of h) p m.placed (omega arith)))
             (cases_lt p (head + C))
             ∙ sym (ap (λ b. cond b 0 (staged_word_at (all_of h) p)) (le-ltb p q p0));
-      }) (omega arith) refl (λ e. omega arith) (λ e. omega arith) (λ e. omega arith))
+      }) (omega arith) refl (λ e. omega arith) (λ e. omega arith) (λ e. omega arith) (λ j un. un.not_head))
 
   pub stores_head : (slots id : ℕ) (me : Mine) → me.0.consumes ≡ true → me.0.consumer.cleared ≡ me.0.consumer.scan → Allows (Ok C start) slots id me (head_index C) (λ _. me.0.consumer.scan) (λ _ me'. (me'.1 ≡ me.1) × StoresHead me.0 me'.0)
   stores_head slots id me consumes all s r wide at small =

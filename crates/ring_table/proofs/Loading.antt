@@ -9,7 +9,7 @@ use Rattle.ring_table.specs.Staged.{StagedClaim, Moved, IsStored, AreRising, sta
 use Rattle.ring_table.specs.Owners.{OwnedHistory, all_of}
 use Rattle.ring_table.specs.Passing.{IsSettled}
 use Rattle.ring_table.specs.Services.{times_drawn, once_below}
-use Rattle.ring_table.specs.Views.{View, Wanted, logged, with_producer, with_tail, with_head}
+use Rattle.ring_table.specs.Views.{Logs, View, Wanted, logged, with_producer, with_tail, with_head}
 use Rattle.ring_table.specs.Rule.{Knows, Kept, shares_of}
 use Rattle.ring_table.specs.ProducerSteps.{Mine, EndBelow, LoadsTail, LoadsHead, HasClaim, LoadsOwn}
 use Rattle.ring_table.proofs.StagedPlaces.{capacity_aligned, start_aligned, lies_in, LiesIn, end_aligned, places_aligned, word_of_claim}
@@ -62,7 +62,7 @@ module _ (C start : ℕ) where
       let below = (lies_in C start r.hist own.0 (id, c) r.memory.placed own.1).below in
       omega arith
 
-  pub loads_tail : (slots id : ℕ) (me : Mine) → me.0.capacity ≡ C → Allows Ok slots id me (tail_index C) (λ n. n) (λ n me'. (me'.1 ≡ me.1) × LoadsTail me.0.capacity me.0 n me'.0)
+  pub loads_tail : (slots id : ℕ) (me : Mine) → me.0.capacity ≡ C → Allows Ok slots id me (tail_index C) (λ n. n) (λ n me'. (me'.1 ≡ me.1) × LoadsTail me.0.capacity me.0 n me'.0 × Logs (tail_index C) n me.0 me'.0)
   loads_tail slots id me cap s r wide at small =
       let v : View = me.0 in
       let n : ℕ = slice_index s.words (tail_index C) in
@@ -92,10 +92,11 @@ module _ (C start : ℕ) where
             behind = end_below s.words s.views r id v at n is;
             shares = subst (λ z. v.producer.shares ≤ z) r.seated.shares (total-least shares_of s.views id v at);
           },
+          refl,
         ),
       )
 
-  pub loads_head : (slots id : ℕ) (me : Mine) → me.0.capacity ≡ C → Allows Ok slots id me (head_index C) (λ n. n) (λ n me'. (me'.1 ≡ me.1) × LoadsHead me.0.capacity me.0 n me'.0)
+  pub loads_head : (slots id : ℕ) (me : Mine) → me.0.capacity ≡ C → Allows Ok slots id me (head_index C) (λ n. n) (λ n me'. (me'.1 ≡ me.1) × LoadsHead me.0.capacity me.0 n me'.0 × Logs (head_index C) n me.0 me'.0)
   loads_head slots id me cap s r wide at small =
       let v : View = me.0 in
       let n : ℕ = slice_index s.words (head_index C) in
@@ -123,6 +124,7 @@ module _ (C start : ℕ) where
             position = record { aligned = omega arith; limit = omega arith };
             sole = λ all. let e = sole_sees_top s.views id v top r.seated.shares r.seated.latest at all in omega arith;
           },
+          refl,
         ),
       )
 

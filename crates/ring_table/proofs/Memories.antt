@@ -6,7 +6,7 @@ use native.Mathlib.Decide.{ℕ_discrete}
 use lib.ListN.{get_elem?}
 use Rattle.std.proofs.lemmas.Nat.{mod_below}
 use Rattle.ring_layout.specs.Places.{index, max_position}
-use Rattle.ring_layout.specs.Layout.{tail_index, head_cache_index, head_index, correlation_index, heartbeat_index}
+use Rattle.ring_layout.specs.Layout.{tail_index, head_cache_index, head_index, correlation_index, heartbeat_index, IsUnnamed}
 use Rattle.ring_layout.proofs.Laps.{apart}
 use Rattle.ring_table.specs.Staged.{StagedClaim, claim_end, staged_word, staged_word_at, LiesAfter, staged_end}
 use Rattle.ring_table.specs.Owners.{OwnedHistory, all_of, edited}
@@ -60,14 +60,15 @@ module _ (C start : ℕ) (law : IsLawful C start) where
     }
 
     -- a word that is neither the cache nor the correlation counter nor the heartbeat, while the head does not fall
-    pub service_elsewhere : (n : ℕ) → IsService C words consumer n → (i value : ℕ) → i ≢ head_cache_index C → i ≢ correlation_index C → i ≢ heartbeat_index C → (consumer' : ConsumerView) → consumer.head ≤ consumer'.head → consumer'.heartbeats ≡ consumer.heartbeats → IsService C (set words i value) consumer' n
-    service_elsewhere n s i value not_cache not_correlation not_heartbeat consumer' rises same =
+    pub service_elsewhere : (n : ℕ) → IsService C words consumer n → (i value : ℕ) → i ≢ head_cache_index C → i ≢ correlation_index C → i ≢ heartbeat_index C → ((j : ℕ) → IsUnnamed C j → j ≢ i) → (consumer' : ConsumerView) → consumer.head ≤ consumer'.head → consumer'.heartbeats ≡ consumer.heartbeats → IsService C (set words i value) consumer' n
+    service_elsewhere n s i value not_cache not_correlation not_heartbeat named consumer' rises same =
         let cached : get_or (set words i value) (head_cache_index C) 0 ≡ get_or words (head_cache_index C) 0 = get_or-set_other words i (head_cache_index C) value 0 (λ e. not_cache (sym e)) in
         let was = s.cache in
         record {
           cache = omega arith;
           correlation = get_or-set_other words i (correlation_index C) value 0 (λ e. not_correlation (sym e)) ∙ s.correlation;
           heartbeat = ap (λ l. get_elem? (0 ∷ l) (length l)) same ∙ s.heartbeat ∙ ap some (sym (get_or-set_other words i (heartbeat_index C) value 0 (λ e. not_heartbeat (sym e))));
+          unnamed = λ j un. get_or-set_other words i j value 0 (named j un) ∙ s.unnamed j un;
         }
 
     -- a store into the claims at the place p, which are not settled, at the position q of their words

@@ -34,7 +34,7 @@ fresh_keeps C start words law limit is_fresh =
         clears_words = start_aligned C start law;
         shows = λ p p8 p0 p1. is_fresh.records (index C p) (index_inside C start law p) ∙ sym (nothing (ltb p start));
       };
-      service = record { cache = omega arith; correlation = is_fresh.correlation; heartbeat = ap some (sym is_fresh.heartbeat) };
+      service = record { cache = omega arith; correlation = is_fresh.correlation; heartbeat = ap some (sym is_fresh.heartbeat); unnamed = is_fresh.unnamed };
       seated = record {
         each = one v (record {
           claims = refl;

@@ -6,7 +6,7 @@ use Rattle.atomic_table.proofs.Lists.{set_again, at_last}
 use Rattle.ring_layout.specs.Layout.{head_cache_index, correlation_index, heartbeat_index}
 use Rattle.ring_table.specs.Staged.{staged_end}
 use Rattle.ring_table.specs.Owners.{all_of}
-use Rattle.ring_table.specs.Views.{ConsumerView, View, logged, with_producer, with_consumer, with_head, with_draw, with_heartbeat, beaten}
+use Rattle.ring_table.specs.Views.{Logs, ConsumerView, View, logged, with_producer, with_consumer, with_head, with_draw, with_heartbeat, beaten}
 use Rattle.ring_table.specs.Rule.{Kept}
 use Rattle.ring_table.specs.ProducerSteps.{Mine}
 use Rattle.ring_table.specs.ServiceSteps.{LoadsCache, DrawsId, LoadsHeartbeat}
@@ -16,7 +16,7 @@ use Rattle.ring_table.proofs.ServiceLemmas.{rising_append, times_drawn-more, hea
 use Rattle.ring_table.proofs.Loading.{Ok, looked, sees}
 
 module _ (C start : ℕ) where
-  pub loads_cache : (slots id : ℕ) (me : Mine) → me.0.capacity ≡ C → Allows (Ok C start) slots id me (head_cache_index C) (λ n. n) (λ n me'. (me'.1 ≡ me.1) × LoadsCache me.0.capacity me.0 n me'.0)
+  pub loads_cache : (slots id : ℕ) (me : Mine) → me.0.capacity ≡ C → Allows (Ok C start) slots id me (head_cache_index C) (λ n. n) (λ n me'. (me'.1 ≡ me.1) × LoadsCache me.0.capacity me.0 n me'.0 × Logs (head_cache_index C) n me.0 me'.0)
   loads_cache slots id me cap s r wide at small =
       let v : View = me.0 in
       let n : ℕ = slice_index s.words (head_cache_index C) in
@@ -37,6 +37,7 @@ module _ (C start : ℕ) where
             limit = omega arith;
             sole = λ all. let e = sole_sees_top s.views id v (staged_end start (all_of r.hist)) r.seated.shares r.seated.latest at all in omega arith;
           },
+          refl,
         ),
       )
 
@@ -60,6 +61,7 @@ module _ (C start : ℕ) where
           service = record {
             cache = omega arith;
             correlation = get_or-set_other s.words i (correlation_index C) value 0 (omega arith) ∙ r.service.correlation;
+            unnamed = λ j un. get_or-set_other s.words i j value 0 un.not_cache ∙ r.service.unnamed j un;
             heartbeat = r.service.heartbeat ∙ ap some (sym (get_or-set_other s.words i (heartbeat_index C) value 0 (omega arith)));
           };
           seated = r.seated;
@@ -95,6 +97,7 @@ module _ (C start : ℕ) where
           service = record {
             cache = omega arith;
             correlation = get_or-set_same s.words i value 0 (omega arith) ∙ next;
+            unnamed = λ j un. get_or-set_other s.words i j value 0 un.not_correlation ∙ r.service.unnamed j un;
             heartbeat = r.service.heartbeat ∙ ap some (sym (get_or-set_other s.words i (heartbeat_index C) value 0 (omega arith)));
           };
           seated = reseated top r.hist r.reader r.consumer k s.views r.seated id v at top r.hist r.consumer (k + 1) w
@@ -117,7 +120,7 @@ module _ (C start : ℕ) where
         (refl, record { number = k; id = is; view = refl; rising = own.served.0.draws }),
       )
 
-  pub loads_heartbeat : (slots id : ℕ) (me : Mine) → me.0.capacity ≡ C → 0 < me.0.producer.shares → Allows (Ok C start) slots id me (heartbeat_index C) (λ n. n) (λ n me'. (me'.1 ≡ me.1) × LoadsHeartbeat me.0.capacity me.0 n me'.0)
+  pub loads_heartbeat : (slots id : ℕ) (me : Mine) → me.0.capacity ≡ C → 0 < me.0.producer.shares → Allows (Ok C start) slots id me (heartbeat_index C) (λ n. n) (λ n me'. (me'.1 ≡ me.1) × LoadsHeartbeat me.0.capacity me.0 n me'.0 × Logs (heartbeat_index C) n me.0 me'.0)
   loads_heartbeat slots id me cap rich s r wide at small =
       let v : View = me.0 in
       let i : ℕ = heartbeat_index C in
@@ -137,7 +140,7 @@ module _ (C start : ℕ) where
               served = (record { draws = own.served.0.draws; heartbeats = heartbeats_append 0 r.consumer.heartbeats v.producer.service.heartbeats n r.service.heartbeat own.served.0.heartbeats }, own.served.1);
               consumes = own.consumes;
             }) refl (omega arith) (λ x. refl),
-        (refl, record { nth = nth; view = ap (λ c. logged (heartbeat_index c) n (with_producer (with_heartbeat nth n v.producer) v)) (sym cap) }),
+        (refl, record { nth = nth; view = ap (λ c. logged (heartbeat_index c) n (with_producer (with_heartbeat nth n v.producer) v)) (sym cap) }, refl),
       )
 
   pub stores_heartbeat : (slots id value : ℕ) (me : Mine) → me.0.consumes ≡ true → Allows (Ok C start) slots id me (heartbeat_index C) (λ _. value) (λ _ me'. (me'.1 ≡ me.1) × (me'.0 ≡ with_consumer (beaten value me.0.consumer) me.0))
@@ -166,6 +169,7 @@ module _ (C start : ℕ) where
           service = record {
             cache = omega arith;
             correlation = get_or-set_other s.words i (correlation_index C) value 0 (omega arith) ∙ r.service.correlation;
+            unnamed = λ j un. get_or-set_other s.words i j value 0 un.not_heartbeat ∙ r.service.unnamed j un;
             heartbeat = at_last (0 ∷ old) value (length (old ++ value ∷ [])) (omega (arith, length-append {A = ℕ} old (value ∷ []))) ∙ ap some (sym (get_or-set_same s.words i value 0 (omega arith)));
           };
           seated = reseated top r.hist r.reader r.consumer r.drawn s.views r.seated id v at top r.hist now r.drawn w

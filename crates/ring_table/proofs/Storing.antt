@@ -88,7 +88,7 @@ module _ (C start : ℕ) where
         drawn = r.drawn;
         memory = memory_edited C start r.lawful words r.consumer h m id p f may_all un_all q value q8 low (omega arith) word_now
             (only (λ d. (i : ℕ) → i % 8 ≡ 0 → i ≢ q → staged_word (f d) i ≡ staged_word d i) others);
-        service = service_elsewhere C start r.lawful words r.consumer r.drawn r.service (index C q) value (λ e. omega arith) (λ e. omega arith) (λ e. omega arith) r.consumer (omega arith) refl;
+        service = service_elsewhere C start r.lawful words r.consumer r.drawn r.service (index C q) value (λ e. omega arith) (λ e. omega arith) (λ e. omega arith) (λ j un e. let far = un.behind in omega arith) r.consumer (omega arith) refl;
         seated = reseated top h r.reader r.consumer r.drawn views r.seated id v at (staged_end start (all_of h')) h' r.consumer r.drawn w
             (let own = r.seated.each id v at in
             record {

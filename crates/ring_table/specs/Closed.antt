@@ -1,7 +1,7 @@
 -- The words of a fresh ring, and those of a closed one.
 use Rattle.std.specs.Prelude.{◌≡◌, ℕ, ◌/◌, ◌<◌, List, [], ◌∷◌, ◌++◌, length, slice_index}
 use Rattle.ring_layout.specs.Places.{end_of}
-use Rattle.ring_layout.specs.Layout.{ring_words, tail_index, head_cache_index, head_index, correlation_index, heartbeat_index}
+use Rattle.ring_layout.specs.Layout.{ring_words, tail_index, head_cache_index, head_index, correlation_index, heartbeat_index, IsUnnamed}
 use Rattle.ring_layout.specs.Picture.{IsPicture}
 use Rattle.ring_table.specs.Staged.{StagedClaim, claims_of, ArePlaced, staged_end}
 use Rattle.ring_table.specs.Passing.{AreSettled, placed_committed_of}
@@ -17,6 +17,7 @@ pub record IsFresh (C start : ℕ) (words : List ℕ) : Type 0 where
   pub correlation : slice_index words (correlation_index C) ≡ 0
   pub heartbeat : slice_index words (heartbeat_index C) ≡ 0
   pub records : (i : ℕ) → i < C / 8 → slice_index words i ≡ 0
+  pub unnamed : (i : ℕ) → IsUnnamed C i → slice_index words i ≡ 0
 
 -- The words of a ring whose producers and consumer were joined into one seat, and that seat's view. It has all claims and all draws
 pub record IsClosed (C start : ℕ) (words : List ℕ) (v : View) : Type 0 where

@@ -3,7 +3,7 @@ use Rattle.std.specs.Prelude.{◌≡◌, ℕ, ◌+◌, ◌%◌, ◌^◌, ◌≤�
 use mathlib.Core.Option.{some}
 use lib.ListN.{get_elem?}
 use Rattle.ring_layout.specs.Places.{IsCapacity, index, max_position}
-use Rattle.ring_layout.specs.Layout.{ring_words, tail_index, head_cache_index, head_index, correlation_index, heartbeat_index}
+use Rattle.ring_layout.specs.Layout.{ring_words, tail_index, head_cache_index, head_index, correlation_index, heartbeat_index, IsUnnamed}
 use Rattle.ring_table.specs.Staged.{StagedClaim, ArePlaced, staged_end, staged_word_at}
 use Rattle.ring_table.specs.Owners.{OwnedHistory, all_of, owned_by}
 use Rattle.ring_table.specs.Passing.{Reaches}
@@ -34,11 +34,12 @@ pub record IsMemory (C start : ℕ) (words : List ℕ) (claims : List StagedClai
   pub clears_words : consumer.cleared % 8 ≡ 0
   pub shows : (p : ℕ) → p % 8 ≡ 0 → consumer.head ≤ p → p < consumer.head + C → slice_index words (index C p) ≡ shown_word consumer.cleared claims p
 
--- the head cache, the correlation counter, which n ids were drawn from, and the heartbeat
+-- the head cache, the correlation counter, which n ids were drawn from, and the heartbeat. The trailer's other words are 0
 pub record IsService (C : ℕ) (words : List ℕ) (consumer : ConsumerView) (n : ℕ) : Type 0 where
   pub cache : slice_index words (head_cache_index C) ≤ consumer.head
   pub correlation : slice_index words (correlation_index C) ≡ n % 2 ^ 64
   pub heartbeat : get_elem? (0 ∷ consumer.heartbeats) (length consumer.heartbeats) ≡ some (slice_index words (heartbeat_index C))
+  pub unnamed : (i : ℕ) → IsUnnamed C i → slice_index words i ≡ 0
 
 -- a producer with no share has claimed and drawn nothing
 pub record IsIdle (p : ProducerView) : Type 0 where

@@ -1,5 +1,5 @@
 -- What each seat knows at first, and how the steps change it.
-use Rattle.std.specs.Prelude.{ℕ, ◌+◌, ◌-◌, List, [], ◌∷◌, ◌++◌, true, false, max}
+use Rattle.std.specs.Prelude.{◌≡◌, ℕ, ◌+◌, ◌-◌, List, [], ◌∷◌, ◌++◌, true, false, max}
 use Rattle.ring_table.specs.Staged.{StagedClaim, PlacedMessage}
 use Rattle.ring_table.specs.Owners.{interleaved}
 pub use Rattle.ring_table.specs.declared.view.Key.{Key}
@@ -26,6 +26,10 @@ first_view k = record { capacity = k.capacity; log = []; producer = new_producer
 
 abbrev pub logged : ℕ → ℕ → View → View
 logged word n v = record v { log = v.log ++ (word, n) ∷ [] }
+
+-- the log is longer by one load: of this word, where n was found
+abbrev pub Logs : ℕ → ℕ → View → View → Type 0
+Logs word n v w = w.log ≡ v.log ++ (word, n) ∷ []
 
 abbrev pub with_producer : ProducerView → View → View
 with_producer p v = record v { producer = p }

@@ -17,7 +17,7 @@ use Rattle.ring_layout.specs.Headers.{padding_type}
 use Rattle.ring_words.specs.Ring.{Ring, Has, IsRing, head_of}
 use Rattle.ring_layout.specs.Handles.{Handles}
 use Rattle.ring_words.specs.Reading.{Sees, SeesCommitted, IsAtHead, Leaves, MovesHead}
-use Rattle.ring_words.specs.Read.{Reads, Passes, IsHeadAfter, GoesOn, IsNext, WentOn, Broke, Aborts, stop_of}
+use Rattle.ring_words.specs.Read.{Reads, Passes, IsHeadAfter, IsTight, GoesOn, IsNext, WentOn, Broke, Aborts, stop_of}
 use Rattle.ring_words.specs.Open.{ClaimAt, IsOpen, IsOpenIn}
 use Rattle.ring_words.specs.declared.action.Action.TheVariants.{Abort, Break, Commit, Continue}
 use Rattle.ring_words.specs.declared.read_end.ReadEnd.{ReadEnd}
@@ -119,26 +119,30 @@ module _ (limit : ℕ) (old mid new : Ring) (h : List Claim) (messages : List Me
             ]
       ]
 
-  -- a committed claim, whose message m was shown
-  pub passes_message : (m : Message) → (s.type_id ≡ padding_type → ⊥) → ((x : Claim) (r : List Claim) → Has mid (x ∷ r) → SeesCommitted mid x s → x.message ≡ m) → Passes limit old h new (messages ++ m ∷ [])
-  passes_message m loud shows =
-      elim l.3 as (λ _. Passes limit old h new (messages ++ m ∷ [])) [
+  -- a committed claim, whose message m was shown, and nothing behind it
+  pub passes_last : (m : Message) → (s.type_id ≡ padding_type → ⊥) → ((x : Claim) (r : List Claim) → Has mid (x ∷ r) → SeesCommitted mid x s → x.message ≡ m)
+      → (q : Passes limit old h new (messages ++ m ∷ [])) × IsTight old.capacity (head_of old) q.passed (head_of new)
+  passes_last m loud shows =
+      elim l.3 as (λ _. (q : Passes limit old h new (messages ++ m ∷ [])) × IsTight old.capacity (head_of old) q.passed (head_of new)) [
         | inl pad ↦ absurd (loud pad.0.type_id)
         | inr claim ↦
-            elim claim.0 as (λ _. Passes limit old h new (messages ++ m ∷ [])) [
+            elim claim.0 as (λ _. (q : Passes limit old h new (messages ++ m ∷ [])) × IsTight old.capacity (head_of old) q.passed (head_of new)) [
               | inl aborted ↦ absurd (loud aborted.type_id)
-              | inr message ↦ record {
-                passed = p.passed ++ l.0 ∷ [];
-                rest = l.1;
-                whole = whole_more;
-                settled = All-push (λ (x : Claim). x.state ≢ Open) p.passed l.0 p.settled (λ e. let bad : Open ≡ Committed = sym e ∙ message.committed in cc);
-                shown =
-                    committed_of-append p.passed (l.0 ∷ []) ∙ ap (λ x. committed_of p.passed ++ (x ++ [])) (shown_one l.0 message.committed)
-                    ∙ ap (λ x. x ++ l.0.message ∷ []) p.shown ∙ ap (λ x. messages ++ x ∷ []) (shows l.0 l.1 has_mid message);
-                left = claim.1;
-                head = inl (head_more message.at_head claim.2);
-                tight = λ e. inr (p.passed, l.0, refl, message.committed, head_more message.at_head claim.2);
-              }
+              | inr message ↦ (
+                record {
+                  passed = p.passed ++ l.0 ∷ [];
+                  rest = l.1;
+                  whole = whole_more;
+                  settled = All-push (λ (x : Claim). x.state ≢ Open) p.passed l.0 p.settled (λ e. let bad : Open ≡ Committed = sym e ∙ message.committed in cc);
+                  shown =
+                      committed_of-append p.passed (l.0 ∷ []) ∙ ap (λ x. committed_of p.passed ++ (x ++ [])) (shown_one l.0 message.committed)
+                      ∙ ap (λ x. x ++ l.0.message ∷ []) p.shown ∙ ap (λ x. messages ++ x ∷ []) (shows l.0 l.1 has_mid message);
+                  left = claim.1;
+                  head = inl (head_more message.at_head claim.2);
+                  tight = λ e. inr (p.passed, l.0, refl, message.committed, head_more message.at_head claim.2);
+                },
+                inr (p.passed, l.0, refl, message.committed, head_more message.at_head claim.2),
+              )
             ]
       ]
 
@@ -220,7 +224,7 @@ module _ {S : Type 0} (step : S → Message → S → Action → Type 0) (limit 
       moves = moves_more old mid new (omega (arith, same, ok.capacity.least)) reads.moves moved inside;
       passes = λ h has.
           let p = reads.passes h has in
-          passes_message limit old mid new h reads.messages settled ok same p (left p.rest p.left) m loud shows;
+          (passes_last limit old mid new h reads.messages settled ok same p (left p.rest p.left) m loud shows).0;
     }
 
 -- the same of a read that the handler lets go on
@@ -254,6 +258,9 @@ module _ {S : Type 0} (step : S → Message → S → Action → Type 0) (limit 
             before = reads.0.actions;
             went_on = reads.1;
             broke = ap (λ x. reads.0.actions ++ x ∷ []) is;
+            tight = λ h has.
+                let p = reads.0.passes h has in
+                (passes_last limit old mid new h reads.0.messages settled ok (same step limit old mid new s t count settled ok reads.0 below inside moved left) p (left p.rest p.left) m loud shows).1;
             stopped = stop;
           }
 

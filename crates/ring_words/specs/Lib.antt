@@ -6,3 +6,5 @@ pub mod Storing
 pub mod Fresh
 pub mod Reading
 pub mod Read
+pub mod Standing
+pub mod Across

@@ -1,5 +1,5 @@
 -- What a read does.
-use Rattle.std.specs.Prelude.{◌≡◌, ◌≢◌, ◌⊎◌, ℕ, ◌<◌, ◌%◌, ◌==◌, ◌&&◌, nat_lt, List, [], ◌∷◌, ◌++◌, length, All, if◌then◌else◌}
+use Rattle.std.specs.Prelude.{◌≡◌, ◌≢◌, ◌⊎◌, ℕ, ◌+◌, ◌<◌, ◌%◌, ◌==◌, ◌&&◌, nat_lt, List, [], ◌∷◌, ◌++◌, length, All, if◌then◌else◌}
 use Rattle.ring_words.specs.declared.action.Action.{Action}
 use Rattle.ring_words.specs.declared.action.Action.TheVariants.{Abort, Break, Commit, Continue}
 use Rattle.ring_words.specs.declared.read_end.ReadEnd.{ReadEnd}
@@ -51,6 +51,12 @@ stop_of C limit messages head bytes =
     else (if (head % C == 0) && nat_lt 0 bytes then Block
     else Unpublished)
 
+-- messages were read, and why the read stopped
+pub record ReadsTo {S : Type 0} (step : S → Message → S → Action → Type 0) (limit : ℕ) (old new : Ring) (s t : S) (end : ReadEnd) : Type 0 where
+  pub reads : Reads step limit old new s t end.messages
+  pub bytes : head_of old + end.bytes ≡ head_of new
+  pub stopped : end.stopped ≡ stop_of new.capacity limit end.messages (head_of new) end.bytes
+
 -- an action after which a controlled read goes on
 abbrev pub GoesOn : Action → Type 0
 GoesOn Abort = ⊥
@@ -68,12 +74,13 @@ pub record WentOn {S : Type 0} (step : S → Message → S → Action → Type 0
   pub went_on : All GoesOn reads.actions
   pub stopped : end.stopped ≡ stop_of new.capacity limit end.messages (head_of new) end.bytes
 
--- it stopped the read by Break at the last message, which was taken
+-- it stopped the read by Break at the last message, which was taken, and nothing was passed behind it
 pub record Broke {S : Type 0} (step : S → Message → S → Action → Type 0) (limit : ℕ) (old new : Ring) (s t : S) (end : ReadEnd) : Type 0 where
   pub reads : Reads step limit old new s t end.messages
   pub before : List Action
   pub went_on : All GoesOn before
   pub broke : reads.actions ≡ before ++ Break ∷ []
+  pub tight : (h : List Claim) (has : Has old h) → IsTight old.capacity (head_of old) (reads.passes h has).passed (head_of new)
   pub stopped : end.stopped ≡ Stop.Action
 
 -- it stopped the read by Abort at one message more, which was left

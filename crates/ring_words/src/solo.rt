@@ -10,19 +10,13 @@ mod claims;
 mod reads;
 
 use crate::fault::MakeFault;
-use ring_layout::is_capacity;
+use crate::positions::Positions;
 use ring_layout::ring_buffer_descriptor::{
     HEAD_CACHE_POSITION_WORD, HEAD_POSITION_WORD, MAX_POSITION, TAIL_POSITION_WORD, TRAILER_WORDS,
 };
+use ring_layout::{is_capacity, max_message};
 use std::alloc::Global;
 use std::marker::Model;
-
-/// Up to where messages were taken, and up to where room is claimed. Both are running byte counts.
-#[derive(Clone, Copy, Debug, PartialEq, Eq)]
-pub struct Positions {
-    pub head: u64,
-    pub tail: u64,
-}
 
 /// A ring of messages with one owner.
 #[derive(Drop)]
@@ -99,6 +93,13 @@ impl SoloRing {
         ensures { result ≡ self.now.capacity }
     {
         self.capacity
+    }
+
+    /// The most bytes of a message: an eighth of the capacity. A longer one is refused with `TooLong`.
+    pub fn max_message(&self) -> u32
+        ensures { result ≡ self.now.capacity / 8 }
+    {
+        max_message(self.capacity)
     }
 
     /// A word of the buffer or, behind it, of the trailer.

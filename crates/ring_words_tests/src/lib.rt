@@ -7,3 +7,5 @@ mod faults;
 mod script;
 #[cfg(test)]
 mod solo;
+#[cfg(test)]
+mod standing;

@@ -1,6 +1,6 @@
 //! What the steps of the consumer tell.
 ghost use Rattle.std.specs.Prelude.{◌≡◌};
-ghost use Rattle.ring_table.specs.Views.{logged};
+ghost use Rattle.ring_table.specs.Views.{Logs, logged};
 ghost use Rattle.ring_table.specs.ConsumerSteps.{LoadsHeader, LoadsBody, ClearsWord, StoresHead, StoresHeadBefore};
 
 use crate::view::{View, Wanted};
@@ -9,13 +9,13 @@ use atomic_table::Play;
 pub struct LoadFirstHeader;
 
 impl Play<Wanted, View> for LoadFirstHeader {
-    ghost then = { λ st me n me'. (me'.1 ≡ me.1) × LoadsHeader me.0.capacity me.0.consumer.head me.0.consumer.taken me.0 n me'.0 };
+    ghost then = { λ st me n me'. (me'.1 ≡ me.1) × LoadsHeader me.0.capacity me.0.consumer.head me.0.consumer.taken me.0 n me'.0 × Logs st.word n me.0 me'.0 };
 }
 
 pub struct LoadNextHeader;
 
 impl Play<Wanted, View> for LoadNextHeader {
-    ghost then = { λ st me n me'. (me'.1 ≡ me.1) × LoadsHeader me.0.capacity me.0.consumer.scan me.0.consumer.got me.0 n me'.0 };
+    ghost then = { λ st me n me'. (me'.1 ≡ me.1) × LoadsHeader me.0.capacity me.0.consumer.scan me.0.consumer.got me.0 n me'.0 × Logs st.word n me.0 me'.0 };
 }
 
 pub struct LoadBody;

@@ -1,9 +1,9 @@
 //! What the steps of a producer tell.
-ghost use Rattle.std.specs.Prelude.{◌≡◌, ℕ};
+ghost use Rattle.std.specs.Prelude.{◌≡◌, ◌≢◌, ℕ};
 ghost use mathlib.Core.Option.{some};
 ghost use Rattle.ring_layout.specs.declared.message.ClaimState.TheVariants.{Aborted, Committed};
 ghost use Rattle.ring_table.specs.Staged.{AreRising};
-ghost use Rattle.ring_table.specs.Views.{Wanted, logged};
+ghost use Rattle.ring_table.specs.Views.{Logs, Wanted, logged};
 ghost use Rattle.ring_table.specs.ProducerSteps.{LoadsTail, LoadsHead, MovesTail, MovesOwnTail, StoresPadding, StoresClaimed, StoresSettled, StoresBody, LoadsOwn};
 
 use crate::view::{View, Wanted};
@@ -12,19 +12,19 @@ use atomic_table::Play;
 pub struct LoadTail;
 
 impl Play<Wanted, View> for LoadTail {
-    ghost then = { λ st me n me'. (me'.1 ≡ me.1) × LoadsTail me.0.capacity me.0 n me'.0 };
+    ghost then = { λ st me n me'. (me'.1 ≡ me.1) × LoadsTail me.0.capacity me.0 n me'.0 × Logs st.word n me.0 me'.0 };
 }
 
 pub struct LoadHead;
 
 impl Play<Wanted, View> for LoadHead {
-    ghost then = { λ st me n me'. (me'.1 ≡ me.1) × LoadsHead me.0.capacity me.0 n me'.0 };
+    ghost then = { λ st me n me'. (me'.1 ≡ me.1) × LoadsHead me.0.capacity me.0 n me'.0 × Logs st.word n me.0 me'.0 };
 }
 
 pub struct MoveTail;
 
 impl Play<Wanted, View> for MoveTail {
-    ghost then = { λ st me n me'. (me'.1 ≡ me.1) × ((wanted : Wanted) → st.said ≡ some wanted → MovesTail me.0.capacity st.first st.second wanted me.0 n me'.0) };
+    ghost then = { λ st me n me'. (me'.1 ≡ me.1) × ((wanted : Wanted) → st.said ≡ some wanted → MovesTail me.0.capacity st.first st.second wanted me.0 n me'.0) × (n ≢ st.first → Logs st.word n me.0 me'.0) };
 }
 
 pub struct MoveOwnTail;

@@ -1,6 +1,6 @@
 //! What the steps on the head cache, the correlation counter and the heartbeat tell.
 ghost use Rattle.std.specs.Prelude.{◌≡◌};
-ghost use Rattle.ring_table.specs.Views.{with_consumer, beaten};
+ghost use Rattle.ring_table.specs.Views.{Logs, with_consumer, beaten};
 ghost use Rattle.ring_table.specs.ServiceSteps.{LoadsCache, DrawsId, LoadsHeartbeat};
 
 use crate::view::{View, Wanted};
@@ -9,7 +9,7 @@ use atomic_table::Play;
 pub struct LoadCache;
 
 impl Play<Wanted, View> for LoadCache {
-    ghost then = { λ st me n me'. (me'.1 ≡ me.1) × LoadsCache me.0.capacity me.0 n me'.0 };
+    ghost then = { λ st me n me'. (me'.1 ≡ me.1) × LoadsCache me.0.capacity me.0 n me'.0 × Logs st.word n me.0 me'.0 };
 }
 
 pub struct StoreCache;
@@ -27,7 +27,7 @@ impl Play<Wanted, View> for DrawId {
 pub struct LoadHeartbeat;
 
 impl Play<Wanted, View> for LoadHeartbeat {
-    ghost then = { λ st me n me'. (me'.1 ≡ me.1) × LoadsHeartbeat me.0.capacity me.0 n me'.0 };
+    ghost then = { λ st me n me'. (me'.1 ≡ me.1) × LoadsHeartbeat me.0.capacity me.0 n me'.0 × Logs st.word n me.0 me'.0 };
 }
 
 pub struct StoreHeartbeat;

@@ -6,7 +6,8 @@ ghost use Rattle.ring_layout.specs.Headers.{padding_type};
 ghost use Rattle.ring_words.specs.Ring.{Has, IsRing, head_of};
 ghost use Rattle.ring_words.specs.Open.{ClaimAt, IsOpen};
 ghost use Rattle.ring_words.specs.Reading.{Sees, SeesCommitted, IsBlocked, Leaves, MovesHead};
-ghost use Rattle.ring_words.specs.Read.{Reads, Controls, stop_of};
+ghost use Rattle.ring_words.specs.Across.{ReadsAcross};
+ghost use Rattle.ring_words.specs.Read.{Reads, ReadsTo, Controls, stop_of};
 
 use super::SoloRing;
 use crate::action::Action;
@@ -116,6 +117,28 @@ impl SoloRing {
             }
             head = self.pass(head, settled);
         }
+    }
+
+    /// Reads as `read` does, and goes on behind the end of the buffer: where the first read stops with `Block`, a second one
+    /// follows, and no third. So `Unpublished` tells that no settled record lies at the head, and it stops with `Block` only
+    /// where it went from one end of the buffer to the next.
+    pub fn read_across<H: Handler>(&mut self, limit: u32, handler: &mut H) -> ReadEnd
+        requires { H.ready handler.old }
+        ensures ready { H.ready handler.new }
+        ensures reads { ReadsAcross (ReadsTo H.step) limit self.old self.new handler.old handler.new result }
+        ensures within { result.messages ≤ limit }
+        ensures bytes { head_of self.old + result.bytes ≡ head_of self.new }
+        ensures blocked { result.stopped ≡ Stop.Unpublished → (h : List Claim) → Has self.new h → IsBlocked self.new h }
+        ensures claims { (t : ClaimAt) → IsOpen self.old t → IsOpen self.new t }
+    {
+        let start = self.positions().head;
+        let first = self.read(limit, handler);
+        if first.stopped != Stop::Block {
+            return first;
+        }
+        let second = self.read(limit - first.messages, handler);
+        let (head, messages) = (self.positions().head, first.messages + second.messages);
+        self.read_end(start, head, messages, second.stopped)
     }
 
     /// Reads as `read` does, and heeds the handler's actions: `Abort` leaves the message and stops, `Break` takes it and

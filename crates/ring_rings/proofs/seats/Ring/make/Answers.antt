@@ -15,6 +15,7 @@ invariant_of-producer g c =
         some = omega arith;
         most = omega arith;
         counted = refl;
+        rising = tt;
         stored = tt;
         own = λ all. refl;
         whole = start_aligned c.args.capacity c.args.start (record { capacity = c.requires.capacity; start_is = start.0 });

@@ -4,9 +4,10 @@ use Rattle.ring_table.specs.declared.claim.StagedClaim.{StagedClaim}
 use Rattle.ring_table.specs.declared.view.View.{View}
 use Rattle.ring_table.specs.ProducerSteps.{HasClaimAt, IsOpen}
 use Rattle.ring_table.specs.OpenClaims.{open_count}
-use Rattle.ring_table.specs.Staged.{AreStored}
+use Rattle.ring_table.specs.Staged.{AreRising, AreStored}
 use Rattle.ring_rings.specs.Bodies.{loaded, put_at}
 use Rattle.ring_rings.proofs.CountLemmas.{count_kept, stored_kept}
+use Rattle.ring_rings.proofs.RisingLemmas.{rising_kept}
 use Rattle.ring_rings.proofs.PutLemmas.{has_changed, has_other}
 use Rattle.ring_rings.proofs.seats.Ring.put.Goals as goal
 
@@ -25,6 +26,7 @@ invariant_of-producer g c =
         some = p.known.some;
         most = p.known.most;
         counted = ap open_count claims ∙ count_kept f c.place.result (λ d. refl) p.seat.me.0.producer.claims ∙ p.known.counted;
+        rising = subst AreRising (sym claims) (rising_kept f c.place.result (λ d. refl) p.seat.me.0.producer.claims p.known.rising);
         stored = subst AreStored (sym claims) (stored_kept f c.place.result (λ d. refl) p.seat.me.0.producer.claims p.known.stored);
         own = λ all. ap (λ (v : View). v.producer.seen_tail) put.view ∙ p.known.own all;
         whole = p.known.whole;

@@ -1,8 +1,9 @@
 use Rattle.std.proofs.Common.{◌≡◌, ℕ, sym, ap, ◌∙◌, subst, arith}
 use Rattle.ring_layout.specs.Places.{index}
+use Rattle.ring_table.specs.Views.{Logs}
 use Rattle.ring_table.specs.ProducerSteps.{Mine}
 use Rattle.ring_table.specs.ConsumerSteps.{LoadsHeader}
-use Rattle.ring_table.proofs.Calls.{at_index, in_records}
+use Rattle.ring_table.proofs.Calls.{at_word, in_records}
 use Rattle.ring_table.proofs.Consuming.{loads_next}
 use Rattle.ring_table.proofs.steps.consumer.load_next_header.Goals as goal
 
@@ -12,7 +13,7 @@ load-requires c =
     let me : Mine = c.args.consumer.now.me in (
       s.table_is,
       in_records _ c.args.capacity _ (c.args.scan) s.words_are s.lawful c.word_index.ensures,
-      at_index c.args.ring.now.key c.args.capacity _ _ _ s.key_is _ _ (c.word_index.ensures ∙ ap (index c.args.capacity) (sym c.requires.scan)) (λ n. n) (λ n me'. (me'.1 ≡ me.1) × LoadsHeader me.0.capacity me.0.consumer.scan me.0.consumer.got me.0 n me'.0)
+      at_word c.args.ring.now.key c.args.capacity _ _ _ s.key_is _ _ (c.word_index.ensures ∙ ap (index c.args.capacity) (sym c.requires.scan)) (λ n. n) (λ k n me'. (me'.1 ≡ me.1) × LoadsHeader me.0.capacity me.0.consumer.scan me.0.consumer.got me.0 n me'.0 × Logs k n me.0 me'.0)
           (loads_next c.args.capacity c.args.ring.now.key.start _ _ me s.view_is c.requires.consumes (let at = c.requires.scan in let near = c.requires.near in omega arith)),
     )
 

@@ -1,9 +1,9 @@
 use Rattle.std.proofs.Common.{ap}
-use Rattle.ring_table.specs.Views.{View}
+use Rattle.ring_table.specs.Views.{Logs, View}
 use Rattle.std.proofs.Common.{◌≡◌, arith}
 use Rattle.ring_table.specs.ProducerSteps.{LoadsTail}
 use Rattle.ring_table.specs.ProducerSteps.{Mine}
-use Rattle.ring_table.proofs.Calls.{at_index, in_trailer}
+use Rattle.ring_table.proofs.Calls.{at_word, in_trailer}
 use Rattle.ring_table.proofs.Loading.{loads_tail}
 use Rattle.ring_table.proofs.steps.producer.load_tail.Goals as goal
 
@@ -13,7 +13,7 @@ load-requires c =
     let me : Mine = c.args.producer.now.me in (
       s.table_is,
       in_trailer _ c.args.capacity _ 16 s.words_are (omega arith) c.trailer_word.ensures,
-      at_index c.args.ring.now.key c.args.capacity _ _ _ s.key_is _ _ c.trailer_word.ensures (λ n. n) (λ n me'. (me'.1 ≡ me.1) × LoadsTail me.0.capacity me.0 n me'.0)
+      at_word c.args.ring.now.key c.args.capacity _ _ _ s.key_is _ _ c.trailer_word.ensures (λ n. n) (λ k n me'. (me'.1 ≡ me.1) × LoadsTail me.0.capacity me.0 n me'.0 × Logs k n me.0 me'.0)
           (loads_tail c.args.capacity c.args.ring.now.key.start _ _ me s.view_is),
     )
 

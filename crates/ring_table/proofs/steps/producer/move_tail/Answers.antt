@@ -1,11 +1,11 @@
-use Rattle.std.proofs.Common.{◌≡◌, ℕ, ap, eqb, arith, subst}
+use Rattle.std.proofs.Common.{◌≡◌, ◌≢◌, ℕ, ap, eqb, arith, subst}
 use mathlib.Core.Logic.{dite}
 use mathlib.Core.Option.{some}
 use native.Mathlib.Decide.{ℕ_discrete}
 use prog.Atomic.{either}
-use Rattle.ring_table.specs.Views.{View, Wanted}
+use Rattle.ring_table.specs.Views.{Logs, View, Wanted}
 use Rattle.ring_table.specs.ProducerSteps.{Mine, MovesTail}
-use Rattle.ring_table.proofs.Calls.{at_index, in_trailer}
+use Rattle.ring_table.proofs.Calls.{at_word, in_trailer}
 use Rattle.ring_table.proofs.Claiming.{moves_tail}
 use Rattle.ring_table.proofs.steps.producer.move_tail.Goals as goal
 
@@ -17,8 +17,8 @@ compare_exchange_with-requires c =
     let new : ℕ = c.args.new in (
       s.table_is,
       in_trailer _ c.args.capacity _ 16 s.words_are (omega arith) c.trailer_word-tail.ensures,
-      at_index c.args.ring.now.key c.args.capacity _ _ _ s.key_is _ _ c.trailer_word-tail.ensures (λ n. either (eqb n old) new n)
-          (λ n me'. (me'.1 ≡ me.1) × ((said : Wanted) → some c.args.wanted ≡ some said → MovesTail me.0.capacity old new said me.0 n me'.0))
+      at_word c.args.ring.now.key c.args.capacity _ _ _ s.key_is _ _ c.trailer_word-tail.ensures (λ n. either (eqb n old) new n)
+          (λ k n me'. (me'.1 ≡ me.1) × ((said : Wanted) → some c.args.wanted ≡ some said → MovesTail me.0.capacity old new said me.0 n me'.0) × (n ≢ old → Logs k n me.0 me'.0))
           (moves_tail c.args.capacity c.args.ring.now.key.start _ _ me s.view_is old new c.args.wanted c.requires.share c.requires.room),
     )
 

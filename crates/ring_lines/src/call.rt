@@ -1,0 +1,243 @@
+//! What a line asks of the runner.
+ghost use Rattle.std.specs.Prelude.{◌∷◌, IfOk, codes};
+ghost use Rattle.ring_lines.specs.Text.{words_of};
+
+use crate::fault::LineFault;
+use crate::service_call::ServiceCall;
+use crate::words::Words;
+use ring_words::Action;
+use std::alloc::Global;
+
+/// A call of the ring, of the broadcast buffer or of the conductor's side, as a line asks for it.
+#[derive(Drop)]
+pub enum Call {
+    /// `write TYPE HEX`
+    Write {
+        type_id: i32,
+        body: Vec<u8>,
+    },
+    /// `claim TYPE LEN`
+    Claim {
+        type_id: i32,
+        len: usize,
+    },
+    /// `put K OFFSET HEX`
+    Put {
+        number: usize,
+        offset: usize,
+        bytes: Vec<u8>,
+    },
+    /// `commit K`
+    Commit {
+        number: usize,
+    },
+    /// `abort K`
+    Abort {
+        number: usize,
+    },
+    /// `read LIMIT`
+    Read {
+        limit: u32,
+    },
+    /// `control LIMIT LETTERS`
+    Control {
+        limit: u32,
+        actions: Vec<Action>,
+    },
+    /// `positions`
+    Positions,
+    /// `correlation`
+    Correlation,
+    /// `beat N`
+    Beat {
+        value: u64,
+    },
+    /// `heartbeat`
+    Heartbeat,
+    /// `transmit TYPE HEX`
+    Transmit {
+        type_id: i32,
+        body: Vec<u8>,
+    },
+    /// `subscribe`
+    Subscribe,
+    /// `receive K`
+    Receive {
+        number: usize,
+    },
+    /// `leave K`
+    Leave {
+        number: usize,
+    },
+    /// `storm CLIENTS COMMANDS`
+    Storm {
+        clients: u32,
+        commands: u32,
+    },
+    /// A line of the conductor's side.
+    Service(ServiceCall),
+}
+
+impl Call {
+    ghost use Rattle.ring_lines.specs.Lines.{AsksFor};
+
+    /// Parses the words behind the first one, which names the call.
+    pub(crate) fn parse(alloc: Global, name: &[u8], words: &mut Words) -> Result<Call, LineFault>
+        ensures { IfOk result (λ call. AsksFor call (name.now ∷ words_of words.old.rest.now)) }
+    {
+        match name {
+            _ if name == b"write".as_slice() => Self::write(alloc, words),
+            _ if name == b"claim".as_slice() => Self::claim(words),
+            _ if name == b"put".as_slice() => Self::put(alloc, words),
+            _ if name == b"commit".as_slice() => Self::commit(words),
+            _ if name == b"abort".as_slice() => Self::abort(words),
+            _ if name == b"read".as_slice() => Self::read(words),
+            _ if name == b"control".as_slice() => Self::control(alloc, words),
+            _ if name == b"beat".as_slice() => Self::beat(words),
+            _ if name == b"receive".as_slice() => Self::receive(words),
+            _ if name == b"leave".as_slice() => Self::leave(words),
+            _ if name == b"storm".as_slice() => Self::storm(words),
+            _ if name == b"positions".as_slice() => Self::positions(words),
+            _ if name == b"correlation".as_slice() => Self::correlation(words),
+            _ if name == b"heartbeat".as_slice() => Self::heartbeat(words),
+            _ if name == b"transmit".as_slice() => Self::transmit(alloc, words),
+            _ if name == b"subscribe".as_slice() => Self::subscribe(words),
+            _ => Ok(Call::Service(ServiceCall::parse(alloc, name, words)?)),
+        }
+    }
+
+    fn write(alloc: Global, words: &mut Words) -> Result<Call, LineFault>
+        ensures { IfOk result (λ call. AsksFor call (codes "write" ∷ words_of words.old.rest.now)) }
+    {
+        let type_id = words.number()?;
+        let body = words.bytes(alloc)?;
+        words.finish()?;
+        Ok(Call::Write { type_id, body })
+    }
+
+    fn claim(words: &mut Words) -> Result<Call, LineFault>
+        ensures { IfOk result (λ call. AsksFor call (codes "claim" ∷ words_of words.old.rest.now)) }
+    {
+        let type_id = words.number()?;
+        let len = words.number()?;
+        words.finish()?;
+        Ok(Call::Claim { type_id, len })
+    }
+
+    fn put(alloc: Global, words: &mut Words) -> Result<Call, LineFault>
+        ensures { IfOk result (λ call. AsksFor call (codes "put" ∷ words_of words.old.rest.now)) }
+    {
+        let number = words.number()?;
+        let offset = words.number()?;
+        let bytes = words.bytes(alloc)?;
+        words.finish()?;
+        Ok(Call::Put {
+            number,
+            offset,
+            bytes,
+        })
+    }
+
+    fn commit(words: &mut Words) -> Result<Call, LineFault>
+        ensures { IfOk result (λ call. AsksFor call (codes "commit" ∷ words_of words.old.rest.now)) }
+    {
+        let number = words.number()?;
+        words.finish()?;
+        Ok(Call::Commit { number })
+    }
+
+    fn abort(words: &mut Words) -> Result<Call, LineFault>
+        ensures { IfOk result (λ call. AsksFor call (codes "abort" ∷ words_of words.old.rest.now)) }
+    {
+        let number = words.number()?;
+        words.finish()?;
+        Ok(Call::Abort { number })
+    }
+
+    fn read(words: &mut Words) -> Result<Call, LineFault>
+        ensures { IfOk result (λ call. AsksFor call (codes "read" ∷ words_of words.old.rest.now)) }
+    {
+        let limit = words.number()?;
+        words.finish()?;
+        Ok(Call::Read { limit })
+    }
+
+    fn control(alloc: Global, words: &mut Words) -> Result<Call, LineFault>
+        ensures { IfOk result (λ call. AsksFor call (codes "control" ∷ words_of words.old.rest.now)) }
+    {
+        let limit = words.number()?;
+        let actions = words.actions(alloc)?;
+        words.finish()?;
+        Ok(Call::Control { limit, actions })
+    }
+
+    fn positions(words: &mut Words) -> Result<Call, LineFault>
+        ensures { IfOk result (λ call. AsksFor call (codes "positions" ∷ words_of words.old.rest.now)) }
+    {
+        words.finish()?;
+        Ok(Call::Positions)
+    }
+
+    fn correlation(words: &mut Words) -> Result<Call, LineFault>
+        ensures { IfOk result (λ call. AsksFor call (codes "correlation" ∷ words_of words.old.rest.now)) }
+    {
+        words.finish()?;
+        Ok(Call::Correlation)
+    }
+
+    fn beat(words: &mut Words) -> Result<Call, LineFault>
+        ensures { IfOk result (λ call. AsksFor call (codes "beat" ∷ words_of words.old.rest.now)) }
+    {
+        let value = words.number()?;
+        words.finish()?;
+        Ok(Call::Beat { value })
+    }
+
+    fn heartbeat(words: &mut Words) -> Result<Call, LineFault>
+        ensures { IfOk result (λ call. AsksFor call (codes "heartbeat" ∷ words_of words.old.rest.now)) }
+    {
+        words.finish()?;
+        Ok(Call::Heartbeat)
+    }
+
+    fn transmit(alloc: Global, words: &mut Words) -> Result<Call, LineFault>
+        ensures { IfOk result (λ call. AsksFor call (codes "transmit" ∷ words_of words.old.rest.now)) }
+    {
+        let type_id = words.number()?;
+        let body = words.bytes(alloc)?;
+        words.finish()?;
+        Ok(Call::Transmit { type_id, body })
+    }
+
+    fn subscribe(words: &mut Words) -> Result<Call, LineFault>
+        ensures { IfOk result (λ call. AsksFor call (codes "subscribe" ∷ words_of words.old.rest.now)) }
+    {
+        words.finish()?;
+        Ok(Call::Subscribe)
+    }
+
+    fn receive(words: &mut Words) -> Result<Call, LineFault>
+        ensures { IfOk result (λ call. AsksFor call (codes "receive" ∷ words_of words.old.rest.now)) }
+    {
+        let number = words.number()?;
+        words.finish()?;
+        Ok(Call::Receive { number })
+    }
+
+    fn leave(words: &mut Words) -> Result<Call, LineFault>
+        ensures { IfOk result (λ call. AsksFor call (codes "leave" ∷ words_of words.old.rest.now)) }
+    {
+        let number = words.number()?;
+        words.finish()?;
+        Ok(Call::Leave { number })
+    }
+
+    fn storm(words: &mut Words) -> Result<Call, LineFault>
+        ensures { IfOk result (λ call. AsksFor call (codes "storm" ∷ words_of words.old.rest.now)) }
+    {
+        let clients = words.number()?;
+        let commands = words.number()?;
+        words.finish()?;
+        Ok(Call::Storm { clients, commands })
+    }
+}

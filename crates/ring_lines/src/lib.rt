@@ -1,0 +1,20 @@
+//! The lines of a scenario, and what they ask for.
+#![tactic(auto)]
+
+mod call;
+mod cut;
+mod fault;
+mod line;
+mod lines;
+mod moment;
+mod request;
+mod service_call;
+mod words;
+
+pub use call::Call;
+pub use fault::LineFault;
+pub use line::Line;
+pub use lines::{Lines, MAX_INPUT};
+pub use moment::Moment;
+pub use request::Request;
+pub use service_call::ServiceCall;

@@ -1,0 +1,110 @@
+-- What is held by number: a list with None where nothing is.
+use Rattle.std.proofs.Common.{◌≡◌, ◌≢◌, ℕ, suc, ◌+◌, ◌-◌, ◌<◌, MatchOption, IfNone, List, [], ◌∷◌, ◌++◌, length, set, slice_index_or, cond, is_some, refl, ap, Option, Some, None, sym, ◌∙◌, subst, arith, ◌⊎◌, inl, inr, get_or-set_same, get_or-set_other}
+use mathlib.Core.Logic.{dite}
+use native.Mathlib.Decide.{ℕ_discrete}
+use Rattle.std.proofs.lemmas.Bool.{cases_lt}
+use Rattle.std.specs.List.{count_by}
+use Rattle.std.proofs.lemmas.List.Sums.{sum_by-append, sum_by-set}
+use Rattle.std.proofs.lemmas.List.{get_or_append_left, get_or_push, get_or_past, length-append, length-set}
+use Rattle.ring_loose.specs.Held.{IsFree}
+
+module _ {A : Type 0} where
+  -- x is held at this index
+  abbrev pub Holds : List (Option A) → ℕ → A → Type 0
+  Holds xs i x = slice_index_or xs i None ≡ Some x
+
+  -- what is held lies in the list
+  pub held_inside : (xs : List (Option A)) (k : ℕ) (t : A) → Holds xs k t → k < length xs
+  held_inside xs k t has =
+      elim (cases_lt k (length xs)) as (λ _. k < length xs) [
+        | inl inside ↦ inside
+        | inr past ↦ let clash : None ≡ Some t = sym (get_or_past xs k None past) ∙ has in absurd cc
+      ]
+
+  -- what is held in the list with one more is held in the list, or is that one
+  pub in_pushed : (xs : List (Option A)) (t s : A) (i : ℕ) → Holds (xs ++ Some t ∷ []) i s → Holds xs i s ⊎ ((i ≡ length xs) × (t ≡ s))
+  in_pushed xs t s i has =
+      elim (cases_lt i (length xs)) as (λ _. Holds xs i s ⊎ ((i ≡ length xs) × (t ≡ s))) [
+        | inl within ↦ inl (sym (get_or_append_left xs (Some t ∷ []) None i within) ∙ has)
+        | inr past ↦
+            elim (cases_lt (length xs) i) as (λ _. Holds xs i s ⊎ ((i ≡ length xs) × (t ≡ s))) [
+              | inl beyond ↦
+                  let long : length (xs ++ Some t ∷ []) ≡ length xs + 1 = length-append xs (Some t ∷ []) in
+                  let clash : None ≡ Some s = sym (get_or_past (xs ++ Some t ∷ []) i None (omega (arith, long, beyond))) ∙ has in absurd cc
+              | inr last ↦
+                  let at : length xs ≡ i = omega (arith, past, last) in
+                  let same : Some t ≡ Some s = sym (get_or_push xs (Some t) None i at) ∙ has in inr (sym at, cc)
+            ]
+      ]
+
+  -- what is held after a change at the index k is what was put there, or was held elsewhere
+  pub in_set : (xs : List (Option A)) (k : ℕ) (y : Option A) (s : A) (i : ℕ) → k < length xs → Holds (set xs k y) i s → (y ≡ Some s) ⊎ ((i ≢ k) × Holds xs i s)
+  in_set xs k y s i inside has = dite (ℕ_discrete i k)
+      (λ here. inl (sym (get_or-set_same xs k y None inside) ∙ subst (λ n. Holds (set xs k y) n s) here has))
+      (λ other. inr (other, sym (get_or-set_other xs k i y None other) ∙ has))
+
+  abbrev one_if_some : Option A → ℕ
+  one_if_some o = cond (is_some o) 1 0
+
+  -- one more is held
+  pub count_pushed : (xs : List (Option A)) (t : A) → count_by is_some (xs ++ Some t ∷ []) ≡ count_by is_some xs + 1
+  count_pushed xs t = sum_by-append one_if_some xs (Some t ∷ [])
+
+  -- what is held at the index k is changed, or taken
+  pub count_set : (xs : List (Option A)) (k : ℕ) (y : Option A) (s : A) → Holds xs k s → count_by is_some (set xs k y) + 1 ≡ count_by is_some xs + one_if_some y
+  count_set xs k y s has =
+      ap (λ o. count_by is_some (set xs k y) + one_if_some o) (sym has) ∙ sum_by-set one_if_some xs k y None (held_inside xs k s has)
+
+  -- where nothing is held
+  pub count_none : (xs : List (Option A)) → ((k : ℕ) → k < length xs → slice_index_or xs k None ≡ None) → count_by is_some xs ≡ 0
+  count_none [] all = refl
+  count_none (x ∷ xs) all =
+      let first : one_if_some x ≡ 0 = ap one_if_some (all 0 (omega arith)) in
+      let rest = count_none xs (λ k lt. all (suc k) (omega arith)) in
+      let both = sum_by-append one_if_some (x ∷ []) xs in
+      omega arith
+
+  -- nothing is held below the index i
+  abbrev pub AreGone : List (Option A) → ℕ → Type 0
+  AreGone xs i = (k : ℕ) → k < i → slice_index_or xs k None ≡ None
+
+  none_of : (o : Option A) → ((x : A) → o ≡ Some x → ⊥) → o ≡ None
+  none_of None free = refl
+  none_of (Some x) free = absurd (free x refl)
+
+  one_more_gone : (xs : List (Option A)) (i : ℕ) → AreGone xs i → slice_index_or xs i None ≡ None → AreGone xs (i + 1)
+  one_more_gone xs i below here k lt =
+      elim (cases_lt k i) as (λ _. slice_index_or xs k None ≡ None) [
+        | inl before ↦ below k before
+        | inr past ↦ let same : i ≡ k = omega (arith, past, lt) in subst (λ n. slice_index_or xs n None ≡ None) same here
+      ]
+
+  set_gone : (xs : List (Option A)) (i : ℕ) → i < length xs → AreGone xs i → AreGone (set xs i None) (i + 1)
+  set_gone xs i inside below =
+      one_more_gone (set xs i None) i (λ k lt. get_or-set_other xs i k None None (λ e. omega (arith, lt, e)) ∙ below k lt) (get_or-set_same xs i None None inside)
+
+  -- once what is held at the index i is given up, nothing is held up to there
+  pub given_up : {U : Type 0} (r : Option U) (xs ys : List (Option A)) (i : ℕ) (P : U → Type 0) → MatchOption r (ys ≡ xs) P → ((u : U) → P u → ys ≡ set xs (i + 1 - 1) None)
+      → IfNone r (IsFree xs (i + 1)) → i < length xs → AreGone xs i → (length ys ≡ length xs) × AreGone ys (i + 1)
+  given_up None xs ys i P same took free inside below =
+      let at : i + 1 - 1 ≡ i = omega arith in
+      let here : slice_index_or xs i None ≡ None =
+      none_of (slice_index_or xs i None) (λ x has. free x (record { positive = omega arith; has = subst (λ n. Holds xs n x) (sym at) has })) in
+      subst (λ l. (length l ≡ length xs) × AreGone l (i + 1)) (sym same) (refl, one_more_gone xs i below here)
+  given_up (Some u) xs ys i P left took free inside below =
+      let at : i + 1 - 1 ≡ i = omega arith in
+      subst (λ l. (length l ≡ length xs) × AreGone l (i + 1)) (sym (took u left ∙ ap (λ n. set xs n None) at)) (length-set xs i None, set_gone xs i inside below)
+
+  module _ (P : A → Type 0) where
+    -- P holds of all that is held
+    abbrev pub OfAll : List (Option A) → Type 0
+    OfAll xs = (i : ℕ) (x : A) → Holds xs i x → P x
+
+    pub of_none : OfAll []
+    of_none i x has = let clash : None ≡ Some x = sym (get_or_past [] i None (omega arith)) ∙ has in absurd cc
+
+    pub of_pushed : (xs : List (Option A)) (t : A) → OfAll xs → P t → OfAll (xs ++ Some t ∷ [])
+    of_pushed xs t all here i x has = elim (in_pushed xs t x i has) as (λ _. P x) [ inl before ↦ all i x before | inr last ↦ subst P last.1 here ]
+
+    pub of_set : (xs : List (Option A)) (k : ℕ) (y : Option A) → OfAll xs → k < length xs → ((x : A) → y ≡ Some x → P x) → OfAll (set xs k y)
+    of_set xs k y all inside here i x has = elim (in_set xs k y x i inside has) as (λ _. P x) [ inl put ↦ here x put | inr other ↦ all i x other.1 ]

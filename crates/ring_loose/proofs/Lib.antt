@@ -1,0 +1,4 @@
+pub mod HeldLemmas
+mod ClaimsLemmas
+mod TryLemmas
+mod LooseLemmas

@@ -1,0 +1,97 @@
+-- How the claims that a producer holds are aborted, one after another.
+use Rattle.std.proofs.Common.{Result, IsOk, ◌≡◌, ℕ, suc, ◌+◌, ◌-◌, ◌<◌, List, ◌∷◌, drop, length, set, Option, Some, None, MatchOption, IfNone, slice_index_or, refl, sym, ap, ◌∙◌, subst, arith, inl, inr, get_or-set_same, get_or-set_other}
+use Rattle.std.proofs.Math.Seq.{drop-cons}
+use Rattle.std.proofs.lemmas.Bool.{cases_lt}
+use Rattle.std.proofs.lemmas.List.{drop-set-lt, length-set}
+use Rattle.ring_layout.specs.declared.message.ClaimState.TheVariants.{Aborted}
+use Rattle.ring_words.specs.Open.{ClaimAt}
+use Rattle.ring_table.specs.declared.view.View.{View}
+use Rattle.ring_table.specs.Views.{with_claims}
+use Rattle.ring_rings.specs.declared.fault.CloseFault.{CloseFault}
+use Rattle.ring_rings.specs.declared.seats.Ring.{Ring}
+use Rattle.ring_rings.specs.declared.seats.Producer.{Producer}
+use Rattle.ring_rings.specs.declared.seats.Consumer.{Consumer}
+use Rattle.ring_rings.specs.Seats.{view_of, IsProducerOf}
+use Rattle.ring_rings.specs.Closing.{close_refusal_of, IsRefusedAs}
+use Rattle.ring_loose.specs.Claims.{HasClaim, Holder, HoldsNone, SettlesAt}
+use Rattle.ring_loose.proofs.ClaimsLemmas.{same_open}
+use Rattle.ring_loose.proofs.TryLemmas.{Keeps}
+use Rattle.ring_loose.specs.Loose.{AreSeats, Loose, aborted_view, all_aborted, with_holder}
+
+-- what the producer knows once the claims from an index on are aborted
+abbrev pub aborted_from : ℕ → Holder → View
+aborted_from n h = with_claims (all_aborted (drop n h.claims) h.view.producer.claims) h.view
+
+front : (claims : List (Option ClaimAt)) (n : ℕ) (o : Option ClaimAt) → n < length claims → slice_index_or claims n None ≡ o → drop n claims ≡ o ∷ drop (n + 1) claims
+front claims n o inside has =
+    let next : suc n ≡ n + 1 = omega arith in
+    drop-cons claims n None inside ∙ ap (λ x. x ∷ drop (suc n) claims) has ∙ ap (λ m. o ∷ drop m claims) next
+
+none_at : (claims : List (Option ClaimAt)) (n : ℕ) → HoldsNone claims (n + 1) → slice_index_or claims n None ≡ None
+none_at claims n gone = by_case (slice_index_or claims n None) refl
+  where
+    by_case : (o : Option ClaimAt) → slice_index_or claims n None ≡ o → slice_index_or claims n None ≡ None
+    by_case None e = e
+    by_case (Some t) e =
+        let at : n ≡ n + 1 - 1 = omega arith in absurd (gone t (record { positive = omega arith; has = subst (λ i. HasClaim claims i t) at e }))
+
+-- of a ring the claims below an index were aborted
+pub record AbortedTo (start : Loose) (count n : ℕ) (now : Loose) : Type 0 where
+  pub counted : length now.holder.claims ≡ count
+  pub none : (k : ℕ) → k < n → slice_index_or now.holder.claims k None ≡ None
+  pub view : aborted_from n now.holder ≡ aborted_view start.holder
+  pub rest : now ≡ with_holder now.holder start
+
+module _ (start : Loose) (count n : ℕ) (now : Loose) (so_far : AbortedTo start count n now) where
+  module _ (inside : n < count) (next : Loose) (rest : next ≡ with_holder next.holder now) where
+    here : n < length now.holder.claims
+    here = let counted = so_far.counted in omega (arith, inside, counted)
+
+    on : length next.holder.claims ≡ length now.holder.claims → ((k : ℕ) → k < n → slice_index_or next.holder.claims k None ≡ slice_index_or now.holder.claims k None) → slice_index_or next.holder.claims n None ≡ None
+        → aborted_from (n + 1) next.holder ≡ aborted_from n now.holder → AbortedTo start count (n + 1) next
+    on long others none view = record {
+      counted = long ∙ so_far.counted;
+      none = λ k lt. elim (cases_lt k n) as (λ _. slice_index_or next.holder.claims k None ≡ None) [
+        | inl before ↦ others k before ∙ so_far.none k before
+        | inr last ↦ let at : n ≡ k = omega (arith, lt, last) in subst (λ m. slice_index_or next.holder.claims m None ≡ None) at none
+      ];
+      view = view ∙ so_far.view;
+      rest = rest ∙ ap (with_holder next.holder) so_far.rest;
+    }
+
+    -- no claim is open at the index
+    passes : next ≡ now → HoldsNone now.holder.claims (n + 1) → AbortedTo start count (n + 1) next
+    passes same gone =
+        let none : slice_index_or now.holder.claims n None ≡ None = none_at now.holder.claims n gone in
+        let held = ap (λ (l : Loose). l.holder.claims) same in
+        on (ap length held) (λ k lt. ap (λ l. slice_index_or l k None) held) (ap (λ l. slice_index_or l n None) held ∙ none)
+        (ap (λ (l : Loose). aborted_from (n + 1) l.holder) same
+        ∙ ap (λ l. with_claims (all_aborted l now.holder.view.producer.claims) now.holder.view) (sym (front now.holder.claims n None here none)))
+
+    -- the claim at the index was aborted
+    aborts : SettlesAt Aborted now.holder (n + 1) next.holder → AbortedTo start count (n + 1) next
+    aborts did =
+        let claims = now.holder.claims in
+        let at : n + 1 - 1 ≡ n = omega arith in
+        let has : HasClaim claims n did.claim = subst (λ i. HasClaim claims i did.claim) at did.holds.has in
+        let held : next.holder.claims ≡ set claims n None = did.given_up ∙ ap (λ i. set claims i None) at in
+        let rest_of : drop (n + 1) next.holder.claims ≡ drop (n + 1) claims = ap (λ l. drop (n + 1) l) held ∙ drop-set-lt (n + 1) claims n None (omega arith) in
+        on (ap length held ∙ length-set claims n None)
+        (λ k lt. ap (λ l. slice_index_or l k None) held ∙ get_or-set_other claims n k None None (λ same. omega (arith, lt, same)))
+        (ap (λ l. slice_index_or l n None) held ∙ get_or-set_same claims n None None here)
+        (ap (λ (v : View). with_claims (all_aborted (drop (n + 1) next.holder.claims) v.producer.claims) v) did.settled
+        ∙ ap (λ l. with_claims (all_aborted (Some did.claim ∷ l) now.holder.view.producer.claims) now.holder.view) rest_of
+        ∙ ap (λ l. with_claims (all_aborted l now.holder.view.producer.claims) now.holder.view) (sym (front claims n (Some did.claim) here has)))
+
+    pub aborted_on : {T : Type 0} (r : Option T) → MatchOption r (next ≡ now) (λ _. SettlesAt Aborted now.holder (n + 1) next.holder) → IfNone r (HoldsNone now.holder.claims (n + 1)) → AbortedTo start count (n + 1) next
+    aborted_on None same gone = passes same gone
+    aborted_on (Some x) did gone = aborts did
+
+-- a producer with all shares that has no open claim is not refused
+pub not_refused : {T E : Type 0} (error : CloseFault → E) (open_claims shares : ℕ) (result : Result T E) → open_claims ≡ 0 → shares ≡ 65536 → IsRefusedAs error (close_refusal_of open_claims shares) result → IsOk result
+not_refused error open_claims shares result none all refused =
+    subst (λ n. IsRefusedAs error (close_refusal_of 0 n) result) all (subst (λ n. IsRefusedAs error (close_refusal_of n shares) result) none refused)
+
+-- a step of the producer that leaves its shares and claims as they are
+pub same_seats : {K : Type 0} (ring : Ring K) (old new : Producer) (c : Consumer) (claims : List (Option ClaimAt)) → AreSeats ring old c claims → IsProducerOf ring new → Keeps (view_of old) (view_of new) → AreSeats ring new c claims
+same_seats ring old new c claims seats is keeps = record { start = seats.start; producer = is; alone = keeps.shares ∙ seats.alone; consumer = seats.consumer; held = same_open ring old new claims keeps.claims seats.held }

@@ -1,0 +1,4 @@
+pub mod Claims
+pub mod Held
+pub mod Loose
+pub mod Receivers

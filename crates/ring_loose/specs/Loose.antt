@@ -1,0 +1,55 @@
+-- A ring of a run with its seats.
+use Rattle.std.specs.Prelude.{◌≡◌, ℕ, List, [], ◌∷◌, Option, Some, None}
+use Rattle.ring_layout.specs.declared.message.ClaimState.TheVariants.{Aborted}
+use Rattle.ring_words.specs.Open.{ClaimAt}
+use Rattle.ring_table.specs.declared.claim.StagedClaim.{StagedClaim}
+use Rattle.ring_table.specs.declared.claim.Stage.TheVariants.{Stored}
+use Rattle.ring_table.specs.declared.view.View.{View}
+use Rattle.ring_table.specs.Changes.{changed, staged}
+use Rattle.ring_table.specs.Views.{with_claims}
+use Rattle.ring_rings.specs.declared.seats.Ring.{Ring}
+use Rattle.ring_rings.specs.declared.seats.Producer.{Producer}
+use Rattle.ring_rings.specs.declared.seats.Consumer.{Consumer}
+use Rattle.ring_rings.specs.Opening.{first_consumer, first_producer}
+use Rattle.ring_rings.specs.Seats.{shares_of, start_of, IsConsumerOf, IsProducerOf}
+use Rattle.ring_loose.specs.Claims.{AreOpen, Holder, holder}
+
+-- a ring's capacity, what its producer knows and holds, and what its consumer knows
+pub record Loose : Type 0 where
+  pub capacity : ℕ
+  pub holder : Holder
+  pub consumer : View
+
+-- the ring began at 0, the producer and the consumer are its own, no other producer has a share, and the claims are the producer's open ones
+pub record AreSeats {K : Type 0} (ring : Ring K) (p : Producer) (c : Consumer) (claims : List (Option ClaimAt)) : Type 0 where
+  pub start : start_of ring ≡ 0
+  pub producer : IsProducerOf ring p
+  pub alone : shares_of p ≡ 65536
+  pub consumer : IsConsumerOf ring c
+  pub held : AreOpen ring p claims
+
+-- a ring as it is made
+abbrev pub fresh_loose : ℕ → Loose
+fresh_loose C = record { capacity = C; holder = holder (first_producer C 0) []; consumer = first_consumer C 0 }
+
+-- the ring where the producer knows and holds this
+abbrev pub with_holder : Holder → Loose → Loose
+with_holder h l = record l { holder = h }
+
+-- the ring where the producer knows this
+abbrev pub with_view : View → Loose → Loose
+with_view v l = with_holder (holder v l.holder.claims) l
+
+-- the ring where the consumer knows this
+abbrev pub with_reader : View → Loose → Loose
+with_reader v l = record l { consumer = v }
+
+-- a producer's claims after those that it holds were aborted
+abbrev pub all_aborted : List (Option ClaimAt) → List StagedClaim → List StagedClaim
+all_aborted [] cs = cs
+all_aborted (None ∷ more) cs = all_aborted more cs
+all_aborted (Some t ∷ more) cs = all_aborted more (changed t.place (staged (Stored Aborted)) cs)
+
+-- what a producer knows then
+abbrev pub aborted_view : Holder → View
+aborted_view h = with_claims (all_aborted h.claims h.view.producer.claims) h.view

@@ -1,0 +1,147 @@
+//! The broadcast buffer of a run, with its numbered receivers.
+ghost use Rattle.std.specs.Prelude.{◌≡◌, ◌+◌, ◌-◌, length, slice_set, IfNone, IfOk, IfSome, OnErr, OnOk, MatchOption, MatchResult};
+ghost use Rattle.ring_board.specs.Refusals.{make_refusal_of, subscribe_refusal_of, transmit_refusal_of, IsMadeUnless, IsRefusedBy, IsSubscribedUnless};
+ghost use Rattle.ring_board.specs.Layout.{all_shares};
+ghost use Rattle.ring_board.specs.Seats.{capacity_of, next_record, shares_of, tail_of, view_of, IsTransmitterOf};
+ghost use Rattle.ring_board.specs.Steps.{sent_on};
+ghost use Rattle.ring_loose.specs.Held.{IsFree, held_count};
+ghost use Rattle.ring_loose.specs.Receivers.{AreReceivers, Leaves, ReceivesAt, Subscribes, crowd};
+
+use crate::held::take_held;
+use crate::received::Received;
+use crate::receiving::receive_at;
+use ring_board::{Board, CopyReceiver, MakeFault, SubscribeFault, TransmitFault, Transmitter};
+use std::alloc::{AllocError, Global};
+
+/// A broadcast buffer with its receivers, which are numbered from 1. No number is given twice.
+#[derive(Drop)]
+pub struct LooseBoard {
+    board: Board,
+    transmitter: Transmitter,
+    /// The receiver of each number, less 1, until it leaves.
+    receivers: Vec<Option<CopyReceiver>>,
+    ghost transmits: { IsTransmitterOf board transmitter },
+    ghost receive: { AreReceivers board receivers.items },
+    ghost shares: { shares_of transmitter + held_count receivers.items ≡ all_shares },
+}
+
+/// Makes a receiver, and keeps it under the next number, which is given. The room to keep it is made first.
+fn make_receiver(
+    alloc: Global,
+    board: &Board,
+    transmitter: &mut Transmitter,
+    receivers: &mut Vec<Option<CopyReceiver>>,
+) -> Result<Result<usize, SubscribeFault>, AllocError>
+    requires transmitter { IsTransmitterOf board.now transmitter.old }
+    requires receivers { AreReceivers board.now receivers.old.items }
+    ensures transmitter { IsTransmitterOf board.now transmitter.new }
+    ensures receivers { AreReceivers board.now receivers.new.items }
+    ensures made { IfOk result (λ made. MatchResult made (λ number. Subscribes (crowd transmitter.old receivers.old.items) number (crowd transmitter.new receivers.new.items)) (λ _. (transmitter.new ≡ transmitter.old) × (receivers.new.items ≡ receivers.old.items))) }
+    ensures refused { IfOk result (λ made. IsSubscribedUnless (subscribe_refusal_of (shares_of transmitter.old)) made) }
+    ensures shares { shares_of transmitter.new + held_count receivers.new.items ≡ shares_of transmitter.old + held_count receivers.old.items }
+{
+    receivers.reserve(1)?;
+    let receiver = match board.subscribe(alloc, transmitter) {
+        Ok(receiver) => receiver,
+        Err(fault) => return Ok(Err(fault)),
+    };
+    receivers.push_reserved(Some(receiver));
+    Ok(Ok(receivers.len()))
+}
+
+/// Joins the receiver of this number, if it is here.
+fn join_receiver(
+    board: &Board,
+    transmitter: &mut Transmitter,
+    receivers: &mut [Option<CopyReceiver>],
+    number: usize,
+) -> Option<()>
+    requires transmitter { IsTransmitterOf board.now transmitter.old }
+    requires receivers { AreReceivers board.now receivers.old }
+    ensures transmitter { IsTransmitterOf board.now transmitter.new }
+    ensures receivers { AreReceivers board.now receivers.new }
+    ensures left { MatchOption result ((transmitter.new ≡ transmitter.old) × (receivers.new ≡ receivers.old)) (λ _. Leaves (crowd transmitter.old receivers.old) number (crowd transmitter.new receivers.new)) }
+    ensures gone { IfNone result (IsFree receivers.old number) }
+    ensures shares { shares_of transmitter.new + held_count receivers.new ≡ shares_of transmitter.old + held_count receivers.old }
+{
+    let receiver = take_held(receivers, number)?;
+    board.join(transmitter, receiver);
+    Some(())
+}
+
+impl LooseBoard {
+    /// Makes an empty broadcast buffer.
+    pub fn new(alloc: Global, capacity: u32) -> Result<Self, MakeFault>
+        ensures { IsMadeUnless (make_refusal_of capacity 0) result }
+    {
+        let (board, transmitter) = Board::new(alloc, capacity)?;
+        Ok(LooseBoard {
+            board,
+            transmitter,
+            receivers: Vec::new(alloc),
+        })
+    }
+
+    /// Transmits a message.
+    pub fn transmit(&mut self, type_id: i32, body: &[u8]) -> Result<(), TransmitFault>
+        ensures refused { IsRefusedBy (transmit_refusal_of (capacity_of self.old.board) (tail_of self.old.transmitter) type_id (length body.now)) result }
+        ensures same { OnErr result (self.new ≡ self.old) }
+        ensures sent { OnOk result (view_of self.new.transmitter ≡ sent_on (view_of self.old.transmitter) (next_record (capacity_of self.old.board) (tail_of self.old.transmitter) type_id body.now)) }
+    {
+        self.board.transmit(&mut self.transmitter, type_id, body)
+    }
+
+    /// Makes a receiver and gives its number.
+    pub fn subscribe(&mut self, alloc: Global) -> Result<Result<usize, SubscribeFault>, AllocError>
+        ensures refused { IfOk result (λ made. IsSubscribedUnless (subscribe_refusal_of (shares_of self.old.transmitter)) made) }
+        ensures made { IfOk result (λ made. MatchResult made (λ number. Subscribes (crowd self.old.transmitter self.old.receivers.items) number (crowd self.new.transmitter self.new.receivers.items)) (λ _. self.new.transmitter ≡ self.old.transmitter)) }
+    {
+        make_receiver(
+            alloc,
+            &self.board,
+            &mut self.transmitter,
+            &mut self.receivers,
+        )
+    }
+
+    /// Asks the receiver of this number for the next message; `None` where it is not here.
+    pub fn receive(&mut self, alloc: Global, number: usize) -> Option<Result<Received, AllocError>>
+        ensures told { IfSome result (λ answer. IfOk answer (λ told. ReceivesAt told self.old.receivers.items number self.new.receivers.items)) }
+        ensures gone { IfNone result (IsFree self.old.receivers.items number) }
+    {
+        receive_at(alloc, &self.board, &mut self.receivers, number)
+    }
+
+    /// Joins the receiver of this number; `None` where it is not here.
+    pub fn leave(&mut self, number: usize) -> Option<()>
+        ensures left { MatchOption result (self.new.receivers.items ≡ self.old.receivers.items) (λ _. Leaves (crowd self.old.transmitter self.old.receivers.items) number (crowd self.new.transmitter self.new.receivers.items)) }
+        ensures gone { IfNone result (IsFree self.old.receivers.items number) }
+    {
+        join_receiver(
+            &self.board,
+            &mut self.transmitter,
+            &mut self.receivers,
+            number,
+        )
+    }
+
+    /// Joins all receivers, in rising order of their numbers. The transmitter has all shares then.
+    fn join_all(&mut self)
+        ensures { shares_of self.new.transmitter ≡ all_shares }
+    {
+        for index in 0..self.receivers.len() {
+            let _ = self.leave(index + 1);
+        }
+    }
+
+    /// Joins all receivers and closes the broadcast buffer.
+    pub fn close(mut self) {
+        self.join_all();
+        let LooseBoard {
+            board,
+            transmitter,
+            ..
+        } = self;
+        let _ = board.close(transmitter);
+    }
+}

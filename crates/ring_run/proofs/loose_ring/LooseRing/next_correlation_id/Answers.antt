@@ -1,7 +1,0 @@
-use Rattle.std.proofs.Common.{refl}
-use Rattle.ring_run.proofs.LooseLemmas.{same_seats}
-use Rattle.ring_run.proofs.TryLemmas.{keeps_as}
-use Rattle.ring_run.proofs.loose_ring.LooseRing.next_correlation_id.Goals as goal
-
-pub invariant_of-self : goal.invariant_of-self
-invariant_of-self c = same_seats _ _ _ _ _ c.self.invariant c.next_correlation_id.ensures.producer (keeps_as _ _ _ c.next_correlation_id.ensures.draws.view refl refl)

@@ -1,0 +1,2 @@
+mod RequestLemmas
+mod ServiceLemmas

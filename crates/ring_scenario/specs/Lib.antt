@@ -1,0 +1,5 @@
+pub mod Faults
+pub mod Instructions
+pub mod Serving
+pub mod Sizes
+pub mod Watchers

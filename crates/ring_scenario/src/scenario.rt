@@ -1,0 +1,140 @@
+//! Runs a scenario.
+ghost use Rattle.std.specs.Prelude.{◌≡◌, ◌≤◌, length, Some, IfSome, OnOk, IfErr};
+ghost use Rattle.ring_scenario.specs.Faults.{IsEarly};
+ghost use Rattle.ring_scenario.specs.Sizes.{size_fault_of};
+ghost use Rattle.ring_lines.specs.Text.{lines_of, AllBlank, IsEnded, TakesEnd};
+
+use crate::fault::RunFault;
+use crate::input::read_input;
+use crate::options::Options;
+use crate::runner::{Ended, Runner};
+use crate::service::Served;
+use ring_lines::{Line, Lines, MAX_INPUT};
+use std::alloc::Global;
+use std::io::{Read, Write};
+use std::sync::Wait;
+use std::thread::Threads;
+
+/// Reads a scenario whole, executes its lines in order, and writes what each of them gives.
+pub fn run_scenario<R: AllocGlobal + Threads + Wait, I: Read, O: Write>(
+    rt: &R,
+    alloc: Global,
+    options: &Options,
+    reader: &mut I,
+    writer: &mut O,
+) -> Result<(), RunFault>
+    // The last line that is no blank one is `end`.
+    ensures ended { OnOk result (IfSome (I.remaining reader.old) IsEnded) }
+
+    // An option that does not do is found before anything is read, and nothing else is called so.
+    ensures sizes { IfSome (size_fault_of options.now) (λ fault. (result ≡ Err fault) × (reader.new ≡ reader.old)) }
+    ensures capacity { result ≡ Err RunFault.BadCapacity → size_fault_of options.now ≡ Some RunFault.BadCapacity }
+    ensures count { result ≡ Err RunFault.BadCount → size_fault_of options.now ≡ Some RunFault.BadCount }
+
+    // Nothing is written before the input was read.
+    ensures silent { IfErr result (λ fault. IsEarly fault → writer.new ≡ writer.old) }
+{
+    options.test()?;
+    let runner = Runner::new(alloc, options)?;
+    let input = read_input(alloc, reader)?;
+    run_text(rt, alloc, runner, input.as_slice(), writer)
+}
+
+/// Executes the lines of a text in order, closes what the runner holds, and tells how it ended.
+fn run_text<R: Threads + Wait, O: Write>(
+    rt: &R,
+    alloc: Global,
+    mut runner: Runner,
+    text: &[u8],
+    writer: &mut O,
+) -> Result<(), RunFault>
+    requires { length text.now ≤ MAX_INPUT }
+    ensures ended { OnOk result (IsEnded text.now) }
+    ensures late { IfErr result (λ fault. ¬ IsEarly fault) }
+{
+    let mut lines = Lines::of(text);
+    let outcome = run_to_end(rt, alloc, &mut runner, &mut lines, writer);
+    let ended = runner.close();
+    outcome?;
+    write_end(alloc, ended, writer)?;
+    rest_is_blank(alloc, &mut lines)
+}
+
+/// Executes the lines before the line `end`, and takes that line.
+fn run_to_end<R: Threads + Wait, O: Write>(
+    rt: &R,
+    alloc: Global,
+    runner: &mut Runner,
+    lines: &mut Lines,
+    writer: &mut O,
+) -> Result<(), RunFault>
+    ensures end { OnOk result (TakesEnd lines.old.rest.now lines.new.rest.now) }
+    ensures late { IfErr result (λ fault. ¬ IsEarly fault) }
+{
+    while let Some(text) = lines.next_line() {
+        let number = lines.taken();
+        match Line::parse(alloc, text).map_err(|fault| RunFault::at_line(fault, number))? {
+            Line::Nothing => {}
+            Line::Call(call) => {
+                let output = runner
+                    .execute(rt, call)
+                    .map_err(|fault| RunFault::at_line(fault, number))?;
+                write_text(writer, output.as_str())?;
+            }
+            Line::End => return Ok(()),
+        }
+    }
+    Err(RunFault::BadLine {
+        line: lines.taken() + 1,
+    })
+}
+
+/// Tests that the lines behind `end` have no words but comments.
+fn rest_is_blank(alloc: Global, lines: &mut Lines) -> Result<(), RunFault>
+    ensures blank { OnOk result (AllBlank (lines_of lines.old.rest.now)) }
+    ensures late { IfErr result (λ fault. ¬ IsEarly fault) }
+{
+    while let Some(text) = lines.next_line() {
+        let number = lines.taken();
+        match Line::parse(alloc, text).map_err(|fault| RunFault::at_line(fault, number))? {
+            Line::Nothing => {}
+            Line::Call(_) | Line::End => return Err(RunFault::BadLine { line: number }),
+        }
+    }
+    Ok(())
+}
+
+/// Writes what `end` tells: a line, and one more where a conductor finished.
+fn write_end<O: Write>(alloc: Global, ended: Ended, writer: &mut O) -> Result<(), RunFault>
+    ensures late { IfErr result (λ fault. ¬ IsEarly fault) }
+{
+    let text = format!(in alloc; "end messages {} left {}\n", ended.messages, ended.left)?;
+    write_text(writer, text.as_str())?;
+    match ended.served {
+        Some(served) => write_finished(alloc, &served, writer),
+        None => Ok(()),
+    }
+}
+
+fn write_finished<O: Write>(alloc: Global, served: &Served, writer: &mut O) -> Result<(), RunFault>
+    ensures late { IfErr result (λ fault. ¬ IsEarly fault) }
+{
+    let Ok(live) = served.counters.live(alloc) else {
+        return Err(RunFault::OutOfMemory);
+    };
+    let text = format!(in alloc;
+        "finished received {} left {} live {}\n",
+        served.received,
+        served.left,
+        live.len()
+    )?;
+    write_text(writer, text.as_str())
+}
+
+fn write_text<O: Write>(writer: &mut O, text: &str) -> Result<(), RunFault>
+    ensures late { IfErr result (λ fault. ¬ IsEarly fault) }
+{
+    writer
+        .write_all(text.as_bytes())
+        .map_err(|_| RunFault::OutputUnwritten)
+}

@@ -1,0 +1,38 @@
+//! The conductor at work, and what its counters say.
+ghost use Rattle.std.specs.Prelude.{◌≡◌, IfOk};
+ghost use Rattle.ring_counters.specs.Infos.{AreInfos};
+ghost use Rattle.ring_counters.specs.Manager.{registry_of};
+ghost use Rattle.ring_counters.specs.Registry.{answer, counter_at, id_refusal_of, live_of};
+ghost use Rattle.ring_conductor.specs.Conducting.{Works, counters_of, ledger_of, ring_view};
+
+use super::CommandService;
+use ring_conductor::Work;
+use ring_counters::{CounterInfo, IdFault, OutOfMemory};
+use ring_lines::Moment;
+use std::alloc::Global;
+
+impl CommandService {
+    /// Lets the conductor take at most `limit` commands at a moment, as `Conductor::do_work` says.
+    pub fn work(&mut self, now: Moment, limit: u32) -> Work
+        ensures works { Works now.ms limit (ring_view self.old.conductor) (ring_view self.new.conductor) (ledger_of self.old.conductor) (ledger_of self.new.conductor) result }
+        ensures producer { self.new.producer ≡ self.old.producer }
+    {
+        self.conductor
+            .do_work(&self.ring, &self.board, &self.values, now.ms(), limit)
+    }
+
+    /// Lists the counters in use, by rising id. `OutOfMemory` where memory is wanting.
+    pub fn live(&self, alloc: Global) -> Result<Vec<CounterInfo>, OutOfMemory>
+        ensures { IfOk result (λ infos. AreInfos infos.items (live_of (registry_of (counters_of self.now.conductor)))) }
+    {
+        self.conductor.counters().live(alloc)
+    }
+
+    /// The owner of a counter in use, 0 for none. `BadId` where the id is not below the number of counters, `NotAllocated`
+    /// where no counter in use has it.
+    pub fn owner(&self, id: u32) -> Result<u64, IdFault>
+        ensures { result ≡ answer (id_refusal_of (registry_of (counters_of self.now.conductor)) id) (counter_at (registry_of (counters_of self.now.conductor)) id).values.owner }
+    {
+        self.conductor.counters().owner(id)
+    }
+}

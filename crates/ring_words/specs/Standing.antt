@@ -1,0 +1,23 @@
+-- What a read shows together with the positions before it and after it.
+use Rattle.std.specs.Prelude.{◌≡◌, ℕ, ◌≤◌, ◌<◌}
+use Rattle.ring_words.specs.declared.positions.Positions.{Positions}
+use Rattle.ring_words.specs.declared.read_end.ReadEnd.{ReadEnd}
+use Rattle.ring_words.specs.declared.read_end.Stop.{Stop}
+
+-- the read found no settled record at this head, which both positions have
+pub record StandsAt (before : Positions) (end : ReadEnd) (after : Positions) (head : ℕ) : Type 0 where
+  pub stopped : end.stopped ≡ Stop.Unpublished
+  pub stays : end.bytes ≡ 0
+  pub first : before.head ≡ head
+  pub last : after.head ≡ head
+
+-- and nothing is claimed behind it
+pub record IsEmpty (before : Positions) (end : ReadEnd) (after : Positions) : Type 0 where
+  pub stands : StandsAt before end after before.head
+  pub none : after.tail ≤ before.head
+
+-- and something was claimed behind it before the read, and is still
+pub record IsBlockedAt (before : Positions) (end : ReadEnd) (after : Positions) (head : ℕ) : Type 0 where
+  pub stands : StandsAt before end after head
+  pub claimed : head < before.tail
+  pub still : head < after.tail
