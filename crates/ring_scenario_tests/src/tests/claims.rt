@@ -3,7 +3,7 @@ use super::{Row, run};
 use ring_scenario::RunFault;
 
 /// What scripts print.
-const ROWS: [Row; 5] = [
+const ROWS: [Row; 9] = [
     Row {
         what: "shows no message behind an open claim",
         script: "claim 1 0\nclaim 2 0\ncommit 2\nread 9\ncommit 1\nread 9\nend\n",
@@ -90,21 +90,10 @@ ok
 end messages 0 left 2
 ",
     },
-];
-
-#[test]
-fn prints_what_is_wanted(rt: HostRuntime) {
-    for row in &ROWS {
-        assert!(rt; row.holds(&rt), "{}", row.what);
-    }
-}
-
-#[test]
-fn heeds_the_actions_of_a_controlled_read(rt: HostRuntime) {
-    let rows = [
-        Row {
-            script: "write 1 -\nwrite 2 -\nwrite 3 -\ncontrol 9 nca\nread 0\nread 9\nend\n",
-            wanted: "\
+    Row {
+        what: "aborts behind two messages, which a read shows again",
+        script: "write 1 -\nwrite 2 -\nwrite 3 -\ncontrol 9 nca\nread 0\nread 9\nend\n",
+        wanted: "\
 ok
 ok
 ok
@@ -117,10 +106,11 @@ message 3 -
 read 1 bytes 8 stopped unpublished
 end messages 3 left 0
 ",
-        },
-        Row {
-            script: "write 1 -\nwrite 2 -\ncontrol 9 ca\npositions\ncontrol 1 b\nread 0\nend\n",
-            wanted: "\
+    },
+    Row {
+        what: "commits and aborts, and then breaks",
+        script: "write 1 -\nwrite 2 -\ncontrol 9 ca\npositions\ncontrol 1 b\nread 0\nend\n",
+        wanted: "\
 ok
 ok
 message 1 -
@@ -132,10 +122,11 @@ read 1 bytes 8 stopped action
 read 0 bytes 0 stopped limit
 end messages 2 left 0
 ",
-        },
-        Row {
-            script: "claim 1 0\nabort 1\nwrite 2 -\ncontrol 9 a\nclaim 3 0\nend\n",
-            wanted: "\
+    },
+    Row {
+        what: "leaves the message behind an aborted claim",
+        script: "claim 1 0\nabort 1\nwrite 2 -\ncontrol 9 a\nclaim 3 0\nend\n",
+        wanted: "\
 claim 1 index 8
 ok
 ok
@@ -144,10 +135,11 @@ read 0 bytes 8 stopped action
 claim 2 index 24
 end messages 0 left 1
 ",
-        },
-        Row {
-            script: "write 1 -\nwrite 2 -\ncontrol 1 -\ncontrol 9 -\nend\n",
-            wanted: "\
+    },
+    Row {
+        what: "takes the limit and all messages without letters",
+        script: "write 1 -\nwrite 2 -\ncontrol 1 -\ncontrol 9 -\nend\n",
+        wanted: "\
 ok
 ok
 message 1 -
@@ -156,10 +148,13 @@ message 2 -
 read 1 bytes 8 stopped unpublished
 end messages 2 left 0
 ",
-        },
-    ];
-    for row in &rows {
-        assert!(rt; row.holds(&rt), "{}", row.script);
+    },
+];
+
+#[test]
+fn prints_what_is_wanted(rt: HostRuntime) {
+    for row in &ROWS {
+        assert!(rt; row.holds(&rt), "{}", row.what);
     }
 }
 

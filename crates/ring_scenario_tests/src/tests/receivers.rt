@@ -4,7 +4,7 @@ use ring_scenario::{Options, RunFault};
 use std::test::Fail;
 
 /// What scripts print.
-const ROWS: [Row; 5] = [
+const ROWS: [Row; 7] = [
     Row {
         what: "copies the record at its place",
         script: "\
@@ -147,20 +147,9 @@ read 1 bytes 8 stopped unpublished
 end messages 1 left 0
 ",
     },
-];
-
-#[test]
-fn prints_what_is_wanted(rt: HostRuntime) {
-    for row in &ROWS {
-        assert!(rt; row.holds(&rt), "{}", row.what);
-    }
-}
-
-#[test]
-fn goes_to_latest_after_a_lap(rt: HostRuntime) {
-    let rows = [
-        Row {
-            script: "\
+    Row {
+        what: "goes to the latest record after a lap",
+        script: "\
 subscribe
 transmit 1 000102030405060708090a0b0c0d0e0f000102030405060708090a0b0c0d0e0f
 transmit 1 000102030405060708090a0b0c0d0e0f000102030405060708090a0b0c0d0e0f
@@ -174,7 +163,7 @@ receive 1
 receive 1
 end
 ",
-            wanted: "\
+        wanted: "\
 receiver 1
 ok
 ok
@@ -188,9 +177,10 @@ copy 1 000102030405060708090a0b0c0d0e0f000102030405060708090a0b0c0d0e0f place 25
 none
 end messages 0 left 0
 ",
-        },
-        Row {
-            script: "\
+    },
+    Row {
+        what: "goes to the latest record behind padding after a lap",
+        script: "\
 subscribe
 transmit 1 000102030405060708090a0b0c0d0e0f0001020304050607
 transmit 1 000102030405060708090a0b0c0d0e0f0001020304050607
@@ -204,7 +194,7 @@ receive 1
 receive 1
 end
 ",
-            wanted: "\
+        wanted: "\
 receiver 1
 ok
 ok
@@ -218,10 +208,13 @@ lapped 1
 copy 1 000102030405060708090a0b0c0d0e0f0001020304050607 place 224
 end messages 0 left 0
 ",
-        },
-    ];
-    for row in &rows {
-        assert!(rt; row.holds(&rt), "{}", row.script);
+    },
+];
+
+#[test]
+fn prints_what_is_wanted(rt: HostRuntime) {
+    for row in &ROWS {
+        assert!(rt; row.holds(&rt), "{}", row.what);
     }
 }
 
