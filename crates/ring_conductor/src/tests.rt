@@ -1,4 +1,5 @@
 mod boards;
+mod clients;
 mod codec;
 mod commands;
 mod finishing;
