@@ -14,3 +14,4 @@ pub mod AccountLemmas
 pub mod SendingLemmas
 pub mod AskingLemmas
 pub mod StormLemmas
+pub mod WholeLemmas

@@ -15,3 +15,4 @@ pub mod Finishing
 pub mod Running
 pub mod Asking
 pub mod Storming
+pub mod Whole

@@ -4,6 +4,7 @@
 //! - `Client`, `Request`: the client's side, which sends commands and hears replies.
 //! - `Conductor`: takes a ring's consumer, a board's transmitter and counters, and works.
 //! - `finish`: closes ring and board, and hands out all that is left. Its contract is the headline.
+//! - `whole_run`: one run of all of that, to be read.
 //! - `storm`: clients on threads of their own, against one conductor.
 //! - the laws: what holds of the protocol and of the fold of commands.
 #![tactic(auto)]
@@ -26,6 +27,7 @@ mod request;
 mod running;
 mod serving;
 mod storming;
+mod whole;
 mod working;
 
 pub use client::{Client, Polled, SendFault};
@@ -46,6 +48,7 @@ pub use replies::encode::encode_reply;
 pub use replies::{LONGEST_REPLY, Reply, type_ids as reply_type_ids};
 pub use request::Request;
 pub use storming::{Gate, OpenGate, StormFault, StormPlan, StormReport, storm};
+pub use whole::whole_run;
 
 #[cfg(test)]
 mod tests;

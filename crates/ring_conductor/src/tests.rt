@@ -1,9 +1,12 @@
+mod board_ends;
 mod boards;
 mod clients;
 mod codec;
 mod commands;
 mod finishing;
+mod gates;
 mod heartbeats;
 mod protocol;
 mod sending;
 mod storms;
+mod whole;
