@@ -39,11 +39,11 @@ entered_once l now m =
     let record_of : Record = next_record l.board.capacity l.board.at (type_id_of o.reply) (spelling_of o.reply) in
     ap (λ (ms : List Message). let a : Account = record { registry = o.registry; writes = l.writes ++ o.writes; replies = ms } in a) (messages_in-append l.board.sent (record_of ∷ []))
 
-same_fold : (l : Ledger) (ps : List (ℕ × Message)) → account_in (fold_of l ps) ≡ account_of (account_in l) ps
+pub same_fold : (l : Ledger) (ps : List (ℕ × Message)) → account_in (fold_of l ps) ≡ account_of (account_in l) ps
 same_fold l [] = refl
 same_fold l (p ∷ ps) = same_fold (served l p.0 p.1) ps ∙ ap (λ (a : Account). account_of a ps) (entered_once l p.0 p.1)
 
-account_of-append : (a : Account) (ps qs : List (ℕ × Message)) → account_of a (ps ++ qs) ≡ account_of (account_of a ps) qs
+pub account_of-append : (a : Account) (ps qs : List (ℕ × Message)) → account_of a (ps ++ qs) ≡ account_of (account_of a ps) qs
 account_of-append a [] qs = refl
 account_of-append a (p ∷ ps) qs = account_of-append (entered a p.0 p.1) ps qs
 

@@ -12,4 +12,6 @@ pub mod RunLemmas
 pub mod SizeLemmas
 pub mod AccountLemmas
 pub mod SendingLemmas
+pub mod AskingLemmas
 pub mod StormLemmas
+pub mod WholeLemmas

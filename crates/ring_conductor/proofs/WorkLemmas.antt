@@ -64,6 +64,7 @@ module _ (limit : ℕ) (v w : View) (s t : Serving) (end : ReadEnd) (done : Work
         moves = on.reads.moves;
         tight = λ e. on.reads.tight (sym r.messages ∙ e);
         folded = f.1;
+        had_room = f.2;
         stops = inl (record {
           bytes = end.bytes;
           moved = r.bytes;
@@ -84,11 +85,13 @@ module _ (limit : ℕ) (v w : View) (s t : Serving) (end : ReadEnd) (done : Work
         moves = off.reads.moves;
         tight = λ e. off.reads.tight (sym r.messages ∙ e);
         folded = f.1;
+        had_room = f.2;
         stops = inr (record {
           stopped = r.stopped ∙ ap work_stop off.stopped;
           command = off.message;
           next = off.next;
           before_limit = subst (λ n. n < limit) (sym r.messages) off.before_limit;
+          before_end = off.before_end;
           full = subst (λ l. IsAtEnd l.board) (sym a.1) a.2;
         });
         blocked = λ e. r.blocked (is_unpublished end.stopped (sym r.stopped ∙ e));

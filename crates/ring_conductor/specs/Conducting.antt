@@ -1,5 +1,5 @@
 -- What clauses say of a conductor and its work.
-use Rattle.std.specs.Prelude.{◌≡◌, ◌⊎◌, ℕ, ◌+◌, ◌<◌, ◌≤◌, List, [], ◌++◌, length}
+use Rattle.std.specs.Prelude.{◌≡◌, ◌≢◌, ◌⊎◌, ℕ, ◌+◌, ◌%◌, ◌<◌, ◌≤◌, List, [], ◌++◌, length}
 use Rattle.ring_words.specs.declared.read_end.Stop.{Stop}
 use Rattle.ring_words.specs.declared.read_end.Stop.TheVariants.{Limit, Block, Unpublished, Action}
 use Rattle.ring_words.specs.Read.{stop_of}
@@ -23,7 +23,7 @@ use Rattle.ring_conductor.specs.declared.conductor.Work.{Work}
 use Rattle.ring_conductor.specs.declared.conductor.WorkStop.{WorkStop}
 use Rattle.ring_conductor.specs.declared.conductor.WorkStop.TheVariants as work
 use Rattle.ring_conductor.specs.Fold.{Ledger, fold_of, at_moment}
-use Rattle.ring_conductor.specs.Serving.{IsAtEnd}
+use Rattle.ring_conductor.specs.Serving.{HaveRoom, IsAtEnd}
 
 -- what the conductor knows of its ring
 abbrev pub ring_view : Conductor → View
@@ -95,10 +95,11 @@ pub record IsCutOff (limit : ℕ) (v w : View) (board : BoardView) (done : Work)
   pub command : Message
   pub next : IsNext v w command
   pub before_limit : done.messages < limit
+  pub before_end : v.consumer.head < w.consumer.head → w.consumer.head % w.capacity ≢ 0
   pub full : IsAtEnd board
 
 -- messages were taken at a moment, and counters, value writes and replies are their fold: v and l are what the conductor
--- knew of the ring, and its ledger, w and k the same afterwards
+-- knew of the ring, and its ledger, w and k the same afterwards. Each was taken where a reply of 12 bytes had room
 pub record Works (now limit : ℕ) (v w : View) (l k : Ledger) (done : Work) : Type 0 where
   pub messages : List PlacedMessage
   pub counted : done.messages ≡ length messages
@@ -107,5 +108,6 @@ pub record Works (now limit : ℕ) (v w : View) (l k : Ledger) (done : Work) : T
   pub moves : MovesHead v w
   pub tight : done.messages ≡ limit → IsTight v.consumer.head messages w.consumer.head
   pub folded : k ≡ fold_of l (at_moment now (messages_of messages))
+  pub had_room : HaveRoom now l (messages_of messages)
   pub stops : IsReadOut limit v w done ⊎ IsCutOff limit v w k.board done
   pub blocked : done.stopped ≡ work.Unpublished → IsBlocked v w

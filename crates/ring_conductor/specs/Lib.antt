@@ -13,4 +13,6 @@ pub mod Serving
 pub mod Conducting
 pub mod Finishing
 pub mod Running
+pub mod Asking
 pub mod Storming
+pub mod Whole

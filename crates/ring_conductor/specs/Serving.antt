@@ -1,5 +1,5 @@
 -- What the conductor does with a message.
-use Rattle.std.specs.Prelude.{◌≡◌, ◌<◌, ◌≤◌, ◌^◌}
+use Rattle.std.specs.Prelude.{◌≡◌, ℕ, ◌<◌, ◌≤◌, ◌^◌, List, [], ◌∷◌}
 use Rattle.ring_words.specs.declared.action.Action.{Action}
 use Rattle.ring_words.specs.declared.action.Action.TheVariants.{Abort, Break, Commit, Continue}
 use Rattle.ring_layout.specs.declared.message.Message.{Message}
@@ -14,6 +14,11 @@ use Rattle.ring_board.specs.declared.view.View.{View}
 -- a reply of 12 bytes would end above the greatest position
 abbrev pub IsAtEnd : View → Type 0
 IsAtEnd v = max_position < end_after v.capacity v.at (span 12)
+
+-- at each of these messages, served one after another at a moment, a reply of 12 bytes had room
+abbrev pub HaveRoom : ℕ → Ledger → List Message → Type 0
+HaveRoom now l [] = Unit {0}
+HaveRoom now l (m ∷ ms) = (IsAtEnd l.board → ⊥) × HaveRoom now (served l now m) ms
 
 abbrev pub ledger_of : Serving → Ledger
 ledger_of s = record { registry = registry_of s.counters.now; writes = writes_of s.counters.now; board = view_of s.transmitter.now }
@@ -33,9 +38,9 @@ pub record IsSameHandler (s t : Serving) : Type 0 where
   pub transmitter : t.transmitter.ghost_name ≡ s.transmitter.ghost_name
   pub value_shares : shares_of t.counters.now ≡ shares_of s.counters.now
 
--- a message is served; or the board is at its end, and nothing is done
+-- a message is served, where a reply of 12 bytes has room on the board; where none has, nothing is done
 abbrev pub Serves : Serving → Message → Serving → Action → Type 0
 Serves s m t Abort = IsSameHandler s t × (ledger_of t ≡ ledger_of s) × IsAtEnd (ledger_of s).board
 Serves s m t Break = ⊥
 Serves s m t Commit = ⊥
-Serves s m t Continue = IsSameHandler s t × (ledger_of t ≡ served (ledger_of s) s.now m)
+Serves s m t Continue = IsSameHandler s t × (ledger_of t ≡ served (ledger_of s) s.now m) × (IsAtEnd (ledger_of s).board → ⊥)

@@ -15,9 +15,10 @@ use Rattle.ring_counters.specs.Registry.{Registry, fresh_registry, live_of}
 use Rattle.ring_conductor.specs.declared.conductor.Conductor.{Conductor}
 use Rattle.ring_conductor.specs.declared.storming.plan.StormPlan.{StormPlan}
 use Rattle.ring_conductor.specs.declared.storming.plan.StormReport.{StormReport}
-use Rattle.ring_conductor.specs.declared.storming.seats.Client.{Client}
+use Rattle.ring_conductor.specs.declared.storming.seats.StormClient.{StormClient}
 use Rattle.ring_conductor.specs.declared.storming.seats.Hub.{Hub}
 use Rattle.ring_conductor.specs.Applied.{applied}
+use Rattle.ring_conductor.specs.Asking.{producer_of, receiver_of}
 use Rattle.ring_conductor.specs.Conducting.{IsConductorOf, counters_of, received_of, transmitter_of}
 
 -- The plan ---------------------------------------------------------------------
@@ -73,8 +74,8 @@ abbrev pub sent_by : Producer → ℕ
 sent_by p = length (claims_of p)
 
 -- a client at its seats
-abbrev pub IsClientOf : {K : Type 0} → Ring K → Board → Client → Type 0
-IsClientOf ring board c = IsClientSeat ring c.producer × IsReceiverOf board c.receiver
+abbrev pub IsClientOf : {K : Type 0} → Ring K → Board → StormClient → Type 0
+IsClientOf ring board c = IsClientSeat ring (producer_of c.client) × IsReceiverOf board (receiver_of c.client)
 
 -- how many commands the conductor took
 abbrev pub taken_by : Conductor → ℕ

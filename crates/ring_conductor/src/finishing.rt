@@ -74,27 +74,31 @@ pub fn finish<R: CommandSource>(
 ) -> Result<Finished, FinishRefused<R>>
     requires conductor { IsConductorOf R.is_consumer ring board values conductor }
     requires producer { R.is_producer ring producer }
+
+    // Once the producers have returned. Else all comes back as it was.
     ensures refused { IsRefusedAs (handed_back ring board values conductor producer) (finish_refusal_of (open_claims_of producer) (shares_of producer) (board_shares_of (transmitter_of conductor))) result }
     ensures same { IfErr result (λ r. (r.ring ≡ ring) × (r.board ≡ board) × (r.values ≡ values) × (r.conductor ≡ conductor) × (r.producer ≡ producer)) }
-    ensures back { IfErr result (λ r. IsConductorOf R.is_consumer r.ring r.board r.values r.conductor × R.is_producer r.ring r.producer) }
+    ensures returned { IfErr result (λ r. IsConductorOf R.is_consumer r.ring r.board r.values r.conductor × R.is_producer r.ring r.producer) }
 
-    // The claims lie one behind the other from the ring's start on, so that their places rise and none occurs twice.
+    // The claims, in tail-exchange order: one behind the other from the ring's start on, so that none occurs twice.
     ensures ordered { IfOk result (λ _. AreOrdered (R.bytes ring) (R.start ring) (claims_of producer)) }
 
     // What was received, followed by what still lies in the ring, is the committed records, each whole and once.
     ensures whole { IfOk result (λ f. IsWhole (claims_of producer) (received_of conductor) f.rest) }
-    ensures rest { IfOk result (λ f. HandsOut (R.bytes ring) (R.start ring) (view_of producer) (ring_view conductor) f.rest) }
-    ensures service { IfOk result (λ f. Serves (R.bytes ring) (view_of producer) (ring_view conductor) f.rest) }
-    ensures board { IfOk result (λ f. (closed_capacity f.board ≡ board_capacity_of board) × IsClosed (board_capacity_of board) (start_of board) (transmitted (transmitter_of conductor)) (closed_words f.board)) }
-    ensures values { IfOk result (λ f. f.values ≡ values) }
+    ensures left { IfOk result (λ f. HandsOut (R.bytes ring) (R.start ring) (view_of producer) (ring_view conductor) f.rest) }
+
+    // Each receiver's validated copies are rising contiguous runs of the transmitted list, broken only where its count rose.
+    ensures runs { IfOk result (λ _. AreAllRuns (transmitted (transmitter_of conductor)) (heard_by (transmitter_of conductor))) }
+
+    // The counters and the transmitted replies are the fold of the commands received, each applied at a moment.
+    ensures folded { IfOk result (λ f. ∥ IsFoldOf (messages_of (received_of conductor)) (registry_of f.counters) (writes_of f.counters) (messages_in (transmitted (transmitter_of conductor))) ∥₁) }
     ensures counters { IfOk result (λ f. f.counters ≡ counters_of conductor) }
+    ensures replies { IfOk result (λ f. (closed_capacity f.board ≡ board_capacity_of board) × IsClosed (board_capacity_of board) (start_of board) (transmitted (transmitter_of conductor)) (closed_words f.board)) }
     ensures received { IfOk result (λ f. f.received ≡ length (received_of conductor)) }
 
-    // The messages received, each at a moment, make of fresh counters these counters, all value writes and the replies.
-    ensures folded { IfOk result (λ f. ∥ IsFoldOf (messages_of (received_of conductor)) (registry_of f.counters) (writes_of f.counters) (messages_in (transmitted (transmitter_of conductor))) ∥₁) }
-
-    // What each receiver copied that was joined are runs of all replies.
-    ensures runs { IfOk result (λ _. AreAllRuns (transmitted (transmitter_of conductor)) (heard_by (transmitter_of conductor))) }
+    // The values are handed on, and the words of ids and heartbeat are those that were drawn and stored.
+    ensures values { IfOk result (λ f. f.values ≡ values) }
+    ensures services { IfOk result (λ f. Serves (R.bytes ring) (view_of producer) (ring_view conductor) f.rest) }
 {
     if let Err(reason) = test_finish(&conductor, &producer) {
         return Err(FinishRefused {

@@ -52,7 +52,8 @@ impl Conductor {
     /// and at most 2^62, and gets exactly one reply, which carries its correlation id. No memory is taken.
     ///
     /// It stops as a controlled read of the ring does, or with `BoardEnd` where a reply of 12 bytes would end above 2^62
-    /// on the board. The command stays in the ring then, not applied.
+    /// on the board. The command stays in the ring then, not applied, also where its own reply would be shorter and would
+    /// fit. `Block` with no message does not say that the ring is empty: the next call goes on behind the end of the buffer.
     pub fn do_work<R: CommandSource>(
         &mut self,
         ring: &R,

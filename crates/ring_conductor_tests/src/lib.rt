@@ -21,3 +21,11 @@ mod protocol;
 mod sending;
 #[cfg(test)]
 mod storms;
+#[cfg(test)]
+mod board_ends;
+#[cfg(test)]
+mod clients;
+#[cfg(test)]
+mod gates;
+#[cfg(test)]
+mod whole;

@@ -1,34 +1,20 @@
 //! What a client does.
-ghost use Rattle.std.specs.Prelude.{◌≡◌, ◌+◌, ◌≤◌, if◌then◌else◌, IfSome};
+ghost use Rattle.std.specs.Prelude.{◌≡◌, ◌+◌, ◌≤◌, if◌then◌else◌};
 ghost use Rattle.ring_board.specs.Seats.{IsReceiverOf};
+ghost use Rattle.ring_conductor.specs.Asking.{producer_of, receiver_of};
 ghost use Rattle.ring_conductor.specs.Storming.{IsClientOf, IsClientSeat, sent_by};
 
-use crate::commands::Command;
-use crate::commands::encode::encode_command;
+use crate::client::{Client, Polled};
 use crate::replies::Reply;
-use crate::replies::decode::decode_reply;
+use crate::request::Request;
 use crate::storming::gate::Gate;
-use crate::storming::seats::Client;
+use crate::storming::seats::StormClient;
 use crate::storming::shared::Shared;
 use crossbeam_utils::Backoff;
-use ring_board::{Board, CopyReceiver};
-use ring_rings::{ManyToOneRing, Producer};
+use ring_rings::ManyToOneRing;
 
 /// The type of the clients' counters.
 const COUNTER_TYPE: i32 = 1;
-
-/// The most bytes of a client's command. The least ring takes a message that long.
-const LONGEST: usize = 32;
-
-/// The correlation id of a reply.
-fn correlation_of(reply: Reply) -> u64 {
-    match reply {
-        Reply::Allocated { correlation, .. } => correlation,
-        Reply::Done { correlation } => correlation,
-        Reply::Refused { correlation, .. } => correlation,
-        Reply::Closed { correlation, .. } => correlation,
-    }
-}
 
 /// The label of a client's counter, and how long it is: `c` and the client's number, which is below 100.
 pub(crate) fn label_of(client: u32) -> ([u8; 3], usize)
@@ -43,65 +29,36 @@ pub(crate) fn label_of(client: u32) -> ([u8; 3], usize)
     }
 }
 
-/// Writes the client's command with this number into the buffer, and says how long it is and what type id it has. The first
-/// one allocates a counter with the client's label, each further one sets it to the command's number.
-fn spell(
-    client: &Client,
-    number: u32,
-    correlation: u64,
-    buffer: &mut [u8; LONGEST],
-) -> Option<(i32, usize)>
-    ensures { IfSome result (λ spelled. spelled.1 ≤ 32) }
-{
-    let (label, label_len) = label_of(client.index);
-    let command = if number == 1 {
-        Command::Allocate {
-            correlation,
+/// What a client asks by its command with this number: the first one allocates a counter with the label, each further one
+/// sets that counter to the command's number.
+fn request_of(label: &[u8], counter: u32, number: u32) -> Request<'_> {
+    if number == 1 {
+        Request::Allocate {
             type_id: COUNTER_TYPE,
             key: &[],
-            label: &label[..label_len],
+            label,
         }
     } else {
-        Command::Set {
-            correlation,
-            id: client.counter,
+        Request::Set {
+            id: counter,
             value: i64::from(number),
         }
-    };
-    let len = encode_command(&command, buffer.as_mut_slice())?;
-    Some((command.type_id(), len))
-}
-
-/// One try to write a message. It is refused as long as the ring is full, or where another client was faster.
-fn try_write(ring: &ManyToOneRing, producer: &mut Producer, type_id: i32, body: &[u8]) -> bool
-    requires { IsClientSeat ring.now producer.old }
-    ensures seat { IsClientSeat ring.now producer.new }
-    ensures sent { sent_by producer.new ≡ sent_by producer.old + (if result then 1 else 0) }
-{
-    ring.write_once(producer, type_id, body).is_ok()
-}
-
-/// What comes next on the board, for one who waits for the reply to a command.
-enum Heard {
-    Nothing,
-    /// The reply to another command.
-    Another,
-    Awaited(Reply),
-}
-
-/// Takes what comes next on the board, for one who waits for the reply to the command with this correlation id.
-fn try_hear(board: &Board, receiver: &mut CopyReceiver, correlation: u64) -> Heard
-    requires { IsReceiverOf board.now receiver.old }
-    ensures { IsReceiverOf board.now receiver.new }
-{
-    match receiver.receive(board) {
-        Ok(Some(copied)) => match decode_reply(copied.type_id, copied.body) {
-            Ok(reply) if correlation_of(reply) == correlation => Heard::Awaited(reply),
-            _ => Heard::Another,
-        },
-        Ok(None) => Heard::Nothing,
-        Err(_lapped) => Heard::Nothing,
     }
+}
+
+/// One try to send a command. It is refused as long as the ring is full, or where another client was faster.
+fn try_send(
+    ring: &ManyToOneRing,
+    client: &mut Client,
+    correlation: u64,
+    request: Request<'_>,
+) -> bool
+    requires { IsClientSeat ring.now (producer_of client.old) }
+    ensures seat { IsClientSeat ring.now (producer_of client.new) }
+    ensures sent { sent_by (producer_of client.new) ≡ sent_by (producer_of client.old) + (if result then 1 else 0) }
+    ensures receiver { receiver_of client.new ≡ receiver_of client.old }
+{
+    client.send_as(ring, correlation, request).is_ok()
 }
 
 impl<G: Gate> Shared<'_, G> {
@@ -120,62 +77,62 @@ impl<G: Gate> Shared<'_, G> {
         false
     }
 
-    /// Waits until the message is written.
-    fn send(&self, producer: &mut Producer, type_id: i32, body: &[u8]) -> bool
-        requires { IsClientSeat self.now.ring.now producer.old }
-        ensures seat { IsClientSeat self.now.ring.now producer.new }
-        ensures sent { sent_by producer.new ≤ sent_by producer.old + 1 }
+    /// Waits until the command with a correlation id is sent, which is answered.
+    fn send(&self, client: &mut Client, request: Request<'_>) -> Option<u64>
+        requires { IsClientSeat self.now.ring.now (producer_of client.old) }
+        ensures seat { IsClientSeat self.now.ring.now (producer_of client.new) }
+        ensures sent { sent_by (producer_of client.new) ≤ sent_by (producer_of client.old) + 1 }
+        ensures receiver { receiver_of client.new ≡ receiver_of client.old }
     {
+        let correlation = client.next_correlation_id(self.ring);
         let backoff = Backoff::new();
         for _ in 0..self.plan.turns {
             if self.is_stopped() {
-                return false;
+                return None;
             }
-            if try_write(self.ring, producer, type_id, body) {
-                return true;
+            if try_send(self.ring, client, correlation, request) {
+                return Some(correlation);
             }
             backoff.snooze();
         }
-        false
+        None
     }
 
     /// Waits for the reply to the command with this correlation id.
-    fn hear(&self, receiver: &mut CopyReceiver, correlation: u64) -> Option<Reply>
-        requires { IsReceiverOf self.now.board.now receiver.old }
-        ensures { IsReceiverOf self.now.board.now receiver.new }
+    fn hear(&self, client: &mut Client, correlation: u64) -> Option<Reply>
+        requires { IsReceiverOf self.now.board.now (receiver_of client.old) }
+        ensures receiver { IsReceiverOf self.now.board.now (receiver_of client.new) }
+        ensures producer { producer_of client.new ≡ producer_of client.old }
     {
         let backoff = Backoff::new();
         for _ in 0..self.plan.turns {
             if self.is_stopped() {
                 return None;
             }
-            match try_hear(self.board, receiver, correlation) {
-                Heard::Awaited(reply) => return Some(reply),
+            match client.poll(self.board, correlation) {
+                Polled::Answered(reply) => return Some(reply),
                 // More may lie behind it already.
-                Heard::Another => backoff.reset(),
-                Heard::Nothing => backoff.snooze(),
+                Polled::Another(_) | Polled::NoReply => backoff.reset(),
+                Polled::Nothing | Polled::Lapped(_) => backoff.snooze(),
             }
         }
         None
     }
 
     /// Sends one command and waits for its reply. `None` where a wait came to its end.
-    fn command(&self, client: &mut Client, number: u32) -> Option<()>
+    fn command(&self, client: &mut StormClient, number: u32) -> Option<()>
         requires { IsClientOf self.now.ring.now self.now.board.now client.old }
         ensures client { IsClientOf self.now.ring.now self.now.board.now client.new }
-        ensures sent { sent_by client.new.producer ≤ sent_by client.old.producer + 1 }
+        ensures sent { sent_by (producer_of client.new.client) ≤ sent_by (producer_of client.old.client) + 1 }
         ensures seen { client.new.seen ≡ client.old.seen }
     {
         if !self.wait_for_gate(client.index, number) {
             return None;
         }
-        let correlation = self.ring.next_correlation_id(&mut client.producer);
-        let mut buffer = [0; LONGEST];
-        let (type_id, len) = spell(client, number, correlation, &mut buffer)?;
-        if !self.send(&mut client.producer, type_id, &buffer[..len]) {
-            return None;
-        }
-        if let Reply::Allocated { id, .. } = self.hear(&mut client.receiver, correlation)? {
+        let (label, label_len) = label_of(client.index);
+        let request = request_of(&label[..label_len], client.counter, number);
+        let correlation = self.send(&mut client.client, request)?;
+        if let Reply::Allocated { id, .. } = self.hear(&mut client.client, correlation)? {
             client.counter = id;
         }
         self.gate.answered(client.index, number);
@@ -183,11 +140,11 @@ impl<G: Gate> Shared<'_, G> {
     }
 
     /// Runs a client to its end. Where it gives up, all others are told to end.
-    pub(crate) fn run_client(&self, mut client: Client) -> Client
+    pub(crate) fn run_client(&self, mut client: StormClient) -> StormClient
         requires client { IsClientOf self.now.ring.now self.now.board.now client }
-        requires new { (sent_by client.producer ≡ 0) × (client.seen ≡ 0) }
+        requires new { (sent_by (producer_of client.client) ≡ 0) × (client.seen ≡ 0) }
         ensures client { IsClientOf self.now.ring.now self.now.board.now result }
-        ensures sent { sent_by result.producer ≤ self.now.plan.commands }
+        ensures sent { sent_by (producer_of result.client) ≤ self.now.plan.commands }
         ensures seen { result.seen ≤ self.now.plan.commands }
     {
         for number in 1..=self.plan.commands {

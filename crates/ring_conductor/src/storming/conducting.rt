@@ -4,7 +4,7 @@ ghost use Rattle.ring_rings.specs.Seats.{IsConsumerOf};
 ghost use Rattle.ring_conductor.specs.Conducting.{IsConductorOf};
 ghost use Rattle.ring_conductor.specs.Storming.{HasCounters, IsPlan, all_commands, board_shares_of, taken_by};
 
-use crate::conductor::Conductor;
+use crate::conductor::{Conductor, WorkStop};
 use crate::storming::shared::Shared;
 use crossbeam_utils::Backoff;
 
@@ -35,7 +35,10 @@ impl<G> Shared<'_, G> {
             if work.messages > 0 {
                 return work.messages;
             }
-            backoff.snooze();
+            // At the end of the buffer the next commands lie behind it.
+            if work.stopped != WorkStop::Block {
+                backoff.snooze();
+            }
         }
         0
     }

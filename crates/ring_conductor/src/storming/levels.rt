@@ -3,12 +3,13 @@ ghost use Rattle.std.specs.Prelude.{◌≡◌, ◌+◌, ◌*◌, ◌<◌, ◌≤
 ghost use Rattle.ring_conductor.specs.declared.storming.seats.Failure.TheVariants.{OutOfMemory};
 ghost use Rattle.ring_rings.specs.Seats.{open_claims_of, shares_of, IsConsumerOf};
 ghost use Rattle.ring_conductor.specs.Conducting.{IsConductorOf};
+ghost use Rattle.ring_conductor.specs.Asking.{producer_of};
 ghost use Rattle.ring_conductor.specs.Storming.{HasCounters, IsClientOf, IsHubOf, IsPlan, all_commands, board_shares_of, sent_by, taken_by};
 
 use crate::storming::conducting::ConductorEnd;
 use crate::storming::gate::Gate;
 use crate::storming::promises::{ClientBack, ConductorBack};
-use crate::storming::seats::{Client, Failure, Hub, LevelEnd};
+use crate::storming::seats::{Failure, Hub, LevelEnd, StormClient};
 use crate::storming::shared::Shared;
 use core::thread::Stack;
 use std::alloc::Global;
@@ -163,11 +164,11 @@ pub(crate) fn level<'s, E, R: Threads, G: Gate + Sync>(
     let started = stack_of(index, refused).spawn_scoped_with(
         scope,
         ClientBack { ring, board, plan },
-        move || -> Client
+        move || -> StormClient
             requires client { IsClientOf ring.now board.now client }
-            requires new { (sent_by client.producer ≡ 0) × (client.seen ≡ 0) }
+            requires new { (sent_by (producer_of client.client) ≡ 0) × (client.seen ≡ 0) }
             ensures client { IsClientOf ring.entry.now board.entry.now result }
-            ensures sent { sent_by result.producer ≤ plan.commands }
+            ensures sent { sent_by (producer_of result.client) ≤ plan.commands }
             ensures seen { result.seen ≤ plan.commands }
         {
             let shared = Shared {
@@ -198,11 +199,11 @@ pub(crate) fn level<'s, E, R: Threads, G: Gate + Sync>(
 }
 
 /// Takes a client's seats back. It has spent its turns if a reply is wanting.
-fn gather<G>(shared: Shared<'_, G>, index: u32, end: LevelEnd, client: Client) -> LevelEnd
+fn gather<G>(shared: Shared<'_, G>, index: u32, end: LevelEnd, client: StormClient) -> LevelEnd
     requires plan { IsPlan shared.plan × (index < 64) }
     requires hub { IsHubOf shared.plan shared.ring.now shared.board.now shared.values.now end.hub }
     requires client { IsClientOf shared.ring.now shared.board.now client }
-    requires sent { sent_by client.producer ≤ shared.plan.commands }
+    requires sent { sent_by (producer_of client.client) ≤ shared.plan.commands }
     requires seen { (client.seen ≤ shared.plan.commands) × (end.seen ≤ index * shared.plan.commands) }
     requires done { (end.failure ≡ None) → (all_commands shared.plan ≤ taken_by end.hub.conductor) × (end.seen ≡ index * shared.plan.commands) }
     ensures hub { IsHubOf shared.entry.plan shared.entry.ring.now shared.entry.board.now shared.entry.values.now result.hub }

@@ -2,11 +2,12 @@
 ghost use Rattle.std.specs.Prelude.{◌≡◌, ◌≤◌, IsTrue};
 ghost use Rattle.ring_rings.specs.Seats.{IsConsumerOf};
 ghost use Rattle.ring_conductor.specs.Conducting.{IsConductorOf};
+ghost use Rattle.ring_conductor.specs.Asking.{producer_of};
 ghost use Rattle.ring_conductor.specs.Storming.{HasCounters, IsClientOf, all_commands, board_shares_of, sent_by, taken_by};
 
 use crate::storming::conducting::ConductorEnd;
 use crate::storming::plan::StormPlan;
-use crate::storming::seats::Client;
+use crate::storming::seats::StormClient;
 use ring_board::Board;
 use ring_counters::CounterValues;
 use ring_rings::ManyToOneRing;
@@ -20,8 +21,8 @@ pub(crate) struct ClientBack<'a> {
     pub(crate) plan: StormPlan,
 }
 
-impl<'a> Promise<Client> for ClientBack<'a> {
-    ghost kept_by = { λ p r. IsClientOf p.ring.now p.board.now r × (sent_by r.producer ≤ p.plan.commands) × (r.seen ≤ p.plan.commands) };
+impl<'a> Promise<StormClient> for ClientBack<'a> {
+    ghost kept_by = { λ p r. IsClientOf p.ring.now p.board.now r × (sent_by (producer_of r.client) ≤ p.plan.commands) × (r.seen ≤ p.plan.commands) };
 }
 
 /// The conductor comes back with its shares.

@@ -2,18 +2,17 @@
 ghost use Rattle.std.specs.Prelude.{◌≢◌};
 ghost use Rattle.ring_conductor.specs.declared.storming.plan.StormFault.TheVariants.{BadPlan};
 
+use crate::client::Client;
 use crate::conductor::Conductor;
 use crate::storming::plan::StormFault;
-use ring_board::CopyReceiver;
 use ring_rings::Producer;
 
-/// A client.
+/// A client of a storm.
 #[derive(Drop)]
-pub(crate) struct Client {
+pub(crate) struct StormClient {
     /// Its number, from 0 on.
     pub(crate) index: u32,
-    pub(crate) producer: Producer,
-    pub(crate) receiver: CopyReceiver,
+    pub(crate) client: Client,
     /// The id of its counter, once that is allocated.
     pub(crate) counter: u32,
     /// How many of its commands were answered.

@@ -1,0 +1,95 @@
+-- What a client asks, and what it hears.
+use Rattle.std.specs.Prelude.{◌≡◌, ◌≢◌, ℕ, ◌≤◌, ℤ, List, length, Result, Err}
+use Rattle.ring_table.specs.declared.view.View.{View}
+use Rattle.ring_table.specs.ServiceSteps.{DrawsId}
+use Rattle.ring_rings.specs.declared.fault.TryFault.{TryFault}
+use Rattle.ring_rings.specs.declared.seats.Producer.{Producer}
+use Rattle.ring_rings.specs.Claiming.{RefusesTry, Writes}
+use Rattle.ring_board.specs.declared.seats.CopyReceiver.{CopyReceiver}
+use Rattle.ring_board.specs.Receiving.{GotCopy, GotLapped, GotNothing}
+use Rattle.ring_board.specs.Steps.{Sat}
+use Rattle.ring_conductor.specs.declared.replies.Reply.{Reply}
+use Rattle.ring_conductor.specs.declared.request.Request.{Request}
+use Rattle.ring_conductor.specs.declared.request.Request.TheVariants as of
+use Rattle.ring_conductor.specs.declared.client.Client.{Client}
+use Rattle.ring_conductor.specs.declared.client.Polled.{Polled}
+use Rattle.ring_conductor.specs.declared.client.Polled.TheVariants.{Answered, Another, NoReply, Nothing, Lapped}
+use Rattle.ring_conductor.specs.declared.client.SendFault.{SendFault}
+use Rattle.ring_conductor.specs.declared.client.SendFault.TheVariants.{TooLong, Refused}
+use Rattle.ring_conductor.specs.Command.{Instruction, Allocate, Free, Set, AllocateOwned, Close, HasShortTexts, spelling_of, type_id_of}
+use Rattle.ring_conductor.specs.Reading.{reply_of}
+use Rattle.ring_conductor.specs.Reply as reply
+
+abbrev pub producer_of : Client → Producer
+producer_of c = c.producer
+
+abbrev pub receiver_of : Client → CopyReceiver
+receiver_of c = c.receiver
+
+-- the command that asks for this, with a correlation id
+abbrev pub asked : Request → ℕ → Instruction
+asked (of.Allocate type_id key label) correlation = Allocate correlation type_id key.now label.now
+asked (of.Free id) correlation = Free correlation id
+asked (of.Set id value) correlation = Set correlation id value
+asked (of.AllocateOwned type_id owner key label) correlation = AllocateOwned correlation type_id owner key.now label.now
+asked (of.Close owner) correlation = Close correlation owner
+
+-- the command takes at most 520 bytes, whatever its correlation id
+pub record IsSendable (r : Request) : Type 0 where
+  pub texts : HasShortTexts (asked r 0)
+  pub room : length (spelling_of (asked r 0)) ≤ 520
+
+-- Sending ----------------------------------------------------------------------
+
+-- the command with this correlation id is one committed claim more
+abbrev pub SendsAs : ℕ → ℕ → Request → View → View → Type 0
+SendsAs C correlation request v w = let command = asked request correlation in Writes C (type_id_of command) (spelling_of command) v w
+
+-- nothing was written: the command is too long, or the ring refused it
+abbrev pub RefusesAs : ℕ → ℕ → Request → View → SendFault → View → Type 0
+RefusesAs C correlation request v TooLong w = (IsSendable request → ⊥) × (w ≡ v)
+RefusesAs C correlation request v (Refused id reason) w =
+    let command = asked request correlation in IsSendable request × (id ≡ correlation) × RefusesTry C (type_id_of command) (length (spelling_of command)) v reason w
+
+-- an id was drawn, and the command with that correlation id is one committed claim more
+pub record Sends (C : ℕ) (request : Request) (v : View) (correlation : ℕ) (w : View) : Type 0 where
+  pub between : View
+  pub draws : DrawsId v correlation between
+  pub sent : SendsAs C correlation request between w
+
+-- an id was drawn, and the ring refused the command with that correlation id
+pub record RefusesDrawn (C : ℕ) (request : Request) (v : View) (correlation : ℕ) (reason : TryFault) (w : View) : Type 0 where
+  pub between : View
+  pub draws : DrawsId v correlation between
+  pub refused : RefusesAs C correlation request between (Refused correlation reason) w
+
+-- no id was drawn for a command that is too long
+abbrev pub RefusesSend : ℕ → Request → View → SendFault → View → Type 0
+RefusesSend C request v TooLong w = (IsSendable request → ⊥) × (w ≡ v)
+RefusesSend C request v (Refused correlation reason) w = RefusesDrawn C request v correlation reason w
+
+-- Hearing ----------------------------------------------------------------------
+
+-- one copy more came, which spells this reply
+pub record Hears (r : Reply) (old new : Sat) : Type 0 where
+  pub place : ℕ
+  pub type_id : ℤ
+  pub body : List ℕ
+  pub copied : GotCopy place type_id body old new
+  pub spells : reply.Spells type_id body r
+
+-- one copy more came, which spells no reply
+pub record HearsNoReply (old new : Sat) : Type 0 where
+  pub place : ℕ
+  pub type_id : ℤ
+  pub body : List ℕ
+  pub copied : GotCopy place type_id body old new
+  pub spells : (r : Reply) → reply.Spells type_id body r → ⊥
+
+-- what one who waits for the reply to the command with this correlation id is told
+abbrev pub IsHeard : ℕ → Sat → Sat → Polled → Type 0
+IsHeard correlation old new (Answered r) = Hears r old new × (reply.correlation_id_of r ≡ correlation)
+IsHeard correlation old new (Another r) = Hears r old new × (reply.correlation_id_of r ≢ correlation)
+IsHeard correlation old new NoReply = HearsNoReply old new
+IsHeard correlation old new Nothing = GotNothing old new
+IsHeard correlation old new (Lapped l) = GotLapped l old new

@@ -1,0 +1,132 @@
+//! What a client does.
+
+ghost use Rattle.std.specs.Prelude.{◌≡◌, IfErr, IfOk, OnOk};
+ghost use Rattle.ring_words.specs.Open.{ClaimAt};
+ghost use Rattle.ring_table.specs.ServiceSteps.{DrawsId};
+ghost use Rattle.ring_rings.specs.Seats.{capacity_of, open_claims_of, shares_of, view_of, IsOpenClaimOf, IsProducerOf};
+ghost use Rattle.ring_board.specs.Seats.{receiver_seat, IsReceiverOf};
+ghost use Rattle.ring_conductor.specs.Asking.{IsHeard, IsSendable, RefusesAs, RefusesSend, Sends, SendsAs, producer_of, receiver_of};
+
+use crate::client::{Client, Polled, SendFault};
+use crate::commands::LONGEST_COMMAND;
+use crate::commands::encode::encode_command;
+use crate::replies::decode::decode_reply;
+use crate::request::Request;
+use ring_board::{Board, CopyReceiver};
+use ring_rings::{ManyToOneRing, Producer};
+
+impl Client {
+    /// Makes a client of a producer of the command ring and a receiver of the board with the replies.
+    pub fn new(producer: Producer, receiver: CopyReceiver) -> Client
+        ensures producer { producer_of result ≡ producer }
+        ensures receiver { receiver_of result ≡ receiver }
+    {
+        Client {
+            producer,
+            receiver,
+            buffer: [0; LONGEST_COMMAND],
+        }
+    }
+
+    /// Gives producer and receiver back, to be joined.
+    pub fn into_parts(self) -> (Producer, CopyReceiver)
+        ensures producer { result.0 ≡ producer_of self }
+        ensures receiver { result.1 ≡ receiver_of self }
+    {
+        let Client {
+            producer,
+            receiver,
+            buffer: _,
+        } = self;
+        (producer, receiver)
+    }
+
+    /// Draws the correlation id of a command that `send_as` is to send.
+    pub fn next_correlation_id(&mut self, ring: &ManyToOneRing) -> u64
+        requires { IsProducerOf ring.now (producer_of self.old) }
+        ensures producer { IsProducerOf ring.now (producer_of self.new) }
+        ensures draws { DrawsId (view_of (producer_of self.old)) result (view_of (producer_of self.new)) }
+        ensures shares { shares_of (producer_of self.new) ≡ shares_of (producer_of self.old) }
+        ensures open_claims { open_claims_of (producer_of self.new) ≡ open_claims_of (producer_of self.old) }
+        ensures receiver { receiver_of self.new ≡ receiver_of self.old }
+    {
+        ring.next_correlation_id(&mut self.producer)
+    }
+
+    /// Makes one try to send a command with a correlation id that was drawn for it. It never waits, and takes no memory.
+    ///
+    /// It refuses with `TooLong` a command of more than `LONGEST_COMMAND` bytes, and with `Refused` where
+    /// `ManyToOneRing::write_once` does. Nothing was written then, and the call can be made again with the same id.
+    pub fn send_as(
+        &mut self,
+        ring: &ManyToOneRing,
+        correlation: u64,
+        request: Request<'_>,
+    ) -> Result<(), SendFault>
+        requires { IsProducerOf ring.now (producer_of self.old) }
+        ensures producer { IsProducerOf ring.now (producer_of self.new) }
+        ensures sent { OnOk result (IsSendable request.entry × SendsAs (capacity_of ring.now) correlation request.entry (view_of (producer_of self.old)) (view_of (producer_of self.new))) }
+        ensures refused { IfErr result (λ fault. RefusesAs (capacity_of ring.now) correlation request.entry (view_of (producer_of self.old)) fault (view_of (producer_of self.new))) }
+        ensures claims { (t : ClaimAt) → IsOpenClaimOf ring.now (producer_of self.old) t → IsOpenClaimOf ring.now (producer_of self.new) t }
+        ensures shares { shares_of (producer_of self.new) ≡ shares_of (producer_of self.old) }
+        ensures open_claims { open_claims_of (producer_of self.new) ≡ open_claims_of (producer_of self.old) }
+        ensures receiver { receiver_of self.new ≡ receiver_of self.old }
+    {
+        let command = request.with_correlation(correlation);
+        let Some(len) = encode_command(&command, self.buffer.as_mut_slice()) else {
+            return Err(SendFault::TooLong);
+        };
+        match ring.write_once(&mut self.producer, command.type_id(), &self.buffer[..len]) {
+            Ok(()) => Ok(()),
+            Err(reason) => Err(SendFault::Refused {
+                correlation,
+                reason,
+            }),
+        }
+    }
+
+    /// Draws a correlation id and makes one try to send the command with that id, which is answered. It never waits, and
+    /// takes no memory.
+    ///
+    /// It refuses with `TooLong` a command of more than `LONGEST_COMMAND` bytes, for which no id was drawn, and with `Refused`
+    /// where `ManyToOneRing::write_once` does. Nothing was written then; the id, which the refusal gives, stays drawn, and
+    /// `send_as` can try again with it.
+    pub fn send(&mut self, ring: &ManyToOneRing, request: Request<'_>) -> Result<u64, SendFault>
+        requires { IsProducerOf ring.now (producer_of self.old) }
+        ensures producer { IsProducerOf ring.now (producer_of self.new) }
+        ensures sent { IfOk result (λ correlation. IsSendable request.entry × Sends (capacity_of ring.now) request.entry (view_of (producer_of self.old)) correlation (view_of (producer_of self.new))) }
+        ensures refused { IfErr result (λ fault. RefusesSend (capacity_of ring.now) request.entry (view_of (producer_of self.old)) fault (view_of (producer_of self.new))) }
+        ensures shares { shares_of (producer_of self.new) ≡ shares_of (producer_of self.old) }
+        ensures open_claims { open_claims_of (producer_of self.new) ≡ open_claims_of (producer_of self.old) }
+        ensures receiver { receiver_of self.new ≡ receiver_of self.old }
+    {
+        match request.with_correlation(0).encoded_len() {
+            Some(len) if len <= LONGEST_COMMAND => {}
+            _ => return Err(SendFault::TooLong),
+        }
+        let correlation = self.next_correlation_id(ring);
+        self.send_as(ring, correlation, request)?;
+        Ok(correlation)
+    }
+
+    /// Takes what comes next on the board, for one who waits for the reply to the command with this correlation id. It never
+    /// waits, and takes no memory.
+    ///
+    /// After `Lapped` the next call goes on with the reply at latest. The bytes passed over lie from its `place` on.
+    pub fn poll(&mut self, board: &Board, correlation: u64) -> Polled
+        requires { IsReceiverOf board.now (receiver_of self.old) }
+        ensures receiver { IsReceiverOf board.now (receiver_of self.new) }
+        ensures heard { IsHeard correlation (receiver_seat (receiver_of self.old)) (receiver_seat (receiver_of self.new)) result }
+        ensures producer { producer_of self.new ≡ producer_of self.old }
+    {
+        match self.receiver.receive(board) {
+            Ok(Some(copied)) => match decode_reply(copied.type_id, copied.body) {
+                Ok(reply) if reply.correlation() == correlation => Polled::Answered(reply),
+                Ok(reply) => Polled::Another(reply),
+                Err(_bad) => Polled::NoReply,
+            },
+            Ok(None) => Polled::Nothing,
+            Err(lapped) => Polled::Lapped(lapped),
+        }
+    }
+}

@@ -1,0 +1,204 @@
+//! What a client sends, and what it is told.
+use crate::sending::work;
+use ring_conductor::{
+    Client, Command, Conductor, Polled, Reply, Request, SendFault, WorkStop, encode_command, finish,
+};
+use ring_board::{Board, Lapped};
+use ring_counters::CountersManager;
+use ring_rings::{ClaimFault, ManyToOneRing, TryFault};
+use std::test::Fail;
+
+/// A counter of type 5 with neither key nor label.
+const ALLOCATE: Request<'static> = Request::Allocate {
+    type_id: 5,
+    key: &[],
+    label: &[],
+};
+
+#[test]
+fn each_request_is_the_command_with_the_drawn_id(rt: HostRuntime) -> Result<(), Fail> {
+    let (ring, producer, consumer) = ManyToOneRing::new(rt.alloc(), 1024)?;
+    let (board, transmitter) = Board::new(rt.alloc(), 256)?;
+    let (values, counters) = CountersManager::new(rt.alloc(), 4, 50)?;
+    let mut conductor = Conductor::new(consumer, transmitter, counters);
+    let receiver = conductor.subscribe(rt.alloc(), &board)?;
+    let mut client = Client::new(producer, receiver);
+
+    assert_eq!(rt; client.poll(&board, 0), Polled::Nothing);
+    assert_eq!(rt; client.send(&ring, ALLOCATE), Ok(0));
+    let owned = Request::AllocateOwned {
+        type_id: 1,
+        owner: 9,
+        key: &[7],
+        label: b"c",
+    };
+    assert_eq!(rt; client.send(&ring, owned), Ok(1));
+    let set = Request::Set { id: 0, value: -3 };
+    assert_eq!(rt; client.send(&ring, set), Ok(2));
+    assert_eq!(rt; client.send(&ring, Request::Close { owner: 9 }), Ok(3));
+    assert_eq!(rt; client.send(&ring, Request::Free { id: 1 }), Ok(4));
+    let five = conductor.do_work(&ring, &board, &values, 0, 9);
+    assert_eq!(rt; five, work(5, WorkStop::Unpublished));
+    let first = Reply::Allocated {
+        correlation: 0,
+        id: 0,
+    };
+    let second = Reply::Allocated {
+        correlation: 1,
+        id: 1,
+    };
+    let closed = Reply::Closed {
+        correlation: 3,
+        freed: 1,
+    };
+    let refused = Reply::Refused {
+        correlation: 4,
+        code: 21,
+    };
+    assert_eq!(rt; client.poll(&board, 0), Polled::Answered(first));
+    assert_eq!(rt; client.poll(&board, 0), Polled::Another(second));
+    assert_eq!(rt;
+        client.poll(&board, 2),
+        Polled::Answered(Reply::Done { correlation: 2 })
+    );
+    assert_eq!(rt; client.poll(&board, 3), Polled::Answered(closed));
+    assert_eq!(rt; client.poll(&board, 4), Polled::Answered(refused));
+    assert_eq!(rt; client.poll(&board, 4), Polled::Nothing);
+    assert_eq!(rt; conductor.counters().value(0), Ok(-3));
+
+    let (producer, receiver) = client.into_parts();
+    conductor.join_receiver(&board, receiver);
+    let finished = finish(ring, board, values, conductor, producer).map_err(|back| back.reason)?;
+    assert_eq!(rt; finished.received, 5);
+    Ok(())
+}
+
+#[test]
+fn a_refused_command_can_be_sent_again_with_its_id(rt: HostRuntime) -> Result<(), Fail> {
+    let (ring, producer, consumer) = ManyToOneRing::new(rt.alloc(), 256)?;
+    let (board, transmitter) = Board::new(rt.alloc(), 1024)?;
+    let (values, counters) = CountersManager::new(rt.alloc(), 4, 50)?;
+    let mut conductor = Conductor::new(consumer, transmitter, counters);
+    let receiver = conductor.subscribe(rt.alloc(), &board)?;
+    let mut client = Client::new(producer, receiver);
+
+    // A record of a command to set takes 32 bytes.
+    let set = Request::Set { id: 0, value: 1 };
+    for correlation in 0..8 {
+        assert_eq!(rt; client.send(&ring, set), Ok(correlation));
+    }
+    let full = SendFault::Refused {
+        correlation: 8,
+        reason: TryFault::Refused(ClaimFault::InsufficientCapacity { tail: 256, head: 0 }),
+    };
+    assert_eq!(rt; client.send(&ring, set), Err(full));
+    assert_eq!(rt; client.send_as(&ring, 8, set), Err(full));
+    let one = conductor.do_work(&ring, &board, &values, 0, 1);
+    assert_eq!(rt; one, work(1, WorkStop::Limit));
+    assert_eq!(rt; client.send_as(&ring, 8, set), Ok(()));
+    let seven = conductor.do_work(&ring, &board, &values, 0, 9);
+    assert_eq!(rt; seven, work(7, WorkStop::Block));
+    let last = conductor.do_work(&ring, &board, &values, 0, 9);
+    assert_eq!(rt; last, work(1, WorkStop::Unpublished));
+    for correlation in 0..8 {
+        let other = Reply::Refused {
+            correlation,
+            code: 21,
+        };
+        assert_eq!(rt; client.poll(&board, 8), Polled::Another(other));
+    }
+    let reply = Reply::Refused {
+        correlation: 8,
+        code: 21,
+    };
+    assert_eq!(rt; client.poll(&board, 8), Polled::Answered(reply));
+    assert_eq!(rt; client.next_correlation_id(&ring), 9);
+    Ok(())
+}
+
+fn owned<'a>(key: &'a [u8], label: &'a [u8]) -> Request<'a> {
+    Request::AllocateOwned {
+        type_id: 1,
+        owner: 9,
+        key,
+        label,
+    }
+}
+
+#[test]
+fn no_id_is_drawn_for_a_command_that_is_too_long(rt: HostRuntime) -> Result<(), Fail> {
+    let (ring, producer, consumer) = ManyToOneRing::new(rt.alloc(), 8192)?;
+    let (board, transmitter) = Board::new(rt.alloc(), 256)?;
+    let (values, counters) = CountersManager::new(rt.alloc(), 4, 50)?;
+    let mut conductor = Conductor::new(consumer, transmitter, counters);
+    let receiver = conductor.subscribe(rt.alloc(), &board)?;
+    let mut client = Client::new(producer, receiver);
+    let (key, label) = ([1; 112], [b'l'; 381]);
+    let long = owned(&key, &label);
+
+    assert_eq!(rt; client.send(&ring, long), Err(SendFault::TooLong));
+    assert_eq!(rt; client.send_as(&ring, 7, long), Err(SendFault::TooLong));
+    assert_eq!(rt; client.send(&ring, owned(&key, &label[..380])), Ok(0));
+    let one = conductor.do_work(&ring, &board, &values, 0, 9);
+    assert_eq!(rt; one, work(1, WorkStop::Unpublished));
+    let made = Reply::Allocated {
+        correlation: 0,
+        id: 0,
+    };
+    assert_eq!(rt; client.poll(&board, 0), Polled::Answered(made));
+    Ok(())
+}
+
+#[test]
+fn a_client_is_told_that_it_was_lapped(rt: HostRuntime) -> Result<(), Fail> {
+    let (ring, producer, consumer) = ManyToOneRing::new(rt.alloc(), 1024)?;
+    let (board, transmitter) = Board::new(rt.alloc(), 256)?;
+    let (values, counters) = CountersManager::new(rt.alloc(), 4, 50)?;
+    let mut conductor = Conductor::new(consumer, transmitter, counters);
+    let receiver = conductor.subscribe(rt.alloc(), &board)?;
+    let mut client = Client::new(producer, receiver);
+
+    // A refusal takes 24 bytes of the board.
+    for correlation in 0..11 {
+        let sent = client.send(&ring, Request::Free { id: 0 });
+        assert_eq!(rt; sent, Ok(correlation));
+    }
+    let all = conductor.do_work(&ring, &board, &values, 0, 20);
+    assert_eq!(rt; all, work(11, WorkStop::Unpublished));
+    let lapped = Lapped {
+        count: 1,
+        place: 0,
+        intent: 280,
+    };
+    assert_eq!(rt; client.poll(&board, 0), Polled::Lapped(lapped));
+    let last = Reply::Refused {
+        correlation: 10,
+        code: 21,
+    };
+    assert_eq!(rt; client.poll(&board, 0), Polled::Another(last));
+    assert_eq!(rt; client.poll(&board, 0), Polled::Nothing);
+    Ok(())
+}
+
+#[test]
+fn what_is_no_reply_is_told_apart(rt: HostRuntime) -> Result<(), Fail> {
+    let (_ring, producer, _consumer) = ManyToOneRing::new(rt.alloc(), 1024)?;
+    let (board, mut transmitter) = Board::new(rt.alloc(), 256)?;
+    let receiver = board.subscribe(rt.alloc(), &mut transmitter)?;
+    let mut client = Client::new(producer, receiver);
+    let mut body = [0; 16];
+    let free = Command::Free {
+        correlation: 3,
+        id: 1,
+    };
+    assert_eq!(rt; encode_command(&free, &mut body), Some(12));
+    board.transmit(&mut transmitter, 102, &body[..12])?;
+    board.transmit(&mut transmitter, 102, &body[..8])?;
+
+    assert_eq!(rt; client.poll(&board, 3), Polled::NoReply);
+    assert_eq!(rt;
+        client.poll(&board, 3),
+        Polled::Answered(Reply::Done { correlation: 3 })
+    );
+    Ok(())
+}

@@ -1,0 +1,55 @@
+//! When a storm's clients ask their gate, and when they tell it that they were answered.
+use ring_conductor::{Gate, StormPlan, storm};
+use std::sync::atomic::Ordering::SeqCst;
+use std::sync::atomic::{AtomicBool, AtomicU32};
+use std::test::Fail;
+
+/// Notes whether each client asks and tells in order: it asks for its next command once the last one was answered, and tells
+/// of an answer once it was let send that command.
+#[derive(Drop)]
+struct Strict {
+    let_send: [AtomicU32; 2],
+    answered: [AtomicU32; 2],
+    broken: AtomicBool,
+}
+
+impl Gate for Strict {
+    fn may_send(&self, client: u32, number: u32) -> bool {
+        let mine = client as usize % 2;
+        if self.answered[mine].load(SeqCst) + 1 != number {
+            self.broken.store(true, SeqCst);
+        }
+        self.let_send[mine].store(number, SeqCst);
+        true
+    }
+
+    fn answered(&self, client: u32, number: u32) {
+        let mine = client as usize % 2;
+        let last = self.answered[mine].swap(number, SeqCst);
+        if last + 1 != number || self.let_send[mine].load(SeqCst) != number {
+            self.broken.store(true, SeqCst);
+        }
+    }
+}
+
+#[test]
+fn each_answer_is_told_before_the_next_command(rt: HostRuntime) -> Result<(), Fail> {
+    let gate = Strict {
+        let_send: [AtomicU32::new(0), AtomicU32::new(0)],
+        answered: [AtomicU32::new(0), AtomicU32::new(0)],
+        broken: AtomicBool::new(false),
+    };
+    let plan = StormPlan {
+        clients: 2,
+        commands: 300,
+        ring: 256,
+        turns: 50_000_000,
+    };
+    let report = storm(&rt, rt.alloc(), &plan, &gate)?;
+    assert_eq!(rt; report.seen, 600);
+    assert_eq!(rt; report.sum, 600);
+    assert!(rt; !gate.broken.load(SeqCst));
+    assert_eq!(rt; gate.answered[0].load(SeqCst), 300);
+    assert_eq!(rt; gate.answered[1].load(SeqCst), 300);
+    Ok(())
+}
