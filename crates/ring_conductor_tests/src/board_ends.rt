@@ -1,7 +1,7 @@
 //! Commands whose replies would just fit at the end of the board.
 use crate::sending::{send, work};
-use ring_conductor::{Command, Conductor, WorkStop};
 use ring_board::Board;
+use ring_conductor::{Command, Conductor, WorkStop};
 use ring_counters::CountersManager;
 use ring_rings::ManyToOneRing;
 use std::test::Fail;

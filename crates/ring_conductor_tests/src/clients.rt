@@ -1,9 +1,9 @@
 //! What a client sends, and what it is told.
 use crate::sending::work;
+use ring_board::{Board, Lapped};
 use ring_conductor::{
     Client, Command, Conductor, Polled, Reply, Request, SendFault, WorkStop, encode_command, finish,
 };
-use ring_board::{Board, Lapped};
 use ring_counters::CountersManager;
 use ring_rings::{ClaimFault, ManyToOneRing, TryFault};
 use std::test::Fail;

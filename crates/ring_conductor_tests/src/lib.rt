@@ -4,7 +4,11 @@
 #[cfg(test)]
 mod bench;
 #[cfg(test)]
+mod board_ends;
+#[cfg(test)]
 mod boards;
+#[cfg(test)]
+mod clients;
 #[cfg(test)]
 mod codec;
 #[cfg(test)]
@@ -14,6 +18,8 @@ mod faults;
 #[cfg(test)]
 mod finishing;
 #[cfg(test)]
+mod gates;
+#[cfg(test)]
 mod heartbeats;
 #[cfg(test)]
 mod protocol;
@@ -21,11 +27,5 @@ mod protocol;
 mod sending;
 #[cfg(test)]
 mod storms;
-#[cfg(test)]
-mod board_ends;
-#[cfg(test)]
-mod clients;
-#[cfg(test)]
-mod gates;
 #[cfg(test)]
 mod whole;
