@@ -11,6 +11,7 @@ ghost use Rattle.ring_loose.specs.Loose.{aborted_view, fresh_loose, with_holder,
 ghost use Rattle.ring_table.specs.ServiceSteps.{DrawsId, LoadsHeartbeat};
 ghost use Rattle.ring_table.specs.Views.{beaten, with_consumer};
 ghost use Rattle.ring_words.specs.Fresh.{make_refusal_of, IsMadeUnless};
+ghost use Rattle.ring_words.specs.Read.{stop_of};
 
 use ring_rings::{Claim, Consumer, ManyToOneRing, Producer};
 use ring_words::{ClaimFault, Handler, MakeFault, Positions, PutRange, ReadEnd, SoloRing};
@@ -244,6 +245,8 @@ impl LooseRing {
         requires { H.ready handler.old }
         ensures ready { H.ready handler.new }
         ensures reads { Reads H.step limit self.old.consumer self.new.consumer handler.old handler.new result.messages }
+        ensures bytes { self.old.consumer.consumer.head + result.bytes ≡ self.new.consumer.consumer.head }
+        ensures stopped { result.stopped ≡ stop_of self.old.capacity limit result.messages self.new.consumer.consumer.head result.bytes }
         ensures rest { self.new ≡ with_reader self.new.consumer self.old }
     {
         self.ring.read(&mut self.consumer, limit, handler)
@@ -254,6 +257,7 @@ impl LooseRing {
         requires { H.ready handler.old }
         ensures ready { H.ready handler.new }
         ensures controls { Controls H.step limit self.old.consumer self.new.consumer handler.old handler.new result }
+        ensures bytes { self.old.consumer.consumer.head + result.bytes ≡ self.new.consumer.consumer.head }
         ensures rest { self.new ≡ with_reader self.new.consumer self.old }
     {
         self.ring
