@@ -1,3 +1,4 @@
+mod positions;
 mod raw;
 mod receiving;
 mod threads;
