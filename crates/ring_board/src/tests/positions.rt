@@ -9,7 +9,7 @@ fn send(board: &Board, transmitter: &mut Transmitter, count: u32)
     requires { IsTransmitterOf board.now transmitter.old }
     ensures { IsTransmitterOf board.now transmitter.new }
 {
-    for _ in 0..count {
+    'sends: for _ in 0..count {
         let _ = board.transmit(transmitter, 1, &[7; 32]);
     }
 }
