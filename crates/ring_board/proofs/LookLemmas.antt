@@ -88,6 +88,7 @@ module _ (C e : ℕ) (s : St) (by : ℕ) (mine : View) (h : IsBoard C e by mine 
           intent_is = h.intent_is;
           tail_is = h.tail_is;
           latest_is = h.latest_is;
+          unnamed = h.unnamed;
           valid = h.valid;
           running = h.running;
           exact = h.exact;

@@ -1,5 +1,5 @@
 -- A new board keeps the rule.
-use Rattle.std.proofs.Common.{◌≡◌, ℕ, zero, suc, ◌/◌, ◌%◌, ◌^◌, ◌<◌, ◌≤◌, List, [], ◌∷◌, length, get_or, set, refl, sym, ap, ◌∙◌, subst, arith, replicate, length-set, get_or-set_other, get_or-set_same}
+use Rattle.std.proofs.Common.{◌≡◌, ◌≢◌, ℕ, ◌+◌, zero, suc, ◌/◌, ◌%◌, ◌^◌, ◌<◌, ◌≤◌, List, [], ◌∷◌, length, get_or, set, refl, sym, ap, ◌∙◌, subst, arith, replicate, length-set, get_or-set_other, get_or-set_same}
 use Rattle.std.proofs.lemmas.List.{length-replicate}
 use Rattle.std.proofs.lemmas.Nat.Gcd.{dvd_of_mod-eq-zero}
 use Rattle.std.proofs.Math.Nat.{mod-mod_of_dvd}
@@ -12,7 +12,7 @@ use Rattle.ring_board.specs.declared.view.Record.{Record}
 use Rattle.ring_board.specs.declared.view.View.{View}
 use Rattle.ring_board.specs.declared.view.Stage.{Stage}
 use Rattle.ring_board.specs.declared.view.Stage.TheVariants.{Idle}
-use Rattle.ring_board.specs.Layout.{intent_index, tail_index, latest_index, board_words, IsBoardCapacity}
+use Rattle.ring_board.specs.Layout.{intent_index, tail_index, latest_index, board_words, IsUnnamed, IsBoardCapacity}
 use Rattle.ring_board.specs.Runs.{AreRuns}
 use Rattle.ring_board.specs.Rule.{Logged, Knows, Holds, opening_view}
 
@@ -42,8 +42,8 @@ zeros_at (suc k) (suc i) = zeros_at k i
 module _ (C e : ℕ) (roomy : 256 ≤ C) (narrow : C ≤ 2 ^ 24) (whole : C % 64 ≡ 0) (aligned : e % C ≡ 0) (low : e ≤ max_position) where
   opened : (ws : List ℕ) → length ws ≡ board_words C → ((i : ℕ) → i < C / 8 → get_or ws i 0 ≡ 0) → get_or ws (intent_index C) 0 ≡ e
       → get_or ws (tail_index C) 0 ≡ e → get_or ws (latest_index C) 0 ≡ e
-      → Holds C e (opening ws [] (opening_view C e))
-  opened ws wide zeros a b c = (
+      → ((i : ℕ) → IsUnnamed C i → get_or ws i 0 ≡ 0) → Holds C e (opening ws [] (opening_view C e))
+  opened ws wide zeros a b c unnamed = (
     0,
     opening_view C e,
     record {
@@ -61,6 +61,7 @@ module _ (C e : ℕ) (roomy : 256 ≤ C) (narrow : C ≤ 2 ^ 24) (whole : C % 64
       intent_is = a;
       tail_is = b;
       latest_is = c;
+      unnamed = unnamed;
       valid = λ k r g. absurd (some-ne-none r (sym g));
       running = tt;
       exact = zeros;
@@ -84,12 +85,15 @@ module _ (C e : ℕ) (roomy : 256 ≤ C) (narrow : C ≤ 2 ^ 24) (whole : C % 64
       let long : length vs ≡ board_words C = ap length zeros ∙ row in
       let long_a : length a ≡ board_words C = length-set vs (intent_index C) e ∙ long in
       let long_b : length b ≡ board_words C = length-set a (tail_index C) e ∙ long_a in
+      let others : (i : ℕ) → ((k : ℕ) → k < 3 → i ≢ C / 8 + k) → get_or (set b (latest_index C) e) i 0 ≡ 0 =
+      λ i ne. get_or-set_other b (latest_index C) i e 0 (λ g. ne 2 (omega arith) (omega arith))
+      ∙ (get_or-set_other a (tail_index C) i e 0 (λ g. ne 1 (omega arith) (omega arith))
+      ∙ (get_or-set_other vs (intent_index C) i e 0 (λ g. ne 0 (omega arith) (omega arith)) ∙ (ap (λ (l : List ℕ). get_or l i 0) zeros ∙ zeros_at (board_words C) i))) in
       subst (λ (l : List ℕ). Holds C e (opening l [] (opening_view C e))) (sym is)
       (opened (set b (latest_index C) e) (length-set b (latest_index C) e ∙ long_b)
-      (λ i lt. get_or-set_other b (latest_index C) i e 0 (λ g. omega arith)
-      ∙ (get_or-set_other a (tail_index C) i e 0 (λ g. omega arith)
-      ∙ (get_or-set_other vs (intent_index C) i e 0 (λ g. omega arith) ∙ (ap (λ (l : List ℕ). get_or l i 0) zeros ∙ zeros_at (board_words C) i))))
+      (λ i lt. others i (λ k few g. omega arith))
       (get_or-set_other b (latest_index C) (intent_index C) e 0 (λ g. omega arith)
       ∙ (get_or-set_other a (tail_index C) (intent_index C) e 0 (λ g. omega arith) ∙ get_or-set_same vs (intent_index C) e 0 (omega arith)))
       (get_or-set_other b (latest_index C) (tail_index C) e 0 (λ g. omega arith) ∙ get_or-set_same a (tail_index C) e 0 (omega arith))
-      (get_or-set_same b (latest_index C) e 0 (omega arith)))
+      (get_or-set_same b (latest_index C) e 0 (omega arith))
+      (λ i is. others i (λ k few g. let behind = is.0 in omega arith)))

@@ -77,6 +77,7 @@ module _ (C e : ℕ) where
           intent_is = h.intent_is;
           tail_is = h.tail_is;
           latest_is = h.latest_is;
+          unnamed = h.unnamed;
           valid = h.valid;
           running = h.running;
           exact = h.exact;
@@ -119,6 +120,7 @@ module _ (C e : ℕ) where
           intent_is = h.intent_is;
           tail_is = h.tail_is;
           latest_is = h.latest_is;
+          unnamed = h.unnamed;
           valid = h.valid;
           running = h.running;
           exact = h.exact;

@@ -138,6 +138,7 @@ closed_as C e id me ws xs eq f = let s = f.0 in let h = owner C e s f.1.0 id me 
     intent = h.intent_is ∙ ap (λ (st : Stage). intent e me.sent st) eq;
     tail = h.tail_is;
     latest = h.latest_is ∙ ap (λ (st : Stage). latest e me.sent st) eq;
+    unnamed = h.unnamed;
   }),
   h.each_heard,
 )
@@ -150,6 +151,7 @@ closed_copy C e sent ws ws' same h = record {
   intent = same (intent_index C) (omega arith) ∙ h.intent;
   tail = same (tail_index C) (omega arith) ∙ h.tail;
   latest = same (latest_index C) (omega arith) ∙ h.latest;
+  unnamed = λ i is. same i is.1 ∙ h.unnamed i is;
 }
 
 pub read_at : (l : List ℕ) (i a : ℕ) → get_elem? l i ≡ some a → get_or l i 0 ≡ a

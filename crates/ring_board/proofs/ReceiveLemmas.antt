@@ -111,4 +111,4 @@ module _ (C e slots id : ℕ) (me : Sat) (i : ℕ) where
   pub sees_latest : me.0.stage ≡ Behind → i ≡ C / 8 + 2 → Allows (Holds C e) slots id me i (λ y. y) (SeesLatest (step slots i 0 0 none) me)
   sees_latest eq is s b _ at _ = let x : ℕ = get_or s.words i 0 in
       let k = latest_kept C e s b.0 b.1 b.2 id me.0 at eq x i me.1 (ap (λ (j : ℕ). get_or s.words j 0) is ∙ b.2.latest_is) in
-      (lapped me.0 k.0 x, keeps, tt, k.1, (k.0, refl, k.2, k.3))
+      (lapped me.0 k.0 x, keeps, tt, k.1, (k.0, refl, k.2, k.3, k.4))

@@ -12,7 +12,7 @@ use Rattle.ring_board.specs.declared.view.Load.{Load}
 use Rattle.ring_board.specs.declared.view.Load.TheVariants.{Word, Intent, Tail, Latest}
 use Rattle.ring_board.specs.declared.view.Stage.{Stage}
 use Rattle.ring_board.specs.declared.view.Stage.TheVariants.{Spent, Idle, Begun, Storing, Written, Shown, Resting, Sure, Headed, Padded, Again, Reading, Behind}
-use Rattle.ring_board.specs.Layout.{intent_index, tail_index, latest_index, board_words}
+use Rattle.ring_board.specs.Layout.{intent_index, tail_index, latest_index, board_words, IsUnnamed}
 use Rattle.ring_board.specs.Records.{end, Follows, Chain, end_of, stores, last_at}
 use Rattle.ring_board.specs.Runs.{Neighbours, AreAllRuns, AreRuns}
 use Rattle.ring_board.specs.Rule.{intent, latest, shown, so_far, Running, Receives, Knows, total_shares, LoadOk, Logged, IsBoard, Holds}
@@ -149,6 +149,7 @@ module _ (C e : ℕ) where
         → intent e w.sent w.stage ≤ max_position
         → get_or ws (intent_index C) 0 ≡ intent e w.sent w.stage → get_or ws (tail_index C) 0 ≡ end_of e w.sent
         → get_or ws (latest_index C) 0 ≡ latest e w.sent w.stage
+        → ((i : ℕ) → IsUnnamed C i → get_or ws i 0 ≡ 0)
         → ((k : ℕ) (r : Record) → get_elem? w.sent k ≡ some r → (j : ℕ) (x : ℕ × ℕ) → get_elem? (stores r) j ≡ some x
         → intent e w.sent w.stage < x.0 + C → get_or ws (index C x.0) 0 ≡ x.1)
         → Running C (end_of e w.sent) ws w.stage → ((i : ℕ) → i < C / 8 → get_or ws i 0 ≡ last_at C (so_far w.sent w.stage) i 0)
@@ -156,7 +157,7 @@ module _ (C e : ℕ) where
         → ((v : View) → AreRuns me.sent v.from v.copies → AreRuns w.sent v.from v.copies) → w.from ≡ me.from → w.copies ≡ me.copies
         → w.shares ≡ me.shares → ((l : Load) → LoadOk C e me.sent me.stage l → LoadOk C e w.sent w.stage l) → w.log ≡ me.log → w.heard ≡ me.heard
         → IsBoard C e id w record { words = ws; homes = s.homes; views = set s.views id w }
-    rebuilt wide capacity started behind chain low i t l valid running exact mine others runs from copies shares logs same_log same_heard = record {
+    rebuilt wide capacity started behind chain low i t l unnamed valid running exact mine others runs from copies shares logs same_log same_heard = record {
       wide = wide;
       roomy = h.roomy;
       narrow = h.narrow;
@@ -171,6 +172,7 @@ module _ (C e : ℕ) where
       intent_is = i;
       tail_is = t;
       latest_is = l;
+      unnamed = unnamed;
       valid = valid;
       running = running;
       exact = exact;

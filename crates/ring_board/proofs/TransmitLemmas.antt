@@ -15,6 +15,7 @@ use Rattle.ring_board.specs.declared.view.View.{View}
 use Rattle.ring_board.specs.declared.view.Stage.{Stage}
 use Rattle.ring_board.specs.declared.view.Stage.TheVariants.{Idle, Begun, Storing, Written, Shown}
 use Rattle.ring_board.specs.Records.{end, Lies, end_of, last_of, placed_words, gap, filled, stores, stores_of, last_at, words_of, header_of, message_in}
+use Rattle.ring_board.specs.Layout.{IsUnnamed}
 use Rattle.ring_board.specs.Rule.{LoadOk, intent, latest, shown, so_far, Stand, Running, Receives, Knows, IsBoard, Holds}
 use Rattle.ring_board.specs.Steps.{Sat, staged, sent_on, place_before, draft, started, with_words, after_padding, after_words, written, after_header, after_latest, after_tail, Begins, Pads, PutsWord, PutsHeader, Shows, Sends}
 use Rattle.ring_board.proofs.PlaceLemmas.{lies_after, lies_near, lies_whole, a_lap_on, apart, index_below, chain_at, chain_snoc, end_snoc, last_snoc, last_low}
@@ -44,6 +45,10 @@ module _ (C e : ℕ) where
     abbrev Kept : ℕ → ℕ → View → Type 0
     Kept i x w = IsBoard C e id w record { words = set s.words i x; homes = s.homes; views = set s.views id w }
 
+    -- the words without a name stay
+    unnamed_kept : (j x : ℕ) → j < C / 8 + 3 → (i : ℕ) → IsUnnamed C i → get_or (set s.words j x) i 0 ≡ 0
+    unnamed_kept j x few i is = get_or-set_other s.words j i x 0 (λ e. let behind = is.0 in omega arith) ∙ h.unnamed i is
+
     -- a store into the buffer
     stores_in : (st : Stage) (p x : ℕ) → p % 8 ≡ 0 → end_of e me.sent ≤ p → p < intent e me.sent me.stage
         → intent e me.sent st ≡ intent e me.sent me.stage → latest e me.sent st ≡ latest e me.sent me.stage
@@ -57,7 +62,7 @@ module _ (C e : ℕ) where
         rebuilt C e s id me (staged me st) h (set s.words (index C p) x)
         (length-set s.words (index C p) x ∙ wide) h.capacity h.started h.behind h.chain (subst (λ (y : ℕ). y ≤ max_position) (sym i) h.low)
         (out (C / 8) (omega arith) ∙ (h.intent_is ∙ sym i)) (out (C / 8 + 1) (omega arith) ∙ h.tail_is)
-        (out (C / 8 + 2) (omega arith) ∙ (h.latest_is ∙ sym l))
+        (out (C / 8 + 2) (omega arith) ∙ (h.latest_is ∙ sym l)) (unnamed_kept (index C p) x (omega arith))
         (λ k r at j y on now. let c = chain_at C roomy whole e me.sent h.chain k r at in let f = c.0.fits in
         let b = stores_where r j y f.begins_whole (lies_whole C r.before r.before r.place (end r) f roomy whole)
         (lies_after C r.before r.before r.place (end r) f roomy whole) on in
@@ -175,7 +180,7 @@ module _ (C e : ℕ) where
         (subst (λ (y : ℕ). y ≤ max_position) (sym i) low)
         (ap (λ (c : ℕ). get_or ws c 0) (let g : C / 8 ≡ C / 8 + 0 = omega arith in
         g) ∙ (here 0 z (omega arith) ∙ sym i)) (outer 0 z 1 (λ e. omega arith) ∙ h.tail_is)
-        (outer 0 z 2 (λ e. omega arith) ∙ (h.latest_is ∙ (ap (latest e me.sent) eq ∙ sym l)))
+        (outer 0 z 2 (λ e. omega arith) ∙ (h.latest_is ∙ (ap (latest e me.sent) eq ∙ sym l))) (unnamed_kept (C / 8 + 0) z (omega arith))
         (λ k r at j y on now. let now' : z < y.0 + C = subst (λ (u : ℕ). u < y.0 + C) i now in
         inner 0 z (index C y.0) (index_below C y.0 roomy whole)
         ∙ h.valid k r at j y on (subst (λ (u : Stage). intent e me.sent u < y.0 + C) (sym eq) (omega arith)))
@@ -201,7 +206,7 @@ module _ (C e : ℕ) where
         let same : intent e me.sent me.stage ≡ end r = ap (intent e me.sent) eq in
         rebuilt C e s id me (staged me (Shown r)) h ws (length-set s.words (C / 8 + 2) x ∙ h.wide) h.capacity h.started h.behind h.chain
         (subst (λ (u : ℕ). u ≤ max_position) same h.low)
-        (outer_0 2 x (λ e. omega arith) ∙ (h.intent_is ∙ same)) (outer 2 x 1 (λ e. omega arith) ∙ h.tail_is) (here 2 x (omega arith))
+        (outer_0 2 x (λ e. omega arith) ∙ (h.intent_is ∙ same)) (outer 2 x 1 (λ e. omega arith) ∙ h.tail_is) (here 2 x (omega arith)) (unnamed_kept (C / 8 + 2) x (omega arith))
         (λ k q at j y on now. inner 2 x (index C y.0) (index_below C y.0 roomy whole)
         ∙ h.valid k q at j y on (subst (λ (u : ℕ). u < y.0 + C) (sym same) now))
         (run.0, stand_kept C roomy whole s.words ws (inner 2 x) (stores r) run.1)
@@ -223,7 +228,7 @@ module _ (C e : ℕ) where
         rebuilt C e s id me (sent_on me r) h ws (length-set s.words (C / 8 + 1) x ∙ h.wide) h.capacity h.started (sym ends)
         (chain_snoc C e me.sent r h.chain run.0) (subst (λ (u : ℕ). u ≤ max_position) same h.low)
         (outer_0 1 x (λ e. omega arith) ∙ (h.intent_is ∙ same)) (here 1 x (omega arith) ∙ sym ends)
-        (outer 1 x 2 (λ e. omega arith) ∙ (h.latest_is ∙ (ap (λ (u : Stage). latest e me.sent u) eq ∙ sym (last_snoc e me.sent r))))
+        (outer 1 x 2 (λ e. omega arith) ∙ (h.latest_is ∙ (ap (λ (u : Stage). latest e me.sent u) eq ∙ sym (last_snoc e me.sent r)))) (unnamed_kept (C / 8 + 1) x (omega arith))
         (λ k q at j y on now. inner 1 x (index C y.0) (index_below C y.0 roomy whole) ∙
         ⊎_elim (λ old. h.valid k q old j y on (subst (λ (u : ℕ). u < y.0 + C) (sym same) now))
         (λ is. run.1 j y (subst (λ (v : Record). get_elem? (stores v) j ≡ some y) (sym is) on)) (at_snoc me.sent r q k at))

@@ -259,7 +259,7 @@ module _ (C e : ℕ) (s : St) (by : ℕ) (mine : View) (h : IsBoard C e by mine 
 
   -- Latest
   pub latest_kept : v.stage ≡ Behind → (x i : ℕ) (cs : List (ℕ × (Unit {0}))) → x ≡ latest e mine.sent mine.stage
-      → (k : ℕ) × Kept i cs (lapped v k x) × (suc v.count ≤ x) × (x ≤ max_position)
+      → (k : ℕ) × Kept i cs (lapped v k x) × (suc v.count ≤ x) × (x ≤ max_position) × (v.at < x)
   latest_kept eq x i cs is = let kn = knows C e s by mine h id v at Behind eq in let t = kn.2 in let far = t.2 in
       let m = latest_shown C e h.roomy h.whole s.words mine.sent h.chain t.0 v.next t.1 mine.stage h.running in
       let k : ℕ = m.0 in let q : Record = m.1 in let near = m.4 in let climbs = kn.1.climbs in let there : x ≡ q.place = is ∙ m.3 in
@@ -278,4 +278,5 @@ module _ (C e : ℕ) (s : St) (by : ℕ) (mine : View) (h : IsBoard C e by mine 
         ) (same_runs C e s by mine h id v at u refl refl) refl (log_more C e s by mine h id v at (Latest x) (omega arith)) i cs,
         omega arith,
         (let y = m.5 in let low = h.low in omega arith),
+        omega arith,
       )

@@ -6,7 +6,7 @@ use Rattle.ring_board.specs.declared.seats.Board.{Board}
 use Rattle.ring_board.specs.declared.seats.Transmitter.{Transmitter}
 use Rattle.ring_board.specs.declared.seats.ClosedBoard.{ClosedBoard}
 use Rattle.ring_board.specs.declared.seats.BoardCloseRefused.{BoardCloseRefused}
-use Rattle.ring_board.specs.Layout.{intent_index, tail_index, latest_index, all_shares}
+use Rattle.ring_board.specs.Layout.{intent_index, tail_index, latest_index, IsUnnamed, all_shares}
 use Rattle.ring_board.specs.Records.{Chain, end_of, last_of, stores_of, IsBoardWord}
 
 -- the words of a board of capacity C that began at e and transmitted this list
@@ -16,6 +16,7 @@ pub record IsClosed (C e : ℕ) (sent : List Record) (ws : List ℕ) : Type 0 wh
   pub intent : slice_index ws (intent_index C) ≡ end_of e sent
   pub tail : slice_index ws (tail_index C) ≡ end_of e sent
   pub latest : slice_index ws (latest_index C) ≡ last_of e sent
+  pub unnamed : (i : ℕ) → IsUnnamed C i → slice_index ws i ≡ 0
 
 abbrev pub closed_words : ClosedBoard → List ℕ
 closed_words c = c.words.items

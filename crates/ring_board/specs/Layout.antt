@@ -1,5 +1,5 @@
 -- The words of a board's trailer, which follow those of its buffer of C bytes.
-use Rattle.std.specs.Prelude.{ℕ, ◌+◌, ◌/◌, ◌^◌, ◌≤◌, IsTrue, nat_le, Bool, ◌&&◌}
+use Rattle.std.specs.Prelude.{ℕ, ◌+◌, ◌/◌, ◌^◌, ◌<◌, ◌≤◌, IsTrue, nat_le, Bool, ◌&&◌}
 use Rattle.std.specs.Int.{is_power_of_two}
 
 abbrev pub intent_index : ℕ → ℕ
@@ -14,6 +14,10 @@ latest_index C = C / 8 + 2
 -- how many words a board has
 abbrev pub board_words : ℕ → ℕ
 board_words C = C / 8 + 16
+
+-- the index of a word of the trailer that has no name
+abbrev pub IsUnnamed : ℕ → ℕ → Type 0
+IsUnnamed C i = (latest_index C < i) × (i < board_words C)
 
 -- a lawful capacity of a board: a power of two from 256 to 2^24
 abbrev pub is_board_capacity : ℕ → Bool

@@ -1,5 +1,5 @@
 -- What a receiver's call does to its seat.
-use Rattle.std.specs.Prelude.{◌≡◌, ℕ, ◌+◌, ◌*◌, ◌%◌, ◌≤◌, suc, ℤ, true, List, [], ◌∷◌, ◌++◌, length, take, ◌⊎◌}
+use Rattle.std.specs.Prelude.{◌≡◌, ℕ, ◌+◌, ◌*◌, ◌%◌, ◌<◌, ◌≤◌, suc, ℤ, true, List, [], ◌∷◌, ◌++◌, length, take, ◌⊎◌}
 use mathlib.Core.Option.{some}
 use lib.ListN.{get_elem?}
 use Rattle.ring_layout.specs.History.{span}
@@ -58,9 +58,10 @@ GotCopy place type_id body m m' = (loads : List Load)
     × (m' ≡ (record m.0 { stage = Resting; at = place + span (length body); next = suc m.0.next; copies = m.0.copies ++ record { place = place; message = record { type_id = type_id; body = body }; count = m.0.count } ∷ []; log = m.0.log ++ loads }, m.1))
     × ComesTo m.0 loads place
 
--- the receiver was lapped at its place, or behind padding there: the count rose by one, and the place is the latest loaded after the intent that showed it
+-- the receiver was lapped at its place, or behind padding there: the count rose by one, and the place is the latest loaded after the intent that showed it.
+-- What lies from the place where it was lapped up to that was passed over
 abbrev pub GotLapped : Lapped → Sat → Sat → Type 0
-GotLapped l m m' = (loads : List Load) × (k : ℕ) × (x : ℕ) × ComesTo m.0 loads l.place × (l.place + m.0.capacity ≤ l.intent) × (l.count ≡ suc m.0.count)
+GotLapped l m m' = (loads : List Load) × (k : ℕ) × (x : ℕ) × ComesTo m.0 loads l.place × (l.place + m.0.capacity ≤ l.intent) × (l.count ≡ suc m.0.count) × (l.place < x)
     × (m' ≡ (record m.0 { stage = Resting; at = x; next = k; count = suc m.0.count; log = m.0.log ++ (loads ++ (Intent l.intent ∷ Latest x ∷ [])) }, m.1))
 
 -- a record was answered unread. Its place, type id and length are those of the new copy, which has the body that the transmitter gave it

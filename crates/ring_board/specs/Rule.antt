@@ -5,7 +5,7 @@ use lib.ListN.{get_elem?}
 use Rattle.atomic_table.specs.Table.{State}
 use Rattle.ring_layout.specs.Places.{index, max_position}
 use Rattle.ring_layout.specs.Headers.{padding_header}
-use Rattle.ring_board.specs.Layout.{intent_index, tail_index, latest_index, board_words, all_shares}
+use Rattle.ring_board.specs.Layout.{intent_index, tail_index, latest_index, board_words, IsUnnamed, all_shares}
 use Rattle.ring_board.specs.declared.view.Record.{Record}
 use Rattle.ring_board.specs.declared.view.Taken.{Taken}
 use Rattle.ring_board.specs.declared.view.View.{View}
@@ -137,6 +137,7 @@ pub record IsBoard (C e by : ℕ) (mine : View) (s : State (Unit {0}) View) : Ty
   pub intent_is : slice_index s.words (intent_index C) ≡ intent e mine.sent mine.stage
   pub tail_is : slice_index s.words (tail_index C) ≡ end_of e mine.sent
   pub latest_is : slice_index s.words (latest_index C) ≡ latest e mine.sent mine.stage
+  pub unnamed : (i : ℕ) → IsUnnamed C i → slice_index s.words i ≡ 0
   pub valid : (k : ℕ) (r : Record) → get_elem? mine.sent k ≡ some r → (j : ℕ) (x : ℕ × ℕ) → get_elem? (stores r) j ≡ some x → intent e mine.sent mine.stage < x.0 + C → slice_index s.words (index C x.0) ≡ x.1
   pub running : Running C (end_of e mine.sent) s.words mine.stage
   pub exact : (i : ℕ) → i < C / 8 → slice_index s.words i ≡ last_at C (so_far mine.sent mine.stage) i 0

@@ -116,6 +116,10 @@ subscribed_at r = r.seat.me.0.from
 abbrev pub copies_of : CopyReceiver → List Taken
 copies_of r = r.seat.me.0.copies
 
+-- where the receiver stands: the record there is looked for next
+abbrev pub stands_at : CopyReceiver → ℕ
+stands_at r = r.seat.me.0.at
+
 abbrev pub lapped_count_of : CopyReceiver → ℕ
 lapped_count_of r = r.seat.me.0.count
 
@@ -148,6 +152,10 @@ answered_by r = r.seat.me.0.copies
 pub record IsAnswered (v : View) (r : RawRecord) : Type 0 where
   pub copy : (n : ℕ) × (c : Taken) × (get_elem? v.copies n ≡ some c) × (c.place ≡ r.place) × (c.message.type_id ≡ r.type_id) × (length c.message.body ≡ r.len)
   pub inside : IsInside v.capacity r
+
+-- where the receiver stands: the record there is looked for next
+abbrev pub raw_stands_at : Receiver → ℕ
+raw_stands_at r = r.seat.me.0.at
 
 abbrev pub raw_lapped_count_of : Receiver → ℕ
 raw_lapped_count_of r = r.seat.me.0.count

@@ -185,12 +185,12 @@ abbrev pub SeesAnswer : Step (Unit {0}) → Sat → ℕ → Sat → Type 0
 SeesAnswer st m x m' = (body : List ℕ) × (m' ≡ (answered m.0 (header_seen m.0.stage) body x, m.1))
     × (x < m.0.at + m.0.capacity → (length body ≡ body_len (header_seen m.0.stage)) × IsSound m.0.capacity m.0.at (header_seen m.0.stage))
 
--- the receiver goes to the record at latest, the entry k of the list
+-- the receiver goes to the record at latest, the entry k of the list, which lies behind its place
 abbrev pub lapped : View → ℕ → ℕ → View
 lapped v k x = record v { stage = Resting; at = x; next = k; count = suc v.count; log = v.log ++ Latest x ∷ [] }
 
 abbrev pub SeesLatest : Step (Unit {0}) → Sat → ℕ → Sat → Type 0
-SeesLatest st m x m' = (k : ℕ) × (m' ≡ (lapped m.0 k x, m.1)) × (suc m.0.count ≤ x) × (x ≤ max_position)
+SeesLatest st m x m' = (k : ℕ) × (m' ≡ (lapped m.0 k x, m.1)) × (suc m.0.count ≤ x) × (x ≤ max_position) × (m.0.at < x)
 
 -- Split and join -----------------------------------------------------------
 

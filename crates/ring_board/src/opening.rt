@@ -17,6 +17,7 @@ use ring_layout::broadcast_buffer_descriptor::{
     LATEST_COUNTER_WORD, MAX_CAPACITY, MIN_CAPACITY, TAIL_COUNTER_WORD, TAIL_INTENT_COUNTER_WORD,
     TRAILER_WORDS,
 };
+use ring_layout::max_message;
 use ring_layout::ring_buffer_descriptor::MAX_POSITION;
 use std::alloc::{AllocError, Global};
 
@@ -105,6 +106,13 @@ impl Board {
         ensures { result ≡ capacity_of self.now }
     {
         self.capacity
+    }
+
+    /// The most bytes of a message: an eighth of the capacity.
+    pub fn max_message(&self) -> u32
+        ensures { result ≡ capacity_of self.now / 8 }
+    {
+        max_message(self.capacity)
     }
 
     /// Takes the board apart, once all receivers are back. `ReceiversOut` with the number of shares that are elsewhere;

@@ -59,7 +59,15 @@ impl Receiver {
     ghost use Rattle.ring_board.specs.declared.seats.RawRecord.{RawRecord};
     ghost use Rattle.ring_board.specs.Receiving.{GotNothing, GotRecord, GotLapped};
     ghost use Rattle.ring_board.specs.Bodies.{GaveBody, IsRight, Validated};
-    ghost use Rattle.ring_board.specs.Seats.{IsRawOf, IsAnswered, raw_seat, raw_view, raw_lapped_count_of, place_of, len_of};
+    ghost use Rattle.ring_board.specs.Seats.{IsRawOf, IsAnswered, raw_seat, raw_view, raw_stands_at, raw_lapped_count_of, place_of, len_of};
+
+    /// Where it stands, as a position in bytes: the next call looks for a record there. After `Lapped` the bytes that it
+    /// passed over are this less `Lapped.place`; they are never 0.
+    pub fn place(&self) -> u64
+        ensures { result ≡ raw_stands_at self.now }
+    {
+        self.place
+    }
 
     /// How often the receiver was lapped.
     pub fn lapped_count(&self) -> u64

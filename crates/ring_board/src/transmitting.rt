@@ -5,10 +5,10 @@ ghost use Rattle.ring_layout.specs.Headers.{header};
 ghost use Rattle.ring_layout.specs.Places.{max_position, next_place};
 ghost use Rattle.ring_board.specs.declared.view.Record.{Record};
 ghost use Rattle.ring_board.specs.declared.view.Stage.TheVariants.{Storing, Written};
-ghost use Rattle.ring_board.specs.Records.{end};
+ghost use Rattle.ring_board.specs.Records.{end, end_of};
 ghost use Rattle.ring_board.specs.Steps.{staged, draft, drafted, sent_on};
 ghost use Rattle.ring_board.specs.Refusals.{transmit_refusal_of, IsRefusedBy, IsRefusedAs};
-ghost use Rattle.ring_board.specs.Seats.{capacity_of, view_of, tail_of, shares_of, IsTransmitterOf, next_record, IsBegunOf, IsFilledOf, begun_view, filled_view, filled_record, begun_tail, begun_type_id, begun_len, HasBegun, refused_with};
+ghost use Rattle.ring_board.specs.Seats.{capacity_of, view_of, tail_of, shares_of, transmitted, IsTransmitterOf, next_record, IsBegunOf, IsFilledOf, begun_view, filled_view, filled_record, begun_tail, begun_type_id, begun_len, HasBegun, refused_with};
 
 use crate::fault::TransmitFault;
 use crate::seats::{BeginRefused, Begun, Board, Filled, Transmitter};
@@ -33,6 +33,14 @@ fn record_header(type_id: i32, len: usize) -> u64
 }
 
 impl Transmitter {
+    /// The position in bytes at which its last transmission ended, or the board's start where there was none.
+    pub fn tail(&self) -> u64
+        ensures tail { result ≡ tail_of self.now }
+        ensures end { result ≡ end_of (view_of self.now).start (transmitted self.now) }
+    {
+        self.tail
+    }
+
     /// How many shares of the board it holds.
     pub fn shares(&self) -> u32
         ensures { result ≡ shares_of self.now }

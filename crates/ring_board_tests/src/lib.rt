@@ -4,6 +4,8 @@
 #[cfg(test)]
 mod faults;
 #[cfg(test)]
+mod positions;
+#[cfg(test)]
 mod raw;
 #[cfg(test)]
 mod receiving;

@@ -1,0 +1,67 @@
+//! Why a call was not made, or not as it should be.
+
+/// Why a try of a call failed.
+#[derive(Clone, Copy, Debug, PartialEq, Eq)]
+pub enum Failure {
+    /// It was refused with `OutOfMemory`, and left all as it was.
+    Refused,
+    /// It gave another answer, or something had changed.
+    Wrong,
+}
+
+impl From<ring_words::MakeFault> for Failure {
+    fn from(fault: ring_words::MakeFault) -> Failure {
+        match fault {
+            ring_words::MakeFault::OutOfMemory => Failure::Refused,
+            _ => Failure::Wrong,
+        }
+    }
+}
+
+impl From<ring_board::MakeFault> for Failure {
+    fn from(fault: ring_board::MakeFault) -> Failure {
+        match fault {
+            ring_board::MakeFault::OutOfMemory => Failure::Refused,
+            _ => Failure::Wrong,
+        }
+    }
+}
+
+impl From<ring_board::SubscribeFault> for Failure {
+    fn from(fault: ring_board::SubscribeFault) -> Failure {
+        match fault {
+            ring_board::SubscribeFault::OutOfMemory => Failure::Refused,
+            ring_board::SubscribeFault::NoShares => Failure::Wrong,
+        }
+    }
+}
+
+impl From<ring_counters::MakeFault> for Failure {
+    fn from(fault: ring_counters::MakeFault) -> Failure {
+        match fault {
+            ring_counters::MakeFault::OutOfMemory => Failure::Refused,
+            ring_counters::MakeFault::BadCount => Failure::Wrong,
+        }
+    }
+}
+
+impl From<ring_conductor::StormFault> for Failure {
+    fn from(fault: ring_conductor::StormFault) -> Failure {
+        match fault {
+            ring_conductor::StormFault::OutOfMemory => Failure::Refused,
+            _ => Failure::Wrong,
+        }
+    }
+}
+
+/// The answer of a call after which something was looked at that should not have changed.
+pub fn where_kept<F: Into<Failure> + Drop>(
+    answer: Result<(), F>,
+    is_kept: bool,
+) -> Result<(), Failure> {
+    if is_kept {
+        answer.map_err(F::into)
+    } else {
+        Err(Failure::Wrong)
+    }
+}

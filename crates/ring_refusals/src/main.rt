@@ -1,0 +1,41 @@
+//! Makes each call that takes memory twice, and prints how many of these tries were refused and which answers were wrong.
+//!
+//! Without a refused request it prints `refused 0`, and with one, whichever it is, `refused 1`: that try answered
+//! `OutOfMemory` and left all as it was, and the other went well.
+#![tactic(auto)]
+
+mod calls;
+mod failure;
+
+use calls::{
+    conductor_subscribe, counters, live, many_to_one, new_board, one_to_one, solo, storm_of_two,
+    subscribe,
+};
+use failure::Failure;
+use std::io;
+
+fn main(rt: HostRuntime) -> io::Result<()> {
+    let alloc = rt.alloc();
+    let mut refused = 0u32;
+    for turn in 0..2u32 {
+        let answers = [
+            ("ring of many producers", many_to_one(alloc)),
+            ("ring of one producer", one_to_one(alloc)),
+            ("ring of one owner", solo(alloc)),
+            ("board", new_board(alloc)),
+            ("receiver", subscribe(alloc)),
+            ("counters", counters(alloc)),
+            ("list of counters", live(alloc)),
+            ("receiver of replies", conductor_subscribe(alloc)),
+            ("storm", storm_of_two(&rt, alloc)),
+        ];
+        for (name, answer) in answers {
+            match answer {
+                Ok(()) => {}
+                Err(Failure::Refused) => refused = refused.saturating_add(1),
+                Err(Failure::Wrong) => println!(rt; "wrong: {name}, turn {turn}")?,
+            }
+        }
+    }
+    println!(rt; "refused {refused}")
+}
