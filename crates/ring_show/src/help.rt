@@ -1,7 +1,6 @@
 //! The texts of the help.
 
-pub const ABOUT: &str =
-    "Shows what lies in a ring, a broadcast buffer or a set of counters, from a copy of its memory in a file.";
+pub const ABOUT: &str = "Shows what lies in a ring, from a copy of its memory in a file.";
 
 pub const RING: &str = "Lists the records of a ring between its head and its tail";
 

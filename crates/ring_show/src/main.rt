@@ -1,4 +1,4 @@
-//! Shows what lies in a ring, a broadcast buffer or a set of counters: reads a copy of its memory from a file, and prints a
+//! Shows what lies in a ring: reads a copy of its memory from a file, and prints a
 //! table that a person reads, or JSON.
 #![tactic(auto)]
 

@@ -1,4 +1,4 @@
-//! What lies in the words of a ring, a broadcast buffer or a set of counters: read from a copy of their memory, whatever
+//! What lies in the words of a ring: read from a copy of its memory, whatever
 //! that holds.
 #![tactic(auto)]
 
