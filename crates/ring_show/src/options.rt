@@ -1,0 +1,125 @@
+//! The command line.
+use crate::help;
+use clap::{Arg, ArgAction, ArgMatches, Command, Error, value_parser};
+use std::alloc::Global;
+
+/// What is shown, and where its memory lies.
+#[derive(Clone, Copy, Debug)]
+pub enum Subject<'a> {
+    Ring { file: &'a str },
+}
+
+/// How the bytes of messages, keys and labels are shown.
+#[derive(Clone, Copy, Debug, PartialEq, Eq)]
+pub enum Bodies {
+    Hex,
+    Text,
+    None,
+}
+
+/// What is printed.
+#[derive(Clone, Copy, Debug, PartialEq, Eq)]
+pub enum Format {
+    Table,
+    Json,
+}
+
+/// A section of a file, in bytes. Without a length it goes to the file's end.
+#[derive(Clone, Copy, Debug, PartialEq, Eq)]
+pub struct Section {
+    pub at: u64,
+    pub length: Option<u64>,
+}
+
+/// A command line that was taken.
+#[derive(Clone, Copy, Debug)]
+pub struct Options<'a> {
+    pub subject: Subject<'a>,
+    pub section: Section,
+    pub from: Option<u64>,
+    pub bodies: Bodies,
+    pub format: Format,
+}
+
+static BODIES: [&str; 3] = ["hex", "text", "none"];
+
+static FORMATS: [&str; 2] = ["table", "json"];
+
+fn number<'a>(alloc: Global, name: &'a str, value: &'a str, text: &'a str) -> Arg<'a> {
+    Arg::new(alloc, name)
+        .long(name)
+        .value_name(value)
+        .action(ArgAction::Set)
+        .value_parser(value_parser!(u64))
+        .help(text)
+}
+
+fn choice<'a>(alloc: Global, name: &'a str, choices: &'a [&'a str], text: &'a str) -> Arg<'a> {
+    Arg::new(alloc, name)
+        .long(name)
+        .action(ArgAction::Set)
+        .value_parser(choices)
+        .help(text)
+}
+
+fn file<'a>(alloc: Global, name: &'a str, text: &'a str) -> Arg<'a> {
+    Arg::new(alloc, name)
+        .required(true)
+        .action(ArgAction::Set)
+        .help(text)
+}
+
+/// A subcommand with the options that all have.
+fn shown<'a>(alloc: Global, name: &'a str, about: &'a str) -> Result<Command<'a>, Error> {
+    let command = Command::new(alloc, name)
+        .about(about)
+        .arg(number(alloc, "at", "BYTES", help::AT))?
+        .arg(number(alloc, "length", "BYTES", help::LENGTH))?
+        .arg(choice(alloc, "bodies", BODIES.as_slice(), help::BODIES).default_value("hex"))?
+        .arg(choice(alloc, "format", FORMATS.as_slice(), help::FORMAT).default_value("table"))?;
+    Ok(command)
+}
+
+fn command<'a>(alloc: Global) -> Result<Command<'a>, Error> {
+    let ring = shown(alloc, "ring", help::RING)?
+        .arg(file(alloc, "FILE", help::FILE))?
+        .arg(number(alloc, "from", "POSITION", help::FROM))?;
+    let command = Command::new(alloc, "ring-show")
+        .bin_name("ring-show")?
+        .about(help::ABOUT)
+        .after_help(help::AFTER)
+        .subcommand_required(true)
+        .subcommand(ring)?;
+    Ok(command)
+}
+
+/// Parses the words of a command line, the program's name first.
+pub fn parse<'a>(alloc: Global, words: &'a [String]) -> Result<Options<'a>, Error> {
+    let mut matches = command(alloc)?.try_get_matches_from(words)?;
+    match matches.remove_subcommand() {
+        Some((_name, inner)) => Ok(options_of(&inner)),
+        None => Ok(options_of(&matches)),
+    }
+}
+
+fn options_of<'a>(matches: &ArgMatches<'a>) -> Options<'a> {
+    Options {
+        subject: Subject::Ring {
+            file: matches.get_str("FILE").unwrap_or(""),
+        },
+        section: Section {
+            at: matches.get_one("at").unwrap_or(0),
+            length: matches.get_one("length"),
+        },
+        from: matches.get_one("from"),
+        bodies: match matches.get_str("bodies") {
+            Some("text") => Bodies::Text,
+            Some("none") => Bodies::None,
+            _ => Bodies::Hex,
+        },
+        format: match matches.get_str("format") {
+            Some("json") => Format::Json,
+            _ => Format::Table,
+        },
+    }
+}

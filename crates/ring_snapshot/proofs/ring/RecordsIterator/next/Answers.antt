@@ -1,0 +1,27 @@
+use Rattle.std.proofs.Common.{rules, ◌≡◌, ◌+◌, ◌-◌, ◌<◌, ◌∷◌, length, ap, sym, ◌∙◌, arith}
+use Rattle.ring_snapshot.specs.RingRecords.{up_to_eight, listing, records_left}
+use Rattle.ring_snapshot.proofs.ListingLemmas.{next_ok, next_err}
+use Rattle.ring_snapshot.proofs.ring.RecordsIterator.next.Goals as goal
+use Rattle.ring_snapshot.proofs.ring.RecordsIterator.next.Goals.{in-Ok, in-Err}
+
+pub returns-clause-steps : goal.returns-clause-steps
+returns-clause-steps c =
+    let old = c.args.self.now in
+    let x = c.entry_at-entry.result in
+    let some : 0 < old.most = search rules in
+    let before : old.at < old.tail = search rules in
+    elim c.match-entry.branch [
+      | in-Ok w ↦
+          let span : up_to_eight w.in-Ok.record.length ≡ w.align8.result = sym (w.align8.ensures ∙ ap up_to_eight w.from.ensures) in
+          next_ok old.ring.capacity old.ring.words.now old.tail old.most old.at x w.in-Ok.record some before c.entry_at-entry.ensures.entry w.in-Ok.is
+          ∙ ap (λ k. x ∷ listing old.ring.capacity old.ring.words.now old.tail (old.most - 1) (old.at + k)) span
+          ∙ ap (λ s. x ∷ records_left s) (sym w.self-is)
+      | in-Err w ↦
+          next_err old.ring.capacity old.ring.words.now old.tail old.most old.at x w.in-Err._finding some before c.entry_at-entry.ensures.entry w.in-Err.is
+          ∙ ap (λ s. x ∷ records_left s) (sym w.self-is)
+    ]
+
+pub returns-clause-goes : goal.returns-clause-goes
+returns-clause-goes c =
+    let less : length (records_left c.match-entry.self) < length (records_left c.args.self.now) = omega (arith, ap length (returns-clause-steps c)) in
+    search (rules, less)

@@ -1,0 +1,149 @@
+-- The records in the words of a ring, whatever these are, and those of a history. Positions are running byte counts, and C is the capacity of the buffer.
+use Rattle.std.specs.Prelude.{◌≡◌, ℕ, zero, suc, ◌+◌, ◌-◌, ◌*◌, ◌/◌, ◌%◌, ◌^◌, ◌<◌, ◌≤◌, Bool, true, ◌&&◌, ◌==◌, not, nat_le, nat_lt, int_lt, int_le, if◌then◌else◌, ℤ, pos, nat_abs, List, [], ◌∷◌, ◌++◌, All, length, slice_index, Result, Ok, Err, Option, Some, None, ◌||◌}
+use Rattle.std.specs.Int.{cast_signed, w32}
+use Rattle.ring_layout.specs.declared.message.Claim.{Claim}
+use Rattle.ring_layout.specs.declared.message.ClaimState.{ClaimState}
+use Rattle.ring_layout.specs.declared.message.ClaimState.TheVariants as claimed
+use Rattle.ring_layout.specs.History.{IsMessage, span_of}
+use Rattle.ring_layout.specs.Places.{index, room, next_place, end_of}
+use Rattle.ring_layout.specs.Picture.{word_at}
+use Rattle.ring_layout.specs.Headers.{padding_type}
+use Rattle.ring_layout.specs.Layout.{tail_index, head_index}
+use Rattle.ring_counters.specs.Records.{bytes_at}
+use Rattle.ring_snapshot.specs.declared.record.Record.{Record}
+use Rattle.ring_snapshot.specs.declared.record.RecordState.{RecordState}
+use Rattle.ring_snapshot.specs.declared.record.RecordState.TheVariants.{Open, Committed, Aborted, AbortedOrPadding, Unstored}
+use Rattle.ring_snapshot.specs.declared.ring_finding.RingFinding.{RingFinding}
+use Rattle.ring_snapshot.specs.declared.ring_finding.RingFinding.TheVariants.{UnalignedPosition, TailBeforeHead, TailTooFar, OutsideOfRecords, BadLength, BadType}
+use Rattle.ring_snapshot.specs.declared.ring.Records.{Records}
+use Rattle.ring_snapshot.specs.declared.ring.RingSnapshot.{RingSnapshot}
+
+abbrev pub Entry : Type 0
+Entry = Result Record RingFinding
+
+-- Any words ----------------------------------------------------------------
+
+-- what a header word says
+abbrev pub length_in : ℕ → ℤ
+length_in w = cast_signed w32 (w % 2 ^ 32)
+
+abbrev pub type_in : ℕ → ℤ
+type_in w = cast_signed w32 (w / 2 ^ 32)
+
+abbrev pub is_padding_type : ℤ → Bool
+is_padding_type type_id = int_le type_id padding_type && int_le padding_type type_id
+
+-- the bytes from a record's begin to the next one's
+abbrev pub up_to_eight : ℕ → ℕ
+up_to_eight n = (n + 7) / 8 * 8
+
+-- a record of this length may lie at the position: no message is longer, and it crosses neither the end of the buffer nor the tail
+abbrev pub is_length : ℕ → ℕ → ℕ → ℕ → Bool
+is_length C tail at n = nat_le 8 n && nat_le n (8 + C / 8) && nat_le (up_to_eight n) (room C at) && nat_le (at + up_to_eight n) tail
+
+-- a passed record: where it ends with the buffer it may be padding
+abbrev pub passed_at : ℕ → ℕ → ℕ → Record
+passed_at C at n = record {
+  place = at;
+  index = at % C;
+  state = if at % C + n == C then AbortedOrPadding else Aborted;
+  type_id = padding_type;
+  length = n;
+  body = [];
+}
+
+abbrev pub unstored_at : ℕ → ℕ → ℕ → Record
+unstored_at C tail at = record { place = at; index = at % C; state = Unstored; type_id = pos 0; length = tail - at; body = [] }
+
+abbrev pub message_at : ℕ → List ℕ → ℕ → ℤ → ℤ → Record
+message_at C words at len type_id = record {
+  place = at;
+  index = at % C;
+  state = if int_lt len (pos 0) then Open else Committed;
+  type_id = type_id;
+  length = nat_abs len;
+  body = bytes_at words (at % C + 8) (nat_abs len - 8);
+}
+
+-- what a header with this length and type id tells at a position
+abbrev pub entry_for : ℕ → List ℕ → ℕ → ℕ → ℤ → ℤ → Entry
+entry_for C words tail at len type_id =
+    if not (is_length C tail at (nat_abs len)) then Err (BadLength (at % C) len)
+    else (if int_lt (pos 0) len && is_padding_type type_id then Ok (passed_at C at (nat_abs len))
+    else (if int_lt type_id (pos 1) then Err (BadType (at % C) type_id)
+    else Ok (message_at C words at len type_id)))
+
+-- what the words hold at a position, where the records end at the tail
+abbrev pub entry_at : ℕ → List ℕ → ℕ → ℕ → Entry
+entry_at C words tail at =
+    let w = slice_index words (index C at) in
+    if w == 0 then Ok (unstored_at C tail at) else entry_for C words tail at (length_in w) (type_in w)
+
+-- an entry, and the rest from where it ends; nothing behind a finding
+abbrev pub followed : (ℕ → List Entry) → ℕ → Entry → List Entry
+followed rest at (Err finding) = Err finding ∷ []
+followed rest at (Ok r) = Ok r ∷ rest (at + up_to_eight r.length)
+
+-- the first n of what lies from a position on: one behind the other, up to the tail or a finding
+abbrev pub listing : ℕ → List ℕ → ℕ → ℕ → ℕ → List Entry
+listing C words tail zero at = []
+listing C words tail (suc n) at = if nat_le tail at then [] else followed (listing C words tail n) at (entry_at C words tail at)
+
+-- what is still to come
+abbrev pub records_left : Records → List Entry
+records_left r = listing r.ring.capacity r.ring.words.now r.tail r.most r.at
+
+-- the positions in a ring's trailer
+abbrev pub head_in : RingSnapshot → ℕ
+head_in ring = slice_index ring.words.now (head_index ring.capacity)
+
+abbrev pub tail_in : RingSnapshot → ℕ
+tail_in ring = slice_index ring.words.now (tail_index ring.capacity)
+
+-- what lies in a ring from a position up to its tail
+abbrev pub listed_from : RingSnapshot → ℕ → List Entry
+listed_from ring position = listing ring.capacity ring.words.now (tail_in ring) ((tail_in ring - position) / 8) position
+
+-- what is wrong with a head and a tail, in the order of the tests
+abbrev pub positions_finding : ℕ → ℕ → ℕ → Option RingFinding
+positions_finding C head tail =
+    if not (head % 8 == 0) || not (tail % 8 == 0) then Some (UnalignedPosition head tail)
+    else (if nat_lt tail head then Some (TailBeforeHead head tail)
+    else (if nat_lt (head + C) tail then Some (TailTooFar head tail)
+    else None))
+
+abbrev pub or_else : Option RingFinding → Option RingFinding → Option RingFinding
+or_else (Some finding) other = Some finding
+or_else None other = other
+
+-- why nothing is listed from a position
+abbrev pub from_finding : ℕ → ℕ → ℕ → ℕ → Option RingFinding
+from_finding C head tail position = or_else (positions_finding C head tail)
+    (if not (position % 8 == 0) || nat_lt position head || nat_lt tail position then Some (OutsideOfRecords position) else None)
+
+-- Words of a history -------------------------------------------------------
+
+abbrev pub state_of : ℕ → ℕ → Claim → Record
+state_of C place c = by_state c.state
+  where
+    by_state : ClaimState → Record
+    by_state claimed.Open = record { place = place; index = place % C; state = Open; type_id = c.message.type_id; length = 8 + length c.message.body; body = c.message.body }
+    by_state claimed.Committed = record { place = place; index = place % C; state = Committed; type_id = c.message.type_id; length = 8 + length c.message.body; body = c.message.body }
+    by_state claimed.Aborted = passed_at C place (8 + length c.message.body)
+
+-- the records of claims that come after e, each with its place: the padding before a claim, and the claim
+abbrev pub records_of : ℕ → ℕ → List Claim → List Record
+records_of C e [] = []
+records_of C e (c ∷ h) =
+    let place = next_place C e (span_of c) in
+    (if nat_lt e place then passed_at C e (place - e) ∷ [] else []) ++ state_of C place c ∷ records_of C (place + span_of c) h
+
+abbrev pub ok_records : List Record → List Entry
+ok_records [] = []
+ok_records (r ∷ rs) = Ok r ∷ ok_records rs
+
+-- the claims lie from e up to the tail, and the words there are theirs
+pub record Lie (C : ℕ) (words : List ℕ) (tail e : ℕ) (h : List Claim) : Type 0 where
+  pub lawful : All (λ c. IsMessage C c.message) h
+  pub ends : end_of C e h ≡ tail
+  pub picture : (p : ℕ) → p % 8 ≡ 0 → e ≤ p → p < tail → slice_index words (index C p) ≡ word_at C e h p

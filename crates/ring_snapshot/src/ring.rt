@@ -1,0 +1,264 @@
+//! The records of a ring.
+ghost use Rattle.std.specs.Prelude.{◌≡◌, ◌+◌, ◌%◌, ◌≤◌, length};
+ghost use Rattle.ring_layout.specs.Places.{IsCapacity};
+ghost use Rattle.ring_layout.specs.Layout.{ring_words};
+
+use crate::body::Body;
+use crate::record::{Record, RecordState};
+use crate::ring_finding::RingFinding;
+use ring_layout::record_descriptor::{HEADER_LENGTH, PADDING_MSG_TYPE_ID};
+use ring_layout::ring_buffer_descriptor::{
+    CONSUMER_HEARTBEAT_WORD, CORRELATION_COUNTER_WORD, HEAD_CACHE_POSITION_WORD,
+    HEAD_POSITION_WORD, MAX_CAPACITY, TAIL_POSITION_WORD, TRAILER_WORDS,
+};
+use ring_layout::{align8, byte_index, is_capacity, max_message, unpack_header, word_index};
+
+/// A ring's words: those of its buffer, and those of its trailer.
+#[derive(Clone, Copy, Debug)]
+pub struct RingSnapshot<'a> {
+    capacity: u32,
+    words: &'a [u64],
+    ghost lawful: { IsCapacity capacity },
+    ghost whole: { length words.now ≡ ring_words capacity },
+}
+
+/// The records of a ring from a position on, in order. It ends at the tail, and behind a finding.
+#[derive(Debug, Drop)]
+pub struct Records<'a> {
+    ring: RingSnapshot<'a>,
+    at: u64,
+    tail: u64,
+    most: u64,
+    ghost aligned: { (at % 8 ≡ 0) × (tail % 8 ≡ 0) },
+    ghost before: { at ≤ tail },
+    ghost near: { tail ≤ at + ring.capacity },
+}
+
+impl<'a> RingSnapshot<'a> {
+    ghost use Rattle.std.specs.Prelude.{◌≡◌, ◌≢◌, ℕ, ◌+◌, ◌-◌, ◌*◌, ◌/◌, ◌%◌, ◌^◌, ◌<◌, ◌≤◌, ◌==◌, if◌then◌else◌, List, [], length, slice_index, IfOk, IfErr};
+    ghost use Rattle.ring_layout.specs.declared.message.Claim.{Claim};
+    ghost use Rattle.ring_layout.specs.Places.{IsCapacity};
+    ghost use Rattle.ring_layout.specs.Layout.{tail_index, head_cache_index, head_index, correlation_index, heartbeat_index, ring_words};
+    ghost use Rattle.ring_board.specs.Refusals.{IsRefusedBy};
+    ghost use Rattle.ring_snapshot.specs.declared.record.RecordState.TheVariants.{Aborted, AbortedOrPadding};
+    ghost use Rattle.ring_snapshot.specs.declared.ring_finding.RingFinding.TheVariants.{BadSize};
+    ghost use Rattle.ring_snapshot.specs.RingRecords.{up_to_eight, is_length, entry_at, records_left, listed_from, records_of, ok_records, Lie, head_in, tail_in, positions_finding, from_finding};
+
+    /// Takes the words of a ring. `BadSize` where no ring has so many.
+    pub fn new(words: &'a [u64]) -> Result<Self, RingFinding>
+        ensures ring { IfOk result (λ r. (r.words.now ≡ words.now) × IsCapacity r.capacity × (length words.now ≡ ring_words r.capacity)) }
+        ensures refused { IfErr result (λ f. (f ≡ BadSize (length words.now)) × ((C : ℕ) → IsCapacity C → length words.now ≢ ring_words C)) }
+    {
+        let refused = RingFinding::BadSize { words: words.len() };
+        if words.len() < TRAILER_WORDS || words.len() - TRAILER_WORDS > MAX_CAPACITY as usize / 8 {
+            return Err(refused);
+        }
+        let capacity = (words.len() - TRAILER_WORDS) as u32 * 8;
+        if !is_capacity(capacity) {
+            return Err(refused);
+        }
+        Ok(RingSnapshot { capacity, words })
+    }
+
+    /// The bytes of its buffer.
+    pub fn capacity(&self) -> u32
+        ensures capacity { result ≡ self.now.capacity }
+        ensures lawful { IsCapacity result }
+    {
+        self.capacity
+    }
+
+    /// Up to where messages were taken.
+    pub fn head(&self) -> u64
+        ensures { result ≡ slice_index self.now.words.now (head_index self.now.capacity) }
+    {
+        self.words[self.capacity as usize / 8 + HEAD_POSITION_WORD]
+    }
+
+    /// The head as the producers last saw it.
+    pub fn head_cache(&self) -> u64
+        ensures { result ≡ slice_index self.now.words.now (head_cache_index self.now.capacity) }
+    {
+        self.words[self.capacity as usize / 8 + HEAD_CACHE_POSITION_WORD]
+    }
+
+    /// Up to where room is claimed.
+    pub fn tail(&self) -> u64
+        ensures { result ≡ slice_index self.now.words.now (tail_index self.now.capacity) }
+    {
+        self.words[self.capacity as usize / 8 + TAIL_POSITION_WORD]
+    }
+
+    /// The next correlation id.
+    pub fn correlation(&self) -> u64
+        ensures { result ≡ slice_index self.now.words.now (correlation_index self.now.capacity) }
+    {
+        self.words[self.capacity as usize / 8 + CORRELATION_COUNTER_WORD]
+    }
+
+    /// The heartbeat of the consumer.
+    pub fn heartbeat(&self) -> u64
+        ensures { result ≡ slice_index self.now.words.now (heartbeat_index self.now.capacity) }
+    {
+        self.words[self.capacity as usize / 8 + CONSUMER_HEARTBEAT_WORD]
+    }
+
+    /// The records from the head on. It refuses positions that make no sense, in this order: `UnalignedPosition`,
+    /// `TailBeforeHead`, `TailTooFar`.
+    ///
+    /// Of the words of a ring that has a history it gives exactly the claims of that, in order, each with its place and the
+    /// padding before it. Of any words it gives one record behind the other, up to the tail or a finding.
+    pub fn records(&self) -> Result<Records<'a>, RingFinding>
+        ensures refused { IsRefusedBy (positions_finding self.now.capacity (head_in self.now) (tail_in self.now)) result }
+        ensures listed { IfOk result (λ r. records_left r ≡ listed_from self.now (head_in self.now)) }
+        ensures exact { (h : List Claim) → Lie self.now.capacity self.now.words.now (tail_in self.now) (head_in self.now) h
+            → IfOk result (λ r. records_left r ≡ ok_records (records_of self.now.capacity (head_in self.now) h)) }
+    {
+        self.records_from(self.head())
+    }
+
+    /// The records from a position on, which has to be the begin of one. It refuses as `records` does, and with
+    /// `OutsideOfRecords` a position that does not lie between head and tail or is no multiple of 8.
+    pub fn records_from(&self, position: u64) -> Result<Records<'a>, RingFinding>
+        ensures refused { IsRefusedBy (from_finding self.now.capacity (head_in self.now) (tail_in self.now) position) result }
+        ensures listed { IfOk result (λ r. records_left r ≡ listed_from self.now position) }
+        ensures exact { (h : List Claim) → Lie self.now.capacity self.now.words.now (tail_in self.now) position h
+            → IfOk result (λ r. records_left r ≡ ok_records (records_of self.now.capacity position h)) }
+    {
+        let (head, tail) = (self.head(), self.tail());
+        self.check_positions(head, tail)?;
+        if position % 8 != 0 || position < head || position > tail {
+            return Err(RingFinding::OutsideOfRecords { position });
+        }
+        Ok(Records {
+            ring: *self,
+            at: position,
+            tail,
+            most: (tail - position) / 8,
+        })
+    }
+
+    /// Tests the positions of head and tail.
+    fn check_positions(&self, head: u64, tail: u64) -> Result<(), RingFinding>
+        ensures { IsRefusedBy (positions_finding self.now.capacity head tail) result }
+    {
+        if head % 8 != 0 || tail % 8 != 0 {
+            return Err(RingFinding::UnalignedPosition { head, tail });
+        }
+        if tail < head {
+            return Err(RingFinding::TailBeforeHead { head, tail });
+        }
+        if tail - head > u64::from(self.capacity) {
+            return Err(RingFinding::TailTooFar { head, tail });
+        }
+        Ok(())
+    }
+
+    /// Tests whether a record of this length, header included, may lie at a position.
+    fn is_length(&self, tail: u64, at: u64, length: u32) -> bool
+        requires { at ≤ tail }
+        ensures { result ≡ is_length self.now.capacity tail at length }
+    {
+        let most = HEADER_LENGTH as u32 + max_message(self.capacity);
+        if length < HEADER_LENGTH as u32 || length > most {
+            return false;
+        }
+        let span = align8(u64::from(length));
+        span <= u64::from(self.capacity) - byte_index(self.capacity, at) && span <= tail - at
+    }
+
+    /// The state of a passed record: where it ends with the buffer it may be padding.
+    fn passed_state(&self, at: u64, length: u32) -> RecordState
+        requires { length ≤ 2 ^ 25 }
+        ensures { result ≡ (if at % self.now.capacity + length == self.now.capacity then AbortedOrPadding else Aborted) }
+    {
+        if byte_index(self.capacity, at) + u64::from(length) == u64::from(self.capacity) {
+            RecordState::AbortedOrPadding
+        } else {
+            RecordState::Aborted
+        }
+    }
+
+    /// A record whose message is not shown.
+    fn without_body(&self, at: u64, state: RecordState, type_id: i32, length: u32) -> Record<'a>
+        ensures { result ≡ record { place = at; index = at % self.now.capacity; state = state; type_id = type_id; length = length; body = [] } }
+    {
+        Record {
+            place: at,
+            index: byte_index(self.capacity, at) as u32,
+            state,
+            type_id,
+            length,
+            body: Body::new(self.words, 0, 0),
+        }
+    }
+
+    /// What lies at a position before the tail.
+    fn entry_at(&self, tail: u64, at: u64) -> Result<Record<'a>, RingFinding>
+        requires aligned { (at % 8 ≡ 0) × (tail % 8 ≡ 0) }
+        requires before { at < tail }
+        requires near { tail ≤ at + self.now.capacity }
+        ensures entry { result ≡ entry_at self.now.capacity self.now.words.now tail at }
+        ensures inside { IfOk result (λ r. (8 ≤ r.length) × (at + up_to_eight r.length ≤ tail)) }
+    {
+        let index = byte_index(self.capacity, at) as u32;
+        let word = self.words[word_index(self.capacity, at)];
+        if word == 0 {
+            return Ok(self.without_body(at, RecordState::Unstored, 0, (tail - at) as u32));
+        }
+        let (len, type_id) = unpack_header(word);
+        let length = len.unsigned_abs();
+        if !self.is_length(tail, at, length) {
+            return Err(RingFinding::BadLength { index, length: len });
+        }
+        if len > 0 && type_id == PADDING_MSG_TYPE_ID {
+            return Ok(self.without_body(at, self.passed_state(at, length), type_id, length));
+        }
+        if type_id < 1 {
+            return Err(RingFinding::BadType { index, type_id });
+        }
+        let state = if len < 0 {
+            RecordState::Open
+        } else {
+            RecordState::Committed
+        };
+        Ok(Record {
+            place: at,
+            index,
+            state,
+            type_id,
+            length,
+            body: Body::new(
+                self.words,
+                index as usize + HEADER_LENGTH,
+                length as usize - HEADER_LENGTH,
+            ),
+        })
+    }
+}
+
+impl<'a> Iterator for Records<'a> {
+    ghost use Rattle.std.specs.Iterator.{YieldsFirst, item_count};
+    ghost use Rattle.ring_snapshot.specs.RingRecords.{records_left};
+
+    type Item = Result<Record<'a>, RingFinding>;
+
+    ghost next_gives = { YieldsFirst records_left };
+
+    ghost remaining = { item_count records_left };
+
+    fn next(&mut self) -> Option<Result<Record<'a>, RingFinding>> {
+        if self.most == 0 || self.at >= self.tail {
+            return None;
+        }
+        let entry = self.ring.entry_at(self.tail, self.at);
+        match &entry {
+            Ok(record) => {
+                self.at += align8(u64::from(record.length));
+                self.most -= 1;
+            }
+            Err(_finding) => self.most = 0,
+        }
+        Some(entry)
+    }
+}
