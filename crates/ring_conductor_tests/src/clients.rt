@@ -1,5 +1,5 @@
 //! What a client sends, and what it is told.
-use crate::sending::work;
+use crate::sending::{refused, work};
 use ring_board::{Board, Lapped};
 use ring_conductor::{
     Client, Command, Conductor, Polled, Reply, Request, SendFault, WorkStop, encode_command, finish,
@@ -51,10 +51,6 @@ fn each_request_is_the_command_with_the_drawn_id(rt: HostRuntime) -> Result<(), 
         correlation: 3,
         freed: 1,
     };
-    let refused = Reply::Refused {
-        correlation: 4,
-        code: 21,
-    };
     assert_eq!(rt; client.poll(&board, 0), Polled::Answered(first));
     assert_eq!(rt; client.poll(&board, 0), Polled::Another(second));
     assert_eq!(rt;
@@ -62,7 +58,7 @@ fn each_request_is_the_command_with_the_drawn_id(rt: HostRuntime) -> Result<(), 
         Polled::Answered(Reply::Done { correlation: 2 })
     );
     assert_eq!(rt; client.poll(&board, 3), Polled::Answered(closed));
-    assert_eq!(rt; client.poll(&board, 4), Polled::Answered(refused));
+    assert_eq!(rt; client.poll(&board, 4), Polled::Answered(refused(4, 21)));
     assert_eq!(rt; client.poll(&board, 4), Polled::Nothing);
     assert_eq!(rt; conductor.counters().value(0), Ok(-3));
 
@@ -84,9 +80,20 @@ fn a_refused_command_can_be_sent_again_with_its_id(rt: HostRuntime) -> Result<()
 
     // A record of a command to set takes 32 bytes.
     let set = Request::Set { id: 0, value: 1 };
-    for correlation in 0..8 {
-        assert_eq!(rt; client.send(&ring, set), Ok(correlation));
-    }
+    let sent = [
+        client.send(&ring, set),
+        client.send(&ring, set),
+        client.send(&ring, set),
+        client.send(&ring, set),
+        client.send(&ring, set),
+        client.send(&ring, set),
+        client.send(&ring, set),
+        client.send(&ring, set),
+    ];
+    assert_eq!(rt;
+        sent,
+        [Ok(0), Ok(1), Ok(2), Ok(3), Ok(4), Ok(5), Ok(6), Ok(7)]
+    );
     let full = SendFault::Refused {
         correlation: 8,
         reason: TryFault::Refused(ClaimFault::InsufficientCapacity { tail: 256, head: 0 }),
@@ -100,13 +107,18 @@ fn a_refused_command_can_be_sent_again_with_its_id(rt: HostRuntime) -> Result<()
     assert_eq!(rt; seven, work(7, WorkStop::Block));
     let last = conductor.do_work(&ring, &board, &values, 0, 9);
     assert_eq!(rt; last, work(1, WorkStop::Unpublished));
-    for correlation in 0..8 {
-        let other = Reply::Refused {
-            correlation,
-            code: 21,
-        };
-        assert_eq!(rt; client.poll(&board, 8), Polled::Another(other));
-    }
+    let told = [
+        client.poll(&board, 8),
+        client.poll(&board, 8),
+        client.poll(&board, 8),
+        client.poll(&board, 8),
+        client.poll(&board, 8),
+        client.poll(&board, 8),
+        client.poll(&board, 8),
+        client.poll(&board, 8),
+    ];
+    let others = [0, 1, 2, 3, 4, 5, 6, 7].map(|id| Polled::Another(refused(id, 21)));
+    assert_eq!(rt; told, others);
     let reply = Reply::Refused {
         correlation: 8,
         code: 21,
@@ -159,10 +171,21 @@ fn a_client_is_told_that_it_was_lapped(rt: HostRuntime) -> Result<(), Fail> {
     let mut client = Client::new(producer, receiver);
 
     // A refusal takes 24 bytes of the board.
-    for correlation in 0..11 {
-        let sent = client.send(&ring, Request::Free { id: 0 });
-        assert_eq!(rt; sent, Ok(correlation));
-    }
+    let free = Request::Free { id: 0 };
+    let sent = [
+        client.send(&ring, free),
+        client.send(&ring, free),
+        client.send(&ring, free),
+        client.send(&ring, free),
+        client.send(&ring, free),
+        client.send(&ring, free),
+        client.send(&ring, free),
+        client.send(&ring, free),
+        client.send(&ring, free),
+        client.send(&ring, free),
+        client.send(&ring, free),
+    ];
+    assert_eq!(rt; sent[10], Ok(10));
     let all = conductor.do_work(&ring, &board, &values, 0, 20);
     assert_eq!(rt; all, work(11, WorkStop::Unpublished));
     let lapped = Lapped {

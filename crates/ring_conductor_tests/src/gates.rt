@@ -16,7 +16,7 @@ struct Strict {
 impl Gate for Strict {
     fn may_send(&self, client: u32, number: u32) -> bool {
         let mine = client as usize % 2;
-        if self.answered[mine].load(SeqCst) + 1 != number {
+        if self.answered[mine].load(SeqCst).checked_add(1) != Some(number) {
             self.broken.store(true, SeqCst);
         }
         self.let_send[mine].store(number, SeqCst);
@@ -26,7 +26,7 @@ impl Gate for Strict {
     fn answered(&self, client: u32, number: u32) {
         let mine = client as usize % 2;
         let last = self.answered[mine].swap(number, SeqCst);
-        if last + 1 != number || self.let_send[mine].load(SeqCst) != number {
+        if last.checked_add(1) != Some(number) || self.let_send[mine].load(SeqCst) != number {
             self.broken.store(true, SeqCst);
         }
     }
