@@ -1,3 +1,4 @@
+mod across;
 mod bench;
 mod claims;
 mod closing;

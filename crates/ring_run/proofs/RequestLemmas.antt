@@ -46,13 +46,13 @@ fits_any r a b c d room is_c is_d fits =
 pub start_of : (text old new : List ℕ) (n : ℕ) → n ≡ length text → new ≡ over_start text old → take n new ≡ text
 start_of text old new n len written = rw written (take_at text (drop (length text) old) n (sym len))
 
-pub named_written : (C : ℕ) (v w : View) (t s : ℤ) (b d : List ℕ) → t ≡ s → b ≡ d → AfterTries v (λ u. Writes C t b u w) → AfterTries v (λ u. Writes C s d u w)
+pub named_written : (C : ℕ) (v w : View) (t s : ℤ) (b d : List ℕ) → t ≡ s → b ≡ d → AfterTries C t (length b) v (λ u. Writes C t b u w) → AfterTries C s (length d) v (λ u. Writes C s d u w)
 named_written C v w t s b d same_type same_body h =
-    subst (λ x. AfterTries v (λ u. Writes C x d u w)) same_type (subst (λ x. AfterTries v (λ u. Writes C t x u w)) same_body h)
+    subst (λ x. AfterTries C x (length d) v (λ u. Writes C x d u w)) same_type (subst (λ x. AfterTries C t (length x) v (λ u. Writes C t x u w)) same_body h)
 
-pub named_refused : (C : ℕ) (v w : View) (fault : ClaimFault) (t s : ℤ) (n m : ℕ) → t ≡ s → n ≡ m → AfterTries v (λ u. Refuses C t n u fault w) → AfterTries v (λ u. Refuses C s m u fault w)
+pub named_refused : (C : ℕ) (v w : View) (fault : ClaimFault) (t s : ℤ) (n m : ℕ) → t ≡ s → n ≡ m → AfterTries C t n v (λ u. Refuses C t n u fault w) → AfterTries C s m v (λ u. Refuses C s m u fault w)
 named_refused C v w fault t s n m same_type same_len h =
-    subst (λ x. AfterTries v (λ u. Refuses C x m u fault w)) same_type (subst (λ x. AfterTries v (λ u. Refuses C t x u fault w)) same_len h)
+    subst (λ x. AfterTries C x m v (λ u. Refuses C x m u fault w)) same_type (subst (λ x. AfterTries C t x v (λ u. Refuses C t x u fault w)) same_len h)
 
 -- a type id of 32 bits is the number of its bits
 pub same_type : (r : Request) (a : ℕ) → to_z w32 (of_z w32 (type_id_of (instruction_of r a))) ≡ type_id_of (instruction_of r a)

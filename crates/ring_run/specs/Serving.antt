@@ -13,7 +13,7 @@ pub record SendsRequest (C : ℕ) (request : Request) (v : View) (correlation : 
   pub between : View
   pub draws : DrawsId v correlation between
   pub written : let command = instruction_of request correlation in
-      AfterTries between (λ u. Writes C (type_id_of command) (spelling_of command) u w)
+      AfterTries C (type_id_of command) (length (spelling_of command)) between (λ u. Writes C (type_id_of command) (spelling_of command) u w)
 
 -- an id was drawn, and the command with that correlation id was refused
 pub record RefusesRequest (C : ℕ) (request : Request) (v : View) (fault : ClaimFault) (w : View) : Type 0 where
@@ -21,4 +21,4 @@ pub record RefusesRequest (C : ℕ) (request : Request) (v : View) (fault : Clai
   pub between : View
   pub draws : DrawsId v correlation between
   pub refused : let command = instruction_of request correlation in
-      AfterTries between (λ u. Refuses C (type_id_of command) (length (spelling_of command)) u fault w)
+      AfterTries C (type_id_of command) (length (spelling_of command)) between (λ u. Refuses C (type_id_of command) (length (spelling_of command)) u fault w)

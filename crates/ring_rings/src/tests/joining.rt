@@ -49,7 +49,10 @@ fn open_claims_of_both_are_settled_after_a_join(rt: HostRuntime) -> Result<(), F
         stopped: Stop::Unpublished,
     };
     assert_eq!(rt; ring.read(&mut consumer, 9, &mut shown), end);
-    assert_eq!(rt; shown.notes, [(1, Some(0)), (4, Some(9)), (0, None), (0, None)]);
+    assert_eq!(rt;
+        shown.notes,
+        [(1, Some(0)), (4, Some(9)), (0, None), (0, None)]
+    );
     Ok(())
 }
 
