@@ -174,7 +174,7 @@ impl LooseRing {
 
     /// Writes a message. It may wait.
     pub fn write<R: Wait>(&mut self, rt: &R, type_id: i32, body: &[u8]) -> Result<(), ClaimFault>
-        ensures written { OnOk result (AfterTries self.old.holder.view (λ v. Writes self.old.capacity type_id body.now v self.new.holder.view)) }
+        ensures written { OnOk result (AfterTries self.old.capacity type_id (length body.now) self.old.holder.view (λ v. Writes self.old.capacity type_id body.now v self.new.holder.view)) }
         ensures refused { IfErr result (λ fault. Declines self.old.capacity self.old.holder type_id (length body.now) fault self.new.holder) }
         ensures rest { self.new ≡ with_view self.new.holder.view self.old }
     {

@@ -108,6 +108,7 @@ module _ (C start : ℕ) (words : List ℕ) (v : View) (closed : IsClosed C star
           correlation = closed.service.correlation;
           heartbeat = subst (λ (u : ConsumerView). get_elem? (0 ∷ u.heartbeats) (length u.heartbeats) ≡ some (slice_index words (heartbeat_index C))) consumer closed.service.heartbeat;
           cache = subst (λ (u : ConsumerView). slice_index words (head_cache_index C) ≤ u.head) consumer closed.service.cache;
+          unnamed = closed.service.unnamed;
         }
 
 -- v is the view of a producer p that the consumer r was joined into, and the items are a copy of the closed table's words

@@ -25,16 +25,18 @@ and_right false c h = refl
 pub record Ends (scan : ℕ) (got : List PlacedMessage) (w x : View) (loads : List (ℕ × ℕ)) : Type 0 where
   pub view : LoadsMore w loads x
   pub head : x.consumer.head ≡ scan
+  pub cleared : x.consumer.cleared ≡ scan
   pub taken : x.consumer.taken ≡ got
   pub heartbeats : x.consumer.heartbeats ≡ w.consumer.heartbeats
 
 pub ends_now : (scan : ℕ) (got : List PlacedMessage) (w x : View) → Settles scan got w x → Ends scan got w x []
-ends_now scan got w x p = record { view = loads_quiet w x p.view; head = p.head; taken = p.taken; heartbeats = p.heartbeats }
+ends_now scan got w x p = record { view = loads_quiet w x p.view; head = p.head; cleared = p.cleared; taken = p.taken; heartbeats = p.heartbeats }
 
 pub ends_more : (scan : ℕ) (got : List PlacedMessage) (w x y : View) (loads : List (ℕ × ℕ)) → LoadsMore w loads x → x.consumer.heartbeats ≡ w.consumer.heartbeats → Settles scan got x y → Ends scan got w y loads
 ends_more scan got w x y loads p h q = record {
   view = subst (λ (l : List (ℕ × ℕ)). LoadsMore w l y) (append-nil loads) (loads_more w x y loads [] p (loads_quiet x y q.view));
   head = q.head;
+  cleared = q.cleared;
   taken = q.taken;
   heartbeats = q.heartbeats ∙ h;
 }
@@ -88,6 +90,7 @@ module _ {S : Type 0} (step : S → Message → S → Action → Type 0) where
         loads = r.loads ++ loads;
         view = loads_more v w x r.loads loads r.view e.view;
         heartbeats = e.heartbeats ∙ r.heartbeats;
+        cleared = e.cleared ∙ sym e.head;
         on = omega (arith, e.head, r.from, r.to);
         within = subst (λ (p : ℕ). p ≤ v.consumer.head + room v.capacity v.consumer.head) (sym e.head) r.within;
       };
@@ -115,17 +118,18 @@ module _ {S : Type 0} (step : S → Message → S → Action → Type 0) where
       }
 
   -- it was stopped by Break at the last message
-  pub broke : (limit : ℕ) (v x y : View) (s u : S) (scan count : ℕ) (r : Runs step limit v x s u scan count) (before : List Action) → All GoesOn before → r.actions ≡ before ++ Break ∷ []
+  pub broke : (limit : ℕ) (v x y : View) (s u : S) (scan count : ℕ) (r : Runs step limit v x s u scan count) (before : List Action) → All GoesOn before → r.actions ≡ before ++ Break ∷ [] → IsTight v.consumer.head r.messages scan
       → Settles scan (v.consumer.taken ++ r.messages) x y
       → (end : ReadEnd) → end.messages ≡ count → end.stopped ≡ Stop.Action → Broke step limit v y s u end
   unfolding reads_end
-  broke limit v x y s u scan count r before goes is p end counted stopped =
+  broke limit v x y s u scan count r before goes is tight p end counted stopped =
       let d = reads_end limit v x y s u scan count r [] (ends_now scan (v.consumer.taken ++ r.messages) x y p) in
       record {
         reads = record { messages = d.messages; actions = d.actions; handled = d.handled; counted = counted ∙ d.counted; taken = d.taken; moves = d.moves; tight = λ h. d.tight (sym counted ∙ h) };
         before = before;
         went_on = goes;
         broke = is;
+        tight = subst (λ (q : ℕ). IsTight v.consumer.head r.messages q) (sym p.head) tight;
         stopped = stopped;
       }
 

@@ -39,7 +39,7 @@ module _ {S : Type 0} (step : S → Message → S → Action → Type 0) where
         elim h as (λ _. Controls step limit v w s t end) [
           | inl on ↦ inl (record { reads = reads_heard t end.messages on.reads; went_on = on.went_on; stopped = on.stopped })
           | inr stopped ↦ elim stopped as (λ _. Controls step limit v w s t end) [
-            | inl b ↦ inr (inl (record { reads = reads_heard t end.messages b.reads; before = b.before; went_on = b.went_on; broke = b.broke; stopped = b.stopped }))
+            | inl b ↦ inr (inl (record { reads = reads_heard t end.messages b.reads; before = b.before; went_on = b.went_on; broke = b.broke; tight = b.tight; stopped = b.stopped }))
             | inr a ↦ inr (inr (record {
               before = a.before;
               reads = reads_heard a.before end.messages a.reads;

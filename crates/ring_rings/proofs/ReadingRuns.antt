@@ -195,9 +195,9 @@ module _ {S : Type 0} (step : S → Message → S → Action → Type 0) (limit 
     runs_on_shown n a x u goes f = (runs_shown v w s t scan count r.0 some below inside n a x u f, All-push GoesOn r.0.actions a r.1 goes)
 
     pub runs_on_broken : (n : ℕ) (a : Action) (x : View) (u : S) (f : ShowsOne step v.capacity scan (v.consumer.taken ++ r.0.messages) w t n a x u)
-        → (d : Runs v x s u (scan + n) (count + 1)) × (d.messages ≡ r.0.messages ++ f.message ∷ []) × (d.actions ≡ r.0.actions ++ a ∷ [])
+        → (d : Runs v x s u (scan + n) (count + 1)) × (d.messages ≡ r.0.messages ++ f.message ∷ []) × (d.actions ≡ r.0.actions ++ a ∷ []) × IsTight v.consumer.head d.messages (scan + n)
     unfolding runs_shown
-    runs_on_broken n a x u f = (runs_shown v w s t scan count r.0 some below inside n a x u f, refl, refl)
+    runs_on_broken n a x u f = (runs_shown v w s t scan count r.0 some below inside n a x u f, refl, refl, inr (r.0.messages, f.message, refl, omega (arith, f.place, f.bytes)))
 
     -- and the head is stored
     pub runs_on_committed : (n : ℕ) (a : Action) (x y : View) (u : S) → GoesOn a → (f : ShowsOne step v.capacity scan (v.consumer.taken ++ r.0.messages) w t n a x u)

@@ -161,7 +161,7 @@ module _ {S : Type 0} {step : S → Message → S → Action → Type 0} {limit 
         let more = runs_on_broken step limit v w s t scan count q.runs q.some apart q.inside n a x u shows in
         let last : more.0.actions ≡ q.runs.0.actions ++ Break ∷ [] = more.2 ∙ ap (λ (b : Action). q.runs.0.actions ++ b ∷ []) is in
         let p' = subst (λ (l : List PlacedMessage). Settles (scan + n) (v.consumer.taken ++ l) x y) (sym more.1) p in
-        inr (inl (broke step limit v x y s u (scan + n) (count + 1) more.0 q.runs.0.actions q.runs.1 last p' end d.messages d.stopped))
+        inr (inl (broke step limit v x y s u (scan + n) (count + 1) more.0 q.runs.0.actions q.runs.1 last more.3 p' end d.messages d.stopped))
 
     -- it is to be left
     pub left_inside : x.consumer.head % C + scan ≤ x.consumer.head + C

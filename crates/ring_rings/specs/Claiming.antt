@@ -1,7 +1,5 @@
 -- What claims do to a producer's view, and why they are refused.
 use Rattle.std.specs.Prelude.{◌≡◌, ◌≢◌, ◌⊎◌, ℕ, ◌+◌, ◌/◌, ◌%◌, ◌<◌, ◌≤◌, ℤ, pos, List, [], ◌∷◌, ◌++◌, length, Option, Some, None, Result, Err, MatchOption, IsOk, if◌then◌else◌, nat_lt, int_lt}
-use mathlib.Core.Option.{some}
-use lib.ListN.{get_elem?}
 use Rattle.ring_layout.specs.declared.message.ClaimState.TheVariants.{Committed}
 use Rattle.ring_layout.specs.History.{span}
 use Rattle.ring_layout.specs.Places.{next_place, end_after, max_position, Fits}
@@ -23,12 +21,23 @@ use Rattle.ring_rings.specs.declared.fault.TryFault.TheVariants.{Refused, Conten
 abbrev pub looked : List (ℕ × ℕ) → ℕ → ℕ → View → View
 looked loads tail head v = record v { log = v.log ++ loads; producer = record v.producer { seen_tail = tail; seen_head = head } }
 
--- nothing but loads was done, and no smaller end is the greatest one seen
-pub record Looks (v : View) (loads : List (ℕ × ℕ)) (w : View) : Type 0 where
-  pub tail : ℕ
-  pub head : ℕ
-  pub view : w ≡ looked loads tail head v
-  pub later : v.producer.seen_tail ≤ tail
+-- the cached head was loaded, and had no room behind it up to `end`; so this head was loaded after it
+pub record LooksTwice (C tail end : ℕ) (loads : List (ℕ × ℕ)) (head : ℕ) : Type 0 where
+  pub cached : ℕ
+  pub loaded : loads ≡ (head_cache_index C, cached) ∷ (head_index C, head) ∷ []
+  pub order : cached ≤ tail
+  pub full : cached + C < end
+
+-- the head that a try goes by, whose record would end at `end`: the cached one, or the one that was loaded after it
+abbrev pub GoesBy : ℕ → ℕ → ℕ → List (ℕ × ℕ) → ℕ → Type 0
+GoesBy C tail end loads head = (loads ≡ (head_cache_index C, head) ∷ []) ⊎ LooksTwice C tail end loads head
+
+-- the head that a try goes by is not beyond the tail, and has room behind it
+pub record SeesRoom (C tail end : ℕ) (loads : List (ℕ × ℕ)) : Type 0 where
+  pub last : ℕ
+  pub goes : GoesBy C tail end loads last
+  pub order : last ≤ tail
+  pub room : end ≤ last + C
 
 -- Claims -----------------------------------------------------------------------
 
@@ -69,9 +78,8 @@ IsRefusedBy refusal result = MatchOption refusal (IsOk result) (λ fault. result
 
 -- the cached head and then the head were loaded, and the record fits behind neither
 pub record IsFull (C tail len : ℕ) (loads : List (ℕ × ℕ)) (fault : ClaimFault) : Type 0 where
-  pub cached : ℕ
   pub head : ℕ
-  pub loaded : loads ≡ (head_cache_index C, cached) ∷ (head_index C, head) ∷ []
+  pub loaded : LooksTwice C tail (end_after C tail (span len)) loads head
   pub fault_is : fault ≡ InsufficientCapacity tail head
   pub order : head ≤ tail
   pub full : Fits C tail head (span len) → ⊥
@@ -82,6 +90,7 @@ pub record IsFull (C tail len : ℕ) (loads : List (ℕ × ℕ)) (fault : ClaimF
 pub record ClaimsAlone (C : ℕ) (type_id : ℤ) (len : ℕ) (v : View) (t : ClaimAt) (w : View) : Type 0 where
   pub admitted : tail_refusal_of C v.producer.seen_tail type_id len ≡ None
   pub loads : List (ℕ × ℕ)
+  pub room : SeesRoom C v.producer.seen_tail (end_after C v.producer.seen_tail (span len)) loads
   pub head : ℕ
   pub view : w ≡ with_claim (claim_behind C v.producer.seen_tail type_id len) (end_after C v.producer.seen_tail (span len)) (looked loads v.producer.seen_tail head v)
   pub claim : t ≡ handle_behind C v.producer.seen_tail type_id len
@@ -90,6 +99,7 @@ pub record ClaimsAlone (C : ℕ) (type_id : ℤ) (len : ℕ) (v : View) (t : Cla
 pub record WritesAlone (C : ℕ) (type_id : ℤ) (body : List ℕ) (v w : View) : Type 0 where
   pub admitted : tail_refusal_of C v.producer.seen_tail type_id (length body) ≡ None
   pub loads : List (ℕ × ℕ)
+  pub room : SeesRoom C v.producer.seen_tail (end_after C v.producer.seen_tail (span (length body))) loads
   pub head : ℕ
   pub view : w ≡ with_claim (record_behind C v.producer.seen_tail type_id body) (end_after C v.producer.seen_tail (span (length body))) (looked loads v.producer.seen_tail head v)
 
@@ -111,6 +121,7 @@ pub record Claims (C : ℕ) (type_id : ℤ) (len : ℕ) (v : View) (t : ClaimAt)
   pub tail : ℕ
   pub admitted : tail_refusal_of C tail type_id len ≡ None
   pub loads : List (ℕ × ℕ)
+  pub room : SeesRoom C tail (end_after C tail (span len)) loads
   pub head : ℕ
   pub later : v.producer.seen_tail ≤ tail
   pub view : w ≡ with_claim (claim_behind C tail type_id len) (end_after C tail (span len)) (looked ((tail_index C, tail) ∷ loads) tail head v)
@@ -121,6 +132,7 @@ pub record Writes (C : ℕ) (type_id : ℤ) (body : List ℕ) (v w : View) : Typ
   pub tail : ℕ
   pub admitted : tail_refusal_of C tail type_id (length body) ≡ None
   pub loads : List (ℕ × ℕ)
+  pub room : SeesRoom C tail (end_after C tail (span (length body))) loads
   pub head : ℕ
   pub later : v.producer.seen_tail ≤ tail
   pub view : w ≡ with_claim (record_behind C tail type_id body) (end_after C tail (span (length body))) (looked ((tail_index C, tail) ∷ loads) tail head v)
@@ -146,7 +158,19 @@ pub record IsFullBehind (C : ℕ) (type_id : ℤ) (len : ℕ) (v : View) (fault 
 abbrev pub Refuses : ℕ → ℤ → ℕ → View → ClaimFault → View → Type 0
 Refuses C type_id len v fault w = ((request_refusal_of C type_id len ≡ Some fault) × (w ≡ v)) ⊎ (IsAtLimit C type_id len v fault w ⊎ IsFullBehind C type_id len v fault w)
 
--- a tail was loaded, and after it a greater position: only another producer can have moved the tail
+-- the head that the try goes by is this one, which is beyond the tail that was loaded
+pub record IsBeyond (C tail end seen : ℕ) (loads : List (ℕ × ℕ)) (seen_tail : ℕ) : Type 0 where
+  pub goes : GoesBy C tail end loads seen
+  pub same : seen_tail ≡ tail
+
+-- there was room, and the exchange found this tail in place of the one that was loaded
+pub record IsOvertaken (C tail end seen : ℕ) (loads : List (ℕ × ℕ)) (seen_tail : ℕ) : Type 0 where
+  pub looks : List (ℕ × ℕ)
+  pub room : SeesRoom C tail end looks
+  pub loaded : loads ≡ looks ++ (tail_index C, seen) ∷ []
+  pub same : seen_tail ≡ seen
+
+-- a tail was loaded, and after it a greater position, at once where that is a head: only another producer can have moved the tail
 pub record Contends (C : ℕ) (type_id : ℤ) (len : ℕ) (v : View) (tail seen : ℕ) (w : View) : Type 0 where
   pub no_other : tail_refusal_of C tail type_id len ≡ None
   pub later : v.producer.seen_tail ≤ tail
@@ -154,11 +178,7 @@ pub record Contends (C : ℕ) (type_id : ℤ) (len : ℕ) (v : View) (tail seen 
   pub seen_tail : ℕ
   pub head : ℕ
   pub view : w ≡ looked ((tail_index C, tail) ∷ loads) seen_tail head v
-  pub keeps : tail ≤ seen_tail
-  pub nth : ℕ
-  pub word : ℕ
-  pub loaded : get_elem? loads nth ≡ some (word, seen)
-  pub position : (word ≡ tail_index C) ⊎ ((word ≡ head_cache_index C) ⊎ (word ≡ head_index C))
+  pub found : IsBeyond C tail (end_after C tail (span len)) seen loads seen_tail ⊎ IsOvertaken C tail (end_after C tail (span len)) seen loads seen_tail
   pub greater : tail < seen
   pub others : v.producer.shares ≢ 65536
 
@@ -166,9 +186,14 @@ abbrev pub RefusesTry : ℕ → ℤ → ℕ → View → TryFault → View → T
 RefusesTry C type_id len v (Refused fault) w = Refuses C type_id len v fault w
 RefusesTry C type_id len v (Contended tail seen) w = Contends C type_id len v tail seen w
 
--- some tries only looked, and P holds of the view after them
-pub record AfterTries (v : View) (P : View → Type 0) : Type 0 where
-  pub loads : List (ℕ × ℕ)
+-- these tries, one after the other, lead from v to w: each was Contended at its first position, because of its second
+abbrev pub AreContended : ℕ → ℤ → ℕ → List (ℕ × ℕ) → View → View → Type 0
+AreContended C type_id len [] v w = w ≡ v
+AreContended C type_id len (t ∷ ts) v w = (u : View) × Contends C type_id len v t.0 t.1 u × AreContended C type_id len ts u w
+
+-- some tries were Contended, and P holds of the view after them
+pub record AfterTries (C : ℕ) (type_id : ℤ) (len : ℕ) (v : View) (P : View → Type 0) : Type 0 where
+  pub tries : List (ℕ × ℕ)
   pub before : View
-  pub looks : Looks v loads before
+  pub contended : AreContended C type_id len tries v before
   pub holds : P before

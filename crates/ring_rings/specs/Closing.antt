@@ -2,7 +2,7 @@
 use Rattle.std.specs.Prelude.{◌≡◌, ℕ, ◌-◌, ◌%◌, ◌^◌, ◌≤◌, List, ◌∷◌, ◌++◌, length, slice_index, Option, Some, None, Result, Err, MatchOption, IsOk, if◌then◌else◌, nat_lt, ◌==◌}
 use mathlib.Core.Option.{some}
 use lib.ListN.{get_elem?}
-use Rattle.ring_layout.specs.Layout.{correlation_index, heartbeat_index, head_cache_index}
+use Rattle.ring_layout.specs.Layout.{correlation_index, heartbeat_index, head_cache_index, IsUnnamed}
 use Rattle.ring_words.specs.Ring.{Ring, Has, head_of}
 use Rattle.ring_table.specs.declared.claim.StagedClaim.{StagedClaim}
 use Rattle.ring_table.specs.declared.view.View.{View}
@@ -49,7 +49,7 @@ pub record HandsOut (C start : ℕ) (p r : View) (rest : Ring) : Type 0 where
   pub head : head_of rest ≡ r.consumer.head
   pub has : Has rest (claims_of left)
 
--- The numbers below some number were drawn, each once, and each producer's heartbeats are entries of those stored. The words of both services follow from that
+-- The numbers below some number were drawn, each once, and each producer's heartbeats are entries of those stored. The words of both services follow from that, and the trailer's words without a name are 0
 pub record Serves (C : ℕ) (p r : View) (rest : Ring) : Type 0 where
   pub drawn : ℕ
   pub once : (x : ℕ) → times_drawn x p.producer ≡ once_below x drawn
@@ -57,3 +57,4 @@ pub record Serves (C : ℕ) (p r : View) (rest : Ring) : Type 0 where
   pub correlation : slice_index rest.words (correlation_index C) ≡ drawn % 2 ^ 64
   pub heartbeat : get_elem? (0 ∷ r.consumer.heartbeats) (length r.consumer.heartbeats) ≡ some (slice_index rest.words (heartbeat_index C))
   pub cache : slice_index rest.words (head_cache_index C) ≤ r.consumer.head
+  pub unnamed : (i : ℕ) → IsUnnamed C i → slice_index rest.words i ≡ 0

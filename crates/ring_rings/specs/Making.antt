@@ -1,10 +1,7 @@
 -- How a claim is made, in parts.
 use Rattle.std.specs.Prelude.{◌≡◌, ◌≢◌, ◌⊎◌, ℕ, ◌+◌, ◌%◌, ◌≤◌, ◌<◌, ◌==◌, ℤ, List, [], ◌∷◌, ◌++◌, length, None}
-use mathlib.Core.Option.{some}
-use lib.ListN.{get_elem?}
 use Rattle.ring_layout.specs.History.{IsMessage, span}
 use Rattle.ring_layout.specs.Places.{next_place, end_after, max_position}
-use Rattle.ring_layout.specs.Layout.{head_cache_index, head_index}
 use Rattle.ring_table.specs.declared.claim.StagedClaim.{StagedClaim}
 use Rattle.ring_table.specs.declared.view.View.{View}
 use Rattle.ring_table.specs.Staged.{staged_span}
@@ -14,7 +11,7 @@ use Rattle.ring_table.specs.Views.{with_claim}
 use Rattle.ring_rings.specs.declared.admission.Admission.{Admission}
 use Rattle.ring_rings.specs.declared.room.Shortage.{Shortage}
 use Rattle.ring_rings.specs.declared.room.Shortage.TheVariants.{Full, Passed}
-use Rattle.ring_rings.specs.Claiming.{claim_behind, looked, tail_refusal_of}
+use Rattle.ring_rings.specs.Claiming.{GoesBy, LooksTwice, SeesRoom, claim_behind, looked, tail_refusal_of}
 
 -- a lawful message goes here behind the tail
 pub record IsAdmitted (C tail : ℕ) (type_id : ℤ) (len : ℕ) (a : Admission) : Type 0 where
@@ -24,36 +21,35 @@ pub record IsAdmitted (C tail : ℕ) (type_id : ℤ) (len : ℕ) (a : Admission)
   pub end : a.end ≡ end_after C tail (span len)
   pub limit : end_after C tail (span len) ≤ max_position
 
--- a head was seen behind which there is room up to `end`
-pub record FindsRoom (C end : ℕ) (v w : View) : Type 0 where
+-- there is room behind the tail up to `end`
+pub record FindsRoom (C tail end : ℕ) (v w : View) : Type 0 where
   pub loads : List (ℕ × ℕ)
   pub head : ℕ
   pub view : w ≡ looked loads v.producer.seen_tail head v
+  pub looks : SeesRoom C tail end loads
   pub room : end ≤ head + C
 
 -- neither the cached head nor the head, which were loaded, has room behind it up to `end`
 pub record FindsNoRoom (C tail end head : ℕ) (v w : View) : Type 0 where
-  pub cached : ℕ
+  pub loads : List (ℕ × ℕ)
   pub seen : ℕ
-  pub view : w ≡ looked ((head_cache_index C, cached) ∷ (head_index C, head) ∷ []) v.producer.seen_tail seen v
+  pub view : w ≡ looked loads v.producer.seen_tail seen v
+  pub loaded : LooksTwice C tail end loads head
   pub order : head ≤ tail
   pub full : head + C < end
 
 -- a head beyond the tail was loaded
-pub record FindsPassed (C tail seen : ℕ) (v w : View) : Type 0 where
+pub record FindsPassed (C tail end seen : ℕ) (v w : View) : Type 0 where
   pub loads : List (ℕ × ℕ)
   pub head : ℕ
   pub view : w ≡ looked loads v.producer.seen_tail head v
-  pub nth : ℕ
-  pub word : ℕ
-  pub loaded : get_elem? loads nth ≡ some (word, seen)
-  pub position : (word ≡ head_cache_index C) ⊎ (word ≡ head_index C)
+  pub goes : GoesBy C tail end loads seen
   pub greater : tail < seen
   pub others : v.producer.shares ≢ 65536
 
 abbrev pub FindsShortage : ℕ → ℕ → ℕ → Shortage → View → View → Type 0
 FindsShortage C tail end (Full head) v w = FindsNoRoom C tail end head v w
-FindsShortage C tail end (Passed seen) v w = FindsPassed C tail seen v w
+FindsShortage C tail end (Passed seen) v w = FindsPassed C tail end seen v w
 
 -- the claim is made behind the tail, after these loads and others
 pub record Makes (C tail : ℕ) (type_id : ℤ) (len : ℕ) (front : List (ℕ × ℕ)) (v : View) (a : Admission) (w : View) : Type 0 where
@@ -61,6 +57,7 @@ pub record Makes (C tail : ℕ) (type_id : ℤ) (len : ℕ) (front : List (ℕ �
   pub admitted : IsAdmitted C tail type_id len a
   pub whole : a.end % 8 ≡ 0
   pub loads : List (ℕ × ℕ)
+  pub room : SeesRoom C tail (end_after C tail (span len)) loads
   pub head : ℕ
   pub view : w ≡ with_claim (claim_behind C tail type_id len) (end_after C tail (span len)) (looked (front ++ loads) tail head v)
   pub few : length v.producer.claims ≤ a.place

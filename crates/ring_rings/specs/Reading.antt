@@ -28,11 +28,12 @@ abbrev pub IsTight : ℕ → List PlacedMessage → ℕ → Type 0
 IsTight start messages head = ((messages ≡ []) × (head ≡ start))
     ⊎ ((front : List PlacedMessage) × (m : PlacedMessage) × (messages ≡ front ++ m ∷ []) × (head ≡ message_end m))
 
--- Of the seat only the log, which is longer by these loads, and the consumer's part change. The heartbeats stay, and the head does not pass the end of the buffer
+-- Of the seat only the log, which is longer by these loads, and the consumer's part change. The heartbeats stay, the head does not pass the end of the buffer, and no word is cleared from the new head on
 pub record MovesHead (v w : View) : Type 0 where
   pub loads : List (ℕ × ℕ)
   pub view : w ≡ record v { log = v.log ++ loads; consumer = w.consumer }
   pub heartbeats : w.consumer.heartbeats ≡ v.consumer.heartbeats
+  pub cleared : w.consumer.cleared ≡ w.consumer.head
   pub on : v.consumer.head ≤ w.consumer.head
   pub within : w.consumer.head ≤ v.consumer.head + room v.capacity v.consumer.head
 
@@ -45,6 +46,12 @@ pub record Reads {S : Type 0} (step : S → Message → S → Action → Type 0)
   pub taken : w.consumer.taken ≡ v.consumer.taken ++ messages
   pub moves : MovesHead v w
   pub tight : count ≡ limit → IsTight v.consumer.head messages w.consumer.head
+
+-- messages were taken, and why the read stopped
+pub record ReadsTo {S : Type 0} (step : S → Message → S → Action → Type 0) (limit : ℕ) (v w : View) (s t : S) (end : ReadEnd) : Type 0 where
+  pub reads : Reads step limit v w s t end.messages
+  pub bytes : v.consumer.head + end.bytes ≡ w.consumer.head
+  pub stopped : end.stopped ≡ stop_of w.capacity limit end.messages w.consumer.head end.bytes
 
 -- a header with a length of at most 0
 pub record IsUnpublished (n : ℕ) : Type 0 where
@@ -83,12 +90,13 @@ pub record WentOn {S : Type 0} (step : S → Message → S → Action → Type 0
   pub went_on : All GoesOn reads.actions
   pub stopped : end.stopped ≡ stop_of w.capacity limit end.messages w.consumer.head end.bytes
 
--- it stopped the read by Break at the last message, which was taken
+-- it stopped the read by Break at the last message, which was taken, and nothing was passed behind it
 pub record Broke {S : Type 0} (step : S → Message → S → Action → Type 0) (limit : ℕ) (v w : View) (s t : S) (end : ReadEnd) : Type 0 where
   pub reads : Reads step limit v w s t end.messages
   pub before : List Action
   pub went_on : All GoesOn before
   pub broke : reads.actions ≡ before ++ Break ∷ []
+  pub tight : IsTight v.consumer.head reads.messages w.consumer.head
   pub stopped : end.stopped ≡ Stop.Action
 
 -- it stopped the read by Abort at one message more, which was left

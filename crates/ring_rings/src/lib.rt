@@ -23,7 +23,9 @@ mod waiting;
 
 pub use claim::Claim;
 pub use fault::{CloseFault, NoShares, TryFault};
-pub use ring_words::{Action, ClaimFault, Handler, MakeFault, Positions, PutRange, ReadEnd, Stop};
+pub use ring_words::{
+    Action, ClaimFault, Handler, MakeFault, Positions, PutRange, ReadEnd, Standing, Stop,
+};
 pub use seats::{
     CloseRefused, Consumer, ManyToOne, ManyToOneRing, OneToOne, OneToOneRing, Producer, Ring,
 };

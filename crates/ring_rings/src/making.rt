@@ -1,13 +1,13 @@
 //! Rings as they are made, with the first producer and the consumer.
-ghost use Rattle.std.specs.Prelude.{◌≡◌, ◌%◌, ◌≤◌, IfOk};
+ghost use Rattle.std.specs.Prelude.{◌≡◌, ◌/◌, ◌%◌, ◌≤◌, IfOk};
 ghost use Rattle.ring_layout.specs.Places.{IsCapacity, max_position};
 ghost use Rattle.ring_words.specs.Fresh.{make_refusal_of, IsMadeUnless};
 ghost use Rattle.ring_rings.specs.Seats.{capacity_of, consumer_view, start_of, view_of, IsConsumerOf, IsProducerOf};
 ghost use Rattle.ring_rings.specs.Opening.{first_consumer, first_producer};
 
 use crate::seats::{Consumer, Producer, Ring};
-use ring_layout::is_capacity;
 use ring_layout::ring_buffer_descriptor::{MAX_POSITION, TRAILER_WORDS};
+use ring_layout::{is_capacity, max_message};
 use ring_table::{Key, open, split_consumer};
 use ring_words::MakeFault;
 use std::alloc::{AllocError, Global};
@@ -88,6 +88,13 @@ impl<K> Ring<K> {
             kind: PhantomData,
         };
         Ok((ring, producer, consumer))
+    }
+
+    /// The most bytes of a message: an eighth of the capacity. A longer one is refused with `TooLong`.
+    pub fn max_message(&self) -> u32
+        ensures { result ≡ capacity_of self.now / 8 }
+    {
+        max_message(self.capacity)
     }
 
     /// The bytes of the buffer.

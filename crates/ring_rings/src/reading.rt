@@ -10,7 +10,8 @@ ghost use Rattle.ring_table.specs.declared.claim.PlacedMessage.{PlacedMessage};
 ghost use Rattle.ring_table.specs.Seats.{IsSameSeat};
 ghost use Rattle.ring_words.specs.Read.{stop_of};
 ghost use Rattle.ring_rings.specs.Seats.{IsConsumerOf, capacity_of, consumer_view, head_of};
-ghost use Rattle.ring_rings.specs.Reading.{Controls, IsBlocked, Reads};
+ghost use Rattle.ring_words.specs.Across.{ReadsAcross};
+ghost use Rattle.ring_rings.specs.Reading.{Controls, IsBlocked, Reads, ReadsTo};
 ghost use Rattle.ring_rings.specs.ReadingSteps.{IsAt, Settles, heeded};
 
 use crate::seats::{Consumer, Ring};
@@ -129,6 +130,36 @@ impl<K> Ring<K> {
         ensures blocked { result.stopped ≡ Stop.Unpublished → IsBlocked (consumer_view consumer.old) (consumer_view consumer.new) }
     {
         self.run(consumer, limit, false, handler)
+    }
+
+    /// Reads as `read` does, and goes on behind the end of the buffer: where the first read stops with `Block`, a second one
+    /// follows, and no third. So `Unpublished` tells that no settled record lay at the head, and it stops with `Block` only
+    /// where it went from one end of the buffer to the next.
+    pub fn read_across<H: Handler>(
+        &self,
+        consumer: &mut Consumer,
+        limit: u32,
+        handler: &mut H,
+    ) -> ReadEnd
+        requires consumer { IsConsumerOf self.now consumer.old }
+        requires ready { H.ready handler.old }
+        ensures consumer { IsConsumerOf self.now consumer.new }
+        ensures ready { H.ready handler.new }
+        ensures seat { IsSameSeat consumer.old.seat consumer.new.seat }
+        ensures reads { ReadsAcross (ReadsTo H.step) limit (consumer_view consumer.old) (consumer_view consumer.new) handler.old handler.new result }
+        ensures within { result.messages ≤ limit }
+        ensures bytes { head_of consumer.old + result.bytes ≡ head_of consumer.new }
+    {
+        let first = self.read(consumer, limit, handler);
+        if first.stopped != Stop::Block {
+            return first;
+        }
+        let second = self.read(consumer, limit - first.messages, handler);
+        ReadEnd {
+            messages: first.messages + second.messages,
+            bytes: first.bytes + second.bytes,
+            stopped: second.stopped,
+        }
     }
 
     /// Reads as `read` does, and heeds the handler's actions: `Abort` leaves the message and stops, `Break` takes it and

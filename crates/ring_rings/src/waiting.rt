@@ -22,8 +22,8 @@ impl Ring<ManyToOne> {
     ) -> Result<Claim, ClaimFault>
         requires producer { IsProducerOf self.now producer.old }
         ensures producer { IsProducerOf self.now producer.new }
-        ensures claimed { IfOk result (λ t. AfterTries (view_of producer.old) (λ v. Claims (capacity_of self.now) type_id len v t (view_of producer.new))) }
-        ensures refused { IfErr result (λ fault. AfterTries (view_of producer.old) (λ v. Refuses (capacity_of self.now) type_id len v fault (view_of producer.new))) }
+        ensures claimed { IfOk result (λ t. AfterTries (capacity_of self.now) type_id len (view_of producer.old) (λ v. Claims (capacity_of self.now) type_id len v t (view_of producer.new))) }
+        ensures refused { IfErr result (λ fault. AfterTries (capacity_of self.now) type_id len (view_of producer.old) (λ v. Refuses (capacity_of self.now) type_id len v fault (view_of producer.new))) }
         ensures is_open { IfOk result (IsOpenClaimOf self.now producer.new) }
         ensures claims { (t : ClaimAt) → IsOpenClaimOf self.now producer.old t → IsOpenClaimOf self.now producer.new t }
         ensures apart { IfOk result (λ new. (t : ClaimAt) → IsOpenClaimOf self.now producer.old t → t.place ≢ new.place) }
@@ -49,8 +49,8 @@ impl Ring<ManyToOne> {
     ) -> Result<(), ClaimFault>
         requires producer { IsProducerOf self.now producer.old }
         ensures producer { IsProducerOf self.now producer.new }
-        ensures written { OnOk result (AfterTries (view_of producer.old) (λ v. Writes (capacity_of self.now) type_id body.now v (view_of producer.new))) }
-        ensures refused { IfErr result (λ fault. AfterTries (view_of producer.old) (λ v. Refuses (capacity_of self.now) type_id (length body.now) v fault (view_of producer.new))) }
+        ensures written { OnOk result (AfterTries (capacity_of self.now) type_id (length body.now) (view_of producer.old) (λ v. Writes (capacity_of self.now) type_id body.now v (view_of producer.new))) }
+        ensures refused { IfErr result (λ fault. AfterTries (capacity_of self.now) type_id (length body.now) (view_of producer.old) (λ v. Refuses (capacity_of self.now) type_id (length body.now) v fault (view_of producer.new))) }
         ensures claims { (t : ClaimAt) → IsOpenClaimOf self.now producer.old t → IsOpenClaimOf self.now producer.new t }
     {
         let backoff = Backoff::new();

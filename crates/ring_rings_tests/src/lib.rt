@@ -2,6 +2,8 @@
 #![tactic(auto)]
 
 #[cfg(test)]
+mod across;
+#[cfg(test)]
 mod bench;
 #[cfg(test)]
 mod claims;

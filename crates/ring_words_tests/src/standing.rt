@@ -98,15 +98,11 @@ fn a_read_tells_empty_from_blocked(rt: HostRuntime) -> Result<(), Fail> {
     let before = ring.positions();
     let read = ring.read(9, &mut count);
     assert_eq!(rt; read.standing(before, ring.positions()), Standing::Empty);
-    let claim = ring.claim(1, 4)?;
+    let _claim = ring.claim(1, 4)?;
     let before = ring.positions();
     let read = ring.read(9, &mut count);
     let blocked = Standing::Blocked { head: 0 };
     assert_eq!(rt; read.standing(before, ring.positions()), blocked);
-    ring.commit(claim);
-    let before = ring.positions();
-    let read = ring.read(9, &mut count);
-    assert_eq!(rt; read.standing(before, ring.positions()), Standing::Moving);
     Ok(())
 }
 

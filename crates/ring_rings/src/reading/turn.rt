@@ -9,7 +9,7 @@ ghost use Rattle.ring_rings.specs.ReadingSteps.{HasGotLast, IsAt, LoadsBody, Tur
 use super::finding::{Found, find};
 use super::loading::load_body;
 use crate::seats::{Consumer, Ring};
-use ring_layout::record_descriptor::HEADER_LENGTH;
+use ring_layout::span;
 use ring_words::{Action, Handler};
 
 /// What a turn of a read did.
@@ -85,7 +85,7 @@ impl<K> Ring<K> {
             Found::Quiet(span) => Turn::Passed(span),
             Found::Message(type_id, len) => {
                 let action = self.show(consumer, scan, type_id, len, handler);
-                let span = (HEADER_LENGTH + len).next_multiple_of(8) as u64;
+                let span = span(len);
                 Turn::Shown(span, if heeds { action } else { Action::Continue })
             }
         }

@@ -25,8 +25,8 @@ fn write_message<R: Wait>(
 ) -> Result<(), ClaimFault>
     requires { IsProducerOf ring.now producer.old }
     ensures producer { IsProducerOf ring.now producer.new }
-    ensures written { OnOk result (AfterTries (view_of producer.old) (λ v. Writes (capacity_of ring.now) type_id body.now v (view_of producer.new))) }
-    ensures refused { IfErr result (λ fault. AfterTries (view_of producer.old) (λ v. Refuses (capacity_of ring.now) type_id (length body.now) v fault (view_of producer.new))) }
+    ensures written { OnOk result (AfterTries (capacity_of ring.now) type_id (length body.now) (view_of producer.old) (λ v. Writes (capacity_of ring.now) type_id body.now v (view_of producer.new))) }
+    ensures refused { IfErr result (λ fault. AfterTries (capacity_of ring.now) type_id (length body.now) (view_of producer.old) (λ v. Refuses (capacity_of ring.now) type_id (length body.now) v fault (view_of producer.new))) }
     ensures open_claims { open_claims_of producer.new ≡ open_claims_of producer.old }
     ensures shares { shares_of producer.new ≡ shares_of producer.old }
 {
@@ -66,8 +66,8 @@ fn send_request<R: Wait>(
 impl CommandService {
     /// Writes a message into the ring, as `ManyToOneRing::write` does.
     pub fn send<R: Wait>(&mut self, rt: &R, type_id: i32, body: &[u8]) -> Result<(), ClaimFault>
-        ensures written { OnOk result (AfterTries (view_of self.old.producer) (λ v. Writes (capacity_of self.old.ring) type_id body.now v (view_of self.new.producer))) }
-        ensures refused { IfErr result (λ fault. AfterTries (view_of self.old.producer) (λ v. Refuses (capacity_of self.old.ring) type_id (length body.now) v fault (view_of self.new.producer))) }
+        ensures written { OnOk result (AfterTries (capacity_of self.old.ring) type_id (length body.now) (view_of self.old.producer) (λ v. Writes (capacity_of self.old.ring) type_id body.now v (view_of self.new.producer))) }
+        ensures refused { IfErr result (λ fault. AfterTries (capacity_of self.old.ring) type_id (length body.now) (view_of self.old.producer) (λ v. Refuses (capacity_of self.old.ring) type_id (length body.now) v fault (view_of self.new.producer))) }
         ensures conductor { self.new.conductor ≡ self.old.conductor }
     {
         write_message(rt, &self.ring, &mut self.producer, type_id, body)

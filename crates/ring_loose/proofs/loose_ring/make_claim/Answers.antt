@@ -16,7 +16,7 @@ returns-in-Err-clause-claims g c =
 
 pub returns-in-Err-clause-made : goal.returns-in-Err-clause-made
 returns-in-Err-clause-made g c = record {
-  refused = subst (λ n. AfterTries (view_of c.args.producer.now) (λ v. Refuses (capacity_of c.args.ring.now) n c.args.len v c.in-Err.fault (view_of c.claim.new.producer))) (to_z-of_z w32 c.args.type_id c.ranges.type_id) c.in-Err.ensures.refused;
+  refused = subst (λ n. AfterTries (capacity_of c.args.ring.now) n c.args.len (view_of c.args.producer.now) (λ v. Refuses (capacity_of c.args.ring.now) n c.args.len v c.in-Err.fault (view_of c.claim.new.producer))) (to_z-of_z w32 c.args.type_id c.ranges.type_id) c.in-Err.ensures.refused;
   same = search rules;
 }
 
@@ -27,3 +27,9 @@ returns-clause-claims g c =
     subst (AreOpen c.args.ring.now c.claim.new.producer) (sym items)
     (one_more_open c.args.ring.now c.args.producer.now c.claim.new.producer c.args.claims.now.items c.in-Ok.claim gained.0 c.requires.claims c.claim.ensures.claims
     c.in-Ok.ensures.is_open c.in-Ok.ensures.apart gained.1 gained.2.claims)
+
+pub returns-in-Err-clause-shares : goal.returns-in-Err-clause-shares
+returns-in-Err-clause-shares g c = (keeps_after _ _ _ _ _ _ c.in-Err.ensures.refused).shares
+
+pub returns-clause-shares : goal.returns-clause-shares
+returns-clause-shares g c = (gains_claim _ _ _ c.in-Ok.claim _ _ c.in-Ok.ensures.claimed).2.shares

@@ -1,4 +1,4 @@
-use Rattle.std.proofs.Common.{ℕ, [], ◌∷◌, max, refl, inl, inr, ap, ◌∙◌, arith}
+use Rattle.std.proofs.Common.{ℕ, [], ◌∷◌, max, refl, inl, inr, ap, ◌∙◌, arith, rules}
 use Rattle.ring_layout.specs.Layout.{head_cache_index, head_index}
 use Rattle.ring_table.specs.declared.view.View.{View}
 use Rattle.ring_rings.specs.Claiming.{looked}
@@ -14,10 +14,7 @@ returns-then-cached-admission-clause-found c =
       loads = _;
       head = _;
       view = told.view;
-      nth = 0;
-      word = _;
-      loaded = refl;
-      position = inl refl;
+      goes = inl refl;
       greater = lt;
       others = λ all. let le = told.sole all in omega arith;
     }
@@ -39,10 +36,7 @@ returns-then-head-admission-clause-found c =
           ∙ told.view
           ∙ ap (λ (u : View). looked ((head_index C, head) ∷ []) u.producer.seen_tail head u) first
           ∙ looked_twice v ((head_cache_index C, cached) ∷ []) ((head_index C, head) ∷ []) v.producer.seen_tail (max v.producer.seen_head cached) v.producer.seen_tail head;
-      nth = 1;
-      word = head_index C;
-      loaded = refl;
-      position = inr refl;
+      goes = inr (record { cached = cached; loaded = refl; order = (let le = c.if-cached-admission.false in omega arith); full = search rules });
       greater = lt;
       others = λ all.
           let same = ap (λ (u : View). u.producer.shares) first in
