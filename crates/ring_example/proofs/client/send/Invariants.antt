@@ -1,0 +1,6 @@
+use Rattle.std.specs.Prelude.{◌≤◌}
+use Rattle.ring_rings.specs.Seats.{IsProducerOf}
+use Rattle.ring_example.proofs.client.send.Given as goal
+
+abbrev pub invariant-loop : goal.invariant-loop
+invariant-loop g l = IsProducerOf l.ring l.producer × (l.len ≤ 32)

@@ -1,0 +1,53 @@
+# Claims: room is claimed first and the body put later, and no read goes past a claim that is open.
+# Run it with: ./ring-run < examples/claims.ring
+
+# Two claims are open at once, and the second one is settled first.
+claim 1 16
+claim 2 8
+put 1 0 48656c6c6f
+put 2 0 7365636f6e64
+commit 2
+
+# The first one lies at the head and is open. So nothing is read, though the
+# tail is beyond the head: the reader is blocked, and the ring is not empty.
+read 9
+positions
+put 1 5 20776f726c64
+commit 1
+read 9
+positions
+
+# An aborted claim is passed, and its message is never shown.
+claim 3 4
+abort 3
+write 3 01
+read 9
+
+# The reader answers each message: n goes on, b takes it and stops, a leaves it
+# in the ring and stops.
+write 1 61
+write 1 62
+write 1 63
+control 9 nb
+control 9 a
+control 9 -
+
+# The next record would cross the end of the buffer, 8 bytes ahead, so padding
+# lies there. A read ends at the end of the buffer, and the next goes on behind.
+claim 1 4
+put 4 2 616263
+put 4 1 616263
+read 9
+commit 4
+read 9
+
+# The trailer: correlation ids, each given once, and the reader's heartbeat.
+correlation
+correlation
+heartbeat
+beat 1700000000000
+heartbeat
+
+# A claim that is open at the end is aborted.
+claim 1 2
+end
