@@ -23,7 +23,8 @@ pub struct Board {
     ghost power: { IsTrue (is_power_of_two capacity) },
 }
 
-/// The one who transmits on a board.
+/// The one who transmits on a board. It is used by one thread at a time, and may move between threads. It begins with
+/// 65,536 shares, and gives one to each receiver; `close` wants all of them back.
 #[derive(Drop)]
 pub struct Transmitter {
     pub(crate) seat: BoardSeat,
@@ -89,7 +90,8 @@ pub struct BoardCloseRefused {
     pub transmitter: Transmitter,
 }
 
-/// A receiver that copies each message out and validates the copy.
+/// A receiver that copies each message out and validates the copy. It is used by one thread at a time, and may move
+/// between threads. One that is let go keeps its share, and with it the board from closing, for good.
 #[derive(Drop)]
 pub struct CopyReceiver {
     pub(crate) seat: BoardSeat,
@@ -102,7 +104,8 @@ pub struct CopyReceiver {
     ghost room: { vec_len scratch ≡ seat.me.0.capacity / 8 },
 }
 
-/// A receiver that answers records unread. Their bodies are loaded, and validated, when its user asks.
+/// A receiver that answers records unread. Their bodies are loaded, and validated, when its user asks. It is used by one
+/// thread at a time, and may move between threads. One that is let go keeps the board from closing for good.
 #[derive(Drop)]
 pub struct Receiver {
     pub(crate) seat: BoardSeat,

@@ -24,7 +24,7 @@ pub(crate) struct ValueWriter {
     ghost some: { (0 < shares) × (shares ≤ 65536) },
 }
 
-/// Loads values on another thread.
+/// Loads values, by id, on any thread; it is used by one at a time. Nothing waits for one that is let go.
 #[derive(Drop)]
 pub struct ValueReader {
     pub(crate) seat: Seat<(), ValuesView>,

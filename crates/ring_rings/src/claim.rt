@@ -4,7 +4,11 @@ use ring_layout::record_descriptor::HEADER_LENGTH;
 use ring_table::Wanted;
 use std::marker::Model;
 
-/// A claim whose body is still to be put, and which is then committed or aborted.
+/// A claim whose body is still to be put, and which is then committed or aborted. It may move between threads with its
+/// producer.
+///
+/// One that is let go stays open for good: the consumer never passes it, the ring fills up, and `close` refuses. So a
+/// claim is settled on every path, as by `abort` where its body cannot be made.
 #[derive(Debug, Drop)]
 pub struct Claim {
     place: u64,

@@ -33,7 +33,10 @@ pub type OneToOneRing = Ring<OneToOne>;
 /// A ring with any number of producers, which move the tail by a compare-exchange.
 pub type ManyToOneRing = Ring<ManyToOne>;
 
-/// One who writes into a ring.
+/// One who writes into a ring. It is used by one thread at a time, and may move between threads.
+///
+/// The first producer holds 65,536 shares, and `ManyToOneRing::split` moves one of them to a new producer; `close` wants
+/// all of them back. So a producer that is let go keeps its ring from closing for good.
 #[derive(Drop)]
 pub struct Producer {
     pub(crate) seat: RingSeat,
@@ -45,7 +48,8 @@ pub struct Producer {
     ghost produces: { (seat.me.0.consumes ≡ false) × (seat.me.1 ≡ []) },
 }
 
-/// The one who reads a ring.
+/// The one who reads a ring. It is used by one thread at a time, and may move between threads. Where it is let go, the
+/// ring fills up and can never be closed.
 #[derive(Drop)]
 pub struct Consumer {
     pub(crate) seat: RingSeat,
