@@ -9,12 +9,12 @@ ghost use Rattle.std.specs.Thread.{IsSync};
 ghost use Rattle.ring_conductor.specs.Conducting.{IsConductorOf};
 ghost use Rattle.ring_counters.specs.Seats.{IsReaderOf};
 ghost use Rattle.ring_rings.specs.Seats.{IsConsumerOf};
-ghost use Rattle.ring_example.specs.Client.{IsClientOf};
+ghost use Rattle.ring_example.specs.Caller.{IsCallerOf};
 
-use client::{Client, run_client};
+use client::{Caller, run_caller};
 use conducting::{COUNTERS, Monitor, conduct, watch};
 use ring_board::Board;
-use ring_conductor::{Conductor, finish};
+use ring_conductor::{Client, Conductor, finish};
 use ring_counters::{CounterInfo, CounterValues, CountersManager};
 use ring_rings::{ManyToOneRing, Positions};
 use std::io;
@@ -29,32 +29,32 @@ const RING: u32 = 256;
 /// The bytes of the board. A reply takes 24, so all 2,002 fit and no client is lapped.
 const BOARD: u32 = 65_536;
 
-/// Runs the clients on two threads, and then tells the others to stop.
-fn run_clients<R: Threads + Wait + Sync>(
+/// Runs the callers on two threads, and then tells the others to stop.
+fn run_callers<R: Threads + Wait + Sync>(
     rt: &R,
     ring: &ManyToOneRing,
     board: &Board,
-    clients: (Client, Client),
+    callers: (Caller, Caller),
     stop: &AtomicBool,
-) -> (Client, Client)
-    requires { IsClientOf ring.now board.now clients.0 × IsClientOf ring.now board.now clients.1 }
-    ensures { IsClientOf ring.now board.now result.0 × IsClientOf ring.now board.now result.1 }
+) -> (Caller, Caller)
+    requires { IsCallerOf ring.now board.now callers.0 × IsCallerOf ring.now board.now callers.1 }
+    ensures { IsCallerOf ring.now board.now result.0 × IsCallerOf ring.now board.now result.1 }
 {
-    let (one, two) = clients;
-    let clients = join(
+    let (one, two) = callers;
+    let callers = join(
         rt,
         // What goes into a thread belongs to ring and board, and so does what comes back.
-        move || -> Client
-            requires { IsClientOf ring.now board.now one }
-            ensures { IsClientOf ring.entry.now board.entry.now result }
-        { run_client(rt, ring, board, one) },
-        move || -> Client
-            requires { IsClientOf ring.now board.now two }
-            ensures { IsClientOf ring.entry.now board.entry.now result }
-        { run_client(rt, ring, board, two) },
+        move || -> Caller
+            requires { IsCallerOf ring.now board.now one }
+            ensures { IsCallerOf ring.entry.now board.entry.now result }
+        { run_caller(rt, ring, board, one) },
+        move || -> Caller
+            requires { IsCallerOf ring.now board.now two }
+            ensures { IsCallerOf ring.entry.now board.entry.now result }
+        { run_caller(rt, ring, board, two) },
     );
     stop.store(true, SeqCst);
-    clients
+    callers
 }
 
 /// Runs the conductor and the monitor on two threads, until they are told to stop.
@@ -105,21 +105,24 @@ fn main(rt: HostRuntime) -> anyhow::Result<()> {
     let (values, counters) = CountersManager::new(alloc, COUNTERS, 0)?;
     let mut conductor = Conductor::new(consumer, transmitter, counters);
     let receiver = conductor.subscribe(alloc, &board)?;
-    let requests = Client::new("requests", ring.split(&mut producer)?, receiver);
+    let requests = Caller::new(
+        "requests",
+        Client::new(ring.split(&mut producer)?, receiver),
+    );
     let receiver = conductor.subscribe(alloc, &board)?;
-    let errors = Client::new("errors", ring.split(&mut producer)?, receiver);
+    let errors = Caller::new("errors", Client::new(ring.split(&mut producer)?, receiver));
     let monitor = Monitor::new(conductor.value_reader(&values)?);
 
     let stop = AtomicBool::new(false);
-    let clients = (requests, errors);
+    let callers = (requests, errors);
     let ((one, two), (mut conductor, monitor)) = {
         let (rt, ring, board, values, stop) = (&rt, &ring, &board, &values, &stop);
         join(
             rt,
-            move || -> (Client, Client)
-                requires { IsClientOf ring.now board.now clients.0 × IsClientOf ring.now board.now clients.1 }
-                ensures { IsClientOf ring.entry.now board.entry.now result.0 × IsClientOf ring.entry.now board.entry.now result.1 }
-            { run_clients(rt, ring, board, clients, stop) },
+            move || -> (Caller, Caller)
+                requires { IsCallerOf ring.now board.now callers.0 × IsCallerOf ring.now board.now callers.1 }
+                ensures { IsCallerOf ring.entry.now board.entry.now result.0 × IsCallerOf ring.entry.now board.entry.now result.1 }
+            { run_callers(rt, ring, board, callers, stop) },
             move || -> (Conductor, Monitor)
                 requires conductor { IsConductorOf IsConsumerOf ring.now board.now values.now conductor }
                 requires monitor { IsReaderOf values.now monitor.reader }
@@ -132,10 +135,12 @@ fn main(rt: HostRuntime) -> anyhow::Result<()> {
     // All seats are taken back, and then the conductor can finish.
     let replies = one.replies.saturating_add(two.replies);
     let laps = one.laps.saturating_add(two.laps);
-    ring.join(&mut producer, one.producer);
-    ring.join(&mut producer, two.producer);
-    conductor.join_receiver(&board, one.receiver);
-    conductor.join_receiver(&board, two.receiver);
+    let (writer, receiver) = one.client.into_parts();
+    ring.join(&mut producer, writer);
+    conductor.join_receiver(&board, receiver);
+    let (writer, receiver) = two.client.into_parts();
+    ring.join(&mut producer, writer);
+    conductor.join_receiver(&board, receiver);
     conductor.join_value_reader(&values, monitor.reader);
     let finished = finish(ring, board, values, conductor, producer).map_err(
         |refused| refused.reason,
