@@ -4,6 +4,7 @@ use ring_conductor::{
     command_type_ids, encode_command, reply_type_ids,
 };
 use ring_counters::{AllocateRefused, BadOwner, IdFault};
+use std::process::Abort;
 use std::test::Fail;
 
 #[test]
@@ -19,63 +20,48 @@ fn commands_and_replies_have_these_type_ids(rt: HostRuntime) {
     assert_eq!(rt; reply_type_ids::CLOSED, 104);
 }
 
+/// A command tells its correlation id and its length, and is spelled by so many bytes.
+fn tells(rt: &impl Abort, command: &Command<'_>, correlation: u64, len: usize) {
+    let mut out = [0; 64];
+    assert_eq!(rt; command.correlation(), correlation);
+    assert_eq!(rt; command.encoded_len(), Some(len));
+    assert_eq!(rt; encode_command(command, &mut out), Some(len));
+}
+
 #[test]
 fn commands_tell_their_correlation_and_their_length(rt: HostRuntime) {
     let (key, label) = ([1u8; 3], [b'a'; 5]);
-    let commands = [
-        (
-            Command::Allocate {
-                correlation: 11,
-                type_id: -1,
-                key: &key,
-                label: &label,
-            },
-            11,
-            28,
-        ),
-        (
-            Command::Free {
-                correlation: 12,
-                id: 1,
-            },
-            12,
-            12,
-        ),
-        (
-            Command::Set {
-                correlation: 13,
-                id: 1,
-                value: -1,
-            },
-            13,
-            20,
-        ),
-        (
-            Command::AllocateOwned {
-                correlation: 14,
-                type_id: 1,
-                owner: 2,
-                key: &key,
-                label: &label,
-            },
-            14,
-            36,
-        ),
-        (
-            Command::Close {
-                correlation: u64::MAX,
-                owner: 2,
-            },
-            u64::MAX,
-            16,
-        ),
-    ];
-    for (command, correlation, len) in commands {
-        let mut out = [0; 64];
-        assert_eq!(rt; command.correlation(), correlation);
-        assert_eq!(rt; command.encoded_len(), Some(len));
-        assert_eq!(rt; encode_command(&command, &mut out), Some(len));
-    }
+    let allocate = Command::Allocate {
+        correlation: 11,
+        type_id: -1,
+        key: &key,
+        label: &label,
+    };
+    let free = Command::Free {
+        correlation: 12,
+        id: 1,
+    };
+    let set = Command::Set {
+        correlation: 13,
+        id: 1,
+        value: -1,
+    };
+    let own = Command::AllocateOwned {
+        correlation: 14,
+        type_id: 1,
+        owner: 2,
+        key: &key,
+        label: &label,
+    };
+    let close = Command::Close {
+        correlation: u64::MAX,
+        owner: 2,
+    };
+    tells(&rt, &allocate, 11, 28);
+    tells(&rt, &free, 12, 12);
+    tells(&rt, &set, 13, 20);
+    tells(&rt, &own, 14, 36);
+    tells(&rt, &close, u64::MAX, 16);
 }
 
 #[test]
