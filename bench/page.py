@@ -141,7 +141,7 @@ def main():
     behind = rest.split(END)[1]
     made = [about(sets), ""]
     for title, rows in SECTIONS:
-        made += ["### " + title, "", *table(rows, sets), ""]
+        made += ["## " + title, "", *table(rows, sets), ""]
     with open(page, "w") as it:
         it.write(before + BEGIN + "\n\n" + "\n".join(made) + "\n" + END + behind)
     with open(drawing, "w") as it:
