@@ -1,6 +1,6 @@
 //! The messages that are sent, and what is made of those that come.
 ghost use Rattle.std.specs.Prelude.{◌≡◌};
-ghost use Rattle.ring_words.specs.declared.action.Action.TheVariants.{Continue};
+ghost use Rattle.ring_words.specs.declared.read.action.Action.TheVariants.{Continue};
 
 use crate::fault::Fault;
 use ring_rings::{Action, Handler};

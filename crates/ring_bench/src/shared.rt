@@ -1,6 +1,6 @@
 //! The rings that threads share, one kind as the other.
 ghost use Rattle.std.specs.Prelude.{◌≡◌, [], IfOk};
-ghost use Rattle.ring_rings.specs.declared.seats.Producer.{Producer as TheProducer};
+ghost use Rattle.ring_rings.specs.declared.ring.Producer.{Producer as TheProducer};
 ghost use Rattle.ring_rings.specs.Seats.{shares_of, taken_of, IsProducerOf};
 
 use crate::fault::Fault;

@@ -10,13 +10,13 @@ use Rattle.atomic_table.proofs.Lists.{at_longer, at_last}
 use Rattle.ring_layout.specs.Places.{index}
 use Rattle.ring_layout.specs.History.{overwritten, span}
 use Rattle.ring_layout.proofs.WordBytes.{overwritten_before, overwritten_inside}
-use Rattle.ring_board.specs.declared.view.Record.{Record}
-use Rattle.ring_board.specs.declared.view.Taken.{Taken}
-use Rattle.ring_board.specs.declared.view.View.{View}
-use Rattle.ring_board.specs.declared.view.Load.{Load}
-use Rattle.ring_board.specs.declared.view.Load.TheVariants.{Word, Intent}
-use Rattle.ring_board.specs.declared.view.Stage.TheVariants.{Resting}
-use Rattle.ring_board.specs.declared.seats.RawRecord.{RawRecord}
+use Rattle.ring_board.specs.declared.shared.view.Record.{Record}
+use Rattle.ring_board.specs.declared.shared.view.Taken.{Taken}
+use Rattle.ring_board.specs.declared.shared.view.View.{View}
+use Rattle.ring_board.specs.declared.shared.view.Load.{Load}
+use Rattle.ring_board.specs.declared.shared.view.Load.TheVariants.{Word, Intent}
+use Rattle.ring_board.specs.declared.shared.view.Stage.TheVariants.{Resting}
+use Rattle.ring_board.specs.declared.board.RawRecord.{RawRecord}
 use Rattle.ring_board.specs.Seats.{IsAnswered}
 use Rattle.ring_board.specs.Records.{end, end_of, words_of, word_count, bytes_of, gap}
 use Rattle.ring_board.specs.Rule.{IsBoard, Holds, intent}

@@ -5,10 +5,10 @@ use Rattle.std.proofs.lemmas.List.Elements.{All-from_get_or}
 use Rattle.ring_layout.specs.History.{IsMessage, span}
 use Rattle.ring_layout.specs.Places.{next_place}
 use Rattle.ring_layout.proofs.PlaceLemmas.{next_aligned, span_bounds}
-use Rattle.ring_board.specs.declared.view.Draft.{Draft}
-use Rattle.ring_board.specs.declared.view.Record.{Record}
-use Rattle.ring_board.specs.declared.view.Stage.{Stage}
-use Rattle.ring_board.specs.declared.view.Stage.TheVariants.{Storing, Written}
+use Rattle.ring_board.specs.declared.shared.view.Draft.{Draft}
+use Rattle.ring_board.specs.declared.shared.view.Record.{Record}
+use Rattle.ring_board.specs.declared.shared.view.Stage.{Stage}
+use Rattle.ring_board.specs.declared.shared.view.Stage.TheVariants.{Storing, Written}
 use Rattle.ring_board.specs.Records.{Lies}
 use Rattle.ring_board.specs.Steps.{Sat, staged, started, sent_on, after_words, place_before}
 use Rattle.ring_board.proofs.PlaceLemmas.{lies_before}

@@ -9,12 +9,12 @@ use Rattle.std.proofs.lemmas.List.{length-take-le}
 use Rattle.std.proofs.Math.Seq.{take-append_seam}
 use Rattle.ring_layout.specs.History.{overwritten, span}
 use Rattle.ring_layout.specs.Places.{index, max_position}
-use Rattle.ring_board.specs.declared.view.View.{View}
-use Rattle.ring_board.specs.declared.view.Load.{Load}
-use Rattle.ring_board.specs.declared.view.Load.TheVariants.{Word, Intent, Tail}
-use Rattle.ring_board.specs.declared.view.Stage.{Stage}
-use Rattle.ring_board.specs.declared.view.Stage.TheVariants.{Sure, Headed, Padded, Again, Reading, Behind}
-use Rattle.ring_board.specs.declared.found.Found.TheVariants.{Entry}
+use Rattle.ring_board.specs.declared.shared.view.View.{View}
+use Rattle.ring_board.specs.declared.shared.view.Load.{Load}
+use Rattle.ring_board.specs.declared.shared.view.Load.TheVariants.{Word, Intent, Tail}
+use Rattle.ring_board.specs.declared.shared.view.Stage.{Stage}
+use Rattle.ring_board.specs.declared.shared.view.Stage.TheVariants.{Sure, Headed, Padded, Again, Reading, Behind}
+use Rattle.ring_board.specs.declared.receiver.found.Found.TheVariants.{Entry}
 use Rattle.ring_board.specs.Records.{announced, body_len, is_padding, bytes_of, message_of}
 use Rattle.ring_board.specs.Steps.{Sat, staged, logged, copied, saw_tail, heard, read_word, word_load, last_tail, passed, validated, IsSound, IsSoundAt, IsUnread, header_seen, answered, SeesAnswer}
 use Rattle.ring_board.specs.Receiving.{CopiedWords, TookAll, TookNone, GotCopy, GotMiss, GotRecord, IsInside, ComesTo, FoundIs, NearIs}

@@ -8,13 +8,13 @@ use Rattle.atomic_table.specs.Table.{keeps, stepped}
 use Rattle.atomic_table.proofs.Lists.{at_longer, at_last, at_snoc, set_else}
 use Rattle.ring_layout.specs.Places.{index}
 use Rattle.ring_layout.specs.Headers.{padding_header}
-use Rattle.ring_board.specs.declared.view.Record.{Record}
-use Rattle.ring_board.specs.declared.view.Taken.{Taken}
-use Rattle.ring_board.specs.declared.view.View.{View}
-use Rattle.ring_board.specs.declared.view.Load.{Load}
-use Rattle.ring_board.specs.declared.view.Load.TheVariants.{Intent, Tail, Latest, Word}
-use Rattle.ring_board.specs.declared.view.Stage.{Stage}
-use Rattle.ring_board.specs.declared.view.Stage.TheVariants.{Resting, Sure, Padded, Reading}
+use Rattle.ring_board.specs.declared.shared.view.Record.{Record}
+use Rattle.ring_board.specs.declared.shared.view.Taken.{Taken}
+use Rattle.ring_board.specs.declared.shared.view.View.{View}
+use Rattle.ring_board.specs.declared.shared.view.Load.{Load}
+use Rattle.ring_board.specs.declared.shared.view.Load.TheVariants.{Intent, Tail, Latest, Word}
+use Rattle.ring_board.specs.declared.shared.view.Stage.{Stage}
+use Rattle.ring_board.specs.declared.shared.view.Stage.TheVariants.{Resting, Sure, Padded, Reading}
 use Rattle.ring_board.specs.Records.{end, Follows, end_of, words_of, word_count, placed_words, header_of, announced, body_len, gap, filled, stores}
 use Rattle.ring_board.specs.Runs.{AreRuns}
 use Rattle.ring_board.specs.Rule.{LoadOk, Logged, intent, shown, Running, Before, IsHeader, Next, Knows, IsBoard, Holds}

@@ -8,10 +8,10 @@ use lib.ListN.{get_elem?}
 use Rattle.atomic_table.specs.Table.{opening}
 use Rattle.ring_layout.specs.Places.{max_position}
 use Rattle.ring_layout.proofs.CapacityLemmas.{capacity_blocks}
-use Rattle.ring_board.specs.declared.view.Record.{Record}
-use Rattle.ring_board.specs.declared.view.View.{View}
-use Rattle.ring_board.specs.declared.view.Stage.{Stage}
-use Rattle.ring_board.specs.declared.view.Stage.TheVariants.{Idle}
+use Rattle.ring_board.specs.declared.shared.view.Record.{Record}
+use Rattle.ring_board.specs.declared.shared.view.View.{View}
+use Rattle.ring_board.specs.declared.shared.view.Stage.{Stage}
+use Rattle.ring_board.specs.declared.shared.view.Stage.TheVariants.{Idle}
 use Rattle.ring_board.specs.Layout.{intent_index, tail_index, latest_index, board_words, IsUnnamed, IsBoardCapacity}
 use Rattle.ring_board.specs.Runs.{AreRuns}
 use Rattle.ring_board.specs.Rule.{Logged, Knows, Holds, opening_view}

@@ -5,14 +5,14 @@ use lib.ListN.{get_elem?}
 use lib.Seq.{set-get_or}
 use Rattle.atomic_table.specs.Table.{step, keeps, stepped, Allows, Splits, Joins}
 use Rattle.atomic_table.proofs.Lists.{set_here, set_again, at_longer, at_snoc, set_else}
-use Rattle.ring_board.specs.declared.view.Record.{Record}
-use Rattle.ring_board.specs.declared.view.View.{View}
-use Rattle.ring_board.specs.declared.view.Stage.{Stage}
-use Rattle.ring_board.specs.declared.view.Stage.TheVariants.{Idle, Resting}
+use Rattle.ring_board.specs.declared.shared.view.Record.{Record}
+use Rattle.ring_board.specs.declared.shared.view.View.{View}
+use Rattle.ring_board.specs.declared.shared.view.Stage.{Stage}
+use Rattle.ring_board.specs.declared.shared.view.Stage.TheVariants.{Idle, Resting}
 use Rattle.ring_board.specs.Records.{Chain, last_of}
 use Rattle.ring_board.specs.Runs.{AreRuns}
 use Rattle.ring_board.specs.Rule.{Logged, intent, latest, shown, Before, Fresh, Receives, Knows, total_shares, Holds}
-use Rattle.ring_board.specs.declared.view.Joined.{Joined}
+use Rattle.ring_board.specs.declared.shared.view.Joined.{Joined}
 use Rattle.ring_board.specs.Steps.{Sat, as_joined, fewer, newcomer, joined, spent, Learns}
 use Rattle.ring_board.proofs.PlaceLemmas.{chain_last, last_low}
 use Rattle.ring_board.proofs.OpeningLemmas.{no_copies, no_log}

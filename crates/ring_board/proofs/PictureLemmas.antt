@@ -6,10 +6,10 @@ use mathlib.Core.Option.{some, some-injective, some-ne-none}
 use lib.ListN.{get_elem?}
 use Rattle.atomic_table.specs.Table.{Final, Seen}
 use Rattle.ring_layout.specs.Places.{index}
-use Rattle.ring_board.specs.declared.view.Record.{Record}
-use Rattle.ring_board.specs.declared.view.View.{View}
-use Rattle.ring_board.specs.declared.view.Stage.{Stage}
-use Rattle.ring_board.specs.declared.view.Stage.TheVariants.{Idle}
+use Rattle.ring_board.specs.declared.shared.view.Record.{Record}
+use Rattle.ring_board.specs.declared.shared.view.View.{View}
+use Rattle.ring_board.specs.declared.shared.view.Stage.{Stage}
+use Rattle.ring_board.specs.declared.shared.view.Stage.TheVariants.{Idle}
 use Rattle.ring_board.specs.Layout.{intent_index, tail_index, latest_index, board_words}
 use Rattle.ring_board.specs.Records.{end, Chain, stores, stores_of, last_at, IsNewest, IsBoardWord}
 use Rattle.ring_board.specs.Rule.{Holds, intent, latest, so_far}

@@ -7,7 +7,7 @@ use lib.ListN.{get_elem?}
 use Rattle.ring_layout.specs.Places.{index, room}
 use Rattle.ring_layout.proofs.Laps.{same_index}
 use Rattle.ring_layout.proofs.PlaceLemmas.{next_cases, next_le, next_within, next_aligned}
-use Rattle.ring_board.specs.declared.view.Record.{Record}
+use Rattle.ring_board.specs.declared.shared.view.Record.{Record}
 use Rattle.ring_board.specs.Records.{end, Lies, Follows, Chain, end_of, last_of}
 use Rattle.ring_board.specs.Steps.{place_before}
 

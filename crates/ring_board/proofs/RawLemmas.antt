@@ -2,9 +2,9 @@
 use Rattle.std.proofs.Common.{◌≡◌, ℕ, List, ◌++◌, length, sym, ap, ◌∙◌, subst, refl}
 use lib.ListN.{get_elem?}
 use Rattle.atomic_table.proofs.Lists.{at_longer, at_last}
-use Rattle.ring_board.specs.declared.view.View.{View}
-use Rattle.ring_board.specs.declared.view.Taken.{Taken}
-use Rattle.ring_board.specs.declared.seats.RawRecord.{RawRecord}
+use Rattle.ring_board.specs.declared.shared.view.View.{View}
+use Rattle.ring_board.specs.declared.shared.view.Taken.{Taken}
+use Rattle.ring_board.specs.declared.board.RawRecord.{RawRecord}
 use Rattle.ring_board.specs.Receiving.{GotRecord, IsInside}
 use Rattle.ring_board.specs.Seats.{IsAnswered}
 use Rattle.ring_board.specs.Steps.{Sat}

@@ -3,9 +3,9 @@ use Rattle.std.proofs.Common.{◌≡◌, ℕ, ◌+◌, ◌*◌, ◌/◌, ◌<◌
 use mathlib.Core.Option.{none}
 use Rattle.atomic_table.specs.Table.{step, keeps, stepped, Allows}
 use Rattle.ring_layout.specs.Places.{index}
-use Rattle.ring_board.specs.declared.view.View.{View}
-use Rattle.ring_board.specs.declared.view.Stage.{Stage}
-use Rattle.ring_board.specs.declared.view.Stage.TheVariants.{Resting, Sure, Headed, Padded, Again, Reading, Behind}
+use Rattle.ring_board.specs.declared.shared.view.View.{View}
+use Rattle.ring_board.specs.declared.shared.view.Stage.{Stage}
+use Rattle.ring_board.specs.declared.shared.view.Stage.TheVariants.{Resting, Sure, Headed, Padded, Again, Reading, Behind}
 use Rattle.ring_board.specs.Records.{end_of, word_count, announced, body_len}
 use Rattle.ring_board.specs.Rule.{intent, Holds}
 use Rattle.ring_board.specs.Steps.{Sat, saw_tail, SeesTail, heard, SeesHeader, read_on, read_word, word_load, SeesWord, IsSound, validated, IsUnread, SeesIntent, header_seen, answered, SeesAnswer, lapped, SeesLatest}

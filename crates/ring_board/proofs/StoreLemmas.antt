@@ -8,7 +8,7 @@ use lib.ListN.{get_elem?}
 use Rattle.atomic_table.proofs.Lists.{at_snoc}
 use Rattle.ring_layout.specs.Places.{index}
 use Rattle.ring_layout.specs.Headers.{padding_header}
-use Rattle.ring_board.specs.declared.view.Record.{Record}
+use Rattle.ring_board.specs.declared.shared.view.Record.{Record}
 use Rattle.ring_board.specs.Records.{end, placed_words, gap, filled, stores, stores_of, last_at, words_of, header_of}
 use Rattle.ring_board.proofs.PlaceLemmas.{index_below}
 

@@ -9,11 +9,11 @@ use Rattle.ring_layout.specs.declared.message.Message.{Message}
 use Rattle.ring_layout.specs.History.{IsMessage, span}
 use Rattle.ring_layout.specs.Headers.{padding_header}
 use Rattle.ring_layout.specs.Places.{index, max_position}
-use Rattle.ring_board.specs.declared.view.Record.{Record}
-use Rattle.ring_board.specs.declared.view.Draft.{Draft}
-use Rattle.ring_board.specs.declared.view.View.{View}
-use Rattle.ring_board.specs.declared.view.Stage.{Stage}
-use Rattle.ring_board.specs.declared.view.Stage.TheVariants.{Idle, Begun, Storing, Written, Shown}
+use Rattle.ring_board.specs.declared.shared.view.Record.{Record}
+use Rattle.ring_board.specs.declared.shared.view.Draft.{Draft}
+use Rattle.ring_board.specs.declared.shared.view.View.{View}
+use Rattle.ring_board.specs.declared.shared.view.Stage.{Stage}
+use Rattle.ring_board.specs.declared.shared.view.Stage.TheVariants.{Idle, Begun, Storing, Written, Shown}
 use Rattle.ring_board.specs.Records.{end, Lies, end_of, last_of, placed_words, gap, filled, stores, stores_of, last_at, words_of, header_of, message_in}
 use Rattle.ring_board.specs.Layout.{IsUnnamed}
 use Rattle.ring_board.specs.Rule.{LoadOk, intent, latest, shown, so_far, Stand, Running, Receives, Knows, IsBoard, Holds}

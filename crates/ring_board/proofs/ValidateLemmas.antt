@@ -9,13 +9,13 @@ use Rattle.ring_layout.specs.declared.message.Message.{Message}
 use Rattle.ring_layout.specs.Places.{max_position}
 use Rattle.ring_layout.specs.Headers.{padding_header}
 use Rattle.ring_layout.specs.History.{span}
-use Rattle.ring_board.specs.declared.view.Record.{Record}
-use Rattle.ring_board.specs.declared.view.Taken.{Taken}
-use Rattle.ring_board.specs.declared.view.View.{View}
-use Rattle.ring_board.specs.declared.view.Load.{Load}
-use Rattle.ring_board.specs.declared.view.Load.TheVariants.{Intent, Latest}
-use Rattle.ring_board.specs.declared.view.Stage.{Stage}
-use Rattle.ring_board.specs.declared.view.Stage.TheVariants.{Spent, Idle, Begun, Storing, Written, Shown, Resting, Sure, Headed, Padded, Again, Reading, Behind}
+use Rattle.ring_board.specs.declared.shared.view.Record.{Record}
+use Rattle.ring_board.specs.declared.shared.view.Taken.{Taken}
+use Rattle.ring_board.specs.declared.shared.view.View.{View}
+use Rattle.ring_board.specs.declared.shared.view.Load.{Load}
+use Rattle.ring_board.specs.declared.shared.view.Load.TheVariants.{Intent, Latest}
+use Rattle.ring_board.specs.declared.shared.view.Stage.{Stage}
+use Rattle.ring_board.specs.declared.shared.view.Stage.TheVariants.{Spent, Idle, Begun, Storing, Written, Shown, Resting, Sure, Headed, Padded, Again, Reading, Behind}
 use Rattle.ring_board.specs.Records.{end, words_of, word_count, header_of, announced, body_len, is_padding, message_in, message_of}
 use Rattle.ring_board.specs.Runs.{IsCopy, Neighbours, AreRuns}
 use Rattle.ring_board.specs.Rule.{Logged, latest, Receives, IsHeader, Knows, IsBoard, Holds}

@@ -1,11 +1,11 @@
 -- A board that was closed.
 use Rattle.std.specs.Prelude.{◌≡◌, ℕ, ◌-◌, ◌/◌, ◌<◌, ◌==◌, List, slice_index, Option, Some, None, if◌then◌else◌}
-use Rattle.ring_board.specs.declared.view.Record.{Record}
+use Rattle.ring_board.specs.declared.shared.view.Record.{Record}
 use Rattle.ring_board.specs.declared.fault.ReceiversOut.{ReceiversOut}
-use Rattle.ring_board.specs.declared.seats.Board.{Board}
-use Rattle.ring_board.specs.declared.seats.Transmitter.{Transmitter}
-use Rattle.ring_board.specs.declared.seats.ClosedBoard.{ClosedBoard}
-use Rattle.ring_board.specs.declared.seats.BoardCloseRefused.{BoardCloseRefused}
+use Rattle.ring_board.specs.declared.board.Board.{Board}
+use Rattle.ring_board.specs.declared.board.Transmitter.{Transmitter}
+use Rattle.ring_board.specs.declared.board.ClosedBoard.{ClosedBoard}
+use Rattle.ring_board.specs.declared.board.BoardCloseRefused.{BoardCloseRefused}
 use Rattle.ring_board.specs.Layout.{intent_index, tail_index, latest_index, IsUnnamed, all_shares}
 use Rattle.ring_board.specs.Records.{Chain, end_of, last_of, stores_of, IsBoardWord}
 

@@ -2,8 +2,8 @@
 use Rattle.std.specs.Prelude.{⊤}
 use Rattle.std.specs.Borrow.{follows_so, MutBor, Fml}
 use mathlib.Core.Option.{none}
-use Rattle.ring_board.specs.declared.seats.CopyReceiver.{CopyReceiver}
-use Rattle.ring_board.specs.contracts.seats.CopyReceiver.{the_row}
+use Rattle.ring_board.specs.declared.board.CopyReceiver.{CopyReceiver}
+use Rattle.ring_board.specs.contracts.board.CopyReceiver.{the_row}
 
 -- P holds of the receiver when the borrow ends
 abbrev pub Rests : MutBor CopyReceiver → (CopyReceiver → Type 0) → Fml

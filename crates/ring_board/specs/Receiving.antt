@@ -5,14 +5,14 @@ use lib.ListN.{get_elem?}
 use Rattle.ring_layout.specs.History.{span}
 use Rattle.ring_layout.specs.Places.{index, max_position}
 use Rattle.ring_board.specs.declared.fault.Lapped.{Lapped}
-use Rattle.ring_board.specs.declared.view.View.{View}
-use Rattle.ring_board.specs.declared.view.Load.{Load}
-use Rattle.ring_board.specs.declared.view.Load.TheVariants.{Word, Intent, Tail, Latest}
-use Rattle.ring_board.specs.declared.view.Stage.{Stage}
-use Rattle.ring_board.specs.declared.view.Stage.TheVariants.{Resting, Reading, Behind}
-use Rattle.ring_board.specs.declared.seats.RawRecord.{RawRecord}
-use Rattle.ring_board.specs.declared.found.Found.{Found}
-use Rattle.ring_board.specs.declared.found.Found.TheVariants.{Nothing, Entry, Missed}
+use Rattle.ring_board.specs.declared.shared.view.View.{View}
+use Rattle.ring_board.specs.declared.shared.view.Load.{Load}
+use Rattle.ring_board.specs.declared.shared.view.Load.TheVariants.{Word, Intent, Tail, Latest}
+use Rattle.ring_board.specs.declared.shared.view.Stage.{Stage}
+use Rattle.ring_board.specs.declared.shared.view.Stage.TheVariants.{Resting, Reading, Behind}
+use Rattle.ring_board.specs.declared.board.RawRecord.{RawRecord}
+use Rattle.ring_board.specs.declared.receiver.found.Found.{Found}
+use Rattle.ring_board.specs.declared.receiver.found.Found.TheVariants.{Nothing, Entry, Missed}
 use Rattle.ring_board.specs.Records.{announced, is_padding, bytes_of, message_of}
 use Rattle.ring_board.specs.Steps.{Sat, copied, IsSound, IsUnread}
 

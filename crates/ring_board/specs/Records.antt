@@ -7,7 +7,7 @@ use Rattle.ring_layout.specs.declared.message.Message.{Message}
 use Rattle.ring_layout.specs.History.{IsMessage, span}
 use Rattle.ring_layout.specs.Places.{index, next_place}
 use Rattle.ring_layout.specs.Headers.{header, padding_header}
-use Rattle.ring_board.specs.declared.view.Record.{Record}
+use Rattle.ring_board.specs.declared.shared.view.Record.{Record}
 
 -- where a record ends
 abbrev pub end : Record → ℕ

@@ -4,20 +4,20 @@ use mathlib.Core.Option.{some}
 use lib.ListN.{get_elem?}
 use Rattle.ring_layout.specs.History.{span}
 use Rattle.ring_layout.specs.Places.{next_place, end_after}
-use Rattle.ring_board.specs.declared.view.Record.{Record}
-use Rattle.ring_board.specs.declared.view.View.{View}
+use Rattle.ring_board.specs.declared.shared.view.Record.{Record}
+use Rattle.ring_board.specs.declared.shared.view.View.{View}
 use Rattle.ring_board.specs.declared.fault.TransmitFault.{TransmitFault}
-use Rattle.ring_board.specs.declared.seats.Board.{Board}
-use Rattle.ring_board.specs.declared.seats.Transmitter.{Transmitter}
-use Rattle.ring_board.specs.declared.seats.Begun.{Begun}
-use Rattle.ring_board.specs.declared.seats.Filled.{Filled}
-use Rattle.ring_board.specs.declared.seats.BeginRefused.{BeginRefused}
-use Rattle.ring_board.specs.declared.seats.CopyReceiver.{CopyReceiver}
-use Rattle.ring_board.specs.declared.seats.Receiver.{Receiver}
-use Rattle.ring_board.specs.declared.seats.RawRecord.{RawRecord}
-use Rattle.ring_board.specs.declared.seats.Copied.{Copied}
-use Rattle.ring_board.specs.declared.view.Taken.{Taken}
-use Rattle.ring_board.specs.declared.view.Joined.{Joined}
+use Rattle.ring_board.specs.declared.board.Board.{Board}
+use Rattle.ring_board.specs.declared.board.Transmitter.{Transmitter}
+use Rattle.ring_board.specs.declared.board.Begun.{Begun}
+use Rattle.ring_board.specs.declared.board.Filled.{Filled}
+use Rattle.ring_board.specs.declared.board.BeginRefused.{BeginRefused}
+use Rattle.ring_board.specs.declared.board.CopyReceiver.{CopyReceiver}
+use Rattle.ring_board.specs.declared.board.Receiver.{Receiver}
+use Rattle.ring_board.specs.declared.board.RawRecord.{RawRecord}
+use Rattle.ring_board.specs.declared.board.Copied.{Copied}
+use Rattle.ring_board.specs.declared.shared.view.Taken.{Taken}
+use Rattle.ring_board.specs.declared.shared.view.Joined.{Joined}
 use Rattle.ring_board.specs.declared.fault.Lapped.{Lapped}
 use Rattle.ring_board.specs.Receiving.{GotNothing, GotCopy, GotLapped, IsInside}
 use Rattle.ring_board.specs.Steps.{Sat, staged, draft, drafted, record_at}

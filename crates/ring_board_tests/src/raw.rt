@@ -2,8 +2,8 @@
 ghost use Rattle.std.specs.Prelude.{◌≡◌, ◌≤◌, ℕ, true, length, take, IfOk};
 ghost use mathlib.Core.Option.{some};
 ghost use lib.ListN.{get_elem?};
-ghost use Rattle.ring_board.specs.declared.view.Taken.{Taken};
-ghost use Rattle.ring_board.specs.declared.seats.RawRecord.{RawRecord};
+ghost use Rattle.ring_board.specs.declared.shared.view.Taken.{Taken};
+ghost use Rattle.ring_board.specs.declared.board.RawRecord.{RawRecord};
 ghost use Rattle.ring_board.specs.Seats.{IsTransmitterOf, IsRawOf, IsAnswered, raw_view, answered_by, place_of, len_of};
 
 use ring_board::{

@@ -7,11 +7,11 @@ use Rattle.ring_layout.specs.declared.message.Message.{Message}
 use Rattle.ring_table.specs.declared.claim.PlacedMessage.{PlacedMessage}
 use Rattle.ring_table.specs.declared.view.View.{View}
 use Rattle.ring_rings.specs.Reading.{messages_of}
-use Rattle.ring_board.specs.declared.view.Record.{Record}
-use Rattle.ring_board.specs.declared.view.Joined.{Joined}
-use Rattle.ring_board.specs.declared.view.Taken.{Taken}
+use Rattle.ring_board.specs.declared.shared.view.Record.{Record}
+use Rattle.ring_board.specs.declared.shared.view.Joined.{Joined}
+use Rattle.ring_board.specs.declared.shared.view.Taken.{Taken}
 use Rattle.ring_board.specs.Seats.{next_record}
-use Rattle.ring_counters.specs.declared.rule.ValueWrite.{ValueWrite}
+use Rattle.ring_counters.specs.declared.values.rule.ValueWrite.{ValueWrite}
 use Rattle.ring_counters.specs.Registry.{Registry, count_of, fresh_registry}
 use Rattle.ring_conductor.specs.declared.conductor.Cycle.{Cycle}
 use Rattle.ring_conductor.specs.declared.conductor.Work.{Work}

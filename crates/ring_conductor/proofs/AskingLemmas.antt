@@ -4,8 +4,8 @@ use Rattle.std.proofs.lemmas.List.{take_at}
 use Rattle.ring_table.specs.declared.view.View.{View}
 use Rattle.ring_rings.specs.declared.fault.TryFault.{TryFault}
 use Rattle.ring_rings.specs.Claiming.{RefusesTry, Writes}
-use Rattle.ring_conductor.specs.declared.request.Request.{Request}
-use Rattle.ring_conductor.specs.declared.request.Request.TheVariants.{Allocate, Free, Set, AllocateOwned, Close}
+use Rattle.ring_conductor.specs.declared.client.request.Request.{Request}
+use Rattle.ring_conductor.specs.declared.client.request.Request.TheVariants.{Allocate, Free, Set, AllocateOwned, Close}
 use Rattle.ring_conductor.specs.Asking.{asked, IsSendable, SendsAs}
 use Rattle.ring_conductor.specs.Command.{Instruction, HasShortTexts, spelling_of, type_id_of}
 use Rattle.ring_conductor.specs.Writing.{Encodes, over_start}

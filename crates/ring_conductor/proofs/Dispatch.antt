@@ -2,8 +2,8 @@
 use Rattle.std.proofs.Common.{◌≡◌, ◌≢◌, ℤ, Bool, true, false, cond, List, ℕ, Option, Some, None, Ok, Err, Decides, refl}
 use Rattle.std.specs.Ordering.{int_eq}
 use Rattle.std.proofs.lemmas.Bool.Decides.{Decides-int_eq, not_from_Decides}
-use Rattle.ring_conductor.specs.declared.faults.Bad.{Bad}
-use Rattle.ring_conductor.specs.declared.faults.Bad.TheVariants.{Malformed}
+use Rattle.ring_conductor.specs.declared.protocol.fault.Bad.{Bad}
+use Rattle.ring_conductor.specs.declared.protocol.fault.Bad.TheVariants.{Malformed}
 use Rattle.ring_conductor.specs.Bad.{correlation_of, or_malformed}
 
 chosen : {X P Q : Type 0} (b : Bool) (this others : X) (r : X) → Decides b Q → cond b this others ≡ r → (Q → this ≡ r → P) → (¬ Q → others ≡ r → P) → P

@@ -2,18 +2,18 @@
 use Rattle.std.proofs.Common.{◌≡◌, ◌∙◌, ℕ, suc, ◌+◌, ◌*◌, ◌≤◌, List, [], ◌∷◌, ◌++◌, length, refl, ap, subst, arith}
 use Rattle.std.specs.Prelude.{All}
 use Rattle.std.proofs.lemmas.List.Elements.{All-head, All-tail}
-use Rattle.ring_words.specs.declared.action.Action.{Action}
-use Rattle.ring_words.specs.declared.action.Action.TheVariants.{Abort, Break, Commit, Continue}
+use Rattle.ring_words.specs.declared.read.action.Action.{Action}
+use Rattle.ring_words.specs.declared.read.action.Action.TheVariants.{Abort, Break, Commit, Continue}
 use Rattle.ring_words.specs.Read.{GoesOn}
 use Rattle.ring_layout.specs.declared.message.Message.{Message}
 use Rattle.ring_layout.specs.Handles.{Handles}
-use Rattle.ring_conductor.specs.declared.serving.Serving.{Serving}
+use Rattle.ring_conductor.specs.declared.conductor.serve.Serving.{Serving}
 use Rattle.ring_layout.specs.History.{span}
 use Rattle.ring_layout.proofs.PlaceLemmas.{next_le, span_bounds}
 use Rattle.ring_table.specs.declared.claim.PlacedMessage.{PlacedMessage}
 use Rattle.ring_rings.specs.Reading.{messages_of}
-use Rattle.ring_board.specs.declared.view.View.{View}
-use Rattle.ring_conductor.specs.declared.replies.Reply.{Reply}
+use Rattle.ring_board.specs.declared.shared.view.View.{View}
+use Rattle.ring_conductor.specs.declared.protocol.reply.Reply.{Reply}
 use Rattle.ring_conductor.specs.Reply.{spelling_of}
 use Rattle.ring_conductor.specs.Applied.{applied}
 use Rattle.ring_conductor.specs.Fold.{Ledger, fold_of, at_moment, replied, served}

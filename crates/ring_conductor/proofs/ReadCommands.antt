@@ -1,10 +1,10 @@
 -- Each command is read from its spelling, and from nothing else.
 use Rattle.std.proofs.Common.{◌≡◌, ◌≢◌, ℕ, ℤ, pos, ◌^◌, ◌<◌, List, [], ◌++◌, Some, Result, Ok, Err, FitsSigned, refl, sym, ap, subst, ◌∙◌, w32, w64}
-use Rattle.ring_conductor.specs.declared.faults.Bad.{Bad}
-use Rattle.ring_conductor.specs.declared.faults.Bad.TheVariants.{Malformed, UnknownType}
+use Rattle.ring_conductor.specs.declared.protocol.fault.Bad.{Bad}
+use Rattle.ring_conductor.specs.declared.protocol.fault.Bad.TheVariants.{Malformed, UnknownType}
 use Rattle.std.specs.Prelude.{IfOk, IfErr, IsOkAnd}
 use Rattle.std.specs.Result.{result_map_both}
-use Rattle.ring_conductor.specs.declared.commands.Command.{Command}
+use Rattle.ring_conductor.specs.declared.protocol.command.Command.{Command}
 use Rattle.ring_conductor.specs.Field.{AreBytes, IsSized, Reader, ◌⊗◌, u32_field, u64_field, i32_field, i64_field, sized_field, u32_at, u64_at, i32_at, i64_at, sized_at}
 use Rattle.ring_conductor.specs.Bad.{correlation_of, or_malformed, IsFaultOf}
 use Rattle.ring_conductor.specs.Command.{Instruction, Allocate, Free, Set, AllocateOwned, Close, content_of, type_id_of, spelling_of, HasSpelling, Spells, IsCommandType}

@@ -1,10 +1,10 @@
 -- Each reply is read from its spelling, and from nothing else.
 use Rattle.std.proofs.Common.{◌≡◌, ◌≢◌, ℕ, ℤ, pos, ◌^◌, ◌<◌, List, ◌++◌, Some, Result, Ok, Err, FitsSigned, refl, sym, ap, subst, w32}
 use Rattle.std.specs.Prelude.{IfOk, IfErr}
-use Rattle.ring_conductor.specs.declared.faults.Bad.{Bad}
-use Rattle.ring_conductor.specs.declared.faults.Bad.TheVariants.{Malformed, UnknownType}
-use Rattle.ring_conductor.specs.declared.replies.Reply.{Reply}
-use Rattle.ring_conductor.specs.declared.replies.Reply.TheVariants.{Allocated, Done, Refused, Closed}
+use Rattle.ring_conductor.specs.declared.protocol.fault.Bad.{Bad}
+use Rattle.ring_conductor.specs.declared.protocol.fault.Bad.TheVariants.{Malformed, UnknownType}
+use Rattle.ring_conductor.specs.declared.protocol.reply.Reply.{Reply}
+use Rattle.ring_conductor.specs.declared.protocol.reply.Reply.TheVariants.{Allocated, Done, Refused, Closed}
 use Rattle.ring_conductor.specs.Field.{AreBytes, ◌⊗◌, u32_field, u64_field, i32_field, u32_at, u64_at, i32_at}
 use Rattle.ring_conductor.specs.Bad.{correlation_of, or_malformed, IsFaultOf}
 use Rattle.ring_conductor.specs.Reply.{type_id_of, spelling_of, HasSpelling, Spells, IsReplyType}

@@ -13,7 +13,7 @@ use Rattle.ring_rings.specs.declared.fault.TryFault.TheVariants.{Refused, Conten
 use Rattle.ring_rings.specs.Joining.{Joins}
 use Rattle.ring_conductor.specs.declared.client.SendFault.{SendFault}
 use Rattle.ring_conductor.specs.declared.client.SendFault.TheVariants as fault
-use Rattle.ring_conductor.specs.declared.request.Request.{Request}
+use Rattle.ring_conductor.specs.declared.client.request.Request.{Request}
 use Rattle.ring_conductor.specs.Asking.{asked, IsSendable, RefusesAs, SendsAs}
 use Rattle.ring_conductor.specs.Command.{spelling_of, type_id_of}
 use Rattle.ring_rings.proofs.CountLemmas.{open_count-more}

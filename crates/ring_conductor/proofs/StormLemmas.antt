@@ -9,7 +9,7 @@ use Rattle.ring_layout.specs.declared.message.Claim.{Claim}
 use Rattle.ring_layout.specs.declared.message.Message.{Message}
 use Rattle.ring_layout.specs.declared.message.ClaimState.TheVariants.{Open, Committed, Aborted}
 use Rattle.ring_layout.specs.History.{committed_of, shown}
-use Rattle.ring_words.specs.declared.action.Action.{Action}
+use Rattle.ring_words.specs.declared.read.action.Action.{Action}
 use Rattle.ring_words.specs.Read.{Reads}
 use Rattle.ring_words.specs.Ring.{Ring, Has}
 use Rattle.ring_table.specs.declared.claim.PlacedMessage.{PlacedMessage}
@@ -22,17 +22,17 @@ use Rattle.ring_rings.specs.Reading.{messages_of}
 use Rattle.ring_counters.specs.declared.fault.AllocateRefused.{AllocateRefused}
 use Rattle.ring_counters.specs.declared.fault.IdFault.{IdFault}
 use Rattle.ring_counters.specs.declared.info.CounterInfo.{CounterInfo}
-use Rattle.ring_counters.specs.declared.rule.ValueWrite.{ValueWrite}
+use Rattle.ring_counters.specs.declared.values.rule.ValueWrite.{ValueWrite}
 use Rattle.ring_counters.specs.Counter.{Counter, unused_counter}
 use Rattle.ring_counters.specs.Infos.{AreInfos}
 use Rattle.ring_counters.specs.Registry.{Registry, allocation_of, closed_in, count_of, counter_at, fresh_registry, id_refusal_of, ids_of, is_allocated, live_ids, live_of, new_counter, owned_ids, reclaimed_in, status_at, with_value}
 use Rattle.ring_counters.specs.Views.{value_write}
 use Rattle.ring_conductor.specs.declared.conductor.Work.{Work}
-use Rattle.ring_conductor.specs.declared.faults.Bad.{Bad}
-use Rattle.ring_conductor.specs.declared.replies.Reply.TheVariants.{Closed}
-use Rattle.ring_conductor.specs.declared.storming.plan.StormFault.{StormFault}
-use Rattle.ring_conductor.specs.declared.storming.plan.StormPlan.{StormPlan}
-use Rattle.ring_conductor.specs.declared.storming.plan.StormReport.{StormReport}
+use Rattle.ring_conductor.specs.declared.protocol.fault.Bad.{Bad}
+use Rattle.ring_conductor.specs.declared.protocol.reply.Reply.TheVariants.{Closed}
+use Rattle.ring_conductor.specs.declared.storm.plan.StormFault.{StormFault}
+use Rattle.ring_conductor.specs.declared.storm.plan.StormPlan.{StormPlan}
+use Rattle.ring_conductor.specs.declared.storm.plan.StormReport.{StormReport}
 use Rattle.ring_conductor.specs.Applied.{allocated, applied, done_unless, obeyed, obeyed_if_read, refused}
 use Rattle.ring_conductor.specs.Codes.{bad_owner_code}
 use Rattle.ring_conductor.specs.Command.{Instruction, Allocate, AllocateOwned, Close, Free, Set}

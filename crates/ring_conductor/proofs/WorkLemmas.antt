@@ -1,13 +1,13 @@
 -- A controlled read by the conductor's handler is work.
 use Rattle.std.proofs.Common.{◌≡◌, ◌∙◌, ℕ, ◌+◌, ◌*◌, ◌<◌, ◌≤◌, length, length-append, sym, ap, subst, inl, inr, arith}
-use Rattle.ring_words.specs.declared.read_end.ReadEnd.{ReadEnd}
-use Rattle.ring_words.specs.declared.read_end.Stop.{Stop}
-use Rattle.ring_words.specs.declared.read_end.Stop.TheVariants.{Limit, Block, Unpublished, Action}
+use Rattle.ring_words.specs.declared.read.end.ReadEnd.{ReadEnd}
+use Rattle.ring_words.specs.declared.read.end.Stop.{Stop}
+use Rattle.ring_words.specs.declared.read.end.Stop.TheVariants.{Limit, Block, Unpublished, Action}
 use Rattle.ring_words.specs.Read.{stop_of}
 use Rattle.ring_layout.specs.Handles.{Handles}
 use Rattle.ring_table.specs.declared.view.View.{View}
 use Rattle.ring_rings.specs.Reading.{Controls, WentOn, Broke, Aborts, IsBlocked, messages_of}
-use Rattle.ring_conductor.specs.declared.serving.Serving.{Serving}
+use Rattle.ring_conductor.specs.declared.conductor.serve.Serving.{Serving}
 use Rattle.ring_conductor.specs.declared.conductor.Work.{Work}
 use Rattle.ring_conductor.specs.declared.conductor.WorkStop.TheVariants as work
 use Rattle.ring_conductor.specs.Fold.{Ledger}

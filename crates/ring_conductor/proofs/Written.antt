@@ -6,7 +6,7 @@ use Rattle.std.proofs.lemmas.Int.{to_z-of_z}
 use Rattle.std.proofs.lemmas.List.{append-nil, take_at}
 use Rattle.std.proofs.lemmas.List.Elements.{All-from_get_or}
 use Rattle.ring_conductor.specs.Field.{AreBytes, u32_field, u64_field, i32_field, i64_field, sized_field}
-use Rattle.ring_conductor.specs.declared.replies.Reply.{Reply}
+use Rattle.ring_conductor.specs.declared.protocol.reply.Reply.{Reply}
 use Rattle.ring_conductor.specs.Reply as reply
 use Rattle.ring_conductor.specs.Command.{Instruction, Allocate, Free, Set, AllocateOwned, Close, type_id_of, spelling_of, HasSpelling, HasShortTexts}
 use Rattle.ring_conductor.specs.Reading.{command_of, reply_of}

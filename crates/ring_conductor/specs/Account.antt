@@ -1,17 +1,17 @@
 -- What all messages together make of fresh counters, over plain lists.
 use Rattle.std.specs.Prelude.{◌≡◌, ℕ, ◌≤◌, ◌^◌, List, [], ◌∷◌, ◌++◌, All}
 use Rattle.ring_layout.specs.declared.message.Message.{Message}
-use Rattle.ring_rings.specs.declared.seats.Consumer.{Consumer}
+use Rattle.ring_rings.specs.declared.ring.Consumer.{Consumer}
 use Rattle.ring_rings.specs.Reading.{messages_of}
 use Rattle.ring_rings.specs.Seats.{taken_of}
-use Rattle.ring_board.specs.declared.view.Record.{Record}
-use Rattle.ring_board.specs.declared.seats.Transmitter.{Transmitter}
+use Rattle.ring_board.specs.declared.shared.view.Record.{Record}
+use Rattle.ring_board.specs.declared.board.Transmitter.{Transmitter}
 use Rattle.ring_board.specs.Seats.{transmitted}
-use Rattle.ring_counters.specs.declared.rule.ValueWrite.{ValueWrite}
+use Rattle.ring_counters.specs.declared.values.rule.ValueWrite.{ValueWrite}
 use Rattle.ring_counters.specs.declared.manager.CountersManager.{CountersManager}
 use Rattle.ring_counters.specs.Registry.{Registry, count_of, fresh_registry}
 use Rattle.ring_counters.specs.Manager.{registry_of, writes_of}
-use Rattle.ring_conductor.specs.declared.replies.Reply.{Reply}
+use Rattle.ring_conductor.specs.declared.protocol.reply.Reply.{Reply}
 use Rattle.ring_conductor.specs.Reply.{type_id_of, spelling_of}
 use Rattle.ring_conductor.specs.Applied.{applied}
 

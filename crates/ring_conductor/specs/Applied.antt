@@ -1,15 +1,15 @@
 -- What one message does to the counters, and its one reply.
 use Rattle.std.specs.Prelude.{ℕ, ◌==◌, ℤ, pos, List, [], ◌∷◌, length, Option, Some, None, Result, Ok, Err, if◌then◌else◌}
 use Rattle.ring_layout.specs.declared.message.Message.{Message}
-use Rattle.ring_counters.specs.declared.rule.ValueWrite.{ValueWrite}
+use Rattle.ring_counters.specs.declared.values.rule.ValueWrite.{ValueWrite}
 use Rattle.ring_counters.specs.declared.fault.AllocateRefused.{AllocateRefused}
 use Rattle.ring_counters.specs.declared.fault.IdFault.{IdFault}
 use Rattle.ring_counters.specs.Counter.{Counter}
 use Rattle.ring_counters.specs.Registry.{Registry, new_counter, allocation_of, allocated_in, id_refusal_of, reclaimed_in, with_value, owned_ids, closed_in}
 use Rattle.ring_counters.specs.Views.{value_write}
-use Rattle.ring_conductor.specs.declared.faults.Bad.{Bad}
-use Rattle.ring_conductor.specs.declared.replies.Reply.{Reply}
-use Rattle.ring_conductor.specs.declared.replies.Reply.TheVariants.{Allocated, Done, Refused, Closed}
+use Rattle.ring_conductor.specs.declared.protocol.fault.Bad.{Bad}
+use Rattle.ring_conductor.specs.declared.protocol.reply.Reply.{Reply}
+use Rattle.ring_conductor.specs.declared.protocol.reply.Reply.TheVariants.{Allocated, Done, Refused, Closed}
 use Rattle.ring_conductor.specs.Command.{Instruction, Allocate, Free, Set, AllocateOwned, Close}
 use Rattle.ring_conductor.specs.Reading.{command_of}
 use Rattle.ring_conductor.specs.Codes.{allocate_code, id_code, bad_code, bad_correlation, bad_owner_code}

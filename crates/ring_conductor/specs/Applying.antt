@@ -2,7 +2,7 @@
 use Rattle.std.specs.Prelude.{◌≡◌, ◌++◌}
 use Rattle.ring_counters.specs.declared.manager.CountersManager.{CountersManager}
 use Rattle.ring_counters.specs.Manager.{registry_of, writes_of, shares_of, table_of}
-use Rattle.ring_conductor.specs.declared.replies.Reply.{Reply}
+use Rattle.ring_conductor.specs.declared.protocol.reply.Reply.{Reply}
 use Rattle.ring_conductor.specs.Applied.{Outcome}
 
 -- the counters, their value writes and the reply are those of the outcome, and nothing else changed

@@ -3,14 +3,14 @@ use Rattle.std.specs.Prelude.{◌≡◌, ◌≢◌, ℕ, ◌≤◌, ℤ, List, l
 use Rattle.ring_table.specs.declared.view.View.{View}
 use Rattle.ring_table.specs.ServiceSteps.{DrawsId}
 use Rattle.ring_rings.specs.declared.fault.TryFault.{TryFault}
-use Rattle.ring_rings.specs.declared.seats.Producer.{Producer}
+use Rattle.ring_rings.specs.declared.ring.Producer.{Producer}
 use Rattle.ring_rings.specs.Claiming.{RefusesTry, Writes}
-use Rattle.ring_board.specs.declared.seats.CopyReceiver.{CopyReceiver}
+use Rattle.ring_board.specs.declared.board.CopyReceiver.{CopyReceiver}
 use Rattle.ring_board.specs.Receiving.{GotCopy, GotLapped, GotNothing}
 use Rattle.ring_board.specs.Steps.{Sat}
-use Rattle.ring_conductor.specs.declared.replies.Reply.{Reply}
-use Rattle.ring_conductor.specs.declared.request.Request.{Request}
-use Rattle.ring_conductor.specs.declared.request.Request.TheVariants as of
+use Rattle.ring_conductor.specs.declared.protocol.reply.Reply.{Reply}
+use Rattle.ring_conductor.specs.declared.client.request.Request.{Request}
+use Rattle.ring_conductor.specs.declared.client.request.Request.TheVariants as of
 use Rattle.ring_conductor.specs.declared.client.Client.{Client}
 use Rattle.ring_conductor.specs.declared.client.Polled.{Polled}
 use Rattle.ring_conductor.specs.declared.client.Polled.TheVariants.{Answered, Another, NoReply, Nothing, Lapped}

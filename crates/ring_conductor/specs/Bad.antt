@@ -1,8 +1,8 @@
 -- What is said of a type id and a body that spell nothing.
 use Rattle.std.specs.Prelude.{◌≡◌, ℕ, ◌-◌, ◌^◌, List, length, take, Option, Some, None, Result, Ok, Err, nat_lt, if◌then◌else◌}
 use Rattle.std.specs.Int.{w64, from_le_bytes}
-use Rattle.ring_conductor.specs.declared.faults.Bad.{Bad}
-use Rattle.ring_conductor.specs.declared.faults.Bad.TheVariants.{Malformed, UnknownType}
+use Rattle.ring_conductor.specs.declared.protocol.fault.Bad.{Bad}
+use Rattle.ring_conductor.specs.declared.protocol.fault.Bad.TheVariants.{Malformed, UnknownType}
 
 -- the first 8 bytes of a body, or the greatest number where it is shorter
 unfoldable pub correlation_of : List ℕ → ℕ

@@ -1,10 +1,10 @@
 -- Why a command is refused, and the number that its reply gives for that.
 use Rattle.std.specs.Prelude.{◌≡◌, ℕ, ℤ, pos, Result, Ok, Err, IfOk, IfErr}
-use Rattle.ring_conductor.specs.declared.codes.RefusalCode.{RefusalCode}
-use Rattle.ring_conductor.specs.declared.codes.RefusalCode.TheVariants as of
-use Rattle.ring_conductor.specs.declared.codes.UnknownCode.{UnknownCode}
-use Rattle.ring_conductor.specs.declared.faults.Bad.{Bad}
-use Rattle.ring_conductor.specs.declared.faults.Bad.TheVariants.{Malformed, UnknownType}
+use Rattle.ring_conductor.specs.declared.protocol.codes.RefusalCode.{RefusalCode}
+use Rattle.ring_conductor.specs.declared.protocol.codes.RefusalCode.TheVariants as of
+use Rattle.ring_conductor.specs.declared.protocol.codes.UnknownCode.{UnknownCode}
+use Rattle.ring_conductor.specs.declared.protocol.fault.Bad.{Bad}
+use Rattle.ring_conductor.specs.declared.protocol.fault.Bad.TheVariants.{Malformed, UnknownType}
 use Rattle.ring_counters.specs.declared.fault.AllocateRefused.{AllocateRefused}
 use Rattle.ring_counters.specs.declared.fault.AllocateRefused.TheVariants.{KeyTooLong, LabelTooLong, LabelNotAscii, NoFreeCounter}
 use Rattle.ring_counters.specs.declared.fault.IdFault.{IdFault}

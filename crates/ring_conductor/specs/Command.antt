@@ -1,8 +1,8 @@
 -- What commands are, and the one spelling of each.
 use Rattle.std.specs.Prelude.{◌≡◌, ℕ, ℤ, pos, ◌<◌, ◌≤◌, ◌^◌, List, ◌++◌, length, FitsSigned}
 use Rattle.std.specs.Int.{w32, w64}
-use Rattle.ring_conductor.specs.declared.commands.Command.{Command}
-use Rattle.ring_conductor.specs.declared.commands.Command.TheVariants as of
+use Rattle.ring_conductor.specs.declared.protocol.command.Command.{Command}
+use Rattle.ring_conductor.specs.declared.protocol.command.Command.TheVariants as of
 use Rattle.ring_conductor.specs.Field.{u32_field, u64_field, i32_field, i64_field, sized_field, IsSized}
 
 -- a command without where its key and its label lie in memory

@@ -1,20 +1,20 @@
 -- What clauses say of a conductor and its work.
 use Rattle.std.specs.Prelude.{◌≡◌, ◌≢◌, ◌⊎◌, ℕ, ◌+◌, ◌%◌, ◌<◌, ◌≤◌, List, [], ◌++◌, length}
-use Rattle.ring_words.specs.declared.read_end.Stop.{Stop}
-use Rattle.ring_words.specs.declared.read_end.Stop.TheVariants.{Limit, Block, Unpublished, Action}
+use Rattle.ring_words.specs.declared.read.end.Stop.{Stop}
+use Rattle.ring_words.specs.declared.read.end.Stop.TheVariants.{Limit, Block, Unpublished, Action}
 use Rattle.ring_words.specs.Read.{stop_of}
 use Rattle.ring_layout.specs.declared.message.Message.{Message}
 use Rattle.ring_table.specs.declared.claim.PlacedMessage.{PlacedMessage}
 use Rattle.ring_table.specs.declared.view.View.{View}
-use Rattle.ring_rings.specs.declared.seats.Consumer.{Consumer}
+use Rattle.ring_rings.specs.declared.ring.Consumer.{Consumer}
 use Rattle.ring_rings.specs.Reading.{messages_of, MovesHead, IsTight, IsBlocked, IsNext}
 use Rattle.ring_rings.specs.Seats.{consumer_view}
-use Rattle.ring_board.specs.declared.seats.Board.{Board}
-use Rattle.ring_board.specs.declared.seats.Transmitter.{Transmitter}
-use Rattle.ring_board.specs.declared.view.Record.{Record}
-use Rattle.ring_board.specs.declared.view.View.{View as BoardView}
+use Rattle.ring_board.specs.declared.board.Board.{Board}
+use Rattle.ring_board.specs.declared.board.Transmitter.{Transmitter}
+use Rattle.ring_board.specs.declared.shared.view.Record.{Record}
+use Rattle.ring_board.specs.declared.shared.view.View.{View as BoardView}
 use Rattle.ring_board.specs.Seats.{IsTransmitterOf, view_of}
-use Rattle.ring_counters.specs.declared.seats.CounterValues.{CounterValues}
+use Rattle.ring_counters.specs.declared.values.seats.CounterValues.{CounterValues}
 use Rattle.ring_counters.specs.declared.manager.CountersManager.{CountersManager}
 use Rattle.ring_counters.specs.Registry.{fresh_registry}
 use Rattle.ring_counters.specs.Manager.{registry_of, writes_of, shares_of, IsManagerOf}

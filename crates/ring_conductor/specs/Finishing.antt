@@ -6,14 +6,14 @@ use Rattle.ring_words.specs.Ring.{Ring, Has}
 use Rattle.ring_table.specs.declared.claim.PlacedMessage.{PlacedMessage}
 use Rattle.ring_table.specs.declared.claim.StagedClaim.{StagedClaim}
 use Rattle.ring_table.specs.Passing.{placed_committed_of}
-use Rattle.ring_rings.specs.declared.seats.Producer.{Producer}
+use Rattle.ring_rings.specs.declared.ring.Producer.{Producer}
 use Rattle.ring_rings.specs.Reading.{messages_of}
-use Rattle.ring_board.specs.declared.seats.Board.{Board}
-use Rattle.ring_counters.specs.declared.seats.CounterValues.{CounterValues}
+use Rattle.ring_board.specs.declared.board.Board.{Board}
+use Rattle.ring_counters.specs.declared.values.seats.CounterValues.{CounterValues}
 use Rattle.ring_conductor.specs.declared.conductor.Conductor.{Conductor}
-use Rattle.ring_conductor.specs.declared.finish_fault.FinishFault.{FinishFault}
-use Rattle.ring_conductor.specs.declared.finish_fault.FinishFault.TheVariants.{ClaimsOpen, ProducersOut, ReceiversOut}
-use Rattle.ring_conductor.specs.declared.finish_fault.FinishRefused.{FinishRefused}
+use Rattle.ring_conductor.specs.declared.finish.fault.FinishFault.{FinishFault}
+use Rattle.ring_conductor.specs.declared.finish.fault.FinishFault.TheVariants.{ClaimsOpen, ProducersOut, ReceiversOut}
+use Rattle.ring_conductor.specs.declared.finish.fault.FinishRefused.{FinishRefused}
 
 -- why a conductor does not finish, with so many open claims of the producer, and so many shares of producer and
 -- transmitter, in the order of the tests

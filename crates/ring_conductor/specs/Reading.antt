@@ -1,12 +1,12 @@
 -- Commands and replies, read from the front of a body to its end.
 use Rattle.std.specs.Prelude.{ℕ, ℤ, pos, List, Option, Result, Err, if◌then◌else◌}
 use Rattle.std.specs.Ordering.{int_eq}
-use Rattle.ring_conductor.specs.declared.faults.Bad.{Bad}
-use Rattle.ring_conductor.specs.declared.faults.Bad.TheVariants.{UnknownType}
+use Rattle.ring_conductor.specs.declared.protocol.fault.Bad.{Bad}
+use Rattle.ring_conductor.specs.declared.protocol.fault.Bad.TheVariants.{UnknownType}
 use Rattle.ring_conductor.specs.Field.{◌⊗◌, whole, u32_at, u64_at, i32_at, i64_at, sized_at}
 use Rattle.ring_conductor.specs.Bad.{correlation_of, or_malformed}
-use Rattle.ring_conductor.specs.declared.replies.Reply.{Reply}
-use Rattle.ring_conductor.specs.declared.replies.Reply.TheVariants.{Allocated, Done, Refused, Closed}
+use Rattle.ring_conductor.specs.declared.protocol.reply.Reply.{Reply}
+use Rattle.ring_conductor.specs.declared.protocol.reply.Reply.TheVariants.{Allocated, Done, Refused, Closed}
 use Rattle.ring_conductor.specs.Command.{Instruction, Allocate, Free, Set, AllocateOwned, Close}
 
 unfoldable pub allocate_of : List ℕ → Option Instruction

@@ -1,8 +1,8 @@
 -- What replies are, and the one spelling of each.
 use Rattle.std.specs.Prelude.{◌≡◌, ℕ, ℤ, pos, ◌<◌, ◌^◌, List, ◌++◌, FitsSigned}
 use Rattle.std.specs.Int.{w32}
-use Rattle.ring_conductor.specs.declared.replies.Reply.{Reply}
-use Rattle.ring_conductor.specs.declared.replies.Reply.TheVariants.{Allocated, Done, Refused, Closed}
+use Rattle.ring_conductor.specs.declared.protocol.reply.Reply.{Reply}
+use Rattle.ring_conductor.specs.declared.protocol.reply.Reply.TheVariants.{Allocated, Done, Refused, Closed}
 use Rattle.ring_conductor.specs.Field.{u32_field, u64_field, i32_field}
 
 -- the type id of the message that spells a reply

@@ -2,21 +2,21 @@
 use Rattle.std.specs.Prelude.{◌≡◌, ◌⊎◌, ℕ, ◌*◌, ◌/◌, ◌<◌, ◌≤◌, ◌^◌, ℤ, pos, ◌+ℤ◌, IsTrue, List, [], ◌∷◌, fold, length}
 use Rattle.std.specs.Int.{is_power_of_two, IsPowerOfTwo, saturate_signed, w64}
 use Rattle.ring_layout.specs.declared.message.Message.{Message}
-use Rattle.ring_rings.specs.declared.seats.Ring.{Ring}
-use Rattle.ring_rings.specs.declared.seats.Producer.{Producer}
+use Rattle.ring_rings.specs.declared.ring.Ring.{Ring}
+use Rattle.ring_rings.specs.declared.ring.Producer.{Producer}
 use Rattle.ring_rings.specs.Reading.{messages_of}
 use Rattle.ring_rings.specs.Seats.{claims_of, open_claims_of, shares_of, IsConsumerOf, IsProducerOf}
-use Rattle.ring_board.specs.declared.seats.Board.{Board}
+use Rattle.ring_board.specs.declared.board.Board.{Board}
 use Rattle.ring_board.specs.Seats.{IsReceiverOf, shares_of as board_shares}
-use Rattle.ring_counters.specs.declared.seats.CounterValues.{CounterValues}
+use Rattle.ring_counters.specs.declared.values.seats.CounterValues.{CounterValues}
 use Rattle.ring_counters.specs.Counter.{Counter}
 use Rattle.ring_counters.specs.Manager.{registry_of}
 use Rattle.ring_counters.specs.Registry.{Registry, fresh_registry, live_of}
 use Rattle.ring_conductor.specs.declared.conductor.Conductor.{Conductor}
-use Rattle.ring_conductor.specs.declared.storming.plan.StormPlan.{StormPlan}
-use Rattle.ring_conductor.specs.declared.storming.plan.StormReport.{StormReport}
-use Rattle.ring_conductor.specs.declared.storming.seats.StormClient.{StormClient}
-use Rattle.ring_conductor.specs.declared.storming.seats.Hub.{Hub}
+use Rattle.ring_conductor.specs.declared.storm.plan.StormPlan.{StormPlan}
+use Rattle.ring_conductor.specs.declared.storm.plan.StormReport.{StormReport}
+use Rattle.ring_conductor.specs.declared.storm.seats.StormClient.{StormClient}
+use Rattle.ring_conductor.specs.declared.storm.seats.Hub.{Hub}
 use Rattle.ring_conductor.specs.Applied.{applied}
 use Rattle.ring_conductor.specs.Asking.{producer_of, receiver_of}
 use Rattle.ring_conductor.specs.Conducting.{IsConductorOf, counters_of, received_of, transmitter_of}

@@ -8,12 +8,12 @@ use Rattle.ring_table.specs.declared.claim.StagedClaim.{StagedClaim}
 use Rattle.ring_table.specs.Passing.{placed_committed_of}
 use Rattle.ring_rings.specs.Closing.{AreOrdered}
 use Rattle.ring_rings.specs.Reading.{messages_of}
-use Rattle.ring_board.specs.declared.view.Joined.{Joined}
-use Rattle.ring_board.specs.declared.view.Record.{Record}
+use Rattle.ring_board.specs.declared.shared.view.Joined.{Joined}
+use Rattle.ring_board.specs.declared.shared.view.Record.{Record}
 use Rattle.ring_board.specs.Closing.{closed_words, IsClosed}
 use Rattle.ring_board.specs.Runs.{AreAllRuns}
 use Rattle.ring_counters.specs.Manager.{registry_of, writes_of}
-use Rattle.ring_conductor.specs.declared.finishing.Finished.{Finished}
+use Rattle.ring_conductor.specs.declared.finish.Finished.{Finished}
 use Rattle.ring_conductor.specs.Account.{account_of, fresh_account, messages_in}
 use Rattle.ring_conductor.specs.Fold.{at_moment}
 

@@ -1,6 +1,6 @@
 -- What is written over the start of an output.
 use Rattle.std.specs.Prelude.{◌≡◌, ℕ, ◌≤◌, ◌↔◌, List, ◌++◌, length, drop, Option, IsSome, IfSome, IfNone}
-use Rattle.ring_conductor.specs.declared.replies.Reply.{Reply}
+use Rattle.ring_conductor.specs.declared.protocol.reply.Reply.{Reply}
 use Rattle.ring_conductor.specs.Command.{Instruction, spelling_of, HasSpelling, HasShortTexts}
 use Rattle.ring_conductor.specs.Reply as reply
 

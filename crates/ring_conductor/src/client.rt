@@ -2,9 +2,10 @@
 ghost use Rattle.std.specs.Prelude.{◌≡◌, length};
 
 mod calls;
+pub(crate) mod request;
 
-use crate::commands::LONGEST_COMMAND;
-use crate::replies::Reply;
+use crate::protocol::command::LONGEST_COMMAND;
+use crate::protocol::reply::Reply;
 use ring_board::{CopyReceiver, Lapped};
 use ring_rings::{Producer, TryFault};
 use thiserror::Error;

@@ -1,10 +1,10 @@
 //! What the grammar promises: each spelling is of one message, and what was encoded is decoded again.
 
 ghost use Rattle.std.specs.Prelude.{◌≡◌, ◌≤◌, ◌++◌, length, ℕ, ℤ, List, take, Some, Ok};
-ghost use Rattle.ring_conductor.specs.declared.replies.Reply.{Reply as AnyReply};
+ghost use Rattle.ring_conductor.specs.declared.protocol.reply.Reply.{Reply as AnyReply};
 ghost use Rattle.ring_layout.specs.declared.message.Message.{Message};
-ghost use Rattle.ring_board.specs.declared.view.Joined.{Joined};
-ghost use Rattle.ring_board.specs.declared.view.Taken.{Taken};
+ghost use Rattle.ring_board.specs.declared.shared.view.Joined.{Joined};
+ghost use Rattle.ring_board.specs.declared.shared.view.Taken.{Taken};
 ghost use Rattle.ring_conductor.specs.Conducting.{Begins};
 ghost use Rattle.ring_conductor.specs.Fold.{Ledger, fold_of, with_receivers};
 ghost use Rattle.ring_conductor.specs.Command.{Instruction, spelling_of, type_id_of, HasLawfulTexts, Spells};

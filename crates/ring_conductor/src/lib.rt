@@ -9,45 +9,32 @@
 //! - the laws: what holds of the protocol and of the fold of commands.
 #![tactic(auto)]
 
-mod applying;
 mod client;
-mod codes;
-mod commands;
 mod conductor;
-mod faults;
-mod fields;
-mod finish_fault;
-mod finishing;
-mod handling;
-mod heartbeat;
+mod finish;
 mod laws;
-mod listening;
-mod replies;
-mod request;
-mod running;
-mod serving;
-mod storming;
+mod protocol;
+mod storm;
 mod whole;
-mod working;
 
+pub use client::request::Request;
 pub use client::{Client, Polled, SendFault};
-pub use codes::{RefusalCode, UnknownCode};
-pub use commands::decode::decode_command;
-pub use commands::encode::encode_command;
-pub use commands::{Command, LONGEST_COMMAND, type_ids as command_type_ids};
 pub use conductor::{Conductor, Cycle, Work, WorkStop};
-pub use faults::Bad;
-pub use finish_fault::{FinishFault, FinishRefused};
-pub use finishing::{Finished, finish};
+pub use finish::fault::{FinishFault, FinishRefused};
+pub use finish::{Finished, finish};
 pub use laws::{
     command_round_trip, fold_ignores_receivers, fold_lengthens, fold_of_fold, longest_command,
     one_command, one_reply, reply_round_trip,
 };
-pub use replies::decode::decode_reply;
-pub use replies::encode::encode_reply;
-pub use replies::{LONGEST_REPLY, Reply, type_ids as reply_type_ids};
-pub use request::Request;
-pub use storming::{Gate, OpenGate, StormFault, StormPlan, StormReport, storm};
+pub use protocol::codes::{RefusalCode, UnknownCode};
+pub use protocol::command::decode::decode_command;
+pub use protocol::command::encode::encode_command;
+pub use protocol::command::{Command, LONGEST_COMMAND, type_ids as command_type_ids};
+pub use protocol::fault::Bad;
+pub use protocol::reply::decode::decode_reply;
+pub use protocol::reply::encode::encode_reply;
+pub use protocol::reply::{LONGEST_REPLY, Reply, type_ids as reply_type_ids};
+pub use storm::{Gate, OpenGate, StormFault, StormPlan, StormReport, storm};
 pub use whole::whole_run;
 
 #[cfg(test)]

@@ -4,9 +4,9 @@ ghost use Rattle.std.specs.Prelude.{◌^◌, ◌≤◌, IfOk};
 ghost use Rattle.ring_conductor.specs.Whole.{Concludes};
 
 use crate::client::Client;
+use crate::client::request::Request;
 use crate::conductor::Conductor;
-use crate::finishing::{Finished, finish};
-use crate::request::Request;
+use crate::finish::{Finished, finish};
 use ring_board::Board;
 use ring_counters::CountersManager;
 use ring_rings::ManyToOneRing;

@@ -9,9 +9,9 @@ use mathlib.Core.Option.{some, some-ne-none, some-injective}
 use lib.ListN.{get_elem?}
 use Rattle.atomic_table.specs.Table.{State, keeps, Allows, Splits, Joins}
 use Rattle.atomic_table.proofs.Lists.{at_set, at_snoc, set_else}
-use Rattle.ring_counters.specs.declared.rule.ValueWrite.{ValueWrite}
-use Rattle.ring_counters.specs.declared.rule.ValueLoad.{ValueLoad}
-use Rattle.ring_counters.specs.declared.rule.ValuesView.{ValuesView}
+use Rattle.ring_counters.specs.declared.values.rule.ValueWrite.{ValueWrite}
+use Rattle.ring_counters.specs.declared.values.rule.ValueLoad.{ValueLoad}
+use Rattle.ring_counters.specs.declared.values.rule.ValuesView.{ValuesView}
 use Rattle.ring_counters.specs.Views.{value_write, value_load, values_view}
 use Rattle.ring_counters.specs.ValueWrites.{value_from, value_after, Begins, AreLoads}
 use Rattle.ring_counters.specs.ValuesRule.{all_shares, Fits, ValuesRule, Loads, Learns, Writes}

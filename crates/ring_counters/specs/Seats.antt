@@ -1,10 +1,10 @@
 -- The seats of the values.
 use Rattle.std.specs.Prelude.{◌≡◌, ℕ, List}
-use Rattle.ring_counters.specs.declared.rule.ValueWrite.{ValueWrite}
-use Rattle.ring_counters.specs.declared.rule.ValueLoad.{ValueLoad}
-use Rattle.ring_counters.specs.declared.seats.CounterValues.{CounterValues}
-use Rattle.ring_counters.specs.declared.seats.ValueWriter.{ValueWriter}
-use Rattle.ring_counters.specs.declared.seats.ValueReader.{ValueReader}
+use Rattle.ring_counters.specs.declared.values.rule.ValueWrite.{ValueWrite}
+use Rattle.ring_counters.specs.declared.values.rule.ValueLoad.{ValueLoad}
+use Rattle.ring_counters.specs.declared.values.seats.CounterValues.{CounterValues}
+use Rattle.ring_counters.specs.declared.values.seats.ValueWriter.{ValueWriter}
+use Rattle.ring_counters.specs.declared.values.seats.ValueReader.{ValueReader}
 
 abbrev pub IsWriterOf : CounterValues → ValueWriter → Type 0
 IsWriterOf values writer = writer.seat.table_id ≡ values.table.shared.table_id

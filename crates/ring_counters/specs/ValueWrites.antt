@@ -1,7 +1,7 @@
 -- The values after writes, and what readers load of them.
 use Rattle.std.specs.Prelude.{◌≡◌, ℕ, ◌==◌, ℤ, pos, if◌then◌else◌, List, [], ◌∷◌, ◌++◌}
-use Rattle.ring_counters.specs.declared.rule.ValueWrite.{ValueWrite}
-use Rattle.ring_counters.specs.declared.rule.ValueLoad.{ValueLoad}
+use Rattle.ring_counters.specs.declared.values.rule.ValueWrite.{ValueWrite}
+use Rattle.ring_counters.specs.declared.values.rule.ValueLoad.{ValueLoad}
 
 -- the value of an id after these writes, where it was this one before them
 abbrev pub value_from : ℤ → ℕ → List ValueWrite → ℤ

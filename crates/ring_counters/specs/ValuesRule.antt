@@ -3,8 +3,8 @@ use Rattle.std.specs.Prelude.{◌≡◌, ℕ, ◌+◌, ◌<◌, ◌≤◌, true,
 use Rattle.std.specs.Int.{cast_signed, cast_unsigned, w64}
 use mathlib.Core.Option.{some}
 use lib.ListN.{get_elem?}
-use Rattle.ring_counters.specs.declared.rule.ValueWrite.{ValueWrite}
-use Rattle.ring_counters.specs.declared.rule.ValuesView.{ValuesView}
+use Rattle.ring_counters.specs.declared.values.rule.ValueWrite.{ValueWrite}
+use Rattle.ring_counters.specs.declared.values.rule.ValuesView.{ValuesView}
 use Rattle.ring_counters.specs.Views.{value_write, value_load, values_view}
 use Rattle.ring_counters.specs.ValueWrites.{value_after, Begins, AreLoads}
 

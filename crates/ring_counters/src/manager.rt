@@ -4,7 +4,7 @@ ghost use Rattle.ring_counters.specs.Agree.{Agree};
 ghost use Rattle.ring_counters.specs.Registry.{count_of};
 
 use crate::records::Records;
-use crate::seats::ValueWriter;
+use crate::values::seats::ValueWriter;
 
 /// Counters with labels, keys and owners, in records of words.
 ///

@@ -1,4 +1,9 @@
 //! The counters over vectors of records, and the queue of freed ids.
+pub(crate) mod bytes;
+pub(crate) mod metadata;
+pub(crate) mod value;
+pub(crate) mod wanted;
+
 ghost use Rattle.std.specs.Prelude.{◌≡◌, ◌≢◌, ℕ, ◌+◌, ◌-◌, ◌*◌, ◌^◌, ◌<◌, ◌≤◌, true, false, position, IfOk, IfSome, IfNone, MatchOption, length, replicate, slice_index, slice_index_or, slice_set, remove};
 ghost use Rattle.std.specs.VecDeque.{deque_capacity};
 ghost use Rattle.ring_counters.specs.Counter.{Metadata, Values, Counter, Allocated, deadline_of, unused_metadata, unused_values, unused_counter};
@@ -7,9 +12,9 @@ ghost use Rattle.ring_counters.specs.Infos.{IsInfoOf, AreInfos};
 
 use crate::fault::IdFault;
 use crate::info::CounterInfo;
-use crate::metadata::MetadataRecord;
-use crate::values_record::ValueRecord;
-use crate::wanted::Wanted;
+use crate::records::metadata::MetadataRecord;
+use crate::records::value::ValueRecord;
+use crate::records::wanted::Wanted;
 use ring_layout::counter_descriptor::{MAX_KEY_LENGTH, MAX_LABEL_LENGTH};
 use std::alloc::{AllocError, Global};
 use std::collections::VecDeque;

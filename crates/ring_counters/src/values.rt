@@ -1,13 +1,16 @@
 //! The steps on the values: store, load, split and join.
+pub(crate) mod rule;
+pub(crate) mod seats;
+
 ghost use Rattle.std.specs.Prelude.{◌≡◌, ℕ, ◌+◌, ◌<◌, ◌≤◌, ◌↔◌, List, [], ◌∷◌, ◌++◌, IfOk, IfErr, IsOk};
-ghost use Rattle.ring_counters.specs.declared.rule.ValueWrite.{ValueWrite};
+ghost use Rattle.ring_counters.specs.declared.values.rule.ValueWrite.{ValueWrite};
 ghost use Rattle.ring_counters.specs.Views.{value_write, value_load};
 ghost use Rattle.ring_counters.specs.ValueWrites.{value_after, Begins, AreLoads};
 ghost use Rattle.ring_counters.specs.Seats.{IsWriterOf, IsReaderOf, values_count, writer_writes, made_of, seen_by, loads_of};
 
 use crate::fault::{BadId, NoShares};
-use crate::rule::{CutReader, JoinReader, LearnLoads, LoadValue, StoreValue};
-use crate::seats::{CounterValues, ValueReader, ValueWriter};
+use crate::values::rule::{CutReader, JoinReader, LearnLoads, LoadValue, StoreValue};
+use crate::values::seats::{CounterValues, ValueReader, ValueWriter};
 use atomic_table::Table;
 use std::alloc::{AllocError, Global};
 

@@ -1,7 +1,7 @@
 -- What clauses say of a caller.
-use Rattle.ring_rings.specs.declared.seats.Ring.{Ring}
+use Rattle.ring_rings.specs.declared.ring.Ring.{Ring}
 use Rattle.ring_rings.specs.Seats.{IsProducerOf}
-use Rattle.ring_board.specs.declared.seats.Board.{Board}
+use Rattle.ring_board.specs.declared.board.Board.{Board}
 use Rattle.ring_board.specs.Seats.{IsReceiverOf}
 use Rattle.ring_conductor.specs.Asking.{producer_of, receiver_of}
 use Rattle.ring_example.specs.declared.client.Caller.{Caller}

@@ -15,8 +15,8 @@ use Rattle.ring_table.specs.Changes.{changed, changed_at, staged}
 use Rattle.ring_table.specs.OpenClaims.{one_if_open, open_count}
 use Rattle.ring_table.specs.Staged.{state_of}
 use Rattle.ring_table.proofs.Histories.{changed_at_place, changed_at_other}
-use Rattle.ring_rings.specs.declared.seats.Ring.{Ring}
-use Rattle.ring_rings.specs.declared.seats.Producer.{Producer}
+use Rattle.ring_rings.specs.declared.ring.Ring.{Ring}
+use Rattle.ring_rings.specs.declared.ring.Producer.{Producer}
 use Rattle.ring_rings.specs.Bodies.{put_at, PutsBytes}
 use Rattle.ring_rings.specs.Seats.{claims_of, view_of, IsOpenClaimOf}
 use Rattle.ring_loose.specs.Claims.{HasClaim, HoldsNothing, IsHeld, IsHeldIfOpen, AreHeld, AreOpen}

@@ -8,9 +8,9 @@ use Rattle.ring_words.specs.Open.{ClaimAt}
 use Rattle.ring_table.specs.declared.view.View.{View}
 use Rattle.ring_table.specs.Views.{with_claims}
 use Rattle.ring_rings.specs.declared.fault.CloseFault.{CloseFault}
-use Rattle.ring_rings.specs.declared.seats.Ring.{Ring}
-use Rattle.ring_rings.specs.declared.seats.Producer.{Producer}
-use Rattle.ring_rings.specs.declared.seats.Consumer.{Consumer}
+use Rattle.ring_rings.specs.declared.ring.Ring.{Ring}
+use Rattle.ring_rings.specs.declared.ring.Producer.{Producer}
+use Rattle.ring_rings.specs.declared.ring.Consumer.{Consumer}
 use Rattle.ring_rings.specs.Seats.{view_of, IsProducerOf}
 use Rattle.ring_rings.specs.Closing.{close_refusal_of, IsRefusedAs}
 use Rattle.ring_loose.specs.Claims.{HasClaim, Holder, HoldsNone, SettlesAt}

@@ -7,9 +7,9 @@ use Rattle.ring_table.specs.declared.claim.Stage.TheVariants.{Stored}
 use Rattle.ring_table.specs.declared.view.View.{View}
 use Rattle.ring_table.specs.Changes.{changed, staged}
 use Rattle.ring_table.specs.Views.{with_claims}
-use Rattle.ring_rings.specs.declared.seats.Ring.{Ring}
-use Rattle.ring_rings.specs.declared.seats.Producer.{Producer}
-use Rattle.ring_rings.specs.declared.seats.Consumer.{Consumer}
+use Rattle.ring_rings.specs.declared.ring.Ring.{Ring}
+use Rattle.ring_rings.specs.declared.ring.Producer.{Producer}
+use Rattle.ring_rings.specs.declared.ring.Consumer.{Consumer}
 use Rattle.ring_rings.specs.Opening.{first_consumer, first_producer}
 use Rattle.ring_rings.specs.Seats.{shares_of, start_of, IsConsumerOf, IsProducerOf}
 use Rattle.ring_loose.specs.Claims.{AreOpen, Holder, holder}

@@ -1,8 +1,8 @@
 -- Numbered receivers of a broadcast buffer.
 use Rattle.std.specs.Prelude.{◌≡◌, ℕ, ◌-◌, ◌++◌, ◌∷◌, List, [], length, Option, Some, None, slice_set}
-use Rattle.ring_board.specs.declared.seats.Board.{Board}
-use Rattle.ring_board.specs.declared.seats.Transmitter.{Transmitter}
-use Rattle.ring_board.specs.declared.seats.CopyReceiver.{CopyReceiver}
+use Rattle.ring_board.specs.declared.board.Board.{Board}
+use Rattle.ring_board.specs.declared.board.Transmitter.{Transmitter}
+use Rattle.ring_board.specs.declared.board.CopyReceiver.{CopyReceiver}
 use Rattle.ring_board.specs.Receiving.{GotCopy, GotLapped, GotNothing}
 use Rattle.ring_board.specs.Seats.{view_of, IsReceiverOf, receiver_seat, receiver_view}
 use Rattle.ring_board.specs.Steps.{Sat, fewer, newcomer, joined}

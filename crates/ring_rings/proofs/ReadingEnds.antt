@@ -2,11 +2,11 @@
 use Rattle.std.proofs.Common.{◌≡◌, ◌≢◌, ℕ, ◌+◌, ◌%◌, ◌<◌, ◌≤◌, List, [], ◌∷◌, ◌++◌, refl, ap, sym, ◌∙◌, subst, arith, inl, inr, All, nat_lt, ◌==◌, ◌&&◌, Bool, true, false, if◌then◌else◌}
 use Rattle.std.proofs.lemmas.Bool.{cases_lt, eq-eqb, ne_eqb, and_from, lt-ltb, le-ltb}
 use Rattle.std.proofs.lemmas.List.{append-nil}
-use Rattle.ring_words.specs.declared.action.Action.{Action}
-use Rattle.ring_words.specs.declared.action.Action.TheVariants.{Abort, Break}
-use Rattle.ring_words.specs.declared.read_end.ReadEnd.{ReadEnd}
-use Rattle.ring_words.specs.declared.read_end.Stop.{Stop}
-use Rattle.ring_words.specs.declared.read_end.Stop.TheVariants.{Limit, Block, Unpublished}
+use Rattle.ring_words.specs.declared.read.action.Action.{Action}
+use Rattle.ring_words.specs.declared.read.action.Action.TheVariants.{Abort, Break}
+use Rattle.ring_words.specs.declared.read.end.ReadEnd.{ReadEnd}
+use Rattle.ring_words.specs.declared.read.end.Stop.{Stop}
+use Rattle.ring_words.specs.declared.read.end.Stop.TheVariants.{Limit, Block, Unpublished}
 use Rattle.ring_words.specs.Read.{GoesOn, stop_of}
 use Rattle.ring_layout.specs.declared.message.Message.{Message}
 use Rattle.ring_layout.specs.History.{IsMessage}

@@ -1,8 +1,8 @@
 -- A read that heeds the handler's actions, and one that takes each as Continue.
 use Rattle.std.proofs.Common.{◌≡◌, ℕ, List, [], ◌∷◌, ◌++◌, true, false, sym, subst, inl, inr}
-use Rattle.ring_words.specs.declared.action.Action.{Action}
-use Rattle.ring_words.specs.declared.action.Action.TheVariants.{Abort, Break, Continue}
-use Rattle.ring_words.specs.declared.read_end.ReadEnd.{ReadEnd}
+use Rattle.ring_words.specs.declared.read.action.Action.{Action}
+use Rattle.ring_words.specs.declared.read.action.Action.TheVariants.{Abort, Break, Continue}
+use Rattle.ring_words.specs.declared.read.end.ReadEnd.{ReadEnd}
 use Rattle.ring_words.specs.Read.{stop_of}
 use Rattle.ring_layout.specs.declared.message.Message.{Message}
 use Rattle.ring_layout.specs.Handles.{Handles}

@@ -2,11 +2,11 @@
 use Rattle.std.proofs.Common.{◌≡◌, ◌≢◌, ℕ, ◌+◌, ◌-◌, ◌%◌, ◌<◌, ◌≤◌, List, [], ◌∷◌, ◌++◌, ap, sym, ◌∙◌, subst, arith, inl, inr, nat_lt, ◌&&◌, ◌==◌, true, false}
 use Rattle.std.proofs.lemmas.Bool.{and_parts, eqb-true, ltb-true}
 use Rattle.std.proofs.lemmas.Nat.{mod_below}
-use Rattle.ring_words.specs.declared.action.Action.{Action}
-use Rattle.ring_words.specs.declared.action.Action.TheVariants.{Abort, Break}
-use Rattle.ring_words.specs.declared.read_end.ReadEnd.{ReadEnd}
-use Rattle.ring_words.specs.declared.read_end.Stop.{Stop}
-use Rattle.ring_words.specs.declared.read_end.Stop.TheVariants.{Limit, Block, Unpublished}
+use Rattle.ring_words.specs.declared.read.action.Action.{Action}
+use Rattle.ring_words.specs.declared.read.action.Action.TheVariants.{Abort, Break}
+use Rattle.ring_words.specs.declared.read.end.ReadEnd.{ReadEnd}
+use Rattle.ring_words.specs.declared.read.end.Stop.{Stop}
+use Rattle.ring_words.specs.declared.read.end.Stop.TheVariants.{Limit, Block, Unpublished}
 use Rattle.ring_words.specs.Read.{GoesOn}
 use Rattle.ring_layout.specs.declared.message.Message.{Message}
 use Rattle.ring_layout.specs.Places.{index, max_position, room}

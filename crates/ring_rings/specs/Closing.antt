@@ -12,9 +12,9 @@ use Rattle.ring_table.specs.Closed.{restarted}
 use Rattle.ring_table.specs.Services.{times_drawn, once_below, AreServed}
 use Rattle.ring_rings.specs.declared.fault.CloseFault.{CloseFault}
 use Rattle.ring_rings.specs.declared.fault.CloseFault.TheVariants.{ClaimsOpen, ProducersOut}
-use Rattle.ring_rings.specs.declared.seats.CloseRefused.{CloseRefused}
-use Rattle.ring_rings.specs.declared.seats.Producer.{Producer}
-use Rattle.ring_rings.specs.declared.seats.Consumer.{Consumer}
+use Rattle.ring_rings.specs.declared.ring.CloseRefused.{CloseRefused}
+use Rattle.ring_rings.specs.declared.ring.Producer.{Producer}
+use Rattle.ring_rings.specs.declared.ring.Consumer.{Consumer}
 
 -- why a producer with so many open claims and shares does not close a ring, in the order of the tests
 abbrev pub close_refusal_of : ℕ → ℕ → Option CloseFault

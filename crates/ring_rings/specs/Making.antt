@@ -8,9 +8,9 @@ use Rattle.ring_table.specs.Staged.{staged_span}
 use Rattle.ring_table.specs.Changes.{blank, fresh_stage}
 use Rattle.ring_table.specs.ProducerSteps.{EndBelow}
 use Rattle.ring_table.specs.Views.{with_claim}
-use Rattle.ring_rings.specs.declared.admission.Admission.{Admission}
-use Rattle.ring_rings.specs.declared.room.Shortage.{Shortage}
-use Rattle.ring_rings.specs.declared.room.Shortage.TheVariants.{Full, Passed}
+use Rattle.ring_rings.specs.declared.producer.admission.Admission.{Admission}
+use Rattle.ring_rings.specs.declared.producer.room.Shortage.{Shortage}
+use Rattle.ring_rings.specs.declared.producer.room.Shortage.TheVariants.{Full, Passed}
 use Rattle.ring_rings.specs.Claiming.{GoesBy, LooksTwice, SeesRoom, claim_behind, looked, tail_refusal_of}
 
 -- a lawful message goes here behind the tail

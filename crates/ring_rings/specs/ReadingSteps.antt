@@ -1,7 +1,7 @@
 -- What a running read does: v is the consumer's view before a turn, w the view after it, and `scan` how far the read had come.
 use Rattle.std.specs.Prelude.{◌≡◌, ◌≢◌, ℕ, ◌+◌, ◌/◌, ◌%◌, ◌*◌, ◌≤◌, ◌<◌, List, [], ◌∷◌, ◌++◌, length, slice_index, take, All, ℤ, pos, Bool, true, false}
-use Rattle.ring_words.specs.declared.action.Action.{Action}
-use Rattle.ring_words.specs.declared.action.Action.TheVariants.{Continue}
+use Rattle.ring_words.specs.declared.read.action.Action.{Action}
+use Rattle.ring_words.specs.declared.read.action.Action.TheVariants.{Continue}
 use Rattle.ring_layout.specs.declared.message.Message.{Message}
 use Rattle.ring_layout.specs.History.{IsMessage, span}
 use Rattle.ring_layout.specs.Headers.{header}
@@ -11,10 +11,10 @@ use Rattle.ring_table.specs.declared.view.View.{View}
 use Rattle.ring_table.specs.Views.{scanned, with_consumer}
 use Rattle.ring_table.specs.ConsumerSteps.{IsInside, with_scan}
 use Rattle.ring_rings.specs.Reading.{IsUnpublished, body_loads, record_loads}
-use Rattle.ring_rings.specs.declared.reading.finding.Found.{Found}
-use Rattle.ring_rings.specs.declared.reading.finding.Found.TheVariants.{Nothing, Quiet, Message as OneMessage}
-use Rattle.ring_rings.specs.declared.reading.turn.Turn.{Turn}
-use Rattle.ring_rings.specs.declared.reading.turn.Turn.TheVariants.{Blocked, Passed, Shown}
+use Rattle.ring_rings.specs.declared.consumer.find.Found.{Found}
+use Rattle.ring_rings.specs.declared.consumer.find.Found.TheVariants.{Nothing, Quiet, Message as OneMessage}
+use Rattle.ring_rings.specs.declared.consumer.turn.Turn.{Turn}
+use Rattle.ring_rings.specs.declared.consumer.turn.Turn.TheVariants.{Blocked, Passed, Shown}
 
 -- a read has come to `scan` and has got these messages: those taken, where that is the head
 pub record IsAt (scan : ℕ) (got : List PlacedMessage) (v : View) : Type 0 where

@@ -9,9 +9,9 @@ use Rattle.ring_table.specs.declared.claim.StagedClaim.{StagedClaim}
 use Rattle.ring_table.specs.declared.claim.PlacedMessage.{PlacedMessage}
 use Rattle.ring_table.specs.OpenClaims.{open_count}
 use Rattle.ring_table.specs.declared.view.View.{View}
-use Rattle.ring_rings.specs.declared.seats.Ring.{Ring}
-use Rattle.ring_rings.specs.declared.seats.Producer.{Producer}
-use Rattle.ring_rings.specs.declared.seats.Consumer.{Consumer}
+use Rattle.ring_rings.specs.declared.ring.Ring.{Ring}
+use Rattle.ring_rings.specs.declared.ring.Producer.{Producer}
+use Rattle.ring_rings.specs.declared.ring.Consumer.{Consumer}
 
 abbrev pub capacity_of : {K : Type 0} → Ring K → ℕ
 capacity_of ring = ring.capacity

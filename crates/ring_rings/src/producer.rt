@@ -1,8 +1,19 @@
 //! What producers say of themselves, and how they are cut in two and put together.
+pub(crate) mod admission;
+pub(crate) mod body;
+pub(crate) mod claim;
+pub(crate) mod headers;
+pub(crate) mod many_to_one;
+pub(crate) mod one_to_one;
+pub(crate) mod room;
+pub(crate) mod service;
+pub(crate) mod settle;
+pub(crate) mod wait;
+
 ghost use Rattle.std.specs.Prelude.{◌≡◌, IfOk, OnErr};
 ghost use Rattle.ring_rings.specs.Seats.{open_claims_of, shares_of};
 
-use crate::seats::Producer;
+use crate::ring::Producer;
 
 impl Producer {
     /// How many shares of the ring it holds.

@@ -2,13 +2,13 @@
 ghost use Rattle.std.specs.Prelude.{◌≡◌, ℕ, ◌+◌, ◌≤◌, IfOk};
 ghost use Rattle.ring_table.specs.Seats.{IsSameSeat};
 ghost use Rattle.ring_table.specs.Views.{beaten, with_consumer};
-ghost use Rattle.ring_rings.specs.declared.seats.Consumer.{Consumer as TheConsumer};
-ghost use Rattle.ring_rings.specs.declared.seats.Producer.{Producer as TheProducer};
+ghost use Rattle.ring_rings.specs.declared.ring.Consumer.{Consumer as TheConsumer};
+ghost use Rattle.ring_rings.specs.declared.ring.Producer.{Producer as TheProducer};
 ghost use Rattle.ring_rings.specs.Closing.{close_refusal_of, kept_open, HandsOut, IsRefusedAs, Serves};
 ghost use Rattle.ring_rings.specs.Reading.{Controls, IsBlocked};
 ghost use Rattle.ring_rings.specs.Seats.{capacity_of, consumer_view, head_of, open_claims_of, shares_of, start_of, view_of, IsConsumerOf, IsProducerOf};
 
-use crate::seats::{CloseRefused, Consumer, Producer, Ring};
+use crate::ring::{CloseRefused, Consumer, Producer, Ring};
 use ring_words::{Handler, ReadEnd, SoloRing, Stop};
 
 /// A ring that commands are read from: of one producer or of many.

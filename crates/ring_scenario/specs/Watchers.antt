@@ -1,8 +1,8 @@
 -- Numbered readers of counter values.
 use Rattle.std.specs.Prelude.{◌≡◌, ℕ, ◌-◌, ◌+◌, ◌++◌, ◌∷◌, ℤ, List, [], length, Option, Some, None, slice_set}
-use Rattle.ring_counters.specs.declared.seats.CounterValues.{CounterValues}
-use Rattle.ring_counters.specs.declared.seats.ValueReader.{ValueReader}
-use Rattle.ring_counters.specs.declared.rule.ValueWrite.{ValueWrite}
+use Rattle.ring_counters.specs.declared.values.seats.CounterValues.{CounterValues}
+use Rattle.ring_counters.specs.declared.values.seats.ValueReader.{ValueReader}
+use Rattle.ring_counters.specs.declared.values.rule.ValueWrite.{ValueWrite}
 use Rattle.ring_counters.specs.Seats.{IsReaderOf, loads_of, made_of, seen_by}
 use Rattle.ring_counters.specs.ValueWrites.{Begins, value_after}
 use Rattle.ring_loose.specs.Held.{HasAt, IsHeld}

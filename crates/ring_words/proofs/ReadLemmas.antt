@@ -6,8 +6,8 @@ use Rattle.std.proofs.lemmas.Bool.{cases_lt, and_cases, ltb-false, eqb-false}
 use Rattle.std.proofs.lemmas.List.{append-nil, append_assoc, length_push}
 use Rattle.std.proofs.lemmas.List.Elements.{All-nil, All-push, All-head, All-tail, All-cons}
 use Rattle.std.proofs.lemmas.Nat.{mod_below}
-use Rattle.ring_words.specs.declared.action.Action.{Action}
-use Rattle.ring_words.specs.declared.taking.Settled.{Settled}
+use Rattle.ring_words.specs.declared.read.action.Action.{Action}
+use Rattle.ring_words.specs.declared.read.head.Settled.{Settled}
 use Rattle.ring_layout.specs.declared.message.Claim.{Claim}
 use Rattle.ring_layout.specs.declared.message.Message.{Message}
 use Rattle.ring_layout.specs.declared.message.ClaimState.TheVariants.{Open, Committed, Aborted}
@@ -19,9 +19,9 @@ use Rattle.ring_layout.specs.Handles.{Handles}
 use Rattle.ring_words.specs.Reading.{Sees, SeesCommitted, IsAtHead, Leaves, MovesHead}
 use Rattle.ring_words.specs.Read.{Reads, Passes, IsHeadAfter, IsTight, GoesOn, IsNext, WentOn, Broke, Aborts, stop_of}
 use Rattle.ring_words.specs.Open.{ClaimAt, IsOpen, IsOpenIn}
-use Rattle.ring_words.specs.declared.action.Action.TheVariants.{Abort, Break, Commit, Continue}
-use Rattle.ring_words.specs.declared.read_end.ReadEnd.{ReadEnd}
-use Rattle.ring_words.specs.declared.read_end.Stop.{Stop}
+use Rattle.ring_words.specs.declared.read.action.Action.TheVariants.{Abort, Break, Commit, Continue}
+use Rattle.ring_words.specs.declared.read.end.ReadEnd.{ReadEnd}
+use Rattle.ring_words.specs.declared.read.end.Stop.{Stop}
 use Rattle.ring_words.proofs.OpenLemmas.{open_after}
 use Rattle.ring_layout.proofs.Laps.{mod_step, mod_room}
 use Rattle.ring_layout.proofs.PlaceLemmas.{next_fixed, span_bounds, end_of-append}

@@ -5,7 +5,7 @@ use Rattle.std.proofs.lemmas.List.{length-set}
 use Rattle.std.proofs.lemmas.List.Elements.{All-head, All-tail}
 use Rattle.std.proofs.lemmas.Nat.{mod_below}
 use Rattle.std.proofs.Math.Nat.{add-mod_right}
-use Rattle.ring_words.specs.declared.taking.Settled.{Settled}
+use Rattle.ring_words.specs.declared.read.head.Settled.{Settled}
 use Rattle.ring_layout.specs.declared.message.Claim.{Claim}
 use Rattle.ring_layout.specs.History.{IsMessage, span, span_of}
 use Rattle.ring_layout.specs.Places.{room, next_place, end_after, end_of}

@@ -1,7 +1,7 @@
 -- A read that goes on behind the end of the buffer, of a ring of any kind: X is what is said of the ring, S the handler's states, and Reads what one read says.
 use Rattle.std.specs.Prelude.{◌≡◌, ◌≢◌, ◌⊎◌, ℕ, ◌+◌, ◌-◌}
-use Rattle.ring_words.specs.declared.read_end.ReadEnd.{ReadEnd}
-use Rattle.ring_words.specs.declared.read_end.Stop.{Stop}
+use Rattle.ring_words.specs.declared.read.end.ReadEnd.{ReadEnd}
+use Rattle.ring_words.specs.declared.read.end.Stop.{Stop}
 
 -- one read, which something else than the end of the buffer stopped
 pub record ReadsOnce {X S : Type 0} (Reads : ℕ → X → X → S → S → ReadEnd → Type 0) (limit : ℕ) (old new : X) (s t : S) (end : ReadEnd) : Type 0 where

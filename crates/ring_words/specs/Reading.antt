@@ -1,6 +1,6 @@
 -- What a read sees at the head and what it passes.
 use Rattle.std.specs.Prelude.{◌≡◌, ◌≢◌, ◌⊎◌, ℕ, ◌+◌, ◌/◌, ◌<◌, ◌≤◌, List, [], ◌∷◌, length, slice_index, Option, Some, None}
-use Rattle.ring_words.specs.declared.taking.Settled.{Settled}
+use Rattle.ring_words.specs.declared.read.head.Settled.{Settled}
 use Rattle.ring_layout.specs.declared.message.Claim.{Claim}
 use Rattle.ring_layout.specs.declared.message.ClaimState.TheVariants.{Open, Committed, Aborted}
 use Rattle.ring_layout.specs.History.{span_of}

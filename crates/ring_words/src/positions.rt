@@ -3,7 +3,7 @@ ghost use Rattle.std.specs.Prelude.{◌≡◌, ◌↔◌, ℕ, ◌-◌};
 ghost use Rattle.ring_words.specs.Standing.{IsBlockedAt, IsEmpty};
 ghost use Rattle.ring_words.specs.declared.positions.Standing.TheVariants.{Blocked, Empty, Moving};
 
-use crate::read_end::{ReadEnd, Stop};
+use crate::read::end::{ReadEnd, Stop};
 
 /// Up to where messages were taken, and up to where room is claimed. Both are running byte counts.
 #[derive(Clone, Copy, Debug, PartialEq, Eq)]

@@ -7,11 +7,11 @@ ghost use Rattle.ring_rings.specs.Seats.{capacity_of, open_claims_of, shares_of,
 ghost use Rattle.ring_board.specs.Seats.{receiver_seat, IsReceiverOf};
 ghost use Rattle.ring_conductor.specs.Asking.{IsHeard, IsSendable, RefusesAs, RefusesSend, Sends, SendsAs, producer_of, receiver_of};
 
+use crate::client::request::Request;
 use crate::client::{Client, Polled, SendFault};
-use crate::commands::LONGEST_COMMAND;
-use crate::commands::encode::encode_command;
-use crate::replies::decode::decode_reply;
-use crate::request::Request;
+use crate::protocol::command::LONGEST_COMMAND;
+use crate::protocol::command::encode::encode_command;
+use crate::protocol::reply::decode::decode_reply;
 use ring_board::{Board, CopyReceiver};
 use ring_rings::{ManyToOneRing, Producer};
 

@@ -3,13 +3,13 @@ use Rattle.ring_layout.specs.History.{committed_of}
 use Rattle.ring_table.specs.declared.view.View.{View}
 use Rattle.ring_table.specs.OpenClaims.{open_count}
 use Rattle.ring_table.specs.Passing.{placed_committed_of}
-use Rattle.ring_rings.specs.declared.seats.Consumer.{Consumer}
-use Rattle.ring_rings.specs.declared.seats.Producer.{Producer}
+use Rattle.ring_rings.specs.declared.ring.Consumer.{Consumer}
+use Rattle.ring_rings.specs.declared.ring.Producer.{Producer}
 use Rattle.ring_rings.specs.Closing.{AreOrdered}
 use Rattle.ring_rings.specs.Reading.{messages_of}
 use Rattle.ring_rings.specs.Seats.{capacity_of, claims_of, open_claims_of, shares_of, taken_of}
-use Rattle.ring_board.specs.declared.seats.Transmitter.{Transmitter}
-use Rattle.ring_board.specs.declared.view.View.{View as BoardView}
+use Rattle.ring_board.specs.declared.board.Transmitter.{Transmitter}
+use Rattle.ring_board.specs.declared.shared.view.View.{View as BoardView}
 use Rattle.ring_board.specs.Closing.{closed_words, IsClosed}
 use Rattle.ring_board.specs.Seats.{capacity_of as board_capacity_of, heard_by, shares_of as board_shares_of, transmitted}
 use Rattle.ring_counters.specs.declared.manager.CountersManager.{CountersManager}

@@ -1,0 +1,180 @@
+//! A board, from its making to its close.
+ghost use Rattle.std.specs.Prelude.{◌≡◌, ℕ, ◌+◌, ◌/◌, ◌%◌, ◌<◌, ◌≤◌, [], length, slice_index, slice_get, vec_len, IfOk};
+ghost use Rattle.std.specs.Slots.{slots_items, slots_len, IsFull};
+ghost use Rattle.ring_layout.specs.Places.{max_position};
+ghost use Rattle.ring_board.specs.Layout.{is_board_capacity, IsBoardCapacity, intent_index, tail_index, latest_index};
+ghost use Rattle.ring_board.specs.Rule.{opening_view};
+ghost use Rattle.ring_board.specs.Refusals.{make_refusal_of, IsMadeUnless, IsRefusedAs};
+ghost use Rattle.ring_board.specs.Runs.{AreAllRuns};
+ghost use Rattle.ring_board.specs.Seats.{capacity_of, start_of, view_of, tail_of, heard_by, shares_of, transmitted, IsTransmitterOf};
+ghost use Rattle.ring_board.specs.Closing.{IsClosed, closed_words, closed_capacity, close_refusal_of, kept_open};
+
+use crate::board::{Board, BoardCloseRefused, ClosedBoard, Transmitter};
+use crate::fault::{MakeFault, ReceiversOut};
+use crate::shared::view::Shape;
+use atomic_table::{Closed, Table};
+use ring_layout::broadcast_buffer_descriptor::{
+    LATEST_COUNTER_WORD, MAX_CAPACITY, MIN_CAPACITY, TAIL_COUNTER_WORD, TAIL_INTENT_COUNTER_WORD,
+    TRAILER_WORDS,
+};
+use ring_layout::max_message;
+use ring_layout::ring_buffer_descriptor::MAX_POSITION;
+use std::alloc::{AllocError, Global};
+
+/// The shares of a board.
+const ALL_SHARES: u32 = 1 << 16;
+
+/// Tests whether a board may have this capacity: a power of two from 256 to 2^24.
+fn is_board_capacity(capacity: u32) -> bool
+    ensures { result ≡ is_board_capacity capacity }
+{
+    capacity.is_power_of_two() && capacity >= MIN_CAPACITY && capacity <= MAX_CAPACITY
+}
+
+/// Copies the words of a table that was closed.
+fn copy_words(closed: &Closed<(), Global>, words: &mut Vec<u64>)
+    requires { IsFull closed.now.words × (slots_len closed.now.words ≡ vec_len words.old) }
+    ensures len { vec_len words.new ≡ vec_len words.old }
+    ensures words { (i : ℕ) → i < vec_len words.old → slice_index words.new.items i ≡ slice_index (slots_items closed.now.words) i }
+{
+    for i in 0..words.len() {
+        words[i] = closed.word(i);
+    }
+}
+
+impl Board {
+    /// Makes a board that starts at position 0, with its transmitter, which holds all shares. The refusals are those of
+    /// `new_at`.
+    pub fn new(alloc: Global, capacity: u32) -> Result<(Board, Transmitter), MakeFault>
+        ensures refused { IsMadeUnless (make_refusal_of capacity 0) result }
+        ensures board { IfOk result (λ made. (capacity_of made.0 ≡ capacity) × (start_of made.0 ≡ 0)) }
+        ensures transmitter { IfOk result (λ made. IsTransmitterOf made.0 made.1 × (view_of made.1 ≡ opening_view capacity 0) × (tail_of made.1 ≡ 0)) }
+    {
+        Board::new_at(alloc, capacity, 0)
+    }
+
+    /// Makes a board that starts at a multiple of its capacity, in bytes, with its transmitter, which holds all shares.
+    /// `BadCapacity` where the capacity is no power of two from 256 to 2^24, `BadStart` where the start is no multiple of
+    /// it or above 2^62, `OutOfMemory` where there is none.
+    pub fn new_at(
+        alloc: Global,
+        capacity: u32,
+        start: u64,
+    ) -> Result<(Board, Transmitter), MakeFault>
+        ensures refused { IsMadeUnless (make_refusal_of capacity start) result }
+        ensures board { IfOk result (λ made. (capacity_of made.0 ≡ capacity) × (start_of made.0 ≡ start)) }
+        ensures transmitter { IfOk result (λ made. IsTransmitterOf made.0 made.1 × (view_of made.1 ≡ opening_view capacity start) × (tail_of made.1 ≡ start)) }
+    {
+        if !is_board_capacity(capacity) {
+            return Err(MakeFault::BadCapacity);
+        }
+        if start % u64::from(capacity) != 0 || start > MAX_POSITION {
+            return Err(MakeFault::BadStart);
+        }
+        Board::make(alloc, capacity, start).map_err(|_| MakeFault::OutOfMemory)
+    }
+
+    /// Makes a board of a lawful capacity at a lawful start.
+    fn make(alloc: Global, capacity: u32, start: u64) -> Result<(Board, Transmitter), AllocError>
+        requires capacity { IsBoardCapacity capacity }
+        requires start { (start % capacity ≡ 0) × (start ≤ max_position) }
+        ensures board { IfOk result (λ made. (capacity_of made.0 ≡ capacity) × (start_of made.0 ≡ start)) }
+        ensures transmitter { IfOk result (λ made. IsTransmitterOf made.0 made.1 × (view_of made.1 ≡ opening_view capacity start) × (tail_of made.1 ≡ start)) }
+    {
+        let trailer = capacity as usize / 8;
+        let mut words = vec![in alloc; 0u64; trailer + TRAILER_WORDS]?;
+        words[trailer + TAIL_INTENT_COUNTER_WORD] = start;
+        words[trailer + TAIL_COUNTER_WORD] = start;
+        words[trailer + LATEST_COUNTER_WORD] = start;
+        let shape = Shape { capacity, start };
+        let (table, seat) = Table::of_words(alloc, words.as_slice(), &shape)?;
+        let board = Board {
+            table,
+            words,
+            capacity,
+        };
+        let transmitter = Transmitter {
+            seat,
+            tail: start,
+            shares: ALL_SHARES,
+        };
+        Ok((board, transmitter))
+    }
+
+    /// The bytes of the buffer.
+    pub fn capacity(&self) -> u32
+        ensures { result ≡ capacity_of self.now }
+    {
+        self.capacity
+    }
+
+    /// The most bytes of a message: an eighth of the capacity.
+    pub fn max_message(&self) -> u32
+        ensures { result ≡ capacity_of self.now / 8 }
+    {
+        max_message(self.capacity)
+    }
+
+    /// Takes the board apart, once all receivers are back. `ReceiversOut` with the number of shares that are elsewhere;
+    /// then board and transmitter come back as they were.
+    pub fn close(self, transmitter: Transmitter) -> Result<ClosedBoard, BoardCloseRefused>
+        requires { IsTransmitterOf self transmitter }
+        ensures refused { IsRefusedAs (kept_open self transmitter) (close_refusal_of (shares_of transmitter)) result }
+        ensures closed { IfOk result (λ c. (closed_capacity c ≡ capacity_of self) × IsClosed (capacity_of self) (start_of self) (transmitted transmitter) (closed_words c)) }
+        ensures runs { IfOk result (λ _. AreAllRuns (transmitted transmitter) (heard_by transmitter)) }
+    {
+        if transmitter.shares != ALL_SHARES {
+            return Err(BoardCloseRefused {
+                reason: ReceiversOut {
+                    receivers: ALL_SHARES - transmitter.shares,
+                },
+                board: self,
+                transmitter,
+            });
+        }
+        let Transmitter {
+            seat,
+            tail: _,
+            shares: _,
+        } = transmitter;
+        let Board {
+            table,
+            mut words,
+            capacity,
+        } = self;
+        let closed = table.close_with(seat);
+        copy_words(&closed, &mut words);
+        closed.free();
+        Ok(ClosedBoard { words, capacity })
+    }
+}
+
+impl ClosedBoard {
+    /// The intent: the tail.
+    pub fn intent(&self) -> u64
+        ensures { result ≡ slice_index (closed_words self.now) (intent_index (closed_capacity self.now)) }
+    {
+        self.words[self.capacity as usize / 8 + TAIL_INTENT_COUNTER_WORD]
+    }
+
+    /// Where the last transmission ended.
+    pub fn tail(&self) -> u64
+        ensures { result ≡ slice_index (closed_words self.now) (tail_index (closed_capacity self.now)) }
+    {
+        self.words[self.capacity as usize / 8 + TAIL_COUNTER_WORD]
+    }
+
+    /// The place of the last record, or the start where there is none.
+    pub fn latest(&self) -> u64
+        ensures { result ≡ slice_index (closed_words self.now) (latest_index (closed_capacity self.now)) }
+    {
+        self.words[self.capacity as usize / 8 + LATEST_COUNTER_WORD]
+    }
+
+    /// A word of buffer or trailer.
+    pub fn word(&self, index: usize) -> Option<u64>
+        ensures { result ≡ slice_get (closed_words self.now) index }
+    {
+        self.words.get(index).copied()
+    }
+}

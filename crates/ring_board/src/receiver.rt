@@ -1,0 +1,5 @@
+//! What receivers do.
+pub(crate) mod approach;
+pub(crate) mod copying;
+pub(crate) mod found;
+pub(crate) mod raw;

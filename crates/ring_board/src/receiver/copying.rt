@@ -1,0 +1,139 @@
+//! Copying receivers.
+ghost use Rattle.std.specs.Prelude.{◌≡◌, ℕ, ◌+◌, ◌/◌, ◌<◌, ◌≤◌, List, length, take, IfOk, OnErr, MatchResult, MatchOption};
+
+use crate::board::{Board, Copied, CopyReceiver, Transmitter};
+use crate::fault::{Lapped, SubscribeFault};
+use crate::receiver::found::Front;
+use std::alloc::Global;
+
+impl Board {
+    ghost use Rattle.ring_board.specs.Runs.{AreRuns};
+    ghost use Rattle.ring_board.specs.Steps.{fewer, newcomer, joined};
+    ghost use Rattle.ring_board.specs.Refusals.{subscribe_refusal_of, IsSubscribedUnless};
+    ghost use Rattle.ring_board.specs.Seats.{view_of, shares_of, transmitted, IsTransmitterOf, IsReceiverOf, receiver_view, subscribed_at, copies_of};
+
+    /// Makes a copying receiver, which starts with the record at latest, with one share of the transmitter's. `NoShares`
+    /// where the transmitter has one share, then `OutOfMemory`; the transmitter is then as before.
+    pub fn subscribe(
+        &self,
+        alloc: Global,
+        transmitter: &mut Transmitter,
+    ) -> Result<CopyReceiver, SubscribeFault>
+        requires { IsTransmitterOf self.now transmitter.old }
+        ensures board { IsTransmitterOf self.now transmitter.new }
+        ensures refused { IsSubscribedUnless (subscribe_refusal_of (shares_of transmitter.old)) result }
+        ensures same { OnErr result (transmitter.new ≡ transmitter.old) }
+        ensures receiver { IfOk result (λ r. IsReceiverOf self.now r × (receiver_view r ≡ newcomer (view_of transmitter.old))) }
+        ensures transmitter { IfOk result (λ _. view_of transmitter.new ≡ fewer (view_of transmitter.old)) }
+    {
+        if transmitter.shares <= 1 {
+            return Err(SubscribeFault::NoShares);
+        }
+        let scratch = vec![in alloc; 0u8; self.capacity as usize / 8].map_err(
+            |_| SubscribeFault::OutOfMemory,
+        )?;
+        let place = self.learn(&mut transmitter.seat);
+        let seat = self.split_off(&mut transmitter.seat);
+        transmitter.shares -= 1;
+        Ok(CopyReceiver {
+            seat,
+            place,
+            count: 0,
+            scratch,
+        })
+    }
+
+    /// Takes a copying receiver back, with its share. Its copies are runs of the transmitted list.
+    pub fn join(&self, transmitter: &mut Transmitter, receiver: CopyReceiver)
+        requires transmitter { IsTransmitterOf self.now transmitter.old }
+        requires receiver { IsReceiverOf self.now receiver }
+        ensures board { IsTransmitterOf self.now transmitter.new }
+        ensures view { view_of transmitter.new ≡ joined (view_of transmitter.old) (receiver_view receiver) }
+        ensures shares { shares_of transmitter.new ≡ shares_of transmitter.old + 1 }
+        ensures runs { AreRuns (transmitted transmitter.old) (subscribed_at receiver) (copies_of receiver) }
+    {
+        let CopyReceiver {
+            seat,
+            place: _,
+            count: _,
+            scratch: _,
+        } = receiver;
+        self.take_in(&mut transmitter.seat, seat);
+        self.learn(&mut transmitter.seat);
+        transmitter.shares += 1;
+    }
+}
+
+impl CopyReceiver {
+    ghost use Rattle.std.specs.Borrow.{sem};
+    ghost use Rattle.std.specs.Prelude.{vec_len};
+    ghost use Rattle.ring_layout.specs.History.{span};
+    ghost use Rattle.ring_board.specs.Receiving.{GotNothing, GotCopy, GotLapped};
+    ghost use Rattle.ring_board.specs.Seats.{IsReceiverOf, receiver_seat, stands_at, lapped_count_of, Received};
+    ghost use Rattle.ring_board.specs.Lending.{Rests};
+
+    /// Where it stands, as a position in bytes: the next call looks for a record there. After `Lapped` the bytes that it
+    /// passed over are this less `Lapped.place`; they are never 0.
+    pub fn place(&self) -> u64
+        ensures { result ≡ stands_at self.now }
+    {
+        self.place
+    }
+
+    /// How often the receiver was lapped.
+    pub fn lapped_count(&self) -> u64
+        ensures { result ≡ lapped_count_of self.now }
+    {
+        self.count
+    }
+
+    /// Copies the next message to the front of the scratch.
+    fn copy_next(&mut self, board: &Board) -> Result<Option<Front>, Lapped>
+        requires { IsReceiverOf board.now self.old }
+        ensures board { IsReceiverOf board.now self.new }
+        ensures got { MatchResult result (λ o. MatchOption o (GotNothing (receiver_seat self.old) (receiver_seat self.new)) (λ f. GotCopy f.place f.type_id (take f.len self.new.scratch.items) (receiver_seat self.old) (receiver_seat self.new)))
+            (λ l. GotLapped l (receiver_seat self.old) (receiver_seat self.new)) }
+        ensures len { MatchResult result (λ o. MatchOption o (Unit {0}) (λ f. f.len ≤ vec_len self.new.scratch)) (λ l. Unit {0}) }
+    {
+        match board.attempt(&mut self.seat, self.place, self.scratch.as_mut_slice()) {
+            Ok(None) => Ok(None),
+            Ok(Some(front)) => {
+                self.place = front.place + (8 + front.len).next_multiple_of(8) as u64;
+                Ok(Some(front))
+            }
+            Err(miss) => {
+                self.place = board.load_latest(&mut self.seat);
+                self.count += 1;
+                Err(Lapped {
+                    count: self.count,
+                    place: miss.place,
+                    intent: miss.intent,
+                })
+            }
+        }
+    }
+
+    /// The copy at the front of the scratch.
+    fn front(&self, front: Front) -> Copied<'_>
+        requires { front.len ≤ vec_len self.now.scratch }
+        ensures { (result.place ≡ front.place) × (result.type_id ≡ front.type_id) × (result.body.now ≡ take front.len self.now.scratch.items) }
+    {
+        Copied {
+            place: front.place,
+            type_id: front.type_id,
+            body: &self.scratch[..front.len],
+        }
+    }
+
+    /// Copies the next message, if there is one, and validates the copy. `Lapped` where the transmitter overtook the
+    /// receiver: the count has risen by one, and the next call starts with the record at latest.
+    pub fn receive(&mut self, board: &Board) -> Result<Option<Copied<'_>>, Lapped>
+        requires { IsReceiverOf board.now self.old }
+        ensures* after { sem 𝓛 (Rests self.entry (λ new. IsReceiverOf board.now new × Received self.old new result)) }
+    {
+        match self.copy_next(board)? {
+            None => Ok(None),
+            Some(front) => Ok(Some(self.front(front))),
+        }
+    }
+}

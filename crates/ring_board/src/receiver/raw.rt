@@ -1,0 +1,186 @@
+//! Raw receivers.
+ghost use Rattle.std.specs.Prelude.{◌≡◌, ◌==◌, ℕ, ◌+◌, ◌≤◌, true, length, take, drop, IfOk, OnErr, MatchResult, MatchOption};
+
+use crate::board::{Board, RawRecord, Receiver, Transmitter};
+use crate::fault::{Lapped, NoShares};
+use crate::shared::view::BoardSeat;
+use ring_layout::put_part;
+
+impl Board {
+    ghost use Rattle.ring_board.specs.Runs.{AreRuns};
+    ghost use Rattle.ring_board.specs.Steps.{fewer, newcomer, joined};
+    ghost use Rattle.ring_board.specs.Refusals.{raw_refusal_of, IsRefusedBy};
+    ghost use Rattle.ring_board.specs.Seats.{view_of, shares_of, transmitted, IsTransmitterOf, IsRawOf, raw_view, raw_subscribed_at, answered_by};
+
+    /// Makes a raw receiver, which starts with the record at latest, with one share of the transmitter's. It takes no
+    /// memory. `NoShares` where the transmitter has one share, which is then as before.
+    pub fn subscribe_raw(&self, transmitter: &mut Transmitter) -> Result<Receiver, NoShares>
+        requires { IsTransmitterOf self.now transmitter.old }
+        ensures board { IsTransmitterOf self.now transmitter.new }
+        ensures refused { IsRefusedBy (raw_refusal_of (shares_of transmitter.old)) result }
+        ensures same { OnErr result (transmitter.new ≡ transmitter.old) }
+        ensures receiver { IfOk result (λ r. IsRawOf self.now r × (raw_view r ≡ newcomer (view_of transmitter.old))) }
+        ensures transmitter { IfOk result (λ _. view_of transmitter.new ≡ fewer (view_of transmitter.old)) }
+    {
+        if transmitter.shares <= 1 {
+            return Err(NoShares);
+        }
+        let place = self.learn(&mut transmitter.seat);
+        let seat = self.split_off(&mut transmitter.seat);
+        transmitter.shares -= 1;
+        Ok(Receiver {
+            seat,
+            place,
+            count: 0,
+        })
+    }
+
+    /// Takes a raw receiver back, with its share. The records that it answered are runs of the transmitted list.
+    pub fn join_raw(&self, transmitter: &mut Transmitter, receiver: Receiver)
+        requires transmitter { IsTransmitterOf self.now transmitter.old }
+        requires receiver { IsRawOf self.now receiver }
+        ensures board { IsTransmitterOf self.now transmitter.new }
+        ensures view { view_of transmitter.new ≡ joined (view_of transmitter.old) (raw_view receiver) }
+        ensures shares { shares_of transmitter.new ≡ shares_of transmitter.old + 1 }
+        ensures runs { AreRuns (transmitted transmitter.old) (raw_subscribed_at receiver) (answered_by receiver) }
+    {
+        let Receiver {
+            seat,
+            place: _,
+            count: _,
+        } = receiver;
+        self.take_in(&mut transmitter.seat, seat);
+        self.learn(&mut transmitter.seat);
+        transmitter.shares += 1;
+    }
+}
+
+impl Receiver {
+    ghost use Rattle.ring_board.specs.declared.board.RawRecord.{RawRecord};
+    ghost use Rattle.ring_board.specs.Receiving.{GotNothing, GotRecord, GotLapped};
+    ghost use Rattle.ring_board.specs.Bodies.{GaveBody, IsRight, Validated};
+    ghost use Rattle.ring_board.specs.Seats.{IsRawOf, IsAnswered, raw_seat, raw_view, raw_stands_at, raw_lapped_count_of, place_of, len_of};
+
+    /// Where it stands, as a position in bytes: the next call looks for a record there. After `Lapped` the bytes that it
+    /// passed over are this less `Lapped.place`; they are never 0.
+    pub fn place(&self) -> u64
+        ensures { result ≡ raw_stands_at self.now }
+    {
+        self.place
+    }
+
+    /// How often the receiver was lapped.
+    pub fn lapped_count(&self) -> u64
+        ensures { result ≡ raw_lapped_count_of self.now }
+    {
+        self.count
+    }
+
+    /// Answers the next record unread, if there is one, and goes behind it. `Lapped` where the transmitter overtook the
+    /// receiver: the count has risen by one, and the next call starts with the record at latest.
+    pub fn receive_next(&mut self, board: &Board) -> Result<Option<RawRecord>, Lapped>
+        requires { IsRawOf board.now self.old }
+        ensures board { IsRawOf board.now self.new }
+        ensures got { MatchResult result (λ o. MatchOption o (GotNothing (raw_seat self.old) (raw_seat self.new)) (λ r. GotRecord r (raw_seat self.old) (raw_seat self.new) × IsAnswered (raw_view self.new) r))
+            (λ l. GotLapped l (raw_seat self.old) (raw_seat self.new)) }
+        ensures kept { (r : RawRecord) → IsAnswered (raw_view self.old) r → IsAnswered (raw_view self.new) r }
+    {
+        match board.answer(&mut self.seat, self.place) {
+            Ok(None) => Ok(None),
+            Ok(Some(record)) => {
+                self.place = record.place + (8 + record.len).next_multiple_of(8) as u64;
+                Ok(Some(record))
+            }
+            Err(miss) => {
+                self.place = board.load_latest(&mut self.seat);
+                self.count += 1;
+                Err(Lapped {
+                    count: self.count,
+                    place: miss.place,
+                    intent: miss.intent,
+                })
+            }
+        }
+    }
+
+    /// Copies the body of a record that this receiver answered to the front of `out`, without validation: the bytes may
+    /// be those of another record, unless `validate` then says true. The rest of `out` stays.
+    pub fn load_body(&mut self, board: &Board, raw: &RawRecord, out: &mut [u8])
+        requires board { IsRawOf board.now self.old }
+        requires raw { IsAnswered (raw_view self.old) raw.now }
+        requires room { len_of raw.now ≤ length out.old }
+        ensures board { IsRawOf board.now self.new }
+        ensures gave { GaveBody (place_of raw.now) (take (len_of raw.now) out.new) (raw_seat self.old) (raw_seat self.new) }
+        ensures rest { drop (len_of raw.now) out.new ≡ drop (len_of raw.now) out.old }
+        ensures kept { (r : RawRecord) → IsAnswered (raw_view self.old) r → IsAnswered (raw_view self.new) r }
+    {
+        board.load_answered(&mut self.seat, raw, &mut out[..raw.len]);
+    }
+
+    /// Tests whether a record that this receiver answered was not yet overwritten, by one load of the intent. If so,
+    /// each body of it that `load_body` gave before is the one that was transmitted.
+    pub fn validate(&mut self, board: &Board, raw: &RawRecord) -> bool
+        requires board { IsRawOf board.now self.old }
+        requires raw { IsAnswered (raw_view self.old) raw.now }
+        ensures board { IsRawOf board.now self.new }
+        ensures validated { Validated raw.now result (raw_seat self.old) (raw_seat self.new) }
+        ensures right { result ≡ true → IsRight (raw_view self.old) raw.now }
+        ensures kept { (r : RawRecord) → IsAnswered (raw_view self.old) r → IsAnswered (raw_view self.new) r }
+    {
+        let intent = board.check_answered(&mut self.seat);
+        !board.is_lapped(raw.place, intent)
+    }
+}
+
+impl Board {
+    ghost use Rattle.ring_board.specs.declared.shared.view.Stage.TheVariants.{Resting};
+    ghost use Rattle.ring_board.specs.Bodies.{GaveBody};
+    ghost use Rattle.ring_board.specs.Seats.{IsAnswered, place_of, len_of};
+
+    /// Loads the body of a record that was answered unread, which is as long as `out`.
+    fn load_answered(&self, seat: &mut BoardSeat, raw: &RawRecord, out: &mut [u8])
+        requires seat { seat.old.table_id ≡ self.now.table.shared.table_id }
+        requires stage { (seat.old.me.0.stage ≡ Resting) × (seat.old.me.0.capacity ≡ self.now.capacity) }
+        requires raw { IsAnswered seat.old.me.0 raw.now × (length out.old ≡ len_of raw.now) }
+        ensures same { (seat.new.table_id ≡ seat.old.table_id) × (seat.new.id ≡ seat.old.id) }
+        ensures gave { GaveBody (place_of raw.now) out.new seat.old.me seat.new.me }
+    {
+        let first = self.index(raw.place) + 1;
+        for k in 0..out.len().div_ceil(8) {
+            let word = self.load_unread(seat, first + k);
+            put_part(out, 8 * k, word);
+        }
+    }
+}
+
+impl RawRecord {
+    ghost use Rattle.ring_board.specs.Seats.{place_of, type_id_of, len_of};
+
+    /// Where it lies, in bytes.
+    pub fn place(&self) -> u64
+        ensures { result ≡ place_of self.now }
+    {
+        self.place
+    }
+
+    /// The type id that its header announces.
+    pub fn type_id(&self) -> i32
+        ensures { result ≡ type_id_of self.now }
+    {
+        self.type_id
+    }
+
+    /// The bytes of the body that its header announces.
+    pub fn len(&self) -> usize
+        ensures { result ≡ len_of self.now }
+    {
+        self.len
+    }
+
+    /// Tests whether its header announces an empty body.
+    pub fn is_empty(&self) -> bool
+        ensures { result ≡ (len_of self.now == 0) }
+    {
+        self.len == 0
+    }
+}

@@ -1,0 +1,239 @@
+//! The transmitter's calls.
+ghost use Rattle.std.specs.Prelude.{◌≡◌, ℕ, ◌+◌, ◌-◌, ◌*◌, ◌/◌, ◌%◌, ◌^◌, ◌<◌, ◌≤◌, pos, ◌≤ℤ◌, List, [], ◌∷◌, length, IfOk, OnOk, OnErr};
+ghost use Rattle.ring_layout.specs.History.{span};
+ghost use Rattle.ring_layout.specs.Headers.{header};
+ghost use Rattle.ring_layout.specs.Places.{max_position, next_place};
+ghost use Rattle.ring_board.specs.declared.shared.view.Record.{Record};
+ghost use Rattle.ring_board.specs.declared.shared.view.Stage.TheVariants.{Storing, Written};
+ghost use Rattle.ring_board.specs.Records.{end, end_of};
+ghost use Rattle.ring_board.specs.Steps.{staged, draft, drafted, sent_on};
+ghost use Rattle.ring_board.specs.Refusals.{transmit_refusal_of, IsRefusedBy, IsRefusedAs};
+ghost use Rattle.ring_board.specs.Seats.{capacity_of, view_of, tail_of, shares_of, transmitted, IsTransmitterOf, next_record, IsBegunOf, IsFilledOf, begun_view, filled_view, filled_record, begun_tail, begun_type_id, begun_len, HasBegun, refused_with};
+
+use crate::board::{BeginRefused, Begun, Board, Filled, Transmitter};
+use crate::fault::TransmitFault;
+use crate::shared::view::BoardSeat;
+use ring_layout::record_descriptor::{HEADER_LENGTH, PADDING_MSG_TYPE_ID, pack_header};
+use ring_layout::ring_buffer_descriptor::MAX_POSITION;
+use ring_layout::{byte_index, max_message};
+
+/// Where a record goes.
+#[derive(Clone, Copy)]
+struct Spot {
+    place: u64,
+    end: u64,
+}
+
+/// The header word of a record with this type id and so many bytes of body.
+fn record_header(type_id: i32, len: usize) -> u64
+    requires { len ≤ 2 ^ 24 }
+    ensures { result ≡ header (pos (8 + len)) type_id }
+{
+    pack_header((HEADER_LENGTH + len) as i32, type_id)
+}
+
+impl Transmitter {
+    /// The position in bytes at which its last transmission ended, or the board's start where there was none.
+    pub fn tail(&self) -> u64
+        ensures tail { result ≡ tail_of self.now }
+        ensures end { result ≡ end_of (view_of self.now).start (transmitted self.now) }
+    {
+        self.tail
+    }
+
+    /// How many shares of the board it holds.
+    pub fn shares(&self) -> u32
+        ensures { result ≡ shares_of self.now }
+    {
+        self.shares
+    }
+}
+
+impl Board {
+    /// Says where a record goes that comes next behind a tail, or why it can't be transmitted.
+    fn admit(&self, tail: u64, type_id: i32, len: usize) -> Result<Spot, TransmitFault>
+        requires { tail ≤ max_position }
+        ensures refused { IsRefusedBy (transmit_refusal_of self.now.capacity tail type_id len) result }
+        ensures lawful { OnOk result ((pos 1 ≤ℤ type_id) × (len ≤ self.now.capacity / 8)) }
+        ensures spot { IfOk result (λ s. (s.place ≡ next_place self.now.capacity tail (span len)) × (s.end ≡ s.place + span len) × (s.end ≤ max_position)) }
+    {
+        if type_id < 1 {
+            return Err(TransmitFault::BadType { type_id });
+        }
+        let max = max_message(self.capacity);
+        if len > max as usize {
+            return Err(TransmitFault::TooLong { len, max });
+        }
+        let span = (HEADER_LENGTH + len).next_multiple_of(8) as u64;
+        let room = u64::from(self.capacity) - byte_index(self.capacity, tail);
+        let place = if span <= room { tail } else { tail + room };
+        let end = place + span;
+        if end > MAX_POSITION {
+            return Err(TransmitFault::PositionLimit { tail });
+        }
+        Ok(Spot { place, end })
+    }
+
+    /// Stores the padding header, where a record does not lie at the tail.
+    fn store_gap(&self, seat: &mut BoardSeat, tail: u64, place: u64)
+        requires seat { seat.old.table_id ≡ self.now.table.shared.table_id }
+        requires stage { (z : ℕ) × (seat.old.me.0.stage ≡ drafted (draft tail place z [])) }
+        requires gap { (tail ≤ place) × (place ≤ tail + self.now.capacity) }
+        ensures same { (seat.new.table_id ≡ seat.old.table_id) × (seat.new.id ≡ seat.old.id) }
+        ensures padded { (z : ℕ) → seat.old.me.0.stage ≡ drafted (draft tail place z []) → seat.new.me ≡ (staged seat.old.me.0 (Storing (draft tail place z [])), seat.old.me.1) }
+    {
+        if tail < place {
+            let padding = pack_header((place - tail) as i32, PADDING_MSG_TYPE_ID);
+            self.store_padding(seat, tail, padding);
+        }
+    }
+
+    /// Stores a record behind its padding: the body, and then its header.
+    fn store_record(&self, seat: &mut BoardSeat, tail: u64, place: u64, type_id: i32, body: &[u8])
+        requires seat { seat.old.table_id ≡ self.now.table.shared.table_id }
+        requires stage { seat.old.me.0.stage ≡ drafted (draft tail place (place + span (length body.now)) []) }
+        requires place { place ≡ next_place self.now.capacity tail (span (length body.now)) }
+        requires lawful { (pos 1 ≤ℤ type_id) × (length body.now ≤ self.now.capacity / 8) }
+        requires whole { (tail % 8 ≡ 0) × (place ≤ max_position) }
+        ensures same { (seat.new.table_id ≡ seat.old.table_id) × (seat.new.id ≡ seat.old.id) }
+        ensures written { seat.new.me ≡ (staged seat.old.me.0 (Written (next_record self.now.capacity tail type_id body.now)), seat.old.me.1) }
+    {
+        self.store_gap(seat, tail, place);
+        self.store_body(seat, place, body);
+        let header = record_header(type_id, body.len());
+        self.store_header(seat, place, header);
+    }
+
+    /// Shows a record that is stored, and moves the tail behind it.
+    fn show_record(&self, seat: &mut BoardSeat, place: u64, tail: u64)
+        requires seat { seat.old.table_id ≡ self.now.table.shared.table_id }
+        requires stage { (r : Record) × (seat.old.me.0.stage ≡ Written r) × (place ≡ r.place) × (tail ≡ end r) }
+        ensures same { (seat.new.table_id ≡ seat.old.table_id) × (seat.new.id ≡ seat.old.id) }
+        ensures sent { (r : Record) → seat.old.me.0.stage ≡ Written r → seat.new.me ≡ (sent_on seat.old.me.0 r, seat.old.me.1) }
+    {
+        self.store_latest(seat, place);
+        self.store_tail(seat, tail);
+    }
+
+    /// Says whether a message of this type id and so many bytes would be transmitted now. The refusals are those of
+    /// `transmit`; nothing changes.
+    pub fn check(
+        &self,
+        transmitter: &Transmitter,
+        type_id: i32,
+        len: usize,
+    ) -> Result<(), TransmitFault>
+        ensures { IsRefusedBy (transmit_refusal_of (capacity_of self.now) (tail_of transmitter.now) type_id len) result }
+    {
+        self.admit(transmitter.tail, type_id, len)?;
+        Ok(())
+    }
+
+    /// Transmits a message: appends it to the list that receivers read. It never waits. After a refusal all is as
+    /// before: `BadType` where the type id is below 1, `TooLong` where the body has more bytes than an eighth of the
+    /// capacity, `PositionLimit` where the record would end above 2^62.
+    pub fn transmit(
+        &self,
+        transmitter: &mut Transmitter,
+        type_id: i32,
+        body: &[u8],
+    ) -> Result<(), TransmitFault>
+        requires { IsTransmitterOf self.now transmitter.old }
+        ensures board { IsTransmitterOf self.now transmitter.new }
+        ensures refused { IsRefusedBy (transmit_refusal_of (capacity_of self.now) (tail_of transmitter.old) type_id (length body.now)) result }
+        ensures same { OnErr result (transmitter.new ≡ transmitter.old) }
+        ensures sent { OnOk result (view_of transmitter.new ≡ sent_on (view_of transmitter.old) (next_record (capacity_of self.now) (tail_of transmitter.old) type_id body.now)) }
+    {
+        let tail = transmitter.tail;
+        let Spot { place, end } = self.admit(tail, type_id, body.len())?;
+        let seat = &mut transmitter.seat;
+        self.store_intent(seat, end);
+        self.store_record(seat, tail, place, type_id, body);
+        self.show_record(seat, place, end);
+        transmitter.tail = end;
+        Ok(())
+    }
+
+    /// Begins a transmission of `len` bytes, and stores its intent. The refusals are those of `transmit`, and hand the
+    /// transmitter back.
+    pub fn begin(
+        &self,
+        transmitter: Transmitter,
+        type_id: i32,
+        len: usize,
+    ) -> Result<Begun, BeginRefused>
+        requires { IsTransmitterOf self.now transmitter }
+        ensures refused { IsRefusedAs (refused_with transmitter) (transmit_refusal_of (capacity_of self.now) (tail_of transmitter) type_id len) result }
+        ensures begun { IfOk result (λ b. IsBegunOf self.now b × HasBegun (capacity_of self.now) transmitter type_id len b) }
+    {
+        let Spot { place, end } = match self.admit(transmitter.tail, type_id, len) {
+            Ok(spot) => spot,
+            Err(reason) => {
+                return Err(BeginRefused {
+                    reason,
+                    transmitter,
+                });
+            }
+        };
+        let Transmitter {
+            mut seat,
+            tail,
+            shares,
+        } = transmitter;
+        self.store_intent(&mut seat, end);
+        Ok(Begun {
+            seat,
+            tail,
+            place,
+            end,
+            shares,
+            type_id,
+            len,
+        })
+    }
+
+    /// Stores padding, body and header of a transmission that was begun with this length.
+    pub fn fill(&self, begun: Begun, body: &[u8]) -> Filled
+        requires board { IsBegunOf self.now begun }
+        requires len { length body.now ≡ begun_len begun }
+        ensures board { IsFilledOf self.now result }
+        ensures filled { filled_view result ≡ staged (begun_view begun) (Written (next_record (capacity_of self.now) (begun_tail begun) (begun_type_id begun) body.now)) }
+    {
+        let Begun {
+            mut seat,
+            tail,
+            place,
+            end,
+            shares,
+            type_id,
+            len: _,
+        } = begun;
+        self.store_record(&mut seat, tail, place, type_id, body);
+        Filled {
+            seat,
+            place,
+            next_tail: end,
+            shares,
+        }
+    }
+
+    /// Shows the record to the receivers, and moves the tail behind it.
+    pub fn publish(&self, filled: Filled) -> Transmitter
+        requires { IsFilledOf self.now filled }
+        ensures board { IsTransmitterOf self.now result }
+        ensures sent { view_of result ≡ sent_on (filled_view filled) (filled_record filled) }
+    {
+        let Filled {
+            mut seat,
+            place,
+            next_tail,
+            shares,
+        } = filled;
+        self.show_record(&mut seat, place, next_tail);
+        Transmitter {
+            seat,
+            tail: next_tail,
+            shares,
+        }
+    }
+}

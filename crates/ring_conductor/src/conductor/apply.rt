@@ -1,0 +1,166 @@
+//! Commands applied to the counters.
+
+ghost use Rattle.std.specs.Prelude.{◌≡◌, ◌^◌, ◌≤◌};
+ghost use Rattle.ring_counters.specs.Registry.{allocation_of, new_counter};
+ghost use Rattle.ring_counters.specs.Manager.{registry_of, IsManagerOf};
+ghost use Rattle.ring_conductor.specs.Command.{content_of, Free as FreeOf, Set as SetOf, Close as CloseOf};
+ghost use Rattle.ring_conductor.specs.Applied.{allocated, applied, obeyed};
+ghost use Rattle.ring_conductor.specs.Applying.{Applies};
+
+use crate::protocol::codes::RefusalCode;
+use crate::protocol::command::Command;
+use crate::protocol::command::decode::decode_command;
+use crate::protocol::reply::Reply;
+use ring_counters::{CounterValues, CountersManager};
+
+/// A counter that a command asks for.
+#[derive(Clone, Copy)]
+struct Wanted<'a> {
+    type_id: i32,
+    owner: u64,
+    key: &'a [u8],
+    label: &'a [u8],
+}
+
+fn allocate(
+    counters: &mut CountersManager,
+    values: &CounterValues,
+    now: u64,
+    correlation: u64,
+    wanted: Wanted<'_>,
+) -> Reply
+    requires { IsManagerOf values.now counters.old }
+    ensures { Applies (allocated (registry_of counters.old) correlation (new_counter wanted.entry.type_id wanted.entry.key.now wanted.entry.label.now correlation wanted.entry.owner) (allocation_of (registry_of counters.old) now wanted.entry.key.now wanted.entry.label.now)) counters.old counters.new result }
+{
+    let Wanted {
+        type_id,
+        owner,
+        key,
+        label,
+    } = wanted;
+    match counters.allocate_owned(values, now, type_id, key, label, correlation, owner) {
+        Ok(id) => Reply::Allocated { correlation, id },
+        Err(fault) => Reply::Refused {
+            correlation,
+            code: RefusalCode::from(fault).number(),
+        },
+    }
+}
+
+fn free(counters: &mut CountersManager, now: u64, correlation: u64, id: u32) -> Reply
+    requires { now ≤ 2 ^ 62 }
+    ensures { Applies (obeyed now (registry_of counters.old) (FreeOf correlation id)) counters.old counters.new result }
+{
+    match counters.free(now, id) {
+        Ok(()) => Reply::Done { correlation },
+        Err(fault) => Reply::Refused {
+            correlation,
+            code: RefusalCode::from(fault).number(),
+        },
+    }
+}
+
+fn set(
+    counters: &mut CountersManager,
+    values: &CounterValues,
+    correlation: u64,
+    id: u32,
+    value: i64,
+) -> Reply
+    requires { IsManagerOf values.now counters.old }
+    ensures { Applies (obeyed 0 (registry_of counters.old) (SetOf correlation id value)) counters.old counters.new result }
+{
+    match counters.set(values, id, value) {
+        Ok(()) => Reply::Done { correlation },
+        Err(fault) => Reply::Refused {
+            correlation,
+            code: RefusalCode::from(fault).number(),
+        },
+    }
+}
+
+fn close(counters: &mut CountersManager, now: u64, correlation: u64, owner: u64) -> Reply
+    requires { now ≤ 2 ^ 62 }
+    ensures { Applies (obeyed now (registry_of counters.old) (CloseOf correlation owner)) counters.old counters.new result }
+{
+    match counters.close_owner(now, owner) {
+        Ok(freed) => Reply::Closed { correlation, freed },
+        Err(fault) => Reply::Refused {
+            correlation,
+            code: RefusalCode::from(fault).number(),
+        },
+    }
+}
+
+/// Applies a command at a moment, and gives its reply.
+fn obey(
+    counters: &mut CountersManager,
+    values: &CounterValues,
+    now: u64,
+    command: Command<'_>,
+) -> Reply
+    requires values { IsManagerOf values.now counters.old }
+    requires now { now ≤ 2 ^ 62 }
+    ensures { Applies (obeyed now (registry_of counters.old) (content_of command.entry)) counters.old counters.new result }
+{
+    match command {
+        Command::Allocate {
+            correlation,
+            type_id,
+            key,
+            label,
+        } => {
+            let wanted = Wanted {
+                type_id,
+                owner: 0,
+                key,
+                label,
+            };
+            allocate(counters, values, now, correlation, wanted)
+        }
+        Command::AllocateOwned {
+            correlation,
+            type_id,
+            owner,
+            key,
+            label,
+        } => {
+            let wanted = Wanted {
+                type_id,
+                owner,
+                key,
+                label,
+            };
+            allocate(counters, values, now, correlation, wanted)
+        }
+        Command::Free { correlation, id } => free(counters, now, correlation, id),
+        Command::Set {
+            correlation,
+            id,
+            value,
+        } => set(counters, values, correlation, id, value),
+        Command::Close { correlation, owner } => close(counters, now, correlation, owner),
+    }
+}
+
+/// Applies a message at a moment, and gives its one reply. What can't be read, and what the counters refuse, changes
+/// nothing; the reply is then `Refused`.
+pub(crate) fn apply(
+    counters: &mut CountersManager,
+    values: &CounterValues,
+    now: u64,
+    type_id: i32,
+    body: &[u8],
+) -> Reply
+    requires values { IsManagerOf values.now counters.old }
+    requires now { now ≤ 2 ^ 62 }
+    ensures { Applies (applied now (registry_of counters.old) (record { type_id = type_id; body = body.now })) counters.old counters.new result }
+{
+    match decode_command(type_id, body) {
+        Ok(command) => obey(counters, values, now, command),
+        Err(bad) => Reply::Refused {
+            correlation: bad.correlation(),
+            code: bad.code(),
+        },
+    }
+}

@@ -1,0 +1,94 @@
+//! The conductor at work.
+
+ghost use Rattle.std.specs.Prelude.{◌≡◌, ◌^◌, ◌≤◌, []};
+ghost use Rattle.ring_rings.specs.Seats.{taken_of};
+ghost use Rattle.ring_board.specs.Seats.{heard_by, transmitted};
+ghost use Rattle.ring_conductor.specs.Conducting.{AreUnused, Begins, IsConductorOf, Works, consumer_of, counters_of, ledger_of, ring_view, transmitter_of, value_shares_of, work_stop};
+
+use crate::conductor::serve::Serving;
+use crate::conductor::{Conductor, Work, WorkStop};
+use ring_board::{Board, Transmitter};
+use ring_counters::{CounterValues, CountersManager};
+use ring_rings::{CommandSource, Consumer};
+use ring_words::Stop;
+
+fn work_stop(stopped: Stop) -> WorkStop
+    ensures { result ≡ work_stop stopped }
+{
+    match stopped {
+        Stop::Limit => WorkStop::Limit,
+        Stop::Block => WorkStop::Block,
+        Stop::Unpublished => WorkStop::Unpublished,
+        Stop::Action => WorkStop::BoardEnd,
+    }
+}
+
+impl Conductor {
+    /// Makes a conductor of a ring's consumer, a board's transmitter, and counters, of which none was used yet.
+    pub fn new(consumer: Consumer, transmitter: Transmitter, counters: CountersManager) -> Conductor
+        requires consumer { taken_of consumer ≡ [] }
+        requires transmitter { transmitted transmitter ≡ [] }
+        requires counters { AreUnused counters }
+        ensures consumer { consumer_of result ≡ consumer }
+        ensures transmitter { transmitter_of result ≡ transmitter }
+        ensures counters { counters_of result ≡ counters }
+    {
+        Conductor {
+            consumer,
+            transmitter,
+            counters,
+            received: 0,
+        }
+    }
+
+    /// The counters.
+    pub fn counters(&self) -> &CountersManager
+        ensures { result.now ≡ counters_of self.now }
+    {
+        &self.counters
+    }
+
+    /// Takes at most `limit` commands from the ring. Each is applied to the counters at the moment `now`, in milliseconds
+    /// and at most 2^62, and gets exactly one reply, which carries its correlation id. No memory is taken.
+    ///
+    /// It stops as a controlled read of the ring does, or with `BoardEnd` where a reply of 12 bytes would end above 2^62
+    /// on the board. The command stays in the ring then, not applied, also where its own reply would be shorter and would
+    /// fit. `Block` with no message does not say that the ring is empty: the next call goes on behind the end of the buffer.
+    pub fn do_work<R: CommandSource>(
+        &mut self,
+        ring: &R,
+        board: &Board,
+        values: &CounterValues,
+        now: u64,
+        limit: u32,
+    ) -> Work
+        requires conductor { IsConductorOf R.is_consumer ring.now board.now values.now self.old }
+        requires now { now ≤ 2 ^ 62 }
+        ensures conductor { IsConductorOf R.is_consumer ring.now board.now values.now self.new }
+        ensures works { Works now limit (ring_view self.old) (ring_view self.new) (ledger_of self.old) (ledger_of self.new) result }
+        ensures grows { Begins (transmitted (transmitter_of self.old)) (transmitted (transmitter_of self.new)) }
+        ensures heard { heard_by (transmitter_of self.new) ≡ heard_by (transmitter_of self.old) }
+        ensures value_shares { value_shares_of self.new ≡ value_shares_of self.old }
+    {
+        let Conductor {
+            consumer,
+            transmitter,
+            counters,
+            received,
+        } = self;
+        let mut serving = Serving {
+            now,
+            counters,
+            transmitter,
+            board,
+            values,
+        };
+        let end = ring.controlled_read(consumer, limit, &mut serving);
+        let messages = u64::from(end.messages);
+        *received += messages;
+        Work {
+            messages,
+            stopped: work_stop(end.stopped),
+        }
+    }
+}

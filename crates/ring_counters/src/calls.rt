@@ -1,0 +1,5 @@
+//! The calls of a counters manager.
+pub(crate) mod allocate;
+pub(crate) mod list;
+pub(crate) mod query;
+pub(crate) mod update;

@@ -1,0 +1,189 @@
+//! Making, allocating, setting and freeing counters.
+ghost use Rattle.std.specs.Prelude.{◌≡◌, ◌+◌, ◌^◌, ◌<◌, ◌≤◌, ◌↔◌, pos, [], ◌∷◌, ◌++◌, IfOk, IfErr, OnErr, OnOk, IsOkUnless, IsErr, MatchOption, Err, length, nat_lt};
+ghost use Rattle.std.specs.List.{list_all};
+ghost use Rattle.ring_counters.specs.Registry.{fresh_registry, make_refusal_of, new_counter, text_refusal_of, allocation_of, allocated_in, id_refusal_of, answer, with_value, reclaimed_in, owned_ids, closed_in};
+ghost use Rattle.ring_counters.specs.Views.{value_write};
+ghost use Rattle.ring_counters.specs.Seats.{values_count};
+ghost use Rattle.ring_counters.specs.Manager.{registry_of, writes_of, shares_of, IsManagerOf, KeepsValues};
+
+use crate::fault::{AllocateRefused, BadOwner, IdFault, MakeFault};
+use crate::manager::CountersManager;
+use crate::records::Records;
+use crate::records::wanted::Wanted;
+use crate::values::seats::CounterValues;
+use ring_layout::counter_descriptor::{MAX_COUNTERS, MAX_KEY_LENGTH, MAX_LABEL_LENGTH};
+use std::alloc::Global;
+
+/// Whether each byte is below 128.
+fn is_ascii(label: &[u8]) -> bool
+    ensures { result ≡ list_all (λ b. nat_lt b 128) label.now }
+{
+    // Every byte is looked at, so that many are at once: their union has its highest bit where one of them has.
+    let mut union = 0;
+    for byte in label {
+        union |= *byte;
+    }
+    union < 128
+}
+
+/// Refuses a key or a label that breaks its limit.
+fn check_texts(key: &[u8], label: &[u8]) -> Result<(), AllocateRefused>
+    ensures { result ≡ answer (text_refusal_of key.now label.now) tt }
+{
+    if key.len() > MAX_KEY_LENGTH {
+        return Err(AllocateRefused::KeyTooLong);
+    }
+    if label.len() > MAX_LABEL_LENGTH {
+        return Err(AllocateRefused::LabelTooLong);
+    }
+    if is_ascii(label) {
+        Ok(())
+    } else {
+        Err(AllocateRefused::LabelNotAscii)
+    }
+}
+
+impl CountersManager {
+    /// Makes `count` counters, all unused, and the values that readers load. A freed id may be given again `reuse_ms`
+    /// milliseconds after it was freed.
+    ///
+    /// `BadCount` comes where the count is 0 or above 4,096, `OutOfMemory` where memory is wanting. This takes all the memory
+    /// that the counters ever need.
+    pub fn new(
+        alloc: Global,
+        count: u32,
+        reuse_ms: u32,
+    ) -> Result<(CounterValues, CountersManager), MakeFault>
+        ensures refusal { MatchOption (make_refusal_of count) (IsOkUnless result MakeFault.OutOfMemory) (λ fault. result ≡ Err fault) }
+        ensures values { IfOk result (λ made. IsManagerOf made.0 made.1) }
+        ensures count { IfOk result (λ made. values_count made.0 ≡ count) }
+        ensures registry { IfOk result (λ made. registry_of made.1 ≡ fresh_registry count reuse_ms) }
+        ensures writes { IfOk result (λ made. writes_of made.1 ≡ []) }
+        ensures shares { IfOk result (λ made. shares_of made.1 ≡ 65536) }
+    {
+        if count == 0 || count > MAX_COUNTERS {
+            return Err(MakeFault::BadCount);
+        }
+        let Ok(records) = Records::new(alloc, count, reuse_ms) else {
+            return Err(MakeFault::OutOfMemory);
+        };
+        let Ok((values, writer)) = CounterValues::new(alloc, count as usize) else {
+            return Err(MakeFault::OutOfMemory);
+        };
+        Ok((values, CountersManager { records, writer }))
+    }
+
+    /// Gives an id to a counter without an owner, as `allocate_owned` does with the owner 0.
+    pub fn allocate(
+        &mut self,
+        values: &CounterValues,
+        now: u64,
+        type_id: i32,
+        key: &[u8],
+        label: &[u8],
+        registration: u64,
+    ) -> Result<u32, AllocateRefused>
+        requires { IsManagerOf values.now self.old }
+        ensures id { result ≡ allocation_of (registry_of self.old) now key.now label.now }
+        ensures registry { IfOk result (λ id. registry_of self.new ≡ allocated_in (registry_of self.old) id (new_counter type_id key.now label.now registration 0)) }
+        ensures writes { IfOk result (λ id. writes_of self.new ≡ writes_of self.old ++ value_write id (pos 0) ∷ []) }
+        ensures shares { shares_of self.new ≡ shares_of self.old }
+        ensures values { IsManagerOf values.now self.new }
+        ensures err { OnErr result (self.new ≡ self.old) }
+    {
+        self.allocate_owned(values, now, type_id, key, label, registration, 0)
+    }
+
+    /// Gives an id to a counter of an owner: the first freed id, in order of freeing, whose deadline is at most `now`, else
+    /// the lowest id that was never used. The counter's value is 0; a short key is followed by zeros.
+    ///
+    /// `KeyTooLong`, `LabelTooLong`, `LabelNotAscii` and then `NoFreeCounter` come as their names say; after them all is as
+    /// before. A key or a label is never cut.
+    pub fn allocate_owned(
+        &mut self,
+        values: &CounterValues,
+        now: u64,
+        type_id: i32,
+        key: &[u8],
+        label: &[u8],
+        registration: u64,
+        owner: u64,
+    ) -> Result<u32, AllocateRefused>
+        requires { IsManagerOf values.now self.old }
+        ensures id { result ≡ allocation_of (registry_of self.old) now key.now label.now }
+        ensures registry { IfOk result (λ id. registry_of self.new ≡ allocated_in (registry_of self.old) id (new_counter type_id key.now label.now registration owner)) }
+        ensures writes { IfOk result (λ id. writes_of self.new ≡ writes_of self.old ++ value_write id (pos 0) ∷ []) }
+        ensures shares { shares_of self.new ≡ shares_of self.old }
+        ensures values { IsManagerOf values.now self.new }
+        ensures err { OnErr result (self.new ≡ self.old) }
+    {
+        check_texts(key, label)?;
+        let wanted = Wanted {
+            type_id,
+            key,
+            label,
+            registration,
+            owner,
+        };
+        match self.records.allocate(now, wanted) {
+            Some(id) => {
+                values.store(&mut self.writer, id, 0);
+                Ok(id)
+            }
+            None => Err(AllocateRefused::NoFreeCounter),
+        }
+    }
+
+    /// Sets the value of a counter in use.
+    ///
+    /// `BadId` comes where the id is not below the number of counters, `NotAllocated` where no counter in use has it; after
+    /// them all is as before.
+    pub fn set(&mut self, values: &CounterValues, id: u32, value: i64) -> Result<(), IdFault>
+        requires { IsManagerOf values.now self.old }
+        ensures result { result ≡ answer (id_refusal_of (registry_of self.old) id) tt }
+        ensures registry { OnOk result (registry_of self.new ≡ with_value (registry_of self.old) id value) }
+        ensures writes { OnOk result (writes_of self.new ≡ writes_of self.old ++ value_write id value ∷ []) }
+        ensures shares { shares_of self.new ≡ shares_of self.old }
+        ensures values { IsManagerOf values.now self.new }
+        ensures err { OnErr result (self.new ≡ self.old) }
+    {
+        self.records.check_allocated(id)?;
+        self.records.set(id, value);
+        values.store(&mut self.writer, id, value);
+        Ok(())
+    }
+
+    /// Frees a counter at the moment `now`, at most 2^62 milliseconds: its id may be given again `reuse_ms` later. Its other
+    /// words stay until then.
+    ///
+    /// `BadId` and `NotAllocated` come as for `set`; after them all is as before.
+    pub fn free(&mut self, now: u64, id: u32) -> Result<(), IdFault>
+        requires { now ≤ 2 ^ 62 }
+        ensures result { result ≡ answer (id_refusal_of (registry_of self.old) id) tt }
+        ensures registry { OnOk result (registry_of self.new ≡ reclaimed_in (registry_of self.old) now id) }
+        ensures values { KeepsValues self.old self.new }
+        ensures err { OnErr result (self.new ≡ self.old) }
+    {
+        self.records.check_allocated(id)?;
+        self.records.reclaim(now, id);
+        Ok(())
+    }
+
+    /// Frees each counter in use of an owner at the moment `now`, at most 2^62 milliseconds, by rising id and each as `free`
+    /// does, and gives their number. It looks at every id that was ever used.
+    ///
+    /// `BadOwner` comes where the owner is 0, which stands for none; all is then as before.
+    pub fn close_owner(&mut self, now: u64, owner: u64) -> Result<u32, BadOwner>
+        requires { now ≤ 2 ^ 62 }
+        ensures refusal { IsErr result ↔ (owner ≡ 0) }
+        ensures freed { IfOk result (λ freed. freed ≡ length (owned_ids (registry_of self.old) owner)) }
+        ensures registry { OnOk result (registry_of self.new ≡ closed_in (registry_of self.old) now owner) }
+        ensures values { KeepsValues self.old self.new }
+        ensures err { OnErr result (self.new ≡ self.old) }
+    {
+        if owner == 0 {
+            return Err(BadOwner);
+        }
+        Ok(self.records.close(now, owner))
+    }
+}

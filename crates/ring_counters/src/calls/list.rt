@@ -1,0 +1,139 @@
+//! A look at the counters in use, one after another, without memory.
+ghost use Rattle.std.specs.Prelude.{◌≡◌, length};
+ghost use Rattle.std.specs.Iterator.{YieldsFirst, item_count};
+ghost use Rattle.ring_counters.specs.Counter.{padded};
+ghost use Rattle.ring_counters.specs.Registry.{live_of};
+ghost use Rattle.ring_counters.specs.Manager.{registry_of};
+
+use crate::manager::CountersManager;
+use crate::records::Records;
+use crate::records::metadata::MetadataRecord;
+use crate::records::value::ValueRecord;
+use ring_layout::counter_descriptor::{MAX_KEY_LENGTH, MAX_LABEL_LENGTH};
+use std::iter::FusedIterator;
+use std::marker::Model;
+
+/// A counter in use, with a look at its records.
+#[derive(Drop)]
+pub struct LiveCounter<'a> {
+    pub(crate) id: u32,
+    pub(crate) metadata: &'a MetadataRecord,
+    pub(crate) values: &'a ValueRecord,
+}
+
+impl<'a> Model for LiveCounter<'a> {
+    ghost use Rattle.std.specs.Prelude.{ℕ};
+    ghost use Rattle.ring_counters.specs.Counter.{Counter};
+
+    ghost Value = { ℕ × Counter };
+
+    ghost view = { λ c. (c.id, record { metadata = c.metadata.now; values = c.values.now }) };
+}
+
+impl<'a> LiveCounter<'a> {
+    /// The counter's id.
+    pub fn id(&self) -> u32
+        ensures { result ≡ self.now.0 }
+    {
+        self.id
+    }
+
+    /// The type that it was allocated with.
+    pub fn type_id(&self) -> i32
+        ensures { result ≡ self.now.1.metadata.type_id }
+    {
+        self.metadata.type_id()
+    }
+
+    /// Its value.
+    pub fn value(&self) -> i64
+        ensures { result ≡ self.now.1.values.value }
+    {
+        self.values.value()
+    }
+
+    /// The registration id that it was allocated with.
+    pub fn registration(&self) -> u64
+        ensures { result ≡ self.now.1.values.registration }
+    {
+        self.values.registration()
+    }
+
+    /// Its owner, 0 for none.
+    pub fn owner(&self) -> u64
+        ensures { result ≡ self.now.1.values.owner }
+    {
+        self.values.owner()
+    }
+
+    /// Copies its key of 112 bytes, with zeros after a short one.
+    pub fn key_into(&self, key: &mut [u8; MAX_KEY_LENGTH])
+        ensures { key.new ≡ self.now.1.metadata.key }
+    {
+        self.metadata.key_into(key);
+    }
+
+    /// Copies its label, with zeros after it, and gives its length in bytes.
+    pub fn label_into(&self, label: &mut [u8; MAX_LABEL_LENGTH]) -> usize
+        ensures len { result ≡ length self.now.1.metadata.label }
+        ensures label { label.new ≡ padded 380 self.now.1.metadata.label }
+    {
+        self.metadata.label_into(label)
+    }
+}
+
+/// The counters in use by rising id, seen as the list of those that are left. It takes no memory.
+#[derive(Drop)]
+pub struct LiveCounters<'a> {
+    records: &'a Records,
+    /// The lowest id that was not looked at.
+    next: u32,
+}
+
+impl<'a> Model for LiveCounters<'a> {
+    ghost use Rattle.std.specs.Prelude.{ℕ, List};
+    ghost use Rattle.ring_counters.specs.Counter.{Counter};
+    ghost use Rattle.ring_counters.specs.Registry.{live_from};
+
+    ghost Value = { List (ℕ × Counter) };
+
+    ghost view = { λ it. live_from it.records.now it.next };
+}
+
+impl<'a> Iterator for LiveCounters<'a> {
+    type Item = LiveCounter<'a>;
+
+    ghost next_gives = { YieldsFirst (λ rest. rest) };
+
+    ghost remaining = { item_count (λ rest. rest) };
+
+    fn next(&mut self) -> Option<LiveCounter<'a>> {
+        while self.next < self.records.used() {
+            let id = self.next;
+            self.next += 1;
+            if self.records.is_live(id) {
+                return Some(LiveCounter {
+                    id,
+                    metadata: self.records.metadata(id),
+                    values: self.records.values(id),
+                });
+            }
+        }
+        None
+    }
+}
+
+impl<'a> FusedIterator for LiveCounters<'a> {}
+
+impl CountersManager {
+    /// Goes over the counters in use, by rising id: the same counters that `live` lists. It takes no memory, and looks at
+    /// every id that was ever used. Keys and labels are copied into the caller's buffers, where the caller asks for them.
+    pub fn iter(&self) -> LiveCounters<'_>
+        ensures { result ≡ live_of (registry_of self.now) }
+    {
+        LiveCounters {
+            records: &self.records,
+            next: 0,
+        }
+    }
+}

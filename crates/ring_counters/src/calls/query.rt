@@ -1,0 +1,180 @@
+//! Reading counters, and readers for other threads.
+ghost use Rattle.std.specs.Prelude.{◌≡◌, ℕ, ◌+◌, ◌<◌, ◌↔◌, [], length, IfOk, IfErr, OnOk, OnErr, IsOk};
+ghost use Rattle.ring_counters.specs.Counter.{padded, state_of, deadline_of};
+ghost use Rattle.ring_counters.specs.Counter.{metadata_word as metadata_word_of, value_word as value_word_of};
+ghost use Rattle.ring_counters.specs.Registry.{count_of, counter_at, status_at, id_refusal_of, range_refusal_of, answer, live_of, registered_id};
+ghost use Rattle.ring_counters.specs.Infos.{AreInfos};
+ghost use Rattle.ring_counters.specs.Agree.{Agree};
+ghost use Rattle.ring_counters.specs.ValueWrites.{AreLoads};
+ghost use Rattle.ring_counters.specs.Seats.{IsReaderOf, made_of, seen_by, loads_of};
+ghost use Rattle.ring_counters.specs.Manager.{registry_of, writes_of, shares_of, IsManagerOf};
+
+use crate::fault::{IdFault, NoShares, OutOfMemory};
+use crate::info::CounterInfo;
+use crate::manager::CountersManager;
+use crate::values::seats::{CounterValues, ValueReader};
+use ring_layout::counter_descriptor::{MAX_KEY_LENGTH, MAX_LABEL_LENGTH};
+use std::alloc::Global;
+
+impl CountersManager {
+    /// The number of counters that it was made with: an id is in range where it is below this.
+    pub fn count(&self) -> u32
+        ensures { result ≡ count_of (registry_of self.now) }
+    {
+        self.records.count()
+    }
+
+    /// The value of a counter in use.
+    ///
+    /// `BadId` comes where the id is not below the number of counters, `NotAllocated` where no counter in use has it.
+    pub fn value(&self, id: u32) -> Result<i64, IdFault>
+        ensures { result ≡ answer (id_refusal_of (registry_of self.now) id) (counter_at (registry_of self.now) id).values.value }
+    {
+        self.records.check_allocated(id)?;
+        Ok(self.records.values(id).value())
+    }
+
+    /// The owner of a counter in use, 0 for none. `BadId` and `NotAllocated` come as for `value`.
+    pub fn owner(&self, id: u32) -> Result<u64, IdFault>
+        ensures { result ≡ answer (id_refusal_of (registry_of self.now) id) (counter_at (registry_of self.now) id).values.owner }
+    {
+        self.records.check_allocated(id)?;
+        Ok(self.records.values(id).owner())
+    }
+
+    /// The type that a counter in use was allocated with. `BadId` and `NotAllocated` come as for `value`.
+    pub fn type_id(&self, id: u32) -> Result<i32, IdFault>
+        ensures { result ≡ answer (id_refusal_of (registry_of self.now) id) (counter_at (registry_of self.now) id).metadata.type_id }
+    {
+        self.records.check_allocated(id)?;
+        Ok(self.records.metadata(id).type_id())
+    }
+
+    /// The registration id that a counter in use was allocated with. `BadId` and `NotAllocated` come as for `value`.
+    pub fn registration(&self, id: u32) -> Result<u64, IdFault>
+        ensures { result ≡ answer (id_refusal_of (registry_of self.now) id) (counter_at (registry_of self.now) id).values.registration }
+    {
+        self.records.check_allocated(id)?;
+        Ok(self.records.values(id).registration())
+    }
+
+    /// The lowest id in use with this type and registration id, `None` where there is none. It looks at every id that was
+    /// ever used.
+    pub fn find(&self, type_id: i32, registration: u64) -> Option<u32>
+        ensures { result ≡ registered_id (registry_of self.now) type_id registration }
+    {
+        self.records.find(type_id, registration)
+    }
+
+    /// Copies the label of a counter in use, with zeros after it, and gives its length in bytes. `BadId` and `NotAllocated`
+    /// come as for `value`; `label` is then as before.
+    pub fn label_into(&self, id: u32, label: &mut [u8; MAX_LABEL_LENGTH]) -> Result<usize, IdFault>
+        ensures result { result ≡ answer (id_refusal_of (registry_of self.now) id) (length (counter_at (registry_of self.now) id).metadata.label) }
+        ensures label { OnOk result (label.new ≡ padded 380 (counter_at (registry_of self.now) id).metadata.label) }
+        ensures err { OnErr result (label.new ≡ label.old) }
+    {
+        self.records.check_allocated(id)?;
+        Ok(self.records.metadata(id).label_into(label))
+    }
+
+    /// Copies the key of a counter in use, with zeros after a short one. `BadId` and `NotAllocated` come as for `value`;
+    /// `key` is then as before.
+    pub fn key_into(&self, id: u32, key: &mut [u8; MAX_KEY_LENGTH]) -> Result<(), IdFault>
+        ensures result { result ≡ answer (id_refusal_of (registry_of self.now) id) tt }
+        ensures key { OnOk result (key.new ≡ (counter_at (registry_of self.now) id).metadata.key) }
+        ensures err { OnErr result (key.new ≡ key.old) }
+    {
+        self.records.check_allocated(id)?;
+        self.records.metadata(id).key_into(key);
+        Ok(())
+    }
+
+    /// The state of a record: 0 where it was never used, 1 where the counter is in use, -1 where it was freed.
+    ///
+    /// `BadId` comes where the id is not below the number of counters.
+    pub fn state(&self, id: u32) -> Result<i32, IdFault>
+        ensures { result ≡ answer (range_refusal_of (registry_of self.now) id) (state_of (status_at (registry_of self.now) id)) }
+    {
+        self.records.check_range(id)?;
+        Ok(self.records.metadata(id).state())
+    }
+
+    /// The moment from which an id may be given again, in milliseconds: 0 where it was never used, 2^63 - 1 where the counter
+    /// is in use. `BadId` comes as for `state`.
+    pub fn deadline(&self, id: u32) -> Result<u64, IdFault>
+        ensures { result ≡ answer (range_refusal_of (registry_of self.now) id) (deadline_of (status_at (registry_of self.now) id)) }
+    {
+        self.records.check_range(id)?;
+        Ok(self.records.metadata(id).deadline())
+    }
+
+    /// Lists the counters in use, by rising id. It looks at every id that was ever used.
+    ///
+    /// `OutOfMemory` comes where memory is wanting.
+    pub fn live(&self, alloc: Global) -> Result<Vec<CounterInfo>, OutOfMemory>
+        ensures { IfOk result (λ infos. AreInfos infos.items (live_of (registry_of self.now))) }
+    {
+        match self.records.live(alloc) {
+            Ok(infos) => Ok(infos),
+            Err(_error) => Err(OutOfMemory),
+        }
+    }
+
+    /// The `k`-th word of an id's metadata record.
+    pub fn metadata_word(&self, id: u32, k: usize) -> u64
+        requires id { id < count_of (registry_of self.now) }
+        requires k { k < 64 }
+        ensures { result ≡ metadata_word_of (counter_at (registry_of self.now) id).metadata k }
+    {
+        self.records.metadata(id).word(k)
+    }
+
+    /// The `k`-th word of an id's value record.
+    pub fn value_word(&self, id: u32, k: usize) -> u64
+        requires id { id < count_of (registry_of self.now) }
+        requires k { k < 16 }
+        ensures { result ≡ value_word_of (counter_at (registry_of self.now) id).values k }
+    {
+        self.records.values(id).word(k)
+    }
+
+    /// Makes a reader of the values, for another thread. It takes one share.
+    ///
+    /// `NoShares` comes where one share is left; all is then as before.
+    pub fn reader(&mut self, values: &CounterValues) -> Result<ValueReader, NoShares>
+        requires { IsManagerOf values.now self.old }
+        ensures enough { IsOk result ↔ (1 < shares_of self.old) }
+        ensures reader { IfOk result (λ r. IsReaderOf values.now r) }
+        ensures made { IfOk result (λ r. (made_of r ≡ writes_of self.old) × (seen_by r ≡ writes_of self.old) × (loads_of r ≡ [])) }
+        ensures shares { IfOk result (λ _. shares_of self.new + 1 ≡ shares_of self.old) }
+        ensures registry { registry_of self.new ≡ registry_of self.old }
+        ensures writes { writes_of self.new ≡ writes_of self.old }
+        ensures values { IsManagerOf values.now self.new }
+        ensures err { OnErr result (self.new ≡ self.old) }
+    {
+        values.split(&mut self.writer)
+    }
+
+    /// Takes a reader back, with its share.
+    pub fn join_reader(&mut self, values: &CounterValues, reader: ValueReader)
+        requires manager { IsManagerOf values.now self.old }
+        requires reader { IsReaderOf values.now reader }
+
+        // What the reader loaded are values after first parts of the writes, after which the values are the registry's.
+        ensures loads { AreLoads (made_of reader) (loads_of reader) (writes_of self.new) }
+        ensures agree { Agree (registry_of self.new) (writes_of self.new) }
+        ensures shares { shares_of self.new ≡ shares_of self.old + 1 }
+        ensures registry { registry_of self.new ≡ registry_of self.old }
+        ensures writes { writes_of self.new ≡ writes_of self.old }
+        ensures values { IsManagerOf values.now self.new }
+    {
+        values.join(&mut self.writer, reader);
+    }
+
+    /// The shares that are not with readers: 65,536 at first.
+    pub fn value_shares(&self) -> u32
+        ensures { result ≡ shares_of self.now }
+    {
+        self.writer.shares
+    }
+}

@@ -1,0 +1,55 @@
+//! Adding to a counter's value, and raising it.
+ghost use Rattle.std.specs.Prelude.{◌≡◌, true, false, ◌∷◌, [], ◌++◌, IfOk, OnOk, OnErr};
+ghost use Rattle.ring_counters.specs.Registry.{id_refusal_of, answer, with_value, value_at, value_plus, is_raised_by};
+ghost use Rattle.ring_counters.specs.Views.{value_write};
+ghost use Rattle.ring_counters.specs.Manager.{registry_of, writes_of, shares_of, IsManagerOf};
+
+use crate::fault::IdFault;
+use crate::manager::CountersManager;
+use crate::values::seats::CounterValues;
+
+impl CountersManager {
+    /// Adds to the value of a counter in use, and gives the value that it had before. It is one `set`.
+    ///
+    /// The sum is taken modulo 2^64: above 2^63 - 1 it goes on at -2^63, and below -2^63 at 2^63 - 1. `BadId` and
+    /// `NotAllocated` come as for `set`; after them all is as before.
+    pub fn add(&mut self, values: &CounterValues, id: u32, delta: i64) -> Result<i64, IdFault>
+        requires { IsManagerOf values.now self.old }
+        ensures before { result ≡ answer (id_refusal_of (registry_of self.old) id) (value_at (registry_of self.old) id) }
+        ensures registry { OnOk result (registry_of self.new ≡ with_value (registry_of self.old) id (value_plus (registry_of self.old) id delta)) }
+        ensures writes { OnOk result (writes_of self.new ≡ writes_of self.old ++ value_write id (value_plus (registry_of self.old) id delta) ∷ []) }
+        ensures shares { shares_of self.new ≡ shares_of self.old }
+        ensures values { IsManagerOf values.now self.new }
+        ensures err { OnErr result (self.new ≡ self.old) }
+    {
+        let before = self.value(id)?;
+        self.set(values, id, before.wrapping_add(delta))?;
+        Ok(before)
+    }
+
+    /// Sets the value of a counter in use where its value is below this one, and tells whether it was. It is one `set`, or
+    /// nothing.
+    ///
+    /// `BadId` and `NotAllocated` come as for `set`; after them all is as before.
+    pub fn propose_max(
+        &mut self,
+        values: &CounterValues,
+        id: u32,
+        value: i64,
+    ) -> Result<bool, IdFault>
+        requires { IsManagerOf values.now self.old }
+        ensures raised { result ≡ answer (id_refusal_of (registry_of self.old) id) (is_raised_by (registry_of self.old) id value) }
+        ensures registry { IfOk result (λ raised. raised ≡ true → registry_of self.new ≡ with_value (registry_of self.old) id value) }
+        ensures writes { IfOk result (λ raised. raised ≡ true → writes_of self.new ≡ writes_of self.old ++ value_write id value ∷ []) }
+        ensures kept { IfOk result (λ raised. raised ≡ false → self.new ≡ self.old) }
+        ensures shares { shares_of self.new ≡ shares_of self.old }
+        ensures values { IsManagerOf values.now self.new }
+        ensures err { OnErr result (self.new ≡ self.old) }
+    {
+        let is_below = self.value(id)? < value;
+        if is_below {
+            self.set(values, id, value)?;
+        }
+        Ok(is_below)
+    }
+}

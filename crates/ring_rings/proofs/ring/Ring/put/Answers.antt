@@ -1,0 +1,62 @@
+use Rattle.std.proofs.Common.{refl, sym, ap, ◌∙◌, subst, arith}
+use Rattle.ring_layout.proofs.WordBytes.{length-overwritten}
+use Rattle.ring_table.specs.declared.claim.StagedClaim.{StagedClaim}
+use Rattle.ring_table.specs.declared.view.View.{View}
+use Rattle.ring_table.specs.ProducerSteps.{HasClaimAt, IsOpen}
+use Rattle.ring_table.specs.OpenClaims.{open_count}
+use Rattle.ring_table.specs.Staged.{AreRising, AreStored}
+use Rattle.ring_rings.specs.Bodies.{loaded, put_at}
+use Rattle.ring_rings.proofs.CountLemmas.{count_kept, stored_kept}
+use Rattle.ring_rings.proofs.RisingLemmas.{rising_kept}
+use Rattle.ring_rings.proofs.PutLemmas.{has_changed, has_other}
+use Rattle.ring_rings.proofs.ring.Ring.put.Goals as goal
+
+pub put_bytes-requires-clause-place : goal.put_bytes-requires-clause-place
+put_bytes-requires-clause-place g c = rw c.place.ensures c.requires.claim.limit
+
+pub invariant_of-producer : goal.invariant_of-producer
+invariant_of-producer g c =
+    let p = c.args.producer.now in
+    let put = c.put_bytes.ensures.put in
+    let f : StagedClaim → StagedClaim = put_at c.args.offset c.args.bytes.now in
+    let claims = ap (λ (v : View). v.producer.claims) put.view in
+    record {
+      known = record {
+        shares_are = ap (λ (v : View). v.producer.shares) put.view ∙ p.known.shares_are;
+        some = p.known.some;
+        most = p.known.most;
+        counted = ap open_count claims ∙ count_kept f c.place.result (λ d. refl) p.seat.me.0.producer.claims ∙ p.known.counted;
+        rising = subst AreRising (sym claims) (rising_kept f c.place.result (λ d. refl) p.seat.me.0.producer.claims p.known.rising);
+        stored = subst AreStored (sym claims) (stored_kept f c.place.result (λ d. refl) p.seat.me.0.producer.claims p.known.stored);
+        own = λ all. ap (λ (v : View). v.producer.seen_tail) put.view ∙ p.known.own all;
+        whole = p.known.whole;
+        limit = p.known.limit;
+      };
+      produces = (ap (λ (v : View). v.consumes) put.view ∙ p.produces.0, c.put_bytes.ensures.seat.slots ∙ p.produces.1);
+    }
+
+pub returns-clause-is_open : goal.returns-clause-is_open
+returns-clause-is_open g c =
+    let h = c.requires.claim in
+    let t = c.args.claim.now in
+    let v : View = c.args.producer.now.seat.me.0 in
+    let put = c.put_bytes.ensures.put in
+    let f : StagedClaim → StagedClaim = put_at c.args.offset c.args.bytes.now in
+    record {
+      index = h.index;
+      message = h.message;
+      limit = h.limit;
+      claim = subst (λ (u : View). HasClaimAt u t.place (IsOpen t.type_id t.len)) (sym put.view)
+          (rw c.place.ensures (has_changed t.place f (λ d. refl) (loaded put.loads v) (IsOpen t.type_id t.len) (IsOpen t.type_id t.len) (record { nth = h.claim.nth; claim = h.claim.claim; there = h.claim.there; at_place = h.claim.at_place; holds = h.claim.holds })
+          (λ d is. let n = is.len_is in record { stage = is.stage; type_is = is.type_is; len_is = length-overwritten c.args.offset c.args.bytes.now d.message.body (omega arith) ∙ is.len_is })));
+    }
+
+pub returns-clause-others : goal.returns-clause-others
+returns-clause-others g c t h other =
+    let put = c.put_bytes.ensures.put in
+    record {
+      index = h.index;
+      message = h.message;
+      limit = h.limit;
+      claim = has_other c.args.producer.now.seat.me.0 c.put_bytes.new.seat.me.0 c.place.result t.place (put_at c.args.offset c.args.bytes.now) (IsOpen t.type_id t.len) (ap (λ (v : View). v.producer.claims) put.view) h.claim (λ here. other (here ∙ c.place.ensures));
+    }

@@ -1,0 +1,220 @@
+use Rattle.std.proofs.Common.{ℕ, sym, ◌∙◌, subst, arith}
+use Rattle.ring_words.specs.Read.{GoesOn}
+use Rattle.ring_rings.specs.Seats.{consumer_view}
+use Rattle.ring_rings.specs.ReadingSteps.{heeded}
+use Rattle.ring_rings.proofs.ReadingSeats.{same_none, same_more}
+use Rattle.ring_rings.proofs.ReadingRuns.{RunsOn, runs_on_none}
+use Rattle.ring_rings.proofs.ReadingEnds.{settled_stands}
+use Rattle.ring_rings.proofs.ReadingTurns.{blocked, blocked_at, blocked_inside, ends_aborted, ends_block, ends_blocked, ends_broken, ends_limit, goes_to, got, got_more, is_near, left_at, left_done, left_inside, left_near, less_passed, less_shown, runs_committed, runs_inside, runs_on, runs_passed, shown_at, shown_inside, stands}
+use Rattle.ring_rings.proofs.ring.Ring.run.Goals as goal
+
+pub turns-init : goal.turns-init
+turns-init g c =
+    let old = c.args.consumer.now in
+    let least = c.args.self.now.lawful.least in
+    let head = old.stands.0 in
+    let cap = c.requires.consumer.capacity in
+    record {
+      consumer = c.requires.consumer;
+      seat = same_none old.seat;
+      ready = c.requires.ready;
+      start = sym head;
+      below = omega arith;
+      runs = subst (λ (n : ℕ). RunsOn (heeded c.args.heeds g.H.Handler.step) c.args.limit (consumer_view old) (consumer_view old) c.args.handler.now c.args.handler.now n 0) head
+          (runs_on_none (heeded c.args.heeds g.H.Handler.step) c.args.limit (consumer_view old) c.args.handler.now (omega (arith, cap, least)) (omega (arith, head, old.whole.0)) (omega (arith, head, old.whole.1)));
+    }
+
+pub returns-then-messages-limit-clause-controls : goal.returns-then-messages-limit-clause-controls
+returns-then-messages-limit-clause-controls g c =
+    ends_limit c.turns.invariant.runs c.finish.ensures.settles c.if-messages-limit.true (record { messages = c.finish.ensures.messages; bytes = c.finish.ensures.bytes; stopped = c.finish.ensures.stopped })
+
+pub returns-then-is_block_end-clause-controls : goal.returns-then-is_block_end-clause-controls
+returns-then-is_block_end-clause-controls g c =
+    ends_block c.turns.invariant.runs c.finish-then-is_block_end.ensures.settles c.requires.consumer.capacity c.if-messages-limit.false (sym c.is_block_end.ensures ∙ c.if-is_block_end.true) (record { messages = c.finish-then-is_block_end.ensures.messages; bytes = c.finish-then-is_block_end.ensures.bytes; stopped = c.finish-then-is_block_end.ensures.stopped })
+
+pub turn-requires-clause-near : goal.turn-requires-clause-near
+turn-requires-clause-near g c =
+    let q = goes_to c.turns.invariant.runs c.requires.consumer.capacity c.args.consumer.now.stands.0 c.args.self.now.lawful.least c.turns.invariant.below c.if-messages-limit.false (sym c.is_block_end.ensures ∙ c.if-is_block_end.false) in
+    is_near q
+
+pub finish-requires-in-Blocked-clause-at : goal.finish-requires-in-Blocked-clause-at
+finish-requires-in-Blocked-clause-at g c =
+    let q = goes_to c.turns.invariant.runs c.requires.consumer.capacity c.args.consumer.now.stands.0 c.args.self.now.lawful.least c.turns.invariant.below c.if-messages-limit.false (sym c.is_block_end.ensures ∙ c.if-is_block_end.false) in
+    let told = c.in-Blocked.ensures.turn (got q) (stands q) in
+    (got q, blocked_at q told)
+
+pub returns-in-Blocked-clause-controls : goal.returns-in-Blocked-clause-controls
+returns-in-Blocked-clause-controls g c =
+    let q = goes_to c.turns.invariant.runs c.requires.consumer.capacity c.args.consumer.now.stands.0 c.args.self.now.lawful.least c.turns.invariant.below c.if-messages-limit.false (sym c.is_block_end.ensures ∙ c.if-is_block_end.false) in
+    let told = c.in-Blocked.ensures.turn (got q) (stands q) in
+    let p = c.finish-in-Blocked.ensures.settles (got q) (blocked_at q told) in
+    ends_blocked q told p (record { messages = c.finish-in-Blocked.ensures.messages; bytes = c.finish-in-Blocked.ensures.bytes; stopped = c.finish-in-Blocked.ensures.stopped })
+
+pub returns-in-Blocked-clause-bytes : goal.returns-in-Blocked-clause-bytes
+returns-in-Blocked-clause-bytes g c =
+    let q = goes_to c.turns.invariant.runs c.requires.consumer.capacity c.args.consumer.now.stands.0 c.args.self.now.lawful.least c.turns.invariant.below c.if-messages-limit.false (sym c.is_block_end.ensures ∙ c.if-is_block_end.false) in
+    let told = c.in-Blocked.ensures.turn (got q) (stands q) in
+    let p = c.finish-in-Blocked.ensures.settles (got q) (blocked_at q told) in
+    omega (arith, c.finish-in-Blocked.ensures.bytes, p.head, c.args.consumer.now.stands.0)
+
+pub returns-in-Blocked-clause-blocked : goal.returns-in-Blocked-clause-blocked
+returns-in-Blocked-clause-blocked g c =
+    let q = goes_to c.turns.invariant.runs c.requires.consumer.capacity c.args.consumer.now.stands.0 c.args.self.now.lawful.least c.turns.invariant.below c.if-messages-limit.false (sym c.is_block_end.ensures ∙ c.if-is_block_end.false) in
+    let told = c.in-Blocked.ensures.turn (got q) (stands q) in
+    let p = c.finish-in-Blocked.ensures.settles (got q) (blocked_at q told) in
+    λ _. blocked q told p
+
+pub turns-preserved-in-Passed : goal.turns-preserved-in-Passed
+turns-preserved-in-Passed g c =
+    let q = goes_to c.turns.invariant.runs c.requires.consumer.capacity c.args.consumer.now.stands.0 c.args.self.now.lawful.least c.turns.invariant.below c.if-messages-limit.false (sym c.is_block_end.ensures ∙ c.if-is_block_end.false) in
+    let told = c.in-Passed.ensures.turn (got q) (stands q) in
+    record {
+      consumer = c.turn.ensures.consumer;
+      seat = same_more _ _ _ c.turns.invariant.seat c.turn.ensures.seat;
+      ready = c.turn.ensures.ready;
+      start = c.turns.invariant.start;
+      below = omega (arith, c.turns.invariant.below, c.if-messages-limit.false);
+      runs = runs_passed q told;
+    }
+
+pub turns-smaller-in-Passed : goal.turns-smaller-in-Passed
+turns-smaller-in-Passed g c =
+    let q = goes_to c.turns.invariant.runs c.requires.consumer.capacity c.args.consumer.now.stands.0 c.args.self.now.lawful.least c.turns.invariant.below c.if-messages-limit.false (sym c.is_block_end.ensures ∙ c.if-is_block_end.false) in
+    let told = c.in-Passed.ensures.turn (got q) (stands q) in
+    less_passed q told
+
+pub finish-requires-in-Abort-clause-from : goal.finish-requires-in-Abort-clause-from
+finish-requires-in-Abort-clause-from g c =
+    let q = goes_to c.turns.invariant.runs c.requires.consumer.capacity c.args.consumer.now.stands.0 c.args.self.now.lawful.least c.turns.invariant.below c.if-messages-limit.false (sym c.is_block_end.ensures ∙ c.if-is_block_end.false) in
+    let told = c.in-Shown.ensures.turn (got q) (stands q) in
+    let p = c.move_head_before.ensures.settles (got q) (left_at q told) in
+    left_near q told p
+
+pub finish-requires-in-Abort-clause-at : goal.finish-requires-in-Abort-clause-at
+finish-requires-in-Abort-clause-at g c =
+    let q = goes_to c.turns.invariant.runs c.requires.consumer.capacity c.args.consumer.now.stands.0 c.args.self.now.lawful.least c.turns.invariant.below c.if-messages-limit.false (sym c.is_block_end.ensures ∙ c.if-is_block_end.false) in
+    let told = c.in-Shown.ensures.turn (got q) (stands q) in
+    let p = c.move_head_before.ensures.settles (got q) (left_at q told) in
+    (got q, settled_stands p)
+
+pub returns-in-Abort-clause-controls : goal.returns-in-Abort-clause-controls
+returns-in-Abort-clause-controls g c =
+    let q = goes_to c.turns.invariant.runs c.requires.consumer.capacity c.args.consumer.now.stands.0 c.args.self.now.lawful.least c.turns.invariant.below c.if-messages-limit.false (sym c.is_block_end.ensures ∙ c.if-is_block_end.false) in
+    let told = c.in-Shown.ensures.turn (got q) (stands q) in
+    let p = c.move_head_before.ensures.settles (got q) (left_at q told) in
+    let p' = c.finish-in-Abort.ensures.settles (got q) (settled_stands p) in
+    ends_aborted q told p c.in-Abort.is p' (record { messages = c.finish-in-Abort.ensures.messages; bytes = c.finish-in-Abort.ensures.bytes; stopped = c.finish-in-Abort.ensures.stopped })
+
+pub returns-in-Abort-clause-bytes : goal.returns-in-Abort-clause-bytes
+returns-in-Abort-clause-bytes g c =
+    let q = goes_to c.turns.invariant.runs c.requires.consumer.capacity c.args.consumer.now.stands.0 c.args.self.now.lawful.least c.turns.invariant.below c.if-messages-limit.false (sym c.is_block_end.ensures ∙ c.if-is_block_end.false) in
+    let told = c.in-Shown.ensures.turn (got q) (stands q) in
+    let p = c.move_head_before.ensures.settles (got q) (left_at q told) in
+    let p' = c.finish-in-Abort.ensures.settles (got q) (settled_stands p) in
+    omega (arith, c.finish-in-Abort.ensures.bytes, p'.head, c.args.consumer.now.stands.0)
+
+pub finish-requires-in-Break-clause-at : goal.finish-requires-in-Break-clause-at
+finish-requires-in-Break-clause-at g c =
+    let q = goes_to c.turns.invariant.runs c.requires.consumer.capacity c.args.consumer.now.stands.0 c.args.self.now.lawful.least c.turns.invariant.below c.if-messages-limit.false (sym c.is_block_end.ensures ∙ c.if-is_block_end.false) in
+    let told = c.in-Shown.ensures.turn (got q) (stands q) in
+    (got_more q told, shown_at q told)
+
+pub returns-in-Break-clause-controls : goal.returns-in-Break-clause-controls
+returns-in-Break-clause-controls g c =
+    let q = goes_to c.turns.invariant.runs c.requires.consumer.capacity c.args.consumer.now.stands.0 c.args.self.now.lawful.least c.turns.invariant.below c.if-messages-limit.false (sym c.is_block_end.ensures ∙ c.if-is_block_end.false) in
+    let told = c.in-Shown.ensures.turn (got q) (stands q) in
+    let p = c.finish-in-Break.ensures.settles (got_more q told) (shown_at q told) in
+    ends_broken q told c.in-Break.is p (record { messages = c.finish-in-Break.ensures.messages; bytes = c.finish-in-Break.ensures.bytes; stopped = c.finish-in-Break.ensures.stopped })
+
+pub returns-in-Break-clause-bytes : goal.returns-in-Break-clause-bytes
+returns-in-Break-clause-bytes g c =
+    let q = goes_to c.turns.invariant.runs c.requires.consumer.capacity c.args.consumer.now.stands.0 c.args.self.now.lawful.least c.turns.invariant.below c.if-messages-limit.false (sym c.is_block_end.ensures ∙ c.if-is_block_end.false) in
+    let told = c.in-Shown.ensures.turn (got q) (stands q) in
+    let p = c.finish-in-Break.ensures.settles (got_more q told) (shown_at q told) in
+    omega (arith, c.finish-in-Break.ensures.bytes, p.head, c.args.consumer.now.stands.0)
+
+pub move_head-requires-clause-at : goal.move_head-requires-clause-at
+move_head-requires-clause-at g c =
+    let q = goes_to c.turns.invariant.runs c.requires.consumer.capacity c.args.consumer.now.stands.0 c.args.self.now.lawful.least c.turns.invariant.below c.if-messages-limit.false (sym c.is_block_end.ensures ∙ c.if-is_block_end.false) in
+    let told = c.in-Shown.ensures.turn (got q) (stands q) in
+    (got_more q told, shown_at q told)
+
+pub turns-preserved-in-Commit : goal.turns-preserved-in-Commit
+turns-preserved-in-Commit g c =
+    let q = goes_to c.turns.invariant.runs c.requires.consumer.capacity c.args.consumer.now.stands.0 c.args.self.now.lawful.least c.turns.invariant.below c.if-messages-limit.false (sym c.is_block_end.ensures ∙ c.if-is_block_end.false) in
+    let told = c.in-Shown.ensures.turn (got q) (stands q) in
+    let goes : GoesOn c.in-Shown.action = subst GoesOn (sym c.in-Commit.is) tt in
+    let p = c.move_head.ensures.settles (got_more q told) (shown_at q told) in
+    record {
+      consumer = c.move_head.ensures.consumer;
+      seat = same_more _ _ _ (same_more _ _ _ c.turns.invariant.seat c.turn.ensures.seat) c.move_head.ensures.seat;
+      ready = c.turn.ensures.ready;
+      start = c.turns.invariant.start;
+      below = omega (arith, c.turns.invariant.below, c.if-messages-limit.false);
+      runs = runs_committed q told goes p;
+    }
+
+pub turns-smaller-in-Commit : goal.turns-smaller-in-Commit
+turns-smaller-in-Commit g c =
+    let q = goes_to c.turns.invariant.runs c.requires.consumer.capacity c.args.consumer.now.stands.0 c.args.self.now.lawful.least c.turns.invariant.below c.if-messages-limit.false (sym c.is_block_end.ensures ∙ c.if-is_block_end.false) in
+    let told = c.in-Shown.ensures.turn (got q) (stands q) in
+    less_shown q told
+
+pub turns-preserved : goal.turns-preserved
+turns-preserved g c =
+    let q = goes_to c.turns.invariant.runs c.requires.consumer.capacity c.args.consumer.now.stands.0 c.args.self.now.lawful.least c.turns.invariant.below c.if-messages-limit.false (sym c.is_block_end.ensures ∙ c.if-is_block_end.false) in
+    let told = c.in-Shown.ensures.turn (got q) (stands q) in
+    let goes : GoesOn c.in-Shown.action = subst GoesOn (sym c.in-Continue.is) tt in
+    record {
+      consumer = c.turn.ensures.consumer;
+      seat = same_more _ _ _ c.turns.invariant.seat c.turn.ensures.seat;
+      ready = c.turn.ensures.ready;
+      start = c.turns.invariant.start;
+      below = omega (arith, c.turns.invariant.below, c.if-messages-limit.false);
+      runs = runs_on q told goes;
+    }
+
+pub turns-smaller : goal.turns-smaller
+turns-smaller g c =
+    let q = goes_to c.turns.invariant.runs c.requires.consumer.capacity c.args.consumer.now.stands.0 c.args.self.now.lawful.least c.turns.invariant.below c.if-messages-limit.false (sym c.is_block_end.ensures ∙ c.if-is_block_end.false) in
+    let told = c.in-Shown.ensures.turn (got q) (stands q) in
+    less_shown q told
+
+pub finish-requires-clause-inside : goal.finish-requires-clause-inside
+finish-requires-clause-inside g c =
+    runs_inside c.turns.invariant.runs.0 c.requires.consumer.capacity (omega (arith, c.requires.consumer.capacity, c.args.self.now.lawful.least))
+
+pub finish-requires-then-is_block_end-clause-inside : goal.finish-requires-then-is_block_end-clause-inside
+finish-requires-then-is_block_end-clause-inside g c =
+    runs_inside c.turns.invariant.runs.0 c.requires.consumer.capacity (omega (arith, c.requires.consumer.capacity, c.args.self.now.lawful.least))
+
+pub finish-requires-in-Blocked-clause-inside : goal.finish-requires-in-Blocked-clause-inside
+finish-requires-in-Blocked-clause-inside g c =
+    let q = goes_to c.turns.invariant.runs c.requires.consumer.capacity c.args.consumer.now.stands.0 c.args.self.now.lawful.least c.turns.invariant.below c.if-messages-limit.false (sym c.is_block_end.ensures ∙ c.if-is_block_end.false) in
+    let told = c.in-Blocked.ensures.turn (got q) (stands q) in
+    blocked_inside q told
+
+pub move_head_before-requires-clause-inside : goal.move_head_before-requires-clause-inside
+move_head_before-requires-clause-inside g c =
+    let q = goes_to c.turns.invariant.runs c.requires.consumer.capacity c.args.consumer.now.stands.0 c.args.self.now.lawful.least c.turns.invariant.below c.if-messages-limit.false (sym c.is_block_end.ensures ∙ c.if-is_block_end.false) in
+    let told = c.in-Shown.ensures.turn (got q) (stands q) in
+    left_inside q told
+
+pub finish-requires-in-Abort-clause-inside : goal.finish-requires-in-Abort-clause-inside
+finish-requires-in-Abort-clause-inside g c =
+    let q = goes_to c.turns.invariant.runs c.requires.consumer.capacity c.args.consumer.now.stands.0 c.args.self.now.lawful.least c.turns.invariant.below c.if-messages-limit.false (sym c.is_block_end.ensures ∙ c.if-is_block_end.false) in
+    let told = c.in-Shown.ensures.turn (got q) (stands q) in
+    let p = c.move_head_before.ensures.settles (got q) (left_at q told) in
+    left_done q told p
+
+pub finish-requires-in-Break-clause-inside : goal.finish-requires-in-Break-clause-inside
+finish-requires-in-Break-clause-inside g c =
+    let q = goes_to c.turns.invariant.runs c.requires.consumer.capacity c.args.consumer.now.stands.0 c.args.self.now.lawful.least c.turns.invariant.below c.if-messages-limit.false (sym c.is_block_end.ensures ∙ c.if-is_block_end.false) in
+    let told = c.in-Shown.ensures.turn (got q) (stands q) in
+    shown_inside q told
+
+pub move_head-requires-clause-inside : goal.move_head-requires-clause-inside
+move_head-requires-clause-inside g c =
+    let q = goes_to c.turns.invariant.runs c.requires.consumer.capacity c.args.consumer.now.stands.0 c.args.self.now.lawful.least c.turns.invariant.below c.if-messages-limit.false (sym c.is_block_end.ensures ∙ c.if-is_block_end.false) in
+    let told = c.in-Shown.ensures.turn (got q) (stands q) in
+    shown_inside q told

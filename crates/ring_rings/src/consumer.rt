@@ -1,0 +1,7 @@
+//! What the consumer does.
+pub(crate) mod find;
+pub(crate) mod heartbeat;
+pub(crate) mod load;
+pub(crate) mod pass;
+pub(crate) mod read;
+pub(crate) mod turn;

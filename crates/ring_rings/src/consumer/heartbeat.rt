@@ -1,0 +1,20 @@
+//! The heartbeat of a consumer.
+ghost use Rattle.std.specs.Prelude.{◌≡◌};
+ghost use Rattle.ring_table.specs.Seats.{IsSameSeat};
+ghost use Rattle.ring_table.specs.Views.{beaten, with_consumer};
+ghost use Rattle.ring_rings.specs.Seats.{IsConsumerOf, consumer_view};
+
+use crate::ring::{Consumer, Ring};
+use ring_table::store_heartbeat;
+
+impl<K> Ring<K> {
+    /// Stores the consumer's heartbeat, which producers load. It is 0 until the first is stored.
+    pub fn set_heartbeat(&self, consumer: &mut Consumer, value: u64)
+        requires { IsConsumerOf self.now consumer.old }
+        ensures consumer { IsConsumerOf self.now consumer.new }
+        ensures seat { IsSameSeat consumer.old.seat consumer.new.seat }
+        ensures view { consumer_view consumer.new ≡ with_consumer (beaten value (consumer_view consumer.old).consumer) (consumer_view consumer.old) }
+    {
+        store_heartbeat(&self.table.shared, &mut consumer.seat, self.capacity, value);
+    }
+}

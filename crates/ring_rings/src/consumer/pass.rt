@@ -1,0 +1,87 @@
+//! How a read gives the producers room: it clears what it has passed, and then stores the head.
+ghost use Rattle.std.specs.Prelude.{◌≡◌, ◌≢◌, ℕ, ◌+◌, ◌%◌, ◌≤◌, List, true};
+ghost use Rattle.ring_layout.specs.Places.{max_position};
+ghost use Rattle.ring_table.specs.declared.claim.PlacedMessage.{PlacedMessage};
+ghost use Rattle.ring_table.specs.Seats.{IsSameSeat, IsSeatOf};
+ghost use Rattle.ring_table.specs.Views.{cleared_to, with_consumer};
+ghost use Rattle.ring_rings.specs.Seats.{IsConsumerOf, capacity_of, consumer_view, head_of};
+ghost use Rattle.ring_rings.specs.ReadingSteps.{IsAt, IsLeft, Settles};
+
+use crate::ring::{Consumer, Ring};
+use ring_layout::word_index;
+use ring_table::{RingSeat, SharedRing, clear_word, store_head, store_head_before};
+
+/// Sets the words from the head up to the position `to`, which the read has passed, to 0.
+fn clear_up(ring: &SharedRing, seat: &mut RingSeat, capacity: u32, head: u64, to: u64)
+    requires seat { IsSeatOf ring.now.table_id ring.now.key capacity seat.old }
+    requires consumes { seat.old.me.0.consumes ≡ true }
+    requires cleared { seat.old.me.0.consumer.cleared ≡ head }
+    requires passed { (head ≤ to) × (to ≤ seat.old.me.0.consumer.scan) }
+    requires whole { (head % 8 ≡ 0) × (to % 8 ≡ 0) }
+    requires inside { head % capacity + to ≤ head + capacity }
+    ensures seat { IsSameSeat seat.old seat.new }
+    ensures view { seat.new.me.0 ≡ with_consumer (cleared_to to seat.old.me.0.consumer) seat.old.me.0 }
+{
+    // A read does not cross the end of the buffer, so the words lie side by side.
+    let first = word_index(capacity, head);
+    let count = (to - head) / 8;
+    // Four in a turn, since the compiler keeps a turn for each.
+    for k in 0..count / 4 {
+        let (at, target) = (head + 32 * k, first + 4 * k as usize);
+        clear_word(ring, seat, capacity, at, target);
+        clear_word(ring, seat, capacity, at + 8, target + 1);
+        clear_word(ring, seat, capacity, at + 16, target + 2);
+        clear_word(ring, seat, capacity, at + 24, target + 3);
+    }
+    for j in count / 4 * 4..count {
+        clear_word(ring, seat, capacity, head + 8 * j, first + j as usize);
+    }
+}
+
+impl<K> Ring<K> {
+    /// Clears all that the read has passed, up to `scan`, and stores the head there. Where the head stands there, does nothing.
+    pub(super) fn move_head(&self, consumer: &mut Consumer, scan: u64)
+        requires consumer { IsConsumerOf self.now consumer.old }
+        requires from { (head_of consumer.old ≤ scan) × (scan % 8 ≡ 0) × (scan ≤ max_position) }
+        requires at { (got : List PlacedMessage) × IsAt scan got (consumer_view consumer.old) }
+        requires inside { head_of consumer.old % capacity_of self.now + scan ≤ head_of consumer.old + capacity_of self.now }
+        ensures consumer { IsConsumerOf self.now consumer.new }
+        ensures seat { IsSameSeat consumer.old.seat consumer.new.seat }
+        ensures settles { (got : List PlacedMessage) → IsAt scan got (consumer_view consumer.old) → Settles scan got (consumer_view consumer.old) (consumer_view consumer.new) }
+    {
+        if consumer.head < scan {
+            clear_up(
+                &self.table.shared,
+                &mut consumer.seat,
+                self.capacity,
+                consumer.head,
+                scan,
+            );
+            store_head(&self.table.shared, &mut consumer.seat, self.capacity, scan);
+            consumer.head = scan;
+        }
+    }
+
+    /// The same up to the place of the message that the read got last, which stays in the ring.
+    pub(super) fn move_head_before(&self, consumer: &mut Consumer, place: u64)
+        requires consumer { IsConsumerOf self.now consumer.old }
+        requires from { (head_of consumer.old ≤ place) × (place % 8 ≡ 0) × (place ≤ max_position) }
+        requires left { (got : List PlacedMessage) × IsLeft place got (consumer_view consumer.old) }
+        requires inside { head_of consumer.old % capacity_of self.now + place ≤ head_of consumer.old + capacity_of self.now }
+        ensures consumer { IsConsumerOf self.now consumer.new }
+        ensures seat { IsSameSeat consumer.old.seat consumer.new.seat }
+        ensures settles { (got : List PlacedMessage) → IsLeft place got (consumer_view consumer.old) → Settles place got (consumer_view consumer.old) (consumer_view consumer.new) }
+    {
+        if consumer.head < place {
+            clear_up(
+                &self.table.shared,
+                &mut consumer.seat,
+                self.capacity,
+                consumer.head,
+                place,
+            );
+            store_head_before(&self.table.shared, &mut consumer.seat, self.capacity, place);
+            consumer.head = place;
+        }
+    }
+}

@@ -1,0 +1,182 @@
+//! Reads of a shared ring.
+
+ghost use Rattle.std.specs.Prelude.{◌≡◌, ◌≢◌, ℕ, ◌+◌, ◌%◌, ◌<◌, ◌≤◌, ◌&&◌, ◌==◌, nat_lt, List};
+ghost use Rattle.ring_layout.specs.Places.{max_position};
+ghost use Rattle.ring_table.specs.declared.claim.PlacedMessage.{PlacedMessage};
+ghost use Rattle.ring_table.specs.Seats.{IsSameSeat};
+ghost use Rattle.ring_words.specs.Read.{stop_of};
+ghost use Rattle.ring_rings.specs.Seats.{IsConsumerOf, capacity_of, consumer_view, head_of};
+ghost use Rattle.ring_words.specs.Across.{ReadsAcross};
+ghost use Rattle.ring_rings.specs.Reading.{Controls, IsBlocked, Reads, ReadsTo};
+ghost use Rattle.ring_rings.specs.ReadingSteps.{IsAt, Settles, heeded};
+
+use crate::ring::{Consumer, Ring};
+use ring_layout::byte_index;
+use ring_words::{Action, Handler, ReadEnd, Stop};
+use turn::Turn;
+
+impl<K> Ring<K> {
+    /// Tests whether a read came from `start` to the end of the buffer.
+    fn is_block_end(&self, start: u64, scan: u64) -> bool
+        ensures { result ≡ (nat_lt start scan && scan % capacity_of self.now == 0) }
+    {
+        start < scan && byte_index(self.capacity, scan) == 0
+    }
+
+    /// Ends a read that began at the head `start` and has come to `scan`: clears what it passed, and stores the head.
+    fn finish(
+        &self,
+        consumer: &mut Consumer,
+        start: u64,
+        scan: u64,
+        messages: u32,
+        stopped: Stop,
+    ) -> ReadEnd
+        requires consumer { IsConsumerOf self.now consumer.old }
+        requires from { (start ≤ head_of consumer.old) × (head_of consumer.old ≤ scan) × (scan % 8 ≡ 0) × (scan ≤ max_position) }
+        requires at { (got : List PlacedMessage) × IsAt scan got (consumer_view consumer.old) }
+        requires inside { head_of consumer.old % capacity_of self.now + scan ≤ head_of consumer.old + capacity_of self.now }
+        ensures consumer { IsConsumerOf self.now consumer.new }
+        ensures seat { IsSameSeat consumer.old.seat consumer.new.seat }
+        ensures settles { (got : List PlacedMessage) → IsAt scan got (consumer_view consumer.old) → Settles scan got (consumer_view consumer.old) (consumer_view consumer.new) }
+        ensures messages { result.messages ≡ messages }
+        ensures bytes { start + result.bytes ≡ scan }
+        ensures stopped { result.stopped ≡ stopped }
+    {
+        self.move_head(consumer, scan);
+        ReadEnd {
+            messages,
+            bytes: scan - start,
+            stopped,
+        }
+    }
+
+    /// Reads at most `limit` messages. It heeds the handler's actions, or takes each as `Continue`.
+    fn run<H: Handler>(
+        &self,
+        consumer: &mut Consumer,
+        limit: u32,
+        heeds: bool,
+        handler: &mut H,
+    ) -> ReadEnd
+        requires consumer { IsConsumerOf self.now consumer.old }
+        requires ready { H.ready handler.old }
+        ensures consumer { IsConsumerOf self.now consumer.new }
+        ensures ready { H.ready handler.new }
+        ensures seat { IsSameSeat consumer.old.seat consumer.new.seat }
+        ensures controls { Controls (heeded heeds H.step) limit (consumer_view consumer.old) (consumer_view consumer.new) handler.old handler.new result }
+        ensures within { result.messages ≤ limit }
+        ensures bytes { head_of consumer.old + result.bytes ≡ head_of consumer.new }
+        ensures blocked { result.stopped ≡ Stop.Unpublished → IsBlocked (consumer_view consumer.old) (consumer_view consumer.new) }
+    {
+        let start = consumer.head;
+        let mut scan = start;
+        let mut messages = 0;
+        'turns: loop {
+            if messages == limit {
+                return self.finish(consumer, start, scan, messages, Stop::Limit);
+            }
+            if self.is_block_end(start, scan) {
+                return self.finish(consumer, start, scan, messages, Stop::Block);
+            }
+            match self.turn(consumer, scan, heeds, handler) {
+                Turn::Blocked => {
+                    return self.finish(consumer, start, scan, messages, Stop::Unpublished);
+                }
+                Turn::Passed(span) => scan += span,
+                Turn::Shown(span, action) => match action {
+                    Action::Abort => {
+                        self.move_head_before(consumer, scan);
+                        return self.finish(consumer, start, scan, messages, Stop::Action);
+                    }
+                    Action::Break => {
+                        scan += span;
+                        messages += 1;
+                        return self.finish(consumer, start, scan, messages, Stop::Action);
+                    }
+                    Action::Commit => {
+                        scan += span;
+                        messages += 1;
+                        self.move_head(consumer, scan);
+                    }
+                    Action::Continue => {
+                        scan += span;
+                        messages += 1;
+                    }
+                },
+            }
+        }
+    }
+
+    /// Reads at most `limit` messages, and takes every action of the handler as `Continue`. The handler is shown each
+    /// message in a copy. No memory is taken.
+    ///
+    /// It stops with `Limit` where `limit` messages were read, else with `Block` where it came to the end of the buffer, else
+    /// with `Unpublished` where no settled record lay at the head. What it passes is set to 0, and then the head moves.
+    pub fn read<H: Handler>(&self, consumer: &mut Consumer, limit: u32, handler: &mut H) -> ReadEnd
+        requires consumer { IsConsumerOf self.now consumer.old }
+        requires ready { H.ready handler.old }
+        ensures consumer { IsConsumerOf self.now consumer.new }
+        ensures ready { H.ready handler.new }
+        ensures seat { IsSameSeat consumer.old.seat consumer.new.seat }
+        ensures reads { Reads H.step limit (consumer_view consumer.old) (consumer_view consumer.new) handler.old handler.new result.messages }
+        ensures within { result.messages ≤ limit }
+        ensures bytes { head_of consumer.old + result.bytes ≡ head_of consumer.new }
+        ensures stopped { result.stopped ≡ stop_of (capacity_of self.now) limit result.messages (head_of consumer.new) result.bytes }
+        ensures blocked { result.stopped ≡ Stop.Unpublished → IsBlocked (consumer_view consumer.old) (consumer_view consumer.new) }
+    {
+        self.run(consumer, limit, false, handler)
+    }
+
+    /// Reads as `read` does, and goes on behind the end of the buffer: where the first read stops with `Block`, a second one
+    /// follows, and no third. So `Unpublished` tells that no settled record lay at the head, and it stops with `Block` only
+    /// where it went from one end of the buffer to the next.
+    pub fn read_across<H: Handler>(
+        &self,
+        consumer: &mut Consumer,
+        limit: u32,
+        handler: &mut H,
+    ) -> ReadEnd
+        requires consumer { IsConsumerOf self.now consumer.old }
+        requires ready { H.ready handler.old }
+        ensures consumer { IsConsumerOf self.now consumer.new }
+        ensures ready { H.ready handler.new }
+        ensures seat { IsSameSeat consumer.old.seat consumer.new.seat }
+        ensures reads { ReadsAcross (ReadsTo H.step) limit (consumer_view consumer.old) (consumer_view consumer.new) handler.old handler.new result }
+        ensures within { result.messages ≤ limit }
+        ensures bytes { head_of consumer.old + result.bytes ≡ head_of consumer.new }
+    {
+        let first = self.read(consumer, limit, handler);
+        if first.stopped != Stop::Block {
+            return first;
+        }
+        let second = self.read(consumer, limit - first.messages, handler);
+        ReadEnd {
+            messages: first.messages + second.messages,
+            bytes: first.bytes + second.bytes,
+            stopped: second.stopped,
+        }
+    }
+
+    /// Reads as `read` does, and heeds the handler's actions: `Abort` leaves the message and stops, `Break` takes it and
+    /// stops, both with `Action`; `Commit` clears what was passed and moves the head at once, and goes on; `Continue` goes
+    /// on. Padding and aborted records that were passed before a message is left stay passed.
+    pub fn controlled_read<H: Handler>(
+        &self,
+        consumer: &mut Consumer,
+        limit: u32,
+        handler: &mut H,
+    ) -> ReadEnd
+        requires consumer { IsConsumerOf self.now consumer.old }
+        requires ready { H.ready handler.old }
+        ensures consumer { IsConsumerOf self.now consumer.new }
+        ensures ready { H.ready handler.new }
+        ensures seat { IsSameSeat consumer.old.seat consumer.new.seat }
+        ensures controls { Controls H.step limit (consumer_view consumer.old) (consumer_view consumer.new) handler.old handler.new result }
+        ensures within { result.messages ≤ limit }
+        ensures bytes { head_of consumer.old + result.bytes ≡ head_of consumer.new }
+        ensures blocked { result.stopped ≡ Stop.Unpublished → IsBlocked (consumer_view consumer.old) (consumer_view consumer.new) }
+    {
+        self.run(consumer, limit, true, handler)
+    }
+}

@@ -1,0 +1,106 @@
+//! Rings as they are made, with the first producer and the consumer.
+ghost use Rattle.std.specs.Prelude.{◌≡◌, ◌/◌, ◌%◌, ◌≤◌, IfOk};
+ghost use Rattle.ring_layout.specs.Places.{IsCapacity, max_position};
+ghost use Rattle.ring_words.specs.Fresh.{make_refusal_of, IsMadeUnless};
+ghost use Rattle.ring_rings.specs.Seats.{capacity_of, consumer_view, start_of, view_of, IsConsumerOf, IsProducerOf};
+ghost use Rattle.ring_rings.specs.Opening.{first_consumer, first_producer};
+
+use crate::ring::{Consumer, Producer, Ring};
+use ring_layout::ring_buffer_descriptor::{MAX_POSITION, TRAILER_WORDS};
+use ring_layout::{is_capacity, max_message};
+use ring_table::{Key, open, split_consumer};
+use ring_words::MakeFault;
+use std::alloc::{AllocError, Global};
+use std::marker::PhantomData;
+
+/// The shares of a ring.
+pub(crate) const ALL_SHARES: u32 = 1 << 16;
+
+impl<K> Ring<K> {
+    /// Makes an empty ring that starts at position 0, with a producer that holds all shares. The refusals are those of
+    /// `new_at`.
+    pub fn new(alloc: Global, capacity: u32) -> Result<(Self, Producer, Consumer), MakeFault>
+        ensures refused { IsMadeUnless (make_refusal_of capacity 0) result }
+        ensures ring { IfOk result (λ made. (capacity_of made.0 ≡ capacity) × (start_of made.0 ≡ 0)) }
+        ensures producer { IfOk result (λ made. IsProducerOf made.0 made.1 × (view_of made.1 ≡ first_producer capacity 0)) }
+        ensures consumer { IfOk result (λ made. IsConsumerOf made.0 made.2 × (consumer_view made.2 ≡ first_consumer capacity 0)) }
+    {
+        Self::new_at(alloc, capacity, 0)
+    }
+
+    /// Makes an empty ring that starts at a multiple of its capacity, in bytes, with a producer that holds all shares. It
+    /// refuses with `BadCapacity` a capacity that is no power of two from 128 to 2^24, then with `BadStart` a start that
+    /// is no multiple of the capacity or above 2^62, and then with `OutOfMemory`.
+    pub fn new_at(
+        alloc: Global,
+        capacity: u32,
+        start: u64,
+    ) -> Result<(Self, Producer, Consumer), MakeFault>
+        ensures refused { IsMadeUnless (make_refusal_of capacity start) result }
+        ensures ring { IfOk result (λ made. (capacity_of made.0 ≡ capacity) × (start_of made.0 ≡ start)) }
+        ensures producer { IfOk result (λ made. IsProducerOf made.0 made.1 × (view_of made.1 ≡ first_producer capacity start)) }
+        ensures consumer { IfOk result (λ made. IsConsumerOf made.0 made.2 × (consumer_view made.2 ≡ first_consumer capacity start)) }
+    {
+        if !is_capacity(capacity) {
+            return Err(MakeFault::BadCapacity);
+        }
+        if start % u64::from(capacity) != 0 || start > MAX_POSITION {
+            return Err(MakeFault::BadStart);
+        }
+        Self::make(alloc, capacity, start).map_err(|_| MakeFault::OutOfMemory)
+    }
+
+    /// Makes a ring of a lawful capacity at a lawful start.
+    fn make(
+        alloc: Global,
+        capacity: u32,
+        start: u64,
+    ) -> Result<(Self, Producer, Consumer), AllocError>
+        requires capacity { IsCapacity capacity }
+        requires start { (start % capacity ≡ 0) × (start ≤ max_position) }
+        ensures ring { IfOk result (λ made. (capacity_of made.0 ≡ capacity) × (start_of made.0 ≡ start)) }
+        ensures producer { IfOk result (λ made. IsProducerOf made.0 made.1 × (view_of made.1 ≡ first_producer capacity start)) }
+        ensures consumer { IfOk result (λ made. IsConsumerOf made.0 made.2 × (consumer_view made.2 ≡ first_consumer capacity start)) }
+    {
+        let records = capacity as usize / 8;
+        let room = vec![in alloc; 0u64; records + TRAILER_WORDS]?;
+        let scratch = vec![in alloc; 0u8; records]?;
+        let key = Key {
+            capacity: u64::from(capacity),
+            start,
+        };
+        let (table, mut seat) = open(alloc, key)?;
+        let consumer = Consumer {
+            seat: split_consumer(&table.shared, &mut seat),
+            head: start,
+            scratch,
+        };
+        let producer = Producer {
+            seat,
+            shares: ALL_SHARES,
+            open_claims: 0,
+            own_tail: start,
+        };
+        let ring = Ring {
+            table,
+            room,
+            capacity,
+            kind: PhantomData,
+        };
+        Ok((ring, producer, consumer))
+    }
+
+    /// The most bytes of a message: an eighth of the capacity. A longer one is refused with `TooLong`.
+    pub fn max_message(&self) -> u32
+        ensures { result ≡ capacity_of self.now / 8 }
+    {
+        max_message(self.capacity)
+    }
+
+    /// The bytes of the buffer.
+    pub fn capacity(&self) -> u32
+        ensures { result ≡ capacity_of self.now }
+    {
+        self.capacity
+    }
+}

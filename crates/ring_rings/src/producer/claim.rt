@@ -1,0 +1,71 @@
+//! One try of a claim, by the steps that it takes.
+ghost use Rattle.std.specs.Prelude.{◌≡◌, ◌%◌, ◌<◌, ◌≤◌, [], ◌∷◌, MatchResult, OnErr};
+ghost use Rattle.ring_layout.specs.Layout.{tail_index};
+ghost use Rattle.ring_layout.specs.Places.{max_position};
+ghost use Rattle.ring_table.specs.Seats.{IsSameSeat, IsSeatOf};
+ghost use Rattle.ring_rings.specs.Claiming.{RefusesAlone, RefusesTry};
+ghost use Rattle.ring_rings.specs.Making.{Makes};
+
+use crate::fault::TryFault;
+use crate::producer::admission::{Admission, admit, test_request};
+use crate::producer::headers::store_headers;
+use crate::producer::room::{Shortage, find_room, find_room_alone};
+use ring_table::{RingSeat, SharedRing, Wanted, load_tail, move_tail, store_tail};
+use ring_words::ClaimFault;
+
+/// The claim of the only producer, whose own tail is the ring's.
+#[inline(always)]
+pub(crate) fn claim_alone(
+    words: &SharedRing,
+    seat: &mut RingSeat,
+    capacity: u32,
+    tail: u64,
+    wanted: Wanted,
+) -> Result<Admission, ClaimFault>
+    requires seat { IsSeatOf words.now.table_id words.now.key capacity seat.old }
+    requires sole { seat.old.me.0.producer.shares ≡ 65536 }
+    requires tail { (seat.old.me.0.producer.seen_tail ≡ tail) × (tail % 8 ≡ 0) × (tail ≤ max_position) }
+    ensures seat { IsSameSeat seat.old seat.new }
+    ensures told { MatchResult result (λ a. Makes capacity tail wanted.type_id wanted.len [] seat.old.me.0 a seat.new.me.0) (λ fault. RefusesAlone capacity wanted.type_id wanted.len seat.old.me.0 fault seat.new.me.0) }
+{
+    test_request(capacity, wanted)?;
+    let admission = admit(capacity, tail, wanted)?;
+    if let Err(head) = find_room_alone(words, seat, capacity, admission) {
+        return Err(ClaimFault::InsufficientCapacity { tail, head });
+    }
+    store_tail(words, seat, capacity, admission.end, wanted);
+    store_headers(words, seat, capacity, admission, wanted);
+    Ok(admission)
+}
+
+/// One try of a claim, by one of many producers.
+#[inline(always)]
+pub(crate) fn try_claim(
+    words: &SharedRing,
+    seat: &mut RingSeat,
+    capacity: u32,
+    wanted: Wanted,
+) -> Result<Admission, TryFault>
+    requires seat { IsSeatOf words.now.table_id words.now.key capacity seat.old }
+    requires share { 0 < seat.old.me.0.producer.shares }
+    ensures seat { IsSameSeat seat.old seat.new }
+    ensures told { MatchResult result (λ a. Makes capacity a.tail wanted.type_id wanted.len ((tail_index capacity, a.tail) ∷ []) seat.old.me.0 a seat.new.me.0 × (seat.old.me.0.producer.seen_tail ≤ a.tail)) (λ fault. RefusesTry capacity wanted.type_id wanted.len seat.old.me.0 fault seat.new.me.0) }
+    ensures own { OnErr result (seat.old.me.0.producer.shares ≡ 65536 → seat.new.me.0.producer.seen_tail ≡ seat.old.me.0.producer.seen_tail) }
+{
+    test_request(capacity, wanted)?;
+    let tail = load_tail(words, seat, capacity);
+    let admission = admit(capacity, tail, wanted)?;
+    match find_room(words, seat, capacity, admission) {
+        Ok(()) => {}
+        Err(Shortage::Full { head }) => {
+            return Err(TryFault::Refused(ClaimFault::InsufficientCapacity { tail, head }));
+        }
+        Err(Shortage::Passed { seen }) => return Err(TryFault::Contended { tail, seen }),
+    }
+    let seen = move_tail(words, seat, capacity, tail, admission.end, wanted);
+    if seen != tail {
+        return Err(TryFault::Contended { tail, seen });
+    }
+    store_headers(words, seat, capacity, admission, wanted);
+    Ok(admission)
+}

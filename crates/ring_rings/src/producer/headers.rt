@@ -1,0 +1,48 @@
+//! The headers of a claim that was just made.
+ghost use Rattle.std.specs.Prelude.{◌≡◌, ℕ, ◌+◌, ◌≤◌, List, [], ◌∷◌, ◌++◌, length};
+ghost use Rattle.ring_layout.specs.History.{IsMessage};
+ghost use Rattle.ring_table.specs.declared.claim.StagedClaim.{StagedClaim};
+ghost use Rattle.ring_table.specs.declared.claim.Stage.TheVariants.{Padded};
+ghost use Rattle.ring_table.specs.Changes.{blank, opened, staged};
+ghost use Rattle.ring_table.specs.Seats.{IsSameSeat, IsSeatOf};
+ghost use Rattle.ring_table.specs.Views.{with_claims};
+ghost use Rattle.ring_rings.specs.Making.{HasNewest, IsNewest};
+
+use crate::producer::admission::Admission;
+use ring_table::{RingSeat, SharedRing, Wanted, store_claimed_header, store_padding_header};
+
+/// Stores the header of the padding before the newest claim, if there is any.
+fn store_padding(words: &SharedRing, seat: &mut RingSeat, capacity: u32, tail: u64, place: u64)
+    requires seat { IsSeatOf words.now.table_id words.now.key capacity seat.old }
+    requires near { (tail ≤ place) × (place ≤ tail + capacity) }
+    requires newest { (len : ℕ) × HasNewest tail place len seat.old.me.0 }
+    ensures seat { IsSameSeat seat.old seat.new }
+    ensures padded { (len : ℕ) (cs : List StagedClaim) (c : StagedClaim) → IsNewest tail place len cs c seat.old.me.0 → seat.new.me.0 ≡ with_claims (cs ++ staged Padded c ∷ []) seat.old.me.0 }
+{
+    if place > tail {
+        store_padding_header(words, seat, capacity, tail, place);
+    }
+}
+
+/// Stores the headers of the newest claim, which is open from then on.
+pub(crate) fn store_headers(
+    words: &SharedRing,
+    seat: &mut RingSeat,
+    capacity: u32,
+    admission: Admission,
+    wanted: Wanted,
+)
+    requires seat { IsSeatOf words.now.table_id words.now.key capacity seat.old }
+    requires message { IsMessage capacity (blank wanted.type_id wanted.len) }
+    requires near { (admission.tail ≤ admission.place) × (admission.place ≤ admission.tail + capacity) }
+    requires newest { HasNewest admission.tail admission.place wanted.len seat.old.me.0 }
+    ensures seat { IsSameSeat seat.old seat.new }
+    ensures opened { (cs : List StagedClaim) (c : StagedClaim) → IsNewest admission.tail admission.place wanted.len cs c seat.old.me.0 → seat.new.me.0 ≡ with_claims (cs ++ opened wanted.type_id wanted.len c ∷ []) seat.old.me.0 }
+
+    // The places rise, so that there are not too many claims.
+    ensures few { (cs : List StagedClaim) (c : StagedClaim) → IsNewest admission.tail admission.place wanted.len cs c seat.old.me.0 → length cs ≤ admission.place }
+{
+    let Admission { tail, place, .. } = admission;
+    store_padding(words, seat, capacity, tail, place);
+    store_claimed_header(words, seat, capacity, place, wanted);
+}

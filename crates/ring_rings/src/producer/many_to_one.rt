@@ -1,0 +1,131 @@
+//! The calls of a ring with any number of producers.
+ghost use Rattle.std.specs.Prelude.{◌≡◌, ◌≢◌, ◌↔◌, length, IfErr, IfOk, IsTrue, OnErr, OnOk, is_err};
+ghost use Rattle.ring_table.specs.Staged.{AreRising};
+ghost use Rattle.ring_table.specs.Views.{producer_alone, without_share};
+ghost use Rattle.ring_words.specs.Open.{ClaimAt};
+ghost use Rattle.ring_rings.specs.Claiming.{Claims, RefusesTry, Writes};
+ghost use Rattle.ring_rings.specs.Joining.{Joins};
+ghost use Rattle.ring_rings.specs.Seats.{capacity_of, claims_of, shares_of, view_of, IsOpenClaimOf, IsProducerOf};
+
+use crate::claim::Claim;
+use crate::fault::{NoShares, TryFault};
+use crate::producer::body::store_message;
+use crate::producer::claim::try_claim;
+use crate::ring::{ManyToOne, Producer, Ring};
+use ring_table::{Wanted, join_producer, load_tail, split_producer};
+
+impl Ring<ManyToOne> {
+    /// Makes one try to claim room for a message of `len` bytes, which are 0 until they are `put`. Several claims may be
+    /// open at once.
+    ///
+    /// It refuses, in this order, with `BadType` a type id below 1, with `TooLong` a body of more than an eighth of the
+    /// capacity, with `PositionLimit` a record that would end above 2^62, with `InsufficientCapacity` one that does not
+    /// fit behind the head, and with `Contended` where another producer has moved the tail. Tail and head were then
+    /// loaded in this call. It never waits.
+    pub fn claim_once(
+        &self,
+        producer: &mut Producer,
+        type_id: i32,
+        len: usize,
+    ) -> Result<Claim, TryFault>
+        requires producer { IsProducerOf self.now producer.old }
+        ensures producer { IsProducerOf self.now producer.new }
+        ensures claimed { IfOk result (λ t. Claims (capacity_of self.now) type_id len (view_of producer.old) t (view_of producer.new)) }
+        ensures refused { IfErr result (λ fault. RefusesTry (capacity_of self.now) type_id len (view_of producer.old) fault (view_of producer.new)) }
+        ensures is_open { IfOk result (IsOpenClaimOf self.now producer.new) }
+        ensures claims { (t : ClaimAt) → IsOpenClaimOf self.now producer.old t → IsOpenClaimOf self.now producer.new t }
+        ensures apart { IfOk result (λ new. (t : ClaimAt) → IsOpenClaimOf self.now producer.old t → t.place ≢ new.place) }
+    {
+        let wanted = Wanted { type_id, len };
+        let admission = try_claim(
+            &self.table.shared,
+            &mut producer.seat,
+            self.capacity,
+            wanted,
+        )?;
+        producer.own_tail = admission.end;
+        producer.open_claims += 1;
+        Ok(Claim::new(self.capacity, admission.place, wanted))
+    }
+
+    /// Makes one try to write a message: it is claimed, stored and committed. The refusals are those of `claim_once`.
+    #[inline(always)]
+    pub fn write_once(
+        &self,
+        producer: &mut Producer,
+        type_id: i32,
+        body: &[u8],
+    ) -> Result<(), TryFault>
+        requires producer { IsProducerOf self.now producer.old }
+        ensures producer { IsProducerOf self.now producer.new }
+        ensures written { OnOk result (Writes (capacity_of self.now) type_id body.now (view_of producer.old) (view_of producer.new)) }
+        ensures refused { IfErr result (λ fault. RefusesTry (capacity_of self.now) type_id (length body.now) (view_of producer.old) fault (view_of producer.new)) }
+        ensures claims { (t : ClaimAt) → IsOpenClaimOf self.now producer.old t → IsOpenClaimOf self.now producer.new t }
+    {
+        let wanted = Wanted {
+            type_id,
+            len: body.len(),
+        };
+        let words = &self.table.shared;
+        let admission = try_claim(words, &mut producer.seat, self.capacity, wanted)?;
+        store_message(
+            words,
+            &mut producer.seat,
+            self.capacity,
+            admission.place,
+            wanted,
+            body,
+        );
+        producer.own_tail = admission.end;
+        Ok(())
+    }
+
+    /// Makes another producer with one share of this one's, without claims, draws or heartbeats read. `NoShares` where
+    /// this one holds a single share, and then it is as before.
+    pub fn split(&self, producer: &mut Producer) -> Result<Producer, NoShares>
+        requires { IsProducerOf self.now producer.old }
+        ensures producer { IsProducerOf self.now producer.new }
+        ensures refused { IsTrue (is_err result) ↔ (shares_of producer.old ≡ 1) }
+        ensures same { OnErr result (producer.new ≡ producer.old) }
+        ensures left { OnOk result (view_of producer.new ≡ without_share (view_of producer.old)) }
+        ensures right { IfOk result (λ other. IsProducerOf self.now other × (view_of other ≡ producer_alone (view_of producer.old))) }
+        ensures claims { (t : ClaimAt) → IsOpenClaimOf self.now producer.old t → IsOpenClaimOf self.now producer.new t }
+    {
+        if producer.shares == 1 {
+            return Err(NoShares);
+        }
+        let seat = split_producer(&self.table.shared, &mut producer.seat);
+        producer.shares -= 1;
+        Ok(Producer {
+            seat,
+            shares: 1,
+            open_claims: 0,
+            own_tail: producer.own_tail,
+        })
+    }
+
+    /// Takes another producer in, with its shares and its claims. Afterwards the tail is loaded.
+    ///
+    /// Claims that are open stay so, those of either; this producer settles them all from then on.
+    pub fn join(&self, producer: &mut Producer, other: Producer)
+        requires producer { IsProducerOf self.now producer.old }
+        requires other { IsProducerOf self.now other }
+        ensures producer { IsProducerOf self.now producer.new }
+        ensures joined { Joins (capacity_of self.now) (view_of producer.old) (view_of other) (view_of producer.new) }
+        ensures rising { AreRising (claims_of producer.new) }
+        ensures claims { (t : ClaimAt) → IsOpenClaimOf self.now producer.old t → IsOpenClaimOf self.now producer.new t }
+        ensures others { (t : ClaimAt) → IsOpenClaimOf self.now other t → IsOpenClaimOf self.now producer.new t }
+        ensures apart { (t u : ClaimAt) → IsOpenClaimOf self.now producer.old t → IsOpenClaimOf self.now other u → t.place ≢ u.place }
+    {
+        let Producer {
+            seat,
+            shares,
+            open_claims,
+            own_tail: _,
+        } = other;
+        join_producer(&self.table.shared, &mut producer.seat, seat);
+        producer.own_tail = load_tail(&self.table.shared, &mut producer.seat, self.capacity);
+        producer.shares += shares;
+        producer.open_claims += open_claims;
+    }
+}

@@ -1,0 +1,81 @@
+//! The calls of a ring with one producer.
+ghost use Rattle.std.specs.Prelude.{◌≡◌, ◌≢◌, length, IfErr, IfOk, OnOk};
+ghost use Rattle.ring_words.specs.Open.{ClaimAt};
+ghost use Rattle.ring_rings.specs.Claiming.{ClaimsAlone, RefusesAlone, WritesAlone};
+ghost use Rattle.ring_rings.specs.Seats.{capacity_of, shares_of, view_of, IsOpenClaimOf, IsProducerOf};
+
+use crate::claim::Claim;
+use crate::producer::body::store_message;
+use crate::producer::claim::claim_alone;
+use crate::ring::{OneToOne, Producer, Ring};
+use ring_table::Wanted;
+use ring_words::ClaimFault;
+
+impl Ring<OneToOne> {
+    /// Claims room for a message of `len` bytes, which are 0 until they are `put`. Several claims may be open at once.
+    ///
+    /// It refuses, in this order, with `BadType` a type id below 1, with `TooLong` a body of more than an eighth of the
+    /// capacity, with `PositionLimit` a record that would end above 2^62, and with `InsufficientCapacity` one that does
+    /// not fit behind the head, which was then loaded in this call. It never waits.
+    pub fn claim(
+        &self,
+        producer: &mut Producer,
+        type_id: i32,
+        len: usize,
+    ) -> Result<Claim, ClaimFault>
+        requires producer { IsProducerOf self.now producer.old }
+        requires sole { shares_of producer.old ≡ 65536 }
+        ensures producer { IsProducerOf self.now producer.new }
+        ensures claimed { IfOk result (λ t. ClaimsAlone (capacity_of self.now) type_id len (view_of producer.old) t (view_of producer.new)) }
+        ensures refused { IfErr result (λ fault. RefusesAlone (capacity_of self.now) type_id len (view_of producer.old) fault (view_of producer.new)) }
+        ensures is_open { IfOk result (IsOpenClaimOf self.now producer.new) }
+        ensures claims { (t : ClaimAt) → IsOpenClaimOf self.now producer.old t → IsOpenClaimOf self.now producer.new t }
+        ensures apart { IfOk result (λ new. (t : ClaimAt) → IsOpenClaimOf self.now producer.old t → t.place ≢ new.place) }
+    {
+        let wanted = Wanted { type_id, len };
+        let tail = producer.own_tail;
+        let admission = claim_alone(
+            &self.table.shared,
+            &mut producer.seat,
+            self.capacity,
+            tail,
+            wanted,
+        )?;
+        producer.own_tail = admission.end;
+        producer.open_claims += 1;
+        Ok(Claim::new(self.capacity, admission.place, wanted))
+    }
+
+    /// Writes a message: it is claimed, stored and committed. The refusals are those of `claim`.
+    #[inline(always)]
+    pub fn write(
+        &self,
+        producer: &mut Producer,
+        type_id: i32,
+        body: &[u8],
+    ) -> Result<(), ClaimFault>
+        requires producer { IsProducerOf self.now producer.old }
+        requires sole { shares_of producer.old ≡ 65536 }
+        ensures producer { IsProducerOf self.now producer.new }
+        ensures written { OnOk result (WritesAlone (capacity_of self.now) type_id body.now (view_of producer.old) (view_of producer.new)) }
+        ensures refused { IfErr result (λ fault. RefusesAlone (capacity_of self.now) type_id (length body.now) (view_of producer.old) fault (view_of producer.new)) }
+        ensures claims { (t : ClaimAt) → IsOpenClaimOf self.now producer.old t → IsOpenClaimOf self.now producer.new t }
+    {
+        let wanted = Wanted {
+            type_id,
+            len: body.len(),
+        };
+        let (words, tail) = (&self.table.shared, producer.own_tail);
+        let admission = claim_alone(words, &mut producer.seat, self.capacity, tail, wanted)?;
+        store_message(
+            words,
+            &mut producer.seat,
+            self.capacity,
+            admission.place,
+            wanted,
+            body,
+        );
+        producer.own_tail = admission.end;
+        Ok(())
+    }
+}

@@ -1,0 +1,84 @@
+//! Whether a ring has room for a claim.
+ghost use Rattle.std.specs.Prelude.{◌≡◌, ◌≤◌, ◌+◌, nat_le, MatchResult};
+ghost use Rattle.ring_layout.specs.Places.{max_position};
+ghost use Rattle.ring_table.specs.Seats.{IsSameSeat, IsSeatOf};
+ghost use Rattle.ring_rings.specs.Making.{FindsNoRoom, FindsRoom, FindsShortage};
+
+use crate::producer::admission::Admission;
+use ring_table::{RingSeat, SharedRing, load_cache, load_head, store_cache};
+
+/// Why no room was found.
+#[derive(Clone, Copy)]
+pub(crate) enum Shortage {
+    /// There is none behind the head.
+    Full { head: u64 },
+    /// The head is beyond the tail that was loaded, so that another producer has moved the tail.
+    Passed { seen: u64 },
+}
+
+/// Tests whether a record ends at most the capacity behind a head. A head of the cache may lie further behind the tail
+/// than that.
+fn has_room(capacity: u32, end: u64, head: u64) -> bool
+    requires { head ≤ max_position }
+    ensures { result ≡ nat_le end (head + capacity) }
+{
+    end <= head + u64::from(capacity)
+}
+
+/// Looks for room for a claim of the only producer: behind the cached head, and then behind the head. Where there is
+/// none it returns the head.
+pub(crate) fn find_room_alone(
+    words: &SharedRing,
+    seat: &mut RingSeat,
+    capacity: u32,
+    admission: Admission,
+) -> Result<(), u64>
+    requires seat { IsSeatOf words.now.table_id words.now.key capacity seat.old }
+    requires sole { seat.old.me.0.producer.shares ≡ 65536 }
+    requires tail { seat.old.me.0.producer.seen_tail ≡ admission.tail }
+    ensures seat { IsSameSeat seat.old seat.new }
+    ensures found { MatchResult result (λ _. FindsRoom capacity admission.tail admission.end seat.old.me.0 seat.new.me.0) (λ head. FindsNoRoom capacity admission.tail admission.end head seat.old.me.0 seat.new.me.0) }
+{
+    let cached = load_cache(words, seat, capacity);
+    if has_room(capacity, admission.end, cached) {
+        return Ok(());
+    }
+    let head = load_head(words, seat, capacity);
+    store_cache(words, seat, capacity, head);
+    if has_room(capacity, admission.end, head) {
+        Ok(())
+    } else {
+        Err(head)
+    }
+}
+
+/// Looks for room for a claim of one of many producers.
+pub(crate) fn find_room(
+    words: &SharedRing,
+    seat: &mut RingSeat,
+    capacity: u32,
+    admission: Admission,
+) -> Result<(), Shortage>
+    requires seat { IsSeatOf words.now.table_id words.now.key capacity seat.old }
+    requires tail { seat.old.me.0.producer.seen_tail ≡ admission.tail }
+    ensures seat { IsSameSeat seat.old seat.new }
+    ensures found { MatchResult result (λ _. FindsRoom capacity admission.tail admission.end seat.old.me.0 seat.new.me.0) (λ s. FindsShortage capacity admission.tail admission.end s seat.old.me.0 seat.new.me.0) }
+{
+    let cached = load_cache(words, seat, capacity);
+    if cached > admission.tail {
+        return Err(Shortage::Passed { seen: cached });
+    }
+    if has_room(capacity, admission.end, cached) {
+        return Ok(());
+    }
+    let head = load_head(words, seat, capacity);
+    store_cache(words, seat, capacity, head);
+    if head > admission.tail {
+        return Err(Shortage::Passed { seen: head });
+    }
+    if has_room(capacity, admission.end, head) {
+        Ok(())
+    } else {
+        Err(Shortage::Full { head })
+    }
+}

@@ -1,0 +1,47 @@
+//! Correlation ids, heartbeats and positions, as producers see them.
+ghost use Rattle.std.specs.Prelude.{◌≡◌, ◌≤◌};
+ghost use Rattle.ring_words.specs.Open.{ClaimAt};
+ghost use Rattle.ring_table.specs.ServiceSteps.{DrawsId, LoadsHeartbeat};
+ghost use Rattle.ring_rings.specs.Joining.{LoadsPositions};
+ghost use Rattle.ring_rings.specs.Seats.{capacity_of, view_of, IsOpenClaimOf, IsProducerOf};
+
+use crate::ring::{Producer, Ring};
+use ring_table::{draw_correlation_id, load_head, load_heartbeat, load_tail};
+use ring_words::Positions;
+
+impl<K> Ring<K> {
+    /// Draws the next correlation id: 0, 1, 2 and so on, modulo 2^64, each once over all producers.
+    pub fn next_correlation_id(&self, producer: &mut Producer) -> u64
+        requires { IsProducerOf self.now producer.old }
+        ensures producer { IsProducerOf self.now producer.new }
+        ensures draws { DrawsId (view_of producer.old) result (view_of producer.new) }
+        ensures claims { (t : ClaimAt) → IsOpenClaimOf self.now producer.old t → IsOpenClaimOf self.now producer.new t }
+    {
+        draw_correlation_id(&self.table.shared, &mut producer.seat, self.capacity)
+    }
+
+    /// The consumer's heartbeat: 0, or a value that it stored, and none before one that this producer read.
+    pub fn heartbeat(&self, producer: &mut Producer) -> u64
+        requires { IsProducerOf self.now producer.old }
+        ensures producer { IsProducerOf self.now producer.new }
+        ensures loads { LoadsHeartbeat (capacity_of self.now) (view_of producer.old) result (view_of producer.new) }
+        ensures claims { (t : ClaimAt) → IsOpenClaimOf self.now producer.old t → IsOpenClaimOf self.now producer.new t }
+    {
+        load_heartbeat(&self.table.shared, &mut producer.seat, self.capacity)
+    }
+
+    /// The head, and then the tail, which is not below it. Both are loaded in this call.
+    pub fn positions(&self, producer: &mut Producer) -> Positions
+        requires { IsProducerOf self.now producer.old }
+        ensures producer { IsProducerOf self.now producer.new }
+        ensures order { result.head ≤ result.tail }
+        ensures loads { LoadsPositions (capacity_of self.now) (view_of producer.old) result.head result.tail (view_of producer.new) }
+        ensures claims { (t : ClaimAt) → IsOpenClaimOf self.now producer.old t → IsOpenClaimOf self.now producer.new t }
+    {
+        let (words, seat) = (&self.table.shared, &mut producer.seat);
+        let head = load_head(words, seat, self.capacity);
+        let tail = load_tail(words, seat, self.capacity);
+        producer.own_tail = tail;
+        Positions { head, tail }
+    }
+}

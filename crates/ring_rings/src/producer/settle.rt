@@ -1,0 +1,99 @@
+//! How producers settle their claims.
+ghost use Rattle.std.specs.Prelude.{◌≡◌, ◌≢◌, ◌+◌, ◌<◌, ◌↔◌, length, IsTrue, OnErr, OnOk, is_err};
+ghost use Rattle.ring_words.specs.Open.{ClaimAt};
+ghost use Rattle.ring_layout.specs.declared.message.ClaimState.TheVariants.{Aborted, Committed};
+ghost use Rattle.ring_table.specs.declared.claim.Stage.TheVariants.{Stored};
+ghost use Rattle.ring_table.specs.Changes.{changed, staged};
+ghost use Rattle.ring_table.specs.Staged.{AreRising};
+ghost use Rattle.ring_table.specs.Views.{with_claims};
+ghost use Rattle.ring_rings.specs.Bodies.{PutsBytes};
+ghost use Rattle.ring_rings.specs.Seats.{claims_of, view_of, IsOpenClaimOf, IsProducerOf};
+
+use crate::claim::Claim;
+use crate::producer::body::put_bytes;
+use crate::ring::{Producer, Ring};
+use ring_table::{Wanted, store_aborted_header, store_committed_header};
+use ring_words::PutRange;
+
+impl<K> Ring<K> {
+    /// Puts bytes into an open claim, from the byte `offset` of its body on. It refuses bytes that do not lie inside the
+    /// body, and then nothing is changed.
+    pub fn put(
+        &self,
+        producer: &mut Producer,
+        claim: &mut Claim,
+        offset: usize,
+        bytes: &[u8],
+    ) -> Result<(), PutRange>
+        requires producer { IsProducerOf self.now producer.old }
+        requires claim { IsOpenClaimOf self.now producer.old claim.old }
+        ensures producer { IsProducerOf self.now producer.new }
+        ensures refused { IsTrue (is_err result) ↔ (claim.old.len < offset + length bytes.now) }
+        ensures same { OnErr result (producer.new ≡ producer.old) }
+        ensures rising { AreRising (claims_of producer.old) }
+        ensures put { OnOk result (PutsBytes claim.old.place offset bytes.now (view_of producer.old) (view_of producer.new)) }
+        ensures claim { claim.new ≡ claim.old }
+        ensures is_open { IsOpenClaimOf self.now producer.new claim.new }
+        ensures others { (t : ClaimAt) → IsOpenClaimOf self.now producer.old t → t.place ≢ claim.old.place → IsOpenClaimOf self.now producer.new t }
+    {
+        let len = claim.len();
+        if offset > len || bytes.len() > len - offset {
+            return Err(PutRange);
+        }
+        put_bytes(
+            &self.table.shared,
+            &mut producer.seat,
+            self.capacity,
+            claim.place(),
+            offset,
+            bytes,
+        );
+        Ok(())
+    }
+
+    /// Settles an open claim: the consumer is shown its message.
+    pub fn commit(&self, producer: &mut Producer, claim: Claim)
+        requires producer { IsProducerOf self.now producer.old }
+        requires claim { IsOpenClaimOf self.now producer.old claim }
+        ensures producer { IsProducerOf self.now producer.new }
+        ensures rising { AreRising (claims_of producer.old) }
+        ensures settled { view_of producer.new ≡ with_claims (changed claim.place (staged (Stored Committed)) (claims_of producer.old)) (view_of producer.old) }
+        ensures others { (t : ClaimAt) → IsOpenClaimOf self.now producer.old t → t.place ≢ claim.place → IsOpenClaimOf self.now producer.new t }
+    {
+        let wanted = Wanted {
+            type_id: claim.type_id(),
+            len: claim.len(),
+        };
+        store_committed_header(
+            &self.table.shared,
+            &mut producer.seat,
+            self.capacity,
+            claim.place(),
+            wanted,
+        );
+        producer.open_claims -= 1;
+    }
+
+    /// Settles an open claim: the consumer passes it.
+    pub fn abort(&self, producer: &mut Producer, claim: Claim)
+        requires producer { IsProducerOf self.now producer.old }
+        requires claim { IsOpenClaimOf self.now producer.old claim }
+        ensures producer { IsProducerOf self.now producer.new }
+        ensures rising { AreRising (claims_of producer.old) }
+        ensures settled { view_of producer.new ≡ with_claims (changed claim.place (staged (Stored Aborted)) (claims_of producer.old)) (view_of producer.old) }
+        ensures others { (t : ClaimAt) → IsOpenClaimOf self.now producer.old t → t.place ≢ claim.place → IsOpenClaimOf self.now producer.new t }
+    {
+        let wanted = Wanted {
+            type_id: claim.type_id(),
+            len: claim.len(),
+        };
+        store_aborted_header(
+            &self.table.shared,
+            &mut producer.seat,
+            self.capacity,
+            claim.place(),
+            wanted,
+        );
+        producer.open_claims -= 1;
+    }
+}

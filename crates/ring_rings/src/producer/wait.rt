@@ -1,0 +1,66 @@
+//! Claims and writes that try again while another producer is faster.
+ghost use Rattle.std.specs.Prelude.{◌≡◌, ◌≢◌, length, IfErr, IfOk, OnOk};
+ghost use Rattle.ring_words.specs.Open.{ClaimAt};
+ghost use Rattle.ring_rings.specs.Claiming.{AfterTries, Claims, Refuses, Writes};
+ghost use Rattle.ring_rings.specs.Seats.{capacity_of, view_of, IsOpenClaimOf, IsProducerOf};
+
+use crate::claim::Claim;
+use crate::fault::TryFault;
+use crate::ring::{ManyToOne, Producer, Ring};
+use crossbeam_utils::Backoff;
+use ring_words::ClaimFault;
+use std::sync::Wait;
+
+impl Ring<ManyToOne> {
+    /// Claims as `claim_once` does, and tries again while that is `Contended`. So it may wait.
+    pub fn claim<R: Wait>(
+        &self,
+        rt: &R,
+        producer: &mut Producer,
+        type_id: i32,
+        len: usize,
+    ) -> Result<Claim, ClaimFault>
+        requires producer { IsProducerOf self.now producer.old }
+        ensures producer { IsProducerOf self.now producer.new }
+        ensures claimed { IfOk result (λ t. AfterTries (capacity_of self.now) type_id len (view_of producer.old) (λ v. Claims (capacity_of self.now) type_id len v t (view_of producer.new))) }
+        ensures refused { IfErr result (λ fault. AfterTries (capacity_of self.now) type_id len (view_of producer.old) (λ v. Refuses (capacity_of self.now) type_id len v fault (view_of producer.new))) }
+        ensures is_open { IfOk result (IsOpenClaimOf self.now producer.new) }
+        ensures claims { (t : ClaimAt) → IsOpenClaimOf self.now producer.old t → IsOpenClaimOf self.now producer.new t }
+        ensures apart { IfOk result (λ new. (t : ClaimAt) → IsOpenClaimOf self.now producer.old t → t.place ≢ new.place) }
+    {
+        let backoff = Backoff::new();
+        for _ in rt.forever() {
+            match self.claim_once(producer, type_id, len) {
+                Ok(claim) => return Ok(claim),
+                Err(TryFault::Refused(fault)) => return Err(fault),
+                Err(TryFault::Contended { .. }) => backoff.snooze(),
+            }
+        }
+        unreachable!()
+    }
+
+    /// Writes as `write_once` does, and tries again while that is `Contended`. So it may wait.
+    pub fn write<R: Wait>(
+        &self,
+        rt: &R,
+        producer: &mut Producer,
+        type_id: i32,
+        body: &[u8],
+    ) -> Result<(), ClaimFault>
+        requires producer { IsProducerOf self.now producer.old }
+        ensures producer { IsProducerOf self.now producer.new }
+        ensures written { OnOk result (AfterTries (capacity_of self.now) type_id (length body.now) (view_of producer.old) (λ v. Writes (capacity_of self.now) type_id body.now v (view_of producer.new))) }
+        ensures refused { IfErr result (λ fault. AfterTries (capacity_of self.now) type_id (length body.now) (view_of producer.old) (λ v. Refuses (capacity_of self.now) type_id (length body.now) v fault (view_of producer.new))) }
+        ensures claims { (t : ClaimAt) → IsOpenClaimOf self.now producer.old t → IsOpenClaimOf self.now producer.new t }
+    {
+        let backoff = Backoff::new();
+        for _ in rt.forever() {
+            match self.write_once(producer, type_id, body) {
+                Ok(()) => return Ok(()),
+                Err(TryFault::Refused(fault)) => return Err(fault),
+                Err(TryFault::Contended { .. }) => backoff.snooze(),
+            }
+        }
+        unreachable!()
+    }
+}

@@ -1,0 +1,19 @@
+use Rattle.std.proofs.Common.{rules, ◌≡◌, ℕ, ◌+◌, ◌/◌, ◌%◌, List, slice_set, replicate, subst, sym, ◌∙◌, arith}
+use Rattle.ring_words.specs.Ring.{ring, IsRing}
+use Rattle.ring_layout.specs.Layout.{tail_index, head_cache_index, head_index}
+use Rattle.ring_layout.proofs.CapacityLemmas.{lawful_from}
+use Rattle.ring_words.proofs.FreshLemmas.{is_ring_fresh}
+use Rattle.ring_words.proofs.ring.SoloRing.new_at.Goals as goal
+
+pub invariant_of-result : goal.invariant_of-result
+invariant_of-result c =
+    let C : ℕ = c.args.capacity in
+    let start : ℕ = c.args.start in
+    let items : c.in_ok-words.words.items ≡ replicate (C / 8 + 96) 0 = search rules in
+    let lawful = lawful_from C (sym c.is_capacity.ensures.test ∙ c.if-not-is_capacity.false) in
+    let lap : start % C ≡ 0 = rw c.from.ensures at c.if-start-from-ne0.false in (
+      subst (λ (ws : List ℕ). IsRing (ring C (slice_set (slice_set (slice_set ws (tail_index C) start) (head_cache_index C) start) (head_index C) start)))
+          (sym items)
+          (is_ring_fresh C start lawful lap (omega arith)),
+      search rules,
+    )

@@ -1,4 +1,0 @@
-use Rattle.ring_words.proofs.solo.SoloRing.read_across.Goals as goal
-
-pub returns-clause-claims : goal.returns-clause-claims
-returns-clause-claims g c = λ t h. c.read-second.ensures.claims t (c.read-first.ensures.claims t h)

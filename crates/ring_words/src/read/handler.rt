@@ -1,0 +1,20 @@
+//! Who takes the messages of a read.
+ghost use Rattle.ring_layout.specs.declared.message.Message.{Message};
+ghost use Rattle.ring_words.specs.declared.read.action.Action.{Action as Answer};
+
+use crate::read::action::Action;
+
+/// Takes the messages of a read, one after another.
+pub trait Handler {
+    /// The states in which it may be called. Each call keeps it.
+    ghost ready: { Self → Type 0 } = { λ _. Unit {0} };
+
+    /// What a call does: the state before, the message, the state after, and the action answered.
+    ghost step: { Self → Message → Self → Answer → Type 0 };
+
+    /// Is shown a message, whose body stands in a copy, and answers what the read is to do.
+    fn on_message(&mut self, type_id: i32, body: &[u8]) -> Action
+        requires { ready self.old }
+        ensures kept { ready self.new }
+        ensures step { step self.old (record { type_id = type_id; body = body.now }) self.new result };
+}

@@ -1,0 +1,135 @@
+//! Claims of the ring with one owner, and what happens to them.
+ghost use Rattle.std.specs.Prelude.{◌≡◌, ◌≢◌, ◌+◌, ◌%◌, ◌<◌, ◌↔◌, pos, ◌≤ℤ◌, length, IfOk, OnOk, OnErr, IsTrue, is_err};
+ghost use Rattle.ring_layout.specs.declared.message.ClaimState.TheVariants.{Committed, Aborted};
+ghost use Rattle.ring_layout.specs.Places.{IsCapacity};
+ghost use Rattle.ring_words.specs.Ring.{tail_of};
+ghost use Rattle.ring_words.specs.Open.{ClaimAt, IsOpen, fresh_claim};
+ghost use Rattle.ring_words.specs.Refusal.{refusal_of, IsRefusedBy};
+ghost use Rattle.ring_words.specs.Change.{AppendsClaim, PutsInto, Settles, opened, written};
+ghost use Rattle.ring_words.specs.Storing.{IsAdmitted};
+
+use crate::claim::SoloClaim;
+use crate::fault::{ClaimFault, PutRange};
+use crate::positions::Positions;
+use crate::ring::SoloRing;
+use crate::write::append::{Admission, append_claim, append_message};
+use crate::write::settle::{put_bytes, settle};
+use ring_layout::record_descriptor::HEADER_LENGTH;
+use ring_layout::ring_buffer_descriptor::MAX_POSITION;
+use ring_layout::{ClaimState, byte_index, max_message, pad_and_span};
+
+/// The claim of a record that was admitted.
+fn new_claim(capacity: u32, admission: Admission, type_id: i32, len: usize) -> SoloClaim
+    requires { IsCapacity capacity }
+    ensures { result ≡ record { place = admission.place; index = admission.place % capacity + 8; type_id = type_id; len = len } }
+{
+    let index = byte_index(capacity, admission.place) as u32 + HEADER_LENGTH as u32;
+    SoloClaim::new(admission.place, index, type_id, len)
+}
+
+impl SoloRing {
+    /// Tests whether a record fits, and says where it goes.
+    fn admit(&self, type_id: i32, len: usize) -> Result<Admission, ClaimFault>
+        ensures refused { IsRefusedBy (refusal_of self.now type_id len) result }
+        ensures type_id { OnOk result (pos 1 ≤ℤ type_id) }
+        ensures admitted { IfOk result (λ a. (a.tail ≡ tail_of self.now) × IsAdmitted self.now len a.place a.end) }
+    {
+        if type_id < 1 {
+            return Err(ClaimFault::BadType { type_id });
+        }
+        let max = max_message(self.capacity);
+        if len > max as usize {
+            return Err(ClaimFault::TooLong { len, max });
+        }
+        let Positions { head, tail } = self.positions();
+        let (pad, span) = pad_and_span(self.capacity, tail, len);
+        let place = tail + pad;
+        let end = place + span;
+        if end > MAX_POSITION {
+            return Err(ClaimFault::PositionLimit { tail });
+        }
+        if end > head + u64::from(self.capacity) {
+            return Err(ClaimFault::InsufficientCapacity { tail, head });
+        }
+        Ok(Admission { tail, place, end })
+    }
+
+    /// Writes a message: it is claimed, stored and committed.
+    ///
+    /// It refuses, in this order, with `BadType` a type id below 1, with `TooLong` a body of more than an eighth of the
+    /// capacity, with `PositionLimit` a record that would end above 2^62, and with `InsufficientCapacity` one that does
+    /// not fit. Then nothing is changed.
+    pub fn write(&mut self, type_id: i32, body: &[u8]) -> Result<(), ClaimFault>
+        ensures refused { IsRefusedBy (refusal_of self.old type_id (length body.now)) result }
+        ensures same { OnErr result (self.new ≡ self.old) }
+        ensures claimed { OnOk result (AppendsClaim self.old (written type_id body.now) self.new) }
+        ensures claims { (t : ClaimAt) → IsOpen self.old t → IsOpen self.new t }
+    {
+        let admission = self.admit(type_id, body.len())?;
+        append_message(&mut self.words, self.capacity, admission, type_id, body);
+        Ok(())
+    }
+
+    /// Claims room for a message of `len` bytes, which are 0 until they are `put`. It refuses as `write` does. Several
+    /// claims may be open at once.
+    pub fn claim(&mut self, type_id: i32, len: usize) -> Result<SoloClaim, ClaimFault>
+        ensures refused { IsRefusedBy (refusal_of self.old type_id len) result }
+        ensures same { OnErr result (self.new ≡ self.old) }
+        ensures claimed { OnOk result (AppendsClaim self.old (opened type_id len) self.new) }
+        ensures claim { IfOk result (λ t. t ≡ fresh_claim self.old type_id len) }
+        ensures is_open { IfOk result (IsOpen self.new) }
+        ensures claims { (t : ClaimAt) → IsOpen self.old t → IsOpen self.new t }
+        ensures apart { IfOk result (λ new. (t : ClaimAt) → IsOpen self.old t → t.place ≢ new.place) }
+    {
+        let admission = self.admit(type_id, len)?;
+        append_claim(&mut self.words, self.capacity, admission, type_id, len);
+        Ok(new_claim(self.capacity, admission, type_id, len))
+    }
+
+    /// Puts bytes into an open claim of this ring, from the byte `offset` of its body on. It refuses bytes that do not
+    /// lie inside the body, and then nothing is changed.
+    pub fn put(
+        &mut self,
+        claim: &mut SoloClaim,
+        offset: usize,
+        bytes: &[u8],
+    ) -> Result<(), PutRange>
+        requires { IsOpen self.old claim.old }
+        ensures refused { IsTrue (is_err result) ↔ (claim.old.len < offset + length bytes.now) }
+        ensures same { OnErr result (self.new ≡ self.old) }
+        ensures put { OnOk result (PutsInto self.old claim.old.place offset bytes.now self.new) }
+        ensures claim { claim.new ≡ claim.old }
+        ensures is_open { IsOpen self.new claim.new }
+        ensures claims { (t : ClaimAt) → IsOpen self.old t → IsOpen self.new t }
+    {
+        let len = claim.len();
+        if offset > len || bytes.len() > len - offset {
+            return Err(PutRange);
+        }
+        put_bytes(&mut self.words, self.capacity, claim, offset, bytes);
+        Ok(())
+    }
+
+    /// Settles an open claim of this ring: the reader is shown its message.
+    pub fn commit(&mut self, claim: SoloClaim)
+        requires { IsOpen self.old claim }
+        ensures settled { Settles self.old claim.place Committed self.new }
+        ensures others { (t : ClaimAt) → IsOpen self.old t → t.place ≢ claim.place → IsOpen self.new t }
+    {
+        settle(
+            &mut self.words,
+            self.capacity,
+            &claim,
+            ClaimState::Committed,
+        );
+    }
+
+    /// Settles an open claim of this ring: the reader passes it.
+    pub fn abort(&mut self, claim: SoloClaim)
+        requires { IsOpen self.old claim }
+        ensures settled { Settles self.old claim.place Aborted self.new }
+        ensures others { (t : ClaimAt) → IsOpen self.old t → t.place ≢ claim.place → IsOpen self.new t }
+    {
+        settle(&mut self.words, self.capacity, &claim, ClaimState::Aborted);
+    }
+}
