@@ -19,7 +19,7 @@ use crate::finish::finish;
 pub use gate::{Gate, OpenGate};
 use levels::level;
 pub use plan::{StormFault, StormPlan, StormReport};
-use reporting::report;
+use report::report;
 use ring_board::Board;
 use ring_counters::{CounterValues, CountersManager};
 use ring_rings::ManyToOneRing;

@@ -18,9 +18,9 @@ use std::marker::Model;
 /// A ring of messages with one owner.
 #[derive(Drop)]
 pub struct SoloRing {
-    capacity: u32,
-    words: Vec<u64>,
-    scratch: Vec<u8>,
+    pub(crate) capacity: u32,
+    pub(crate) words: Vec<u64>,
+    pub(crate) scratch: Vec<u8>,
 }
 
 impl Model for SoloRing {

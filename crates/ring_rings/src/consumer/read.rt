@@ -10,10 +10,10 @@ ghost use Rattle.ring_words.specs.Across.{ReadsAcross};
 ghost use Rattle.ring_rings.specs.Reading.{Controls, IsBlocked, Reads, ReadsTo};
 ghost use Rattle.ring_rings.specs.ReadingSteps.{IsAt, Settles, heeded};
 
+use crate::consumer::turn::Turn;
 use crate::ring::{Consumer, Ring};
 use ring_layout::byte_index;
 use ring_words::{Action, Handler, ReadEnd, Stop};
-use turn::Turn;
 
 impl<K> Ring<K> {
     /// Tests whether a read came from `start` to the end of the buffer.
