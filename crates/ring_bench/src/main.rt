@@ -17,7 +17,7 @@ mod request;
 mod rest;
 mod sample;
 mod shared;
-mod storm;
+mod storming;
 mod trips;
 mod watching;
 

@@ -30,9 +30,9 @@ use Rattle.ring_counters.specs.Views.{value_write}
 use Rattle.ring_conductor.specs.declared.conductor.Work.{Work}
 use Rattle.ring_conductor.specs.declared.protocol.fault.Bad.{Bad}
 use Rattle.ring_conductor.specs.declared.protocol.reply.Reply.TheVariants.{Closed}
-use Rattle.ring_conductor.specs.declared.storm.plan.StormFault.{StormFault}
-use Rattle.ring_conductor.specs.declared.storm.plan.StormPlan.{StormPlan}
-use Rattle.ring_conductor.specs.declared.storm.plan.StormReport.{StormReport}
+use Rattle.ring_conductor.specs.declared.storming.plan.StormFault.{StormFault}
+use Rattle.ring_conductor.specs.declared.storming.plan.StormPlan.{StormPlan}
+use Rattle.ring_conductor.specs.declared.storming.plan.StormReport.{StormReport}
 use Rattle.ring_conductor.specs.Applied.{allocated, applied, done_unless, obeyed, obeyed_if_read, refused}
 use Rattle.ring_conductor.specs.Codes.{bad_owner_code}
 use Rattle.ring_conductor.specs.Command.{Instruction, Allocate, AllocateOwned, Close, Free, Set}

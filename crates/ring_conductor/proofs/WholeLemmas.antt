@@ -4,7 +4,7 @@ use Rattle.ring_layout.specs.declared.message.Message.{Message}
 use Rattle.ring_table.specs.declared.claim.PlacedMessage.{PlacedMessage}
 use Rattle.ring_rings.specs.Closing.{IsRefusedAs}
 use Rattle.ring_rings.specs.Reading.{messages_of}
-use Rattle.ring_conductor.specs.declared.finish.fault.FinishFault.{FinishFault}
+use Rattle.ring_conductor.specs.declared.finishing.fault.FinishFault.{FinishFault}
 use Rattle.ring_conductor.specs.Finishing.{finish_refusal_of}
 use Rattle.ring_conductor.specs.Account.{Account, account_of}
 use Rattle.ring_conductor.specs.Fold.{Ledger, at_moment, fold_of}

@@ -11,9 +11,9 @@ use Rattle.ring_rings.specs.Reading.{messages_of}
 use Rattle.ring_board.specs.declared.board.Board.{Board}
 use Rattle.ring_counters.specs.declared.values.seats.CounterValues.{CounterValues}
 use Rattle.ring_conductor.specs.declared.conductor.Conductor.{Conductor}
-use Rattle.ring_conductor.specs.declared.finish.fault.FinishFault.{FinishFault}
-use Rattle.ring_conductor.specs.declared.finish.fault.FinishFault.TheVariants.{ClaimsOpen, ProducersOut, ReceiversOut}
-use Rattle.ring_conductor.specs.declared.finish.fault.FinishRefused.{FinishRefused}
+use Rattle.ring_conductor.specs.declared.finishing.fault.FinishFault.{FinishFault}
+use Rattle.ring_conductor.specs.declared.finishing.fault.FinishFault.TheVariants.{ClaimsOpen, ProducersOut, ReceiversOut}
+use Rattle.ring_conductor.specs.declared.finishing.fault.FinishRefused.{FinishRefused}
 
 -- why a conductor does not finish, with so many open claims of the producer, and so many shares of producer and
 -- transmitter, in the order of the tests

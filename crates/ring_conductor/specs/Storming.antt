@@ -13,10 +13,10 @@ use Rattle.ring_counters.specs.Counter.{Counter}
 use Rattle.ring_counters.specs.Manager.{registry_of}
 use Rattle.ring_counters.specs.Registry.{Registry, fresh_registry, live_of}
 use Rattle.ring_conductor.specs.declared.conductor.Conductor.{Conductor}
-use Rattle.ring_conductor.specs.declared.storm.plan.StormPlan.{StormPlan}
-use Rattle.ring_conductor.specs.declared.storm.plan.StormReport.{StormReport}
-use Rattle.ring_conductor.specs.declared.storm.seats.StormClient.{StormClient}
-use Rattle.ring_conductor.specs.declared.storm.seats.Hub.{Hub}
+use Rattle.ring_conductor.specs.declared.storming.plan.StormPlan.{StormPlan}
+use Rattle.ring_conductor.specs.declared.storming.plan.StormReport.{StormReport}
+use Rattle.ring_conductor.specs.declared.storming.seats.StormClient.{StormClient}
+use Rattle.ring_conductor.specs.declared.storming.seats.Hub.{Hub}
 use Rattle.ring_conductor.specs.Applied.{applied}
 use Rattle.ring_conductor.specs.Asking.{producer_of, receiver_of}
 use Rattle.ring_conductor.specs.Conducting.{IsConductorOf, counters_of, received_of, transmitter_of}

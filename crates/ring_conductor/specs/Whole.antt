@@ -13,7 +13,7 @@ use Rattle.ring_board.specs.declared.shared.view.Record.{Record}
 use Rattle.ring_board.specs.Closing.{closed_words, IsClosed}
 use Rattle.ring_board.specs.Runs.{AreAllRuns}
 use Rattle.ring_counters.specs.Manager.{registry_of, writes_of}
-use Rattle.ring_conductor.specs.declared.finish.Finished.{Finished}
+use Rattle.ring_conductor.specs.declared.finishing.Finished.{Finished}
 use Rattle.ring_conductor.specs.Account.{account_of, fresh_account, messages_in}
 use Rattle.ring_conductor.specs.Fold.{at_moment}
 

@@ -1,11 +1,11 @@
 //! The conductor, and what it says of its work.
 pub(crate) mod apply;
+pub(crate) mod duty;
 pub(crate) mod handle;
 pub(crate) mod heartbeat;
 pub(crate) mod listen;
 pub(crate) mod run;
 pub(crate) mod serve;
-pub(crate) mod work;
 
 ghost use Rattle.std.specs.Prelude.{◌≡◌, ◌+◌, ◌*◌, ◌≤◌, length};
 ghost use Rattle.ring_rings.specs.Seats.{taken_of};

@@ -11,17 +11,17 @@
 
 mod client;
 mod conductor;
-mod finish;
+mod finishing;
 mod laws;
 mod protocol;
-mod storm;
+mod storming;
 mod whole;
 
 pub use client::request::Request;
 pub use client::{Client, Polled, SendFault};
 pub use conductor::{Conductor, Cycle, Work, WorkStop};
-pub use finish::fault::{FinishFault, FinishRefused};
-pub use finish::{Finished, finish};
+pub use finishing::fault::{FinishFault, FinishRefused};
+pub use finishing::{Finished, finish};
 pub use laws::{
     command_round_trip, fold_ignores_receivers, fold_lengthens, fold_of_fold, longest_command,
     one_command, one_reply, reply_round_trip,
@@ -34,7 +34,7 @@ pub use protocol::fault::Bad;
 pub use protocol::reply::decode::decode_reply;
 pub use protocol::reply::encode::encode_reply;
 pub use protocol::reply::{LONGEST_REPLY, Reply, type_ids as reply_type_ids};
-pub use storm::{Gate, OpenGate, StormFault, StormPlan, StormReport, storm};
+pub use storming::{Gate, OpenGate, StormFault, StormPlan, StormReport, storm};
 pub use whole::whole_run;
 
 #[cfg(test)]

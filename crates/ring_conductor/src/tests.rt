@@ -1,6 +1,6 @@
 //! What a storm does that its callers cannot bring about or see.
-use crate::storm::client::label_of;
-use crate::storm::storm_without;
+use crate::storming::client::label_of;
+use crate::storming::storm_without;
 use crate::{Gate, OpenGate, StormFault, StormPlan};
 use std::sync::atomic::AtomicBool;
 use std::sync::atomic::Ordering::SeqCst;

@@ -6,7 +6,7 @@ ghost use Rattle.ring_conductor.specs.Whole.{Concludes};
 use crate::client::Client;
 use crate::client::request::Request;
 use crate::conductor::Conductor;
-use crate::finish::{Finished, finish};
+use crate::finishing::{Finished, finish};
 use ring_board::Board;
 use ring_counters::CountersManager;
 use ring_rings::ManyToOneRing;

@@ -1,0 +1,14 @@
+use Rattle.std.proofs.Common.{◌∙◌, ◌+◌, ap, arith}
+use Rattle.ring_rings.specs.Seats.{open_claims_of}
+use Rattle.ring_conductor.specs.Storming.{sent_by}
+use Rattle.ring_conductor.proofs.SendingLemmas.{gathered}
+use Rattle.ring_conductor.proofs.storming.shared.Shared.join_client.Goals as goal
+
+pub returns-clause-claims : goal.returns-clause-claims
+returns-clause-claims g c =
+    let both = gathered _ _ _ _ c.join.ensures.joined in
+    let is = c.into_parts-producer.ensures.producer in
+    let old = c.args.hub.now.producer in
+    let open_claims = both.open_claims ∙ ap (λ p. open_claims_of old + open_claims_of p) is in
+    let settled = c.requires.client.0.2 in
+    (omega (arith, open_claims, settled), both.claims ∙ ap (λ p. sent_by old + sent_by p) is)

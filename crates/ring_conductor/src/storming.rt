@@ -1,0 +1,145 @@
+//! Clients on threads of their own, against one conductor.
+ghost use Rattle.std.specs.Prelude.{◌≡◌, ◌↔◌, ◌≤◌, IfOk, Err, None};
+ghost use Rattle.ring_conductor.specs.declared.storming.plan.StormFault.TheVariants.{BadPlan};
+ghost use Rattle.ring_conductor.specs.Storming.{HasAll, IsHubOf, IsPlan, IsReportOf, all_commands, sent_by, taken_by};
+
+pub(crate) mod client;
+mod conductor;
+mod gate;
+mod hub;
+mod levels;
+mod plan;
+mod promises;
+mod report;
+mod seats;
+mod shared;
+
+use crate::conductor::Conductor;
+use crate::finishing::finish;
+pub use gate::{Gate, OpenGate};
+use levels::level;
+pub use plan::{StormFault, StormPlan, StormReport};
+use report::report;
+use ring_board::Board;
+use ring_counters::{CounterValues, CountersManager};
+use ring_rings::ManyToOneRing;
+use seats::{Hub, LevelEnd};
+use shared::Shared;
+use std::alloc::Global;
+use std::sync::Wait;
+use std::sync::atomic::AtomicBool;
+use std::thread;
+use std::thread::Threads;
+
+/// Runs the clients of a plan against one conductor, all on threads of their own, and says what came of it.
+///
+/// Each client sends its commands one by one through a many-to-one ring, as the gate lets it, and waits for each reply on a
+/// board that has room for all of them. Its first command allocates a counter of type 1 with an empty key and the label `c`
+/// and the client's number; each further one sets that counter to the command's number. The conductor works at the moment 0
+/// until it has taken all commands. Then all seats are joined and the conductor finishes, whatever came before.
+///
+/// `BadPlan` comes where a number of the plan is not allowed, before anything is done, then `OutOfMemory` where memory is
+/// wanting or a thread could not be started, and then `TurnsSpent` where a wait took as many turns as the plan allows. All
+/// threads have ended by then. It may wait.
+pub fn storm<R: Threads + Wait, G: Gate + Sync>(
+    rt: &R,
+    alloc: Global,
+    plan: &StormPlan,
+    gate: &G,
+) -> Result<StormReport, StormFault>
+    ensures bad_plan { (result ≡ Err BadPlan) ↔ (IsPlan plan.now → ⊥) }
+    ensures report { IfOk result (IsReportOf plan.now) }
+{
+    storm_without(rt, alloc, plan, gate, None)
+}
+
+/// A storm in which one thread can't be started: a client's by its number, then the conductor's.
+pub(crate) fn storm_without<R: Threads + Wait, G: Gate + Sync>(
+    rt: &R,
+    alloc: Global,
+    plan: &StormPlan,
+    gate: &G,
+    refused: Option<u32>,
+) -> Result<StormReport, StormFault>
+    ensures bad_plan { (result ≡ Err BadPlan) ↔ (IsPlan plan.now → ⊥) }
+    ensures report { IfOk result (IsReportOf plan.now) }
+{
+    if !plan.is_lawful() {
+        return Err(StormFault::BadPlan);
+    }
+    let Ok((ring, producer, consumer)) = ManyToOneRing::new(alloc, plan.ring) else {
+        return Err(StormFault::OutOfMemory);
+    };
+    let Ok((board, transmitter)) = Board::new(alloc, plan.board_capacity()) else {
+        return Err(StormFault::OutOfMemory);
+    };
+    let Ok((values, counters)) = CountersManager::new(alloc, plan.clients, 0) else {
+        return Err(StormFault::OutOfMemory);
+    };
+    let hub = Hub {
+        producer,
+        conductor: Conductor::new(consumer, transmitter, counters),
+    };
+    let LevelEnd { hub, seen, failure } = run_threads(
+        rt, alloc, plan, gate, refused, &ring, &board, &values, hub,
+    );
+    let finished = match finish(ring, board, values, hub.conductor, hub.producer) {
+        Ok(finished) => finished,
+        Err(_refused) => unreachable!(),
+    };
+    match failure {
+        Some(failure) => Err(StormFault::from(failure)),
+        None => report(alloc, finished, seen),
+    }
+}
+
+/// Runs all threads, and takes their seats back.
+fn run_threads<R: Threads + Wait, G: Gate + Sync>(
+    rt: &R,
+    alloc: Global,
+    plan: &StormPlan,
+    gate: &G,
+    refused: Option<u32>,
+    ring: &ManyToOneRing,
+    board: &Board,
+    values: &CounterValues,
+    hub: Hub,
+) -> LevelEnd
+    requires plan { IsPlan plan.now }
+    requires hub { IsHubOf plan.now ring.now board.now values.now hub }
+    requires whole { HasAll hub }
+    requires new { sent_by hub.producer ≡ 0 }
+    ensures hub { IsHubOf plan.now ring.now board.now values.now result.hub }
+    ensures whole { HasAll result.hub }
+    ensures sent { sent_by result.hub.producer ≤ all_commands plan.now }
+    ensures done { (result.failure ≡ None) → (all_commands plan.now ≤ taken_by result.hub.conductor) × (result.seen ≡ all_commands plan.now) }
+{
+    let flag = AtomicBool::new(false);
+    let stopped = &flag;
+    let plan = *plan;
+    thread::scope(
+        thread::scope_env(),
+        rt,
+        |scope| -> LevelEnd
+            requires plan { IsPlan plan }
+            requires hub { IsHubOf plan ring.now board.now values.now hub }
+            requires whole { HasAll hub }
+            requires new { sent_by hub.producer ≡ 0 }
+            ensures hub { IsHubOf plan ring.entry.now board.entry.now values.entry.now result.hub }
+            ensures whole { HasAll result.hub }
+            ensures sent { sent_by result.hub.producer ≤ all_commands plan }
+            ensures done { (result.failure ≡ None) → (all_commands plan ≤ taken_by result.hub.conductor) × (result.seen ≡ all_commands plan) }
+        {
+            let shared = Shared {
+                ring,
+                board,
+                values,
+                gate,
+                stopped,
+                plan,
+                refused,
+            };
+            level(scope, rt, alloc, shared, plan.clients, hub)
+        },
+    )
+}

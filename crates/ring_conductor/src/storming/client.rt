@@ -1,0 +1,159 @@
+//! What a client does.
+ghost use Rattle.std.specs.Prelude.{◌≡◌, ◌+◌, ◌≤◌, if◌then◌else◌};
+ghost use Rattle.ring_board.specs.Seats.{IsReceiverOf};
+ghost use Rattle.ring_conductor.specs.Asking.{producer_of, receiver_of};
+ghost use Rattle.ring_conductor.specs.Storming.{IsClientOf, IsClientSeat, sent_by};
+
+use crate::client::request::Request;
+use crate::client::{Client, Polled};
+use crate::protocol::reply::Reply;
+use crate::storming::gate::Gate;
+use crate::storming::seats::StormClient;
+use crate::storming::shared::Shared;
+use crossbeam_utils::Backoff;
+use ring_rings::ManyToOneRing;
+
+/// The type of the clients' counters.
+const COUNTER_TYPE: i32 = 1;
+
+/// The label of a client's counter, and how long it is: `c` and the client's number, which is below 100.
+pub(crate) fn label_of(client: u32) -> ([u8; 3], usize)
+    ensures { result.1 ≤ 3 }
+{
+    let tens = b'0' + (client / 10 % 10) as u8;
+    let ones = b'0' + (client % 10) as u8;
+    if client < 10 {
+        ([b'c', ones, 0], 2)
+    } else {
+        ([b'c', tens, ones], 3)
+    }
+}
+
+/// What a client asks by its command with this number: the first one allocates a counter with the label, each further one
+/// sets that counter to the command's number.
+fn request_of(label: &[u8], counter: u32, number: u32) -> Request<'_> {
+    if number == 1 {
+        Request::Allocate {
+            type_id: COUNTER_TYPE,
+            key: &[],
+            label,
+        }
+    } else {
+        Request::Set {
+            id: counter,
+            value: i64::from(number),
+        }
+    }
+}
+
+/// One try to send a command. It is refused as long as the ring is full, or where another client was faster.
+fn try_send(
+    ring: &ManyToOneRing,
+    client: &mut Client,
+    correlation: u64,
+    request: Request<'_>,
+) -> bool
+    requires { IsClientSeat ring.now (producer_of client.old) }
+    ensures seat { IsClientSeat ring.now (producer_of client.new) }
+    ensures sent { sent_by (producer_of client.new) ≡ sent_by (producer_of client.old) + (if result then 1 else 0) }
+    ensures receiver { receiver_of client.new ≡ receiver_of client.old }
+{
+    client.send_as(ring, correlation, request).is_ok()
+}
+
+impl<G: Gate> Shared<'_, G> {
+    /// Waits until the gate lets the client send.
+    fn wait_for_gate(&self, client: u32, number: u32) -> bool {
+        let backoff = Backoff::new();
+        for _ in 0..self.plan.turns {
+            if self.is_stopped() {
+                return false;
+            }
+            if self.gate.may_send(client, number) {
+                return true;
+            }
+            backoff.snooze();
+        }
+        false
+    }
+
+    /// Waits until the command with a correlation id is sent, which is answered.
+    fn send(&self, client: &mut Client, request: Request<'_>) -> Option<u64>
+        requires { IsClientSeat self.now.ring.now (producer_of client.old) }
+        ensures seat { IsClientSeat self.now.ring.now (producer_of client.new) }
+        ensures sent { sent_by (producer_of client.new) ≤ sent_by (producer_of client.old) + 1 }
+        ensures receiver { receiver_of client.new ≡ receiver_of client.old }
+    {
+        let correlation = client.next_correlation_id(self.ring);
+        let backoff = Backoff::new();
+        for _ in 0..self.plan.turns {
+            if self.is_stopped() {
+                return None;
+            }
+            if try_send(self.ring, client, correlation, request) {
+                return Some(correlation);
+            }
+            backoff.snooze();
+        }
+        None
+    }
+
+    /// Waits for the reply to the command with this correlation id.
+    fn hear(&self, client: &mut Client, correlation: u64) -> Option<Reply>
+        requires { IsReceiverOf self.now.board.now (receiver_of client.old) }
+        ensures receiver { IsReceiverOf self.now.board.now (receiver_of client.new) }
+        ensures producer { producer_of client.new ≡ producer_of client.old }
+    {
+        let backoff = Backoff::new();
+        for _ in 0..self.plan.turns {
+            if self.is_stopped() {
+                return None;
+            }
+            match client.poll(self.board, correlation) {
+                Polled::Answered(reply) => return Some(reply),
+                // More may lie behind it already.
+                Polled::Another(_) | Polled::NoReply => backoff.reset(),
+                Polled::Nothing | Polled::Lapped(_) => backoff.snooze(),
+            }
+        }
+        None
+    }
+
+    /// Sends one command and waits for its reply. `None` where a wait came to its end.
+    fn command(&self, client: &mut StormClient, number: u32) -> Option<()>
+        requires { IsClientOf self.now.ring.now self.now.board.now client.old }
+        ensures client { IsClientOf self.now.ring.now self.now.board.now client.new }
+        ensures sent { sent_by (producer_of client.new.client) ≤ sent_by (producer_of client.old.client) + 1 }
+        ensures seen { client.new.seen ≡ client.old.seen }
+    {
+        if !self.wait_for_gate(client.index, number) {
+            return None;
+        }
+        let (label, label_len) = label_of(client.index);
+        let request = request_of(&label[..label_len], client.counter, number);
+        let correlation = self.send(&mut client.client, request)?;
+        if let Reply::Allocated { id, .. } = self.hear(&mut client.client, correlation)? {
+            client.counter = id;
+        }
+        self.gate.answered(client.index, number);
+        Some(())
+    }
+
+    /// Runs a client to its end. Where it gives up, all others are told to end.
+    pub(crate) fn run_client(&self, mut client: StormClient) -> StormClient
+        requires client { IsClientOf self.now.ring.now self.now.board.now client }
+        requires new { (sent_by (producer_of client.client) ≡ 0) × (client.seen ≡ 0) }
+        ensures client { IsClientOf self.now.ring.now self.now.board.now result }
+        ensures sent { sent_by (producer_of result.client) ≤ self.now.plan.commands }
+        ensures seen { result.seen ≤ self.now.plan.commands }
+    {
+        for number in 1..=self.plan.commands {
+            if self.command(&mut client, number).is_none() {
+                self.stop();
+                break;
+            }
+            client.seen += 1;
+        }
+        client
+    }
+}

@@ -1,0 +1,74 @@
+//! What the conductor does in a storm.
+ghost use Rattle.std.specs.Prelude.{◌≡◌, ◌+◌, ◌≤◌, IsTrue};
+ghost use Rattle.ring_rings.specs.Seats.{IsConsumerOf};
+ghost use Rattle.ring_conductor.specs.Conducting.{IsConductorOf};
+ghost use Rattle.ring_conductor.specs.Storming.{HasCounters, IsPlan, all_commands, board_shares_of, taken_by};
+
+use crate::conductor::{Conductor, WorkStop};
+use crate::storming::shared::Shared;
+use crossbeam_utils::Backoff;
+
+/// The conductor after its work.
+#[derive(Drop)]
+pub(crate) struct ConductorEnd {
+    pub(crate) conductor: Conductor,
+    /// Whether it took all commands.
+    pub(crate) is_done: bool,
+}
+
+impl<G> Shared<'_, G> {
+    /// Works until a command comes, and says how many came. 0 where none came.
+    fn work(&self, conductor: &mut Conductor) -> u64
+        requires conductor { IsConductorOf IsConsumerOf self.now.ring.now self.now.board.now self.now.values.now conductor.old }
+        requires counters { HasCounters self.now.plan conductor.old }
+        ensures conductor { IsConductorOf IsConsumerOf self.now.ring.now self.now.board.now self.now.values.now conductor.new }
+        ensures counters { HasCounters self.now.plan conductor.new }
+        ensures shares { board_shares_of conductor.new ≡ board_shares_of conductor.old }
+        ensures taken { taken_by conductor.new ≡ taken_by conductor.old + result }
+    {
+        let backoff = Backoff::new();
+        for _ in 0..self.plan.turns {
+            if self.is_stopped() {
+                return 0;
+            }
+            let work = conductor.do_work(self.ring, self.board, self.values, 0, u32::MAX);
+            if work.messages > 0 {
+                return work.messages;
+            }
+            // At the end of the buffer the next commands lie behind it.
+            if work.stopped != WorkStop::Block {
+                backoff.snooze();
+            }
+        }
+        0
+    }
+
+    /// Works until all commands are taken. Where it gives up, all others are told to end.
+    pub(crate) fn run_conductor(&self, mut conductor: Conductor) -> ConductorEnd
+        requires plan { IsPlan self.now.plan }
+        requires conductor { IsConductorOf IsConsumerOf self.now.ring.now self.now.board.now self.now.values.now conductor }
+        requires counters { HasCounters self.now.plan conductor }
+        ensures conductor { IsConductorOf IsConsumerOf self.now.ring.now self.now.board.now self.now.values.now result.conductor }
+        ensures counters { HasCounters self.now.plan result.conductor }
+        ensures shares { board_shares_of result.conductor ≡ board_shares_of conductor }
+        ensures done { IsTrue result.is_done → all_commands self.now.plan ≤ taken_by result.conductor }
+    {
+        let all = u64::from(self.plan.all_commands());
+        let mut received = 0;
+        for _ in 0..all {
+            if received >= all {
+                break;
+            }
+            let messages = self.work(&mut conductor);
+            if messages == 0 {
+                self.stop();
+                break;
+            }
+            received += messages;
+        }
+        ConductorEnd {
+            conductor,
+            is_done: received >= all,
+        }
+    }
+}

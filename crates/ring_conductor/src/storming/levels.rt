@@ -1,0 +1,231 @@
+//! How the threads of a storm are started and joined.
+ghost use Rattle.std.specs.Prelude.{◌≡◌, ◌+◌, ◌*◌, ◌<◌, ◌≤◌, IsTrue, None, Some};
+ghost use Rattle.ring_conductor.specs.declared.storming.seats.Failure.TheVariants.{OutOfMemory};
+ghost use Rattle.ring_rings.specs.Seats.{open_claims_of, shares_of, IsConsumerOf};
+ghost use Rattle.ring_conductor.specs.Conducting.{IsConductorOf};
+ghost use Rattle.ring_conductor.specs.Asking.{producer_of};
+ghost use Rattle.ring_conductor.specs.Storming.{HasCounters, IsClientOf, IsHubOf, IsPlan, all_commands, board_shares_of, sent_by, taken_by};
+
+use crate::storming::conductor::ConductorEnd;
+use crate::storming::gate::Gate;
+use crate::storming::promises::{ClientBack, ConductorBack};
+use crate::storming::seats::{Failure, Hub, LevelEnd, StormClient};
+use crate::storming::shared::Shared;
+use core::thread::Stack;
+use std::alloc::Global;
+use std::thread::{Scope, Threads};
+
+/// The stack of a thread. One that is too large refuses the thread.
+fn stack_of(thread: u32, refused: Option<u32>) -> Stack {
+    if refused == Some(thread) {
+        Stack::new().stack_size(usize::MAX)
+    } else {
+        Stack::new()
+    }
+}
+
+/// A level that goes no deeper, since memory or a thread is wanting.
+fn give_up(hub: Hub) -> LevelEnd
+    ensures hub { result.hub ≡ hub }
+    ensures seen { result.seen ≡ 0 }
+    ensures failure { result.failure ≡ Some OutOfMemory }
+{
+    LevelEnd {
+        hub,
+        seen: 0,
+        failure: Some(Failure::OutOfMemory),
+    }
+}
+
+/// The innermost level: the conductor, on a thread of its own.
+fn conduct<'s, E, R: Threads, G: Gate + Sync>(
+    scope: &'s Scope<'s, E>,
+    rt: &'s R,
+    shared: Shared<'s, G>,
+    hub: Hub,
+) -> LevelEnd
+    requires plan { IsPlan shared.plan }
+    requires hub { IsHubOf shared.plan shared.ring.now shared.board.now shared.values.now hub }
+    ensures hub { IsHubOf shared.entry.plan shared.entry.ring.now shared.entry.board.now shared.entry.values.now result.hub }
+    ensures producer { result.hub.producer ≡ hub.producer }
+    ensures receivers { board_shares_of result.hub.conductor ≡ board_shares_of hub.conductor }
+    ensures seen { result.seen ≡ 0 }
+    ensures done { (result.failure ≡ None) → all_commands shared.entry.plan ≤ taken_by result.hub.conductor }
+{
+    let Hub {
+        producer,
+        conductor,
+    } = hub;
+    // A thread's closure takes plain references along: of a struct that holds references nothing is known there.
+    let Shared {
+        ring,
+        board,
+        values,
+        gate,
+        stopped,
+        plan,
+        refused,
+    } = shared;
+    let shares = conductor.transmitter.shares();
+    let started = stack_of(plan.clients, refused).spawn_scoped_with(
+        scope,
+        ConductorBack {
+            ring,
+            board,
+            values,
+            shares,
+            plan,
+        },
+        move || -> ConductorEnd
+            requires { IsPlan plan × IsConductorOf IsConsumerOf ring.now board.now values.now conductor × HasCounters plan conductor }
+            ensures conductor { IsConductorOf IsConsumerOf ring.entry.now board.entry.now values.entry.now result.conductor }
+            ensures counters { HasCounters plan result.conductor }
+            ensures shares { board_shares_of result.conductor ≡ board_shares_of conductor }
+            ensures done { IsTrue result.is_done → all_commands plan ≤ taken_by result.conductor }
+        {
+            let shared = Shared {
+                ring,
+                board,
+                values,
+                gate,
+                stopped,
+                plan,
+                refused,
+            };
+            shared.run_conductor(conductor)
+        },
+    );
+    match started {
+        Ok(child) => {
+            let ConductorEnd { conductor, is_done } = child.join(rt);
+            LevelEnd {
+                hub: Hub {
+                    producer,
+                    conductor,
+                },
+                seen: 0,
+                failure: if is_done {
+                    None
+                } else {
+                    Some(Failure::TurnsSpent)
+                },
+            }
+        }
+        Err(closure) => {
+            // The closure sees at once that it is to end, and gives the conductor back.
+            shared.stop();
+            let ConductorEnd { conductor, .. } = (closure.value)();
+            give_up(Hub {
+                producer,
+                conductor,
+            })
+        }
+    }
+}
+
+/// Starts the clients below a number, each on a thread of its own, and after them the conductor. Each level starts one
+/// client and calls the next level; then it joins the thread and takes the seats back.
+pub(crate) fn level<'s, E, R: Threads, G: Gate + Sync>(
+    scope: &'s Scope<'s, E>,
+    rt: &'s R,
+    alloc: Global,
+    shared: Shared<'s, G>,
+    remaining: u32,
+    mut hub: Hub,
+) -> LevelEnd
+    requires plan { IsPlan shared.plan × (remaining ≤ 64) }
+    requires hub { IsHubOf shared.plan shared.ring.now shared.board.now shared.values.now hub }
+    requires shares { (remaining < shares_of hub.producer) × (remaining < board_shares_of hub.conductor) }
+    ensures hub { IsHubOf shared.entry.plan shared.entry.ring.now shared.entry.board.now shared.entry.values.now result.hub }
+    ensures producers { shares_of result.hub.producer ≡ shares_of hub.producer }
+    ensures receivers { board_shares_of result.hub.conductor ≡ board_shares_of hub.conductor }
+    ensures open_claims { open_claims_of result.hub.producer ≡ open_claims_of hub.producer }
+    ensures sent { sent_by result.hub.producer ≤ sent_by hub.producer + remaining * shared.entry.plan.commands }
+    ensures seen { result.seen ≤ remaining * shared.entry.plan.commands }
+    ensures done { (result.failure ≡ None) → (all_commands shared.entry.plan ≤ taken_by result.hub.conductor) × (result.seen ≡ remaining * shared.entry.plan.commands) }
+{
+    if remaining == 0 {
+        return conduct(scope, rt, shared, hub);
+    }
+    let index = remaining - 1;
+    let Ok(client) = shared.split_client(alloc, &mut hub, index) else {
+        shared.stop();
+        return give_up(hub);
+    };
+    let Shared {
+        ring,
+        board,
+        values,
+        gate,
+        stopped,
+        plan,
+        refused,
+    } = shared;
+    let started = stack_of(index, refused).spawn_scoped_with(
+        scope,
+        ClientBack { ring, board, plan },
+        move || -> StormClient
+            requires client { IsClientOf ring.now board.now client }
+            requires new { (sent_by (producer_of client.client) ≡ 0) × (client.seen ≡ 0) }
+            ensures client { IsClientOf ring.entry.now board.entry.now result }
+            ensures sent { sent_by (producer_of result.client) ≤ plan.commands }
+            ensures seen { result.seen ≤ plan.commands }
+        {
+            let shared = Shared {
+                ring,
+                board,
+                values,
+                gate,
+                stopped,
+                plan,
+                refused,
+            };
+            shared.run_client(client)
+        },
+    );
+    let (end, client) = match started {
+        Ok(child) => {
+            let end = level(scope, rt, alloc, shared, index, hub);
+            (end, child.join(rt))
+        }
+        Err(closure) => {
+            // The closure sees at once that it is to end, and gives the seats back.
+            shared.stop();
+            let client = (closure.value)();
+            (give_up(hub), client)
+        }
+    };
+    gather(shared, index, end, client)
+}
+
+/// Takes a client's seats back. It has spent its turns if a reply is wanting.
+fn gather<G>(shared: Shared<'_, G>, index: u32, end: LevelEnd, client: StormClient) -> LevelEnd
+    requires plan { IsPlan shared.plan × (index < 64) }
+    requires hub { IsHubOf shared.plan shared.ring.now shared.board.now shared.values.now end.hub }
+    requires client { IsClientOf shared.ring.now shared.board.now client }
+    requires sent { sent_by (producer_of client.client) ≤ shared.plan.commands }
+    requires seen { (client.seen ≤ shared.plan.commands) × (end.seen ≤ index * shared.plan.commands) }
+    requires done { (end.failure ≡ None) → (all_commands shared.plan ≤ taken_by end.hub.conductor) × (end.seen ≡ index * shared.plan.commands) }
+    ensures hub { IsHubOf shared.entry.plan shared.entry.ring.now shared.entry.board.now shared.entry.values.now result.hub }
+    ensures producers { shares_of result.hub.producer ≡ shares_of end.hub.producer + 1 }
+    ensures receivers { board_shares_of result.hub.conductor ≡ board_shares_of end.hub.conductor + 1 }
+    ensures open_claims { open_claims_of result.hub.producer ≡ open_claims_of end.hub.producer }
+    ensures sent { sent_by result.hub.producer ≤ sent_by end.hub.producer + shared.entry.plan.commands }
+    ensures seen { result.seen ≤ (index + 1) * shared.entry.plan.commands }
+    ensures done { (result.failure ≡ None) → (all_commands shared.entry.plan ≤ taken_by result.hub.conductor) × (result.seen ≡ (index + 1) * shared.entry.plan.commands) }
+{
+    let LevelEnd {
+        mut hub,
+        seen,
+        failure,
+    } = end;
+    let replies = shared.join_client(&mut hub, client);
+    LevelEnd {
+        hub,
+        seen: seen + replies,
+        failure: match failure {
+            None if replies < u64::from(shared.plan.commands) => Some(Failure::TurnsSpent),
+            failure => failure,
+        },
+    }
+}

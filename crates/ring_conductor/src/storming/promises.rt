@@ -1,0 +1,40 @@
+//! What threads promise of what they give back.
+ghost use Rattle.std.specs.Prelude.{◌≡◌, ◌≤◌, IsTrue};
+ghost use Rattle.ring_rings.specs.Seats.{IsConsumerOf};
+ghost use Rattle.ring_conductor.specs.Conducting.{IsConductorOf};
+ghost use Rattle.ring_conductor.specs.Asking.{producer_of};
+ghost use Rattle.ring_conductor.specs.Storming.{HasCounters, IsClientOf, all_commands, board_shares_of, sent_by, taken_by};
+
+use crate::storming::conductor::ConductorEnd;
+use crate::storming::plan::StormPlan;
+use crate::storming::seats::StormClient;
+use ring_board::Board;
+use ring_counters::CounterValues;
+use ring_rings::ManyToOneRing;
+use std::thread::Promise;
+
+/// A client comes back with its seats.
+#[derive(Clone, Copy)]
+pub(crate) struct ClientBack<'a> {
+    pub(crate) ring: &'a ManyToOneRing,
+    pub(crate) board: &'a Board,
+    pub(crate) plan: StormPlan,
+}
+
+impl<'a> Promise<StormClient> for ClientBack<'a> {
+    ghost kept_by = { λ p r. IsClientOf p.ring.now p.board.now r × (sent_by (producer_of r.client) ≤ p.plan.commands) × (r.seen ≤ p.plan.commands) };
+}
+
+/// The conductor comes back with its shares.
+#[derive(Clone, Copy)]
+pub(crate) struct ConductorBack<'a> {
+    pub(crate) ring: &'a ManyToOneRing,
+    pub(crate) board: &'a Board,
+    pub(crate) values: &'a CounterValues,
+    pub(crate) shares: u32,
+    pub(crate) plan: StormPlan,
+}
+
+impl<'a> Promise<ConductorEnd> for ConductorBack<'a> {
+    ghost kept_by = { λ p r. IsConductorOf IsConsumerOf p.ring.now p.board.now p.values.now r.conductor × HasCounters p.plan r.conductor × (board_shares_of r.conductor ≡ p.shares) × (IsTrue r.is_done → all_commands p.plan ≤ taken_by r.conductor) };
+}

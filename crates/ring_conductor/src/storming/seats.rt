@@ -1,0 +1,56 @@
+//! Those who take part in a storm, with their seats.
+ghost use Rattle.std.specs.Prelude.{◌≢◌};
+ghost use Rattle.ring_conductor.specs.declared.storming.plan.StormFault.TheVariants.{BadPlan};
+
+use crate::client::Client;
+use crate::conductor::Conductor;
+use crate::storming::plan::StormFault;
+use ring_rings::Producer;
+
+/// A client of a storm.
+#[derive(Drop)]
+pub(crate) struct StormClient {
+    /// Its number, from 0 on.
+    pub(crate) index: u32,
+    pub(crate) client: Client,
+    /// The id of its counter, once that is allocated.
+    pub(crate) counter: u32,
+    /// How many of its commands were answered.
+    pub(crate) seen: u64,
+}
+
+/// The seats from which those of the clients are split.
+#[derive(Drop)]
+pub(crate) struct Hub {
+    pub(crate) producer: Producer,
+    pub(crate) conductor: Conductor,
+}
+
+/// Why a storm does not go on.
+#[derive(Clone, Copy)]
+pub(crate) enum Failure {
+    /// Memory is wanting, or a thread could not be started.
+    OutOfMemory,
+    /// A wait took as many turns as it may.
+    TurnsSpent,
+}
+
+impl From<Failure> for StormFault {
+    ghost from_gives = { λ failure fault. fault ≢ BadPlan };
+
+    fn from(failure: Failure) -> Self {
+        match failure {
+            Failure::OutOfMemory => StormFault::OutOfMemory,
+            Failure::TurnsSpent => StormFault::TurnsSpent,
+        }
+    }
+}
+
+/// What comes back from the clients and the conductor, with all their seats.
+#[derive(Drop)]
+pub(crate) struct LevelEnd {
+    pub(crate) hub: Hub,
+    /// How many replies came to the clients that had sent their commands.
+    pub(crate) seen: u64,
+    pub(crate) failure: Option<Failure>,
+}

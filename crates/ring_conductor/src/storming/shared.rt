@@ -1,0 +1,33 @@
+//! What all threads of a storm share.
+
+use crate::storming::plan::StormPlan;
+use ring_board::Board;
+use ring_counters::CounterValues;
+use ring_rings::ManyToOneRing;
+use std::sync::atomic::AtomicBool;
+use std::sync::atomic::Ordering::SeqCst;
+
+/// What all threads of a storm share.
+#[derive_where(Clone, Copy)]
+pub(crate) struct Shared<'a, G> {
+    pub(crate) ring: &'a ManyToOneRing,
+    pub(crate) board: &'a Board,
+    pub(crate) values: &'a CounterValues,
+    pub(crate) gate: &'a G,
+    /// Whether somebody gave up. Each wait looks at it in each turn.
+    pub(crate) stopped: &'a AtomicBool,
+    pub(crate) plan: StormPlan,
+    /// The thread that can't be started, in tests: a client's by its number, then the conductor's.
+    pub(crate) refused: Option<u32>,
+}
+
+impl<G> Shared<'_, G> {
+    pub(crate) fn is_stopped(&self) -> bool {
+        self.stopped.load(SeqCst)
+    }
+
+    /// Tells all others to end.
+    pub(crate) fn stop(&self) {
+        self.stopped.store(true, SeqCst);
+    }
+}
