@@ -1,7 +1,9 @@
 -- Which refusal comes when.
-use Rattle.std.specs.Prelude.{◌≡◌, ℕ, ◌/◌, ◌%◌, ◌==◌, ◌||◌, not, ℤ, pos, Option, Some, None, Result, Err, MatchOption, IsOk, IsOkUnless, if◌then◌else◌, nat_lt, int_lt}
+use Rattle.std.specs.Prelude.{ℕ, ◌/◌, ◌%◌, ◌==◌, ◌||◌, not, ℤ, pos, Option, Some, None, Result, if◌then◌else◌, nat_lt, int_lt}
 use Rattle.ring_layout.specs.History.{span}
 use Rattle.ring_layout.specs.Places.{end_after, max_position}
+use Rattle.ring_layout.specs.Refusals.{IsRefusedOr}
+pub use Rattle.ring_layout.specs.Refusals.{IsRefusedAs, IsRefusedBy}
 use Rattle.ring_board.specs.declared.fault.MakeFault.{MakeFault}
 use Rattle.ring_board.specs.declared.fault.MakeFault.TheVariants.{BadCapacity, BadStart, OutOfMemory}
 use Rattle.ring_board.specs.declared.fault.TransmitFault.{TransmitFault}
@@ -20,7 +22,7 @@ make_refusal_of C start =
 
 -- the result is the refusal; where there is none it is Ok, unless memory is wanting
 abbrev pub IsMadeUnless : {T : Type 0} → Option MakeFault → Result T MakeFault → Type 0
-IsMadeUnless refusal result = MatchOption refusal (IsOkUnless result OutOfMemory) (λ fault. result ≡ Err fault)
+IsMadeUnless refusal result = IsRefusedOr OutOfMemory refusal result
 
 -- why a message of this type id and length is not transmitted at this tail, in the order of the tests
 abbrev pub transmit_refusal_of : ℕ → ℕ → ℤ → ℕ → Option TransmitFault
@@ -31,20 +33,13 @@ transmit_refusal_of C tail type_id len =
     else (if nat_lt max_position (end_after C tail (span len)) then Some (PositionLimit tail)
     else None))
 
--- the result is this error for the refusal, or Ok where there is none
-abbrev pub IsRefusedAs : {T E F : Type 0} → (F → E) → Option F → Result T E → Type 0
-IsRefusedAs error refusal result = MatchOption refusal (IsOk result) (λ fault. result ≡ Err (error fault))
-
-abbrev pub IsRefusedBy : {T F : Type 0} → Option F → Result T F → Type 0
-IsRefusedBy refusal result = IsRefusedAs (λ fault. fault) refusal result
-
 -- why a transmitter with so many shares makes no copying receiver
 abbrev pub subscribe_refusal_of : ℕ → Option SubscribeFault
 subscribe_refusal_of shares = if nat_lt 1 shares then None else Some subscribe_fault.NoShares
 
 -- the result is the refusal; where there is none it is Ok, unless memory is wanting
 abbrev pub IsSubscribedUnless : {T : Type 0} → Option SubscribeFault → Result T SubscribeFault → Type 0
-IsSubscribedUnless refusal result = MatchOption refusal (IsOkUnless result subscribe_fault.OutOfMemory) (λ fault. result ≡ Err fault)
+IsSubscribedUnless refusal result = IsRefusedOr subscribe_fault.OutOfMemory refusal result
 
 -- why a transmitter with so many shares makes no raw receiver
 abbrev pub raw_refusal_of : ℕ → Option NoShares

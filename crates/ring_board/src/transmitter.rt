@@ -13,24 +13,10 @@ ghost use Rattle.ring_board.specs.Seats.{capacity_of, view_of, tail_of, shares_o
 use crate::board::{BeginRefused, Begun, Board, Filled, Transmitter};
 use crate::fault::TransmitFault;
 use crate::shared::view::BoardSeat;
-use ring_layout::record_descriptor::{HEADER_LENGTH, PADDING_MSG_TYPE_ID, pack_header};
-use ring_layout::ring_buffer_descriptor::MAX_POSITION;
-use ring_layout::{byte_index, max_message};
-
-/// Where a record goes.
-#[derive(Clone, Copy)]
-struct Spot {
-    place: u64,
-    end: u64,
-}
-
-/// The header word of a record with this type id and so many bytes of body.
-fn record_header(type_id: i32, len: usize) -> u64
-    requires { len ≤ 2 ^ 24 }
-    ensures { result ≡ header (pos (8 + len)) type_id }
-{
-    pack_header((HEADER_LENGTH + len) as i32, type_id)
-}
+use ring_layout::{
+    Admission, committed_header, is_length, is_position, is_type_id, max_message, padding_header,
+    place_record,
+};
 
 impl Transmitter {
     /// The position in bytes at which its last transmission ended, or the board's start where there was none.
@@ -51,27 +37,24 @@ impl Transmitter {
 
 impl Board {
     /// Says where a record goes that comes next behind a tail, or why it can't be transmitted.
-    fn admit(&self, tail: u64, type_id: i32, len: usize) -> Result<Spot, TransmitFault>
+    fn admit(&self, tail: u64, type_id: i32, len: usize) -> Result<Admission, TransmitFault>
         requires { tail ≤ max_position }
         ensures refused { IsRefusedBy (transmit_refusal_of self.now.capacity tail type_id len) result }
         ensures lawful { OnOk result ((pos 1 ≤ℤ type_id) × (len ≤ self.now.capacity / 8)) }
         ensures spot { IfOk result (λ s. (s.place ≡ next_place self.now.capacity tail (span len)) × (s.end ≡ s.place + span len) × (s.end ≤ max_position)) }
     {
-        if type_id < 1 {
+        if !is_type_id(type_id) {
             return Err(TransmitFault::BadType { type_id });
         }
-        let max = max_message(self.capacity);
-        if len > max as usize {
+        if !is_length(self.capacity, len) {
+            let max = max_message(self.capacity);
             return Err(TransmitFault::TooLong { len, max });
         }
-        let span = (HEADER_LENGTH + len).next_multiple_of(8) as u64;
-        let room = u64::from(self.capacity) - byte_index(self.capacity, tail);
-        let place = if span <= room { tail } else { tail + room };
-        let end = place + span;
-        if end > MAX_POSITION {
+        let admission = place_record(self.capacity, tail, len);
+        if !is_position(admission.end) {
             return Err(TransmitFault::PositionLimit { tail });
         }
-        Ok(Spot { place, end })
+        Ok(admission)
     }
 
     /// Stores the padding header, where a record does not lie at the tail.
@@ -83,8 +66,7 @@ impl Board {
         ensures padded { (z : ℕ) → seat.old.me.0.stage ≡ drafted (draft tail place z []) → seat.new.me ≡ (staged seat.old.me.0 (Storing (draft tail place z [])), seat.old.me.1) }
     {
         if tail < place {
-            let padding = pack_header((place - tail) as i32, PADDING_MSG_TYPE_ID);
-            self.store_padding(seat, tail, padding);
+            self.store_padding(seat, tail, padding_header(place - tail));
         }
     }
 
@@ -100,7 +82,7 @@ impl Board {
     {
         self.store_gap(seat, tail, place);
         self.store_body(seat, place, body);
-        let header = record_header(type_id, body.len());
+        let header = committed_header(type_id, body.len());
         self.store_header(seat, place, header);
     }
 
@@ -145,7 +127,7 @@ impl Board {
         ensures sent { OnOk result (view_of transmitter.new ≡ sent_on (view_of transmitter.old) (next_record (capacity_of self.now) (tail_of transmitter.old) type_id body.now)) }
     {
         let tail = transmitter.tail;
-        let Spot { place, end } = self.admit(tail, type_id, body.len())?;
+        let Admission { place, end, .. } = self.admit(tail, type_id, body.len())?;
         let seat = &mut transmitter.seat;
         self.store_intent(seat, end);
         self.store_record(seat, tail, place, type_id, body);
@@ -166,8 +148,8 @@ impl Board {
         ensures refused { IsRefusedAs (refused_with transmitter) (transmit_refusal_of (capacity_of self.now) (tail_of transmitter) type_id len) result }
         ensures begun { IfOk result (λ b. IsBegunOf self.now b × HasBegun (capacity_of self.now) transmitter type_id len b) }
     {
-        let Spot { place, end } = match self.admit(transmitter.tail, type_id, len) {
-            Ok(spot) => spot,
+        let Admission { place, end, .. } = match self.admit(transmitter.tail, type_id, len) {
+            Ok(admission) => admission,
             Err(reason) => {
                 return Err(BeginRefused {
                     reason,

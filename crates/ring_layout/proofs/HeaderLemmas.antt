@@ -1,7 +1,7 @@
 -- Headers give their length and type id back.
-use Rattle.std.proofs.Common.{◌≡◌, ℕ, ◌/◌, ◌%◌, ◌^◌, ◌<◌, ap, ◌∙◌, arith, ℤ, pos, negsuc, neg_ℤ, FitsSigned, zero, suc, ◌<ℤ◌, ◌≤ℤ◌}
+use Rattle.std.proofs.Common.{◌≡◌, ℕ, ◌/◌, ◌%◌, ◌^◌, ◌<◌, ap, ◌∙◌, arith, ℤ, pos, negsuc, neg_ℤ, ◌-ℤ◌, to_z, of_z, FitsSigned, zero, suc, ◌<ℤ◌, ◌≤ℤ◌}
 use Rattle.std.specs.Int.{cast_signed, cast_unsigned, w32}
-use Rattle.std.proofs.lemmas.Int.{to_z-of_z, ints}
+use Rattle.std.proofs.lemmas.Int.{to_z-of_z, to_z_pos, ints}
 use Rattle.std.proofs.lemmas.Nat.{mod_low, shr_high}
 use Rattle.ring_layout.specs.Headers.{header}
 
@@ -21,6 +21,13 @@ fits_pos n h = record { sfits = omega arith }
 pub fits_neg : (n : ℕ) → n < 2 ^ 31 → FitsSigned w32 (neg_ℤ (pos n))
 fits_neg zero h = record { sfits = omega arith }
 fits_neg (suc n) h = record { sfits = omega arith }
+
+-- the pattern of a length that the code negates
+pub negated_length : (n : ℕ) → n < 2 ^ 31 → to_z w32 (of_z w32 (pos 0 -ℤ to_z w32 n)) ≡ neg_ℤ (pos n)
+negated_length n small =
+    let negated : pos 0 -ℤ pos n ≡ neg_ℤ (pos n) = omega (arith, ints) in
+    ap (λ z. to_z w32 (of_z w32 z)) (ap (λ z. pos 0 -ℤ z) (to_z_pos w32 n small) ∙ negated)
+    ∙ to_z-of_z w32 (neg_ℤ (pos n)) (fits_neg n small)
 
 pub neg_not_above : (n : ℕ) → pos 0 <ℤ neg_ℤ (pos n) → ⊥
 neg_not_above zero h = omega (arith, ints)

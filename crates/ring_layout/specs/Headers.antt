@@ -15,14 +15,23 @@ padding_type = negsuc 0
 abbrev pub padding_header : ℕ → ℕ
 padding_header n = header (pos n) padding_type
 
--- the header of a claim: an open one has its length negated, an aborted one the type id of padding
+-- the header of an open claim with n bytes of body: its length is negated
+abbrev pub open_header : ℤ → ℕ → ℕ
+open_header type_id n = header (neg_ℤ (pos (8 + n))) type_id
+
+-- the header of a committed one
+abbrev pub committed_header : ℤ → ℕ → ℕ
+committed_header type_id n = header (pos (8 + n)) type_id
+
+-- the header of an aborted one: it has the type id of padding
+abbrev pub aborted_header : ℕ → ℕ
+aborted_header n = padding_header (8 + n)
+
+-- the header of a claim
 abbrev pub header_of : Claim → ℕ
 header_of c = by_state c.state
   where
-    len : ℕ
-    len = 8 + length c.message.body
-
     by_state : ClaimState → ℕ
-    by_state Open = header (neg_ℤ (pos len)) c.message.type_id
-    by_state Committed = header (pos len) c.message.type_id
-    by_state Aborted = header (pos len) padding_type
+    by_state Open = open_header c.message.type_id (length c.message.body)
+    by_state Committed = committed_header c.message.type_id (length c.message.body)
+    by_state Aborted = aborted_header (length c.message.body)

@@ -4,3 +4,4 @@ pub mod Headers
 pub mod Picture
 pub mod Handles
 pub mod Layout
+pub mod Refusals

@@ -1,6 +1,7 @@
 //! Where records lie in a ring, how their words look, and the definitions that every crate names.
 #![tactic(auto)]
 
+mod admission;
 pub mod broadcast_buffer_descriptor;
 pub mod counter_descriptor;
 mod formats;
@@ -11,8 +12,12 @@ pub mod record_descriptor;
 pub mod ring_buffer_descriptor;
 mod word_bytes;
 
+pub use admission::{Admission, fits, has_room, is_length, is_position, is_type_id, place_record};
 pub use message::{Claim, ClaimState, Message};
 pub use picture_law::word_depends_on_one_claim;
-pub use placement::{byte_index, fits, is_capacity, max_message, pad_and_span, word_index};
-pub use record_descriptor::{align8, pack_header, span, unpack_header};
+pub use placement::{byte_index, is_capacity, max_message, pad_and_span, word_index};
+pub use record_descriptor::{
+    aborted_header, align8, committed_header, open_header, pack_header, padding_header, span,
+    unpack_header,
+};
 pub use word_bytes::{first_word, get_byte_word, put_bytes_word, put_part, put_word};

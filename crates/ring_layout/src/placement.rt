@@ -1,10 +1,8 @@
 //! Where a record may go.
-ghost use Rattle.std.specs.Prelude.{◌≡◌, ℕ, ◌+◌, ◌-◌, ◌*◌, ◌/◌, ◌%◌, ◌^◌, ◌<◌, ◌≤◌, ◌↔◌, IsTrue, true, false, List, [], ◌∷◌, ◌++◌, length, slice_index};
-ghost use Rattle.ring_layout.specs.History.{Claim, span, span_of, IsMessage};
+ghost use Rattle.std.specs.Prelude.{◌≡◌, ◌+◌, ◌/◌, ◌%◌, ◌≤◌, ◌↔◌, IsTrue};
 ghost use Rattle.std.specs.Int.{is_power_of_two};
-ghost use Rattle.ring_layout.specs.Places.{is_capacity, IsCapacity, index, max_position, next_place, end_after, end_of, Fits};
-ghost use Rattle.ring_layout.specs.Headers.{padding_header};
-ghost use Rattle.ring_layout.specs.Picture.{claim_word, word_at};
+ghost use Rattle.ring_layout.specs.History.{span};
+ghost use Rattle.ring_layout.specs.Places.{is_capacity, IsCapacity, index, max_position, next_place};
 
 use crate::record_descriptor;
 use crate::ring_buffer_descriptor::{MAX_CAPACITY, MIN_CAPACITY};
@@ -43,10 +41,10 @@ pub fn word_index(capacity: u32, position: u64) -> usize
 
 /// The bytes of padding that a record with `len` bytes of body needs at this tail, and the record's span: the bytes
 /// that it takes. Padding goes up to the end of the buffer, where the record would cross that.
+#[inline]
 pub fn pad_and_span(capacity: u32, tail: u64, len: usize) -> (u64, u64)
-    requires capacity { IsCapacity capacity }
+    requires power { IsTrue (is_power_of_two capacity) }
     requires short { len ≤ capacity / 8 }
-    requires aligned { tail % 8 ≡ 0 }
     requires limit { tail ≤ max_position }
     ensures place { tail + result.0 ≡ next_place capacity tail (span len) }
     ensures span { result.1 ≡ span len }
@@ -54,19 +52,4 @@ pub fn pad_and_span(capacity: u32, tail: u64, len: usize) -> (u64, u64)
     let span = record_descriptor::span(len);
     let room = u64::from(capacity) - byte_index(capacity, tail);
     (if span <= room { 0 } else { room }, span)
-}
-
-/// Tests whether a record with `len` bytes of body fits at this tail and head: its padding and span are at most the room
-/// that is left. Where it does not fit, it does not fit at any later tail either while the head stays.
-pub fn fits(capacity: u32, tail: u64, head: u64, len: usize) -> bool
-    requires capacity { IsCapacity capacity }
-    requires short { len ≤ capacity / 8 }
-    requires aligned { tail % 8 ≡ 0 }
-    requires limit { tail ≤ max_position }
-    requires order { head ≤ tail }
-    ensures fits { IsTrue result ↔ Fits capacity tail head (span len) }
-    ensures lasting { (later : ℕ) → tail ≤ later → Fits capacity later head (span len) → result ≡ true }
-{
-    let (pad, span) = pad_and_span(capacity, tail, len);
-    tail + pad + span <= head + u64::from(capacity)
 }

@@ -10,9 +10,9 @@
 //!
 //! All numbers are little-endian. While a record is claimed and not settled its length is negated; an aborted
 //! record and padding have the type id -1. A header that is not yet stored is 0.
-ghost use Rattle.std.specs.Prelude.{◌≡◌, ◌+◌, ◌-◌, ◌*◌, ◌/◌, ◌%◌, ◌^◌, ◌≤◌, ℤ, FitsSigned};
+ghost use Rattle.std.specs.Prelude.{◌≡◌, ◌+◌, ◌-◌, ◌*◌, ◌/◌, ◌%◌, ◌^◌, ◌<◌, ◌≤◌, ℤ, FitsSigned};
 ghost use Rattle.std.specs.Int.{cast_signed, w32};
-ghost use Rattle.ring_layout.specs.Headers.{header};
+ghost use Rattle.ring_layout.specs.Headers.{header, open_header, committed_header, aborted_header, padding_header};
 ghost use Rattle.ring_layout.specs.History.{span};
 
 /// The bytes of a header.
@@ -67,4 +67,40 @@ pub fn unpack_header(word: u64) -> (i32, i32)
     let len = (word & 0xffff_ffff) as u32;
     let type_id = (word >> 32) as u32;
     (len.cast_signed(), type_id.cast_signed())
+}
+
+/// The header word of an open claim of a message with `len` bytes, whose length is negated until it is settled.
+#[inline]
+pub fn open_header(type_id: i32, len: usize) -> u64
+    requires { 8 + len < 2 ^ 31 }
+    ensures { result ≡ open_header type_id len }
+{
+    pack_header(-((HEADER_LENGTH + len) as i32), type_id)
+}
+
+/// The header word of a committed record of a message with `len` bytes.
+#[inline]
+pub fn committed_header(type_id: i32, len: usize) -> u64
+    requires { 8 + len < 2 ^ 31 }
+    ensures { result ≡ committed_header type_id len }
+{
+    pack_header((HEADER_LENGTH + len) as i32, type_id)
+}
+
+/// The header word of an aborted record whose message has `len` bytes. It looks like padding.
+#[inline]
+pub fn aborted_header(len: usize) -> u64
+    requires { 8 + len < 2 ^ 31 }
+    ensures { result ≡ aborted_header len }
+{
+    pack_header((HEADER_LENGTH + len) as i32, PADDING_MSG_TYPE_ID)
+}
+
+/// The header word of so many bytes of padding, this word counted.
+#[inline]
+pub fn padding_header(bytes: u64) -> u64
+    requires { bytes < 2 ^ 31 }
+    ensures { result ≡ padding_header bytes }
+{
+    pack_header(bytes as i32, PADDING_MSG_TYPE_ID)
 }

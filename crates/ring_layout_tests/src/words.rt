@@ -1,7 +1,7 @@
 use ring_layout::{
-    align8, byte_index, first_word, fits, get_byte_word, is_capacity, max_message, pack_header,
-    pad_and_span, put_bytes_word, put_part, put_word, unpack_header, word_depends_on_one_claim,
-    word_index,
+    aborted_header, align8, byte_index, committed_header, first_word, fits, get_byte_word,
+    is_capacity, max_message, open_header, pack_header, pad_and_span, padding_header,
+    put_bytes_word, put_part, put_word, unpack_header, word_depends_on_one_claim, word_index,
 };
 
 #[test]
@@ -17,6 +17,14 @@ fn packs_length_and_type_id(rt: HostRuntime) {
     assert_eq!(rt; pack_header(-8, 1), 0x0000_0001_FFFF_FFF8);
     assert_eq!(rt; unpack_header(0x0000_0001_FFFF_FFF8), (-8, 1));
     assert_eq!(rt; unpack_header(0xFFFF_FFFF_0000_0010), (16, -1));
+}
+
+#[test]
+fn makes_the_four_headers_of_a_record(rt: HostRuntime) {
+    assert_eq!(rt; open_header(7, 5), 0x0000_0007_FFFF_FFF3);
+    assert_eq!(rt; committed_header(7, 5), 0x0000_0007_0000_000D);
+    assert_eq!(rt; aborted_header(5), 0xFFFF_FFFF_0000_000D);
+    assert_eq!(rt; padding_header(16), 0xFFFF_FFFF_0000_0010);
 }
 
 #[test]

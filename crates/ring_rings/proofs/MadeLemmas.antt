@@ -13,7 +13,7 @@ use Rattle.ring_table.specs.OpenClaims.{open_count}
 use Rattle.ring_table.specs.Views.{with_claim, with_claims}
 use Rattle.ring_table.specs.Staged.{AreRising, AreStored}
 use Rattle.ring_table.specs.ProducerSteps.{HasClaimAt, IsOpen}
-use Rattle.ring_rings.specs.declared.producer.admission.Admission.{Admission}
+use Rattle.ring_layout.specs.declared.admission.Admission.{Admission}
 use Rattle.ring_rings.specs.Claiming.{claim_behind, looked, record_behind, tail_refusal_of}
 use Rattle.ring_rings.specs.Making.{HasJustMade, IsJustMade, Makes}
 use Rattle.ring_rings.specs.Matching.{Matches}

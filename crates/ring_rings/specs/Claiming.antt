@@ -1,9 +1,10 @@
 -- What claims do to a producer's view, and why they are refused.
-use Rattle.std.specs.Prelude.{◌≡◌, ◌≢◌, ◌⊎◌, ℕ, ◌+◌, ◌/◌, ◌%◌, ◌<◌, ◌≤◌, ℤ, pos, List, [], ◌∷◌, ◌++◌, length, Option, Some, None, Result, Err, MatchOption, IsOk, if◌then◌else◌, nat_lt, int_lt}
+use Rattle.std.specs.Prelude.{◌≡◌, ◌≢◌, ◌⊎◌, ℕ, ◌+◌, ◌/◌, ◌%◌, ◌<◌, ◌≤◌, ℤ, pos, List, [], ◌∷◌, ◌++◌, length, Option, Some, None, if◌then◌else◌, nat_lt, int_lt}
 use Rattle.ring_layout.specs.declared.message.ClaimState.TheVariants.{Committed}
 use Rattle.ring_layout.specs.History.{span}
 use Rattle.ring_layout.specs.Places.{next_place, end_after, max_position, Fits}
 use Rattle.ring_layout.specs.Layout.{tail_index, head_cache_index, head_index}
+pub use Rattle.ring_layout.specs.Refusals.{IsRefusedBy}
 use Rattle.ring_words.specs.Open.{ClaimAt}
 use Rattle.ring_words.specs.declared.fault.ClaimFault.{ClaimFault}
 use Rattle.ring_words.specs.declared.fault.ClaimFault.TheVariants.{BadType, TooLong, PositionLimit, InsufficientCapacity}
@@ -71,10 +72,6 @@ tail_refusal_of C tail type_id len =
     else (if nat_lt longest len then Some (TooLong len longest)
     else (if nat_lt max_position (end_after C tail (span len)) then Some (PositionLimit tail)
     else None))
-
--- the result is the refusal, or Ok where there is none
-abbrev pub IsRefusedBy : {T : Type 0} → Option ClaimFault → Result T ClaimFault → Type 0
-IsRefusedBy refusal result = MatchOption refusal (IsOk result) (λ fault. result ≡ Err fault)
 
 -- the cached head and then the head were loaded, and the record fits behind neither
 pub record IsFull (C tail len : ℕ) (loads : List (ℕ × ℕ)) (fault : ClaimFault) : Type 0 where

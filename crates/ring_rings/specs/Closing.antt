@@ -1,8 +1,9 @@
 -- What a closed ring hands out.
-use Rattle.std.specs.Prelude.{◌≡◌, ℕ, ◌-◌, ◌%◌, ◌^◌, ◌≤◌, List, ◌∷◌, ◌++◌, length, slice_index, Option, Some, None, Result, Err, MatchOption, IsOk, if◌then◌else◌, nat_lt, ◌==◌}
+use Rattle.std.specs.Prelude.{◌≡◌, ℕ, ◌-◌, ◌%◌, ◌^◌, ◌≤◌, List, ◌∷◌, ◌++◌, length, slice_index, Option, Some, None, if◌then◌else◌, nat_lt, ◌==◌}
 use mathlib.Core.Option.{some}
 use lib.ListN.{get_elem?}
 use Rattle.ring_layout.specs.Layout.{correlation_index, heartbeat_index, head_cache_index, IsUnnamed}
+pub use Rattle.ring_layout.specs.Refusals.{IsRefusedAs}
 use Rattle.ring_words.specs.Ring.{Ring, Has, head_of}
 use Rattle.ring_table.specs.declared.claim.StagedClaim.{StagedClaim}
 use Rattle.ring_table.specs.declared.view.View.{View}
@@ -26,10 +27,6 @@ close_refusal_of open_claims shares =
 -- ring, producer and consumer come back with the reason
 abbrev pub kept_open : {R : Type 0} → R → Producer → Consumer → CloseFault → CloseRefused R
 kept_open ring producer consumer reason = record { reason = reason; ring = ring; producer = producer; consumer = consumer }
-
--- the result is this error for the refusal, or Ok where there is none
-abbrev pub IsRefusedAs : {T E F : Type 0} → (F → E) → Option F → Result T E → Type 0
-IsRefusedAs error refusal result = MatchOption refusal (IsOk result) (λ fault. result ≡ Err (error fault))
 
 -- claims lie one behind the other from the start on, so that their places rise and none occurs twice
 pub record AreOrdered (C start : ℕ) (cs : List StagedClaim) : Type 0 where

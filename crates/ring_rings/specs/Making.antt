@@ -8,7 +8,7 @@ use Rattle.ring_table.specs.Staged.{staged_span}
 use Rattle.ring_table.specs.Changes.{blank, fresh_stage}
 use Rattle.ring_table.specs.ProducerSteps.{EndBelow}
 use Rattle.ring_table.specs.Views.{with_claim}
-use Rattle.ring_rings.specs.declared.producer.admission.Admission.{Admission}
+use Rattle.ring_layout.specs.declared.admission.Admission.{Admission}
 use Rattle.ring_rings.specs.declared.producer.room.Shortage.{Shortage}
 use Rattle.ring_rings.specs.declared.producer.room.Shortage.TheVariants.{Full, Passed}
 use Rattle.ring_rings.specs.Claiming.{GoesBy, LooksTwice, SeesRoom, claim_behind, looked, tail_refusal_of}

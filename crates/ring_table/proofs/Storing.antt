@@ -12,7 +12,7 @@ use Rattle.ring_layout.specs.declared.message.ClaimState.{ClaimState}
 use Rattle.ring_layout.specs.declared.message.ClaimState.TheVariants.{Open}
 use Rattle.ring_layout.specs.History.{IsMessage, span}
 use Rattle.ring_layout.specs.Places.{index}
-use Rattle.ring_layout.specs.Headers.{header_of, padding_header}
+use Rattle.ring_layout.specs.Headers.{header_of, open_header, padding_header}
 use Rattle.ring_layout.proofs.HeaderLemmas.{len_of-header, type_of-header, fits_neg}
 use Rattle.ring_table.specs.Staged.{StagedClaim, Stage, Moved, Padded, Stored, claim_of, claim_end, staged_span, masked_padding, masked_record, staged_word, staged_word_at, staged_end, AreRising, IsStored}
 use Rattle.ring_table.specs.Changes.{blank, staged, opened, written, changed}
@@ -20,7 +20,7 @@ use Rattle.ring_table.specs.Owners.{OwnedHistory, all_of, edited_one, edited}
 use Rattle.ring_table.specs.Passing.{IsSettled}
 use Rattle.ring_table.specs.Views.{View, with_claims}
 use Rattle.ring_table.specs.Rule.{Kept}
-use Rattle.ring_table.specs.ProducerSteps.{Mine, HasClaim, Changes, StoresPadding, open_header, StoresClaimed, StoresSettled, StoresBody, TakesWord}
+use Rattle.ring_table.specs.ProducerSteps.{Mine, HasClaim, Changes, StoresPadding, StoresClaimed, StoresSettled, StoresBody, TakesWord}
 use Rattle.ring_table.proofs.StagedPlaces.{word_of_claim, one_at_place, one_at_position}
 use Rattle.ring_table.proofs.BodyWords.{length-with_word, body_word-with_word, bytes_of-with_word}
 use Rattle.ring_table.proofs.StagedWords.{staged_word-header, staged_word-padding, staged_word-stored, staged_word-staged, staged_word-opened, staged_word-written}

@@ -8,7 +8,7 @@ use Rattle.ring_layout.specs.declared.message.ClaimState.{ClaimState}
 use Rattle.ring_layout.specs.declared.message.ClaimState.TheVariants.{Open}
 use Rattle.ring_layout.specs.History.{IsMessage, span}
 use Rattle.ring_layout.specs.Places.{index, end_after, max_position}
-use Rattle.ring_layout.specs.Headers.{header}
+use Rattle.ring_layout.specs.Headers.{open_header}
 use Rattle.ring_layout.specs.Layout.{tail_index, head_index}
 use Rattle.ring_table.specs.Staged.{StagedClaim, Stage, Moved, Padded, Stored, claim_end, staged_span, body_word, AreRising}
 use Rattle.ring_table.specs.Changes.{blank, fresh, staged, opened, written, changed}
@@ -89,10 +89,6 @@ Changes t at f word v w = (k : ℕ) (c : StagedClaim) → HasClaim v k c → c.s
 
 abbrev pub StoresPadding : ℕ → View → View → Type 0
 StoresPadding word v w = Changes Moved (λ c. c.from) (staged Padded) word v w
-
--- the length in the header is negated
-abbrev pub open_header : ℤ → ℕ → ℕ
-open_header type_id n = header (neg_ℤ (pos (8 + n))) type_id
 
 -- the header that is stored fixes type id and length
 abbrev pub StoresClaimed : ℕ → ℕ → View → View → Type 0

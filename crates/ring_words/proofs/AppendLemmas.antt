@@ -1,7 +1,7 @@
 -- An admitted claim is stored behind the tail: the headers, then the body, then the tail.
-use Rattle.std.proofs.Common.{◌≡◌, ◌≢◌, ℕ, ◌+◌, ◌-◌, ◌*◌, ◌/◌, ◌%◌, ◌<◌, ◌≤◌, List, [], length, drop, slice_index, slice_set, replicate, true, false, if◌then◌else◌, refl, ap, sym, ◌∙◌, arith, inl, inr, get_or-set_other, nat_lt, ℤ, pos, neg_ℤ, ◌-ℤ◌, ◌≤ℤ◌, ◌^◌, FitsSigned, to_z, of_z}
+use Rattle.std.proofs.Common.{◌≡◌, ◌≢◌, ℕ, ◌+◌, ◌-◌, ◌*◌, ◌/◌, ◌%◌, ◌<◌, ◌≤◌, List, [], length, drop, slice_index, slice_set, replicate, true, false, if◌then◌else◌, refl, ap, sym, ◌∙◌, arith, inl, inr, get_or-set_other, nat_lt, ℤ, pos, ◌≤ℤ◌, ◌^◌, FitsSigned, to_z, of_z}
 use Rattle.std.specs.Int.{from_le_bytes, w32, w64}
-use Rattle.std.proofs.lemmas.Int.{ints, to_z-of_z, to_z_pos}
+use Rattle.std.proofs.lemmas.Int.{to_z-of_z}
 use Rattle.std.proofs.lemmas.List.Elements.{All-from_get_or}
 use Rattle.std.proofs.lemmas.Bool.{cases_lt, lt-ltb, le-ltb, cond-true, cond-false}
 use Rattle.std.proofs.lemmas.List.{length-set, get_or-drop, get_or-replicate, get_or_past, length-replicate}
@@ -9,13 +9,12 @@ use Rattle.std.proofs.lemmas.Nat.{mod_below}
 use Rattle.ring_layout.specs.declared.message.Claim.{Claim}
 use Rattle.ring_layout.specs.History.{IsMessage, span_of}
 use Rattle.ring_layout.specs.Places.{index, next_place}
-use Rattle.ring_layout.specs.Headers.{header, header_of, padding_header}
+use Rattle.ring_layout.specs.Headers.{header_of, open_header, padding_header}
 use Rattle.ring_layout.specs.Layout.{tail_index}
 use Rattle.ring_layout.proofs.CapacityLemmas.{capacity_blocks}
 use Rattle.ring_layout.proofs.Laps.{index_step, apart}
 use Rattle.ring_layout.proofs.PlaceLemmas.{next_le, next_within, next_aligned, span_bounds}
 use Rattle.ring_layout.proofs.WordBytes.{from_le_bytes-same}
-use Rattle.ring_layout.proofs.HeaderLemmas.{fits_neg}
 use Rattle.ring_words.specs.Ring.{Ring, ring, IsRing, tail_of}
 use Rattle.ring_words.specs.Change.{AppendsClaim, opened, written}
 use Rattle.ring_words.specs.Storing.{IsAdmitted, padded}
@@ -150,15 +149,10 @@ opened_lawful C type_id len low fits most = record {
       let z : slice_index zeros i ≡ 0 = get_or-replicate len i 0 0 (omega arith) in omega (arith, z));
 }
 
-pub opened_header : (type_id : ℤ) (len : ℕ) → FitsSigned w32 type_id → 8 + len < 2 ^ 31
-    → header (to_z w32 (of_z w32 (pos 0 -ℤ to_z w32 (8 + len)))) (to_z w32 (of_z w32 type_id)) ≡ header_of (opened type_id len)
-opened_header type_id len fits small =
-    let n : ℕ = 8 + len in
-    let inner : to_z w32 n ≡ pos n = to_z_pos w32 n small in
-    let negated : pos 0 -ℤ pos n ≡ neg_ℤ (pos n) = omega (arith, ints) in
-    let length_is : to_z w32 (of_z w32 (pos 0 -ℤ to_z w32 n)) ≡ neg_ℤ (pos n) =
-    ap (λ z. to_z w32 (of_z w32 z)) (ap (λ z. pos 0 -ℤ z) inner ∙ negated) ∙ to_z-of_z w32 (neg_ℤ (pos n)) (fits_neg n small) in
-    (λ i. header (length_is i) (to_z-of_z w32 type_id fits i)) ∙ ap (λ k. header (neg_ℤ (pos (8 + k))) type_id) (sym (length-opened type_id len))
+pub opened_header : (type_id : ℤ) (len : ℕ) → FitsSigned w32 type_id
+    → open_header (to_z w32 (of_z w32 type_id)) len ≡ header_of (opened type_id len)
+opened_header type_id len fits =
+    ap (λ t. open_header t len) (to_z-of_z w32 type_id fits) ∙ ap (open_header type_id) (sym (length-opened type_id len))
 
 -- a written message
 pub written_lawful : (C : ℕ) (type_id : ℤ) (body : List ℕ) → pos 1 ≤ℤ type_id → FitsSigned w32 type_id → length body ≤ C / 8 → ((i : ℕ) → slice_index body i < 2 ^ 8)

@@ -11,3 +11,4 @@ pub mod MiddleLemmas
 pub mod OpenLemmas
 pub mod PutLemmas
 pub mod SettleLemmas
+pub mod DrainLemmas

@@ -8,3 +8,4 @@ pub mod Reading
 pub mod Read
 pub mod Standing
 pub mod Across
+pub mod Drain

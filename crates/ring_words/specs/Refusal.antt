@@ -1,11 +1,11 @@
 -- Why a claim is refused.
-use Rattle.std.specs.Prelude.{◌≡◌, ℕ, ◌+◌, ◌/◌, ℤ, pos, Option, Some, None, Result, Err, MatchOption, IsOk, if◌then◌else◌, nat_lt, int_lt}
+use Rattle.std.specs.Prelude.{ℕ, ◌+◌, ◌/◌, ℤ, pos, Option, Some, None, if◌then◌else◌, nat_lt, int_lt}
 use Rattle.ring_words.specs.declared.fault.ClaimFault.{ClaimFault}
 use Rattle.ring_words.specs.declared.fault.ClaimFault.TheVariants.{BadType, TooLong, PositionLimit, InsufficientCapacity}
 use Rattle.ring_layout.specs.History.{span}
-use Rattle.ring_layout.specs.Places.{end_after}
+use Rattle.ring_layout.specs.Places.{end_after, max_position}
+pub use Rattle.ring_layout.specs.Refusals.{IsRefusedBy}
 use Rattle.ring_words.specs.Ring.{Ring, head_of, tail_of}
-use Rattle.ring_layout.specs.Places.{max_position}
 
 -- the refusal of a claim of this type id and length, in the order of the tests; none where it fits
 abbrev pub refusal_of : Ring → ℤ → ℕ → Option ClaimFault
@@ -17,7 +17,3 @@ refusal_of r type_id len =
     else (if nat_lt max_position end then Some (PositionLimit (tail_of r))
     else (if nat_lt (head_of r + r.capacity) end then Some (InsufficientCapacity (tail_of r) (head_of r))
     else None)))
-
--- the result is the refusal, or Ok where there is none
-abbrev pub IsRefusedBy : {T : Type 0} → Option ClaimFault → Result T ClaimFault → Type 0
-IsRefusedBy refusal result = MatchOption refusal (IsOk result) (λ fault. result ≡ Err fault)

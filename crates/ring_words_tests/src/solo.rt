@@ -73,6 +73,25 @@ fn wraps_with_padding(rt: HostRuntime) -> Result<(), Fail> {
 }
 
 #[test]
+fn drains_up_to_an_open_claim(rt: HostRuntime) -> Result<(), Fail> {
+    let mut ring = SoloRing::new(rt.alloc(), 128)?;
+    write_often(&mut ring, 3)?;
+    assert_eq!(rt; ring.drain(), 3);
+    write_often(&mut ring, 3)?;
+    let _open = ring.claim(1, 8)?;
+    write(&mut ring, 1, &[])?;
+    // Over the end of the buffer, and up to the claim.
+    assert_eq!(rt; ring.drain(), 3);
+    assert_eq!(rt; ring.drain(), 0);
+    let positions = Positions {
+        head: 152,
+        tail: 176,
+    };
+    assert_eq!(rt; ring.positions(), positions);
+    Ok(())
+}
+
+#[test]
 fn refuses_in_order(rt: HostRuntime) -> Result<(), Fail> {
     let mut ring = SoloRing::new(rt.alloc(), 128)?;
     let long = [0; 17];

@@ -1,32 +1,23 @@
-//! Whether and where a claim may go.
+//! Whether and where a claim may go: the tests of `ring_layout`, with the refusals of a ring.
 ghost use Rattle.std.specs.Prelude.{◌≡◌, ◌%◌, ◌≤◌, IfOk, None};
 ghost use Rattle.ring_layout.specs.Places.{IsCapacity, max_position};
 ghost use Rattle.ring_rings.specs.Claiming.{IsRefusedBy, request_refusal_of, tail_refusal_of};
 ghost use Rattle.ring_rings.specs.Making.{IsAdmitted};
 
-use ring_layout::ring_buffer_descriptor::MAX_POSITION;
-use ring_layout::{max_message, pad_and_span};
+use ring_layout::{Admission, is_length, is_position, is_type_id, max_message, place_record};
 use ring_table::Wanted;
 use ring_words::ClaimFault;
-
-/// A claim is made from `tail` on, lies at `place` and ends at `end`.
-#[derive(Clone, Copy)]
-pub(crate) struct Admission {
-    pub(crate) tail: u64,
-    pub(crate) place: u64,
-    pub(crate) end: u64,
-}
 
 /// Tests the type id and the length of a message.
 pub(crate) fn test_request(capacity: u32, wanted: Wanted) -> Result<(), ClaimFault>
     ensures { IsRefusedBy (request_refusal_of capacity wanted.type_id wanted.len) result }
 {
     let Wanted { type_id, len } = wanted;
-    if type_id < 1 {
+    if !is_type_id(type_id) {
         return Err(ClaimFault::BadType { type_id });
     }
-    let max = max_message(capacity);
-    if len > max as usize {
+    if !is_length(capacity, len) {
+        let max = max_message(capacity);
         return Err(ClaimFault::TooLong { len, max });
     }
     Ok(())
@@ -41,11 +32,9 @@ pub(crate) fn admit(capacity: u32, tail: u64, wanted: Wanted) -> Result<Admissio
     ensures admitted { IfOk result (IsAdmitted capacity tail wanted.type_id wanted.len) }
     ensures whole { IfOk result (λ a. a.end % 8 ≡ 0) }
 {
-    let (pad, span) = pad_and_span(capacity, tail, wanted.len);
-    let place = tail + pad;
-    let end = place + span;
-    if end > MAX_POSITION {
+    let admission = place_record(capacity, tail, wanted.len);
+    if !is_position(admission.end) {
         return Err(ClaimFault::PositionLimit { tail });
     }
-    Ok(Admission { tail, place, end })
+    Ok(admission)
 }

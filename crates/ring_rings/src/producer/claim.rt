@@ -7,9 +7,10 @@ ghost use Rattle.ring_rings.specs.Claiming.{RefusesAlone, RefusesTry};
 ghost use Rattle.ring_rings.specs.Making.{Makes};
 
 use crate::fault::TryFault;
-use crate::producer::admission::{Admission, admit, test_request};
+use crate::producer::admission::{admit, test_request};
 use crate::producer::headers::store_headers;
 use crate::producer::room::{Shortage, find_room, find_room_alone};
+use ring_layout::Admission;
 use ring_table::{RingSeat, SharedRing, Wanted, load_tail, move_tail, store_tail};
 use ring_words::ClaimFault;
 

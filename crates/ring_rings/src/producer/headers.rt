@@ -8,7 +8,7 @@ ghost use Rattle.ring_table.specs.Seats.{IsSameSeat, IsSeatOf};
 ghost use Rattle.ring_table.specs.Views.{with_claims};
 ghost use Rattle.ring_rings.specs.Making.{HasNewest, IsNewest};
 
-use crate::producer::admission::Admission;
+use ring_layout::Admission;
 use ring_table::{RingSeat, SharedRing, Wanted, store_claimed_header, store_padding_header};
 
 /// Stores the header of the padding before the newest claim, if there is any.

@@ -1,10 +1,9 @@
 //! Whether a ring has room for a claim.
-ghost use Rattle.std.specs.Prelude.{◌≡◌, ◌≤◌, ◌+◌, nat_le, MatchResult};
-ghost use Rattle.ring_layout.specs.Places.{max_position};
+ghost use Rattle.std.specs.Prelude.{◌≡◌, MatchResult};
 ghost use Rattle.ring_table.specs.Seats.{IsSameSeat, IsSeatOf};
 ghost use Rattle.ring_rings.specs.Making.{FindsNoRoom, FindsRoom, FindsShortage};
 
-use crate::producer::admission::Admission;
+use ring_layout::{Admission, has_room};
 use ring_table::{RingSeat, SharedRing, load_cache, load_head, store_cache};
 
 /// Why no room was found.
@@ -14,15 +13,6 @@ pub(crate) enum Shortage {
     Full { head: u64 },
     /// The head is beyond the tail that was loaded, so that another producer has moved the tail.
     Passed { seen: u64 },
-}
-
-/// Tests whether a record ends at most the capacity behind a head. A head of the cache may lie further behind the tail
-/// than that.
-fn has_room(capacity: u32, end: u64, head: u64) -> bool
-    requires { head ≤ max_position }
-    ensures { result ≡ nat_le end (head + capacity) }
-{
-    end <= head + u64::from(capacity)
 }
 
 /// Looks for room for a claim of the only producer: behind the cached head, and then behind the head. Where there is

@@ -15,9 +15,8 @@ use crate::plays::producer::{
 };
 use crate::steps::{RingSeat, SharedRing, trailer_word};
 use crate::view::Wanted;
-use ring_layout::record_descriptor::{HEADER_LENGTH, PADDING_MSG_TYPE_ID};
 use ring_layout::ring_buffer_descriptor::{HEAD_POSITION_WORD, TAIL_POSITION_WORD};
-use ring_layout::{pack_header, word_index};
+use ring_layout::{aborted_header, committed_header, open_header, padding_header, word_index};
 
 /// Loads the tail, in bytes. A producer that has all shares finds the tail that it has seen.
 pub fn load_tail(ring: &SharedRing, producer: &mut RingSeat, capacity: u32) -> u64
@@ -89,7 +88,7 @@ pub fn store_padding_header(
     ensures view { producer.new.me.0 ≡ with_claims (changed place (staged Padded) producer.old.me.0.producer.claims) producer.old.me.0 }
     ensures rising { AreRising producer.old.me.0.producer.claims }
 {
-    let header = pack_header((place - from) as i32, PADDING_MSG_TYPE_ID);
+    let header = padding_header(place - from);
     ring.store::<StorePadding>(producer, word_index(capacity, from), header);
 }
 
@@ -109,8 +108,7 @@ pub fn store_claimed_header(
     ensures view { producer.new.me.0 ≡ with_claims (changed place (opened wanted.type_id wanted.len) producer.old.me.0.producer.claims) producer.old.me.0 }
     ensures rising { AreRising producer.old.me.0.producer.claims }
 {
-    let len = (HEADER_LENGTH + wanted.len) as i32;
-    let header = pack_header(-len, wanted.type_id);
+    let header = open_header(wanted.type_id, wanted.len);
     ring.store::<StoreClaimed>(producer, word_index(capacity, place), header);
 }
 
@@ -129,7 +127,7 @@ pub fn store_committed_header(
     ensures view { producer.new.me.0 ≡ with_claims (changed place (staged (Stored Committed)) producer.old.me.0.producer.claims) producer.old.me.0 }
     ensures rising { AreRising producer.old.me.0.producer.claims }
 {
-    let header = pack_header((HEADER_LENGTH + wanted.len) as i32, wanted.type_id);
+    let header = committed_header(wanted.type_id, wanted.len);
     ring.store::<StoreCommitted>(producer, word_index(capacity, place), header);
 }
 
@@ -148,7 +146,7 @@ pub fn store_aborted_header(
     ensures view { producer.new.me.0 ≡ with_claims (changed place (staged (Stored Aborted)) producer.old.me.0.producer.claims) producer.old.me.0 }
     ensures rising { AreRising producer.old.me.0.producer.claims }
 {
-    let header = pack_header((HEADER_LENGTH + wanted.len) as i32, PADDING_MSG_TYPE_ID);
+    let header = aborted_header(wanted.len);
     ring.store::<StoreAborted>(producer, word_index(capacity, place), header);
 }
 

@@ -7,17 +7,8 @@ ghost use Rattle.ring_words.specs.Change.{AppendsClaim, opened, written};
 ghost use Rattle.ring_words.specs.Storing.{IsAdmitted, padded};
 
 use crate::words::store_body;
-use ring_layout::record_descriptor::{HEADER_LENGTH, PADDING_MSG_TYPE_ID};
 use ring_layout::ring_buffer_descriptor::TAIL_POSITION_WORD;
-use ring_layout::{pack_header, word_index};
-
-/// Where a record may go: it is claimed from `tail` on, lies at `place` and ends at `end`.
-#[derive(Clone, Copy)]
-pub(crate) struct Admission {
-    pub(crate) tail: u64,
-    pub(crate) place: u64,
-    pub(crate) end: u64,
-}
+use ring_layout::{Admission, committed_header, open_header, padding_header, word_index};
 
 /// Stores the header of the padding before a record, if it has any, and the record's own.
 fn store_headers(words: &mut [u64], capacity: u32, admission: Admission, header: u64)
@@ -29,7 +20,7 @@ fn store_headers(words: &mut [u64], capacity: u32, admission: Admission, header:
 {
     let Admission { tail, place, .. } = admission;
     if place > tail {
-        words[word_index(capacity, tail)] = pack_header((place - tail) as i32, PADDING_MSG_TYPE_ID);
+        words[word_index(capacity, tail)] = padding_header(place - tail);
     }
     words[word_index(capacity, place)] = header;
 }
@@ -49,8 +40,7 @@ pub(crate) fn append_claim(
     ensures claimed { AppendsClaim (ring capacity words.old) (opened type_id len) (ring capacity words.new) }
     ensures ring { IsRing (ring capacity words.new) }
 {
-    let header = pack_header(-((HEADER_LENGTH + len) as i32), type_id);
-    store_headers(words, capacity, admission, header);
+    store_headers(words, capacity, admission, open_header(type_id, len));
     words[capacity as usize / 8 + TAIL_POSITION_WORD] = admission.end;
 }
 
@@ -69,7 +59,7 @@ pub(crate) fn append_message(
     ensures claimed { AppendsClaim (ring capacity words.old) (written type_id body.now) (ring capacity words.new) }
     ensures ring { IsRing (ring capacity words.new) }
 {
-    let header = pack_header((HEADER_LENGTH + body.len()) as i32, type_id);
+    let header = committed_header(type_id, body.len());
     store_headers(words, capacity, admission, header);
     let at = word_index(capacity, admission.place);
     store_body(words, at + 1, body);

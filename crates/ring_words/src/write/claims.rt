@@ -12,11 +12,13 @@ use crate::claim::SoloClaim;
 use crate::fault::{ClaimFault, PutRange};
 use crate::positions::Positions;
 use crate::ring::SoloRing;
-use crate::write::append::{Admission, append_claim, append_message};
+use crate::write::append::{append_claim, append_message};
 use crate::write::settle::{put_bytes, settle};
 use ring_layout::record_descriptor::HEADER_LENGTH;
-use ring_layout::ring_buffer_descriptor::MAX_POSITION;
-use ring_layout::{ClaimState, byte_index, max_message, pad_and_span};
+use ring_layout::{
+    Admission, ClaimState, byte_index, has_room, is_length, is_position, is_type_id, max_message,
+    place_record,
+};
 
 /// The claim of a record that was admitted.
 fn new_claim(capacity: u32, admission: Admission, type_id: i32, len: usize) -> SoloClaim
@@ -34,24 +36,22 @@ impl SoloRing {
         ensures type_id { OnOk result (pos 1 ≤ℤ type_id) }
         ensures admitted { IfOk result (λ a. (a.tail ≡ tail_of self.now) × IsAdmitted self.now len a.place a.end) }
     {
-        if type_id < 1 {
+        if !is_type_id(type_id) {
             return Err(ClaimFault::BadType { type_id });
         }
-        let max = max_message(self.capacity);
-        if len > max as usize {
+        if !is_length(self.capacity, len) {
+            let max = max_message(self.capacity);
             return Err(ClaimFault::TooLong { len, max });
         }
         let Positions { head, tail } = self.positions();
-        let (pad, span) = pad_and_span(self.capacity, tail, len);
-        let place = tail + pad;
-        let end = place + span;
-        if end > MAX_POSITION {
+        let admission = place_record(self.capacity, tail, len);
+        if !is_position(admission.end) {
             return Err(ClaimFault::PositionLimit { tail });
         }
-        if end > head + u64::from(self.capacity) {
+        if !has_room(self.capacity, admission.end, head) {
             return Err(ClaimFault::InsufficientCapacity { tail, head });
         }
-        Ok(Admission { tail, place, end })
+        Ok(admission)
     }
 
     /// Writes a message: it is claimed, stored and committed.

@@ -9,8 +9,7 @@ ghost use Rattle.ring_words.specs.Change.{PutsInto, Settles, settled_as};
 
 use crate::claim::SoloClaim;
 use crate::words::overwrite_body;
-use ring_layout::record_descriptor::{HEADER_LENGTH, PADDING_MSG_TYPE_ID};
-use ring_layout::{ClaimState, pack_header};
+use ring_layout::{ClaimState, aborted_header, committed_header};
 
 /// The header of a claim in this state.
 fn settled_header(claim: &SoloClaim, state: ClaimState) -> u64
@@ -18,11 +17,10 @@ fn settled_header(claim: &SoloClaim, state: ClaimState) -> u64
     requires settled { state ≢ Open }
     ensures { (c : Claim) → c.message.type_id ≡ claim.now.type_id → length c.message.body ≡ claim.now.len → result ≡ header_of (settled_as state c) }
 {
-    let type_id = match state {
-        ClaimState::Aborted => PADDING_MSG_TYPE_ID,
-        ClaimState::Committed | ClaimState::Open => claim.type_id(),
-    };
-    pack_header((HEADER_LENGTH + claim.len()) as i32, type_id)
+    match state {
+        ClaimState::Aborted => aborted_header(claim.len()),
+        ClaimState::Committed | ClaimState::Open => committed_header(claim.type_id(), claim.len()),
+    }
 }
 
 /// Stores the settled header of an open claim.

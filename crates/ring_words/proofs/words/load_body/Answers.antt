@@ -1,5 +1,5 @@
 use Rattle.std.proofs.Common.{◌∙◌, arith}
-use Rattle.ring_words.proofs.BodyLemmas.{rest_copied, word_copied}
+use Rattle.ring_words.proofs.BodyLemmas.{word_copied}
 use Rattle.ring_words.proofs.words.load_body.Goals as goal
 
 pub loop-k-preserved : goal.loop-k-preserved

@@ -31,13 +31,13 @@ store_header-requires-clause-stage c = let body : List ℕ = c.args.body.now in 
   lawful_message c.args.self.now.capacity c.args.type_id body c.requires.lawful.0 c.ranges.type_id c.requires.lawful.1 (λ i _. (c.type_inv.body i).fits),
   refl,
   refl,
-  c.record_header-header.ensures ∙ ap (header (pos (8 + length body))) (to_z-of_z w32 c.args.type_id c.ranges.type_id),
+  c.committed_header-header.ensures ∙ ap (header (pos (8 + length body))) (to_z-of_z w32 c.args.type_id c.ranges.type_id),
 )
 
 pub returns-clause-written : goal.returns-clause-written
 returns-clause-written c = let body : List ℕ = c.args.body.now in let n : ℕ = c.args.self.now.capacity in let z : ℕ = c.args.place + span (length body) in let d : Draft = draft c.args.tail c.args.place z [] in
-    let m : Message = record { type_id = c.args.type_id; body = body } in let w : ℕ = c.record_header-header.result in let d' : Draft = with_words d (words_of body) in
+    let m : Message = record { type_id = c.args.type_id; body = body } in let w : ℕ = c.committed_header-header.result in let d' : Draft = with_words d (words_of body) in
     let lawful = lawful_message n c.args.type_id body c.requires.lawful.0 c.ranges.type_id c.requires.lawful.1 (λ i _. (c.type_inv.body i).fits) in
     let F : ℕ → Record = λ (p : ℕ). record { before = c.args.tail; place = p; message = m } in
     c.store_header.ensures.written ∙ (ap (λ (x : Sat). (staged x.0 (after_header x.0.stage w), x.1)) (c.store_body.ensures.put ∙ ap (λ (x : Sat). (staged x.0 (after_words x.0.stage (words_of body)), x.1)) (c.store_gap.ensures.padded z c.requires.stage))
-    ∙ ap (λ (r : Record). (staged c.args.seat.now.me.0 (Written r), c.args.seat.now.me.1)) (written_as n d' m w c.args.self.now.lawful.1 lawful refl (c.record_header-header.ensures ∙ ap (header (pos (8 + length body))) (to_z-of_z w32 c.args.type_id c.ranges.type_id)) ∙ ap F c.requires.place))
+    ∙ ap (λ (r : Record). (staged c.args.seat.now.me.0 (Written r), c.args.seat.now.me.1)) (written_as n d' m w c.args.self.now.lawful.1 lawful refl (c.committed_header-header.ensures ∙ ap (header (pos (8 + length body))) (to_z-of_z w32 c.args.type_id c.ranges.type_id)) ∙ ap F c.requires.place))

@@ -7,8 +7,7 @@ use Rattle.ring_rings.proofs.producer.admission.admit.Goals as goal
 pub returns-clause-whole : goal.returns-clause-whole
 returns-clause-whole c =
     let C : ℕ = c.args.capacity in
-    let place = c.pad_and_span-pad.ensures.place in
-    let end = c.pad_and_span-pad.ensures.span in
+    let end = c.place_record-admission.ensures.end in
     let least = c.requires.capacity.least in
     let aligned = next_aligned C c.args.tail (span c.args.wanted.len) (omega arith) (capacity_aligned C c.requires.capacity) c.requires.tail.0 in
     omega arith

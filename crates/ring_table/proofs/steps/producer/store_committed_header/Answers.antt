@@ -16,12 +16,12 @@ store-requires c =
     let s = c.requires.seat in
     let h = c.requires.claim in
     let me : Mine = c.args.producer.now.me in
-    let value : ℕ = c.pack_header-header.result in
+    let value : ℕ = c.committed_header-header.result in
     let big = s.lawful.most in
     let short = c.requires.message.short in
     let zeros = length-replicate {A = ℕ} c.args.wanted.len 0 in
     let small : 8 + c.args.wanted.len < 2 ^ 31 = omega arith in
-    let value_is = packs_committed value c.args.wanted.len c.args.wanted.type_id h.claim small c.requires.message.type_fits h.holds c.pack_header-header.ensures in (
+    let value_is = packs_committed value c.args.wanted.len c.args.wanted.type_id h.claim c.requires.message.type_fits h.holds c.committed_header-header.ensures in (
       s.table_is,
       in_records _ c.args.capacity _ (c.args.place) s.words_are s.lawful c.word_index.ensures,
       at_word c.args.ring.now.key c.args.capacity _ _ _ s.key_is _ _ (c.word_index.ensures ∙ ap (index c.args.capacity) (sym h.at_place)) (λ _. value)

@@ -1,6 +1,5 @@
 use Rattle.std.proofs.Common.{◌≡◌, ℕ, ◌-◌, ◌<◌, sym, ap, ◌∙◌, subst, arith}
 use Rattle.ring_layout.specs.Headers.{padding_header}
-use Rattle.ring_table.proofs.HeaderCalls.{packs_padding}
 use Rattle.ring_layout.specs.Places.{index}
 use Rattle.ring_table.specs.Staged.{Moved, Padded, AreRising}
 use Rattle.ring_table.specs.Changes.{staged}
@@ -15,10 +14,10 @@ store-requires c =
     let s = c.requires.seat in
     let h = c.requires.claim in
     let me : Mine = c.args.producer.now.me in
-    let value : ℕ = c.pack_header-header.result in
+    let value : ℕ = c.padding_header-header.result in
     let big = s.lawful.most in
     let near = c.requires.near in
-    let value_is = packs_padding value (c.args.place - c.args.from) (omega arith) c.pack_header-header.ensures in (
+    let value_is = c.padding_header-header.ensures in (
       s.table_is,
       in_records _ c.args.capacity _ (c.args.from) s.words_are s.lawful c.word_index.ensures,
       at_word c.args.ring.now.key c.args.capacity _ _ _ s.key_is _ _ (c.word_index.ensures ∙ ap (index c.args.capacity) (sym h.holds.from_is)) (λ _. value)

@@ -20,10 +20,10 @@ returns c =
     let end : ℕ = c.args.admission.end in
     let ok = c.requires.ring in
     let lawful = opened_lawful c.args.capacity c.args.type_id c.args.len c.requires.type_id c.ranges.type_id c.requires.admitted.short in
-    let word : c.pack_header-header.result ≡ header_of claim =
-    c.pack_header-header.ensures ∙ opened_header c.args.type_id c.args.len c.ranges.type_id (omega (arith, c.requires.admitted.short, ok.capacity.most)) in
+    let word : c.open_header.result ≡ header_of claim =
+    c.open_header.ensures ∙ opened_header c.args.type_id c.args.len c.ranges.type_id in
     let admitted = rw (sym (length-opened c.args.type_id c.args.len)) at c.requires.admitted in
-    let words = c.store_headers.ensures ∙ headed_is r claim place end ok lawful admitted c.args.admission.tail c.pack_header-header.result c.requires.tail word in
+    let words = c.store_headers.ensures ∙ headed_is r claim place end ok lawful admitted c.args.admission.tail c.open_header.result c.requires.tail word in
     let both = appended_empty r claim place end ok lawful admitted (λ k. zero_words c.args.len k) in
     let now = subst (λ (ws : List ℕ). AppendsClaim r claim (ring r.capacity (slice_set ws (tail_index r.capacity) end)) × IsRing (ring r.capacity (slice_set ws (tail_index r.capacity) end))) (sym words) both in
     record { claimed = now.0; ring = now.1 }

@@ -1,8 +1,8 @@
-use Rattle.std.proofs.Common.{◌≡◌, ℕ, ◌+◌, List, length, pos, to_z, arith, ap, ◌∙◌}
+use Rattle.std.proofs.Common.{◌≡◌, ℕ, List, length, arith, ap, ◌∙◌}
 use Rattle.std.specs.Int.{w32}
-use Rattle.std.proofs.lemmas.Int.{to_z-of_z, to_z_pos}
+use Rattle.std.proofs.lemmas.Int.{to_z-of_z}
 use Rattle.ring_layout.specs.History.{span}
-use Rattle.ring_layout.specs.Headers.{header, header_of}
+use Rattle.ring_layout.specs.Headers.{committed_header, header_of}
 use Rattle.ring_layout.proofs.PlaceLemmas.{next_le}
 use Rattle.ring_words.specs.Ring.{Ring, ring, tail_of}
 use Rattle.ring_words.specs.Change.{written}
@@ -34,10 +34,9 @@ returns c =
     let end : ℕ = c.args.admission.end in
     let ok = c.requires.ring in
     let lawful = written_lawful c.args.capacity c.args.type_id body c.requires.type_id c.ranges.type_id c.requires.admitted.short (λ k. omega (arith, c.type_inv.body k)) in
-    let len : to_z w32 (8 + length body) ≡ pos (8 + length body) = to_z_pos w32 (8 + length body) (omega (arith, c.requires.admitted.short, ok.capacity.most)) in
-    let word : c.pack_header-header.result ≡ header_of claim =
-    c.pack_header-header.ensures ∙ (λ i. header (len i) (to_z-of_z w32 c.args.type_id c.ranges.type_id i)) in
-    let words = c.store_headers.ensures ∙ headed_is r claim place end ok lawful c.requires.admitted c.args.admission.tail c.pack_header-header.result c.requires.tail word in
+    let word : c.committed_header-header.result ≡ header_of claim =
+    c.committed_header-header.ensures ∙ ap (λ t. committed_header t (length body)) (to_z-of_z w32 c.args.type_id c.ranges.type_id) in
+    let words = c.store_headers.ensures ∙ headed_is r claim place end ok lawful c.requires.admitted c.args.admission.tail c.committed_header-header.result c.requires.tail word in
     let stored = rw (c.word_index-at.ensures, words) at c.store_body.ensures in
     let both = appended_with r claim place end ok lawful c.requires.admitted c.store_body.new.words (c.store_body.auto.words ∙ ap length words) stored.inside stored.below stored.above in
     record { claimed = both.0; ring = both.1 }
