@@ -23,6 +23,7 @@ use Rattle.ring_table.specs.Views.{with_consumer_of}
 use Rattle.ring_table.proofs.Memories.{head_bounds}
 use Rattle.ring_table.proofs.RestLemmas.{claims_of-restarted}
 use Rattle.ring_rings.specs.Closing.{HandsOut, Serves}
+use Rattle.ring_rings.specs.Reading.{at_rest}
 
 pub read_at : (l : List ℕ) (i a : ℕ) → get_elem? l i ≡ some a → get_or l i 0 ≡ a
 read_at [] i a e = absurd (some-ne-none a (sym e))
@@ -80,7 +81,7 @@ module _ (C start : ℕ) (words : List ℕ) (v : View) (closed : IsClosed C star
 
   -- v is p with the consumer's part of r
   module _ (p r : View) (both : v ≡ with_consumer_of p r) where
-    hands_out : HandsOut C start p r (ring C words)
+    hands_out : HandsOut C start p (at_rest r) (ring C words)
     hands_out =
         let head : v.consumer.head ≡ r.consumer.head = ap (λ (u : View). u.consumer.head) both in
         let placed : ArePlaced C start p.producer.claims = subst (ArePlaced C start) (ap (λ (u : View). u.producer.claims) both) closed.memory.placed in
@@ -97,7 +98,7 @@ module _ (C start : ℕ) (words : List ℕ) (v : View) (closed : IsClosed C star
           has = rest_has;
         }
 
-    serves : Serves C p r (ring C words)
+    serves : Serves C p (at_rest r) (ring C words)
     serves =
         let producer = ap (λ (u : View). u.producer) both in
         let consumer = ap (λ (u : View). u.consumer) both in
@@ -123,8 +124,8 @@ module _ (K C start : ℕ) (same : K ≡ C) (words items : List ℕ) (copied : i
   pub closes_to_ring : IsRing (ring C items)
   closes_to_ring = carried (λ k l. IsRing (ring k l)) (rest_is_ring K start words v closed left)
 
-  pub closes_with_rest : HandsOut C start p r (ring C items)
-  closes_with_rest = carried (λ k l. HandsOut k start p r (ring k l)) (hands_out K start words v closed left p r both)
+  pub closes_with_rest : HandsOut C start p (at_rest r) (ring C items)
+  closes_with_rest = carried (λ k l. HandsOut k start p (at_rest r) (ring k l)) (hands_out K start words v closed left p r both)
 
-  pub closes_with_service : Serves C p r (ring C items)
-  closes_with_service = carried (λ k l. Serves k p r (ring k l)) (serves K start words v closed left p r both)
+  pub closes_with_service : Serves C p (at_rest r) (ring C items)
+  closes_with_service = carried (λ k l. Serves k p (at_rest r) (ring k l)) (serves K start words v closed left p r both)

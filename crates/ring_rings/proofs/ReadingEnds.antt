@@ -13,7 +13,7 @@ use Rattle.ring_layout.specs.History.{IsMessage}
 use Rattle.ring_layout.specs.Places.{index, room}
 use Rattle.ring_table.specs.declared.claim.PlacedMessage.{PlacedMessage}
 use Rattle.ring_table.specs.declared.view.View.{View}
-use Rattle.ring_rings.specs.Reading.{Aborts, Broke, IsBlocked, IsTight, Reads, WentOn, record_loads}
+use Rattle.ring_rings.specs.Reading.{at_rest, Aborts, Broke, IsBlocked, IsTight, Reads, WentOn, record_loads}
 use Rattle.ring_rings.specs.ReadingSteps.{FindsNothing, IsAt, IsLeft, Settles, ShowsOne}
 use Rattle.ring_rings.proofs.ReadingRuns.{LoadsMore, Runs, RunsOn, loads_by, loads_more, loads_quiet}
 
@@ -79,7 +79,7 @@ module _ {S : Type 0} (step : S → Message → S → Action → Type 0) where
   ends_left C scan got w x y s t n a f = ends_more scan got w x y (record_loads C f.message) (loads_by w x _ _ f.view) (ap (λ (z : View). z.consumer.heartbeats) f.view)
 
   module _ (limit : ℕ) (v w x : View) (s t : S) (scan count : ℕ) (r : Runs step limit v w s t scan count) (loads : List (ℕ × ℕ)) (e : Ends scan (v.consumer.taken ++ r.messages) w x loads) where
-    pub reads_end : Reads step limit v x s t count
+    pub reads_end : Reads step limit (at_rest v) (at_rest x) s t count
     reads_end = record {
       messages = r.messages;
       actions = r.actions;
@@ -88,9 +88,10 @@ module _ {S : Type 0} (step : S → Message → S → Action → Type 0) where
       taken = e.taken;
       moves = record {
         loads = r.loads ++ loads;
-        view = loads_more v w x r.loads loads r.view e.view;
+        view = ap (λ (y : View). record y { consumer = (at_rest x).consumer }) (loads_more v w x r.loads loads r.view e.view);
         heartbeats = e.heartbeats ∙ r.heartbeats;
         cleared = e.cleared ∙ sym e.head;
+        rest = record { scan = refl; got = refl };
         on = omega (arith, e.head, r.from, r.to);
         within = subst (λ (p : ℕ). p ≤ v.consumer.head + room v.capacity v.consumer.head) (sym e.head) r.within;
       };
@@ -106,7 +107,7 @@ module _ {S : Type 0} (step : S → Message → S → Action → Type 0) where
 
   -- the handler let it go on to the end
   pub went_on : (limit : ℕ) (v w x : View) (s t : S) (scan count : ℕ) (r : RunsOn step limit v w s t scan count) (loads : List (ℕ × ℕ)) → Ends scan (v.consumer.taken ++ r.0.messages) w x loads
-      → (end : ReadEnd) → end.messages ≡ count → end.stopped ≡ stop_of v.capacity limit count scan end.bytes → WentOn step limit v x s t end
+      → (end : ReadEnd) → end.messages ≡ count → end.stopped ≡ stop_of v.capacity limit count scan end.bytes → WentOn step limit (at_rest v) (at_rest x) s t end
   unfolding reads_end
   went_on limit v w x s t scan count r loads e end counted stopped =
       let d = reads_end limit v w x s t scan count r.0 loads e in
@@ -120,7 +121,7 @@ module _ {S : Type 0} (step : S → Message → S → Action → Type 0) where
   -- it was stopped by Break at the last message
   pub broke : (limit : ℕ) (v x y : View) (s u : S) (scan count : ℕ) (r : Runs step limit v x s u scan count) (before : List Action) → All GoesOn before → r.actions ≡ before ++ Break ∷ [] → IsTight v.consumer.head r.messages scan
       → Settles scan (v.consumer.taken ++ r.messages) x y
-      → (end : ReadEnd) → end.messages ≡ count → end.stopped ≡ Stop.Action → Broke step limit v y s u end
+      → (end : ReadEnd) → end.messages ≡ count → end.stopped ≡ Stop.Action → Broke step limit (at_rest v) (at_rest y) s u end
   unfolding reads_end
   broke limit v x y s u scan count r before goes is tight p end counted stopped =
       let d = reads_end limit v x y s u scan count r [] (ends_now scan (v.consumer.taken ++ r.messages) x y p) in
@@ -137,7 +138,7 @@ module _ {S : Type 0} (step : S → Message → S → Action → Type 0) where
   pub aborts : (limit : ℕ) (v w x y : View) (s t u : S) (scan count n : ℕ) (a : Action) (r : RunsOn step limit v w s t scan count) (below : count < limit)
       (inside : v.consumer.head < scan → scan % v.capacity ≢ 0) (f : ShowsOne step v.capacity scan (v.consumer.taken ++ r.0.messages) w t n a x u)
       → Settles scan (v.consumer.taken ++ r.0.messages) x y
-      → (end : ReadEnd) → end.messages ≡ count → a ≡ Abort → end.stopped ≡ Stop.Action → Aborts step limit v y s u end
+      → (end : ReadEnd) → end.messages ≡ count → a ≡ Abort → end.stopped ≡ Stop.Action → Aborts step limit (at_rest v) (at_rest y) s u end
   unfolding reads_end
   aborts limit v w x y s t u scan count n a r below inside f p end counted is stopped =
       let m : PlacedMessage = f.message in
@@ -165,7 +166,7 @@ module _ {S : Type 0} (step : S → Message → S → Action → Type 0) where
 
   -- the last load found nothing at the new head
   pub is_blocked : (limit : ℕ) (v w x y : View) (s t : S) (scan count : ℕ) (r : Runs step limit v w s t scan count) → FindsNothing v.capacity scan (v.consumer.taken ++ r.messages) w x
-      → Settles scan (v.consumer.taken ++ r.messages) x y → IsBlocked v y
+      → Settles scan (v.consumer.taken ++ r.messages) x y → IsBlocked (at_rest v) (at_rest y)
   is_blocked limit v w x y s t scan count r f p =
       let e = ends_nothing v.capacity scan (v.consumer.taken ++ r.messages) w x y f p in
       let same = same_capacity limit v w y s t scan count r ((index v.capacity scan, f.found) ∷ []) e in

@@ -12,7 +12,7 @@ use Rattle.ring_layout.specs.declared.message.Message.{Message}
 use Rattle.ring_layout.specs.Places.{index, max_position, room}
 use Rattle.ring_table.specs.declared.claim.PlacedMessage.{PlacedMessage}
 use Rattle.ring_table.specs.declared.view.View.{View}
-use Rattle.ring_rings.specs.Reading.{Controls, IsBlocked, WentOn}
+use Rattle.ring_rings.specs.Reading.{at_rest, Controls, IsBlocked, WentOn}
 use Rattle.ring_rings.specs.ReadingSteps.{FindsNothing, FindsQuiet, IsAt, IsLeft, Settles, ShowsOne}
 use Rattle.ring_rings.proofs.IndexLemmas.{inside_block}
 use Rattle.ring_rings.proofs.ReadingRuns.{Runs, RunsOn, inside_of, runs_on_broken, runs_on_committed, runs_on_quiet, runs_on_shown, runs_quiet, runs_shown, stands_shown, stays_near}
@@ -27,13 +27,13 @@ pub record Ended (start scan count : ℕ) (stop : Stop) (end : ReadEnd) : Type 0
 -- a read that may end
 module _ {S : Type 0} {step : S → Message → S → Action → Type 0} {limit start : ℕ} {v w y : View} {s t : S} {scan count : ℕ} {end : ReadEnd} (r : RunsOn step limit v w s t scan count)
     (told : (got : List PlacedMessage) → IsAt scan got w → Settles scan got w y) where
-  pub ends_limit : count ≡ limit → Ended start scan count Limit end → Controls step limit v y s t end
+  pub ends_limit : count ≡ limit → Ended start scan count Limit end → Controls step limit (at_rest v) (at_rest y) s t end
   ends_limit full d =
       let got : List PlacedMessage = v.consumer.taken ++ r.0.messages in
       let e = ends_now scan got w y (told got r.0.stands) in
       inl (went_on step limit v w y s t scan count r [] e end d.messages (d.stopped ∙ stops_limit v.capacity limit count scan end.bytes full))
 
-  pub ends_block : {C : ℕ} → v.capacity ≡ C → count ≢ limit → (nat_lt start scan && (scan % C == 0)) ≡ true → Ended start scan count Block end → Controls step limit v y s t end
+  pub ends_block : {C : ℕ} → v.capacity ≡ C → count ≢ limit → (nat_lt start scan && (scan % C == 0)) ≡ true → Ended start scan count Block end → Controls step limit (at_rest v) (at_rest y) s t end
   ends_block {C} cap below is d =
       let got : List PlacedMessage = v.consumer.taken ++ r.0.messages in
       let e = ends_now scan got w y (told got r.0.stands) in
@@ -100,15 +100,15 @@ module _ {S : Type 0} {step : S → Message → S → Action → Type 0} {limit 
     blocked_inside = subst (λ (h : ℕ). h % C + scan ≤ h + C) (sym (ap (λ (z : View). z.consumer.head) told.0.view)) (runs_inside q.runs.0 q.capacity q.some)
 
     module _ {y : View} (p : Settles scan got x y) where
-      pub ends_blocked : {end : ReadEnd} → Ended start scan count Unpublished end → Controls step limit v y s u end
+      pub ends_blocked : {end : ReadEnd} → Ended start scan count Unpublished end → Controls step limit (at_rest v) (at_rest y) s u end
       ends_blocked {end} d =
           let e = ends_nothing v.capacity scan got w x y finds p in
           let still : 0 < end.bytes → scan % v.capacity ≢ 0 = λ lt. q.inside (omega (arith, lt, d.bytes, q.head)) in
           let done = went_on step limit v w y s t scan count q.runs ((index v.capacity scan, finds.found) ∷ []) e end d.messages
           (d.stopped ∙ stops_unpublished v.capacity limit count scan end.bytes apart still) in
-          inl (subst (λ (z : S). WentOn step limit v y s z end) (sym told.1) done)
+          inl (subst (λ (z : S). WentOn step limit (at_rest v) (at_rest y) s z end) (sym told.1) done)
 
-      pub blocked : IsBlocked v y
+      pub blocked : IsBlocked (at_rest v) (at_rest y)
       blocked = is_blocked step limit v w x y s t scan count q.runs.0 finds p
 
   -- Padding or an aborted record is passed -------------------------------------
@@ -155,7 +155,7 @@ module _ {S : Type 0} {step : S → Message → S → Action → Type 0} {limit 
         let more = runs_shown step limit v w s t scan count q.runs.0 q.some apart q.inside n a x u shows in
         omega (arith, more.within, shows.passed.some)
 
-    pub ends_broken : {y : View} {end : ReadEnd} → a ≡ Break → Settles (scan + n) got_more x y → Ended start (scan + n) (count + 1) Stop.Action end → Controls step limit v y s u end
+    pub ends_broken : {y : View} {end : ReadEnd} → a ≡ Break → Settles (scan + n) got_more x y → Ended start (scan + n) (count + 1) Stop.Action end → Controls step limit (at_rest v) (at_rest y) s u end
     unfolding got_more
     ends_broken {y} {end} is p d =
         let more = runs_on_broken step limit v w s t scan count q.runs q.some apart q.inside n a x u shows in
@@ -179,6 +179,6 @@ module _ {S : Type 0} {step : S → Message → S → Action → Type 0} {limit 
       pub left_done : z.consumer.head % C + scan ≤ z.consumer.head + C
       left_done = let low = mod_below z.consumer.head C (omega (arith, q.capacity, q.some)) in omega (arith, low, p.head)
 
-      pub ends_aborted : {y : View} {end : ReadEnd} → a ≡ Abort → Settles scan got z y → Ended start scan count Stop.Action end → Controls step limit v y s u end
+      pub ends_aborted : {y : View} {end : ReadEnd} → a ≡ Abort → Settles scan got z y → Ended start scan count Stop.Action end → Controls step limit (at_rest v) (at_rest y) s u end
       ends_aborted {y} {end} is p' d =
           inr (inr (aborts step limit v w x y s t u scan count n a q.runs q.below q.inside shows (settles_more p p') end d.messages is d.stopped))

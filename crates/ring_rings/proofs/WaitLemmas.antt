@@ -1,5 +1,5 @@
 -- Tries that were Contended.
-use Rattle.std.proofs.Common.{◌≡◌, ℕ, ℤ, List, [], ◌∷◌, ◌++◌, refl, sym, subst}
+use Rattle.std.proofs.Common.{ℕ, ℤ, List, [], ◌∷◌, ◌++◌, refl, subst}
 use Rattle.ring_words.specs.Open.{ClaimAt}
 use Rattle.ring_table.specs.declared.view.View.{View}
 use Rattle.ring_rings.specs.declared.ring.Ring.{Ring}

@@ -1,6 +1,7 @@
 -- How a claim is made, in parts.
-use Rattle.std.specs.Prelude.{◌≡◌, ◌≢◌, ◌⊎◌, ℕ, ◌+◌, ◌%◌, ◌≤◌, ◌<◌, ◌==◌, ℤ, List, [], ◌∷◌, ◌++◌, length, None}
+use Rattle.std.specs.Prelude.{◌≡◌, ◌≢◌, ℕ, ◌+◌, ◌%◌, ◌≤◌, ◌<◌, ◌==◌, ℤ, List, [], ◌∷◌, ◌++◌, length, None}
 use Rattle.ring_layout.specs.History.{IsMessage, span}
+use Rattle.ring_layout.specs.Layout.{tail_index}
 use Rattle.ring_layout.specs.Places.{next_place, end_after, max_position}
 use Rattle.ring_table.specs.declared.claim.StagedClaim.{StagedClaim}
 use Rattle.ring_table.specs.declared.view.View.{View}
@@ -62,6 +63,10 @@ pub record Makes (C tail : ℕ) (type_id : ℤ) (len : ℕ) (front : List (ℕ �
   pub view : w ≡ with_claim (claim_behind C tail type_id len) (end_after C tail (span len)) (looked (front ++ loads) tail head v)
   pub few : length v.producer.claims ≤ a.place
   pub behind : EndBelow tail v.producer.claims
+
+-- it is made behind a tail that was loaded
+abbrev pub MakesBehind : ℕ → ℤ → ℕ → View → Admission → View → Type 0
+MakesBehind C type_id len v a w = Makes C a.tail type_id len ((tail_index C, a.tail) ∷ []) v a w × (v.producer.seen_tail ≤ a.tail)
 
 -- c is the last claim of the view, made from the tail on for len bytes. No header is stored, and the others lie before
 pub record IsNewest (tail place len : ℕ) (cs : List StagedClaim) (c : StagedClaim) (v : View) : Type 0 where

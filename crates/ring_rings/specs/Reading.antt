@@ -14,6 +14,7 @@ use Rattle.ring_layout.specs.Places.{index, room}
 use Rattle.ring_table.specs.declared.claim.PlacedMessage.{PlacedMessage}
 use Rattle.ring_table.specs.declared.view.View.{View}
 use Rattle.ring_table.specs.Staged.{body_word}
+use Rattle.ring_table.specs.Views.{scanned, with_consumer}
 
 abbrev pub messages_of : List PlacedMessage → List Message
 messages_of [] = []
@@ -28,12 +29,22 @@ abbrev pub IsTight : ℕ → List PlacedMessage → ℕ → Type 0
 IsTight start messages head = ((messages ≡ []) × (head ≡ start))
     ⊎ ((front : List PlacedMessage) × (m : PlacedMessage) × (messages ≡ front ++ m ∷ []) × (head ≡ message_end m))
 
--- Of the seat only the log, which is longer by these loads, and the consumer's part change. The heartbeats stay, the head does not pass the end of the buffer, and no word is cleared from the new head on
+-- the view without what a running read has got
+abbrev pub at_rest : View → View
+at_rest v = with_consumer (scanned v.consumer.head v.consumer.taken v.consumer) v
+
+-- nothing is left of a running read
+pub record IsAtRest (v : View) : Type 0 where
+  pub scan : v.consumer.scan ≡ v.consumer.head
+  pub got : v.consumer.got ≡ v.consumer.taken
+
+-- Of the seat only the log, which is longer by these loads, and the consumer's part change. The heartbeats stay, the head does not pass the end of the buffer, and from the new head on no word is cleared and nothing is left of a running read
 pub record MovesHead (v w : View) : Type 0 where
   pub loads : List (ℕ × ℕ)
   pub view : w ≡ record v { log = v.log ++ loads; consumer = w.consumer }
   pub heartbeats : w.consumer.heartbeats ≡ v.consumer.heartbeats
   pub cleared : w.consumer.cleared ≡ w.consumer.head
+  pub rest : IsAtRest w
   pub on : v.consumer.head ≤ w.consumer.head
   pub within : w.consumer.head ≤ v.consumer.head + room v.capacity v.consumer.head
 

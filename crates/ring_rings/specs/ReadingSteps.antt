@@ -21,6 +21,14 @@ pub record IsAt (scan : ℕ) (got : List PlacedMessage) (v : View) : Type 0 wher
   pub first : scan ≡ v.consumer.head → got ≡ v.consumer.taken
   pub later : scan ≢ v.consumer.head → (v.consumer.scan ≡ scan) × (v.consumer.got ≡ got)
 
+-- a read has come to `scan`
+abbrev pub HasCome : ℕ → View → Type 0
+HasCome scan v = (got : List PlacedMessage) × IsAt scan got v
+
+-- a position behind the head that is not behind the end of the buffer
+abbrev pub IsInBlock : ℕ → ℕ → ℕ → Type 0
+IsInBlock C head p = head % C + p ≤ head + C
+
 -- a read has got these messages up to `place`, and one more there
 pub record IsLeft (place : ℕ) (got : List PlacedMessage) (v : View) : Type 0 where
   pub last : PlacedMessage
@@ -125,3 +133,11 @@ pub record Settles (scan : ℕ) (got : List PlacedMessage) (v w : View) : Type 0
   pub cleared : w.consumer.cleared ≡ scan
   pub taken : w.consumer.taken ≡ got
   pub heartbeats : w.consumer.heartbeats ≡ v.consumer.heartbeats
+
+-- where the read has come to
+abbrev pub SettlesAll : ℕ → View → View → Type 0
+SettlesAll scan v w = (got : List PlacedMessage) → IsAt scan got v → Settles scan got v w
+
+-- up to the message that it got last, which is left
+abbrev pub SettlesBefore : ℕ → View → View → Type 0
+SettlesBefore place v w = (got : List PlacedMessage) → IsLeft place got v → Settles place got v w

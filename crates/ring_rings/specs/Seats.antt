@@ -1,5 +1,5 @@
 -- What clauses say of rings and of those who work on them.
-use Rattle.std.specs.Prelude.{◌≡◌, ℕ, ◌+◌, ◌%◌, ◌≤◌, List}
+use Rattle.std.specs.Prelude.{◌≡◌, ◌≢◌, ℕ, ◌+◌, ◌%◌, ◌≤◌, List}
 use Rattle.ring_layout.specs.History.{IsMessage}
 use Rattle.ring_layout.specs.Places.{max_position}
 use Rattle.ring_words.specs.Open.{ClaimAt}
@@ -9,6 +9,7 @@ use Rattle.ring_table.specs.declared.claim.StagedClaim.{StagedClaim}
 use Rattle.ring_table.specs.declared.claim.PlacedMessage.{PlacedMessage}
 use Rattle.ring_table.specs.OpenClaims.{open_count}
 use Rattle.ring_table.specs.declared.view.View.{View}
+use Rattle.ring_rings.specs.Reading.{at_rest}
 use Rattle.ring_rings.specs.declared.ring.Ring.{Ring}
 use Rattle.ring_rings.specs.declared.ring.Producer.{Producer}
 use Rattle.ring_rings.specs.declared.ring.Consumer.{Consumer}
@@ -47,9 +48,13 @@ pub record IsProducerOf {K : Type 0} (ring : Ring K) (p : Producer) : Type 0 whe
 
 -- The consumer ---------------------------------------------------------------
 
--- what the consumer knows
+-- what its seat knows
+abbrev pub seat_view : Consumer → View
+seat_view c = c.seat.me.0
+
+-- what the consumer knows between two calls: that, without what a running read has got
 abbrev pub consumer_view : Consumer → View
-consumer_view c = c.seat.me.0
+consumer_view c = at_rest (seat_view c)
 
 -- the messages that it took, with their places
 abbrev pub taken_of : Consumer → List PlacedMessage
@@ -74,3 +79,21 @@ pub record IsOpenClaimOf {K : Type 0} (ring : Ring K) (p : Producer) (t : ClaimA
   pub message : IsMessage ring.capacity (blank t.type_id t.len)
   pub limit : t.place ≤ max_position
   pub claim : HasClaimAt p.seat.me.0 t.place (IsOpen t.type_id t.len)
+
+-- what was open stays open
+abbrev pub KeepsClaims : {K : Type 0} → Ring K → Producer → Producer → Type 0
+KeepsClaims ring old new = (t : ClaimAt) → IsOpenClaimOf ring old t → IsOpenClaimOf ring new t
+
+-- what was open stays open, but at this place
+abbrev pub KeepsOthers : {K : Type 0} → Ring K → ℕ → Producer → Producer → Type 0
+KeepsOthers ring place old new = (t : ClaimAt) → IsOpenClaimOf ring old t → t.place ≢ place → IsOpenClaimOf ring new t
+
+-- a claim lies where no open one of the producer lies
+abbrev pub LiesApart : {K : Type 0} → Ring K → Producer → ClaimAt → Type 0
+LiesApart ring p new = (t : ClaimAt) → IsOpenClaimOf ring p t → t.place ≢ new.place
+
+-- what was open of either of two producers is open in the one that has both, at different places
+pub record KeepsBoth {K : Type 0} (ring : Ring K) (p q joined : Producer) : Type 0 where
+  pub first : KeepsClaims ring p joined
+  pub second : KeepsClaims ring q joined
+  pub apart : (t u : ClaimAt) → IsOpenClaimOf ring p t → IsOpenClaimOf ring q u → t.place ≢ u.place

@@ -2,7 +2,8 @@
 ghost use Rattle.std.specs.Prelude.{◌≡◌, IfOk, OnOk, vec_len};
 ghost use Rattle.std.specs.Slots.{slots_items, slots_len, IsFull};
 ghost use Rattle.ring_rings.specs.Closing.{close_refusal_of, kept_open, HandsOut, IsRefusedAs, Serves};
-ghost use Rattle.ring_rings.specs.Seats.{capacity_of, consumer_view, open_claims_of, shares_of, start_of, view_of, IsConsumerOf, IsProducerOf};
+ghost use Rattle.ring_rings.specs.Seats.{capacity_of, consumer_view, open_claims_of, shares_of, start_of, view_of};
+ghost use Rattle.ring_rings.specs.Seats.{IsConsumerOf, IsProducerOf};
 
 use crate::fault::CloseFault;
 use crate::open::ALL_SHARES;
@@ -24,7 +25,8 @@ fn copy_words(closed: &Closed<Wanted, Global>, words: &mut Vec<u64>)
 
 /// Tests whether a ring may be closed by this producer.
 fn test_close(producer: &Producer) -> Result<(), CloseFault>
-    ensures refused { IsRefusedAs (λ fault. fault) (close_refusal_of (open_claims_of producer.now) (shares_of producer.now)) result }
+    ensures refused { IsRefusedAs (λ fault. fault)
+        (close_refusal_of (open_claims_of producer.now) (shares_of producer.now)) result }
     ensures ok { OnOk result ((open_claims_of producer.now ≡ 0) × (shares_of producer.now ≡ 65536)) }
 {
     if producer.open_claims > 0 {
@@ -51,8 +53,10 @@ impl<K> Ring<K> {
     ) -> Result<SoloRing, CloseRefused<Self>>
         requires producer { IsProducerOf self producer }
         requires consumer { IsConsumerOf self consumer }
-        ensures refused { IsRefusedAs (kept_open self producer consumer) (close_refusal_of (open_claims_of producer) (shares_of producer)) result }
-        ensures rest { IfOk result (HandsOut (capacity_of self) (start_of self) (view_of producer) (consumer_view consumer)) }
+        ensures refused { IsRefusedAs (kept_open self producer consumer)
+            (close_refusal_of (open_claims_of producer) (shares_of producer)) result }
+        ensures rest { IfOk result
+            (HandsOut (capacity_of self) (start_of self) (view_of producer) (consumer_view consumer)) }
         ensures service { IfOk result (Serves (capacity_of self) (view_of producer) (consumer_view consumer)) }
     {
         match test_close(&producer) {

@@ -2,8 +2,8 @@
 ghost use Rattle.std.specs.Prelude.{◌≡◌, ◌/◌, ◌%◌, ◌≤◌, IfOk};
 ghost use Rattle.ring_layout.specs.Places.{IsCapacity, max_position};
 ghost use Rattle.ring_words.specs.Fresh.{make_refusal_of, IsMadeUnless};
-ghost use Rattle.ring_rings.specs.Seats.{capacity_of, consumer_view, start_of, view_of, IsConsumerOf, IsProducerOf};
-ghost use Rattle.ring_rings.specs.Opening.{first_consumer, first_producer};
+ghost use Rattle.ring_rings.specs.Seats.{capacity_of, start_of};
+ghost use Rattle.ring_rings.specs.Opening.{IsFirstConsumer, IsFirstProducer};
 
 use crate::ring::{Consumer, Producer, Ring};
 use ring_layout::ring_buffer_descriptor::{MAX_POSITION, TRAILER_WORDS};
@@ -22,8 +22,8 @@ impl<K> Ring<K> {
     pub fn new(alloc: Global, capacity: u32) -> Result<(Self, Producer, Consumer), MakeFault>
         ensures refused { IsMadeUnless (make_refusal_of capacity 0) result }
         ensures ring { IfOk result (λ made. (capacity_of made.0 ≡ capacity) × (start_of made.0 ≡ 0)) }
-        ensures producer { IfOk result (λ made. IsProducerOf made.0 made.1 × (view_of made.1 ≡ first_producer capacity 0)) }
-        ensures consumer { IfOk result (λ made. IsConsumerOf made.0 made.2 × (consumer_view made.2 ≡ first_consumer capacity 0)) }
+        ensures producer { IfOk result (λ made. IsFirstProducer made.0 capacity 0 made.1) }
+        ensures consumer { IfOk result (λ made. IsFirstConsumer made.0 capacity 0 made.2) }
     {
         Self::new_at(alloc, capacity, 0)
     }
@@ -38,8 +38,8 @@ impl<K> Ring<K> {
     ) -> Result<(Self, Producer, Consumer), MakeFault>
         ensures refused { IsMadeUnless (make_refusal_of capacity start) result }
         ensures ring { IfOk result (λ made. (capacity_of made.0 ≡ capacity) × (start_of made.0 ≡ start)) }
-        ensures producer { IfOk result (λ made. IsProducerOf made.0 made.1 × (view_of made.1 ≡ first_producer capacity start)) }
-        ensures consumer { IfOk result (λ made. IsConsumerOf made.0 made.2 × (consumer_view made.2 ≡ first_consumer capacity start)) }
+        ensures producer { IfOk result (λ made. IsFirstProducer made.0 capacity start made.1) }
+        ensures consumer { IfOk result (λ made. IsFirstConsumer made.0 capacity start made.2) }
     {
         if !is_capacity(capacity) {
             return Err(MakeFault::BadCapacity);
@@ -59,8 +59,8 @@ impl<K> Ring<K> {
         requires capacity { IsCapacity capacity }
         requires start { (start % capacity ≡ 0) × (start ≤ max_position) }
         ensures ring { IfOk result (λ made. (capacity_of made.0 ≡ capacity) × (start_of made.0 ≡ start)) }
-        ensures producer { IfOk result (λ made. IsProducerOf made.0 made.1 × (view_of made.1 ≡ first_producer capacity start)) }
-        ensures consumer { IfOk result (λ made. IsConsumerOf made.0 made.2 × (consumer_view made.2 ≡ first_consumer capacity start)) }
+        ensures producer { IfOk result (λ made. IsFirstProducer made.0 capacity start made.1) }
+        ensures consumer { IfOk result (λ made. IsFirstConsumer made.0 capacity start made.2) }
     {
         let records = capacity as usize / 8;
         let room = vec![in alloc; 0u64; records + TRAILER_WORDS]?;

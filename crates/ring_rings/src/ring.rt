@@ -23,7 +23,8 @@ pub struct Ring<K> {
     pub(crate) capacity: u32,
     pub(crate) kind: PhantomData<K>,
     ghost key: { table.shared.key.capacity ≡ capacity },
-    ghost wide: { (table.shared.table_id.words ≡ ring_words capacity) × (table.shared.table_id.slots ≡ 0) × (vec_len room ≡ ring_words capacity) },
+    ghost wide: { (table.shared.table_id.words ≡ ring_words capacity) × (table.shared.table_id.slots ≡ 0)
+        × (vec_len room ≡ ring_words capacity) },
     ghost lawful: { IsCapacity capacity },
 }
 

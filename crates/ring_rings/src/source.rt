@@ -1,12 +1,13 @@
 //! What a conductor needs of a ring, whatever its kind.
 ghost use Rattle.std.specs.Prelude.{◌≡◌, ℕ, ◌+◌, ◌≤◌, IfOk};
 ghost use Rattle.ring_table.specs.Seats.{IsSameSeat};
-ghost use Rattle.ring_table.specs.Views.{beaten, with_consumer};
+ghost use Rattle.ring_table.specs.Views.{with_beat};
 ghost use Rattle.ring_rings.specs.declared.ring.Consumer.{Consumer as TheConsumer};
 ghost use Rattle.ring_rings.specs.declared.ring.Producer.{Producer as TheProducer};
 ghost use Rattle.ring_rings.specs.Closing.{close_refusal_of, kept_open, HandsOut, IsRefusedAs, Serves};
 ghost use Rattle.ring_rings.specs.Reading.{Controls, IsBlocked};
-ghost use Rattle.ring_rings.specs.Seats.{capacity_of, consumer_view, head_of, open_claims_of, shares_of, start_of, view_of, IsConsumerOf, IsProducerOf};
+ghost use Rattle.ring_rings.specs.Seats.{capacity_of, consumer_view, head_of, open_claims_of, shares_of, start_of};
+ghost use Rattle.ring_rings.specs.Seats.{view_of, IsConsumerOf, IsProducerOf};
 
 use crate::ring::{CloseRefused, Consumer, Producer, Ring};
 use ring_words::{Handler, ReadEnd, SoloRing, Stop};
@@ -37,23 +38,26 @@ pub trait CommandSource: Sized {
         ensures consumer { is_consumer self.now consumer.new }
         ensures ready { H.ready handler.new }
         ensures seat { IsSameSeat consumer.old.seat consumer.new.seat }
-        ensures controls { Controls H.step limit (consumer_view consumer.old) (consumer_view consumer.new) handler.old handler.new result }
+        ensures controls { Controls H.step limit (consumer_view consumer.old) (consumer_view consumer.new)
+            handler.old handler.new result }
         ensures within { result.messages ≤ limit }
         ensures bytes { head_of consumer.old + result.bytes ≡ head_of consumer.new }
-        ensures blocked { result.stopped ≡ Stop.Unpublished → IsBlocked (consumer_view consumer.old) (consumer_view consumer.new) };
+        ensures blocked { result.stopped ≡ Stop.Unpublished
+            → IsBlocked (consumer_view consumer.old) (consumer_view consumer.new) };
 
     /// Stores the consumer's heartbeat, as `Ring::set_heartbeat` does.
     fn set_heartbeat(&self, consumer: &mut Consumer, value: u64)
         requires consumer { is_consumer self.now consumer.old }
         ensures consumer { is_consumer self.now consumer.new }
         ensures seat { IsSameSeat consumer.old.seat consumer.new.seat }
-        ensures view { consumer_view consumer.new ≡ with_consumer (beaten value (consumer_view consumer.old).consumer) (consumer_view consumer.old) };
+        ensures view { consumer_view consumer.new ≡ with_beat value (consumer_view consumer.old) };
 
     /// Takes the ring apart, as `Ring::close` does.
     fn close(self, producer: Producer, consumer: Consumer) -> Result<SoloRing, CloseRefused<Self>>
         requires producer { is_producer self producer }
         requires consumer { is_consumer self consumer }
-        ensures refused { IsRefusedAs (kept_open self producer consumer) (close_refusal_of (open_claims_of producer) (shares_of producer)) result }
+        ensures refused { IsRefusedAs (kept_open self producer consumer)
+            (close_refusal_of (open_claims_of producer) (shares_of producer)) result }
         ensures rest { IfOk result (HandsOut (bytes self) (start self) (view_of producer) (consumer_view consumer)) }
         ensures service { IfOk result (Serves (bytes self) (view_of producer) (consumer_view consumer)) };
 }

@@ -75,6 +75,10 @@ pub record MovesOwnTail (C new : ℕ) (v w : View) : Type 0 where
 abbrev pub HasClaim : View → ℕ → StagedClaim → Type 0
 HasClaim v k c = get_elem? v.producer.claims k ≡ some c
 
+-- the view's claim at the place is changed
+abbrev pub with_changed : ℕ → (StagedClaim → StagedClaim) → View → View
+with_changed place f v = with_claims (changed place f v.producer.claims) v
+
 -- a claim of the view at this place, of which P holds
 pub record HasClaimAt (v : View) (place : ℕ) (P : StagedClaim → Type 0) : Type 0 where
   pub nth : ℕ

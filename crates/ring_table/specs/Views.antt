@@ -75,6 +75,10 @@ with_heartbeat i value p = record p { service = record p.service { heartbeats = 
 abbrev pub beaten : ℕ → ConsumerView → ConsumerView
 beaten value c = record c { heartbeats = c.heartbeats ++ value ∷ [] }
 
+-- the consumer stored this heartbeat
+abbrev pub with_beat : ℕ → View → View
+with_beat value v = with_consumer (beaten value v.consumer) v
+
 -- ---- seats
 
 abbrev pub no_consumer : ConsumerView

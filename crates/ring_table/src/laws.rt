@@ -4,7 +4,8 @@ ghost use mathlib.Core.Option.{some};
 ghost use lib.ListN.{get_elem?};
 ghost use Rattle.ring_layout.specs.Places.{end_of};
 ghost use Rattle.ring_layout.specs.Picture.{word_at};
-ghost use Rattle.ring_table.specs.Staged.{AreRising, AreStored, ArePlaced, StagedClaim, claims_of, staged_end, staged_word_at, state_of};
+ghost use Rattle.ring_table.specs.Staged.{ArePlaced, AreRising, AreStored, StagedClaim};
+ghost use Rattle.ring_table.specs.Staged.{claims_of, staged_end, staged_word_at, state_of};
 ghost use Rattle.ring_table.specs.Changes.{changed};
 ghost use Rattle.ring_table.specs.Owners.{interleaved};
 ghost use Rattle.ring_table.specs.Passing.{AreSettled};
@@ -14,26 +15,34 @@ ghost use Rattle.ring_table.specs.OpenClaims.{AreBelow, one_if_open, open_count}
 /// Where the header of each claim is stored, the words of the claims with their places are those of the claims alone, and
 /// both end at one position.
 pub fn stored_claims_show_one_picture()
-    ensures word { (capacity e : ℕ) (cs : List StagedClaim) (p : ℕ) → ArePlaced capacity e cs → AreStored cs → staged_word_at cs p ≡ word_at capacity e (claims_of cs) p }
-    ensures end { (capacity e : ℕ) (cs : List StagedClaim) → ArePlaced capacity e cs → staged_end e cs ≡ end_of capacity e (claims_of cs) }
+    ensures word { (capacity e : ℕ) (cs : List StagedClaim) (p : ℕ) → ArePlaced capacity e cs → AreStored cs
+        → staged_word_at cs p ≡ word_at capacity e (claims_of cs) p }
+    ensures end { (capacity e : ℕ) (cs : List StagedClaim) → ArePlaced capacity e cs
+        → staged_end e cs ≡ end_of capacity e (claims_of cs) }
 {}
 
 /// A claim behind all others that one of two producers gets stands at the end of their claims put together, and changes no
 /// other place.
 pub fn last_claim_stands_last()
-    ensures left { (c : StagedClaim) (xs ys : List StagedClaim) → AreBelow c.place ys → interleaved (xs ++ c ∷ []) ys ≡ interleaved xs ys ++ c ∷ [] }
-    ensures right { (c : StagedClaim) (xs ys : List StagedClaim) → AreBelow c.place xs → AreBelow c.place ys → interleaved xs (ys ++ c ∷ []) ≡ interleaved xs ys ++ c ∷ [] }
+    ensures left { (c : StagedClaim) (xs ys : List StagedClaim) → AreBelow c.place ys
+        → interleaved (xs ++ c ∷ []) ys ≡ interleaved xs ys ++ c ∷ [] }
+    ensures right { (c : StagedClaim) (xs ys : List StagedClaim) → AreBelow c.place xs → AreBelow c.place ys
+        → interleaved xs (ys ++ c ∷ []) ≡ interleaved xs ys ++ c ∷ [] }
 {}
 
 /// A change at the place of the newest claim, behind the end of all others, changes that claim alone.
 pub fn newest_claim_changes_alone()
-    ensures { (from : ℕ) (cs : List StagedClaim) (c : StagedClaim) (f : StagedClaim → StagedClaim) → EndBelow from cs → from ≤ c.place → changed c.place f (cs ++ c ∷ []) ≡ cs ++ f c ∷ [] }
+    ensures { (from : ℕ) (cs : List StagedClaim) (c : StagedClaim) (f : StagedClaim → StagedClaim)
+        → EndBelow from cs → from ≤ c.place → changed c.place f (cs ++ c ∷ []) ≡ cs ++ f c ∷ [] }
 {}
 
 /// How the number of open claims goes on: a join adds those of both, a change of one claim counts that one, and where
 /// there are none all claims are settled and have their headers.
 pub fn open_claims_are_counted()
     ensures join { (xs ys : List StagedClaim) → open_count (interleaved xs ys) ≡ open_count xs + open_count ys }
-    ensures change { (f : StagedClaim → StagedClaim) (cs : List StagedClaim) (k : ℕ) (c : StagedClaim) → AreRising cs → get_elem? cs k ≡ some c → open_count (changed c.place f cs) + one_if_open (state_of c.stage) ≡ open_count cs + one_if_open (state_of (f c).stage) }
+    ensures change { (f : StagedClaim → StagedClaim) (cs : List StagedClaim) (k : ℕ) (c : StagedClaim)
+        → AreRising cs → get_elem? cs k ≡ some c
+        → open_count (changed c.place f cs) + one_if_open (state_of c.stage)
+        ≡ open_count cs + one_if_open (state_of (f c).stage) }
     ensures none { (cs : List StagedClaim) → open_count cs ≡ 0 → AreSettled cs × AreStored cs }
 {}

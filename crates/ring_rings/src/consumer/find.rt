@@ -2,7 +2,7 @@
 ghost use Rattle.std.specs.Prelude.{◌≡◌, ℕ, ◌+◌, ◌<◌, List, true};
 ghost use Rattle.ring_table.specs.declared.claim.PlacedMessage.{PlacedMessage};
 ghost use Rattle.ring_table.specs.Seats.{IsSameSeat, IsSeatOf};
-ghost use Rattle.ring_rings.specs.ReadingSteps.{Finds, IsAt, OnlyScans};
+ghost use Rattle.ring_rings.specs.ReadingSteps.{Finds, HasCome, IsAt, OnlyScans};
 
 use super::load::load_header;
 use ring_layout::record_descriptor::{HEADER_LENGTH, PADDING_MSG_TYPE_ID};
@@ -31,11 +31,12 @@ pub(super) fn find(
     requires seat { IsSeatOf ring.now.table_id ring.now.key capacity seat.old }
     requires consumes { seat.old.me.0.consumes ≡ true }
     requires stands { (seat.old.me.0.consumer.head ≡ head) × (seat.old.me.0.consumer.cleared ≡ head) }
-    requires at { (got : List PlacedMessage) × IsAt scan got seat.old.me.0 }
+    requires at { HasCome scan seat.old.me.0 }
     requires near { scan < head + capacity }
     ensures seat { IsSameSeat seat.old seat.new }
     ensures scans { OnlyScans seat.old.me.0 seat.new.me.0 }
-    ensures finds { (got : List PlacedMessage) → IsAt scan got seat.old.me.0 → Finds capacity scan got result seat.old.me.0 seat.new.me.0 }
+    ensures finds { (got : List PlacedMessage) → IsAt scan got seat.old.me.0
+        → Finds capacity scan got result seat.old.me.0 seat.new.me.0 }
 {
     let header = load_header(ring, seat, capacity, head, scan);
     let (len, type_id) = unpack_header(header);

@@ -1,7 +1,7 @@
 //! The heartbeat of a consumer.
 ghost use Rattle.std.specs.Prelude.{◌≡◌};
 ghost use Rattle.ring_table.specs.Seats.{IsSameSeat};
-ghost use Rattle.ring_table.specs.Views.{beaten, with_consumer};
+ghost use Rattle.ring_table.specs.Views.{with_beat};
 ghost use Rattle.ring_rings.specs.Seats.{IsConsumerOf, consumer_view};
 
 use crate::ring::{Consumer, Ring};
@@ -13,7 +13,7 @@ impl<K> Ring<K> {
         requires { IsConsumerOf self.now consumer.old }
         ensures consumer { IsConsumerOf self.now consumer.new }
         ensures seat { IsSameSeat consumer.old.seat consumer.new.seat }
-        ensures view { consumer_view consumer.new ≡ with_consumer (beaten value (consumer_view consumer.old).consumer) (consumer_view consumer.old) }
+        ensures view { consumer_view consumer.new ≡ with_beat value (consumer_view consumer.old) }
     {
         store_heartbeat(&self.table.shared, &mut consumer.seat, self.capacity, value);
     }

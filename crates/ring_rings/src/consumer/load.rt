@@ -1,10 +1,10 @@
 //! Loads of a running read.
-ghost use Rattle.std.specs.Prelude.{◌≡◌, ◌≢◌, ℕ, ◌+◌, ◌*◌, ◌/◌, ◌%◌, ◌<◌, ◌≤◌, List, [], ◌∷◌, ◌++◌, length, take, All, true};
+ghost use Rattle.std.specs.Prelude.{◌≡◌, ◌≢◌, ℕ, ◌+◌, ◌*◌, ◌/◌, ◌%◌, ◌<◌, ◌≤◌, List, length, true};
 ghost use Rattle.ring_layout.specs.Places.{index, max_position};
 ghost use Rattle.ring_table.specs.declared.claim.PlacedMessage.{PlacedMessage};
 ghost use Rattle.ring_table.specs.Seats.{IsSameSeat, IsSeatOf};
 ghost use Rattle.ring_table.specs.ConsumerSteps.{LoadsHeader};
-ghost use Rattle.ring_rings.specs.ReadingSteps.{CopiesBody, CopiesWord, HasGotLast, IsAt, OnlyLoads};
+ghost use Rattle.ring_rings.specs.ReadingSteps.{CopiesBody, CopiesWord, HasCome, HasGotLast, IsAt, OnlyLoads};
 
 use ring_layout::record_descriptor::HEADER_LENGTH;
 use ring_layout::{put_word, word_index};
@@ -21,10 +21,11 @@ pub(super) fn load_header(
     requires seat { IsSeatOf ring.now.table_id ring.now.key capacity seat.old }
     requires consumes { seat.old.me.0.consumes ≡ true }
     requires stands { (seat.old.me.0.consumer.head ≡ head) × (seat.old.me.0.consumer.cleared ≡ head) }
-    requires at { (got : List PlacedMessage) × IsAt scan got seat.old.me.0 }
+    requires at { HasCome scan seat.old.me.0 }
     requires near { scan < head + capacity }
     ensures seat { IsSameSeat seat.old seat.new }
-    ensures told { (got : List PlacedMessage) → IsAt scan got seat.old.me.0 → LoadsHeader capacity scan got seat.old.me.0 result seat.new.me.0 }
+    ensures told { (got : List PlacedMessage) → IsAt scan got seat.old.me.0
+        → LoadsHeader capacity scan got seat.old.me.0 result seat.new.me.0 }
 {
     if scan == head {
         load_first_header(ring, seat, capacity, head)
@@ -75,7 +76,8 @@ pub(super) fn load_body(
     requires room { (length scratch.old ≡ capacity / 8) × (len ≤ capacity / 8) }
     ensures seat { IsSameSeat seat.old seat.new }
     ensures rest { OnlyLoads seat.old.me.0 seat.new.me.0 }
-    ensures copies { (m : PlacedMessage) → HasGotLast m seat.old.me.0 → m.place ≡ place → length m.message.body ≡ len → CopiesBody capacity m seat.old.me.0 scratch.new seat.new.me.0 }
+    ensures copies { (m : PlacedMessage) → HasGotLast m seat.old.me.0 → m.place ≡ place → length m.message.body ≡ len
+        → CopiesBody capacity m seat.old.me.0 scratch.new seat.new.me.0 }
 {
     // A record does not cross the end of the buffer, so its words lie side by side.
     let first = word_index(capacity, place) + 1;

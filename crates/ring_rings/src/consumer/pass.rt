@@ -4,8 +4,8 @@ ghost use Rattle.ring_layout.specs.Places.{max_position};
 ghost use Rattle.ring_table.specs.declared.claim.PlacedMessage.{PlacedMessage};
 ghost use Rattle.ring_table.specs.Seats.{IsSameSeat, IsSeatOf};
 ghost use Rattle.ring_table.specs.Views.{cleared_to, with_consumer};
-ghost use Rattle.ring_rings.specs.Seats.{IsConsumerOf, capacity_of, consumer_view, head_of};
-ghost use Rattle.ring_rings.specs.ReadingSteps.{IsAt, IsLeft, Settles};
+ghost use Rattle.ring_rings.specs.Seats.{IsConsumerOf, capacity_of, head_of, seat_view};
+ghost use Rattle.ring_rings.specs.ReadingSteps.{HasCome, IsInBlock, IsLeft, SettlesAll, SettlesBefore};
 
 use crate::ring::{Consumer, Ring};
 use ring_layout::word_index;
@@ -18,7 +18,7 @@ fn clear_up(ring: &SharedRing, seat: &mut RingSeat, capacity: u32, head: u64, to
     requires cleared { seat.old.me.0.consumer.cleared ≡ head }
     requires passed { (head ≤ to) × (to ≤ seat.old.me.0.consumer.scan) }
     requires whole { (head % 8 ≡ 0) × (to % 8 ≡ 0) }
-    requires inside { head % capacity + to ≤ head + capacity }
+    requires inside { IsInBlock capacity head to }
     ensures seat { IsSameSeat seat.old seat.new }
     ensures view { seat.new.me.0 ≡ with_consumer (cleared_to to seat.old.me.0.consumer) seat.old.me.0 }
 {
@@ -43,11 +43,11 @@ impl<K> Ring<K> {
     pub(super) fn move_head(&self, consumer: &mut Consumer, scan: u64)
         requires consumer { IsConsumerOf self.now consumer.old }
         requires from { (head_of consumer.old ≤ scan) × (scan % 8 ≡ 0) × (scan ≤ max_position) }
-        requires at { (got : List PlacedMessage) × IsAt scan got (consumer_view consumer.old) }
-        requires inside { head_of consumer.old % capacity_of self.now + scan ≤ head_of consumer.old + capacity_of self.now }
+        requires at { HasCome scan (seat_view consumer.old) }
+        requires inside { IsInBlock (capacity_of self.now) (head_of consumer.old) scan }
         ensures consumer { IsConsumerOf self.now consumer.new }
         ensures seat { IsSameSeat consumer.old.seat consumer.new.seat }
-        ensures settles { (got : List PlacedMessage) → IsAt scan got (consumer_view consumer.old) → Settles scan got (consumer_view consumer.old) (consumer_view consumer.new) }
+        ensures settles { SettlesAll scan (seat_view consumer.old) (seat_view consumer.new) }
     {
         if consumer.head < scan {
             clear_up(
@@ -66,11 +66,11 @@ impl<K> Ring<K> {
     pub(super) fn move_head_before(&self, consumer: &mut Consumer, place: u64)
         requires consumer { IsConsumerOf self.now consumer.old }
         requires from { (head_of consumer.old ≤ place) × (place % 8 ≡ 0) × (place ≤ max_position) }
-        requires left { (got : List PlacedMessage) × IsLeft place got (consumer_view consumer.old) }
-        requires inside { head_of consumer.old % capacity_of self.now + place ≤ head_of consumer.old + capacity_of self.now }
+        requires left { (got : List PlacedMessage) × IsLeft place got (seat_view consumer.old) }
+        requires inside { IsInBlock (capacity_of self.now) (head_of consumer.old) place }
         ensures consumer { IsConsumerOf self.now consumer.new }
         ensures seat { IsSameSeat consumer.old.seat consumer.new.seat }
-        ensures settles { (got : List PlacedMessage) → IsLeft place got (consumer_view consumer.old) → Settles place got (consumer_view consumer.old) (consumer_view consumer.new) }
+        ensures settles { SettlesBefore place (seat_view consumer.old) (seat_view consumer.new) }
     {
         if consumer.head < place {
             clear_up(

@@ -1,14 +1,13 @@
 //! Reads of a shared ring.
 
-ghost use Rattle.std.specs.Prelude.{◌≡◌, ◌≢◌, ℕ, ◌+◌, ◌%◌, ◌<◌, ◌≤◌, ◌&&◌, ◌==◌, nat_lt, List};
+ghost use Rattle.std.specs.Prelude.{◌≡◌, ◌≢◌, ℕ, ◌+◌, ◌%◌, ◌<◌, ◌≤◌, ◌&&◌, ◌==◌, nat_lt};
 ghost use Rattle.ring_layout.specs.Places.{max_position};
-ghost use Rattle.ring_table.specs.declared.claim.PlacedMessage.{PlacedMessage};
 ghost use Rattle.ring_table.specs.Seats.{IsSameSeat};
 ghost use Rattle.ring_words.specs.Read.{stop_of};
-ghost use Rattle.ring_rings.specs.Seats.{IsConsumerOf, capacity_of, consumer_view, head_of};
+ghost use Rattle.ring_rings.specs.Seats.{IsConsumerOf, capacity_of, consumer_view, head_of, seat_view};
 ghost use Rattle.ring_words.specs.Across.{ReadsAcross};
 ghost use Rattle.ring_rings.specs.Reading.{Controls, IsBlocked, Reads, ReadsTo};
-ghost use Rattle.ring_rings.specs.ReadingSteps.{IsAt, Settles, heeded};
+ghost use Rattle.ring_rings.specs.ReadingSteps.{HasCome, IsInBlock, SettlesAll, heeded};
 
 use crate::consumer::turn::Turn;
 use crate::ring::{Consumer, Ring};
@@ -33,12 +32,13 @@ impl<K> Ring<K> {
         stopped: Stop,
     ) -> ReadEnd
         requires consumer { IsConsumerOf self.now consumer.old }
-        requires from { (start ≤ head_of consumer.old) × (head_of consumer.old ≤ scan) × (scan % 8 ≡ 0) × (scan ≤ max_position) }
-        requires at { (got : List PlacedMessage) × IsAt scan got (consumer_view consumer.old) }
-        requires inside { head_of consumer.old % capacity_of self.now + scan ≤ head_of consumer.old + capacity_of self.now }
+        requires from { (start ≤ head_of consumer.old) × (head_of consumer.old ≤ scan)
+            × (scan % 8 ≡ 0) × (scan ≤ max_position) }
+        requires at { HasCome scan (seat_view consumer.old) }
+        requires inside { IsInBlock (capacity_of self.now) (head_of consumer.old) scan }
         ensures consumer { IsConsumerOf self.now consumer.new }
         ensures seat { IsSameSeat consumer.old.seat consumer.new.seat }
-        ensures settles { (got : List PlacedMessage) → IsAt scan got (consumer_view consumer.old) → Settles scan got (consumer_view consumer.old) (consumer_view consumer.new) }
+        ensures settles { SettlesAll scan (seat_view consumer.old) (seat_view consumer.new) }
         ensures messages { result.messages ≡ messages }
         ensures bytes { start + result.bytes ≡ scan }
         ensures stopped { result.stopped ≡ stopped }
@@ -64,10 +64,12 @@ impl<K> Ring<K> {
         ensures consumer { IsConsumerOf self.now consumer.new }
         ensures ready { H.ready handler.new }
         ensures seat { IsSameSeat consumer.old.seat consumer.new.seat }
-        ensures controls { Controls (heeded heeds H.step) limit (consumer_view consumer.old) (consumer_view consumer.new) handler.old handler.new result }
+        ensures controls { Controls (heeded heeds H.step) limit
+            (consumer_view consumer.old) (consumer_view consumer.new) handler.old handler.new result }
         ensures within { result.messages ≤ limit }
         ensures bytes { head_of consumer.old + result.bytes ≡ head_of consumer.new }
-        ensures blocked { result.stopped ≡ Stop.Unpublished → IsBlocked (consumer_view consumer.old) (consumer_view consumer.new) }
+        ensures blocked { result.stopped ≡ Stop.Unpublished
+            → IsBlocked (consumer_view consumer.old) (consumer_view consumer.new) }
     {
         let start = consumer.head;
         let mut scan = start;
@@ -119,11 +121,14 @@ impl<K> Ring<K> {
         ensures consumer { IsConsumerOf self.now consumer.new }
         ensures ready { H.ready handler.new }
         ensures seat { IsSameSeat consumer.old.seat consumer.new.seat }
-        ensures reads { Reads H.step limit (consumer_view consumer.old) (consumer_view consumer.new) handler.old handler.new result.messages }
+        ensures reads { Reads H.step limit (consumer_view consumer.old) (consumer_view consumer.new)
+            handler.old handler.new result.messages }
         ensures within { result.messages ≤ limit }
         ensures bytes { head_of consumer.old + result.bytes ≡ head_of consumer.new }
-        ensures stopped { result.stopped ≡ stop_of (capacity_of self.now) limit result.messages (head_of consumer.new) result.bytes }
-        ensures blocked { result.stopped ≡ Stop.Unpublished → IsBlocked (consumer_view consumer.old) (consumer_view consumer.new) }
+        ensures stopped { result.stopped
+            ≡ stop_of (capacity_of self.now) limit result.messages (head_of consumer.new) result.bytes }
+        ensures blocked { result.stopped ≡ Stop.Unpublished
+            → IsBlocked (consumer_view consumer.old) (consumer_view consumer.new) }
     {
         self.run(consumer, limit, false, handler)
     }
@@ -142,7 +147,8 @@ impl<K> Ring<K> {
         ensures consumer { IsConsumerOf self.now consumer.new }
         ensures ready { H.ready handler.new }
         ensures seat { IsSameSeat consumer.old.seat consumer.new.seat }
-        ensures reads { ReadsAcross (ReadsTo H.step) limit (consumer_view consumer.old) (consumer_view consumer.new) handler.old handler.new result }
+        ensures reads { ReadsAcross (ReadsTo H.step) limit (consumer_view consumer.old) (consumer_view consumer.new)
+            handler.old handler.new result }
         ensures within { result.messages ≤ limit }
         ensures bytes { head_of consumer.old + result.bytes ≡ head_of consumer.new }
     {
@@ -172,10 +178,12 @@ impl<K> Ring<K> {
         ensures consumer { IsConsumerOf self.now consumer.new }
         ensures ready { H.ready handler.new }
         ensures seat { IsSameSeat consumer.old.seat consumer.new.seat }
-        ensures controls { Controls H.step limit (consumer_view consumer.old) (consumer_view consumer.new) handler.old handler.new result }
+        ensures controls { Controls H.step limit (consumer_view consumer.old) (consumer_view consumer.new)
+            handler.old handler.new result }
         ensures within { result.messages ≤ limit }
         ensures bytes { head_of consumer.old + result.bytes ≡ head_of consumer.new }
-        ensures blocked { result.stopped ≡ Stop.Unpublished → IsBlocked (consumer_view consumer.old) (consumer_view consumer.new) }
+        ensures blocked { result.stopped ≡ Stop.Unpublished
+            → IsBlocked (consumer_view consumer.old) (consumer_view consumer.new) }
     {
         self.run(consumer, limit, true, handler)
     }

@@ -3,8 +3,8 @@ ghost use Rattle.std.specs.Prelude.{◌≡◌, ◌≢◌, ℕ, ◌+◌, ◌%◌,
 ghost use Rattle.ring_layout.specs.Places.{max_position};
 ghost use Rattle.ring_table.specs.declared.claim.PlacedMessage.{PlacedMessage};
 ghost use Rattle.ring_table.specs.Seats.{IsSameSeat};
-ghost use Rattle.ring_rings.specs.Seats.{IsConsumerOf, capacity_of, consumer_view, head_of};
-ghost use Rattle.ring_rings.specs.ReadingSteps.{HasGotLast, IsAt, LoadsBody, TurnIs, heeded};
+ghost use Rattle.ring_rings.specs.Seats.{IsConsumerOf, capacity_of, head_of, seat_view};
+ghost use Rattle.ring_rings.specs.ReadingSteps.{HasCome, HasGotLast, IsAt, LoadsBody, TurnIs, heeded};
 
 use super::find::{Found, find};
 use super::load::load_body;
@@ -41,8 +41,10 @@ impl<K> Ring<K> {
         ensures consumer { IsConsumerOf self.now consumer.new }
         ensures ready { H.ready handler.new }
         ensures seat { IsSameSeat consumer.old.seat consumer.new.seat }
-        ensures shown { (m : PlacedMessage) → HasGotLast m (consumer_view consumer.old) → m.place ≡ place → m.message.type_id ≡ type_id → length m.message.body ≡ len
-            → LoadsBody (capacity_of self.now) m (consumer_view consumer.old) (consumer_view consumer.new) × H.step handler.old m.message handler.new result }
+        ensures shown { (m : PlacedMessage) → HasGotLast m (seat_view consumer.old) → m.place ≡ place
+            → m.message.type_id ≡ type_id → length m.message.body ≡ len
+            → LoadsBody (capacity_of self.now) m (seat_view consumer.old) (seat_view consumer.new)
+            × H.step handler.old m.message handler.new result }
     {
         load_body(
             &self.table.shared,
@@ -65,13 +67,15 @@ impl<K> Ring<K> {
     ) -> Turn
         requires consumer { IsConsumerOf self.now consumer.old }
         requires ready { H.ready handler.old }
-        requires at { (got : List PlacedMessage) × IsAt scan got (consumer_view consumer.old) }
-        requires near { (head_of consumer.old ≤ scan) × (scan < head_of consumer.old + capacity_of self.now) × (scan ≤ max_position) × (scan % 8 ≡ 0) }
+        requires at { HasCome scan (seat_view consumer.old) }
+        requires near { (head_of consumer.old ≤ scan) × (scan < head_of consumer.old + capacity_of self.now)
+            × (scan ≤ max_position) × (scan % 8 ≡ 0) }
         ensures consumer { IsConsumerOf self.now consumer.new }
         ensures ready { H.ready handler.new }
         ensures seat { IsSameSeat consumer.old.seat consumer.new.seat }
-        ensures turn { (got : List PlacedMessage) → IsAt scan got (consumer_view consumer.old)
-            → TurnIs (heeded heeds H.step) (capacity_of self.now) scan got result (consumer_view consumer.old) handler.old (consumer_view consumer.new) handler.new }
+        ensures turn { (got : List PlacedMessage) → IsAt scan got (seat_view consumer.old)
+            → TurnIs (heeded heeds H.step) (capacity_of self.now) scan got result
+            (seat_view consumer.old) handler.old (seat_view consumer.new) handler.new }
     {
         let found = find(
             &self.table.shared,

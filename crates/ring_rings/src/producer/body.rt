@@ -32,7 +32,8 @@ fn store_fresh_word(
     requires target { target ≡ index capacity (place + 8 + at) }
     requires fresh { (cs : List StagedClaim) × (c : StagedClaim) × TakesFresh place at word cs c seat.old.me.0 }
     ensures seat { IsSameSeat seat.old seat.new }
-    ensures stored { (cs : List StagedClaim) (c : StagedClaim) → TakesFresh place at word cs c seat.old.me.0 → seat.new.me.0 ≡ with_claims (cs ++ written at word c ∷ []) seat.old.me.0 }
+    ensures stored { (cs : List StagedClaim) (c : StagedClaim) → TakesFresh place at word cs c seat.old.me.0
+        → seat.new.me.0 ≡ with_claims (cs ++ written at word c ∷ []) seat.old.me.0 }
 {
     // What is 0 already needs no store.
     if word != 0 {
@@ -54,7 +55,8 @@ pub(crate) fn store_body(
     requires fresh { (cs : List StagedClaim) × (c : StagedClaim) × IsFresh place (length body.now) cs c seat.old.me.0 }
     requires inside { place % capacity + 8 + length body.now ≤ capacity }
     ensures seat { IsSameSeat seat.old seat.new }
-    ensures stored { (cs : List StagedClaim) (c : StagedClaim) → IsFresh place (length body.now) cs c seat.old.me.0 → seat.new.me.0 ≡ with_claims (cs ++ put_at 0 body.now c ∷ []) seat.old.me.0 }
+    ensures stored { (cs : List StagedClaim) (c : StagedClaim) → IsFresh place (length body.now) cs c seat.old.me.0
+        → seat.new.me.0 ≡ with_claims (cs ++ put_at 0 body.now c ∷ []) seat.old.me.0 }
 {
     // A record does not cross the end of the buffer, so its words lie side by side.
     let first = word_index(capacity, place) + 1;
@@ -86,7 +88,9 @@ pub(crate) fn store_message(
     requires len { length body.now ≡ wanted.len }
     requires made { HasJustMade capacity wanted.type_id wanted.len place seat.old.me.0 }
     ensures seat { IsSameSeat seat.old seat.new }
-    ensures stored { (tail : ℕ) (cs : List StagedClaim) → IsJustMade capacity tail wanted.type_id wanted.len place cs seat.old.me.0 → seat.new.me.0 ≡ with_claims (cs ++ record_behind capacity tail wanted.type_id body.now ∷ []) seat.old.me.0 }
+    ensures stored { (tail : ℕ) (cs : List StagedClaim)
+        → IsJustMade capacity tail wanted.type_id wanted.len place cs seat.old.me.0
+        → seat.new.me.0 ≡ with_claims (cs ++ record_behind capacity tail wanted.type_id body.now ∷ []) seat.old.me.0 }
 {
     store_body(words, seat, capacity, place, body);
     store_committed_header(words, seat, capacity, place, wanted);

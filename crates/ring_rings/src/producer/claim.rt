@@ -1,10 +1,9 @@
 //! One try of a claim, by the steps that it takes.
-ghost use Rattle.std.specs.Prelude.{◌≡◌, ◌%◌, ◌<◌, ◌≤◌, [], ◌∷◌, MatchResult, OnErr};
-ghost use Rattle.ring_layout.specs.Layout.{tail_index};
+ghost use Rattle.std.specs.Prelude.{◌≡◌, ◌%◌, ◌<◌, ◌≤◌, [], MatchResult, OnErr};
 ghost use Rattle.ring_layout.specs.Places.{max_position};
 ghost use Rattle.ring_table.specs.Seats.{IsSameSeat, IsSeatOf};
 ghost use Rattle.ring_rings.specs.Claiming.{RefusesAlone, RefusesTry};
-ghost use Rattle.ring_rings.specs.Making.{Makes};
+ghost use Rattle.ring_rings.specs.Making.{Makes, MakesBehind};
 
 use crate::fault::TryFault;
 use crate::producer::admission::{admit, test_request};
@@ -27,7 +26,9 @@ pub(crate) fn claim_alone(
     requires sole { seat.old.me.0.producer.shares ≡ 65536 }
     requires tail { (seat.old.me.0.producer.seen_tail ≡ tail) × (tail % 8 ≡ 0) × (tail ≤ max_position) }
     ensures seat { IsSameSeat seat.old seat.new }
-    ensures told { MatchResult result (λ a. Makes capacity tail wanted.type_id wanted.len [] seat.old.me.0 a seat.new.me.0) (λ fault. RefusesAlone capacity wanted.type_id wanted.len seat.old.me.0 fault seat.new.me.0) }
+    ensures told { MatchResult result
+        (λ a. Makes capacity tail wanted.type_id wanted.len [] seat.old.me.0 a seat.new.me.0)
+        (λ fault. RefusesAlone capacity wanted.type_id wanted.len seat.old.me.0 fault seat.new.me.0) }
 {
     test_request(capacity, wanted)?;
     let admission = admit(capacity, tail, wanted)?;
@@ -50,8 +51,11 @@ pub(crate) fn try_claim(
     requires seat { IsSeatOf words.now.table_id words.now.key capacity seat.old }
     requires share { 0 < seat.old.me.0.producer.shares }
     ensures seat { IsSameSeat seat.old seat.new }
-    ensures told { MatchResult result (λ a. Makes capacity a.tail wanted.type_id wanted.len ((tail_index capacity, a.tail) ∷ []) seat.old.me.0 a seat.new.me.0 × (seat.old.me.0.producer.seen_tail ≤ a.tail)) (λ fault. RefusesTry capacity wanted.type_id wanted.len seat.old.me.0 fault seat.new.me.0) }
-    ensures own { OnErr result (seat.old.me.0.producer.shares ≡ 65536 → seat.new.me.0.producer.seen_tail ≡ seat.old.me.0.producer.seen_tail) }
+    ensures told { MatchResult result
+        (λ a. MakesBehind capacity wanted.type_id wanted.len seat.old.me.0 a seat.new.me.0)
+        (λ fault. RefusesTry capacity wanted.type_id wanted.len seat.old.me.0 fault seat.new.me.0) }
+    ensures own { OnErr result
+        (seat.old.me.0.producer.shares ≡ 65536 → seat.new.me.0.producer.seen_tail ≡ seat.old.me.0.producer.seen_tail) }
 {
     test_request(capacity, wanted)?;
     let tail = load_tail(words, seat, capacity);

@@ -17,7 +17,8 @@ fn store_padding(words: &SharedRing, seat: &mut RingSeat, capacity: u32, tail: u
     requires near { (tail ≤ place) × (place ≤ tail + capacity) }
     requires newest { (len : ℕ) × HasNewest tail place len seat.old.me.0 }
     ensures seat { IsSameSeat seat.old seat.new }
-    ensures padded { (len : ℕ) (cs : List StagedClaim) (c : StagedClaim) → IsNewest tail place len cs c seat.old.me.0 → seat.new.me.0 ≡ with_claims (cs ++ staged Padded c ∷ []) seat.old.me.0 }
+    ensures padded { (len : ℕ) (cs : List StagedClaim) (c : StagedClaim) → IsNewest tail place len cs c seat.old.me.0
+        → seat.new.me.0 ≡ with_claims (cs ++ staged Padded c ∷ []) seat.old.me.0 }
 {
     if place > tail {
         store_padding_header(words, seat, capacity, tail, place);
@@ -37,10 +38,13 @@ pub(crate) fn store_headers(
     requires near { (admission.tail ≤ admission.place) × (admission.place ≤ admission.tail + capacity) }
     requires newest { HasNewest admission.tail admission.place wanted.len seat.old.me.0 }
     ensures seat { IsSameSeat seat.old seat.new }
-    ensures opened { (cs : List StagedClaim) (c : StagedClaim) → IsNewest admission.tail admission.place wanted.len cs c seat.old.me.0 → seat.new.me.0 ≡ with_claims (cs ++ opened wanted.type_id wanted.len c ∷ []) seat.old.me.0 }
+    ensures opened { (cs : List StagedClaim) (c : StagedClaim)
+        → IsNewest admission.tail admission.place wanted.len cs c seat.old.me.0
+        → seat.new.me.0 ≡ with_claims (cs ++ opened wanted.type_id wanted.len c ∷ []) seat.old.me.0 }
 
     // The places rise, so that there are not too many claims.
-    ensures few { (cs : List StagedClaim) (c : StagedClaim) → IsNewest admission.tail admission.place wanted.len cs c seat.old.me.0 → length cs ≤ admission.place }
+    ensures few { (cs : List StagedClaim) (c : StagedClaim)
+        → IsNewest admission.tail admission.place wanted.len cs c seat.old.me.0 → length cs ≤ admission.place }
 {
     let Admission { tail, place, .. } = admission;
     store_padding(words, seat, capacity, tail, place);

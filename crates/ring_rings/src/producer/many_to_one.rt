@@ -1,11 +1,11 @@
 //! The calls of a ring with any number of producers.
-ghost use Rattle.std.specs.Prelude.{◌≡◌, ◌≢◌, ◌↔◌, length, IfErr, IfOk, IsTrue, OnErr, OnOk, is_err};
+ghost use Rattle.std.specs.Prelude.{◌≡◌, ◌↔◌, length, IfErr, IfOk, IsTrue, OnErr, OnOk, is_err};
 ghost use Rattle.ring_table.specs.Staged.{AreRising};
 ghost use Rattle.ring_table.specs.Views.{producer_alone, without_share};
-ghost use Rattle.ring_words.specs.Open.{ClaimAt};
 ghost use Rattle.ring_rings.specs.Claiming.{Claims, RefusesTry, Writes};
 ghost use Rattle.ring_rings.specs.Joining.{Joins};
-ghost use Rattle.ring_rings.specs.Seats.{capacity_of, claims_of, shares_of, view_of, IsOpenClaimOf, IsProducerOf};
+ghost use Rattle.ring_rings.specs.Seats.{capacity_of, claims_of, shares_of, view_of};
+ghost use Rattle.ring_rings.specs.Seats.{IsOpenClaimOf, IsProducerOf, KeepsBoth, KeepsClaims, LiesApart};
 
 use crate::claim::Claim;
 use crate::fault::{NoShares, TryFault};
@@ -30,11 +30,13 @@ impl Ring<ManyToOne> {
     ) -> Result<Claim, TryFault>
         requires producer { IsProducerOf self.now producer.old }
         ensures producer { IsProducerOf self.now producer.new }
-        ensures claimed { IfOk result (λ t. Claims (capacity_of self.now) type_id len (view_of producer.old) t (view_of producer.new)) }
-        ensures refused { IfErr result (λ fault. RefusesTry (capacity_of self.now) type_id len (view_of producer.old) fault (view_of producer.new)) }
+        ensures claimed { IfOk result (λ t.
+            Claims (capacity_of self.now) type_id len (view_of producer.old) t (view_of producer.new)) }
+        ensures refused { IfErr result (λ fault.
+            RefusesTry (capacity_of self.now) type_id len (view_of producer.old) fault (view_of producer.new)) }
         ensures is_open { IfOk result (IsOpenClaimOf self.now producer.new) }
-        ensures claims { (t : ClaimAt) → IsOpenClaimOf self.now producer.old t → IsOpenClaimOf self.now producer.new t }
-        ensures apart { IfOk result (λ new. (t : ClaimAt) → IsOpenClaimOf self.now producer.old t → t.place ≢ new.place) }
+        ensures claims { KeepsClaims self.now producer.old producer.new }
+        ensures apart { IfOk result (LiesApart self.now producer.old) }
     {
         let wanted = Wanted { type_id, len };
         let admission = try_claim(
@@ -58,9 +60,12 @@ impl Ring<ManyToOne> {
     ) -> Result<(), TryFault>
         requires producer { IsProducerOf self.now producer.old }
         ensures producer { IsProducerOf self.now producer.new }
-        ensures written { OnOk result (Writes (capacity_of self.now) type_id body.now (view_of producer.old) (view_of producer.new)) }
-        ensures refused { IfErr result (λ fault. RefusesTry (capacity_of self.now) type_id (length body.now) (view_of producer.old) fault (view_of producer.new)) }
-        ensures claims { (t : ClaimAt) → IsOpenClaimOf self.now producer.old t → IsOpenClaimOf self.now producer.new t }
+        ensures written { OnOk result
+            (Writes (capacity_of self.now) type_id body.now (view_of producer.old) (view_of producer.new)) }
+        ensures refused { IfErr result (λ fault.
+            RefusesTry (capacity_of self.now) type_id (length body.now)
+            (view_of producer.old) fault (view_of producer.new)) }
+        ensures claims { KeepsClaims self.now producer.old producer.new }
     {
         let wanted = Wanted {
             type_id,
@@ -88,8 +93,9 @@ impl Ring<ManyToOne> {
         ensures refused { IsTrue (is_err result) ↔ (shares_of producer.old ≡ 1) }
         ensures same { OnErr result (producer.new ≡ producer.old) }
         ensures left { OnOk result (view_of producer.new ≡ without_share (view_of producer.old)) }
-        ensures right { IfOk result (λ other. IsProducerOf self.now other × (view_of other ≡ producer_alone (view_of producer.old))) }
-        ensures claims { (t : ClaimAt) → IsOpenClaimOf self.now producer.old t → IsOpenClaimOf self.now producer.new t }
+        ensures right { IfOk result (λ other.
+            IsProducerOf self.now other × (view_of other ≡ producer_alone (view_of producer.old))) }
+        ensures claims { KeepsClaims self.now producer.old producer.new }
     {
         if producer.shares == 1 {
             return Err(NoShares);
@@ -113,9 +119,7 @@ impl Ring<ManyToOne> {
         ensures producer { IsProducerOf self.now producer.new }
         ensures joined { Joins (capacity_of self.now) (view_of producer.old) (view_of other) (view_of producer.new) }
         ensures rising { AreRising (claims_of producer.new) }
-        ensures claims { (t : ClaimAt) → IsOpenClaimOf self.now producer.old t → IsOpenClaimOf self.now producer.new t }
-        ensures others { (t : ClaimAt) → IsOpenClaimOf self.now other t → IsOpenClaimOf self.now producer.new t }
-        ensures apart { (t u : ClaimAt) → IsOpenClaimOf self.now producer.old t → IsOpenClaimOf self.now other u → t.place ≢ u.place }
+        ensures claims { KeepsBoth self.now producer.old other producer.new }
     {
         let Producer {
             seat,

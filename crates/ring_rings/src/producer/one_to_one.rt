@@ -1,8 +1,8 @@
 //! The calls of a ring with one producer.
-ghost use Rattle.std.specs.Prelude.{◌≡◌, ◌≢◌, length, IfErr, IfOk, OnOk};
-ghost use Rattle.ring_words.specs.Open.{ClaimAt};
+ghost use Rattle.std.specs.Prelude.{◌≡◌, length, IfErr, IfOk, OnOk};
 ghost use Rattle.ring_rings.specs.Claiming.{ClaimsAlone, RefusesAlone, WritesAlone};
-ghost use Rattle.ring_rings.specs.Seats.{capacity_of, shares_of, view_of, IsOpenClaimOf, IsProducerOf};
+ghost use Rattle.ring_rings.specs.Seats.{capacity_of, shares_of, view_of};
+ghost use Rattle.ring_rings.specs.Seats.{IsOpenClaimOf, IsProducerOf, KeepsClaims, LiesApart};
 
 use crate::claim::Claim;
 use crate::producer::body::store_message;
@@ -26,11 +26,13 @@ impl Ring<OneToOne> {
         requires producer { IsProducerOf self.now producer.old }
         requires sole { shares_of producer.old ≡ 65536 }
         ensures producer { IsProducerOf self.now producer.new }
-        ensures claimed { IfOk result (λ t. ClaimsAlone (capacity_of self.now) type_id len (view_of producer.old) t (view_of producer.new)) }
-        ensures refused { IfErr result (λ fault. RefusesAlone (capacity_of self.now) type_id len (view_of producer.old) fault (view_of producer.new)) }
+        ensures claimed { IfOk result (λ t.
+            ClaimsAlone (capacity_of self.now) type_id len (view_of producer.old) t (view_of producer.new)) }
+        ensures refused { IfErr result (λ fault.
+            RefusesAlone (capacity_of self.now) type_id len (view_of producer.old) fault (view_of producer.new)) }
         ensures is_open { IfOk result (IsOpenClaimOf self.now producer.new) }
-        ensures claims { (t : ClaimAt) → IsOpenClaimOf self.now producer.old t → IsOpenClaimOf self.now producer.new t }
-        ensures apart { IfOk result (λ new. (t : ClaimAt) → IsOpenClaimOf self.now producer.old t → t.place ≢ new.place) }
+        ensures claims { KeepsClaims self.now producer.old producer.new }
+        ensures apart { IfOk result (LiesApart self.now producer.old) }
     {
         let wanted = Wanted { type_id, len };
         let tail = producer.own_tail;
@@ -57,9 +59,12 @@ impl Ring<OneToOne> {
         requires producer { IsProducerOf self.now producer.old }
         requires sole { shares_of producer.old ≡ 65536 }
         ensures producer { IsProducerOf self.now producer.new }
-        ensures written { OnOk result (WritesAlone (capacity_of self.now) type_id body.now (view_of producer.old) (view_of producer.new)) }
-        ensures refused { IfErr result (λ fault. RefusesAlone (capacity_of self.now) type_id (length body.now) (view_of producer.old) fault (view_of producer.new)) }
-        ensures claims { (t : ClaimAt) → IsOpenClaimOf self.now producer.old t → IsOpenClaimOf self.now producer.new t }
+        ensures written { OnOk result
+            (WritesAlone (capacity_of self.now) type_id body.now (view_of producer.old) (view_of producer.new)) }
+        ensures refused { IfErr result (λ fault.
+            RefusesAlone (capacity_of self.now) type_id (length body.now)
+            (view_of producer.old) fault (view_of producer.new)) }
+        ensures claims { KeepsClaims self.now producer.old producer.new }
     {
         let wanted = Wanted {
             type_id,

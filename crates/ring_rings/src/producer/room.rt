@@ -27,7 +27,9 @@ pub(crate) fn find_room_alone(
     requires sole { seat.old.me.0.producer.shares ≡ 65536 }
     requires tail { seat.old.me.0.producer.seen_tail ≡ admission.tail }
     ensures seat { IsSameSeat seat.old seat.new }
-    ensures found { MatchResult result (λ _. FindsRoom capacity admission.tail admission.end seat.old.me.0 seat.new.me.0) (λ head. FindsNoRoom capacity admission.tail admission.end head seat.old.me.0 seat.new.me.0) }
+    ensures found { MatchResult result
+        (λ _. FindsRoom capacity admission.tail admission.end seat.old.me.0 seat.new.me.0)
+        (λ head. FindsNoRoom capacity admission.tail admission.end head seat.old.me.0 seat.new.me.0) }
 {
     let cached = load_cache(words, seat, capacity);
     if has_room(capacity, admission.end, cached) {
@@ -52,7 +54,9 @@ pub(crate) fn find_room(
     requires seat { IsSeatOf words.now.table_id words.now.key capacity seat.old }
     requires tail { seat.old.me.0.producer.seen_tail ≡ admission.tail }
     ensures seat { IsSameSeat seat.old seat.new }
-    ensures found { MatchResult result (λ _. FindsRoom capacity admission.tail admission.end seat.old.me.0 seat.new.me.0) (λ s. FindsShortage capacity admission.tail admission.end s seat.old.me.0 seat.new.me.0) }
+    ensures found { MatchResult result
+        (λ _. FindsRoom capacity admission.tail admission.end seat.old.me.0 seat.new.me.0)
+        (λ s. FindsShortage capacity admission.tail admission.end s seat.old.me.0 seat.new.me.0) }
 {
     let cached = load_cache(words, seat, capacity);
     if cached > admission.tail {

@@ -1,9 +1,8 @@
 //! Correlation ids, heartbeats and positions, as producers see them.
 ghost use Rattle.std.specs.Prelude.{◌≡◌, ◌≤◌};
-ghost use Rattle.ring_words.specs.Open.{ClaimAt};
 ghost use Rattle.ring_table.specs.ServiceSteps.{DrawsId, LoadsHeartbeat};
 ghost use Rattle.ring_rings.specs.Joining.{LoadsPositions};
-ghost use Rattle.ring_rings.specs.Seats.{capacity_of, view_of, IsOpenClaimOf, IsProducerOf};
+ghost use Rattle.ring_rings.specs.Seats.{capacity_of, view_of, IsProducerOf, KeepsClaims};
 
 use crate::ring::{Producer, Ring};
 use ring_table::{draw_correlation_id, load_head, load_heartbeat, load_tail};
@@ -15,7 +14,7 @@ impl<K> Ring<K> {
         requires { IsProducerOf self.now producer.old }
         ensures producer { IsProducerOf self.now producer.new }
         ensures draws { DrawsId (view_of producer.old) result (view_of producer.new) }
-        ensures claims { (t : ClaimAt) → IsOpenClaimOf self.now producer.old t → IsOpenClaimOf self.now producer.new t }
+        ensures claims { KeepsClaims self.now producer.old producer.new }
     {
         draw_correlation_id(&self.table.shared, &mut producer.seat, self.capacity)
     }
@@ -25,7 +24,7 @@ impl<K> Ring<K> {
         requires { IsProducerOf self.now producer.old }
         ensures producer { IsProducerOf self.now producer.new }
         ensures loads { LoadsHeartbeat (capacity_of self.now) (view_of producer.old) result (view_of producer.new) }
-        ensures claims { (t : ClaimAt) → IsOpenClaimOf self.now producer.old t → IsOpenClaimOf self.now producer.new t }
+        ensures claims { KeepsClaims self.now producer.old producer.new }
     {
         load_heartbeat(&self.table.shared, &mut producer.seat, self.capacity)
     }
@@ -35,8 +34,9 @@ impl<K> Ring<K> {
         requires { IsProducerOf self.now producer.old }
         ensures producer { IsProducerOf self.now producer.new }
         ensures order { result.head ≤ result.tail }
-        ensures loads { LoadsPositions (capacity_of self.now) (view_of producer.old) result.head result.tail (view_of producer.new) }
-        ensures claims { (t : ClaimAt) → IsOpenClaimOf self.now producer.old t → IsOpenClaimOf self.now producer.new t }
+        ensures loads { LoadsPositions (capacity_of self.now) (view_of producer.old)
+            result.head result.tail (view_of producer.new) }
+        ensures claims { KeepsClaims self.now producer.old producer.new }
     {
         let (words, seat) = (&self.table.shared, &mut producer.seat);
         let head = load_head(words, seat, self.capacity);

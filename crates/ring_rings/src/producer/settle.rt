@@ -1,13 +1,12 @@
 //! How producers settle their claims.
-ghost use Rattle.std.specs.Prelude.{◌≡◌, ◌≢◌, ◌+◌, ◌<◌, ◌↔◌, length, IsTrue, OnErr, OnOk, is_err};
-ghost use Rattle.ring_words.specs.Open.{ClaimAt};
+ghost use Rattle.std.specs.Prelude.{◌≡◌, ◌+◌, ◌<◌, ◌↔◌, length, IsTrue, OnErr, OnOk, is_err};
 ghost use Rattle.ring_layout.specs.declared.message.ClaimState.TheVariants.{Aborted, Committed};
 ghost use Rattle.ring_table.specs.declared.claim.Stage.TheVariants.{Stored};
-ghost use Rattle.ring_table.specs.Changes.{changed, staged};
+ghost use Rattle.ring_table.specs.Changes.{staged};
+ghost use Rattle.ring_table.specs.ProducerSteps.{with_changed};
 ghost use Rattle.ring_table.specs.Staged.{AreRising};
-ghost use Rattle.ring_table.specs.Views.{with_claims};
 ghost use Rattle.ring_rings.specs.Bodies.{PutsBytes};
-ghost use Rattle.ring_rings.specs.Seats.{claims_of, view_of, IsOpenClaimOf, IsProducerOf};
+ghost use Rattle.ring_rings.specs.Seats.{claims_of, view_of, IsOpenClaimOf, IsProducerOf, KeepsOthers};
 
 use crate::claim::Claim;
 use crate::producer::body::put_bytes;
@@ -31,10 +30,11 @@ impl<K> Ring<K> {
         ensures refused { IsTrue (is_err result) ↔ (claim.old.len < offset + length bytes.now) }
         ensures same { OnErr result (producer.new ≡ producer.old) }
         ensures rising { AreRising (claims_of producer.old) }
-        ensures put { OnOk result (PutsBytes claim.old.place offset bytes.now (view_of producer.old) (view_of producer.new)) }
+        ensures put { OnOk result
+            (PutsBytes claim.old.place offset bytes.now (view_of producer.old) (view_of producer.new)) }
         ensures claim { claim.new ≡ claim.old }
         ensures is_open { IsOpenClaimOf self.now producer.new claim.new }
-        ensures others { (t : ClaimAt) → IsOpenClaimOf self.now producer.old t → t.place ≢ claim.old.place → IsOpenClaimOf self.now producer.new t }
+        ensures others { KeepsOthers self.now claim.old.place producer.old producer.new }
     {
         let len = claim.len();
         if offset > len || bytes.len() > len - offset {
@@ -57,8 +57,9 @@ impl<K> Ring<K> {
         requires claim { IsOpenClaimOf self.now producer.old claim }
         ensures producer { IsProducerOf self.now producer.new }
         ensures rising { AreRising (claims_of producer.old) }
-        ensures settled { view_of producer.new ≡ with_claims (changed claim.place (staged (Stored Committed)) (claims_of producer.old)) (view_of producer.old) }
-        ensures others { (t : ClaimAt) → IsOpenClaimOf self.now producer.old t → t.place ≢ claim.place → IsOpenClaimOf self.now producer.new t }
+        ensures settled { view_of producer.new
+            ≡ with_changed claim.place (staged (Stored Committed)) (view_of producer.old) }
+        ensures others { KeepsOthers self.now claim.place producer.old producer.new }
     {
         let wanted = Wanted {
             type_id: claim.type_id(),
@@ -80,8 +81,9 @@ impl<K> Ring<K> {
         requires claim { IsOpenClaimOf self.now producer.old claim }
         ensures producer { IsProducerOf self.now producer.new }
         ensures rising { AreRising (claims_of producer.old) }
-        ensures settled { view_of producer.new ≡ with_claims (changed claim.place (staged (Stored Aborted)) (claims_of producer.old)) (view_of producer.old) }
-        ensures others { (t : ClaimAt) → IsOpenClaimOf self.now producer.old t → t.place ≢ claim.place → IsOpenClaimOf self.now producer.new t }
+        ensures settled { view_of producer.new
+            ≡ with_changed claim.place (staged (Stored Aborted)) (view_of producer.old) }
+        ensures others { KeepsOthers self.now claim.place producer.old producer.new }
     {
         let wanted = Wanted {
             type_id: claim.type_id(),

@@ -1,8 +1,7 @@
 //! Claims and writes that try again while another producer is faster.
-ghost use Rattle.std.specs.Prelude.{◌≡◌, ◌≢◌, length, IfErr, IfOk, OnOk};
-ghost use Rattle.ring_words.specs.Open.{ClaimAt};
+ghost use Rattle.std.specs.Prelude.{◌≡◌, length, IfErr, IfOk, OnOk};
 ghost use Rattle.ring_rings.specs.Claiming.{AfterTries, Claims, Refuses, Writes};
-ghost use Rattle.ring_rings.specs.Seats.{capacity_of, view_of, IsOpenClaimOf, IsProducerOf};
+ghost use Rattle.ring_rings.specs.Seats.{capacity_of, view_of, IsOpenClaimOf, IsProducerOf, KeepsClaims, LiesApart};
 
 use crate::claim::Claim;
 use crate::fault::TryFault;
@@ -22,11 +21,13 @@ impl Ring<ManyToOne> {
     ) -> Result<Claim, ClaimFault>
         requires producer { IsProducerOf self.now producer.old }
         ensures producer { IsProducerOf self.now producer.new }
-        ensures claimed { IfOk result (λ t. AfterTries (capacity_of self.now) type_id len (view_of producer.old) (λ v. Claims (capacity_of self.now) type_id len v t (view_of producer.new))) }
-        ensures refused { IfErr result (λ fault. AfterTries (capacity_of self.now) type_id len (view_of producer.old) (λ v. Refuses (capacity_of self.now) type_id len v fault (view_of producer.new))) }
+        ensures claimed { IfOk result (λ t. AfterTries (capacity_of self.now) type_id len (view_of producer.old)
+            (λ v. Claims (capacity_of self.now) type_id len v t (view_of producer.new))) }
+        ensures refused { IfErr result (λ fault. AfterTries (capacity_of self.now) type_id len (view_of producer.old)
+            (λ v. Refuses (capacity_of self.now) type_id len v fault (view_of producer.new))) }
         ensures is_open { IfOk result (IsOpenClaimOf self.now producer.new) }
-        ensures claims { (t : ClaimAt) → IsOpenClaimOf self.now producer.old t → IsOpenClaimOf self.now producer.new t }
-        ensures apart { IfOk result (λ new. (t : ClaimAt) → IsOpenClaimOf self.now producer.old t → t.place ≢ new.place) }
+        ensures claims { KeepsClaims self.now producer.old producer.new }
+        ensures apart { IfOk result (LiesApart self.now producer.old) }
     {
         let backoff = Backoff::new();
         for _ in rt.forever() {
@@ -49,9 +50,13 @@ impl Ring<ManyToOne> {
     ) -> Result<(), ClaimFault>
         requires producer { IsProducerOf self.now producer.old }
         ensures producer { IsProducerOf self.now producer.new }
-        ensures written { OnOk result (AfterTries (capacity_of self.now) type_id (length body.now) (view_of producer.old) (λ v. Writes (capacity_of self.now) type_id body.now v (view_of producer.new))) }
-        ensures refused { IfErr result (λ fault. AfterTries (capacity_of self.now) type_id (length body.now) (view_of producer.old) (λ v. Refuses (capacity_of self.now) type_id (length body.now) v fault (view_of producer.new))) }
-        ensures claims { (t : ClaimAt) → IsOpenClaimOf self.now producer.old t → IsOpenClaimOf self.now producer.new t }
+        ensures written { OnOk result
+            (AfterTries (capacity_of self.now) type_id (length body.now) (view_of producer.old)
+            (λ v. Writes (capacity_of self.now) type_id body.now v (view_of producer.new))) }
+        ensures refused { IfErr result (λ fault.
+            AfterTries (capacity_of self.now) type_id (length body.now) (view_of producer.old)
+            (λ v. Refuses (capacity_of self.now) type_id (length body.now) v fault (view_of producer.new))) }
+        ensures claims { KeepsClaims self.now producer.old producer.new }
     {
         let backoff = Backoff::new();
         for _ in rt.forever() {

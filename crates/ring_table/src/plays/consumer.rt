@@ -9,13 +9,17 @@ use atomic_table::Play;
 pub struct LoadFirstHeader;
 
 impl Play<Wanted, View> for LoadFirstHeader {
-    ghost then = { λ st me n me'. (me'.1 ≡ me.1) × LoadsHeader me.0.capacity me.0.consumer.head me.0.consumer.taken me.0 n me'.0 × Logs st.word n me.0 me'.0 };
+    ghost then = { λ st me n me'. (me'.1 ≡ me.1)
+        × LoadsHeader me.0.capacity me.0.consumer.head me.0.consumer.taken me.0 n me'.0
+        × Logs st.word n me.0 me'.0 };
 }
 
 pub struct LoadNextHeader;
 
 impl Play<Wanted, View> for LoadNextHeader {
-    ghost then = { λ st me n me'. (me'.1 ≡ me.1) × LoadsHeader me.0.capacity me.0.consumer.scan me.0.consumer.got me.0 n me'.0 × Logs st.word n me.0 me'.0 };
+    ghost then = { λ st me n me'. (me'.1 ≡ me.1)
+        × LoadsHeader me.0.capacity me.0.consumer.scan me.0.consumer.got me.0 n me'.0
+        × Logs st.word n me.0 me'.0 };
 }
 
 pub struct LoadBody;

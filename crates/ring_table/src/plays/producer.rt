@@ -4,7 +4,8 @@ ghost use mathlib.Core.Option.{some};
 ghost use Rattle.ring_layout.specs.declared.message.ClaimState.TheVariants.{Aborted, Committed};
 ghost use Rattle.ring_table.specs.Staged.{AreRising};
 ghost use Rattle.ring_table.specs.Views.{Logs, Wanted, logged};
-ghost use Rattle.ring_table.specs.ProducerSteps.{LoadsTail, LoadsHead, MovesTail, MovesOwnTail, StoresPadding, StoresClaimed, StoresSettled, StoresBody, LoadsOwn};
+ghost use Rattle.ring_table.specs.ProducerSteps.{LoadsHead, LoadsOwn, LoadsTail, MovesOwnTail, MovesTail};
+ghost use Rattle.ring_table.specs.ProducerSteps.{StoresBody, StoresClaimed, StoresPadding, StoresSettled};
 
 use crate::view::{View, Wanted};
 use atomic_table::Play;
@@ -24,7 +25,9 @@ impl Play<Wanted, View> for LoadHead {
 pub struct MoveTail;
 
 impl Play<Wanted, View> for MoveTail {
-    ghost then = { λ st me n me'. (me'.1 ≡ me.1) × ((wanted : Wanted) → st.said ≡ some wanted → MovesTail me.0.capacity st.first st.second wanted me.0 n me'.0) × (n ≢ st.first → Logs st.word n me.0 me'.0) };
+    ghost then = { λ st me n me'. (me'.1 ≡ me.1)
+        × ((wanted : Wanted) → st.said ≡ some wanted → MovesTail me.0.capacity st.first st.second wanted me.0 n me'.0)
+        × (n ≢ st.first → Logs st.word n me.0 me'.0) };
 }
 
 pub struct MoveOwnTail;
@@ -42,29 +45,34 @@ impl Play<Wanted, View> for StorePadding {
 pub struct StoreClaimed;
 
 impl Play<Wanted, View> for StoreClaimed {
-    ghost then = { λ st me n me'. (me'.1 ≡ me.1) × StoresClaimed st.word st.first me.0 me'.0 × AreRising me.0.producer.claims };
+    ghost then = { λ st me n me'. (me'.1 ≡ me.1) × StoresClaimed st.word st.first me.0 me'.0
+        × AreRising me.0.producer.claims };
 }
 
 pub struct StoreCommitted;
 
 impl Play<Wanted, View> for StoreCommitted {
-    ghost then = { λ st me n me'. (me'.1 ≡ me.1) × StoresSettled Committed st.word me.0 me'.0 × AreRising me.0.producer.claims };
+    ghost then = { λ st me n me'. (me'.1 ≡ me.1) × StoresSettled Committed st.word me.0 me'.0
+        × AreRising me.0.producer.claims };
 }
 
 pub struct StoreAborted;
 
 impl Play<Wanted, View> for StoreAborted {
-    ghost then = { λ st me n me'. (me'.1 ≡ me.1) × StoresSettled Aborted st.word me.0 me'.0 × AreRising me.0.producer.claims };
+    ghost then = { λ st me n me'. (me'.1 ≡ me.1) × StoresSettled Aborted st.word me.0 me'.0
+        × AreRising me.0.producer.claims };
 }
 
 pub struct StoreBody;
 
 impl Play<Wanted, View> for StoreBody {
-    ghost then = { λ st me n me'. (me'.1 ≡ me.1) × StoresBody st.word st.first me.0 me'.0 × AreRising me.0.producer.claims };
+    ghost then = { λ st me n me'. (me'.1 ≡ me.1) × StoresBody st.word st.first me.0 me'.0
+        × AreRising me.0.producer.claims };
 }
 
 pub struct LoadOwn;
 
 impl Play<Wanted, View> for LoadOwn {
-    ghost then = { λ st me n me'. (me'.1 ≡ me.1) × (me'.0 ≡ logged st.word n me.0) × LoadsOwn st.word me.0 n × AreRising me.0.producer.claims };
+    ghost then = { λ st me n me'. (me'.1 ≡ me.1) × (me'.0 ≡ logged st.word n me.0)
+        × LoadsOwn st.word me.0 n × AreRising me.0.producer.claims };
 }

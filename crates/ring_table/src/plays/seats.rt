@@ -1,5 +1,6 @@
 //! How seats are cut in two and put together.
-ghost use Rattle.ring_table.specs.Views.{without_consumer, consumer_alone, with_consumer_of, without_share, producer_alone, with_producer_of, spent};
+ghost use Rattle.ring_table.specs.Views.{consumer_alone, with_consumer_of, without_consumer};
+ghost use Rattle.ring_table.specs.Views.{producer_alone, spent, with_producer_of, without_share};
 
 use crate::view::View;
 use atomic_table::{Join, Split};

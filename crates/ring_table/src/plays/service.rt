@@ -1,6 +1,6 @@
 //! What the steps on the head cache, the correlation counter and the heartbeat tell.
 ghost use Rattle.std.specs.Prelude.{◌≡◌};
-ghost use Rattle.ring_table.specs.Views.{Logs, with_consumer, beaten};
+ghost use Rattle.ring_table.specs.Views.{Logs, with_beat};
 ghost use Rattle.ring_table.specs.ServiceSteps.{LoadsCache, DrawsId, LoadsHeartbeat};
 
 use crate::view::{View, Wanted};
@@ -27,11 +27,12 @@ impl Play<Wanted, View> for DrawId {
 pub struct LoadHeartbeat;
 
 impl Play<Wanted, View> for LoadHeartbeat {
-    ghost then = { λ st me n me'. (me'.1 ≡ me.1) × LoadsHeartbeat me.0.capacity me.0 n me'.0 × Logs st.word n me.0 me'.0 };
+    ghost then = { λ st me n me'. (me'.1 ≡ me.1) × LoadsHeartbeat me.0.capacity me.0 n me'.0
+        × Logs st.word n me.0 me'.0 };
 }
 
 pub struct StoreHeartbeat;
 
 impl Play<Wanted, View> for StoreHeartbeat {
-    ghost then = { λ st me n me'. (me'.1 ≡ me.1) × (me'.0 ≡ with_consumer (beaten st.first me.0.consumer) me.0) };
+    ghost then = { λ st me n me'. (me'.1 ≡ me.1) × (me'.0 ≡ with_beat st.first me.0) };
 }

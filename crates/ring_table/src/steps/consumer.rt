@@ -2,7 +2,8 @@
 ghost use Rattle.std.specs.Prelude.{◌≡◌, ◌+◌, ◌%◌, ◌<◌, true};
 ghost use Rattle.ring_layout.specs.Places.{index};
 ghost use Rattle.ring_table.specs.Views.{logged};
-ghost use Rattle.ring_table.specs.ConsumerSteps.{ClearsWord, LoadsBody, LoadsHeader, StandsBefore, StoresHead, StoresHeadBefore};
+ghost use Rattle.ring_table.specs.ConsumerSteps.{ClearsWord, LoadsBody, LoadsHeader};
+ghost use Rattle.ring_table.specs.ConsumerSteps.{StandsBefore, StoresHead, StoresHeadBefore};
 ghost use Rattle.ring_table.specs.Seats.{IsSameSeat, IsSeatOf};
 
 use crate::plays::consumer::{
@@ -24,7 +25,8 @@ pub fn load_first_header(
     requires head { consumer.old.me.0.consumer.head ≡ head }
     requires nothing_cleared { consumer.old.me.0.consumer.cleared ≡ head }
     ensures seat { IsSameSeat consumer.old consumer.new }
-    ensures told { LoadsHeader capacity head consumer.old.me.0.consumer.taken consumer.old.me.0 result consumer.new.me.0 }
+    ensures told { LoadsHeader capacity head consumer.old.me.0.consumer.taken
+        consumer.old.me.0 result consumer.new.me.0 }
 {
     ring.load::<LoadFirstHeader>(consumer, word_index(capacity, head))
 }

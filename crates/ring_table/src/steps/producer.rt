@@ -4,9 +4,10 @@ ghost use Rattle.ring_layout.specs.declared.message.ClaimState.TheVariants.{Abor
 ghost use Rattle.ring_layout.specs.History.{IsMessage};
 ghost use Rattle.ring_layout.specs.Places.{index};
 ghost use Rattle.ring_table.specs.Staged.{AreRising, Padded, Stored};
-ghost use Rattle.ring_table.specs.Changes.{blank, changed, opened, staged, written};
-ghost use Rattle.ring_table.specs.Views.{logged, with_claims};
-ghost use Rattle.ring_table.specs.ProducerSteps.{HasClaimAt, IsClaimable, IsOpen, LoadsHead, LoadsOwn, LoadsTail, MovesOwnTail, MovesTail, NeedsHeader, NeedsPadding, TakesWord};
+ghost use Rattle.ring_table.specs.Changes.{blank, opened, staged, written};
+ghost use Rattle.ring_table.specs.Views.{logged};
+ghost use Rattle.ring_table.specs.ProducerSteps.{HasClaimAt, IsClaimable, IsOpen, NeedsHeader, NeedsPadding, TakesWord};
+ghost use Rattle.ring_table.specs.ProducerSteps.{LoadsHead, LoadsOwn, LoadsTail, MovesOwnTail, MovesTail, with_changed};
 ghost use Rattle.ring_table.specs.Seats.{IsSameSeat, IsSeatOf};
 
 use crate::plays::producer::{
@@ -66,7 +67,8 @@ pub fn store_tail(
 )
     requires seat { IsSeatOf ring.now.table_id ring.now.key capacity producer.old }
     requires sole { producer.old.me.0.producer.shares ≡ 65536 }
-    requires room { IsClaimable capacity producer.old.me.0.producer.seen_tail new wanted.type_id wanted.len producer.old.me.0.producer.seen_head }
+    requires room { IsClaimable capacity producer.old.me.0.producer.seen_tail new wanted.type_id wanted.len
+        producer.old.me.0.producer.seen_head }
     ensures seat { IsSameSeat producer.old producer.new }
     ensures told { MovesOwnTail capacity new producer.old.me.0 producer.new.me.0 }
 {
@@ -85,7 +87,7 @@ pub fn store_padding_header(
     requires near { place ≤ from + capacity }
     requires claim { HasClaimAt producer.old.me.0 place (NeedsPadding from) }
     ensures seat { IsSameSeat producer.old producer.new }
-    ensures view { producer.new.me.0 ≡ with_claims (changed place (staged Padded) producer.old.me.0.producer.claims) producer.old.me.0 }
+    ensures view { producer.new.me.0 ≡ with_changed place (staged Padded) producer.old.me.0 }
     ensures rising { AreRising producer.old.me.0.producer.claims }
 {
     let header = padding_header(place - from);
@@ -105,7 +107,7 @@ pub fn store_claimed_header(
     requires message { IsMessage capacity (blank wanted.type_id wanted.len) }
     requires claim { HasClaimAt producer.old.me.0 place (NeedsHeader wanted.len) }
     ensures seat { IsSameSeat producer.old producer.new }
-    ensures view { producer.new.me.0 ≡ with_claims (changed place (opened wanted.type_id wanted.len) producer.old.me.0.producer.claims) producer.old.me.0 }
+    ensures view { producer.new.me.0 ≡ with_changed place (opened wanted.type_id wanted.len) producer.old.me.0 }
     ensures rising { AreRising producer.old.me.0.producer.claims }
 {
     let header = open_header(wanted.type_id, wanted.len);
@@ -124,7 +126,7 @@ pub fn store_committed_header(
     requires message { IsMessage capacity (blank wanted.type_id wanted.len) }
     requires claim { HasClaimAt producer.old.me.0 place (IsOpen wanted.type_id wanted.len) }
     ensures seat { IsSameSeat producer.old producer.new }
-    ensures view { producer.new.me.0 ≡ with_claims (changed place (staged (Stored Committed)) producer.old.me.0.producer.claims) producer.old.me.0 }
+    ensures view { producer.new.me.0 ≡ with_changed place (staged (Stored Committed)) producer.old.me.0 }
     ensures rising { AreRising producer.old.me.0.producer.claims }
 {
     let header = committed_header(wanted.type_id, wanted.len);
@@ -143,7 +145,7 @@ pub fn store_aborted_header(
     requires message { IsMessage capacity (blank wanted.type_id wanted.len) }
     requires claim { HasClaimAt producer.old.me.0 place (IsOpen wanted.type_id wanted.len) }
     ensures seat { IsSameSeat producer.old producer.new }
-    ensures view { producer.new.me.0 ≡ with_claims (changed place (staged (Stored Aborted)) producer.old.me.0.producer.claims) producer.old.me.0 }
+    ensures view { producer.new.me.0 ≡ with_changed place (staged (Stored Aborted)) producer.old.me.0 }
     ensures rising { AreRising producer.old.me.0.producer.claims }
 {
     let header = aborted_header(wanted.len);
@@ -164,7 +166,7 @@ pub fn store_body_word(
     requires target { target ≡ index capacity (place + 8 + at) }
     requires claim { HasClaimAt producer.old.me.0 place (TakesWord at word) }
     ensures seat { IsSameSeat producer.old producer.new }
-    ensures view { producer.new.me.0 ≡ with_claims (changed place (written at word) producer.old.me.0.producer.claims) producer.old.me.0 }
+    ensures view { producer.new.me.0 ≡ with_changed place (written at word) producer.old.me.0 }
     ensures rising { AreRising producer.old.me.0.producer.claims }
 {
     ring.store::<StoreBody>(producer, target, word);

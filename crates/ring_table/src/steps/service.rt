@@ -1,6 +1,6 @@
 //! The steps on the head cache, the correlation counter and the heartbeat.
 ghost use Rattle.std.specs.Prelude.{◌≡◌, ◌<◌, ◌≤◌, true};
-ghost use Rattle.ring_table.specs.Views.{beaten, with_consumer};
+ghost use Rattle.ring_table.specs.Views.{with_beat};
 ghost use Rattle.ring_table.specs.ServiceSteps.{DrawsId, LoadsCache, LoadsHeartbeat};
 ghost use Rattle.ring_table.specs.Seats.{IsSameSeat, IsSeatOf};
 
@@ -63,7 +63,7 @@ pub fn store_heartbeat(ring: &SharedRing, consumer: &mut RingSeat, capacity: u32
     requires seat { IsSeatOf ring.now.table_id ring.now.key capacity consumer.old }
     requires consumes { consumer.old.me.0.consumes ≡ true }
     ensures seat { IsSameSeat consumer.old consumer.new }
-    ensures view { consumer.new.me.0 ≡ with_consumer (beaten value consumer.old.me.0.consumer) consumer.old.me.0 }
+    ensures view { consumer.new.me.0 ≡ with_beat value consumer.old.me.0 }
 {
     ring.store::<StoreHeartbeat>(
         consumer,

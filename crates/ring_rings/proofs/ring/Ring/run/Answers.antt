@@ -1,12 +1,22 @@
-use Rattle.std.proofs.Common.{ℕ, sym, ◌∙◌, subst, arith}
+use Rattle.std.proofs.Common.{◌≡◌, false, ℕ, sym, ◌∙◌, subst, arith}
 use Rattle.ring_words.specs.Read.{GoesOn}
-use Rattle.ring_rings.specs.Seats.{consumer_view}
+use Rattle.ring_rings.specs.Seats.{seat_view}
 use Rattle.ring_rings.specs.ReadingSteps.{heeded}
 use Rattle.ring_rings.proofs.ReadingSeats.{same_none, same_more}
 use Rattle.ring_rings.proofs.ReadingRuns.{RunsOn, runs_on_none}
 use Rattle.ring_rings.proofs.ReadingEnds.{settled_stands}
-use Rattle.ring_rings.proofs.ReadingTurns.{blocked, blocked_at, blocked_inside, ends_aborted, ends_block, ends_blocked, ends_broken, ends_limit, goes_to, got, got_more, is_near, left_at, left_done, left_inside, left_near, less_passed, less_shown, runs_committed, runs_inside, runs_on, runs_passed, shown_at, shown_inside, stands}
+use Rattle.ring_rings.proofs.ReadingTurns.{GoesTo, blocked, blocked_at, blocked_inside, ends_aborted, ends_block, ends_blocked, ends_broken, ends_limit, goes_to, got, got_more, is_near, left_at, left_done, left_inside, left_near, less_passed, less_shown, runs_committed, runs_inside, runs_on, runs_passed, shown_at, shown_inside, stands}
+use Rattle.ring_rings.proofs.ring.Ring.run.Given.{Over}
+use Rattle.ring_rings.proofs.ring.Ring.run.Goals.{After-is_block_end}
 use Rattle.ring_rings.proofs.ring.Ring.run.Goals as goal
+
+-- where neither limit nor end of the buffer is reached, the read goes on
+goes : (g : Over) (c : After-is_block_end g) → c.is_block_end.result ≡ false → GoesTo (heeded c.args.heeds g.H.Handler.step) c.args.limit
+    c.args.self.now.capacity c.args.consumer.now.head (seat_view c.args.consumer.now) (seat_view c.turns.consumer)
+    c.args.handler.now c.turns.handler c.turns.scan c.turns.messages
+goes g c on =
+    goes_to c.turns.invariant.runs c.requires.consumer.capacity c.args.consumer.now.stands.0 c.args.self.now.lawful.least
+    c.turns.invariant.below c.if-messages-limit.false (sym c.is_block_end.ensures ∙ on)
 
 pub turns-init : goal.turns-init
 turns-init g c =
@@ -20,8 +30,8 @@ turns-init g c =
       ready = c.requires.ready;
       start = sym head;
       below = omega arith;
-      runs = subst (λ (n : ℕ). RunsOn (heeded c.args.heeds g.H.Handler.step) c.args.limit (consumer_view old) (consumer_view old) c.args.handler.now c.args.handler.now n 0) head
-          (runs_on_none (heeded c.args.heeds g.H.Handler.step) c.args.limit (consumer_view old) c.args.handler.now (omega (arith, cap, least)) (omega (arith, head, old.whole.0)) (omega (arith, head, old.whole.1)));
+      runs = subst (λ (n : ℕ). RunsOn (heeded c.args.heeds g.H.Handler.step) c.args.limit (seat_view old) (seat_view old) c.args.handler.now c.args.handler.now n 0) head
+          (runs_on_none (heeded c.args.heeds g.H.Handler.step) c.args.limit (seat_view old) c.args.handler.now (omega (arith, cap, least)) (omega (arith, head, old.whole.0)) (omega (arith, head, old.whole.1)));
     }
 
 pub returns-then-messages-limit-clause-controls : goal.returns-then-messages-limit-clause-controls
@@ -34,39 +44,39 @@ returns-then-is_block_end-clause-controls g c =
 
 pub turn-requires-clause-near : goal.turn-requires-clause-near
 turn-requires-clause-near g c =
-    let q = goes_to c.turns.invariant.runs c.requires.consumer.capacity c.args.consumer.now.stands.0 c.args.self.now.lawful.least c.turns.invariant.below c.if-messages-limit.false (sym c.is_block_end.ensures ∙ c.if-is_block_end.false) in
+    let q = goes g (goal.at.turn-requires-clause-near g c).After-is_block_end c.if-is_block_end.false in
     is_near q
 
 pub finish-requires-in-Blocked-clause-at : goal.finish-requires-in-Blocked-clause-at
 finish-requires-in-Blocked-clause-at g c =
-    let q = goes_to c.turns.invariant.runs c.requires.consumer.capacity c.args.consumer.now.stands.0 c.args.self.now.lawful.least c.turns.invariant.below c.if-messages-limit.false (sym c.is_block_end.ensures ∙ c.if-is_block_end.false) in
+    let q = goes g (goal.at.finish-requires-in-Blocked-clause-at g c).After-is_block_end c.if-is_block_end.false in
     let told = c.in-Blocked.ensures.turn (got q) (stands q) in
     (got q, blocked_at q told)
 
 pub returns-in-Blocked-clause-controls : goal.returns-in-Blocked-clause-controls
 returns-in-Blocked-clause-controls g c =
-    let q = goes_to c.turns.invariant.runs c.requires.consumer.capacity c.args.consumer.now.stands.0 c.args.self.now.lawful.least c.turns.invariant.below c.if-messages-limit.false (sym c.is_block_end.ensures ∙ c.if-is_block_end.false) in
+    let q = goes g (goal.at.returns-in-Blocked-clause-controls g c).After-is_block_end c.if-is_block_end.false in
     let told = c.in-Blocked.ensures.turn (got q) (stands q) in
     let p = c.finish-in-Blocked.ensures.settles (got q) (blocked_at q told) in
     ends_blocked q told p (record { messages = c.finish-in-Blocked.ensures.messages; bytes = c.finish-in-Blocked.ensures.bytes; stopped = c.finish-in-Blocked.ensures.stopped })
 
 pub returns-in-Blocked-clause-bytes : goal.returns-in-Blocked-clause-bytes
 returns-in-Blocked-clause-bytes g c =
-    let q = goes_to c.turns.invariant.runs c.requires.consumer.capacity c.args.consumer.now.stands.0 c.args.self.now.lawful.least c.turns.invariant.below c.if-messages-limit.false (sym c.is_block_end.ensures ∙ c.if-is_block_end.false) in
+    let q = goes g (goal.at.returns-in-Blocked-clause-bytes g c).After-is_block_end c.if-is_block_end.false in
     let told = c.in-Blocked.ensures.turn (got q) (stands q) in
     let p = c.finish-in-Blocked.ensures.settles (got q) (blocked_at q told) in
     omega (arith, c.finish-in-Blocked.ensures.bytes, p.head, c.args.consumer.now.stands.0)
 
 pub returns-in-Blocked-clause-blocked : goal.returns-in-Blocked-clause-blocked
 returns-in-Blocked-clause-blocked g c =
-    let q = goes_to c.turns.invariant.runs c.requires.consumer.capacity c.args.consumer.now.stands.0 c.args.self.now.lawful.least c.turns.invariant.below c.if-messages-limit.false (sym c.is_block_end.ensures ∙ c.if-is_block_end.false) in
+    let q = goes g (goal.at.returns-in-Blocked-clause-blocked g c).After-is_block_end c.if-is_block_end.false in
     let told = c.in-Blocked.ensures.turn (got q) (stands q) in
     let p = c.finish-in-Blocked.ensures.settles (got q) (blocked_at q told) in
     λ _. blocked q told p
 
 pub turns-preserved-in-Passed : goal.turns-preserved-in-Passed
 turns-preserved-in-Passed g c =
-    let q = goes_to c.turns.invariant.runs c.requires.consumer.capacity c.args.consumer.now.stands.0 c.args.self.now.lawful.least c.turns.invariant.below c.if-messages-limit.false (sym c.is_block_end.ensures ∙ c.if-is_block_end.false) in
+    let q = goes g (goal.at.turns-preserved-in-Passed g c).After-is_block_end c.if-is_block_end.false in
     let told = c.in-Passed.ensures.turn (got q) (stands q) in
     record {
       consumer = c.turn.ensures.consumer;
@@ -79,27 +89,27 @@ turns-preserved-in-Passed g c =
 
 pub turns-smaller-in-Passed : goal.turns-smaller-in-Passed
 turns-smaller-in-Passed g c =
-    let q = goes_to c.turns.invariant.runs c.requires.consumer.capacity c.args.consumer.now.stands.0 c.args.self.now.lawful.least c.turns.invariant.below c.if-messages-limit.false (sym c.is_block_end.ensures ∙ c.if-is_block_end.false) in
+    let q = goes g (goal.at.turns-smaller-in-Passed g c).After-is_block_end c.if-is_block_end.false in
     let told = c.in-Passed.ensures.turn (got q) (stands q) in
     less_passed q told
 
 pub finish-requires-in-Abort-clause-from : goal.finish-requires-in-Abort-clause-from
 finish-requires-in-Abort-clause-from g c =
-    let q = goes_to c.turns.invariant.runs c.requires.consumer.capacity c.args.consumer.now.stands.0 c.args.self.now.lawful.least c.turns.invariant.below c.if-messages-limit.false (sym c.is_block_end.ensures ∙ c.if-is_block_end.false) in
+    let q = goes g (goal.at.finish-requires-in-Abort-clause-from g c).After-is_block_end c.if-is_block_end.false in
     let told = c.in-Shown.ensures.turn (got q) (stands q) in
     let p = c.move_head_before.ensures.settles (got q) (left_at q told) in
     left_near q told p
 
 pub finish-requires-in-Abort-clause-at : goal.finish-requires-in-Abort-clause-at
 finish-requires-in-Abort-clause-at g c =
-    let q = goes_to c.turns.invariant.runs c.requires.consumer.capacity c.args.consumer.now.stands.0 c.args.self.now.lawful.least c.turns.invariant.below c.if-messages-limit.false (sym c.is_block_end.ensures ∙ c.if-is_block_end.false) in
+    let q = goes g (goal.at.finish-requires-in-Abort-clause-at g c).After-is_block_end c.if-is_block_end.false in
     let told = c.in-Shown.ensures.turn (got q) (stands q) in
     let p = c.move_head_before.ensures.settles (got q) (left_at q told) in
     (got q, settled_stands p)
 
 pub returns-in-Abort-clause-controls : goal.returns-in-Abort-clause-controls
 returns-in-Abort-clause-controls g c =
-    let q = goes_to c.turns.invariant.runs c.requires.consumer.capacity c.args.consumer.now.stands.0 c.args.self.now.lawful.least c.turns.invariant.below c.if-messages-limit.false (sym c.is_block_end.ensures ∙ c.if-is_block_end.false) in
+    let q = goes g (goal.at.returns-in-Abort-clause-controls g c).After-is_block_end c.if-is_block_end.false in
     let told = c.in-Shown.ensures.turn (got q) (stands q) in
     let p = c.move_head_before.ensures.settles (got q) (left_at q told) in
     let p' = c.finish-in-Abort.ensures.settles (got q) (settled_stands p) in
@@ -107,7 +117,7 @@ returns-in-Abort-clause-controls g c =
 
 pub returns-in-Abort-clause-bytes : goal.returns-in-Abort-clause-bytes
 returns-in-Abort-clause-bytes g c =
-    let q = goes_to c.turns.invariant.runs c.requires.consumer.capacity c.args.consumer.now.stands.0 c.args.self.now.lawful.least c.turns.invariant.below c.if-messages-limit.false (sym c.is_block_end.ensures ∙ c.if-is_block_end.false) in
+    let q = goes g (goal.at.returns-in-Abort-clause-bytes g c).After-is_block_end c.if-is_block_end.false in
     let told = c.in-Shown.ensures.turn (got q) (stands q) in
     let p = c.move_head_before.ensures.settles (got q) (left_at q told) in
     let p' = c.finish-in-Abort.ensures.settles (got q) (settled_stands p) in
@@ -115,33 +125,33 @@ returns-in-Abort-clause-bytes g c =
 
 pub finish-requires-in-Break-clause-at : goal.finish-requires-in-Break-clause-at
 finish-requires-in-Break-clause-at g c =
-    let q = goes_to c.turns.invariant.runs c.requires.consumer.capacity c.args.consumer.now.stands.0 c.args.self.now.lawful.least c.turns.invariant.below c.if-messages-limit.false (sym c.is_block_end.ensures ∙ c.if-is_block_end.false) in
+    let q = goes g (goal.at.finish-requires-in-Break-clause-at g c).After-is_block_end c.if-is_block_end.false in
     let told = c.in-Shown.ensures.turn (got q) (stands q) in
     (got_more q told, shown_at q told)
 
 pub returns-in-Break-clause-controls : goal.returns-in-Break-clause-controls
 returns-in-Break-clause-controls g c =
-    let q = goes_to c.turns.invariant.runs c.requires.consumer.capacity c.args.consumer.now.stands.0 c.args.self.now.lawful.least c.turns.invariant.below c.if-messages-limit.false (sym c.is_block_end.ensures ∙ c.if-is_block_end.false) in
+    let q = goes g (goal.at.returns-in-Break-clause-controls g c).After-is_block_end c.if-is_block_end.false in
     let told = c.in-Shown.ensures.turn (got q) (stands q) in
     let p = c.finish-in-Break.ensures.settles (got_more q told) (shown_at q told) in
     ends_broken q told c.in-Break.is p (record { messages = c.finish-in-Break.ensures.messages; bytes = c.finish-in-Break.ensures.bytes; stopped = c.finish-in-Break.ensures.stopped })
 
 pub returns-in-Break-clause-bytes : goal.returns-in-Break-clause-bytes
 returns-in-Break-clause-bytes g c =
-    let q = goes_to c.turns.invariant.runs c.requires.consumer.capacity c.args.consumer.now.stands.0 c.args.self.now.lawful.least c.turns.invariant.below c.if-messages-limit.false (sym c.is_block_end.ensures ∙ c.if-is_block_end.false) in
+    let q = goes g (goal.at.returns-in-Break-clause-bytes g c).After-is_block_end c.if-is_block_end.false in
     let told = c.in-Shown.ensures.turn (got q) (stands q) in
     let p = c.finish-in-Break.ensures.settles (got_more q told) (shown_at q told) in
     omega (arith, c.finish-in-Break.ensures.bytes, p.head, c.args.consumer.now.stands.0)
 
 pub move_head-requires-clause-at : goal.move_head-requires-clause-at
 move_head-requires-clause-at g c =
-    let q = goes_to c.turns.invariant.runs c.requires.consumer.capacity c.args.consumer.now.stands.0 c.args.self.now.lawful.least c.turns.invariant.below c.if-messages-limit.false (sym c.is_block_end.ensures ∙ c.if-is_block_end.false) in
+    let q = goes g (goal.at.move_head-requires-clause-at g c).After-is_block_end c.if-is_block_end.false in
     let told = c.in-Shown.ensures.turn (got q) (stands q) in
     (got_more q told, shown_at q told)
 
 pub turns-preserved-in-Commit : goal.turns-preserved-in-Commit
 turns-preserved-in-Commit g c =
-    let q = goes_to c.turns.invariant.runs c.requires.consumer.capacity c.args.consumer.now.stands.0 c.args.self.now.lawful.least c.turns.invariant.below c.if-messages-limit.false (sym c.is_block_end.ensures ∙ c.if-is_block_end.false) in
+    let q = goes g (goal.at.turns-preserved-in-Commit g c).After-is_block_end c.if-is_block_end.false in
     let told = c.in-Shown.ensures.turn (got q) (stands q) in
     let goes : GoesOn c.in-Shown.action = subst GoesOn (sym c.in-Commit.is) tt in
     let p = c.move_head.ensures.settles (got_more q told) (shown_at q told) in
@@ -156,13 +166,13 @@ turns-preserved-in-Commit g c =
 
 pub turns-smaller-in-Commit : goal.turns-smaller-in-Commit
 turns-smaller-in-Commit g c =
-    let q = goes_to c.turns.invariant.runs c.requires.consumer.capacity c.args.consumer.now.stands.0 c.args.self.now.lawful.least c.turns.invariant.below c.if-messages-limit.false (sym c.is_block_end.ensures ∙ c.if-is_block_end.false) in
+    let q = goes g (goal.at.turns-smaller-in-Commit g c).After-is_block_end c.if-is_block_end.false in
     let told = c.in-Shown.ensures.turn (got q) (stands q) in
     less_shown q told
 
 pub turns-preserved : goal.turns-preserved
 turns-preserved g c =
-    let q = goes_to c.turns.invariant.runs c.requires.consumer.capacity c.args.consumer.now.stands.0 c.args.self.now.lawful.least c.turns.invariant.below c.if-messages-limit.false (sym c.is_block_end.ensures ∙ c.if-is_block_end.false) in
+    let q = goes g (goal.at.turns-preserved g c).After-is_block_end c.if-is_block_end.false in
     let told = c.in-Shown.ensures.turn (got q) (stands q) in
     let goes : GoesOn c.in-Shown.action = subst GoesOn (sym c.in-Continue.is) tt in
     record {
@@ -176,7 +186,7 @@ turns-preserved g c =
 
 pub turns-smaller : goal.turns-smaller
 turns-smaller g c =
-    let q = goes_to c.turns.invariant.runs c.requires.consumer.capacity c.args.consumer.now.stands.0 c.args.self.now.lawful.least c.turns.invariant.below c.if-messages-limit.false (sym c.is_block_end.ensures ∙ c.if-is_block_end.false) in
+    let q = goes g (goal.at.turns-smaller g c).After-is_block_end c.if-is_block_end.false in
     let told = c.in-Shown.ensures.turn (got q) (stands q) in
     less_shown q told
 
@@ -190,31 +200,31 @@ finish-requires-then-is_block_end-clause-inside g c =
 
 pub finish-requires-in-Blocked-clause-inside : goal.finish-requires-in-Blocked-clause-inside
 finish-requires-in-Blocked-clause-inside g c =
-    let q = goes_to c.turns.invariant.runs c.requires.consumer.capacity c.args.consumer.now.stands.0 c.args.self.now.lawful.least c.turns.invariant.below c.if-messages-limit.false (sym c.is_block_end.ensures ∙ c.if-is_block_end.false) in
+    let q = goes g (goal.at.finish-requires-in-Blocked-clause-inside g c).After-is_block_end c.if-is_block_end.false in
     let told = c.in-Blocked.ensures.turn (got q) (stands q) in
     blocked_inside q told
 
 pub move_head_before-requires-clause-inside : goal.move_head_before-requires-clause-inside
 move_head_before-requires-clause-inside g c =
-    let q = goes_to c.turns.invariant.runs c.requires.consumer.capacity c.args.consumer.now.stands.0 c.args.self.now.lawful.least c.turns.invariant.below c.if-messages-limit.false (sym c.is_block_end.ensures ∙ c.if-is_block_end.false) in
+    let q = goes g (goal.at.move_head_before-requires-clause-inside g c).After-is_block_end c.if-is_block_end.false in
     let told = c.in-Shown.ensures.turn (got q) (stands q) in
     left_inside q told
 
 pub finish-requires-in-Abort-clause-inside : goal.finish-requires-in-Abort-clause-inside
 finish-requires-in-Abort-clause-inside g c =
-    let q = goes_to c.turns.invariant.runs c.requires.consumer.capacity c.args.consumer.now.stands.0 c.args.self.now.lawful.least c.turns.invariant.below c.if-messages-limit.false (sym c.is_block_end.ensures ∙ c.if-is_block_end.false) in
+    let q = goes g (goal.at.finish-requires-in-Abort-clause-inside g c).After-is_block_end c.if-is_block_end.false in
     let told = c.in-Shown.ensures.turn (got q) (stands q) in
     let p = c.move_head_before.ensures.settles (got q) (left_at q told) in
     left_done q told p
 
 pub finish-requires-in-Break-clause-inside : goal.finish-requires-in-Break-clause-inside
 finish-requires-in-Break-clause-inside g c =
-    let q = goes_to c.turns.invariant.runs c.requires.consumer.capacity c.args.consumer.now.stands.0 c.args.self.now.lawful.least c.turns.invariant.below c.if-messages-limit.false (sym c.is_block_end.ensures ∙ c.if-is_block_end.false) in
+    let q = goes g (goal.at.finish-requires-in-Break-clause-inside g c).After-is_block_end c.if-is_block_end.false in
     let told = c.in-Shown.ensures.turn (got q) (stands q) in
     shown_inside q told
 
 pub move_head-requires-clause-inside : goal.move_head-requires-clause-inside
 move_head-requires-clause-inside g c =
-    let q = goes_to c.turns.invariant.runs c.requires.consumer.capacity c.args.consumer.now.stands.0 c.args.self.now.lawful.least c.turns.invariant.below c.if-messages-limit.false (sym c.is_block_end.ensures ∙ c.if-is_block_end.false) in
+    let q = goes g (goal.at.move_head-requires-clause-inside g c).After-is_block_end c.if-is_block_end.false in
     let told = c.in-Shown.ensures.turn (got q) (stands q) in
     shown_inside q told

@@ -1,7 +1,7 @@
 use Rattle.std.proofs.Common.{◌-◌, ◌≡◌, ◌+◌, ◌≤◌}
 use Rattle.ring_layout.specs.Places.{room}
 use Rattle.ring_table.specs.Seats.{IsSameSeat}
-use Rattle.ring_rings.specs.Seats.{IsConsumerOf, consumer_view, head_of}
+use Rattle.ring_rings.specs.Seats.{IsConsumerOf, seat_view, head_of}
 use Rattle.ring_rings.specs.ReadingSteps.{heeded}
 use Rattle.ring_rings.proofs.ReadingRuns.{RunsOn}
 use Rattle.ring_rings.proofs.ring.Ring.run.Given as goal
@@ -14,9 +14,9 @@ invariant-turns g l = record {
   ready : g.H.Handler.ready l.handler;
   start : l.start ≡ head_of l.initial.consumer;
   below : l.messages ≤ l.limit;
-  runs : RunsOn (heeded l.heeds g.H.Handler.step) l.limit (consumer_view l.initial.consumer) (consumer_view l.consumer) l.initial.handler l.handler l.scan l.messages;
+  runs : RunsOn (heeded l.heeds g.H.Handler.step) l.limit (seat_view l.initial.consumer) (seat_view l.consumer) l.initial.handler l.handler l.scan l.messages;
 }
 
 -- the bytes to the end of the buffer
 abbrev pub decreases-turns : goal.decreases-turns
-decreases-turns g l = head_of l.initial.consumer + room (consumer_view l.initial.consumer).capacity (head_of l.initial.consumer) - l.scan
+decreases-turns g l = head_of l.initial.consumer + room (seat_view l.initial.consumer).capacity (head_of l.initial.consumer) - l.scan

@@ -25,18 +25,15 @@ invariant_of-producer c =
     }
 
 pub returns-clause-claims : goal.returns-clause-claims
-returns-clause-claims c t h =
-    let claims = joined_claims c.args.self.now.capacity c.load_tail-producer.result c.args.producer.now.seat.me.0 c.args.other.seat.me.0 c.join_producer.new.producer.me.0 c.load_tail-producer.new.producer.me.0 c.join_producer.ensures.view c.load_tail-producer.ensures.told in
-    record { index = h.index; message = h.message; limit = h.limit; claim = has_first c.args.producer.now.seat.me.0 c.args.other.seat.me.0 c.load_tail-producer.new.producer.me.0 claims t.place (IsOpen t.type_id t.len) h.claim }
-
-pub returns-clause-others : goal.returns-clause-others
-returns-clause-others c t h =
-    let claims = joined_claims c.args.self.now.capacity c.load_tail-producer.result c.args.producer.now.seat.me.0 c.args.other.seat.me.0 c.join_producer.new.producer.me.0 c.load_tail-producer.new.producer.me.0 c.join_producer.ensures.view c.load_tail-producer.ensures.told in
-    record { index = h.index; message = h.message; limit = h.limit; claim = has_second c.args.producer.now.seat.me.0 c.args.other.seat.me.0 c.load_tail-producer.new.producer.me.0 claims t.place (IsOpen t.type_id t.len) h.claim }
-
-pub returns-clause-apart : goal.returns-clause-apart
-returns-clause-apart c t u h k =
+returns-clause-claims c =
+    let p : View = c.args.producer.now.seat.me.0 in
+    let q : View = c.args.other.seat.me.0 in
+    let u : View = c.load_tail-producer.new.producer.me.0 in
     let loaded = c.load_tail-producer.ensures.told in
-    let claims = joined_claims c.args.self.now.capacity c.load_tail-producer.result c.args.producer.now.seat.me.0 c.args.other.seat.me.0 c.join_producer.new.producer.me.0 c.load_tail-producer.new.producer.me.0 c.join_producer.ensures.view loaded in
     let same = ap (λ (v : View). v.producer.claims) loaded.view in
-    two_apart c.args.producer.now.seat.me.0 c.args.other.seat.me.0 c.load_tail-producer.new.producer.me.0 claims (subst AreRising (sym same) loaded.rising) t.place u.place (IsOpen t.type_id t.len) (IsOpen u.type_id u.len) h.claim k.claim
+    let claims = joined_claims c.args.self.now.capacity c.load_tail-producer.result p q c.join_producer.new.producer.me.0 u c.join_producer.ensures.view loaded in
+    record {
+      first = λ t h. record { index = h.index; message = h.message; limit = h.limit; claim = has_first p q u claims t.place (IsOpen t.type_id t.len) h.claim };
+      second = λ t h. record { index = h.index; message = h.message; limit = h.limit; claim = has_second p q u claims t.place (IsOpen t.type_id t.len) h.claim };
+      apart = λ t r h k. two_apart p q u claims (subst AreRising (sym same) loaded.rising) t.place r.place (IsOpen t.type_id t.len) (IsOpen r.type_id r.len) h.claim k.claim;
+    }

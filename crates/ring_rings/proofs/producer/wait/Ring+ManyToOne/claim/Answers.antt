@@ -1,4 +1,4 @@
-use Rattle.std.proofs.Common.{length, of_z, subst, to_z, w32}
+use Rattle.std.proofs.Common.{of_z, subst, to_z, w32}
 use Rattle.ring_rings.specs.Claiming.{RefusesTry}
 use Rattle.ring_rings.specs.Seats.{capacity_of, view_of}
 use Rattle.ring_rings.proofs.WaitLemmas.{tried_more, tried_none}

@@ -1,4 +1,3 @@
-use Rattle.std.proofs.Common.{length}
 use Rattle.ring_rings.proofs.WaitLemmas.{Tried}
 use Rattle.ring_rings.proofs.producer.wait.Ring+ManyToOne.claim.Given as goal
 
