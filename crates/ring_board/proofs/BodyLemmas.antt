@@ -1,11 +1,11 @@
 -- Bodies that a raw receiver loads, and validates.
-use Rattle.std.proofs.Common.{◌≡◌, ℕ, true, ◌+◌, ◌-◌, ◌*◌, ◌/◌, ◌<◌, ◌≤◌, List, [], ◌∷◌, ◌++◌, length, take, get_or, refl, sym, ap, ◌∙◌, subst, ⊎_elim, inl, inr, ◌⊎◌, arith, length-append, append_assoc}
+use Rattle.std.proofs.Common.{◌≡◌, ℕ, true, ◌+◌, ◌-◌, ◌*◌, ◌<◌, ◌≤◌, List, [], ◌∷◌, ◌++◌, length, take, get_or, refl, sym, ap, ◌∙◌, subst, ⊎_elim, inl, inr, ◌⊎◌, arith, length-append, append_assoc}
 use Rattle.std.specs.Int.{to_le_bytes, w64}
 use Rattle.std.proofs.lemmas.Bool.{cases_lt}
 use Rattle.std.proofs.lemmas.List.{ext_get_or, get_or_append_left, get_or-append_right, get_or_push, get_or-take, length-take-le, take_all}
-use mathlib.Core.Option.{none, some}
+use mathlib.Core.Option.{some}
 use lib.ListN.{get_elem?}
-use Rattle.atomic_table.specs.Table.{step, keeps, Allows}
+use Rattle.atomic_table.specs.Table.{keeps, Allows}
 use Rattle.atomic_table.proofs.Lists.{at_longer, at_last}
 use Rattle.ring_layout.specs.Places.{index}
 use Rattle.ring_layout.specs.History.{overwritten, span}
@@ -18,15 +18,16 @@ use Rattle.ring_board.specs.declared.shared.view.Load.TheVariants.{Word, Intent}
 use Rattle.ring_board.specs.declared.shared.view.Stage.TheVariants.{Resting}
 use Rattle.ring_board.specs.declared.board.RawRecord.{RawRecord}
 use Rattle.ring_board.specs.Seats.{IsAnswered}
+use Rattle.ring_board.specs.Layout.{intent_index}
 use Rattle.ring_board.specs.Records.{end, end_of, words_of, word_count, bytes_of, gap}
 use Rattle.ring_board.specs.Rule.{IsBoard, Holds, intent}
 use Rattle.ring_board.specs.Steps.{Sat, logged}
-use Rattle.ring_board.specs.Bodies.{WasLoaded, WereLoaded, IsLoaded, AreRight, IsRight, GaveBody, Validated, SeesBody, SeesValid}
+use Rattle.ring_board.specs.Bodies.{WasLoaded, WereLoaded, IsLoaded, AreRight, IsRight, GaveBody, Validated, LoadsUnread, ChecksAnswered}
 use Rattle.ring_board.proofs.StoreLemmas.{append_nil, at_behind, words_long}
 use Rattle.ring_board.proofs.ByteLemmas.{body_back}
 use Rattle.ring_board.proofs.FoundLemmas.{bytes_of_snoc}
 use Rattle.ring_board.proofs.SeatLemmas.{St}
-use Rattle.ring_board.proofs.LookLemmas.{word_at, load_kept, word_ok, tail_seen, entry, now}
+use Rattle.ring_board.proofs.LookLemmas.{word_at, load_keeps, word_ok, tail_seen, entry, now}
 
 -- What the log says of a body ------------------------------------------------
 
@@ -35,7 +36,7 @@ module _ (C e : ℕ) (s : St) (by : ℕ) (mine : View) (h : IsBoard C e by mine 
   loaded_right : (r : Record) (k : ℕ) → get_elem? mine.sent k ≡ some r → (j w : ℕ) → j < length (words_of r.message.body)
       → WasLoaded C v.log (r.place + 8 + 8 * j) w → now C e s by mine h id v at < r.place + C → w ≡ get_or (words_of r.message.body) j 0
   loaded_right r k on j w lt l below = let p : ℕ = r.place + 8 + 8 * j in let y : ℕ × ℕ = (p, get_or (words_of r.message.body) j 0) in
-      let ok = h.each_log id v at l.0 (Word (index C p) l.1 w) l.2 in
+      let ok = (h.seated.each id v at).log l.0 (Word (index C p) l.1 w) l.2 in
       ok.1 k r on (length (gap r.before r.place) + j) y (word_at r j lt) refl l.3 (omega arith)
 
   body_right : (r : Record) (k : ℕ) → get_elem? mine.sent k ≡ some r → (body : List ℕ) → length body ≡ length r.message.body
@@ -44,10 +45,10 @@ module _ (C e : ℕ) (s : St) (by : ℕ) (mine : View) (h : IsBoard C e by mine 
       let count : length ws ≡ length (words_of m.body) = l.2 ∙ (ap word_count long ∙ sym (words_long (word_count (length m.body)) m.body)) in
       let same : ws ≡ words_of m.body = ext_get_or 0 ws (words_of m.body) count
       (λ j in_ws. loaded_right r k on j (get_or ws j 0) (omega arith) (l.1 j in_ws) lt) in
-      l.3 ∙ ((λ i. take (long i) (bytes_of (same i))) ∙ body_back C m h.narrow (entry C e s by mine h id v at r k on).0.lawful)
+      l.3 ∙ ((λ i. take (long i) (bytes_of (same i))) ∙ body_back C m h.lawful.narrow (entry C e s by mine h id v at r k on).0.lawful)
 
   bodies_right : (x : ℕ) → x ≡ now C e s by mine h id v at → v.capacity ≡ C → AreRight v x
-  bodies_right x is size n c body on lt loaded long = let q = (h.each_copy id v at).entries n c on in let r : Record = q.1 in let copy = q.3 in
+  bodies_right x is size n c body on lt loaded long = let q = (h.seated.each id v at).copies.entries n c on in let r : Record = q.1 in let copy = q.3 in
       let place = copy.place in
       body_right r q.0 q.2 body (long ∙ ap (λ m. length m.body) copy.message)
       (subst (λ (y : ℕ × ℕ). IsLoaded y.0 v.log y.1 body) (λ i. (size i, place i)) loaded) (omega arith)
@@ -55,30 +56,31 @@ module _ (C e : ℕ) (s : St) (by : ℕ) (mine : View) (h : IsBoard C e by mine 
 
   -- the tail is beyond the records that were answered
   answered_below : (n : ℕ) (c : Taken) → get_elem? v.copies n ≡ some c → c.place + span (length c.message.body) ≤ end_of e mine.sent
-  answered_below n c on = let q = (h.each_copy id v at).entries n c on in let r : Record = q.1 in let copy = q.3 in
+  answered_below n c on = let q = (h.seated.each id v at).copies.entries n c on in let r : Record = q.1 in let copy = q.3 in
       let below = (entry C e s by mine h id v at r q.0 q.2).2 in
       let same : c.place + span (length c.message.body) ≡ end r = λ i. copy.place i + span (length (copy.message i).body) in omega arith
 
 -- The steps --------------------------------------------------------------------
 
 module _ (C e slots id : ℕ) (me : Sat) (i : ℕ) where
-  pub sees_body : me.0.stage ≡ Resting → Allows (Holds C e) slots id me i (λ y. y) (SeesBody (step slots i 0 0 none) me)
-  sees_body eq s b _ at _ = let h = b.2 in let x : ℕ = get_or s.words i 0 in let t : ℕ = end_of e b.1.sent in (
+  pub loads_unread : me.0.stage ≡ Resting → Allows (Holds C e) slots id me i (λ y. y) (LoadsUnread i me)
+  loads_unread eq s b _ at _ = let h = b.2 in let x : ℕ = get_or s.words i 0 in let t : ℕ = end_of e b.1.sent in (
     logged me.0 (Word i t x),
     keeps,
     tt,
-    load_kept C e s b.0 b.1 h id me.0 at eq (Word i t x) (word_ok C e s b.0 b.1 h id me.0 at i t x (omega arith) refl) i me.1,
+    load_keeps C e s b.0 b.1 h id me.0 at eq (Word i t x) (word_ok C e s b.0 b.1 h id me.0 at i t x (omega arith) refl) i me.1,
     (t, refl, tail_seen C e s b.0 b.1 h id me.0 at, answered_below C e s b.0 b.1 h id me.0 at),
   )
 
-  pub sees_valid : me.0.stage ≡ Resting → me.0.capacity ≡ C → i ≡ C / 8 → Allows (Holds C e) slots id me i (λ y. y) (SeesValid (step slots i 0 0 none) me)
-  sees_valid eq size is s b _ at _ = let h = b.2 in let x : ℕ = get_or s.words i 0 in
-      let found : x ≡ intent e b.1.sent b.1.stage = ap (λ (j : ℕ). get_or s.words j 0) is ∙ h.intent_is in (
+  pub checks_answered : me.0.stage ≡ Resting → me.0.capacity ≡ C → i ≡ intent_index C
+      → Allows (Holds C e) slots id me i (λ y. y) (λ x m'. ChecksAnswered me x m' × (i ≡ intent_index me.0.capacity))
+  checks_answered eq size is s b _ at _ = let h = b.2 in let x : ℕ = get_or s.words i 0 in
+      let found : x ≡ intent e b.1.sent b.1.stage = ap (λ (j : ℕ). get_or s.words j 0) is ∙ h.memory.intent_is in (
         logged me.0 (Intent x),
         keeps,
         tt,
-        load_kept C e s b.0 b.1 h id me.0 at eq (Intent x) (omega arith) i me.1,
-        (refl, bodies_right C e s b.0 b.1 h id me.0 at x found size),
+        load_keeps C e s b.0 b.1 h id me.0 at eq (Intent x) (omega arith) i me.1,
+        ((refl, bodies_right C e s b.0 b.1 h id me.0 at x found size), is ∙ sym (ap intent_index size)),
       )
 
 -- Loading a body, word by word ---------------------------------------------------

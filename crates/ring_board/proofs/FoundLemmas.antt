@@ -1,8 +1,7 @@
 -- What a receiver's steps put together.
 use Rattle.std.proofs.Common.{◌≡◌, ℕ, ℤ, ◌+◌, ◌*◌, ◌/◌, ◌%◌, ◌^◌, ◌<◌, ◌≤◌, arith, length, length-append, take, drop, cond, Bool, true, List, [], ◌∷◌, ◌++◌, refl, sym, ap, ◌∙◌, subst, inl, inr, ⊎_elim, append_assoc}
 use Rattle.std.proofs.lemmas.Bool.{lt-ltb}
-use mathlib.Core.Option.{none, some}
-use Rattle.atomic_table.specs.Table.{step}
+use mathlib.Core.Option.{some}
 use Rattle.atomic_table.proofs.Lists.{at_longer}
 use Rattle.std.specs.Int.{cast_signed, w32, to_le_bytes, w64}
 use Rattle.std.proofs.lemmas.List.{length-take-le}
@@ -13,10 +12,10 @@ use Rattle.ring_board.specs.declared.shared.view.View.{View}
 use Rattle.ring_board.specs.declared.shared.view.Load.{Load}
 use Rattle.ring_board.specs.declared.shared.view.Load.TheVariants.{Word, Intent, Tail}
 use Rattle.ring_board.specs.declared.shared.view.Stage.{Stage}
-use Rattle.ring_board.specs.declared.shared.view.Stage.TheVariants.{Sure, Headed, Padded, Again, Reading, Behind}
+use Rattle.ring_board.specs.declared.shared.view.Stage.TheVariants.{Resting, Sure, Headed, Padded, Again, Reading, Behind}
 use Rattle.ring_board.specs.declared.receiver.found.Found.TheVariants.{Entry}
 use Rattle.ring_board.specs.Records.{announced, body_len, is_padding, bytes_of, message_of}
-use Rattle.ring_board.specs.Steps.{Sat, staged, logged, copied, saw_tail, heard, read_word, word_load, last_tail, passed, validated, IsSound, IsSoundAt, IsUnread, header_seen, answered, SeesAnswer}
+use Rattle.ring_board.specs.Steps.{Sat, staged, logged, copied, tail_loaded, header_loaded, word_loaded, word_load, last_tail, passed, validated, IsSound, IsSoundAt, IsUnread, header_seen, answered, AnswersEntry}
 use Rattle.ring_board.specs.Receiving.{CopiedWords, TookAll, TookNone, GotCopy, GotMiss, GotRecord, IsInside, ComesTo, FoundIs, NearIs}
 
 passed_after : (v : View) (st : Stage) (x : ℕ) → v.stage ≡ st → x < v.at + v.capacity → validated v x ≡ logged (passed v st) (Intent x)
@@ -27,13 +26,19 @@ passed_after v st x eq lt = ap (λ (b : Bool). logged (cond b (passed v v.stage)
 abbrev pub padding_loads : View → ℕ → ℕ → ℕ → ℕ → List Load
 padding_loads v t i w x = Tail t ∷ Word i (last_tail (v.log ++ Tail t ∷ []) 0) w ∷ Intent x ∷ []
 
+-- a receiver that saw a tail beyond its place has loaded the header there
+pub heard_sure : (m m1 m2 : Sat) (t i w : ℕ) → m1 ≡ (tail_loaded m.0 t, m.1) → m2 ≡ (header_loaded m1.0 i m1.0.stage w, m1.1) → m.0.at < t
+    → m2 ≡ (header_loaded m1.0 i Sure w, m1.1)
+heard_sure m m1 m2 t i w a b lt = b ∙ ap (λ (st : Stage). (header_loaded m1.0 i st w, m1.1))
+    (ap (λ (y : Sat). y.0.stage) a ∙ ap (λ (c : Bool). cond c Sure Resting) (lt-ltb m.0.at t lt))
+
 -- the receiver behind its padding
-pub padded_as : (m m1 m2 m3 : Sat) (t i w x : ℕ) → m1 ≡ (saw_tail m.0 t, m.1) → m2 ≡ (heard m1.0 i Sure w, m1.1) → m3 ≡ (validated m2.0 x, m2.1)
+pub padded_as : (m m1 m2 m3 : Sat) (t i w x : ℕ) → m1 ≡ (tail_loaded m.0 t, m.1) → m2 ≡ (header_loaded m1.0 i Sure w, m1.1) → m3 ≡ (validated m2.0 x, m2.1)
     → m.0.at < t → x < m.0.at + m.0.capacity → is_padding w ≡ true
     → m3 ≡ (record m.0 { stage = Padded w; log = m.0.log ++ padding_loads m.0 t i w x }, m.1)
 padded_as m m1 m2 m3 t i w x a b c beyond lt pads = let l1 : List Load = m.0.log ++ Tail t ∷ [] in let u : Load = Word i (last_tail l1 0) w in
     let l2 : List Load = l1 ++ u ∷ [] in
-    let two : m2 ≡ (record m.0 { stage = Headed w; log = l2 }, m.1) = b ∙ ap (λ (y : Sat). (heard y.0 i Sure w, y.1)) a in
+    let two : m2 ≡ (record m.0 { stage = Headed w; log = l2 }, m.1) = b ∙ ap (λ (y : Sat). (header_loaded y.0 i Sure w, y.1)) a in
     let v2 : View = record m.0 { stage = Headed w; log = l2 } in
     c ∙ (ap (λ (y : Sat). (validated y.0 x, y.1)) two ∙
     (ap (λ (p : View). (p, m.1)) (passed_after v2 (Headed w) x refl lt
@@ -61,22 +66,22 @@ padding_seen v C at t w x p a b pads to = inr (
 
 -- an entry behind padding
 pub near_behind : (m m3 m4 : Sat) (xs : List Load) (j w x p : ℕ) → m3 ≡ (record m.0 { stage = Padded w; log = m.0.log ++ xs }, m.1)
-    → m4 ≡ (heard m3.0 j m3.0.stage x, m3.1) → m.0.at + announced w ≡ p → ComesTo m.0 xs p → p ≤ max_position → NearIs (Entry p x) m m4
+    → m4 ≡ (header_loaded m3.0 j m3.0.stage x, m3.1) → m.0.at + announced w ≡ p → ComesTo m.0 xs p → p ≤ max_position → NearIs (Entry p x) m m4
 near_behind m m3 m4 xs j w x p a b there to low = let u : Load = Word j (last_tail (m.0.log ++ xs) 0) x in (
   xs ++ u ∷ [],
   Again x,
-  b ∙ (ap (λ (y : Sat). (heard y.0 j y.0.stage x, y.1)) a ∙ (λ k. (record m.0 { stage = Again x; at = there k; log = append_assoc m.0.log xs (u ∷ []) k }, m.1))),
+  b ∙ (ap (λ (y : Sat). (header_loaded y.0 j y.0.stage x, y.1)) a ∙ (λ k. (record m.0 { stage = Again x; at = there k; log = append_assoc m.0.log xs (u ∷ []) k }, m.1))),
   inr refl,
   later_loads m.0 xs (u ∷ []) p to,
   low,
 )
 
 -- the end of padding that was validated
-pub padding_low : (m m1 m2 : Sat) (t i w x : ℕ) → m1 ≡ (saw_tail m.0 t, m.1) → m2 ≡ (heard m1.0 i Sure w, m1.1)
+pub padding_low : (m m1 m2 : Sat) (t i w x : ℕ) → m1 ≡ (tail_loaded m.0 t, m.1) → m2 ≡ (header_loaded m1.0 i Sure w, m1.1)
     → (x < m2.0.at + m2.0.capacity → IsSoundAt m2.0 m2.0.stage) → x < m.0.at + m.0.capacity → is_padding w ≡ true → m.0.at + announced w ≤ max_position
-padding_low m m1 m2 t i w x a b sound lt pads = let v : View = heard (saw_tail m.0 t) i Sure w in
+padding_low m m1 m2 t i w x a b sound lt pads = let v : View = header_loaded (tail_loaded m.0 t) i Sure w in
     let k : x < v.at + v.capacity → IsSoundAt v (Headed w) = subst (λ (y : Sat). x < y.0.at + y.0.capacity → IsSoundAt y.0 y.0.stage)
-    (b ∙ ap (λ (y : Sat). (heard y.0 i Sure w, y.1)) a) sound in
+    (b ∙ ap (λ (y : Sat). (header_loaded y.0 i Sure w, y.1)) a) sound in
     let q : IsSoundAt v (Headed w) = k lt in q.1 pads
 
 -- Its validation -----------------------------------------------------------
@@ -121,7 +126,7 @@ unread_fits : (m m1 : Sat) (p w x : ℕ) (body : List ℕ) → NearIs (Entry p w
 unread_fits m m1 p w x body h fits lt = subst (λ (n : ℕ). (length body ≡ body_len n) × IsSound m.0.capacity p n) (unread_header h.1 w h.3)
     (subst (λ (y : Sat). x < y.0.at + y.0.capacity → (length body ≡ body_len (header_seen y.0.stage)) × IsSound y.0.capacity y.0.at (header_seen y.0.stage)) h.2 fits lt)
 
-pub answered_as : (m m1 m2 : Sat) (p w x len : ℕ) (z : ℤ) → NearIs (Entry p w) m m1 → (a : SeesAnswer (step 0 0 0 0 none) m1 x m2) → x < p + m.0.capacity
+pub answered_as : (m m1 m2 : Sat) (p w x len : ℕ) (z : ℤ) → NearIs (Entry p w) m m1 → (a : AnswersEntry m1 x m2) → x < p + m.0.capacity
     → z ≡ cast_signed w32 (w / 2 ^ 32) → len ≡ body_len w
     → GotRecord record { place = p; type_id = z; len = len } m m2 × IsInside m.0.capacity record { place = p; type_id = z; len = len }
 answered_as m m1 m2 p w x len z h a lt type_is len_is = let body : List ℕ = a.0 in let f = unread_fits m m1 p w x body h a.2 lt in let b = f.1.message in
@@ -152,12 +157,12 @@ front_on at x bytes le = let front : List ℕ = take at bytes ++ to_le_bytes w64
 
 -- one word more was copied
 pub copied_on : (w k i x : ℕ) (out out' : List ℕ) (m m1 m2 : Sat) → 8 * k + 8 ≤ length out → CopiedWords w k out m m1
-    → m2 ≡ (read_word m1.0 i x, m1.1) → out' ≡ overwritten (8 * k) (to_le_bytes w64 x) out → CopiedWords w (k + 1) out' m m2
+    → m2 ≡ (word_loaded m1.0 i x, m1.1) → out' ≡ overwritten (8 * k) (to_le_bytes w64 x) out → CopiedWords w (k + 1) out' m m2
 copied_on w k i x out out' m m1 m2 room h read put = let ws : List ℕ = h.0 in let loads : List Load = h.1 in
     let v : View = record m.0 { stage = Reading w ws; log = m.0.log ++ loads } in let l : Load = word_load v i x in (
       ws ++ x ∷ [],
       loads ++ l ∷ [],
-      read ∙ (ap (λ (u : Sat). (read_word u.0 i x, u.1)) h.2 ∙ ap (λ (ls : List Load). (record m.0 { stage = Reading w (ws ++ x ∷ []); log = ls }, m.1))
+      read ∙ (ap (λ (u : Sat). (word_loaded u.0 i x, u.1)) h.2 ∙ ap (λ (ls : List Load). (record m.0 { stage = Reading w (ws ++ x ∷ []); log = ls }, m.1))
           (append_assoc m.0.log loads (l ∷ []))),
       length-append ws (x ∷ []) ∙ ap (λ (n : ℕ). n + 1) h.3,
       (λ j. take (more k j) (put j)) ∙ (front_on (8 * k) x out room ∙ (ap (λ (f : List ℕ). f ++ to_le_bytes w64 x) h.4 ∙ sym (bytes_of_snoc ws x))),

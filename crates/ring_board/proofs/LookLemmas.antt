@@ -17,8 +17,8 @@ use Rattle.ring_board.specs.declared.shared.view.Stage.{Stage}
 use Rattle.ring_board.specs.declared.shared.view.Stage.TheVariants.{Resting, Sure, Padded, Reading}
 use Rattle.ring_board.specs.Records.{end, Follows, end_of, words_of, word_count, placed_words, header_of, announced, body_len, gap, filled, stores}
 use Rattle.ring_board.specs.Runs.{AreRuns}
-use Rattle.ring_board.specs.Rule.{LoadOk, Logged, intent, shown, Running, Before, IsHeader, Next, Knows, IsBoard, Holds}
-use Rattle.ring_board.specs.Steps.{logged, saw_tail, heard, word_load, last_tail}
+use Rattle.ring_board.specs.Rule.{LoadOk, IsSeat, Logged, intent, shown, Running, Before, IsHeader, Next, Knows, IsBoard, Holds}
+use Rattle.ring_board.specs.Steps.{logged, tail_loaded, header_loaded, word_load, last_tail}
 use Rattle.ring_board.proofs.PlaceLemmas.{lies_after, lies_needed, chain_at}
 use Rattle.ring_board.proofs.StoreLemmas.{at_behind, placed_at, words_long}
 use Rattle.ring_board.proofs.ByteLemmas.{announced_header, announced_padding}
@@ -63,7 +63,7 @@ module _ (C e : ℕ) (s : St) (by : ℕ) (mine : View) (h : IsBoard C e by mine 
   -- a seat whose stage is no transmitter's is another
   pub other_seat : (st : Stage) → v.stage ≡ st → (Running C (end_of e mine.sent) s.words st → ⊥) → id ≢ by
   other_seat st eq never is = never (subst (Running C (end_of e mine.sent) s.words)
-      (ap (λ (x : View). x.stage) (some-injective mine v (sym h.here ∙ (ap (get_elem? s.views) (sym is) ∙ at))) ∙ eq) h.running)
+      (ap (λ (x : View). x.stage) (some-injective mine v (sym h.seated.here ∙ (ap (get_elem? s.views) (sym is) ∙ at))) ∙ eq) h.memory.running)
 
   -- the rule after a load by a receiver
   pub looked : (w : View) → id ≢ by → Knows C e by mine id w w.stage → AreRuns mine.sent w.from w.copies → w.shares ≡ v.shares
@@ -74,47 +74,36 @@ module _ (C e : ℕ) (s : St) (by : ℕ) (mine : View) (h : IsBoard C e by mine 
         by,
         mine,
         record {
-          wide = h.wide;
-          roomy = h.roomy;
-          narrow = h.narrow;
-          whole = h.whole;
-          aligned = h.aligned;
-          here = set_else s.views id by w (λ e. ne (sym e)) ∙ h.here;
-          capacity = h.capacity;
-          started = h.started;
-          behind = h.behind;
-          chain = h.chain;
-          low = h.low;
-          intent_is = h.intent_is;
-          tail_is = h.tail_is;
-          latest_is = h.latest_is;
-          unnamed = h.unnamed;
-          valid = h.valid;
-          running = h.running;
-          exact = h.exact;
-          each_seat = seats_stay (λ j u. Knows C e by mine j u u.stage) s.views id w mine_knows (λ j u _ on. h.each_seat j u on);
-          each_copy = seats_stay (λ j u. AreRuns mine.sent u.from u.copies) s.views id w runs (λ j u _ on. h.each_copy j u on);
-          each_heard = h.each_heard;
-          each_log = seats_stay (λ j u. Logged C e mine.sent mine.stage u.log) s.views id w logs (λ j u _ on. h.each_log j u on);
-          shares = let a = total_set s.views id v w at in let b = h.shares in omega arith;
+          lawful = h.lawful;
+          memory = h.memory;
+          seated = let seats = h.seated in record {
+            here = set_else s.views id by w (λ e. ne (sym e)) ∙ seats.here;
+            capacity = seats.capacity;
+            started = seats.started;
+            behind = seats.behind;
+            each = seats_stay (IsSeat C e by mine) s.views id w (record { knows = mine_knows; copies = runs; log = logs })
+                (λ j u _ on. seats.each j u on);
+            joined = seats.joined;
+            shares = let a = total_set s.views id v w at in let b = seats.shares in omega arith;
+          };
         },
       )
 
   pub log_more : (l : Load) → LoadOk C e mine.sent mine.stage l → Logged C e mine.sent mine.stage (v.log ++ l ∷ [])
-  log_more l k j x on = ⊎_elim (λ t. h.each_log id v at j x t) (λ (is : l ≡ x). subst (LoadOk C e mine.sent mine.stage) is k) (at_snoc v.log l x j on)
+  log_more l k j x on = ⊎_elim (λ t. (h.seated.each id v at).log j x t) (λ (is : l ≡ x). subst (LoadOk C e mine.sent mine.stage) is k) (at_snoc v.log l x j on)
 
   -- the load of a word of the buffer
   pub word_ok : (i t x : ℕ) → t ≤ end_of e mine.sent → x ≡ get_or s.words i 0 → LoadOk C e mine.sent mine.stage (Word i t x)
-  word_ok i t x le is = (le, λ c r on j y on_y there below now. is ∙ (ap (λ (q : ℕ). get_or s.words q 0) (sym there) ∙ h.valid c r on j y on_y now))
+  word_ok i t x le is = (le, λ c r on j y on_y there below now. is ∙ (ap (λ (q : ℕ). get_or s.words q 0) (sym there) ∙ h.memory.valid c r on j y on_y now))
 
   pub tail_seen : last_tail v.log 0 ≤ end_of e mine.sent
-  tail_seen = tail_known C e mine.sent mine.stage v.log 0 (omega arith) (h.each_log id v at)
+  tail_seen = tail_known C e mine.sent mine.stage v.log 0 (omega arith) (h.seated.each id v at).log
 
   pub word_logged : (i x : ℕ) → x ≡ get_or s.words i 0 → Logged C e mine.sent mine.stage (v.log ++ word_load v i x ∷ [])
   word_logged i x is = log_more (word_load v i x) (word_ok i (last_tail v.log 0) x tail_seen is)
 
   pub knows : (st : Stage) → v.stage ≡ st → Knows C e by mine id v st
-  knows st eq = subst (Knows C e by mine id v) eq (h.each_seat id v at)
+  knows st eq = subst (Knows C e by mine id v) eq (h.seated.each id v at).knows
 
   abbrev pub all : List Record
   all = shown mine.sent mine.stage
@@ -123,21 +112,21 @@ module _ (C e : ℕ) (s : St) (by : ℕ) (mine : View) (h : IsBoard C e by mine 
   now = intent e mine.sent mine.stage
 
   pub same_runs : (w : View) → w.from ≡ v.from → w.copies ≡ v.copies → AreRuns mine.sent w.from w.copies
-  same_runs w from copies = subst (λ (x : ℕ × List Taken). AreRuns mine.sent x.0 x.1) (λ k. (sym from k, sym copies k)) (h.each_copy id v at)
+  same_runs w from copies = subst (λ (x : ℕ × List Taken). AreRuns mine.sent x.0 x.1) (λ k. (sym from k, sym copies k)) (h.seated.each id v at).copies
 
   -- a load between two calls, which changes nothing but the log
-  pub load_kept : v.stage ≡ Resting → (l : Load) → LoadOk C e mine.sent mine.stage l → (i : ℕ) (cs : List (ℕ × (Unit {0})))
+  pub load_keeps : v.stage ≡ Resting → (l : Load) → LoadOk C e mine.sent mine.stage l → (i : ℕ) (cs : List (ℕ × (Unit {0})))
       → Holds C e (stepped s i (get_or s.words i 0) id cs (logged v l) keeps)
-  load_kept eq l ok i cs = let k = knows Resting eq in let u : View = logged v l in
+  load_keeps eq l ok i cs = let k = knows Resting eq in let u : View = logged v l in
       looked u (other_seat Resting eq (λ b. b)) (subst (Knows C e by mine id u) (sym eq)
       (k.0, record { before = k.1.before; climbs = k.1.climbs; past = k.1.past; fresh = k.1.fresh }, tt))
       (same_runs u refl refl) refl (log_more l ok) i cs
 
   -- The tail
-  pub tail_kept : v.stage ≡ Resting → (x i : ℕ) (cs : List (ℕ × (Unit {0}))) → x ≡ end_of e mine.sent
-      → Holds C e (stepped s i (get_or s.words i 0) id cs (saw_tail v x) keeps)
-  tail_kept eq x i cs is = let k = knows Resting eq in looked (saw_tail v x) (other_seat Resting eq (λ b. b))
-      (cond_both (ltb v.at x) Sure Resting (λ st. Knows C e by mine id (record (saw_tail v x) { stage = st }) st)
+  pub tail_keeps : v.stage ≡ Resting → (x i : ℕ) (cs : List (ℕ × (Unit {0}))) → x ≡ end_of e mine.sent
+      → Holds C e (stepped s i (get_or s.words i 0) id cs (tail_loaded v x) keeps)
+  tail_keeps eq x i cs is = let k = knows Resting eq in looked (tail_loaded v x) (other_seat Resting eq (λ b. b))
+      (cond_both (ltb v.at x) Sure Resting (λ st. Knows C e by mine id (record (tail_loaded v x) { stage = st }) st)
       (λ t. (
         k.0,
         record { before = k.1.before; climbs = k.1.climbs; past = k.1.past; fresh = k.1.fresh },
@@ -145,22 +134,22 @@ module _ (C e : ℕ) (s : St) (by : ℕ) (mine : View) (h : IsBoard C e by mine 
             omega arith) in sure k.1.before lt),
       ))
       (λ f. (k.0, record { before = k.1.before; climbs = k.1.climbs; past = k.1.past; fresh = k.1.fresh }, tt)))
-      (same_runs (saw_tail v x) refl refl) refl (log_more (Tail x) (omega arith)) i cs
+      (same_runs (tail_loaded v x) refl refl) refl (log_more (Tail x) (omega arith)) i cs
     where
       sure : Before e all v.at v.next → v.at < end_of e mine.sent
           → Next C now mine.sent v.at v.next (λ r. (v.at ≡ r.place) ⊎ ((v.at ≡ r.before) × (r.before < r.place)))
       sure b lt = ⊎_elim (λ t. let q : Record = t.0 in ⊎_elim
-          (λ old. let c = chain_at C h.roomy h.whole e mine.sent h.chain v.next q old in
-          let a = lies_after C q.before q.before q.place (end q) c.0.fits h.roomy h.whole in (
+          (λ old. let c = chain_at C h.lawful.roomy h.lawful.whole e mine.sent h.memory.chain v.next q old in
+          let a = lies_after C q.before q.before q.place (end q) c.0.fits h.lawful.roomy h.lawful.whole in (
             q,
             old,
             ⊎_elim (λ p. inl p) (λ p. ⊎_elim (λ l. inr (p, l)) (λ l. inl (let g : v.at ≡ q.place = omega arith in
                 g)) (cases_lt q.before q.place)) t.2,
           ))
-          (λ f. let l = f.fits in let a = lies_after C (end_of e mine.sent) q.before q.place (end q) l h.roomy h.whole in let b = l.begins in
+          (λ f. let l = f.fits in let a = lies_after C (end_of e mine.sent) q.before q.place (end q) l h.lawful.roomy h.lawful.whole in let b = l.begins in
           absurd (⊎_elim (λ (p : v.at ≡ q.place). let g : ⊥ = omega arith in g) (λ (p : v.at ≡ q.before). let g : ⊥ = omega arith in g) t.2))
-          (shown_at C e h.roomy h.whole s.words mine.sent mine.stage h.running v.next q t.1))
-          (λ t. let g = shown_end C e h.roomy h.whole s.words mine.sent mine.stage h.running in let f = t.1 in absurd (omega arith)) b
+          (shown_at C e h.lawful.roomy h.lawful.whole s.words mine.sent mine.stage h.memory.running v.next q t.1))
+          (λ t. let g = shown_end C e h.lawful.roomy h.lawful.whole s.words mine.sent mine.stage h.memory.running in let f = t.1 in absurd (omega arith)) b
 
   -- The header at the place of an entry, or of a padding before it
   heard_right : (r : Record) (k : ℕ) → get_elem? mine.sent k ≡ some r → (p x : ℕ) → ((p ≡ r.place) ⊎ ((p ≡ r.before) × (r.before < r.place)))
@@ -169,46 +158,46 @@ module _ (C e : ℕ) (s : St) (by : ℕ) (mine : View) (h : IsBoard C e by mine 
       (λ e. inl (
         e,
         is ∙ (ap (λ (q : ℕ). get_or s.words (index C q) 0) e
-            ∙ h.valid k r on (length (filled r.before r.place (body_of r))) (r.place, header_of r.message) (header_at r)
+            ∙ h.memory.valid k r on (length (filled r.before r.place (body_of r))) (r.place, header_of r.message) (header_at r)
             (subst (λ (q : ℕ). now < q + C) e lt)),
       ))
       (λ t. inr (
         t.0,
         t.1,
         is ∙ (ap (λ (q : ℕ). get_or s.words (index C q) 0) t.0
-            ∙ h.valid k r on 0 (r.before, padding_header (r.place - r.before)) (gap_at r t.1) (subst (λ (q : ℕ). now < q + C) t.0 lt)),
+            ∙ h.memory.valid k r on 0 (r.before, padding_header (r.place - r.before)) (gap_at r t.1) (subst (λ (q : ℕ). now < q + C) t.0 lt)),
       )) where_at
 
-  pub header_kept : v.stage ≡ Sure → (x i : ℕ) (cs : List (ℕ × (Unit {0}))) → i ≡ index C v.at → x ≡ get_or s.words i 0
-      → Holds C e (stepped s i (get_or s.words i 0) id cs (heard v i Sure x) keeps)
-  header_kept eq x i cs there is = let k = knows Sure eq in let t = k.2 in
+  pub header_keeps : v.stage ≡ Sure → (x i : ℕ) (cs : List (ℕ × (Unit {0}))) → i ≡ index C v.at → x ≡ get_or s.words i 0
+      → Holds C e (stepped s i (get_or s.words i 0) id cs (header_loaded v i Sure x) keeps)
+  header_keeps eq x i cs there is = let k = knows Sure eq in let t = k.2 in
       let is' : x ≡ get_or s.words (index C v.at) 0 = is ∙ ap (λ (j : ℕ). get_or s.words j 0) there in
-      looked (heard v i Sure x) (other_seat Sure eq (λ b. b)) (
+      looked (header_loaded v i Sure x) (other_seat Sure eq (λ b. b)) (
         k.0,
         record { before = k.1.before; climbs = k.1.climbs; past = k.1.past; fresh = k.1.fresh },
         (t.0, t.1, (t.2, λ lt. heard_right t.0 v.next t.1 v.at x t.2 is' lt)),
       )
-      (same_runs (heard v i Sure x) refl refl) refl (word_logged i x is) i cs
+      (same_runs (header_loaded v i Sure x) refl refl) refl (word_logged i x is) i cs
 
   -- The numbers in a header
   module _ (r : Record) (k : ℕ) (on : get_elem? mine.sent k ≡ some r) where
     pub entry : Follows C r.before r × (e ≤ r.before) × (end r ≤ end_of e mine.sent)
-    entry = chain_at C h.roomy h.whole e mine.sent h.chain k r on
+    entry = chain_at C h.lawful.roomy h.lawful.whole e mine.sent h.memory.chain k r on
 
     pub body_announced : body_len (header_of r.message) ≡ length r.message.body
-    body_announced = let a = announced_header C r.message h.narrow entry.0.lawful in omega arith
+    body_announced = let a = announced_header C r.message h.lawful.narrow entry.0.lawful in omega arith
 
     pub padding_announced : r.before < r.place → announced (padding_header (r.place - r.before)) ≡ r.place - r.before
-    padding_announced lt = let f = entry.0.fits in let n = lies_needed C r.before r.before r.place (end r) f h.roomy h.whole lt in let g = h.narrow in
+    padding_announced lt = let f = entry.0.fits in let n = lies_needed C r.before r.before r.place (end r) f h.lawful.roomy h.lawful.whole lt in let g = h.lawful.narrow in
         let sh = f.short in announced_padding (r.place - r.before) (omega arith)
 
   -- Behind a padding lies its record
-  pub behind_padding : (w : ℕ) → v.stage ≡ Padded w → (x i : ℕ) (cs : List (ℕ × (Unit {0}))) → i ≡ index C (v.at + announced w)
-      → x ≡ get_or s.words i 0 → Holds C e (stepped s i (get_or s.words i 0) id cs (heard v i (Padded w) x) keeps)
-  behind_padding w eq x i cs at_i is = let k = knows (Padded w) eq in let t = k.2 in let r : Record = t.0 in let c = t.2 in
-      let w' : View = heard v i (Padded w) x in let a = c.0 in let b = c.1 in
+  pub header_behind_keeps : (w : ℕ) → v.stage ≡ Padded w → (x i : ℕ) (cs : List (ℕ × (Unit {0}))) → i ≡ index C (v.at + announced w)
+      → x ≡ get_or s.words i 0 → Holds C e (stepped s i (get_or s.words i 0) id cs (header_loaded v i (Padded w) x) keeps)
+  header_behind_keeps w eq x i cs at_i is = let k = knows (Padded w) eq in let t = k.2 in let r : Record = t.0 in let c = t.2 in
+      let w' : View = header_loaded v i (Padded w) x in let a = c.0 in let b = c.1 in
       let there : v.at + announced w ≡ r.place = (let g = ap announced c.2 ∙ padding_announced r v.next t.1 c.1 in omega arith) in
-      let climbs = k.1.climbs in let on' = shown_has C e h.roomy h.whole s.words mine.sent mine.stage v.next r t.1 in
+      let climbs = k.1.climbs in let on' = shown_has C e h.lawful.roomy h.lawful.whole s.words mine.sent mine.stage v.next r t.1 in
       let is' : x ≡ get_or s.words (index C r.place) 0 = is ∙ ap (λ (j : ℕ). get_or s.words j 0) (at_i ∙ ap (index C) there) in
       looked w' (other_seat (Padded w) eq (λ b. b)) (
         k.0,
@@ -226,7 +215,7 @@ module _ (C e : ℕ) (s : St) (by : ℕ) (mine : View) (h : IsBoard C e by mine 
           t.1,
           (
             there,
-            λ lt. is' ∙ h.valid v.next r t.1 (length (filled r.before r.place (body_of r))) (r.place, header_of r.message) (header_at r)
+            λ lt. is' ∙ h.memory.valid v.next r t.1 (length (filled r.before r.place (body_of r))) (r.place, header_of r.message) (header_at r)
                 (subst (λ (q : ℕ). now < q + C) there lt),
           ),
         ),
@@ -239,17 +228,17 @@ module _ (C e : ℕ) (s : St) (by : ℕ) (mine : View) (h : IsBoard C e by mine 
       → (now < v.at + C → ws ≡ take (length ws) (body_of r)) → now < v.at + C → ws ++ x ∷ [] ≡ take (length (ws ++ x ∷ [])) (body_of r)
   word_right r k on there ws x room is sofar lt = let j : ℕ = length ws in let p : ℕ = r.place + 8 + 8 * j in
       let right : x ≡ get_or (body_of r) j 0 = is ∙ (ap (λ (q : ℕ). get_or s.words (index C (q + 8 + 8 * j)) 0) there
-      ∙ h.valid k r on (length (gap r.before r.place) + j) (p, get_or (body_of r) j 0) (word_at r j room) (let g : now < p + C = omega arith in
+      ∙ h.memory.valid k r on (length (gap r.before r.place) + j) (p, get_or (body_of r) j 0) (word_at r j room) (let g : now < p + C = omega arith in
       g)) in
       let longer : length (ws ++ x ∷ []) ≡ suc j = length-append ws (x ∷ []) ∙ (let g : j + 1 ≡ suc j = omega arith in g) in
       ap (λ (l : List ℕ). l ++ x ∷ []) (sofar lt) ∙ (ap (λ (y : ℕ). take j (body_of r) ++ y ∷ []) right
       ∙ (sym (take_next (body_of r) j room) ∙ ap (λ (m : ℕ). take m (body_of r)) (sym longer)))
 
   -- what a receiver is when it has loaded a word more
-  pub word_kept : (w : ℕ) (ws : List ℕ) → v.stage ≡ Reading w ws → length ws < word_count (body_len w) → (x i : ℕ) (cs : List (ℕ × (Unit {0})))
+  pub word_keeps : (w : ℕ) (ws : List ℕ) → v.stage ≡ Reading w ws → length ws < word_count (body_len w) → (x i : ℕ) (cs : List (ℕ × (Unit {0})))
       → i ≡ index C (v.at + 8 + 8 * length ws) → x ≡ get_or s.words i 0
       → Holds C e (stepped s i (get_or s.words i 0) id cs (record v { stage = Reading w (ws ++ x ∷ []); log = v.log ++ word_load v i x ∷ [] }) keeps)
-  word_kept w ws eq more x i cs at_i is = let k = knows (Reading w ws) eq in let m = k.2 in let r : Record = m.0 in
+  word_keeps w ws eq more x i cs at_i is = let k = knows (Reading w ws) eq in let m = k.2 in let r : Record = m.0 in
       let u : View = record v { stage = Reading w (ws ++ x ∷ []); log = v.log ++ word_load v i x ∷ [] } in
       let len : body_len w ≡ length r.message.body = ap body_len m.2.1 ∙ body_announced r v.next m.1 in
       let long = words_long (word_count (length r.message.body)) r.message.body in

@@ -14,7 +14,7 @@ use Rattle.ring_board.specs.declared.shared.view.Stage.{Stage}
 use Rattle.ring_board.specs.declared.shared.view.Stage.TheVariants.{Idle}
 use Rattle.ring_board.specs.Layout.{intent_index, tail_index, latest_index, board_words, IsUnnamed, IsBoardCapacity}
 use Rattle.ring_board.specs.Runs.{AreRuns}
-use Rattle.ring_board.specs.Rule.{Logged, Knows, Holds, opening_view}
+use Rattle.ring_board.specs.Rule.{IsSeat, Logged, Holds, opening_view}
 
 pub capacity_whole : (C : ℕ) → IsBoardCapacity C → C % 64 ≡ 0
 capacity_whole C h = let low = h.least in let b = capacity_blocks C (record { power = h.power; least = omega arith; most = h.most }) in omega arith
@@ -47,29 +47,28 @@ module _ (C e : ℕ) (roomy : 256 ≤ C) (narrow : C ≤ 2 ^ 24) (whole : C % 64
     0,
     opening_view C e,
     record {
-      wide = wide;
-      roomy = roomy;
-      narrow = narrow;
-      whole = whole;
-      aligned = aligned;
-      here = refl;
-      capacity = refl;
-      started = refl;
-      behind = refl;
-      chain = tt;
-      low = low;
-      intent_is = a;
-      tail_is = b;
-      latest_is = c;
-      unnamed = unnamed;
-      valid = λ k r g. absurd (some-ne-none r (sym g));
-      running = tt;
-      exact = zeros;
-      each_seat = one (λ j y. Knows C e 0 (opening_view C e) j y y.stage) refl;
-      each_log = one (λ j y. Logged C e [] Idle y.log) (no_log C e [] Idle);
-      each_heard = λ i j g. absurd (some-ne-none j (sym g));
-      each_copy = one (λ j y. AreRuns [] y.from y.copies) (no_copies [] e);
-      shares = refl;
+      lawful = record { roomy = roomy; narrow = narrow; whole = whole; aligned = aligned };
+      memory = record {
+        wide = wide;
+        chain = tt;
+        low = low;
+        intent_is = a;
+        tail_is = b;
+        latest_is = c;
+        unnamed = unnamed;
+        valid = λ k r g. absurd (some-ne-none r (sym g));
+        running = tt;
+        exact = zeros;
+      };
+      seated = record {
+        here = refl;
+        capacity = refl;
+        started = refl;
+        behind = refl;
+        each = one (IsSeat C e 0 (opening_view C e)) (record { knows = refl; copies = no_copies [] e; log = no_log C e [] Idle });
+        joined = λ i j g. absurd (some-ne-none j (sym g));
+        shares = refl;
+      };
     },
   )
     where

@@ -38,22 +38,23 @@ with_head : (C i : ℕ) (x z : ℕ × ℕ) (xs : List (ℕ × ℕ)) → (index C
 with_head C i x z xs h rest zero y e = subst (λ (u : ℕ × ℕ). index C u.0 ≡ i → u.0 ≤ z.0) (some-injective x y e) h
 with_head C i x z xs h rest (suc j) y e = rest j y e
 
+-- the newest of the rest is the newest of all, where the first is not above it
+newest_behind : (C : ℕ) (x z : ℕ × ℕ) (xs : List (ℕ × ℕ)) (i w : ℕ) → IsNewest C xs i w z → (index C x.0 ≡ i → x.0 ≤ z.0)
+    → IsNewest C (x ∷ xs) i w z
+newest_behind C x z xs i w h first = let at = h.stored in record {
+  stored = (suc at.0, at.1);
+  at_index = h.at_index;
+  word = h.word;
+  greatest = with_head C i x z xs first h.greatest;
+}
+
 chosen_on : (C : ℕ) (x : ℕ × ℕ) (xs : List (ℕ × ℕ)) (i w : ℕ) → Rising C (x ∷ xs) → Dec (index C x.0 ≡ i)
     → ((u : ℕ) → Chosen C xs i u (last_at C xs i u)) → Chosen C (x ∷ xs) i w (last_at C (x ∷ xs) i w)
 chosen_on C x xs i w r (yes is) ih = let same : cond (eqb (index C x.0) i) x.1 w ≡ x.1 = ap (λ (b : Bool). cond b x.1 w)
     (eq-eqb (index C x.0) i is) in
     subst (λ (u : ℕ). Chosen C (x ∷ xs) i w (last_at C xs i u)) (sym same) (⊎_elim
     (λ t. let h = t.1 in let a = h.stored in
-    inl (
-      t.0,
-      record {
-        stored = (suc a.0, a.1);
-        at_index = h.at_index;
-        word = h.word;
-        greatest = with_head C i x t.0 xs
-            (λ _. r.0 a.0 t.0 a.1 (h.at_index ∙ sym is)) h.greatest;
-      },
-    ))
+    inl (t.0, newest_behind C x t.0 xs i _ h (λ _. r.0 a.0 t.0 a.1 (h.at_index ∙ sym is))))
     (λ t. inl (
       x,
       record {
@@ -66,17 +67,7 @@ chosen_on C x xs i w r (yes is) ih = let same : cond (eqb (index C x.0) i) x.1 w
     )) (ih x.1))
 chosen_on C x xs i w r (no ne) ih = let same : cond (eqb (index C x.0) i) x.1 w ≡ w = ap (λ (b : Bool). cond b x.1 w) (ne_eqb (index C x.0) i ne) in
     subst (λ (u : ℕ). Chosen C (x ∷ xs) i w (last_at C xs i u)) (sym same) (⊎_elim
-    (λ t. let h = t.1 in let a = h.stored in
-    inl (
-      t.0,
-      record {
-        stored = (suc a.0, a.1);
-        at_index = h.at_index;
-        word = h.word;
-        greatest = with_head C i x t.0 xs
-            (λ is. absurd (ne is)) h.greatest;
-      },
-    ))
+    (λ t. inl (t.0, newest_behind C x t.0 xs i _ t.1 (λ is. absurd (ne is))))
     (λ t. inr (none_else C i x xs ne t.0, t.1)) (ih w))
 
 chosen : (C : ℕ) (xs : List (ℕ × ℕ)) (i w : ℕ) → Rising C xs → Chosen C xs i w (last_at C xs i w)
@@ -129,18 +120,18 @@ module _ (C : ℕ) (roomy : 256 ≤ C) (whole : C % 64 ≡ 0) where
 pub closed_as : (C e id : ℕ) (me : View) (ws : List ℕ) (xs : List (Unit {0})) → me.stage ≡ Idle → Final (Seen (Holds C e) id me) ws xs
     → (256 ≤ C) × (C % 64 ≡ 0) × IsClosed C e me.sent ws × AreAllRuns me.sent me.heard
 closed_as C e id me ws xs eq f = let s = f.0 in let h = owner C e s f.1.0 id me Idle (λ by mine k. k) f.1.1 eq in let is = f.2 in (
-  h.roomy,
-  h.whole,
+  h.lawful.roomy,
+  h.lawful.whole,
   subst (IsClosed C e me.sent) is (record {
-    places = h.chain;
-    words = λ i lt. subst (IsBoardWord C (stores_of me.sent) i) (sym (h.exact i lt ∙ ap (λ (st : Stage). last_at C (so_far me.sent st) i 0) eq))
-        (picture_is C h.roomy h.whole e me.sent h.chain i);
-    intent = h.intent_is ∙ ap (λ (st : Stage). intent e me.sent st) eq;
-    tail = h.tail_is;
-    latest = h.latest_is ∙ ap (λ (st : Stage). latest e me.sent st) eq;
-    unnamed = h.unnamed;
+    places = h.memory.chain;
+    words = λ i lt. subst (IsBoardWord C (stores_of me.sent) i) (sym (h.memory.exact i lt ∙ ap (λ (st : Stage). last_at C (so_far me.sent st) i 0) eq))
+        (picture_is C h.lawful.roomy h.lawful.whole e me.sent h.memory.chain i);
+    intent = h.memory.intent_is ∙ ap (λ (st : Stage). intent e me.sent st) eq;
+    tail = h.memory.tail_is;
+    latest = h.memory.latest_is ∙ ap (λ (st : Stage). latest e me.sent st) eq;
+    unnamed = h.memory.unnamed;
   }),
-  h.each_heard,
+  h.seated.joined,
 )
 
 pub closed_copy : (C e : ℕ) (sent : List Record) (ws ws' : List ℕ) → ((i : ℕ) → i < board_words C → get_or ws' i 0 ≡ get_or ws i 0)

@@ -1,10 +1,10 @@
 -- What stays for the other seats, when one of them steps.
-use Rattle.std.proofs.Common.{◌≡◌, ◌≢◌, ℕ, zero, suc, ◌+◌, ◌/◌, ◌%◌, ◌<◌, ◌≤◌, List, [], ◌∷◌, ◌++◌, length, get_or, set, sym, ap, ◌∙◌, subst, inl, inr, ⊎_elim, arith}
+use Rattle.std.proofs.Common.{◌≡◌, ◌≢◌, ℕ, zero, suc, ◌+◌, ◌%◌, ◌<◌, ◌≤◌, List, [], ◌∷◌, ◌++◌, length, set, refl, sym, ap, ◌∙◌, subst, inl, inr, ⊎_elim, arith}
 use mathlib.Core.Option.{some, some-injective, some-ne-none}
 use lib.ListN.{get_elem?}
 use Rattle.atomic_table.specs.Table.{State}
 use Rattle.atomic_table.proofs.Lists.{at_set, set_here, at_longer, at_last, at_snoc}
-use Rattle.ring_layout.specs.Places.{index, room, max_position}
+use Rattle.ring_layout.specs.Places.{room}
 use Rattle.ring_board.specs.declared.shared.view.Record.{Record}
 use Rattle.ring_board.specs.declared.shared.view.Taken.{Taken}
 use Rattle.ring_board.specs.declared.shared.view.View.{View}
@@ -12,10 +12,10 @@ use Rattle.ring_board.specs.declared.shared.view.Load.{Load}
 use Rattle.ring_board.specs.declared.shared.view.Load.TheVariants.{Word, Intent, Tail, Latest}
 use Rattle.ring_board.specs.declared.shared.view.Stage.{Stage}
 use Rattle.ring_board.specs.declared.shared.view.Stage.TheVariants.{Spent, Idle, Begun, Storing, Written, Shown, Resting, Sure, Headed, Padded, Again, Reading, Behind}
-use Rattle.ring_board.specs.Layout.{intent_index, tail_index, latest_index, board_words, IsUnnamed}
-use Rattle.ring_board.specs.Records.{end, Follows, Chain, end_of, stores, last_at}
+use Rattle.ring_board.specs.Records.{end, Follows, end_of, stores}
 use Rattle.ring_board.specs.Runs.{Neighbours, AreAllRuns, AreRuns}
-use Rattle.ring_board.specs.Rule.{intent, latest, shown, so_far, Running, Receives, Knows, total_shares, LoadOk, Logged, IsBoard, Holds}
+use Rattle.ring_board.specs.Rule.{intent, latest, shown, Receives, IsSeat, Knows, total_shares, LoadOk, Logged, IsMemory, IsBoard, Holds}
+use Rattle.ring_board.specs.Steps.{staged, sent_on}
 use Rattle.ring_board.proofs.PlaceLemmas.{end_snoc, last_snoc, lies_after, lies_cases, lies_whole}
 use Rattle.ring_board.proofs.StoreLemmas.{stores_where}
 
@@ -135,54 +135,55 @@ loads_sent C e sent r roomy whole f (Word i t w) h =
 abbrev pub St : Type 0
 St = State (Unit {0}) View
 
+-- views of one seat that differ in stage, place and list alone
+pub record AreAlike (v w : View) : Type 0 where
+  pub capacity : w.capacity ≡ v.capacity
+  pub start : w.start ≡ v.start
+  pub from : w.from ≡ v.from
+  pub copies : w.copies ≡ v.copies
+  pub shares : w.shares ≡ v.shares
+  pub log : w.log ≡ v.log
+  pub heard : w.heard ≡ v.heard
+
+pub staged_alike : (v : View) (st : Stage) → AreAlike v (staged v st)
+staged_alike v st = record { capacity = refl; start = refl; from = refl; copies = refl; shares = refl; log = refl; heard = refl }
+
+pub sent_alike : (v : View) (r : Record) → AreAlike v (sent_on v r)
+sent_alike v r = record { capacity = refl; start = refl; from = refl; copies = refl; shares = refl; log = refl; heard = refl }
+
 module _ (C e : ℕ) where
   -- the seat whose stage is one of the transmitter's is the transmitter's
   pub owner : (s : St) → Holds C e s → (id : ℕ) (me : View) (st : Stage) → ((by : ℕ) (mine : View) → Knows C e by mine id me st → id ≡ by)
       → get_elem? s.views id ≡ some me → me.stage ≡ st → IsBoard C e id me s
-  owner s b id me st is at eq = let r = b.2 in let k = is b.0 b.1 (subst (Knows C e b.0 b.1 id me) eq (r.each_seat id me at)) in
-      let same : b.1 ≡ me = some-injective b.1 me (sym r.here ∙ (ap (get_elem? s.views) (sym k) ∙ at)) in
+  owner s b id me st is at eq = let r = b.2 in let k = is b.0 b.1 (subst (Knows C e b.0 b.1 id me) eq (r.seated.each id me at).knows) in
+      let same : b.1 ≡ me = some-injective b.1 me (sym r.seated.here ∙ (ap (get_elem? s.views) (sym k) ∙ at)) in
       subst (λ (t : ℕ × View). IsBoard C e t.0 t.1 s) (λ i. (sym k i, same i)) r
 
   module _ (s : St) (id : ℕ) (me w : View) (h : IsBoard C e id me s) (ws : List ℕ) where
-    -- the rule after a step of the transmitter, clause by clause
-    pub rebuilt : length ws ≡ board_words C → w.capacity ≡ C → w.start ≡ e → w.at ≡ end_of e w.sent → Chain C e w.sent
-        → intent e w.sent w.stage ≤ max_position
-        → get_or ws (intent_index C) 0 ≡ intent e w.sent w.stage → get_or ws (tail_index C) 0 ≡ end_of e w.sent
-        → get_or ws (latest_index C) 0 ≡ latest e w.sent w.stage
-        → ((i : ℕ) → IsUnnamed C i → get_or ws i 0 ≡ 0)
-        → ((k : ℕ) (r : Record) → get_elem? w.sent k ≡ some r → (j : ℕ) (x : ℕ × ℕ) → get_elem? (stores r) j ≡ some x
-        → intent e w.sent w.stage < x.0 + C → get_or ws (index C x.0) 0 ≡ x.1)
-        → Running C (end_of e w.sent) ws w.stage → ((i : ℕ) → i < C / 8 → get_or ws i 0 ≡ last_at C (so_far w.sent w.stage) i 0)
+    -- the rule after a step of the transmitter
+    pub rebuilt : IsMemory C e w.sent w.stage ws → w.at ≡ end_of e w.sent
         → Knows C e id w id w w.stage → ((j : ℕ) (v : View) → Knows C e id me j v v.stage → Knows C e id w j v v.stage)
-        → ((v : View) → AreRuns me.sent v.from v.copies → AreRuns w.sent v.from v.copies) → w.from ≡ me.from → w.copies ≡ me.copies
-        → w.shares ≡ me.shares → ((l : Load) → LoadOk C e me.sent me.stage l → LoadOk C e w.sent w.stage l) → w.log ≡ me.log → w.heard ≡ me.heard
+        → ((v : View) → AreRuns me.sent v.from v.copies → AreRuns w.sent v.from v.copies)
+        → ((l : Load) → LoadOk C e me.sent me.stage l → LoadOk C e w.sent w.stage l) → AreAlike me w
         → IsBoard C e id w record { words = ws; homes = s.homes; views = set s.views id w }
-    rebuilt wide capacity started behind chain low i t l unnamed valid running exact mine others runs from copies shares logs same_log same_heard = record {
-      wide = wide;
-      roomy = h.roomy;
-      narrow = h.narrow;
-      whole = h.whole;
-      aligned = h.aligned;
-      here = set_here s.views id w (in_list s.views id me h.here);
-      capacity = capacity;
-      started = started;
-      behind = behind;
-      chain = chain;
-      low = low;
-      intent_is = i;
-      tail_is = t;
-      latest_is = l;
-      unnamed = unnamed;
-      valid = valid;
-      running = running;
-      exact = exact;
-      each_seat = seats_stay (λ j v. Knows C e id w j v v.stage) s.views id w mine (λ j v _ at. others j v (h.each_seat j v at));
-      each_copy = seats_stay (λ j v. AreRuns w.sent v.from v.copies) s.views id w
-          (subst (λ (x : ℕ × List Taken). AreRuns w.sent x.0 x.1) (λ k. (sym from k, sym copies k)) (runs me (h.each_copy id me h.here)))
-          (λ j v _ at. runs v (h.each_copy j v at));
-      each_heard = subst (AreAllRuns w.sent) (sym same_heard) (λ i j on. runs record me { from = j.from; copies = j.copies } (h.each_heard i j on));
-      each_log = seats_stay (λ j v. Logged C e w.sent w.stage v.log) s.views id w
-          (subst (Logged C e w.sent w.stage) (sym same_log) (λ i l on. logs l (h.each_log id me h.here i l on)))
-          (λ j v _ at i l on. logs l (h.each_log j v at i l on));
-      shares = let a = total_set s.views id me w h.here in let b = h.shares in omega arith;
+    rebuilt memory behind mine others runs loads alike = let seats = h.seated in let here = seats.here in record {
+      lawful = h.lawful;
+      memory = memory;
+      seated = record {
+        here = set_here s.views id w (in_list s.views id me here);
+        capacity = alike.capacity ∙ seats.capacity;
+        started = alike.start ∙ seats.started;
+        behind = behind;
+        each = seats_stay (IsSeat C e id w) s.views id w
+            (let a = seats.each id me here in record {
+              knows = mine;
+              copies = subst (λ (x : ℕ × List Taken). AreRuns w.sent x.0 x.1) (λ k. (sym alike.from k, sym alike.copies k)) (runs me a.copies);
+              log = subst (Logged C e w.sent w.stage) (sym alike.log) (λ i l on. loads l (a.log i l on));
+            })
+            (λ j v _ at. let a = seats.each j v at in
+            record { knows = others j v a.knows; copies = runs v a.copies; log = λ i l on. loads l (a.log i l on) });
+        joined = subst (AreAllRuns w.sent) (sym alike.heard)
+            (λ i j on. runs record me { from = j.from; copies = j.copies } (seats.joined i j on));
+        shares = let a = total_set s.views id me w here in let b = seats.shares in let c = alike.shares in omega arith;
+      };
     }

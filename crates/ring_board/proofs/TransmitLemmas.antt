@@ -1,9 +1,9 @@
 -- Each step of the transmitter keeps the rule.
 use Rattle.std.proofs.Common.{◌⊎◌, ◌≡◌, ◌≢◌, ℕ, ◌+◌, ◌-◌, ◌*◌, ◌/◌, ◌%◌, ◌^◌, ◌<◌, ◌≤◌, cond, ltb, Bool, List, [], ◌∷◌, ◌++◌, length, get_or, set, refl, sym, ap, ◌∙◌, subst, ⊎_elim, arith, length-set, length-append, get_or-set_other, get_or-set_same, append_assoc, inl, inr}
 use Rattle.std.proofs.lemmas.Bool.{cond_both, ltb-true, lt-ltb}
-use mathlib.Core.Option.{none, some, some-ne-none}
+use mathlib.Core.Option.{some, some-ne-none}
 use lib.ListN.{get_elem?}
-use Rattle.atomic_table.specs.Table.{step, keeps, stepped, Allows}
+use Rattle.atomic_table.specs.Table.{keeps, stepped, Allows}
 use Rattle.atomic_table.proofs.Lists.{at_longer, at_snoc}
 use Rattle.ring_layout.specs.declared.message.Message.{Message}
 use Rattle.ring_layout.specs.History.{IsMessage, span}
@@ -17,11 +17,11 @@ use Rattle.ring_board.specs.declared.shared.view.Stage.TheVariants.{Idle, Begun,
 use Rattle.ring_board.specs.Records.{end, Lies, end_of, last_of, placed_words, gap, filled, stores, stores_of, last_at, words_of, header_of, message_in}
 use Rattle.ring_board.specs.Layout.{IsUnnamed}
 use Rattle.ring_board.specs.Rule.{LoadOk, intent, latest, shown, so_far, Stand, Running, Receives, Knows, IsBoard, Holds}
-use Rattle.ring_board.specs.Steps.{Sat, staged, sent_on, place_before, draft, started, with_words, after_padding, after_words, written, after_header, after_latest, after_tail, Begins, Pads, PutsWord, PutsHeader, Shows, Sends}
+use Rattle.ring_board.specs.Steps.{Sat, staged, sent_on, place_before, draft, after_intent, with_words, after_padding, after_words, written, after_header, after_latest, after_tail, StoresIntent, StoresPadding, StoresWord, StoresHeader, StoresLatest, StoresTail}
 use Rattle.ring_board.proofs.PlaceLemmas.{lies_after, lies_near, lies_whole, a_lap_on, apart, index_below, chain_at, chain_snoc, end_snoc, last_snoc, last_low}
 use Rattle.ring_board.proofs.StoreLemmas.{append_nil, stores_one, placed_snoc, stores_of_snoc, filled_where, stores_where}
 use Rattle.ring_board.proofs.ByteLemmas.{message_back}
-use Rattle.ring_board.proofs.SeatLemmas.{St, runs_more, receives_more, sent_more, loads_rise, loads_sent, knows_moves, owner, rebuilt}
+use Rattle.ring_board.proofs.SeatLemmas.{St, runs_more, receives_more, sent_more, loads_rise, loads_sent, knows_moves, owner, staged_alike, sent_alike, rebuilt}
 
 -- one more store, apart from those
 stand_on : (C : ℕ) (ws : List ℕ) (xs : List (ℕ × ℕ)) (p w : ℕ) → index C p < length ws
@@ -47,51 +47,57 @@ module _ (C e : ℕ) where
 
     -- the words without a name stay
     unnamed_kept : (j x : ℕ) → j < C / 8 + 3 → (i : ℕ) → IsUnnamed C i → get_or (set s.words j x) i 0 ≡ 0
-    unnamed_kept j x few i is = get_or-set_other s.words j i x 0 (λ e. let behind = is.0 in omega arith) ∙ h.unnamed i is
+    unnamed_kept j x few i is = get_or-set_other s.words j i x 0 (λ e. let behind = is.0 in omega arith) ∙ h.memory.unnamed i is
 
     -- a store into the buffer
-    stores_in : (st : Stage) (p x : ℕ) → p % 8 ≡ 0 → end_of e me.sent ≤ p → p < intent e me.sent me.stage
+    word_stored_at : (st : Stage) (p x : ℕ) → p % 8 ≡ 0 → end_of e me.sent ≤ p → p < intent e me.sent me.stage
         → intent e me.sent st ≡ intent e me.sent me.stage → latest e me.sent st ≡ latest e me.sent me.stage
         → shown me.sent st ≡ shown me.sent me.stage → so_far me.sent st ≡ so_far me.sent me.stage ++ (p, x) ∷ []
         → Running C (end_of e me.sent) (set s.words (index C p) x) st
         → Knows C e id (staged me st) id (staged me st) st → Kept (index C p) x (staged me st)
-    stores_in st p x p8 after below i l sh grows running mine = let wide = h.wide in let roomy = h.roomy in let whole = h.whole in
+    word_stored_at st p x p8 after below i l sh grows running mine = let wide = h.memory.wide in let roomy = h.lawful.roomy in let whole = h.lawful.whole in
         let lt : index C p < C / 8 = index_below C p roomy whole in
         let out : (c : ℕ) → C / 8 ≤ c → get_or (set s.words (index C p) x) c 0 ≡ get_or s.words c 0 = λ c le. get_or-set_other s.words
         (index C p) c x 0 (λ e. omega arith) in
-        rebuilt C e s id me (staged me st) h (set s.words (index C p) x)
-        (length-set s.words (index C p) x ∙ wide) h.capacity h.started h.behind h.chain (subst (λ (y : ℕ). y ≤ max_position) (sym i) h.low)
-        (out (C / 8) (omega arith) ∙ (h.intent_is ∙ sym i)) (out (C / 8 + 1) (omega arith) ∙ h.tail_is)
-        (out (C / 8 + 2) (omega arith) ∙ (h.latest_is ∙ sym l)) (unnamed_kept (index C p) x (omega arith))
-        (λ k r at j y on now. let c = chain_at C roomy whole e me.sent h.chain k r at in let f = c.0.fits in
-        let b = stores_where r j y f.begins_whole (lies_whole C r.before r.before r.place (end r) f roomy whole)
-        (lies_after C r.before r.before r.place (end r) f roomy whole) on in
-        let c2 = c.2 in let b1 = b.1 in
-        let now' : intent e me.sent me.stage < y.0 + C = subst (λ (u : ℕ). u < y.0 + C) i now in
-        get_or-set_other s.words (index C p) (index C y.0) x 0 (λ same. let far = a_lap_on y.0 p C roomy whole b.2 p8 (omega arith) same in
-        omega arith) ∙ h.valid k r at j y on now')
-        running (λ c lt. stores_one C s.words (so_far me.sent me.stage) p x roomy whole (omega arith) h.exact c lt
-        ∙ ap (λ (l : List (ℕ × ℕ)). last_at C l c 0) (sym grows)) mine
+        rebuilt C e s id me (staged me st) h (set s.words (index C p) x) (record {
+          wide = length-set s.words (index C p) x ∙ wide;
+          chain = h.memory.chain;
+          low = subst (λ (y : ℕ). y ≤ max_position) (sym i) h.memory.low;
+          intent_is = out (C / 8) (omega arith) ∙ (h.memory.intent_is ∙ sym i);
+          tail_is = out (C / 8 + 1) (omega arith) ∙ h.memory.tail_is;
+          latest_is = out (C / 8 + 2) (omega arith) ∙ (h.memory.latest_is ∙ sym l);
+          unnamed = unnamed_kept (index C p) x (omega arith);
+          valid = λ k r at j y on now. let c = chain_at C roomy whole e me.sent h.memory.chain k r at in let f = c.0.fits in
+              let b = stores_where r j y f.begins_whole (lies_whole C r.before r.before r.place (end r) f roomy whole)
+              (lies_after C r.before r.before r.place (end r) f roomy whole) on in
+              let c2 = c.2 in let b1 = b.1 in
+              let now' : intent e me.sent me.stage < y.0 + C = subst (λ (u : ℕ). u < y.0 + C) i now in
+              get_or-set_other s.words (index C p) (index C y.0) x 0 (λ same. let far = a_lap_on y.0 p C roomy whole b.2 p8 (omega arith) same in
+              omega arith) ∙ h.memory.valid k r at j y on now';
+          running = running;
+          exact = λ c lt. stores_one C s.words (so_far me.sent me.stage) p x roomy whole (omega arith) h.memory.exact c lt
+              ∙ ap (λ (l : List (ℕ × ℕ)). last_at C l c 0) (sym grows);
+        }) h.seated.behind mine
         (λ j v. knows_moves C e id me (staged me st) (λ u. subst (λ (l : List Record). Receives e me.sent l u) (sym sh)) (λ k r at. at)
         (subst (λ (y : ℕ). intent e me.sent me.stage ≤ y) (sym i) (omega arith)) j v v.stage)
-        (λ v u. u) refl refl refl (loads_rise C e me.sent me.stage st (subst (λ (y : ℕ). intent e me.sent me.stage ≤ y) (sym i) (omega arith))
-        (subst (λ (y : ℕ). latest e me.sent me.stage ≤ y) (sym l) (omega arith))) refl refl
+        (λ v u. u) (loads_rise C e me.sent me.stage st (subst (λ (y : ℕ). intent e me.sent me.stage ≤ y) (sym i) (omega arith))
+        (subst (λ (y : ℕ). latest e me.sent me.stage ≤ y) (sym l) (omega arith))) (staged_alike me st)
 
     module _ (d : Draft) (eq : me.stage ≡ Storing d) where
       ran : Lies C (end_of e me.sent) d.before d.place d.end × (d.place + 8 + 8 * length d.words ≤ d.end) × Stand C s.words
           (filled d.before d.place d.words)
-      ran = subst (Running C (end_of e me.sent) s.words) eq h.running
+      ran = subst (Running C (end_of e me.sent) s.words) eq h.memory.running
 
       abbrev drawn : List (ℕ × ℕ)
       drawn = filled d.before d.place d.words
 
       p_whole : d.place % 8 ≡ 0
-      p_whole = lies_whole C (end_of e me.sent) d.before d.place d.end ran.0 h.roomy h.whole
+      p_whole = lies_whole C (end_of e me.sent) d.before d.place d.end ran.0 h.lawful.roomy h.lawful.whole
 
       -- a position of the record that is not yet stored is apart from what is
       drawn_apart : (p : ℕ) → p % 8 ≡ 0 → d.place ≤ p → p < d.end → (p ≡ d.place) ⊎ (d.place + 8 + 8 * length d.words ≤ p) → (j : ℕ) (y : ℕ × ℕ)
           → get_elem? drawn j ≡ some y → index C y.0 ≢ index C p
-      drawn_apart p p8 from to fresh j y on = let l = ran.0 in let roomy = h.roomy in let whole = h.whole in
+      drawn_apart p p8 from to fresh j y on = let l = ran.0 in let roomy = h.lawful.roomy in let whole = h.lawful.whole in
           let a = lies_after C (end_of e me.sent) d.before d.place d.end l roomy whole in
           let near = lies_near C (end_of e me.sent) d.before d.place d.end l roomy whole in let so = ran.1 in
           let w = filled_where d.before d.place d.words j y l.begins_whole p_whole on in
@@ -101,16 +107,16 @@ module _ (C e : ℕ) where
           ⊎_elim (λ (is : p ≡ d.place). λ same. apart p y.0 C roomy whole p8 w.1 (omega arith) (omega arith) (sym same))
           (λ (past : d.place + 8 + 8 * length d.words ≤ p). apart y.0 p C roomy whole w.1 p8 (omega arith) (omega arith)) fresh) w.0
 
-      word_in : (x : ℕ) → d.place + 8 + 8 * length d.words < d.end
+      word_stored : (x : ℕ) → d.place + 8 + 8 * length d.words < d.end
           → Kept (index C (d.place + 8 + 8 * length d.words)) x (staged me (Storing (with_words d (x ∷ []))))
-      word_in x room = let p : ℕ = d.place + 8 + 8 * length d.words in let l = ran.0 in let roomy = h.roomy in let whole = h.whole in
+      word_stored x room = let p : ℕ = d.place + 8 + 8 * length d.words in let l = ran.0 in let roomy = h.lawful.roomy in let whole = h.lawful.whole in
           let a = lies_after C (end_of e me.sent) d.before d.place d.end l roomy whole in let b = l.begins in
-          let p8 = p_whole in let z8 = l.ends_whole in let wide = h.wide in let lt : index C p < C / 8 = index_below C p roomy whole in
+          let p8 = p_whole in let z8 = l.ends_whole in let wide = h.memory.wide in let lt : index C p < C / 8 = index_below C p roomy whole in
           let d' : Draft = with_words d (x ∷ []) in
           let grow : filled d.before d.place d'.words ≡ drawn ++ (p, x) ∷ [] = ap (λ m. gap d.before d.place ++ m)
           (placed_snoc (d.place + 8) d.words x) ∙ sym (append_assoc (gap d.before d.place) (placed_words (d.place + 8) d.words) ((p, x) ∷ [])) in
           let long : length d'.words ≡ length d.words + 1 = length-append d.words (x ∷ []) in
-          stores_in (Storing d') p x (omega arith) (omega arith) (subst (λ (u : Stage). p < intent e me.sent u) (sym eq) room)
+          word_stored_at (Storing d') p x (omega arith) (omega arith) (subst (λ (u : Stage). p < intent e me.sent u) (sym eq) room)
           (ap (intent e me.sent) (sym eq)) (ap (latest e me.sent) (sym eq)) (ap (shown me.sent) (sym eq))
           (ap (λ m. stores_of me.sent ++ m) grow ∙ (sym (append_assoc (stores_of me.sent) drawn ((p, x) ∷ []))
           ∙ ap (λ (u : Stage). so_far me.sent u ++ (p, x) ∷ []) (sym eq))) (
@@ -123,13 +129,13 @@ module _ (C e : ℕ) where
       abbrev record_of : Message → Record
       record_of m = record { before = d.before; place = d.place; message = m }
 
-      header_in : (m : Message) → IsMessage C m → words_of m.body ≡ d.words → d.place + span (length m.body) ≡ d.end
+      header_stored : (m : Message) → IsMessage C m → words_of m.body ≡ d.words → d.place + span (length m.body) ≡ d.end
           → Kept (index C d.place) (header_of m) (staged me (Written (record_of m)))
-      header_in m lawful is full = let p : ℕ = d.place in let x : ℕ = header_of m in let r : Record = record_of m in let l = ran.0 in
-          let roomy = h.roomy in let whole = h.whole in let a = lies_after C (end_of e me.sent) d.before d.place d.end l roomy whole in
-          let b = l.begins in let so = l.some_room in let wide = h.wide in let lt : index C p < C / 8 = index_below C p roomy whole in
+      header_stored m lawful is full = let p : ℕ = d.place in let x : ℕ = header_of m in let r : Record = record_of m in let l = ran.0 in
+          let roomy = h.lawful.roomy in let whole = h.lawful.whole in let a = lies_after C (end_of e me.sent) d.before d.place d.end l roomy whole in
+          let b = l.begins in let so = l.some_room in let wide = h.memory.wide in let lt : index C p < C / 8 = index_below C p roomy whole in
           let same : filled d.before d.place (words_of m.body) ≡ drawn = ap (filled d.before d.place) is in
-          stores_in (Written r) p x p_whole (omega arith) (subst (λ (u : Stage). p < intent e me.sent u) (sym eq) (omega arith))
+          word_stored_at (Written r) p x p_whole (omega arith) (subst (λ (u : Stage). p < intent e me.sent u) (sym eq) (omega arith))
           (full ∙ ap (intent e me.sent) (sym eq)) (ap (latest e me.sent) (sym eq)) (ap (shown me.sent) (sym eq))
           (ap (λ m. stores_of me.sent ++ (m ++ (p, x) ∷ [])) same
           ∙ (sym (append_assoc (stores_of me.sent) drawn ((p, x) ∷ [])) ∙ ap (λ (u : Stage). so_far me.sent u ++ (p, x) ∷ []) (sym eq))) (
@@ -138,14 +144,14 @@ module _ (C e : ℕ) where
                 (stand_on C s.words drawn p x (omega arith) (drawn_apart p p_whole (omega arith) (omega arith) (inl refl)) ran.2),
           ) refl
 
-    pad_in : (d : Draft) → me.stage ≡ Begun d → Kept (index C d.before) (padding_header (d.place - d.before)) (staged me (Storing d))
-    pad_in d eq = let run = subst (Running C (end_of e me.sent) s.words) eq h.running in let p : ℕ = d.before in
-        let x : ℕ = padding_header (d.place - d.before) in let l = run.0 in let lt0 = run.1 in let roomy = h.roomy in let whole = h.whole in
-        let b = l.begins in let so = l.some_room in let wide = h.wide in let lt : index C p < C / 8 = index_below C p roomy whole in
+    padding_stored : (d : Draft) → me.stage ≡ Begun d → Kept (index C d.before) (padding_header (d.place - d.before)) (staged me (Storing d))
+    padding_stored d eq = let run = subst (Running C (end_of e me.sent) s.words) eq h.memory.running in let p : ℕ = d.before in
+        let x : ℕ = padding_header (d.place - d.before) in let l = run.0 in let lt0 = run.1 in let roomy = h.lawful.roomy in let whole = h.lawful.whole in
+        let b = l.begins in let so = l.some_room in let wide = h.memory.wide in let lt : index C p < C / 8 = index_below C p roomy whole in
         let none = ap length run.2 in
         let is : filled d.before d.place d.words ≡ (p, x) ∷ [] = ap (λ (c : Bool). cond c ((p, x) ∷ []) [] ++ placed_words (d.place + 8) d.words)
         (lt-ltb d.before d.place lt0) ∙ ap (λ (ws : List ℕ). (p, x) ∷ placed_words (d.place + 8) ws) run.2 in
-        stores_in (Storing d) p x l.begins_whole (omega arith) (subst (λ (u : Stage). p < intent e me.sent u) (sym eq) (omega arith))
+        word_stored_at (Storing d) p x l.begins_whole (omega arith) (subst (λ (u : Stage). p < intent e me.sent u) (sym eq) (omega arith))
         (ap (intent e me.sent) (sym eq)) (ap (latest e me.sent) (sym eq)) (ap (shown me.sent) (sym eq))
         (ap (λ m. stores_of me.sent ++ m) is ∙ ap (λ (u : Stage). so_far me.sent u ++ (p, x) ∷ []) (sym eq)) (
           l,
@@ -163,82 +169,101 @@ module _ (C e : ℕ) where
       outer c ne = get_or-set_other s.words (C / 8 + k) (C / 8 + c) x 0 (λ e. ne (omega arith))
 
       here : k < 3 → get_or (set s.words (C / 8 + k) x) (C / 8 + k) 0 ≡ x
-      here lt = let wide = h.wide in get_or-set_same s.words (C / 8 + k) x 0 (omega arith)
+      here lt = let wide = h.memory.wide in get_or-set_same s.words (C / 8 + k) x 0 (omega arith)
 
       outer_0 : k ≢ 0 → get_or (set s.words (C / 8 + k) x) (C / 8) 0 ≡ get_or s.words (C / 8) 0
       outer_0 ne = get_or-set_other s.words (C / 8 + k) (C / 8) x 0 (λ e. ne (omega arith))
 
-    intent_in : (st : Stage) (z : ℕ) → me.stage ≡ Idle → z ≤ max_position → end_of e me.sent ≤ z → intent e me.sent st ≡ z
+    intent_stored_as : (st : Stage) (z : ℕ) → me.stage ≡ Idle → z ≤ max_position → end_of e me.sent ≤ z → intent e me.sent st ≡ z
         → latest e me.sent st ≡ last_of e me.sent → shown me.sent st ≡ me.sent → so_far me.sent st ≡ stores_of me.sent
         → Running C (end_of e me.sent) (set s.words (C / 8 + 0) z) st → Knows C e id (staged me st) id (staged me st) st
         → Kept (C / 8 + 0) z (staged me st)
-    intent_in st z eq low later i l sh grows running mine = let roomy = h.roomy in let whole = h.whole in
+    intent_stored_as st z eq low later i l sh grows running mine = let roomy = h.lawful.roomy in let whole = h.lawful.whole in
         let ws : List ℕ = set s.words (C / 8 + 0) z in
         let risen : intent e me.sent me.stage ≤ intent e me.sent st = subst (λ (y : ℕ). intent e me.sent me.stage ≤ y) (sym i)
         (subst (λ (u : Stage). intent e me.sent u ≤ z) (sym eq) later) in
-        rebuilt C e s id me (staged me st) h ws (length-set s.words (C / 8 + 0) z ∙ h.wide) h.capacity h.started h.behind h.chain
-        (subst (λ (y : ℕ). y ≤ max_position) (sym i) low)
-        (ap (λ (c : ℕ). get_or ws c 0) (let g : C / 8 ≡ C / 8 + 0 = omega arith in
-        g) ∙ (here 0 z (omega arith) ∙ sym i)) (outer 0 z 1 (λ e. omega arith) ∙ h.tail_is)
-        (outer 0 z 2 (λ e. omega arith) ∙ (h.latest_is ∙ (ap (latest e me.sent) eq ∙ sym l))) (unnamed_kept (C / 8 + 0) z (omega arith))
-        (λ k r at j y on now. let now' : z < y.0 + C = subst (λ (u : ℕ). u < y.0 + C) i now in
-        inner 0 z (index C y.0) (index_below C y.0 roomy whole)
-        ∙ h.valid k r at j y on (subst (λ (u : Stage). intent e me.sent u < y.0 + C) (sym eq) (omega arith)))
-        running (λ c lt. inner 0 z c lt ∙ (h.exact c lt ∙ ap (λ (l : List (ℕ × ℕ)). last_at C l c 0) (ap (so_far me.sent) eq ∙ sym grows))) mine
+        rebuilt C e s id me (staged me st) h ws (record {
+          wide = length-set s.words (C / 8 + 0) z ∙ h.memory.wide;
+          chain = h.memory.chain;
+          low = subst (λ (y : ℕ). y ≤ max_position) (sym i) low;
+          intent_is = ap (λ (c : ℕ). get_or ws c 0) (let g : C / 8 ≡ C / 8 + 0 = omega arith in g) ∙ (here 0 z (omega arith) ∙ sym i);
+          tail_is = outer 0 z 1 (λ e. omega arith) ∙ h.memory.tail_is;
+          latest_is = outer 0 z 2 (λ e. omega arith) ∙ (h.memory.latest_is ∙ (ap (latest e me.sent) eq ∙ sym l));
+          unnamed = unnamed_kept (C / 8 + 0) z (omega arith);
+          valid = λ k r at j y on now. let now' : z < y.0 + C = subst (λ (u : ℕ). u < y.0 + C) i now in
+              inner 0 z (index C y.0) (index_below C y.0 roomy whole)
+              ∙ h.memory.valid k r at j y on (subst (λ (u : Stage). intent e me.sent u < y.0 + C) (sym eq) (omega arith));
+          running = running;
+          exact = λ c lt. inner 0 z c lt
+              ∙ (h.memory.exact c lt ∙ ap (λ (l : List (ℕ × ℕ)). last_at C l c 0) (ap (so_far me.sent) eq ∙ sym grows));
+        }) h.seated.behind mine
         (λ j v. knows_moves C e id me (staged me st) (λ u. subst (λ (l : List Record). Receives e me.sent l u) (ap (shown me.sent) eq ∙ sym sh))
         (λ k r at. at) risen j v v.stage)
-        (λ v u. u) refl refl refl (loads_rise C e me.sent me.stage st risen (let same = ap (latest e me.sent) eq in omega arith)) refl refl
+        (λ v u. u) (loads_rise C e me.sent me.stage st risen (let same = ap (latest e me.sent) eq in omega arith)) (staged_alike me st)
 
-    begins_in : (z : ℕ) → me.stage ≡ Idle → z ≤ max_position → Lies C (end_of e me.sent) me.at (place_before me.capacity me.at z) z
-        → Kept (C / 8 + 0) z (started me z)
-    begins_in z eq low l = let p : ℕ = place_before me.capacity me.at z in let d : Draft = draft me.at p z [] in let roomy = h.roomy in
-        let a = lies_after C (end_of e me.sent) me.at p z l roomy h.whole in
+    intent_stored : (z : ℕ) → me.stage ≡ Idle → z ≤ max_position → Lies C (end_of e me.sent) me.at (place_before me.capacity me.at z) z
+        → Kept (C / 8 + 0) z (after_intent me z)
+    intent_stored z eq low l = let p : ℕ = place_before me.capacity me.at z in let d : Draft = draft me.at p z [] in let roomy = h.lawful.roomy in
+        let a = lies_after C (end_of e me.sent) me.at p z l roomy h.lawful.whole in
         let b = l.begins in let so = l.some_room in let later : end_of e me.sent ≤ z = omega arith in
         cond_both (ltb me.at p) (Begun d) (Storing d) (λ (st : Stage). Kept (C / 8 + 0) z (staged me st))
-        (λ t. intent_in (Begun d) z eq low later refl refl refl refl (l, ltb-true me.at p t, refl) refl)
+        (λ t. intent_stored_as (Begun d) z eq low later refl refl refl refl (l, ltb-true me.at p t, refl) refl)
         (λ f. let none : filled me.at p [] ≡ [] = ap (λ (c : Bool). cond c ((me.at, padding_header (p - me.at)) ∷ []) [] ++ []) f in
-        intent_in (Storing d) z eq low later refl refl refl (ap (λ m. stores_of me.sent ++ m) none ∙ append_nil (stores_of me.sent))
+        intent_stored_as (Storing d) z eq low later refl refl refl (ap (λ m. stores_of me.sent ++ m) none ∙ append_nil (stores_of me.sent))
         (l, omega arith, subst (Stand C (set s.words (C / 8 + 0) z)) (sym none) (λ j y on. absurd (some-ne-none y (sym on)))) refl)
 
-    shows_in : (r : Record) → me.stage ≡ Written r → Kept (C / 8 + 2) r.place (staged me (Shown r))
-    shows_in r eq = let run = subst (Running C (end_of e me.sent) s.words) eq h.running in let x : ℕ = r.place in
-        let ws : List ℕ = set s.words (C / 8 + 2) x in let roomy = h.roomy in let whole = h.whole in
+    latest_stored : (r : Record) → me.stage ≡ Written r → Kept (C / 8 + 2) r.place (staged me (Shown r))
+    latest_stored r eq = let run = subst (Running C (end_of e me.sent) s.words) eq h.memory.running in let x : ℕ = r.place in
+        let ws : List ℕ = set s.words (C / 8 + 2) x in let roomy = h.lawful.roomy in let whole = h.lawful.whole in
         let same : intent e me.sent me.stage ≡ end r = ap (intent e me.sent) eq in
-        rebuilt C e s id me (staged me (Shown r)) h ws (length-set s.words (C / 8 + 2) x ∙ h.wide) h.capacity h.started h.behind h.chain
-        (subst (λ (u : ℕ). u ≤ max_position) same h.low)
-        (outer_0 2 x (λ e. omega arith) ∙ (h.intent_is ∙ same)) (outer 2 x 1 (λ e. omega arith) ∙ h.tail_is) (here 2 x (omega arith)) (unnamed_kept (C / 8 + 2) x (omega arith))
-        (λ k q at j y on now. inner 2 x (index C y.0) (index_below C y.0 roomy whole)
-        ∙ h.valid k q at j y on (subst (λ (u : ℕ). u < y.0 + C) (sym same) now))
-        (run.0, stand_kept C roomy whole s.words ws (inner 2 x) (stores r) run.1)
-        (λ c lt. inner 2 x c lt ∙ (h.exact c lt ∙ ap (λ (u : Stage). last_at C (so_far me.sent u) c 0) eq)) refl
-        (λ j v. knows_moves C e id me (staged me (Shown r)) (λ u k. receives_more C e me.sent r roomy whole h.aligned run.0 u
+        rebuilt C e s id me (staged me (Shown r)) h ws (record {
+          wide = length-set s.words (C / 8 + 2) x ∙ h.memory.wide;
+          chain = h.memory.chain;
+          low = subst (λ (u : ℕ). u ≤ max_position) same h.memory.low;
+          intent_is = outer_0 2 x (λ e. omega arith) ∙ (h.memory.intent_is ∙ same);
+          tail_is = outer 2 x 1 (λ e. omega arith) ∙ h.memory.tail_is;
+          latest_is = here 2 x (omega arith);
+          unnamed = unnamed_kept (C / 8 + 2) x (omega arith);
+          valid = λ k q at j y on now. inner 2 x (index C y.0) (index_below C y.0 roomy whole)
+              ∙ h.memory.valid k q at j y on (subst (λ (u : ℕ). u < y.0 + C) (sym same) now);
+          running = (run.0, stand_kept C roomy whole s.words ws (inner 2 x) (stores r) run.1);
+          exact = λ c lt. inner 2 x c lt ∙ (h.memory.exact c lt ∙ ap (λ (u : Stage). last_at C (so_far me.sent u) c 0) eq);
+        }) h.seated.behind refl
+        (λ j v. knows_moves C e id me (staged me (Shown r)) (λ u k. receives_more C e me.sent r roomy whole h.lawful.aligned run.0 u
         (subst (λ (l : Stage). Receives e me.sent (shown me.sent l) u) eq k)) (λ k r at. at) (let le = same in
         omega arith) j v v.stage)
-        (λ v u. u) refl refl refl (loads_rise C e me.sent me.stage (Shown r) (let le = same in
+        (λ v u. u) (loads_rise C e me.sent me.stage (Shown r) (let le = same in
         omega arith) (subst (λ (u : Stage). latest e me.sent u ≤ r.place) (sym eq)
-        (let low = last_low C roomy whole e me.sent h.chain in
-        let a = lies_after C (end_of e me.sent) r.before r.place (end r) run.0.fits roomy whole in let b = run.0.fits.begins in omega arith))) refl refl
+        (let low = last_low C roomy whole e me.sent h.memory.chain in
+        let a = lies_after C (end_of e me.sent) r.before r.place (end r) run.0.fits roomy whole in let b = run.0.fits.begins in omega arith))) (staged_alike me (Shown r))
 
-    sends_in : (r : Record) → me.stage ≡ Shown r → Kept (C / 8 + 1) (end r) (sent_on me r)
-    sends_in r eq = let run = subst (Running C (end_of e me.sent) s.words) eq h.running in let x : ℕ = end r in
-        let ws : List ℕ = set s.words (C / 8 + 1) x in let roomy = h.roomy in let whole = h.whole in let all : List Record = me.sent ++ r ∷ [] in
+    tail_stored : (r : Record) → me.stage ≡ Shown r → Kept (C / 8 + 1) (end r) (sent_on me r)
+    tail_stored r eq = let run = subst (Running C (end_of e me.sent) s.words) eq h.memory.running in let x : ℕ = end r in
+        let ws : List ℕ = set s.words (C / 8 + 1) x in let roomy = h.lawful.roomy in let whole = h.lawful.whole in let all : List Record = me.sent ++ r ∷ [] in
         let ends : end_of e all ≡ end r = end_snoc e me.sent r in
         let was : intent e me.sent me.stage ≡ end r = ap (intent e me.sent) eq in
         let same : intent e me.sent me.stage ≡ end_of e all = was ∙ sym ends in
-        rebuilt C e s id me (sent_on me r) h ws (length-set s.words (C / 8 + 1) x ∙ h.wide) h.capacity h.started (sym ends)
-        (chain_snoc C e me.sent r h.chain run.0) (subst (λ (u : ℕ). u ≤ max_position) same h.low)
-        (outer_0 1 x (λ e. omega arith) ∙ (h.intent_is ∙ same)) (here 1 x (omega arith) ∙ sym ends)
-        (outer 1 x 2 (λ e. omega arith) ∙ (h.latest_is ∙ (ap (λ (u : Stage). latest e me.sent u) eq ∙ sym (last_snoc e me.sent r)))) (unnamed_kept (C / 8 + 1) x (omega arith))
-        (λ k q at j y on now. inner 1 x (index C y.0) (index_below C y.0 roomy whole) ∙
-        ⊎_elim (λ old. h.valid k q old j y on (subst (λ (u : ℕ). u < y.0 + C) (sym same) now))
-        (λ is. run.1 j y (subst (λ (v : Record). get_elem? (stores v) j ≡ some y) (sym is) on)) (at_snoc me.sent r q k at))
-        tt (λ c lt. inner 1 x c lt ∙ (h.exact c lt ∙ (ap (λ (u : Stage). last_at C (so_far me.sent u) c 0) eq
-        ∙ ap (λ (l : List (ℕ × ℕ)). last_at C l c 0) (sym (stores_of_snoc me.sent r))))) refl
+        rebuilt C e s id me (sent_on me r) h ws (record {
+          wide = length-set s.words (C / 8 + 1) x ∙ h.memory.wide;
+          chain = chain_snoc C e me.sent r h.memory.chain run.0;
+          low = subst (λ (u : ℕ). u ≤ max_position) same h.memory.low;
+          intent_is = outer_0 1 x (λ e. omega arith) ∙ (h.memory.intent_is ∙ same);
+          tail_is = here 1 x (omega arith) ∙ sym ends;
+          latest_is = outer 1 x 2 (λ e. omega arith)
+              ∙ (h.memory.latest_is ∙ (ap (λ (u : Stage). latest e me.sent u) eq ∙ sym (last_snoc e me.sent r)));
+          unnamed = unnamed_kept (C / 8 + 1) x (omega arith);
+          valid = λ k q at j y on now. inner 1 x (index C y.0) (index_below C y.0 roomy whole) ∙
+              ⊎_elim (λ old. h.memory.valid k q old j y on (subst (λ (u : ℕ). u < y.0 + C) (sym same) now))
+              (λ is. run.1 j y (subst (λ (v : Record). get_elem? (stores v) j ≡ some y) (sym is) on)) (at_snoc me.sent r q k at);
+          running = tt;
+          exact = λ c lt. inner 1 x c lt ∙ (h.memory.exact c lt ∙ (ap (λ (u : Stage). last_at C (so_far me.sent u) c 0) eq
+              ∙ ap (λ (l : List (ℕ × ℕ)). last_at C l c 0) (sym (stores_of_snoc me.sent r))));
+        }) (sym ends) refl
         (λ j v. knows_moves C e id me (sent_on me r) (λ u k. sent_more e me.sent (me.sent ++ r ∷ []) r u
         (subst (λ (l : Stage). Receives e me.sent (shown me.sent l) u) eq k)) (λ k q at. at_longer me.sent (r ∷ []) k q at) (let le = same in
         omega arith) j v v.stage)
-        (λ v u. runs_more me.sent r v.from v.copies u) refl refl refl
-        (λ l k. loads_sent C e me.sent r roomy whole run.0 l (subst (λ (u : Stage). LoadOk C e me.sent u l) eq k)) refl refl
+        (λ v u. runs_more me.sent r v.from v.copies u)
+        (λ l k. loads_sent C e me.sent r roomy whole run.0 l (subst (λ (u : Stage). LoadOk C e me.sent u l) eq k)) (sent_alike me r)
 
   -- The steps
   moved : (s : St) (id : ℕ) (cs : List (ℕ × (Unit {0}))) (i j x y : ℕ) (w v : View) → i ≡ j → x ≡ y → w ≡ v
@@ -248,72 +273,72 @@ module _ (C e : ℕ) where
       (λ k. (sym is k, sym num k, sym same k)) (id, v, h)
 
   module _ (slots id : ℕ) (me : Sat) (i x : ℕ) where
-    pub may_begin : me.0.stage ≡ Idle → i ≡ C / 8 → x ≤ max_position → Lies C me.0.at me.0.at (place_before C me.0.at x) x
-        → Allows (Holds C e) slots id me i (λ _. x) (λ _. Begins (step slots i x 0 none) me x)
-    may_begin eq is low l s b _ at _ = let h = owner C e s b id me.0 Idle (λ by mine k. k) at eq in
+    pub stores_intent : me.0.stage ≡ Idle → i ≡ C / 8 → x ≤ max_position → Lies C me.0.at me.0.at (place_before C me.0.at x) x
+        → Allows (Holds C e) slots id me i (λ _. x) (λ _. StoresIntent me x)
+    stores_intent eq is low l s b _ at _ = let h = owner C e s b id me.0 Idle (λ by mine k. k) at eq in
         let l' : Lies C (end_of e me.0.sent) me.0.at (place_before me.0.capacity me.0.at x) x = subst
-        (λ (q : ℕ × ℕ). Lies C q.0 me.0.at (place_before q.1 me.0.at x) x) (λ k. (h.behind k, sym h.capacity k)) l in (
-          started me.0 x,
+        (λ (q : ℕ × ℕ). Lies C q.0 me.0.at (place_before q.1 me.0.at x) x) (λ k. (h.seated.behind k, sym h.seated.capacity k)) l in (
+          after_intent me.0 x,
           keeps,
           tt,
-          moved s id me.1 i (C / 8 + 0) x x (started me.0 x) (started me.0 x) (let g : i ≡ C / 8 + 0 = omega arith in
-              g) refl refl (begins_in s id me.0 h x eq low l'),
+          moved s id me.1 i (C / 8 + 0) x x (after_intent me.0 x) (after_intent me.0 x) (let g : i ≡ C / 8 + 0 = omega arith in
+              g) refl refl (intent_stored s id me.0 h x eq low l'),
           refl,
         )
 
-    pub may_pad : (d : Draft) → me.0.stage ≡ Begun d → i ≡ index C d.before → x ≡ padding_header (d.place - d.before)
-        → Allows (Holds C e) slots id me i (λ _. x) (λ _. Pads (step slots i x 0 none) me x)
-    may_pad d eq is num s b _ at _ = let h = owner C e s b id me.0 (Begun d) (λ by mine k. k) at eq in
+    pub stores_padding : (d : Draft) → me.0.stage ≡ Begun d → i ≡ index C d.before → x ≡ padding_header (d.place - d.before)
+        → Allows (Holds C e) slots id me i (λ _. x) (λ _. StoresPadding me x)
+    stores_padding d eq is num s b _ at _ = let h = owner C e s b id me.0 (Begun d) (λ by mine k. k) at eq in
         let w : View = staged me.0 (after_padding me.0.stage) in (
           w,
           keeps,
           tt,
           moved s id me.1 i (index C d.before) x (padding_header (d.place - d.before)) w (staged me.0 (Storing d)) is num
-              (ap (λ (u : Stage). staged me.0 (after_padding u)) eq) (pad_in s id me.0 h d eq),
+              (ap (λ (u : Stage). staged me.0 (after_padding u)) eq) (padding_stored s id me.0 h d eq),
           refl,
         )
 
-    pub may_put : (d : Draft) → me.0.stage ≡ Storing d → i ≡ index C (d.place + 8 + 8 * length d.words) → d.place + 8 + 8 * length d.words < d.end
-        → Allows (Holds C e) slots id me i (λ _. x) (λ _. PutsWord (step slots i x 0 none) me x)
-    may_put d eq is room s b _ at _ = let h = owner C e s b id me.0 (Storing d) (λ by mine k. k) at eq in
+    pub stores_word : (d : Draft) → me.0.stage ≡ Storing d → i ≡ index C (d.place + 8 + 8 * length d.words) → d.place + 8 + 8 * length d.words < d.end
+        → Allows (Holds C e) slots id me i (λ _. x) (λ _. StoresWord me x)
+    stores_word d eq is room s b _ at _ = let h = owner C e s b id me.0 (Storing d) (λ by mine k. k) at eq in
         let w : View = staged me.0 (after_words me.0.stage (x ∷ [])) in (
           w,
           keeps,
           tt,
           moved s id me.1 i (index C (d.place + 8 + 8 * length d.words)) x x w (staged me.0 (Storing (with_words d (x ∷ [])))) is refl
-              (ap (λ (u : Stage). staged me.0 (after_words u (x ∷ []))) eq) (word_in s id me.0 h d eq x room),
+              (ap (λ (u : Stage). staged me.0 (after_words u (x ∷ []))) eq) (word_stored s id me.0 h d eq x room),
           refl,
         )
 
-    pub may_head : (d : Draft) (m : Message) → me.0.stage ≡ Storing d → i ≡ index C d.place → IsMessage C m → words_of m.body ≡ d.words
+    pub stores_header : (d : Draft) (m : Message) → me.0.stage ≡ Storing d → i ≡ index C d.place → IsMessage C m → words_of m.body ≡ d.words
         → d.place + span (length m.body) ≡ d.end → x ≡ header_of m
-        → Allows (Holds C e) slots id me i (λ _. x) (λ _. PutsHeader (step slots i x 0 none) me x)
-    may_head d m eq is lawful words full num s b _ at _ = let h = owner C e s b id me.0 (Storing d) (λ by mine k. k) at eq in
+        → Allows (Holds C e) slots id me i (λ _. x) (λ _. StoresHeader me x)
+    stores_header d m eq is lawful words full num s b _ at _ = let h = owner C e s b id me.0 (Storing d) (λ by mine k. k) at eq in
         let w : View = staged me.0 (after_header me.0.stage x) in
-        let held : written d x ≡ record { before = d.before; place = d.place; message = m } = written_as C d m x h.narrow lawful words num in (
+        let held : written d x ≡ record { before = d.before; place = d.place; message = m } = written_as C d m x h.lawful.narrow lawful words num in (
           w,
           keeps,
           tt,
           moved s id me.1 i (index C d.place) x (header_of m) w
               (staged me.0 (Written (record { before = d.before; place = d.place; message = m }))) is num
               (ap (λ (u : Stage). staged me.0 (after_header u x)) eq ∙ ap (λ (r : Record). staged me.0 (Written r)) held)
-              (header_in s id me.0 h d eq m lawful words full),
+              (header_stored s id me.0 h d eq m lawful words full),
           refl,
         )
 
-    pub may_show : (r : Record) → me.0.stage ≡ Written r → i ≡ C / 8 + 2 → x ≡ r.place
-        → Allows (Holds C e) slots id me i (λ _. x) (λ _. Shows (step slots i x 0 none) me x)
-    may_show r eq is num s b _ at _ = let h = owner C e s b id me.0 (Written r) (λ by mine k. k) at eq in
+    pub stores_latest : (r : Record) → me.0.stage ≡ Written r → i ≡ C / 8 + 2 → x ≡ r.place
+        → Allows (Holds C e) slots id me i (λ _. x) (λ _. StoresLatest me x)
+    stores_latest r eq is num s b _ at _ = let h = owner C e s b id me.0 (Written r) (λ by mine k. k) at eq in
         let w : View = staged me.0 (after_latest me.0.stage) in (
           w,
           keeps,
           tt,
           moved s id me.1 i (C / 8 + 2) x r.place w (staged me.0 (Shown r)) is num (ap (λ (u : Stage). staged me.0 (after_latest u)) eq)
-              (shows_in s id me.0 h r eq),
+              (latest_stored s id me.0 h r eq),
           refl,
         )
 
-    pub may_send : (r : Record) → me.0.stage ≡ Shown r → i ≡ C / 8 + 1 → x ≡ end r
-        → Allows (Holds C e) slots id me i (λ _. x) (λ _. Sends (step slots i x 0 none) me x)
-    may_send r eq is num s b _ at _ = let h = owner C e s b id me.0 (Shown r) (λ by mine k. k) at eq in let w : View = after_tail me.0 me.0.stage in
-        (w, keeps, tt, moved s id me.1 i (C / 8 + 1) x (end r) w (sent_on me.0 r) is num (ap (after_tail me.0) eq) (sends_in s id me.0 h r eq), refl)
+    pub stores_tail : (r : Record) → me.0.stage ≡ Shown r → i ≡ C / 8 + 1 → x ≡ end r
+        → Allows (Holds C e) slots id me i (λ _. x) (λ _. StoresTail me x)
+    stores_tail r eq is num s b _ at _ = let h = owner C e s b id me.0 (Shown r) (λ by mine k. k) at eq in let w : View = after_tail me.0 me.0.stage in
+        (w, keeps, tt, moved s id me.1 i (C / 8 + 1) x (end r) w (sent_on me.0 r) is num (ap (after_tail me.0) eq) (tail_stored s id me.0 h r eq), refl)

@@ -19,7 +19,7 @@ use Rattle.ring_board.specs.declared.shared.view.Stage.TheVariants.{Spent, Idle,
 use Rattle.ring_board.specs.Records.{end, words_of, word_count, header_of, announced, body_len, is_padding, message_in, message_of}
 use Rattle.ring_board.specs.Runs.{IsCopy, Neighbours, AreRuns}
 use Rattle.ring_board.specs.Rule.{Logged, latest, Receives, IsHeader, Knows, IsBoard, Holds}
-use Rattle.ring_board.specs.Steps.{staged, logged, copy_of, copied, passed, validated, IsSound, IsSoundAt, IsUnread, answered, lapped}
+use Rattle.ring_board.specs.Steps.{staged, logged, copy_of, copied, passed, validated, IsSound, IsSoundAt, IsUnread, answered, latest_loaded}
 use Rattle.ring_board.proofs.PlaceLemmas.{lies_needed, lies_inside, lies_whole, chain_next, chain_last}
 use Rattle.ring_board.proofs.StoreLemmas.{words_long}
 use Rattle.ring_board.proofs.ByteLemmas.{announced_header, header_not_padding, padding_kind, message_whole, message_back}
@@ -81,7 +81,7 @@ module _ (C e : ℕ) (s : St) (by : ℕ) (mine : View) (h : IsBoard C e by mine 
         some-injective taken c (sym (at_last v.copies taken i (sym there)) ∙ at_i)
 
     copies_run : AreRuns mine.sent v.from (v.copies ++ taken ∷ [])
-    copies_run = let old = h.each_copy id v at in record {
+    copies_run = let old = (h.seated.each id v at).copies in record {
       entries = λ i c on_i. ⊎_elim (λ t. old.entries i c t) (λ t. (v.next, r, on, subst (IsCopy r) t.1 is_copy)) (snoc_cases v.copies taken c i on_i);
       follow = λ i a b on_a on_b. ⊎_elim
           (λ tb. ⊎_elim (λ ta. old.follow i a b ta tb) (λ ta. let l = in_list v.copies (suc i) b tb in let f = ta.0 in
@@ -101,14 +101,14 @@ module _ (C e : ℕ) (s : St) (by : ℕ) (mine : View) (h : IsBoard C e by mine 
         empty (y ∷ ys) g = absurd (omega arith)
 
     copy_kept : (i : ℕ) (cs : List (ℕ × (Unit {0}))) → Kept i cs (record (copied v m) { log = log })
-    copy_kept i cs = let u : View = record (copied v m) { log = log } in let climbs = k.climbs in let roomy = h.roomy in
-        let on' = shown_has C e h.roomy h.whole s.words mine.sent mine.stage v.next r on in
-        let ch = shown_chain C e h.roomy h.whole s.words mine.sent mine.stage h.running h.chain in
+    copy_kept i cs = let u : View = record (copied v m) { log = log } in let climbs = k.climbs in let roomy = h.lawful.roomy in
+        let on' = shown_has C e h.lawful.roomy h.lawful.whole s.words mine.sent mine.stage v.next r on in
+        let ch = shown_chain C e h.lawful.roomy h.lawful.whole s.words mine.sent mine.stage h.memory.running h.memory.chain in
         looked C e s by mine h id v at u ne (
           capacity,
           record {
-            before = ⊎_elim (λ t. inl (t.0, t.1, inr (ends ∙ sym (chain_next C h.roomy h.whole e seen ch v.next r t.0 on' t.1))))
-                (λ t. inr (t, ends ∙ sym (chain_last C h.roomy h.whole e seen ch v.next r on' t).0)) (at_or_end seen v.next r on');
+            before = ⊎_elim (λ t. inl (t.0, t.1, inr (ends ∙ sym (chain_next C h.lawful.roomy h.lawful.whole e seen ch v.next r t.0 on' t.1))))
+                (λ t. inr (t, ends ∙ sym (chain_last C h.lawful.roomy h.lawful.whole e seen ch v.next r on' t).0)) (at_or_end seen v.next r on');
             climbs = omega arith;
             past = λ j c on_j la. subst (λ (y : Taken). (y.count ≤ v.count) × (y.place < v.at + span (length m.body)) ×
                 (y.count ≡ v.count → (n : ℕ) × (q : Record) × (suc v.next ≡ suc n) × (get_elem? mine.sent n ≡ some q) × IsCopy q y))
@@ -136,41 +136,41 @@ module _ (C e : ℕ) (s : St) (by : ℕ) (mine : View) (h : IsBoard C e by mine 
   plain_header : (r : Record) → get_elem? mine.sent v.next ≡ some r → (w : ℕ) → IsHeader r v.at w → is_padding w ≡ false
       → (v.at ≡ r.place) × (w ≡ header_of r.message)
   plain_header r on w is plain = ⊎_elim (λ c. c) (λ c. let lt = padding_announced C e s by mine h id v at r v.next on c.1 in
-      let f = (entry C e s by mine h id v at r v.next on).0.fits in let sh = f.short in let g = h.narrow in let roomy = h.roomy in
+      let f = (entry C e s by mine h id v at r v.next on).0.fits in let sh = f.short in let g = h.lawful.narrow in let roomy = h.lawful.roomy in
       absurd (eqb-false (w / 2 ^ 32) 0xffff_ffff plain (ap (λ (y : ℕ). y / 2 ^ 32) c.2 ∙ padding_kind (r.place - r.before) (small r on c.1)))) is
     where
       small : (q : Record) → get_elem? mine.sent v.next ≡ some q → q.before < q.place → q.place - q.before < 2 ^ 31
       small q on_q lt = let f = (entry C e s by mine h id v at q v.next on_q).0.fits in
-          let n = lies_needed C q.before q.before q.place (end q) f h.roomy h.whole lt in let sh = f.short in let g = h.narrow in omega arith
+          let n = lies_needed C q.before q.before q.place (end q) f h.lawful.roomy h.lawful.whole lt in let sh = f.short in let g = h.lawful.narrow in omega arith
 
   pad_header : (r : Record) → get_elem? mine.sent v.next ≡ some r → (w : ℕ) → IsHeader r v.at w → is_padding w ≡ true
       → (v.at ≡ r.before) × (r.before < r.place) × (w ≡ padding_header (r.place - r.before))
   pad_header r on w is pads = ⊎_elim (λ c. let k = eqb-true (w / 2 ^ 32) 0xffff_ffff pads in
-      let t = header_not_padding C r.message h.narrow (entry C e s by mine h id v at r v.next on).0.lawful in
+      let t = header_not_padding C r.message h.lawful.narrow (entry C e s by mine h id v at r v.next on).0.lawful in
       let same = ap (λ (y : ℕ). y / 2 ^ 32) c.1 in absurd (omega arith)) (λ c. c) is
 
   sound_at : (r : Record) → get_elem? mine.sent v.next ≡ some r → v.capacity ≡ C → (w : ℕ) → v.at ≡ r.place → w ≡ header_of r.message
       → IsSound v.capacity v.at w
   sound_at r on capacity w there head = let f = (entry C e s by mine h id v at r v.next on).0 in let n : ℕ = length r.message.body in
-      let g = lies_inside C r.before r.before r.place (end r) f.fits h.roomy h.whole in let sh = f.lawful.short in
-      let m : v.at % v.capacity ≡ r.place % C = (λ j. there j % capacity j) in let low = h.low in
+      let g = lies_inside C r.before r.before r.place (end r) f.fits h.lawful.roomy h.lawful.whole in let sh = f.lawful.short in
+      let m : v.at % v.capacity ≡ r.place % C = (λ j. there j % capacity j) in let low = h.memory.low in
       let below = (entry C e s by mine h id v at r v.next on).2 in
-      let le = intent_after C e h.roomy h.whole s.words mine.sent mine.stage h.running in
-      let w8 = lies_whole C r.before r.before r.place (end r) f.fits h.roomy h.whole in
+      let le = intent_after C e h.lawful.roomy h.lawful.whole s.words mine.sent mine.stage h.memory.running in
+      let w8 = lies_whole C r.before r.before r.place (end r) f.fits h.lawful.roomy h.lawful.whole in
       let c8 : v.capacity / 8 ≡ C / 8 = ap (λ (y : ℕ). y / 8) capacity in record {
-        message = (n, ap announced head ∙ announced_header C r.message h.narrow f.lawful, omega arith, omega arith, omega arith);
+        message = (n, ap announced head ∙ announced_header C r.message h.lawful.narrow f.lawful, omega arith, omega arith, omega arith);
         whole = omega arith;
       }
 
   sound_padding : (r : Record) → get_elem? mine.sent v.next ≡ some r → (w : ℕ) → v.at ≡ r.before → r.before < r.place
       → w ≡ padding_header (r.place - r.before) → v.at + announced w ≤ max_position
-  sound_padding r on w there lt head = let f = entry C e s by mine h id v at r v.next on in let so = f.0.fits.some_room in let low = h.low in
+  sound_padding r on w there lt head = let f = entry C e s by mine h id v at r v.next on in let so = f.0.fits.some_room in let low = h.memory.low in
       let below = f.2 in
-      let le = intent_after C e h.roomy h.whole s.words mine.sent mine.stage h.running in
+      let le = intent_after C e h.lawful.roomy h.lawful.whole s.words mine.sent mine.stage h.memory.running in
       let a = ap announced head ∙ padding_announced C e s by mine h id v at r v.next on lt in omega arith
 
-  pub header_checked : (w : ℕ) → v.stage ≡ Headed w → (x i : ℕ) (cs : List (ℕ × (Unit {0}))) → x ≡ here_now → Kept i cs (validated v x)
-  header_checked w eq x i cs is = let k = knows C e s by mine h id v at (Headed w) eq in let t = k.2 in
+  pub header_intent_keeps : (w : ℕ) → v.stage ≡ Headed w → (x i : ℕ) (cs : List (ℕ × (Unit {0}))) → x ≡ here_now → Kept i cs (validated v x)
+  header_intent_keeps w eq x i cs is = let k = knows C e s by mine h id v at (Headed w) eq in let t = k.2 in
       let ne = other_seat C e s by mine h id v at (Headed w) eq (λ b. b) in let logs = seen_intent x is in checked (passed v v.stage) x i cs is k.0
       (λ lt. subst (λ (st : Stage). Passes x i cs (passed v st)) (sym eq) (
       cond_both (is_padding w) (Padded w) (Reading w []) (λ (st : Stage). Passes x i cs (staged v st))
@@ -188,8 +188,8 @@ module _ (C e : ℕ) (s : St) (by : ℕ) (mine : View) (h : IsBoard C e by mine 
       ) (same_runs C e s by mine h id v at u refl refl) refl logs i cs)))
       (λ far. behind_kept ne k.1 k.0 t.0 t.1 (v.log ++ Intent x ∷ []) far logs i cs)
 
-  pub again_checked : (w : ℕ) → v.stage ≡ Again w → (x i : ℕ) (cs : List (ℕ × (Unit {0}))) → x ≡ here_now → Kept i cs (validated v x)
-  again_checked w eq x i cs is = let k = knows C e s by mine h id v at (Again w) eq in let t = k.2 in
+  pub behind_intent_keeps : (w : ℕ) → v.stage ≡ Again w → (x i : ℕ) (cs : List (ℕ × (Unit {0}))) → x ≡ here_now → Kept i cs (validated v x)
+  behind_intent_keeps w eq x i cs is = let k = knows C e s by mine h id v at (Again w) eq in let t = k.2 in
       let ne = other_seat C e s by mine h id v at (Again w) eq (λ b. b) in let logs = seen_intent x is in checked (passed v v.stage) x i cs is k.0
       (λ lt. subst (λ (st : Stage). Passes x i cs (passed v st)) (sym eq)
       (let u : View = record v { stage = Reading w []; log = v.log ++ Intent x ∷ [] } in
@@ -219,9 +219,9 @@ module _ (C e : ℕ) (s : St) (by : ℕ) (mine : View) (h : IsBoard C e by mine 
   sound_now x is lt Behind k = tt
 
   -- A record that is answered unread
-  pub answer_kept : (w : ℕ) → IsUnread w v.stage → (x i : ℕ) (cs : List (ℕ × (Unit {0}))) → x ≡ here_now
+  pub entry_keeps : (w : ℕ) → IsUnread w v.stage → (x i : ℕ) (cs : List (ℕ × (Unit {0}))) → x ≡ here_now
       → (body : List ℕ) × Kept i cs (answered v w body x) × (x < v.at + v.capacity → (length body ≡ body_len w) × IsSound v.capacity v.at w)
-  answer_kept w un x i cs is = ⊎_elim
+  entry_keeps w un x i cs is = ⊎_elim
       (λ q. let k = knows C e s by mine h id v at (Headed w) q.0 in let t = k.2 in
       answer_of k.0 k.1 (other_seat C e s by mine h id v at (Headed w) q.0 (λ b. b)) t.0 t.1 (λ lt. plain_header t.0 t.1 w (t.2.1 lt) q.1))
       (λ q. let k = knows C e s by mine h id v at (Again w) q in let t = k.2 in
@@ -235,7 +235,7 @@ module _ (C e : ℕ) (s : St) (by : ℕ) (mine : View) (h : IsBoard C e by mine 
             body,
             checked (copied v (message_of w body)) x i cs is capacity
                 (λ lt. copy_kept (message_of w body) (v.log ++ Intent x ∷ []) ne capacity k r on (right lt).0
-                (ap (λ (y : ℕ). message_of y body) (right lt).1 ∙ message_whole C r.message h.narrow f.lawful) logs i cs)
+                (ap (λ (y : ℕ). message_of y body) (right lt).1 ∙ message_whole C r.message h.lawful.narrow f.lawful) logs i cs)
                 (λ far. behind_kept ne k capacity r on (v.log ++ Intent x ∷ []) far logs i cs),
             λ lt. let q = right (omega arith) in (
               sym (ap body_len q.1 ∙ body_announced C e s by mine h id v at r v.next on),
@@ -243,9 +243,9 @@ module _ (C e : ℕ) (s : St) (by : ℕ) (mine : View) (h : IsBoard C e by mine 
             ),
           )
 
-  pub copy_checked : (w : ℕ) (ws : List ℕ) → v.stage ≡ Reading w ws → length ws ≡ word_count (body_len w) → (x i : ℕ) (cs : List (ℕ × (Unit {0})))
+  pub copy_intent_keeps : (w : ℕ) (ws : List ℕ) → v.stage ≡ Reading w ws → length ws ≡ word_count (body_len w) → (x i : ℕ) (cs : List (ℕ × (Unit {0})))
       → x ≡ here_now → Kept i cs (validated v x)
-  copy_checked w ws eq long x i cs is = let k = knows C e s by mine h id v at (Reading w ws) eq in let t = k.2 in let r : Record = t.0 in
+  copy_intent_keeps w ws eq long x i cs is = let k = knows C e s by mine h id v at (Reading w ws) eq in let t = k.2 in let r : Record = t.0 in
       let ne = other_seat C e s by mine h id v at (Reading w ws) eq (λ b. b) in let logs = seen_intent x is in
       let f = (entry C e s by mine h id v at r v.next t.1).0 in
       let whole : length ws ≡ length (words_of r.message.body) = long
@@ -254,16 +254,16 @@ module _ (C e : ℕ) (s : St) (by : ℕ) (mine : View) (h : IsBoard C e by mine 
       checked (passed v v.stage) x i cs is k.0
       (λ lt. subst (λ (st : Stage). Passes x i cs (passed v st)) (sym eq) (copy_kept (message_in w ws) (v.log ++ Intent x ∷ []) ne k.0 k.1 r t.1 t.2.0
       ((λ j. message_in (t.2.1 j) ((t.2.2 lt ∙ take_whole (words_of r.message.body) (length ws) whole) j))
-      ∙ message_back C r.message h.narrow f.lawful) logs i cs))
+      ∙ message_back C r.message h.lawful.narrow f.lawful) logs i cs))
       (λ far. behind_kept ne k.1 k.0 r t.1 (v.log ++ Intent x ∷ []) far logs i cs)
 
   -- Latest
-  pub latest_kept : v.stage ≡ Behind → (x i : ℕ) (cs : List (ℕ × (Unit {0}))) → x ≡ latest e mine.sent mine.stage
-      → (k : ℕ) × Kept i cs (lapped v k x) × (suc v.count ≤ x) × (x ≤ max_position) × (v.at < x)
-  latest_kept eq x i cs is = let kn = knows C e s by mine h id v at Behind eq in let t = kn.2 in let far = t.2 in
-      let m = latest_shown C e h.roomy h.whole s.words mine.sent h.chain t.0 v.next t.1 mine.stage h.running in
+  pub latest_keeps : v.stage ≡ Behind → (x i : ℕ) (cs : List (ℕ × (Unit {0}))) → x ≡ latest e mine.sent mine.stage
+      → (k : ℕ) × Kept i cs (latest_loaded v k x) × (suc v.count ≤ x) × (x ≤ max_position) × (v.at < x)
+  latest_keeps eq x i cs is = let kn = knows C e s by mine h id v at Behind eq in let t = kn.2 in let far = t.2 in
+      let m = latest_shown C e h.lawful.roomy h.lawful.whole s.words mine.sent h.memory.chain t.0 v.next t.1 mine.stage h.memory.running in
       let k : ℕ = m.0 in let q : Record = m.1 in let near = m.4 in let climbs = kn.1.climbs in let there : x ≡ q.place = is ∙ m.3 in
-      let u : View = lapped v k x in (
+      let u : View = latest_loaded v k x in (
         k,
         looked C e s by mine h id v at u (other_seat C e s by mine h id v at Behind eq (λ b. b)) (
           kn.0,
@@ -277,6 +277,6 @@ module _ (C e : ℕ) (s : St) (by : ℕ) (mine : View) (h : IsBoard C e by mine 
           tt,
         ) (same_runs C e s by mine h id v at u refl refl) refl (log_more C e s by mine h id v at (Latest x) (omega arith)) i cs,
         omega arith,
-        (let y = m.5 in let low = h.low in omega arith),
+        (let y = m.5 in let low = h.memory.low in omega arith),
         omega arith,
       )

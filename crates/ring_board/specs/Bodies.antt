@@ -2,7 +2,6 @@
 use Rattle.std.specs.Prelude.{◌≡◌, ℕ, Bool, ◌+◌, ◌*◌, ◌<◌, ◌≤◌, nat_lt, List, ◌++◌, length, take, slice_index}
 use mathlib.Core.Option.{some}
 use lib.ListN.{get_elem?}
-use Rattle.atomic_table.specs.Table.{Step}
 use Rattle.ring_layout.specs.Places.{index}
 use Rattle.ring_layout.specs.History.{span}
 use Rattle.ring_board.specs.declared.shared.view.Taken.{Taken}
@@ -46,9 +45,9 @@ Validated r valid m m' = (x : ℕ) × (m' ≡ (logged m.0 (Intent x), m.1)) × (
 -- The steps ----------------------------------------------------------------
 
 -- a word was loaded, and the tail was t, which is no less than the one seen last, nor than the end of any record that was answered
-abbrev pub SeesBody : Step (Unit {0}) → Sat → ℕ → Sat → Type 0
-SeesBody st m x m' = (t : ℕ) × (m' ≡ (logged m.0 (Word st.word t x), m.1)) × (last_tail m.0.log 0 ≤ t)
+abbrev pub LoadsUnread : ℕ → Sat → ℕ → Sat → Type 0
+LoadsUnread i m x m' = (t : ℕ) × (m' ≡ (logged m.0 (Word i t x), m.1)) × (last_tail m.0.log 0 ≤ t)
     × ((n : ℕ) (c : Taken) → get_elem? m.0.copies n ≡ some c → c.place + span (length c.message.body) ≤ t)
 
-abbrev pub SeesValid : Step (Unit {0}) → Sat → ℕ → Sat → Type 0
-SeesValid st m x m' = (m' ≡ (logged m.0 (Intent x), m.1)) × AreRight m.0 x
+abbrev pub ChecksAnswered : Sat → ℕ → Sat → Type 0
+ChecksAnswered m x m' = (m' ≡ (logged m.0 (Intent x), m.1)) × AreRight m.0 x

@@ -16,6 +16,10 @@ use Rattle.ring_board.specs.declared.receiver.found.Found.TheVariants.{Nothing, 
 use Rattle.ring_board.specs.Records.{announced, is_padding, bytes_of, message_of}
 use Rattle.ring_board.specs.Steps.{Sat, copied, IsSound, IsUnread}
 
+-- a receiver of a board of capacity C rests at this place
+abbrev pub RestsAt : ℕ → ℕ → Sat → Type 0
+RestsAt C place m = (m.0.stage ≡ Resting) × (m.0.at ≡ place) × (m.0.capacity ≡ C) × (place ≤ max_position)
+
 -- p is the receiver's place, or behind padding whose header is among these loads
 abbrev pub ComesTo : View → List Load → ℕ → Type 0
 ComesTo v loads p = (p ≡ v.at) ⊎ ((w : ℕ) × (t : ℕ) × (j : ℕ) × (get_elem? loads j ≡ some (Word (index v.capacity v.at) t w)) × (is_padding w ≡ true) × (p ≡ v.at + announced w))

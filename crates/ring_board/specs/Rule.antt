@@ -121,31 +121,49 @@ abbrev pub total_shares : List View → ℕ
 total_shares [] = 0
 total_shares (v ∷ vs) = v.shares + total_shares vs
 
--- a board of capacity C that began at e. The seat `by` is the transmitter's, and `mine` its view
-pub record IsBoard (C e by : ℕ) (mine : View) (s : State (Unit {0}) View) : Type 0 where
-  pub wide : length s.words ≡ board_words C
+-- a capacity and a start that a board may have
+pub record IsLawful (C e : ℕ) : Type 0 where
   pub roomy : 256 ≤ C
   pub narrow : C ≤ 2 ^ 24
   pub whole : C % 64 ≡ 0
   pub aligned : e % C ≡ 0
-  pub here : get_elem? s.views by ≡ some mine
+
+-- The words of a board that began at e: they show the transmitted list and the transmission that runs. A word of the
+-- list stays what it was as long as the intent says so
+pub record IsMemory (C e : ℕ) (sent : List Record) (st : Stage) (words : List ℕ) : Type 0 where
+  pub wide : length words ≡ board_words C
+  pub chain : Chain C e sent
+  pub low : intent e sent st ≤ max_position
+  pub intent_is : slice_index words (intent_index C) ≡ intent e sent st
+  pub tail_is : slice_index words (tail_index C) ≡ end_of e sent
+  pub latest_is : slice_index words (latest_index C) ≡ latest e sent st
+  pub unnamed : (i : ℕ) → IsUnnamed C i → slice_index words i ≡ 0
+  pub valid : (k : ℕ) (r : Record) → get_elem? sent k ≡ some r → (j : ℕ) (x : ℕ × ℕ) → get_elem? (stores r) j ≡ some x
+      → intent e sent st < x.0 + C → slice_index words (index C x.0) ≡ x.1
+  pub running : Running C (end_of e sent) words st
+  pub exact : (i : ℕ) → i < C / 8 → slice_index words i ≡ last_at C (so_far sent st) i 0
+
+-- what the seat j knows, copied and loaded
+pub record IsSeat (C e by : ℕ) (mine : View) (j : ℕ) (v : View) : Type 0 where
+  pub knows : Knows C e by mine j v v.stage
+  pub copies : AreRuns mine.sent v.from v.copies
+  pub log : Logged C e mine.sent mine.stage v.log
+
+-- the views of all seats. The seat `by` is the transmitter's, and `mine` its view
+pub record IsSeated (C e by : ℕ) (mine : View) (views : List View) : Type 0 where
+  pub here : get_elem? views by ≡ some mine
   pub capacity : mine.capacity ≡ C
   pub started : mine.start ≡ e
   pub behind : mine.at ≡ end_of e mine.sent
-  pub chain : Chain C e mine.sent
-  pub low : intent e mine.sent mine.stage ≤ max_position
-  pub intent_is : slice_index s.words (intent_index C) ≡ intent e mine.sent mine.stage
-  pub tail_is : slice_index s.words (tail_index C) ≡ end_of e mine.sent
-  pub latest_is : slice_index s.words (latest_index C) ≡ latest e mine.sent mine.stage
-  pub unnamed : (i : ℕ) → IsUnnamed C i → slice_index s.words i ≡ 0
-  pub valid : (k : ℕ) (r : Record) → get_elem? mine.sent k ≡ some r → (j : ℕ) (x : ℕ × ℕ) → get_elem? (stores r) j ≡ some x → intent e mine.sent mine.stage < x.0 + C → slice_index s.words (index C x.0) ≡ x.1
-  pub running : Running C (end_of e mine.sent) s.words mine.stage
-  pub exact : (i : ℕ) → i < C / 8 → slice_index s.words i ≡ last_at C (so_far mine.sent mine.stage) i 0
-  pub each_seat : (j : ℕ) (v : View) → get_elem? s.views j ≡ some v → Knows C e by mine j v v.stage
-  pub each_copy : (j : ℕ) (v : View) → get_elem? s.views j ≡ some v → AreRuns mine.sent v.from v.copies
-  pub each_heard : AreAllRuns mine.sent mine.heard
-  pub each_log : (j : ℕ) (v : View) → get_elem? s.views j ≡ some v → Logged C e mine.sent mine.stage v.log
-  pub shares : total_shares s.views ≡ all_shares
+  pub each : (j : ℕ) (v : View) → get_elem? views j ≡ some v → IsSeat C e by mine j v
+  pub joined : AreAllRuns mine.sent mine.heard
+  pub shares : total_shares views ≡ all_shares
+
+-- a board of capacity C that began at e
+pub record IsBoard (C e by : ℕ) (mine : View) (s : State (Unit {0}) View) : Type 0 where
+  pub lawful : IsLawful C e
+  pub memory : IsMemory C e mine.sent mine.stage s.words
+  pub seated : IsSeated C e by mine s.views
 
 abbrev pub Holds : ℕ → ℕ → State (Unit {0}) View → Type 0
 Holds C e s = (by : ℕ) × (mine : View) × IsBoard C e by mine s

@@ -2,6 +2,7 @@
 use Rattle.std.specs.Prelude.{◌≡◌, ℕ, ℤ, List, [], length, Option, Result, MatchResult, MatchOption}
 use mathlib.Core.Option.{some}
 use lib.ListN.{get_elem?}
+use Rattle.atomic_table.specs.declared.shared.Seat.{Seat}
 use Rattle.ring_layout.specs.History.{span}
 use Rattle.ring_layout.specs.Places.{next_place, end_after}
 use Rattle.ring_board.specs.declared.shared.view.Record.{Record}
@@ -19,8 +20,17 @@ use Rattle.ring_board.specs.declared.board.Copied.{Copied}
 use Rattle.ring_board.specs.declared.shared.view.Taken.{Taken}
 use Rattle.ring_board.specs.declared.shared.view.Joined.{Joined}
 use Rattle.ring_board.specs.declared.fault.Lapped.{Lapped}
-use Rattle.ring_board.specs.Receiving.{GotNothing, GotCopy, GotLapped, IsInside}
+use Rattle.ring_board.specs.Rule.{opening_view}
+use Rattle.ring_board.specs.Receiving.{GotNothing, GotCopy, GotLapped, GotRecord, IsInside}
 use Rattle.ring_board.specs.Steps.{Sat, staged, draft, drafted, record_at}
+
+-- the seat is one of this board
+abbrev pub IsSeatOf : Board → Seat (Unit {0}) View → Type 0
+IsSeatOf board s = s.table_id ≡ board.table.shared.table_id
+
+-- the same seat
+abbrev pub IsSameSeat : Seat (Unit {0}) View → Seat (Unit {0}) View → Type 0
+IsSameSeat old new = (new.table_id ≡ old.table_id) × (new.id ≡ old.id)
 
 abbrev pub capacity_of : Board → ℕ
 capacity_of board = board.capacity
@@ -54,6 +64,10 @@ IsViewOf board v = (v.capacity ≡ board.capacity) × (v.start ≡ board.table.s
 
 abbrev pub IsTransmitterOf : Board → Transmitter → Type 0
 IsTransmitterOf board t = (t.seat.table_id ≡ board.table.shared.table_id) × IsViewOf board t.seat.me.0
+
+-- a board of this capacity with its transmitter, which begins at this start
+abbrev pub IsNewAt : ℕ → ℕ → Board × Transmitter → Type 0
+IsNewAt capacity start made = IsTransmitterOf made.0 made.1 × (view_of made.1 ≡ opening_view capacity start) × (tail_of made.1 ≡ start)
 
 -- the record that comes next behind a tail
 abbrev pub next_record : ℕ → ℕ → ℤ → List ℕ → Record
@@ -159,6 +173,16 @@ raw_stands_at r = r.seat.me.0.at
 
 abbrev pub raw_lapped_count_of : Receiver → ℕ
 raw_lapped_count_of r = r.seat.me.0.count
+
+-- what a call of `receive_next` answered and did
+abbrev pub ReceivedNext : Receiver → Receiver → Result (Option RawRecord) Lapped → Type 0
+ReceivedNext old new result = MatchResult result
+    (λ o. MatchOption o (GotNothing (raw_seat old) (raw_seat new)) (λ r. GotRecord r (raw_seat old) (raw_seat new) × IsAnswered (raw_view new) r))
+    (λ l. GotLapped l (raw_seat old) (raw_seat new))
+
+-- what the receiver answered stays answered
+abbrev pub StaysAnswered : Receiver → Receiver → Type 0
+StaysAnswered old new = (r : RawRecord) → IsAnswered (raw_view old) r → IsAnswered (raw_view new) r
 
 abbrev pub place_of : RawRecord → ℕ
 place_of r = r.place

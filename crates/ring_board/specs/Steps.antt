@@ -1,6 +1,6 @@
 -- What each step tells its seat.
 use Rattle.std.specs.Prelude.{◌≡◌, ℕ, ◌+◌, ◌-◌, ◌/◌, ◌%◌, ◌^◌, ◌<◌, ◌≤◌, suc, if◌then◌else◌, nat_lt, nat_le, List, [], ◌∷◌, ◌++◌, length, pos, true, false, ◌⊎◌}
-use Rattle.atomic_table.specs.Table.{Me, Step}
+use Rattle.atomic_table.specs.Table.{Me}
 use Rattle.ring_layout.specs.declared.message.Message.{Message}
 use Rattle.ring_layout.specs.History.{span}
 use Rattle.ring_layout.specs.Places.{room, max_position}
@@ -13,7 +13,7 @@ use Rattle.ring_board.specs.declared.shared.view.Draft.{Draft}
 use Rattle.ring_board.specs.declared.shared.view.View.{View}
 use Rattle.ring_board.specs.declared.shared.view.Load.{Load}
 use Rattle.ring_board.specs.declared.shared.view.Stage.{Stage}
-use Rattle.ring_board.specs.Records.{end, last_of, announced, body_len, is_padding, message_in, message_of}
+use Rattle.ring_board.specs.Records.{end, last_of, word_count, announced, body_len, is_padding, message_in, message_of}
 use Rattle.ring_board.specs.Runs.{AreRuns}
 
 -- a seat's view, and the slots that it has, which a board has none of
@@ -36,8 +36,8 @@ abbrev pub drafted : Draft → Stage
 drafted d = if nat_lt d.before d.place then Begun d else Storing d
 
 -- a transmission begins that is to end at z
-abbrev pub started : View → ℕ → View
-started v z = staged v (drafted (draft v.at (place_before v.capacity v.at z) z []))
+abbrev pub after_intent : View → ℕ → View
+after_intent v z = staged v (drafted (draft v.at (place_before v.capacity v.at z) z []))
 
 abbrev pub after_padding : Stage → Stage
 after_padding (Begun d) = Storing d
@@ -76,23 +76,23 @@ abbrev pub after_tail : View → Stage → View
 after_tail v (Shown r) = sent_on v r
 after_tail v st = v
 
-abbrev pub Begins : Step (Unit {0}) → Sat → ℕ → Sat → Type 0
-Begins st m x m' = m' ≡ (started m.0 x, m.1)
+abbrev pub StoresIntent : Sat → ℕ → Sat → Type 0
+StoresIntent m x m' = m' ≡ (after_intent m.0 x, m.1)
 
-abbrev pub Pads : Step (Unit {0}) → Sat → ℕ → Sat → Type 0
-Pads st m x m' = m' ≡ (staged m.0 (after_padding m.0.stage), m.1)
+abbrev pub StoresPadding : Sat → ℕ → Sat → Type 0
+StoresPadding m x m' = m' ≡ (staged m.0 (after_padding m.0.stage), m.1)
 
-abbrev pub PutsWord : Step (Unit {0}) → Sat → ℕ → Sat → Type 0
-PutsWord st m x m' = m' ≡ (staged m.0 (after_words m.0.stage (x ∷ [])), m.1)
+abbrev pub StoresWord : Sat → ℕ → Sat → Type 0
+StoresWord m x m' = m' ≡ (staged m.0 (after_words m.0.stage (x ∷ [])), m.1)
 
-abbrev pub PutsHeader : Step (Unit {0}) → Sat → ℕ → Sat → Type 0
-PutsHeader st m x m' = m' ≡ (staged m.0 (after_header m.0.stage x), m.1)
+abbrev pub StoresHeader : Sat → ℕ → Sat → Type 0
+StoresHeader m x m' = m' ≡ (staged m.0 (after_header m.0.stage x), m.1)
 
-abbrev pub Shows : Step (Unit {0}) → Sat → ℕ → Sat → Type 0
-Shows st m x m' = m' ≡ (staged m.0 (after_latest m.0.stage), m.1)
+abbrev pub StoresLatest : Sat → ℕ → Sat → Type 0
+StoresLatest m x m' = m' ≡ (staged m.0 (after_latest m.0.stage), m.1)
 
-abbrev pub Sends : Step (Unit {0}) → Sat → ℕ → Sat → Type 0
-Sends st m x m' = m' ≡ (after_tail m.0 m.0.stage, m.1)
+abbrev pub StoresTail : Sat → ℕ → Sat → Type 0
+StoresTail m x m' = m' ≡ (after_tail m.0 m.0.stage, m.1)
 
 -- Receivers ----------------------------------------------------------------
 
@@ -111,31 +111,35 @@ last_tail (Latest x ∷ ls) t = last_tail ls t
 abbrev pub word_load : View → ℕ → ℕ → Load
 word_load v i x = Word i (last_tail v.log 0) x
 
-abbrev pub saw_tail : View → ℕ → View
-saw_tail v x = record v { stage = if nat_lt v.at x then Sure else Resting; log = v.log ++ Tail x ∷ [] }
+abbrev pub tail_loaded : View → ℕ → View
+tail_loaded v x = record v { stage = if nat_lt v.at x then Sure else Resting; log = v.log ++ Tail x ∷ [] }
 
-abbrev pub SeesTail : Step (Unit {0}) → Sat → ℕ → Sat → Type 0
-SeesTail st m x m' = (m' ≡ (saw_tail m.0 x, m.1)) × (x ≤ max_position)
+abbrev pub LoadsTail : Sat → ℕ → Sat → Type 0
+LoadsTail m x m' = (m' ≡ (tail_loaded m.0 x, m.1)) × (x ≤ max_position)
+
+-- where the next header lies: at the receiver's place, or behind padding there
+abbrev pub IsHeaderPlace : View → ℕ → Type 0
+IsHeaderPlace v p = ((v.stage ≡ Sure) × (p ≡ v.at)) ⊎ ((w : ℕ) × (v.stage ≡ Padded w) × (p ≡ v.at + announced w))
 
 -- a header was loaded at the index i
-abbrev pub heard : View → ℕ → Stage → ℕ → View
-heard v i Sure x = record v { stage = Headed x; log = v.log ++ word_load v i x ∷ [] }
-heard v i (Padded w) x = record v { stage = Again x; at = v.at + announced w; log = v.log ++ word_load v i x ∷ [] }
-heard v i st x = v
+abbrev pub header_loaded : View → ℕ → Stage → ℕ → View
+header_loaded v i Sure x = record v { stage = Headed x; log = v.log ++ word_load v i x ∷ [] }
+header_loaded v i (Padded w) x = record v { stage = Again x; at = v.at + announced w; log = v.log ++ word_load v i x ∷ [] }
+header_loaded v i st x = v
 
-abbrev pub SeesHeader : Step (Unit {0}) → Sat → ℕ → Sat → Type 0
-SeesHeader st m x m' = m' ≡ (heard m.0 st.word m.0.stage x, m.1)
+abbrev pub LoadsHeader : ℕ → Sat → ℕ → Sat → Type 0
+LoadsHeader i m x m' = m' ≡ (header_loaded m.0 i m.0.stage x, m.1)
 
 abbrev pub read_on : Stage → ℕ → Stage
 read_on (Reading w ws) x = Reading w (ws ++ x ∷ [])
 read_on st x = st
 
 -- a word of a body was loaded at the index i
-abbrev pub read_word : View → ℕ → ℕ → View
-read_word v i x = record v { stage = read_on v.stage x; log = v.log ++ word_load v i x ∷ [] }
+abbrev pub word_loaded : View → ℕ → ℕ → View
+word_loaded v i x = record v { stage = read_on v.stage x; log = v.log ++ word_load v i x ∷ [] }
 
-abbrev pub SeesWord : Step (Unit {0}) → Sat → ℕ → Sat → Type 0
-SeesWord st m x m' = m' ≡ (read_word m.0 st.word x, m.1)
+abbrev pub LoadsWord : ℕ → Sat → ℕ → Sat → Type 0
+LoadsWord i m x m' = m' ≡ (word_loaded m.0 i x, m.1)
 
 abbrev pub copy_of : View → Message → Taken
 copy_of v m = record { place = v.at; message = m; count = v.count }
@@ -169,8 +173,13 @@ IsSoundAt v _ = Unit {0}
 abbrev pub IsUnread : ℕ → Stage → Type 0
 IsUnread w st = ((st ≡ Headed w) × (is_padding w ≡ false)) ⊎ (st ≡ Again w)
 
-abbrev pub SeesIntent : Step (Unit {0}) → Sat → ℕ → Sat → Type 0
-SeesIntent st m x m' = (m' ≡ (validated m.0 x, m.1)) × (x < m.0.at + m.0.capacity → IsSoundAt m.0 m.0.stage)
+-- what a load of the intent validates: a header, of padding or of an entry, or all words of a body
+abbrev pub IsComplete : Stage → Type 0
+IsComplete st = ((w : ℕ) × (st ≡ Headed w)) ⊎ (((w : ℕ) × IsUnread w st)
+    ⊎ ((w : ℕ) × (ws : List ℕ) × (st ≡ Reading w ws) × (length ws ≡ word_count (body_len w))))
+
+abbrev pub LoadsIntent : Sat → ℕ → Sat → Type 0
+LoadsIntent m x m' = (m' ≡ (validated m.0 x, m.1)) × (x < m.0.at + m.0.capacity → IsSoundAt m.0 m.0.stage)
 
 abbrev pub header_seen : Stage → ℕ
 header_seen (Headed w) = w
@@ -181,16 +190,16 @@ header_seen _ = 0
 abbrev pub answered : View → ℕ → List ℕ → ℕ → View
 answered v w body x = logged (if nat_lt x (v.at + v.capacity) then copied v (message_of w body) else staged v Behind) (Intent x)
 
-abbrev pub SeesAnswer : Step (Unit {0}) → Sat → ℕ → Sat → Type 0
-SeesAnswer st m x m' = (body : List ℕ) × (m' ≡ (answered m.0 (header_seen m.0.stage) body x, m.1))
+abbrev pub AnswersEntry : Sat → ℕ → Sat → Type 0
+AnswersEntry m x m' = (body : List ℕ) × (m' ≡ (answered m.0 (header_seen m.0.stage) body x, m.1))
     × (x < m.0.at + m.0.capacity → (length body ≡ body_len (header_seen m.0.stage)) × IsSound m.0.capacity m.0.at (header_seen m.0.stage))
 
 -- the receiver goes to the record at latest, the entry k of the list, which lies behind its place
-abbrev pub lapped : View → ℕ → ℕ → View
-lapped v k x = record v { stage = Resting; at = x; next = k; count = suc v.count; log = v.log ++ Latest x ∷ [] }
+abbrev pub latest_loaded : View → ℕ → ℕ → View
+latest_loaded v k x = record v { stage = Resting; at = x; next = k; count = suc v.count; log = v.log ++ Latest x ∷ [] }
 
-abbrev pub SeesLatest : Step (Unit {0}) → Sat → ℕ → Sat → Type 0
-SeesLatest st m x m' = (k : ℕ) × (m' ≡ (lapped m.0 k x, m.1)) × (suc m.0.count ≤ x) × (x ≤ max_position) × (m.0.at < x)
+abbrev pub LoadsLatest : Sat → ℕ → Sat → Type 0
+LoadsLatest m x m' = (k : ℕ) × (m' ≡ (latest_loaded m.0 k x, m.1)) × (suc m.0.count ≤ x) × (x ≤ max_position) × (m.0.at < x)
 
 -- Split and join -----------------------------------------------------------
 
@@ -214,5 +223,5 @@ abbrev pub spent : View
 spent = record { stage = Spent; shares = 0; capacity = 0; start = 0; sent = []; from = 0; at = 0; next = 0; count = 0; copies = []; log = []; heard = [] }
 
 -- what the transmitter learns by a load of latest
-abbrev pub Learns : Step (Unit {0}) → Sat → ℕ → Sat → Type 0
-Learns st m x m' = (m' ≡ m) × (x ≡ last_of m.0.start m.0.sent) × AreRuns m.0.sent m.0.from m.0.copies × (m.0.shares ≤ 2 ^ 16) × (x ≤ max_position)
+abbrev pub Learns : Sat → ℕ → Sat → Type 0
+Learns m x m' = (m' ≡ m) × (x ≡ last_of m.0.start m.0.sent) × AreRuns m.0.sent m.0.from m.0.copies × (m.0.shares ≤ 2 ^ 16) × (x ≤ max_position)

@@ -1,7 +1,7 @@
 //! A board, and those who work on it.
-ghost use Rattle.std.specs.Prelude.{◌≡◌, ℕ, ◌+◌, ◌*◌, ◌/◌, ◌%◌, ◌^◌, ◌<◌, ◌≤◌, pos, ◌≤ℤ◌, [], length, vec_len, IsTrue};
+ghost use Rattle.std.specs.Prelude.{◌≡◌, ◌+◌, ◌/◌, ◌%◌, ◌^◌, ◌<◌, ◌≤◌, pos, ◌≤ℤ◌, [], vec_len, IsTrue};
 ghost use Rattle.std.specs.Int.{is_power_of_two};
-ghost use Rattle.ring_layout.specs.History.{IsMessage, span};
+ghost use Rattle.ring_layout.specs.History.{span};
 ghost use Rattle.ring_layout.specs.Places.{max_position, next_place};
 ghost use Rattle.ring_board.specs.declared.shared.view.Stage.TheVariants.{Idle, Written, Resting};
 ghost use Rattle.ring_board.specs.Records.{end, end_of};

@@ -1,12 +1,11 @@
 //! A board, from its making to its close.
-ghost use Rattle.std.specs.Prelude.{◌≡◌, ℕ, ◌+◌, ◌/◌, ◌%◌, ◌<◌, ◌≤◌, [], length, slice_index, slice_get, vec_len, IfOk};
+ghost use Rattle.std.specs.Prelude.{◌≡◌, ℕ, ◌+◌, ◌/◌, ◌%◌, ◌<◌, ◌≤◌, slice_index, slice_get, vec_len, IfOk};
 ghost use Rattle.std.specs.Slots.{slots_items, slots_len, IsFull};
 ghost use Rattle.ring_layout.specs.Places.{max_position};
 ghost use Rattle.ring_board.specs.Layout.{is_board_capacity, IsBoardCapacity, intent_index, tail_index, latest_index};
-ghost use Rattle.ring_board.specs.Rule.{opening_view};
 ghost use Rattle.ring_board.specs.Refusals.{make_refusal_of, IsMadeUnless, IsRefusedAs};
 ghost use Rattle.ring_board.specs.Runs.{AreAllRuns};
-ghost use Rattle.ring_board.specs.Seats.{capacity_of, start_of, view_of, tail_of, heard_by, shares_of, transmitted, IsTransmitterOf};
+ghost use Rattle.ring_board.specs.Seats.{capacity_of, start_of, heard_by, IsNewAt, shares_of, transmitted, IsTransmitterOf};
 ghost use Rattle.ring_board.specs.Closing.{IsClosed, closed_words, closed_capacity, close_refusal_of, kept_open};
 
 use crate::board::{Board, BoardCloseRefused, ClosedBoard, Transmitter};
@@ -48,7 +47,7 @@ impl Board {
     pub fn new(alloc: Global, capacity: u32) -> Result<(Board, Transmitter), MakeFault>
         ensures refused { IsMadeUnless (make_refusal_of capacity 0) result }
         ensures board { IfOk result (λ made. (capacity_of made.0 ≡ capacity) × (start_of made.0 ≡ 0)) }
-        ensures transmitter { IfOk result (λ made. IsTransmitterOf made.0 made.1 × (view_of made.1 ≡ opening_view capacity 0) × (tail_of made.1 ≡ 0)) }
+        ensures transmitter { IfOk result (IsNewAt capacity 0) }
     {
         Board::new_at(alloc, capacity, 0)
     }
@@ -63,7 +62,7 @@ impl Board {
     ) -> Result<(Board, Transmitter), MakeFault>
         ensures refused { IsMadeUnless (make_refusal_of capacity start) result }
         ensures board { IfOk result (λ made. (capacity_of made.0 ≡ capacity) × (start_of made.0 ≡ start)) }
-        ensures transmitter { IfOk result (λ made. IsTransmitterOf made.0 made.1 × (view_of made.1 ≡ opening_view capacity start) × (tail_of made.1 ≡ start)) }
+        ensures transmitter { IfOk result (IsNewAt capacity start) }
     {
         if !is_board_capacity(capacity) {
             return Err(MakeFault::BadCapacity);
@@ -79,7 +78,7 @@ impl Board {
         requires capacity { IsBoardCapacity capacity }
         requires start { (start % capacity ≡ 0) × (start ≤ max_position) }
         ensures board { IfOk result (λ made. (capacity_of made.0 ≡ capacity) × (start_of made.0 ≡ start)) }
-        ensures transmitter { IfOk result (λ made. IsTransmitterOf made.0 made.1 × (view_of made.1 ≡ opening_view capacity start) × (tail_of made.1 ≡ start)) }
+        ensures transmitter { IfOk result (IsNewAt capacity start) }
     {
         let trailer = capacity as usize / 8;
         let mut words = vec![in alloc; 0u64; trailer + TRAILER_WORDS]?;

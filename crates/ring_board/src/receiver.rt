@@ -3,3 +3,4 @@ pub(crate) mod approach;
 pub(crate) mod copying;
 pub(crate) mod found;
 pub(crate) mod raw;
+pub(crate) mod seat;

@@ -1,5 +1,5 @@
 //! The transmitter's calls.
-ghost use Rattle.std.specs.Prelude.{◌≡◌, ℕ, ◌+◌, ◌-◌, ◌*◌, ◌/◌, ◌%◌, ◌^◌, ◌<◌, ◌≤◌, pos, ◌≤ℤ◌, List, [], ◌∷◌, length, IfOk, OnOk, OnErr};
+ghost use Rattle.std.specs.Prelude.{◌≡◌, ℕ, ◌+◌, ◌-◌, ◌/◌, ◌%◌, ◌^◌, ◌<◌, ◌≤◌, pos, ◌≤ℤ◌, [], length, IfOk, OnOk, OnErr};
 ghost use Rattle.ring_layout.specs.History.{span};
 ghost use Rattle.ring_layout.specs.Headers.{header};
 ghost use Rattle.ring_layout.specs.Places.{max_position, next_place};
@@ -8,7 +8,7 @@ ghost use Rattle.ring_board.specs.declared.shared.view.Stage.TheVariants.{Storin
 ghost use Rattle.ring_board.specs.Records.{end, end_of};
 ghost use Rattle.ring_board.specs.Steps.{staged, draft, drafted, sent_on};
 ghost use Rattle.ring_board.specs.Refusals.{transmit_refusal_of, IsRefusedBy, IsRefusedAs};
-ghost use Rattle.ring_board.specs.Seats.{capacity_of, view_of, tail_of, shares_of, transmitted, IsTransmitterOf, next_record, IsBegunOf, IsFilledOf, begun_view, filled_view, filled_record, begun_tail, begun_type_id, begun_len, HasBegun, refused_with};
+ghost use Rattle.ring_board.specs.Seats.{IsSeatOf, IsSameSeat, capacity_of, view_of, tail_of, shares_of, transmitted, IsTransmitterOf, next_record, IsBegunOf, IsFilledOf, begun_view, filled_view, filled_record, begun_tail, begun_type_id, begun_len, HasBegun, refused_with};
 
 use crate::board::{BeginRefused, Begun, Board, Filled, Transmitter};
 use crate::fault::TransmitFault;
@@ -59,10 +59,10 @@ impl Board {
 
     /// Stores the padding header, where a record does not lie at the tail.
     fn store_gap(&self, seat: &mut BoardSeat, tail: u64, place: u64)
-        requires seat { seat.old.table_id ≡ self.now.table.shared.table_id }
+        requires seat { IsSeatOf self.now seat.old }
         requires stage { (z : ℕ) × (seat.old.me.0.stage ≡ drafted (draft tail place z [])) }
         requires gap { (tail ≤ place) × (place ≤ tail + self.now.capacity) }
-        ensures same { (seat.new.table_id ≡ seat.old.table_id) × (seat.new.id ≡ seat.old.id) }
+        ensures same { IsSameSeat seat.old seat.new }
         ensures padded { (z : ℕ) → seat.old.me.0.stage ≡ drafted (draft tail place z []) → seat.new.me ≡ (staged seat.old.me.0 (Storing (draft tail place z [])), seat.old.me.1) }
     {
         if tail < place {
@@ -72,12 +72,12 @@ impl Board {
 
     /// Stores a record behind its padding: the body, and then its header.
     fn store_record(&self, seat: &mut BoardSeat, tail: u64, place: u64, type_id: i32, body: &[u8])
-        requires seat { seat.old.table_id ≡ self.now.table.shared.table_id }
+        requires seat { IsSeatOf self.now seat.old }
         requires stage { seat.old.me.0.stage ≡ drafted (draft tail place (place + span (length body.now)) []) }
         requires place { place ≡ next_place self.now.capacity tail (span (length body.now)) }
         requires lawful { (pos 1 ≤ℤ type_id) × (length body.now ≤ self.now.capacity / 8) }
         requires whole { (tail % 8 ≡ 0) × (place ≤ max_position) }
-        ensures same { (seat.new.table_id ≡ seat.old.table_id) × (seat.new.id ≡ seat.old.id) }
+        ensures same { IsSameSeat seat.old seat.new }
         ensures written { seat.new.me ≡ (staged seat.old.me.0 (Written (next_record self.now.capacity tail type_id body.now)), seat.old.me.1) }
     {
         self.store_gap(seat, tail, place);
@@ -88,9 +88,9 @@ impl Board {
 
     /// Shows a record that is stored, and moves the tail behind it.
     fn show_record(&self, seat: &mut BoardSeat, place: u64, tail: u64)
-        requires seat { seat.old.table_id ≡ self.now.table.shared.table_id }
+        requires seat { IsSeatOf self.now seat.old }
         requires stage { (r : Record) × (seat.old.me.0.stage ≡ Written r) × (place ≡ r.place) × (tail ≡ end r) }
-        ensures same { (seat.new.table_id ≡ seat.old.table_id) × (seat.new.id ≡ seat.old.id) }
+        ensures same { IsSameSeat seat.old seat.new }
         ensures sent { (r : Record) → seat.old.me.0.stage ≡ Written r → seat.new.me ≡ (sent_on seat.old.me.0 r, seat.old.me.1) }
     {
         self.store_latest(seat, place);

@@ -13,6 +13,15 @@ enum Answer {
     Lapped(Lapped),
 }
 
+/// The first lap of a receiver that stood at 0, as this intent showed.
+fn first_lap(intent: u64) -> Answer {
+    Answer::Lapped(Lapped {
+        count: 1,
+        place: 0,
+        intent,
+    })
+}
+
 /// Receives once. The bodies in these tests are all of bytes 7.
 fn received(board: &Board, receiver: &mut CopyReceiver) -> Answer
     requires { IsReceiverOf board.now receiver.old }
@@ -59,12 +68,7 @@ fn goes_to_latest_after_a_lap(rt: HostRuntime) -> Result<(), Fail> {
     let (board, mut transmitter) = Board::new(rt.alloc(), 256)?;
     let mut receiver = board.subscribe(rt.alloc(), &mut transmitter)?;
     send(&board, &mut transmitter, 7, 32);
-    let lapped = Lapped {
-        count: 1,
-        place: 0,
-        intent: 296,
-    };
-    assert_eq!(rt; received(&board, &mut receiver), Answer::Lapped(lapped));
+    assert_eq!(rt; received(&board, &mut receiver), first_lap(296));
     assert_eq!(rt; receiver.lapped_count(), 1);
     assert_eq!(rt; received(&board, &mut receiver), Answer::Copy(256, 1, 32));
     assert_eq!(rt; received(&board, &mut receiver), Answer::Nothing);
@@ -90,12 +94,7 @@ fn a_whole_lap_is_a_lap(rt: HostRuntime) -> Result<(), Fail> {
     let (board, mut transmitter) = Board::new(rt.alloc(), 256)?;
     let mut receiver = board.subscribe(rt.alloc(), &mut transmitter)?;
     send(&board, &mut transmitter, 8, 24);
-    let lapped = Lapped {
-        count: 1,
-        place: 0,
-        intent: 256,
-    };
-    assert_eq!(rt; received(&board, &mut receiver), Answer::Lapped(lapped));
+    assert_eq!(rt; received(&board, &mut receiver), first_lap(256));
     assert_eq!(rt; received(&board, &mut receiver), Answer::Copy(224, 1, 24));
     Ok(())
 }
@@ -117,12 +116,7 @@ fn an_intent_alone_laps(rt: HostRuntime) -> Result<(), Fail> {
     let mut receiver = board.subscribe(rt.alloc(), &mut transmitter)?;
     send(&board, &mut transmitter, 7, 24);
     let begun = begun(&board, transmitter)?;
-    let lapped = Lapped {
-        count: 1,
-        place: 0,
-        intent: 256,
-    };
-    assert_eq!(rt; received(&board, &mut receiver), Answer::Lapped(lapped));
+    assert_eq!(rt; received(&board, &mut receiver), first_lap(256));
     assert_eq!(rt; received(&board, &mut receiver), Answer::Copy(192, 1, 24));
     let filled = board.fill(begun, &[7; 24]);
     assert_eq!(rt; received(&board, &mut receiver), Answer::Nothing);
@@ -141,12 +135,7 @@ fn a_raw_receiver_beside_it_changes_nothing(rt: HostRuntime) -> Result<(), Fail>
     send(&board, &mut transmitter, 7, 24);
     assert!(rt; raw.receive_next(&board).is_ok());
     let _begun = begun(&board, transmitter)?;
-    let lapped = Lapped {
-        count: 1,
-        place: 0,
-        intent: 256,
-    };
-    assert_eq!(rt; received(&board, &mut receiver), Answer::Lapped(lapped));
+    assert_eq!(rt; received(&board, &mut receiver), first_lap(256));
     assert_eq!(rt; received(&board, &mut receiver), Answer::Copy(192, 1, 24));
     Ok(())
 }

@@ -1,13 +1,13 @@
 //! How a receiver finds the next record and copies it.
-ghost use Rattle.std.specs.Prelude.{◌≡◌, ℕ, ◌+◌, ◌-◌, ◌*◌, ◌/◌, ◌%◌, ◌^◌, ◌<◌, ◌≤◌, List, [], ◌∷◌, ◌++◌, length, take, nat_le, MatchResult, MatchOption};
+ghost use Rattle.std.specs.Prelude.{◌≡◌, ℕ, ◌+◌, ◌-◌, ◌*◌, ◌/◌, ◌%◌, ◌^◌, ◌<◌, ◌≤◌, [], length, take, nat_le, MatchResult, MatchOption};
 ghost use Rattle.std.specs.Int.{cast_signed, w32};
 ghost use Rattle.ring_layout.specs.History.{span};
 ghost use Rattle.ring_layout.specs.Places.{max_position};
-ghost use Rattle.ring_board.specs.declared.shared.view.Load.{Load};
-ghost use Rattle.ring_board.specs.declared.shared.view.Stage.TheVariants.{Resting, Padded, Reading};
-ghost use Rattle.ring_board.specs.Records.{announced, body_len, word_count, is_padding, bytes_of};
+ghost use Rattle.ring_board.specs.declared.shared.view.Stage.TheVariants.{Reading};
+ghost use Rattle.ring_board.specs.Records.{announced, body_len, word_count, is_padding};
 ghost use Rattle.ring_board.specs.Steps.{IsSound};
-ghost use Rattle.ring_board.specs.Receiving.{FoundIs, NearIs, IsInside, CopiedWords, TookAll, TookNone, GotNothing, GotCopy, GotRecord, GotMiss};
+ghost use Rattle.ring_board.specs.Receiving.{RestsAt, FoundIs, NearIs, IsInside, CopiedWords, TookAll, TookNone, GotNothing, GotCopy, GotRecord, GotMiss};
+ghost use Rattle.ring_board.specs.Seats.{IsSeatOf, IsSameSeat};
 
 use crate::board::{Board, RawRecord};
 use crate::receiver::found::{Found, Front, Miss};
@@ -47,9 +47,9 @@ impl Board {
 
     /// Goes to the next entry, behind padding where there is some, and loads its header, which is not yet validated.
     fn approach(&self, seat: &mut BoardSeat, place: u64) -> Found
-        requires seat { seat.old.table_id ≡ self.now.table.shared.table_id }
-        requires stage { (seat.old.me.0.stage ≡ Resting) × (seat.old.me.0.at ≡ place) × (seat.old.me.0.capacity ≡ self.now.capacity) × (place ≤ max_position) }
-        ensures same { (seat.new.table_id ≡ seat.old.table_id) × (seat.new.id ≡ seat.old.id) }
+        requires seat { IsSeatOf self.now seat.old }
+        requires stage { RestsAt self.now.capacity place seat.old.me }
+        ensures same { IsSameSeat seat.old seat.new }
         ensures near { NearIs result seat.old.me seat.new.me }
     {
         let tail = self.load_tail(seat);
@@ -60,28 +60,28 @@ impl Board {
         if !is_padding(header) {
             return Found::Entry(place, header);
         }
-        let intent = self.check_header(seat);
+        let intent = self.load_intent(seat);
         if self.is_lapped(place, intent) {
             return Found::Missed(place, intent);
         }
         let behind = place + announced(header);
-        Found::Entry(behind, self.load_header_behind(seat, behind))
+        Found::Entry(behind, self.load_header(seat, behind))
     }
 
     /// Looks for the next entry, and validates its header.
     fn find(&self, seat: &mut BoardSeat, place: u64) -> Found
-        requires seat { seat.old.table_id ≡ self.now.table.shared.table_id }
-        requires stage { (seat.old.me.0.stage ≡ Resting) × (seat.old.me.0.at ≡ place) × (seat.old.me.0.capacity ≡ self.now.capacity) × (place ≤ max_position) }
-        ensures same { (seat.new.table_id ≡ seat.old.table_id) × (seat.new.id ≡ seat.old.id) }
+        requires seat { IsSeatOf self.now seat.old }
+        requires stage { RestsAt self.now.capacity place seat.old.me }
+        ensures same { IsSameSeat seat.old seat.new }
         ensures found { FoundIs result seat.old.me seat.new.me }
     {
         match self.approach(seat, place) {
             Found::Nothing(tail) => Found::Nothing(tail),
             Found::Missed(place, intent) => Found::Missed(place, intent),
             Found::Entry(place, header) => {
-                let intent = self.check_entry(seat);
-                if self.is_lapped(place, intent) {
-                    Found::Missed(place, intent)
+                let intent_before = self.load_intent(seat);
+                if self.is_lapped(place, intent_before) {
+                    Found::Missed(place, intent_before)
                 } else {
                     Found::Entry(place, header)
                 }
@@ -91,9 +91,9 @@ impl Board {
 
     /// Answers the next record unread, if there is one. Or else gives the place and the intent of a failed validation.
     pub(crate) fn answer(&self, seat: &mut BoardSeat, place: u64) -> Result<Option<RawRecord>, Miss>
-        requires seat { seat.old.table_id ≡ self.now.table.shared.table_id }
-        requires stage { (seat.old.me.0.stage ≡ Resting) × (seat.old.me.0.at ≡ place) × (seat.old.me.0.capacity ≡ self.now.capacity) × (place ≤ max_position) }
-        ensures same { (seat.new.table_id ≡ seat.old.table_id) × (seat.new.id ≡ seat.old.id) }
+        requires seat { IsSeatOf self.now seat.old }
+        requires stage { RestsAt self.now.capacity place seat.old.me }
+        ensures same { IsSameSeat seat.old seat.new }
         ensures got { MatchResult result (λ o. MatchOption o (GotNothing seat.old.me seat.new.me) (λ r. GotRecord r seat.old.me seat.new.me × IsInside seat.old.me.0.capacity r))
             (λ m. GotMiss m.place m.intent seat.old.me seat.new.me) }
     {
@@ -116,11 +116,11 @@ impl Board {
 
     /// Copies the words of the body behind a validated header to the front of the scratch.
     fn copy_body(&self, seat: &mut BoardSeat, place: u64, words: usize, scratch: &mut [u8])
-        requires seat { seat.old.table_id ≡ self.now.table.shared.table_id }
+        requires seat { IsSeatOf self.now seat.old }
         requires stage { (w : ℕ) × (seat.old.me.0.stage ≡ Reading w []) × (words ≡ word_count (body_len w)) × (seat.old.me.0.at ≡ place) }
         requires inside { (place % 8 ≡ 0) × (place % self.now.capacity + 8 + 8 * words ≤ self.now.capacity) }
         requires room { 8 * words ≤ length scratch.old }
-        ensures same { (seat.new.table_id ≡ seat.old.table_id) × (seat.new.id ≡ seat.old.id) }
+        ensures same { IsSameSeat seat.old seat.new }
         ensures copied { (w : ℕ) → seat.old.me.0.stage ≡ Reading w [] → CopiedWords w words scratch.new seat.old.me seat.new.me }
     {
         let first = self.index(place) + 1;
@@ -139,18 +139,18 @@ impl Board {
         header: u64,
         scratch: &mut [u8],
     ) -> Result<usize, u64>
-        requires seat { seat.old.table_id ≡ self.now.table.shared.table_id }
+        requires seat { IsSeatOf self.now seat.old }
         requires stage { (seat.old.me.0.stage ≡ Reading header []) × (seat.old.me.0.at ≡ place) × (seat.old.me.0.capacity ≡ self.now.capacity) }
         requires sound { IsSound self.now.capacity place header }
         requires room { length scratch.old ≡ self.now.capacity / 8 }
-        ensures same { (seat.new.table_id ≡ seat.old.table_id) × (seat.new.id ≡ seat.old.id) }
+        ensures same { IsSameSeat seat.old seat.new }
         ensures took { MatchResult result (λ len. TookAll header len scratch.new seat.old.me seat.new.me × (len ≡ body_len header)) (λ x. TookNone x seat.old.me seat.new.me) }
     {
         let len = announced(header) as usize - HEADER_LENGTH;
         self.copy_body(seat, place, len.div_ceil(8), scratch);
-        let intent = self.check_copy(seat);
-        if self.is_lapped(place, intent) {
-            Err(intent)
+        let intent_after = self.load_intent(seat);
+        if self.is_lapped(place, intent_after) {
+            Err(intent_after)
         } else {
             Ok(len)
         }
@@ -164,10 +164,10 @@ impl Board {
         place: u64,
         scratch: &mut [u8],
     ) -> Result<Option<Front>, Miss>
-        requires seat { seat.old.table_id ≡ self.now.table.shared.table_id }
-        requires stage { (seat.old.me.0.stage ≡ Resting) × (seat.old.me.0.at ≡ place) × (seat.old.me.0.capacity ≡ self.now.capacity) × (place ≤ max_position) }
+        requires seat { IsSeatOf self.now seat.old }
+        requires stage { RestsAt self.now.capacity place seat.old.me }
         requires room { length scratch.old ≡ self.now.capacity / 8 }
-        ensures same { (seat.new.table_id ≡ seat.old.table_id) × (seat.new.id ≡ seat.old.id) }
+        ensures same { IsSameSeat seat.old seat.new }
         ensures got { MatchResult result (λ o. MatchOption o (GotNothing seat.old.me seat.new.me) (λ f. GotCopy f.place f.type_id (take f.len scratch.new) seat.old.me seat.new.me))
             (λ m. GotMiss m.place m.intent seat.old.me seat.new.me) }
         ensures bound { MatchResult result (λ o. MatchOption o (Unit {0}) (λ f. (f.place + span f.len ≤ max_position) × (f.len ≤ length scratch.new))) (λ m. Unit {0}) }

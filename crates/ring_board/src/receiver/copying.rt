@@ -1,5 +1,5 @@
 //! Copying receivers.
-ghost use Rattle.std.specs.Prelude.{◌≡◌, ℕ, ◌+◌, ◌/◌, ◌<◌, ◌≤◌, List, length, take, IfOk, OnErr, MatchResult, MatchOption};
+ghost use Rattle.std.specs.Prelude.{◌≡◌, ◌+◌, ◌/◌, ◌<◌, ◌≤◌, take, IfOk, OnErr, MatchResult, MatchOption};
 
 use crate::board::{Board, Copied, CopyReceiver, Transmitter};
 use crate::fault::{Lapped, SubscribeFault};
@@ -32,9 +32,7 @@ impl Board {
         let scratch = vec![in alloc; 0u8; self.capacity as usize / 8].map_err(
             |_| SubscribeFault::OutOfMemory,
         )?;
-        let place = self.learn(&mut transmitter.seat);
-        let seat = self.split_off(&mut transmitter.seat);
-        transmitter.shares -= 1;
+        let (seat, place) = self.seat_receiver(transmitter);
         Ok(CopyReceiver {
             seat,
             place,
@@ -58,16 +56,13 @@ impl Board {
             count: _,
             scratch: _,
         } = receiver;
-        self.take_in(&mut transmitter.seat, seat);
-        self.learn(&mut transmitter.seat);
-        transmitter.shares += 1;
+        self.take_back(transmitter, seat);
     }
 }
 
 impl CopyReceiver {
     ghost use Rattle.std.specs.Borrow.{sem};
     ghost use Rattle.std.specs.Prelude.{vec_len};
-    ghost use Rattle.ring_layout.specs.History.{span};
     ghost use Rattle.ring_board.specs.Receiving.{GotNothing, GotCopy, GotLapped};
     ghost use Rattle.ring_board.specs.Seats.{IsReceiverOf, receiver_seat, stands_at, lapped_count_of, Received};
     ghost use Rattle.ring_board.specs.Lending.{Rests};

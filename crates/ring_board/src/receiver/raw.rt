@@ -1,5 +1,6 @@
 //! Raw receivers.
-ghost use Rattle.std.specs.Prelude.{◌≡◌, ◌==◌, ℕ, ◌+◌, ◌≤◌, true, length, take, drop, IfOk, OnErr, MatchResult, MatchOption};
+ghost use Rattle.std.specs.Prelude.{◌≡◌, ◌==◌, ◌+◌, ◌≤◌, true, length, take, drop, IfOk, OnErr};
+ghost use Rattle.ring_board.specs.Seats.{IsSeatOf, IsSameSeat};
 
 use crate::board::{Board, RawRecord, Receiver, Transmitter};
 use crate::fault::{Lapped, NoShares};
@@ -25,9 +26,7 @@ impl Board {
         if transmitter.shares <= 1 {
             return Err(NoShares);
         }
-        let place = self.learn(&mut transmitter.seat);
-        let seat = self.split_off(&mut transmitter.seat);
-        transmitter.shares -= 1;
+        let (seat, place) = self.seat_receiver(transmitter);
         Ok(Receiver {
             seat,
             place,
@@ -49,17 +48,13 @@ impl Board {
             place: _,
             count: _,
         } = receiver;
-        self.take_in(&mut transmitter.seat, seat);
-        self.learn(&mut transmitter.seat);
-        transmitter.shares += 1;
+        self.take_back(transmitter, seat);
     }
 }
 
 impl Receiver {
-    ghost use Rattle.ring_board.specs.declared.board.RawRecord.{RawRecord};
-    ghost use Rattle.ring_board.specs.Receiving.{GotNothing, GotRecord, GotLapped};
     ghost use Rattle.ring_board.specs.Bodies.{GaveBody, IsRight, Validated};
-    ghost use Rattle.ring_board.specs.Seats.{IsRawOf, IsAnswered, raw_seat, raw_view, raw_stands_at, raw_lapped_count_of, place_of, len_of};
+    ghost use Rattle.ring_board.specs.Seats.{IsRawOf, IsAnswered, raw_seat, raw_view, raw_stands_at, raw_lapped_count_of, ReceivedNext, StaysAnswered, place_of, len_of};
 
     /// Where it stands, as a position in bytes: the next call looks for a record there. After `Lapped` the bytes that it
     /// passed over are this less `Lapped.place`; they are never 0.
@@ -81,9 +76,8 @@ impl Receiver {
     pub fn receive_next(&mut self, board: &Board) -> Result<Option<RawRecord>, Lapped>
         requires { IsRawOf board.now self.old }
         ensures board { IsRawOf board.now self.new }
-        ensures got { MatchResult result (λ o. MatchOption o (GotNothing (raw_seat self.old) (raw_seat self.new)) (λ r. GotRecord r (raw_seat self.old) (raw_seat self.new) × IsAnswered (raw_view self.new) r))
-            (λ l. GotLapped l (raw_seat self.old) (raw_seat self.new)) }
-        ensures kept { (r : RawRecord) → IsAnswered (raw_view self.old) r → IsAnswered (raw_view self.new) r }
+        ensures got { ReceivedNext self.old self.new result }
+        ensures kept { StaysAnswered self.old self.new }
     {
         match board.answer(&mut self.seat, self.place) {
             Ok(None) => Ok(None),
@@ -112,7 +106,7 @@ impl Receiver {
         ensures board { IsRawOf board.now self.new }
         ensures gave { GaveBody (place_of raw.now) (take (len_of raw.now) out.new) (raw_seat self.old) (raw_seat self.new) }
         ensures rest { drop (len_of raw.now) out.new ≡ drop (len_of raw.now) out.old }
-        ensures kept { (r : RawRecord) → IsAnswered (raw_view self.old) r → IsAnswered (raw_view self.new) r }
+        ensures kept { StaysAnswered self.old self.new }
     {
         board.load_answered(&mut self.seat, raw, &mut out[..raw.len]);
     }
@@ -125,7 +119,7 @@ impl Receiver {
         ensures board { IsRawOf board.now self.new }
         ensures validated { Validated raw.now result (raw_seat self.old) (raw_seat self.new) }
         ensures right { result ≡ true → IsRight (raw_view self.old) raw.now }
-        ensures kept { (r : RawRecord) → IsAnswered (raw_view self.old) r → IsAnswered (raw_view self.new) r }
+        ensures kept { StaysAnswered self.old self.new }
     {
         let intent = board.check_answered(&mut self.seat);
         !board.is_lapped(raw.place, intent)
@@ -139,10 +133,10 @@ impl Board {
 
     /// Loads the body of a record that was answered unread, which is as long as `out`.
     fn load_answered(&self, seat: &mut BoardSeat, raw: &RawRecord, out: &mut [u8])
-        requires seat { seat.old.table_id ≡ self.now.table.shared.table_id }
+        requires seat { IsSeatOf self.now seat.old }
         requires stage { (seat.old.me.0.stage ≡ Resting) × (seat.old.me.0.capacity ≡ self.now.capacity) }
         requires raw { IsAnswered seat.old.me.0 raw.now × (length out.old ≡ len_of raw.now) }
-        ensures same { (seat.new.table_id ≡ seat.old.table_id) × (seat.new.id ≡ seat.old.id) }
+        ensures same { IsSameSeat seat.old seat.new }
         ensures gave { GaveBody (place_of raw.now) out.new seat.old.me seat.new.me }
     {
         let first = self.index(raw.place) + 1;

@@ -1,128 +1,131 @@
-//! What each step tells. These types are for the proofs alone.
-ghost use Rattle.ring_board.specs.Steps.{Begins, Pads, PutsWord, PutsHeader, Shows, Sends, SeesTail, SeesHeader, SeesWord, SeesIntent, SeesAnswer, SeesLatest, Learns, fewer, newcomer, joined, spent};
-ghost use Rattle.ring_board.specs.Bodies.{SeesBody, SeesValid};
+//! What each step tells. A load of a counter tells that the step was one of that counter's word. These types are for the
+//! proofs alone.
+ghost use Rattle.std.specs.Prelude.{◌≡◌};
+ghost use Rattle.ring_board.specs.Layout.{intent_index, tail_index, latest_index};
+ghost use Rattle.ring_board.specs.Steps.{StoresIntent, StoresPadding, StoresWord, StoresHeader, StoresLatest, StoresTail, LoadsTail, LoadsHeader, LoadsWord, LoadsIntent, AnswersEntry, LoadsLatest, Learns, fewer, newcomer, joined, spent};
+ghost use Rattle.ring_board.specs.Bodies.{LoadsUnread, ChecksAnswered};
 
 use crate::shared::view::View;
 use atomic_table::{Join, Play, Split};
 
 /// The intent is stored.
-pub struct Begin;
+pub struct StoreIntent;
 
-impl Play<(), View> for Begin {
-    ghost then = { Begins };
+impl Play<(), View> for StoreIntent {
+    ghost then = { λ st m x m'. StoresIntent m x m' };
 }
 
 /// A padding header is stored.
-pub struct Pad;
+pub struct StorePadding;
 
-impl Play<(), View> for Pad {
-    ghost then = { Pads };
+impl Play<(), View> for StorePadding {
+    ghost then = { λ st m x m'. StoresPadding m x m' };
 }
 
 /// A word of the body is stored.
-pub struct PutWord;
+pub struct StoreWord;
 
-impl Play<(), View> for PutWord {
-    ghost then = { PutsWord };
+impl Play<(), View> for StoreWord {
+    ghost then = { λ st m x m'. StoresWord m x m' };
 }
 
 /// The header is stored.
-pub struct PutHeader;
+pub struct StoreHeader;
 
-impl Play<(), View> for PutHeader {
-    ghost then = { PutsHeader };
+impl Play<(), View> for StoreHeader {
+    ghost then = { λ st m x m'. StoresHeader m x m' };
 }
 
 /// Latest is stored.
-pub struct Show;
+pub struct StoreLatest;
 
-impl Play<(), View> for Show {
-    ghost then = { Shows };
+impl Play<(), View> for StoreLatest {
+    ghost then = { λ st m x m'. StoresLatest m x m' };
 }
 
 /// The tail is stored.
-pub struct Send;
+pub struct StoreTail;
 
-impl Play<(), View> for Send {
-    ghost then = { Sends };
+impl Play<(), View> for StoreTail {
+    ghost then = { λ st m x m'. StoresTail m x m' };
 }
 
 /// The tail is loaded.
-pub struct SeeTail;
+pub struct LoadTail;
 
-impl Play<(), View> for SeeTail {
-    ghost then = { SeesTail };
+impl Play<(), View> for LoadTail {
+    ghost then = { λ st m x m'. LoadsTail m x m' × (st.word ≡ tail_index m.0.capacity) };
 }
 
 /// A header is loaded.
-pub struct SeeHeader;
+pub struct LoadHeader;
 
-impl Play<(), View> for SeeHeader {
-    ghost then = { SeesHeader };
+impl Play<(), View> for LoadHeader {
+    ghost then = { λ st m x m'. LoadsHeader st.word m x m' };
 }
 
 /// A word of a body is loaded.
-pub struct SeeWord;
+pub struct LoadWord;
 
-impl Play<(), View> for SeeWord {
-    ghost then = { SeesWord };
+impl Play<(), View> for LoadWord {
+    ghost then = { λ st m x m'. LoadsWord st.word m x m' };
 }
 
-/// The intent is loaded, to validate.
-pub struct SeeIntent;
+/// The intent is loaded, to validate what was loaded before.
+pub struct LoadIntent;
 
-impl Play<(), View> for SeeIntent {
-    ghost then = { SeesIntent };
+impl Play<(), View> for LoadIntent {
+    ghost then = { λ st m x m'. LoadsIntent m x m' × (st.word ≡ intent_index m.0.capacity) };
 }
 
 /// The intent is loaded, to validate a header that is answered unread.
-pub struct SeeAnswer;
+pub struct AnswerEntry;
 
-impl Play<(), View> for SeeAnswer {
-    ghost then = { SeesAnswer };
+impl Play<(), View> for AnswerEntry {
+    ghost then = { λ st m x m'. AnswersEntry m x m' × (st.word ≡ intent_index m.0.capacity) };
 }
 
 /// A word of the body of an answered record is loaded.
-pub struct SeeBody;
+pub struct LoadUnread;
 
-impl Play<(), View> for SeeBody {
-    ghost then = { SeesBody };
+impl Play<(), View> for LoadUnread {
+    ghost then = { λ st m x m'. LoadsUnread st.word m x m' };
 }
 
 /// The intent is loaded, to validate what was loaded of an answered record.
-pub struct SeeValid;
+pub struct CheckAnswered;
 
-impl Play<(), View> for SeeValid {
-    ghost then = { SeesValid };
+impl Play<(), View> for CheckAnswered {
+    ghost then = { λ st m x m'. ChecksAnswered m x m' × (st.word ≡ intent_index m.0.capacity) };
 }
 
 /// Latest is loaded, after a failed validation.
-pub struct SeeLatest;
+pub struct LoadLatest;
 
-impl Play<(), View> for SeeLatest {
-    ghost then = { SeesLatest };
+impl Play<(), View> for LoadLatest {
+    ghost then = { λ st m x m'. LoadsLatest m x m' × (st.word ≡ latest_index m.0.capacity) };
 }
 
 /// Latest is loaded by the transmitter.
 pub struct Learn;
 
 impl Play<(), View> for Learn {
-    ghost then = { Learns };
+    ghost then = { λ st m x m'. Learns m x m' × (st.word ≡ latest_index m.0.capacity) };
 }
 
 /// The transmitter gives a share to a receiver.
-pub struct Subscribe;
+pub struct SplitOff;
 
-impl Split<View> for Subscribe {
+impl Split<View> for SplitOff {
     ghost left = { fewer };
 
     ghost right = { newcomer };
 }
 
 /// A receiver gives its share back.
-pub struct Leave;
+pub struct TakeIn;
 
-impl Join<View> for Leave {
+impl Join<View> for TakeIn {
     ghost both = { joined };
 
     ghost spent = { spent };

@@ -1,17 +1,20 @@
 //! The transmitter's steps: each is one store.
-ghost use Rattle.std.specs.Prelude.{◌≡◌, ℕ, ◌+◌, ◌-◌, ◌*◌, ◌/◌, ◌%◌, ◌^◌, ◌<◌, ◌≤◌, pos, ◌≤ℤ◌, List, [], ◌∷◌, length};
+ghost use Rattle.std.specs.Prelude.{◌≡◌, ◌+◌, ◌-◌, ◌*◌, ◌/◌, ◌%◌, ◌<◌, ◌≤◌, [], length};
 ghost use Rattle.ring_layout.specs.declared.message.Message.{Message};
 ghost use Rattle.ring_layout.specs.History.{IsMessage, span};
-ghost use Rattle.ring_layout.specs.Places.{index, max_position, next_place};
+ghost use Rattle.ring_layout.specs.Places.{index, max_position};
 ghost use Rattle.ring_layout.specs.Headers.{padding_header};
 ghost use Rattle.ring_board.specs.declared.shared.view.Record.{Record};
 ghost use Rattle.ring_board.specs.declared.shared.view.Draft.{Draft};
 ghost use Rattle.ring_board.specs.declared.shared.view.Stage.TheVariants.{Idle, Begun, Storing, Written, Shown};
 ghost use Rattle.ring_board.specs.Records.{end, Lies, words_of, header_of};
-ghost use Rattle.ring_board.specs.Steps.{staged, place_before, started, after_padding, after_words, after_header, after_latest, after_tail};
+ghost use Rattle.ring_board.specs.Steps.{staged, place_before, after_words, StoresIntent, StoresPadding, StoresWord, StoresHeader, StoresLatest, StoresTail};
+ghost use Rattle.ring_board.specs.Seats.{IsSeatOf, IsSameSeat};
 
 use crate::board::Board;
-use crate::shared::plays::{Begin, Pad, PutHeader, PutWord, Send, Show};
+use crate::shared::plays::{
+    StoreHeader, StoreIntent, StoreLatest, StorePadding, StoreTail, StoreWord,
+};
 use crate::shared::view::BoardSeat;
 use ring_layout::broadcast_buffer_descriptor::{
     LATEST_COUNTER_WORD, TAIL_COUNTER_WORD, TAIL_INTENT_COUNTER_WORD,
@@ -36,80 +39,83 @@ impl Board {
 
     /// Stores the intent: a transmission begins that is to end at `end`.
     pub(crate) fn store_intent(&self, seat: &mut BoardSeat, end: u64)
-        requires seat { seat.old.table_id ≡ self.now.table.shared.table_id }
+        requires seat { IsSeatOf self.now seat.old }
         requires idle { seat.old.me.0.stage ≡ Idle }
         requires limit { end ≤ max_position }
         requires fits { Lies self.now.capacity seat.old.me.0.at seat.old.me.0.at (place_before self.now.capacity seat.old.me.0.at end) end }
-        ensures same { (seat.new.table_id ≡ seat.old.table_id) × (seat.new.id ≡ seat.old.id) }
-        ensures begun { seat.new.me ≡ (started seat.old.me.0 end, seat.old.me.1) }
+        ensures same { IsSameSeat seat.old seat.new }
+        ensures begun { StoresIntent seat.old.me end seat.new.me }
     {
-        let index = self.trailer_index(TAIL_INTENT_COUNTER_WORD);
-        self.table.shared.store::<Begin>(seat, index, end);
+        self.table
+            .shared
+            .store::<StoreIntent>(seat, self.trailer_index(TAIL_INTENT_COUNTER_WORD), end);
     }
 
     /// Stores the padding header before a record.
     pub(crate) fn store_padding(&self, seat: &mut BoardSeat, before: u64, word: u64)
-        requires seat { seat.old.table_id ≡ self.now.table.shared.table_id }
+        requires seat { IsSeatOf self.now seat.old }
         requires stage { (d : Draft) × (seat.old.me.0.stage ≡ Begun d) × (before ≡ d.before) × (word ≡ padding_header (d.place - d.before)) }
-        ensures same { (seat.new.table_id ≡ seat.old.table_id) × (seat.new.id ≡ seat.old.id) }
-        ensures padded { seat.new.me ≡ (staged seat.old.me.0 (after_padding seat.old.me.0.stage), seat.old.me.1) }
+        ensures same { IsSameSeat seat.old seat.new }
+        ensures padded { StoresPadding seat.old.me word seat.new.me }
     {
         self.table
             .shared
-            .store::<Pad>(seat, self.index(before), word);
+            .store::<StorePadding>(seat, self.index(before), word);
     }
 
     /// Stores the next word of a body.
     pub(crate) fn store_word(&self, seat: &mut BoardSeat, at: usize, word: u64)
-        requires seat { seat.old.table_id ≡ self.now.table.shared.table_id }
+        requires seat { IsSeatOf self.now seat.old }
         requires stage { (d : Draft) × (seat.old.me.0.stage ≡ Storing d) × (at ≡ index self.now.capacity (d.place + 8 + 8 * length d.words)) × (d.place + 8 + 8 * length d.words < d.end) }
-        ensures same { (seat.new.table_id ≡ seat.old.table_id) × (seat.new.id ≡ seat.old.id) }
-        ensures put { seat.new.me ≡ (staged seat.old.me.0 (after_words seat.old.me.0.stage (word ∷ [])), seat.old.me.1) }
+        ensures same { IsSameSeat seat.old seat.new }
+        ensures put { StoresWord seat.old.me word seat.new.me }
     {
-        self.table.shared.store::<PutWord>(seat, at, word);
+        self.table.shared.store::<StoreWord>(seat, at, word);
     }
 
     /// Stores the header of a record whose body is stored.
     pub(crate) fn store_header(&self, seat: &mut BoardSeat, place: u64, word: u64)
-        requires seat { seat.old.table_id ≡ self.now.table.shared.table_id }
+        requires seat { IsSeatOf self.now seat.old }
         requires stage { (d : Draft) × (m : Message) × (seat.old.me.0.stage ≡ Storing d) × (place ≡ d.place) × IsMessage self.now.capacity m × (words_of m.body ≡ d.words) × (d.place + span (length m.body) ≡ d.end) × (word ≡ header_of m) }
-        ensures same { (seat.new.table_id ≡ seat.old.table_id) × (seat.new.id ≡ seat.old.id) }
-        ensures written { seat.new.me ≡ (staged seat.old.me.0 (after_header seat.old.me.0.stage word), seat.old.me.1) }
+        ensures same { IsSameSeat seat.old seat.new }
+        ensures written { StoresHeader seat.old.me word seat.new.me }
     {
         self.table
             .shared
-            .store::<PutHeader>(seat, self.index(place), word);
+            .store::<StoreHeader>(seat, self.index(place), word);
     }
 
     /// Stores latest: receivers that subscribe or are lapped go to this record.
     pub(crate) fn store_latest(&self, seat: &mut BoardSeat, place: u64)
-        requires seat { seat.old.table_id ≡ self.now.table.shared.table_id }
+        requires seat { IsSeatOf self.now seat.old }
         requires stage { (r : Record) × (seat.old.me.0.stage ≡ Written r) × (place ≡ r.place) }
-        ensures same { (seat.new.table_id ≡ seat.old.table_id) × (seat.new.id ≡ seat.old.id) }
-        ensures shown { seat.new.me ≡ (staged seat.old.me.0 (after_latest seat.old.me.0.stage), seat.old.me.1) }
+        ensures same { IsSameSeat seat.old seat.new }
+        ensures shown { StoresLatest seat.old.me place seat.new.me }
     {
-        let index = self.trailer_index(LATEST_COUNTER_WORD);
-        self.table.shared.store::<Show>(seat, index, place);
+        self.table
+            .shared
+            .store::<StoreLatest>(seat, self.trailer_index(LATEST_COUNTER_WORD), place);
     }
 
     /// Stores the tail: the record is transmitted.
     pub(crate) fn store_tail(&self, seat: &mut BoardSeat, tail: u64)
-        requires seat { seat.old.table_id ≡ self.now.table.shared.table_id }
+        requires seat { IsSeatOf self.now seat.old }
         requires stage { (r : Record) × (seat.old.me.0.stage ≡ Shown r) × (tail ≡ end r) }
-        ensures same { (seat.new.table_id ≡ seat.old.table_id) × (seat.new.id ≡ seat.old.id) }
-        ensures sent { seat.new.me ≡ (after_tail seat.old.me.0 seat.old.me.0.stage, seat.old.me.1) }
+        ensures same { IsSameSeat seat.old seat.new }
+        ensures sent { StoresTail seat.old.me tail seat.new.me }
     {
-        let index = self.trailer_index(TAIL_COUNTER_WORD);
-        self.table.shared.store::<Send>(seat, index, tail);
+        self.table
+            .shared
+            .store::<StoreTail>(seat, self.trailer_index(TAIL_COUNTER_WORD), tail);
     }
 
     /// Stores a body behind the place of its record.
     pub(crate) fn store_body(&self, seat: &mut BoardSeat, place: u64, body: &[u8])
-        requires seat { seat.old.table_id ≡ self.now.table.shared.table_id }
+        requires seat { IsSeatOf self.now seat.old }
         requires stage { (d : Draft) × (seat.old.me.0.stage ≡ Storing d) × (d.words ≡ []) × (d.place ≡ place) × (place + span (length body.now) ≡ d.end) }
         requires place { (place % 8 ≡ 0) × (place ≤ max_position) }
         requires inside { place % self.now.capacity + span (length body.now) ≤ self.now.capacity }
-        ensures same { (seat.new.table_id ≡ seat.old.table_id) × (seat.new.id ≡ seat.old.id) }
+        ensures same { IsSameSeat seat.old seat.new }
         ensures put { seat.new.me ≡ (staged seat.old.me.0 (after_words seat.old.me.0.stage (words_of body.now)), seat.old.me.1) }
     {
         let first = self.index(place) + 1;
