@@ -13,5 +13,6 @@ pub mod SizeLemmas
 pub mod AccountLemmas
 pub mod SendingLemmas
 pub mod AskingLemmas
+pub mod TurnLemmas
 pub mod StormLemmas
 pub mod WholeLemmas

@@ -6,16 +6,10 @@ use Rattle.ring_table.specs.declared.view.View.{View}
 use Rattle.ring_table.specs.OpenClaims.{open_count}
 use Rattle.ring_table.specs.Owners.{insert_claim, interleaved}
 use Rattle.ring_table.proofs.LawLemmas.{open_count-interleaved}
-use Rattle.ring_table.specs.ServiceSteps.{DrawsId}
 use Rattle.ring_rings.specs.Claiming.{RefusesTry, Writes, record_behind}
 use Rattle.ring_rings.specs.declared.fault.TryFault.{TryFault}
 use Rattle.ring_rings.specs.declared.fault.TryFault.TheVariants.{Refused, Contended}
 use Rattle.ring_rings.specs.Joining.{Joins}
-use Rattle.ring_conductor.specs.declared.client.SendFault.{SendFault}
-use Rattle.ring_conductor.specs.declared.client.SendFault.TheVariants as fault
-use Rattle.ring_conductor.specs.declared.client.request.Request.{Request}
-use Rattle.ring_conductor.specs.Asking.{asked, IsSendable, RefusesAs, SendsAs}
-use Rattle.ring_conductor.specs.Command.{spelling_of, type_id_of}
 use Rattle.ring_rings.proofs.CountLemmas.{open_count-more}
 
 -- shares and open claims are as before, and there are n more claims
@@ -53,16 +47,6 @@ pub tried : {T : Type 0} (C : ℕ) (type_id : ℤ) (body : List ℕ) (v w : View
     → Sends (if is_ok r then 1 else 0) v w
 tried C type_id body v w (Ok done) ok err = written C type_id body v w ok
 tried C type_id body v w (Err fault) ok err = refused C type_id (length body) v fault w err
-
--- after one try of a client there is one claim more, or none
-pub sent_as : {T : Type 0} (C id : ℕ) (request : Request) (v w : View) (r : Result T SendFault) → OnOk r (IsSendable request × SendsAs C id request v w)
-    → IfErr r (λ fault. RefusesAs C id request v fault w) → length w.producer.claims ≡ length v.producer.claims + (if is_ok r then 1 else 0)
-sent_as C id request v w (Ok done) ok err = (written C (type_id_of (asked request id)) (spelling_of (asked request id)) v w ok.1).claims
-sent_as C id request v w (Err fault.TooLong) ok err = (kept v w (ap (λ (u : View). u.producer.shares) err.1) (ap (λ (u : View). u.producer.claims) err.1)).claims
-sent_as C id request v w (Err (fault.Refused correlation reason)) ok err = (refused C (type_id_of (asked request id)) (length (spelling_of (asked request id))) v reason w err.2).claims
-
-pub drawn : (v : View) (n : ℕ) (w : View) → DrawsId v n w → Sends 0 v w
-drawn v n w h = kept v w (ap (λ (u : View). u.producer.shares) h.view) (ap (λ (u : View). u.producer.claims) h.view)
 
 -- Two producers put together ---------------------------------------------------
 

@@ -11,7 +11,7 @@ use Rattle.ring_conductor.specs.declared.conductor.serve.Serving.{Serving}
 use Rattle.ring_conductor.specs.declared.conductor.Work.{Work}
 use Rattle.ring_conductor.specs.declared.conductor.WorkStop.TheVariants as work
 use Rattle.ring_conductor.specs.Fold.{Ledger}
-use Rattle.ring_conductor.specs.Serving.{IsSameHandler, Serves, IsAtEnd, ledger_of}
+use Rattle.ring_conductor.specs.Serving.{IsSameHandler, ActsOn, IsAtEnd, ledger_of}
 use Rattle.ring_conductor.specs.Conducting.{Works, work_stop}
 use Rattle.ring_conductor.proofs.FoldLemmas.{Folds, folded, left, never_breaks, answered, lengths}
 
@@ -22,21 +22,21 @@ is_unpublished Unpublished e = cc
 is_unpublished Action e = cc
 
 module _ (limit : ℕ) (v w : View) (s t : Serving) (end : ReadEnd) where
-  broke_off : Broke Serves limit v w s t end → ⊥
+  broke_off : Broke ActsOn limit v w s t end → ⊥
   broke_off broke =
       let ms = messages_of broke.reads.messages in
-      never_breaks s t ms broke.before (subst (λ actions. Handles Serves s ms actions t) broke.broke broke.reads.handled)
+      never_breaks s t ms broke.before (subst (λ actions. Handles ActsOn s ms actions t) broke.broke broke.reads.handled)
 
-  folds_on : (on : WentOn Serves limit v w s t end) → Folds s (messages_of on.reads.messages) t
+  folds_on : (on : WentOn ActsOn limit v w s t end) → Folds s (messages_of on.reads.messages) t
   folds_on on = folded s t (messages_of on.reads.messages) on.reads.actions on.reads.handled on.went_on
 
-  folds_off : (off : Aborts Serves limit v w s t end) → Folds s (messages_of off.reads.messages) t
+  folds_off : (off : Aborts ActsOn limit v w s t end) → Folds s (messages_of off.reads.messages) t
   folds_off off =
       let ms = messages_of off.reads.messages in
       left s off.before t off.message ms (folded s off.before ms off.reads.actions off.reads.handled off.went_on) off.aborted
 
   -- the handler is the same afterwards
-  pub stays : Controls Serves limit v w s t end → IsSameHandler s t
+  pub stays : Controls ActsOn limit v w s t end → IsSameHandler s t
   stays (inl on) = (folds_on on).0
   stays (inr (inl broke)) = absurd (broke_off broke)
   stays (inr (inr off)) = (folds_off off).0
@@ -53,7 +53,7 @@ module _ (limit : ℕ) (v w : View) (s t : Serving) (end : ReadEnd) (done : Work
   abbrev Done : Type 0
   Done = Works s.now limit v w (ledger_of s) (ledger_of t) done
 
-  went_on : WentOn Serves limit v w s t end → Done
+  went_on : WentOn ActsOn limit v w s t end → Done
   went_on on =
       let f = folds_on limit v w s t end on in
       record {
@@ -73,7 +73,7 @@ module _ (limit : ℕ) (v w : View) (s t : Serving) (end : ReadEnd) (done : Work
         blocked = λ e. r.blocked (is_unpublished end.stopped (sym r.stopped ∙ e));
       }
 
-  cut_off : Aborts Serves limit v w s t end → Done
+  cut_off : Aborts ActsOn limit v w s t end → Done
   cut_off off =
       let a = off.aborted in
       let f = folds_off limit v w s t end off in
@@ -97,7 +97,7 @@ module _ (limit : ℕ) (v w : View) (s t : Serving) (end : ReadEnd) (done : Work
         blocked = λ e. r.blocked (is_unpublished end.stopped (sym r.stopped ∙ e));
       }
 
-  pub worked : Controls Serves limit v w s t end → Done
+  pub worked : Controls ActsOn limit v w s t end → Done
   worked (inl on) = went_on on
   worked (inr (inl broke)) = absurd (broke_off limit v w s t end broke)
   worked (inr (inr off)) = cut_off off

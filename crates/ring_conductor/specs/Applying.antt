@@ -1,9 +1,17 @@
 -- What a call does to the counters.
-use Rattle.std.specs.Prelude.{◌≡◌, ◌++◌}
+use Rattle.std.specs.Prelude.{◌≡◌, ℕ, ◌++◌}
 use Rattle.ring_counters.specs.declared.manager.CountersManager.{CountersManager}
 use Rattle.ring_counters.specs.Manager.{registry_of, writes_of, shares_of, table_of}
 use Rattle.ring_conductor.specs.declared.protocol.reply.Reply.{Reply}
-use Rattle.ring_conductor.specs.Applied.{Outcome}
+use Rattle.ring_counters.specs.Registry.{Registry, allocation_of, new_counter}
+use Rattle.ring_conductor.specs.declared.conductor.apply.Wanted.{Wanted}
+use Rattle.ring_conductor.specs.Applied.{Outcome, allocated}
+
+-- what a command does that asks for a counter
+abbrev pub allocates : Registry → ℕ → ℕ → Wanted → Outcome
+allocates r now correlation w =
+    allocated r correlation (new_counter w.type_id w.key.now w.label.now correlation w.owner)
+    (allocation_of r now w.key.now w.label.now)
 
 -- the counters, their value writes and the reply are those of the outcome, and nothing else changed
 pub record Applies (o : Outcome) (old new : CountersManager) (reply : Reply) : Type 0 where

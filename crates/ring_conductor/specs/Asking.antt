@@ -5,8 +5,10 @@ use Rattle.ring_table.specs.ServiceSteps.{DrawsId}
 use Rattle.ring_rings.specs.declared.fault.TryFault.{TryFault}
 use Rattle.ring_rings.specs.declared.ring.Producer.{Producer}
 use Rattle.ring_rings.specs.Claiming.{RefusesTry, Writes}
+use Rattle.ring_rings.specs.Seats.{view_of}
 use Rattle.ring_board.specs.declared.board.CopyReceiver.{CopyReceiver}
 use Rattle.ring_board.specs.Receiving.{GotCopy, GotLapped, GotNothing}
+use Rattle.ring_board.specs.Seats.{receiver_seat}
 use Rattle.ring_board.specs.Steps.{Sat}
 use Rattle.ring_conductor.specs.declared.protocol.reply.Reply.{Reply}
 use Rattle.ring_conductor.specs.declared.client.request.Request.{Request}
@@ -25,6 +27,14 @@ producer_of c = c.producer
 
 abbrev pub receiver_of : Client → CopyReceiver
 receiver_of c = c.receiver
+
+-- what a client's producer knows of the ring
+abbrev pub client_view : Client → View
+client_view c = view_of c.producer
+
+-- what its receiver knows of the board
+abbrev pub client_seat : Client → Sat
+client_seat c = receiver_seat c.receiver
 
 -- the command that asks for this, with a correlation id
 abbrev pub asked : Request → ℕ → Instruction

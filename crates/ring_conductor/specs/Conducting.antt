@@ -29,6 +29,10 @@ use Rattle.ring_conductor.specs.Serving.{HaveRoom, IsAtEnd}
 abbrev pub ring_view : Conductor → View
 ring_view c = consumer_view c.consumer
 
+-- what it knows of its board
+abbrev pub board_view : Conductor → BoardView
+board_view c = view_of c.transmitter
+
 -- the messages that it took, with their places
 abbrev pub received_of : Conductor → List PlacedMessage
 received_of c = (ring_view c).consumer.taken

@@ -8,12 +8,22 @@ use Rattle.ring_table.specs.declared.claim.StagedClaim.{StagedClaim}
 use Rattle.ring_table.specs.Passing.{placed_committed_of}
 use Rattle.ring_rings.specs.declared.ring.Producer.{Producer}
 use Rattle.ring_rings.specs.Reading.{messages_of}
+use Rattle.ring_rings.specs.Seats.{open_claims_of, shares_of}
 use Rattle.ring_board.specs.declared.board.Board.{Board}
+use Rattle.ring_board.specs.declared.board.ClosedBoard.{ClosedBoard}
+use Rattle.ring_board.specs.declared.shared.view.Joined.{Joined}
+use Rattle.ring_board.specs.declared.shared.view.Record.{Record}
+use Rattle.ring_board.specs.Closing.{IsClosed, closed_capacity, closed_words}
+use Rattle.ring_board.specs.Seats.{capacity_of, heard_by, shares_of as board_shares_of, start_of, transmitted}
+use Rattle.ring_counters.specs.declared.manager.CountersManager.{CountersManager}
+use Rattle.ring_counters.specs.Manager.{registry_of, writes_of}
 use Rattle.ring_counters.specs.declared.values.seats.CounterValues.{CounterValues}
 use Rattle.ring_conductor.specs.declared.conductor.Conductor.{Conductor}
 use Rattle.ring_conductor.specs.declared.finishing.fault.FinishFault.{FinishFault}
 use Rattle.ring_conductor.specs.declared.finishing.fault.FinishFault.TheVariants.{ClaimsOpen, ProducersOut, ReceiversOut}
 use Rattle.ring_conductor.specs.declared.finishing.fault.FinishRefused.{FinishRefused}
+use Rattle.ring_conductor.specs.Account.{IsFoldOf, messages_in}
+use Rattle.ring_conductor.specs.Conducting.{received_of, transmitter_of}
 
 -- why a conductor does not finish, with so many open claims of the producer, and so many shares of producer and
 -- transmitter, in the order of the tests
@@ -24,11 +34,39 @@ finish_refusal_of open_claims producing transmitting =
     else (if nat_lt transmitting 65536 then Some (ReceiversOut (65536 - transmitting))
     else None))
 
+-- why this conductor does not finish with this producer
+abbrev pub refusal_to : Conductor → Producer → Option FinishFault
+refusal_to c p = finish_refusal_of (open_claims_of p) (shares_of p) (board_shares_of (transmitter_of c))
+
 -- all five come back with the reason
 abbrev pub handed_back : {R : Type 0} → R → Board → CounterValues → Conductor → Producer → FinishFault → FinishRefused R
 handed_back ring board values conductor producer reason =
     record { reason = reason; ring = ring; board = board; values = values; conductor = conductor; producer = producer }
 
+-- all five are as they were
+abbrev pub HasBack : {R : Type 0} → R → Board → CounterValues → Conductor → Producer → FinishRefused R → Type 0
+HasBack ring board values conductor producer r =
+    (r.ring ≡ ring) × (r.board ≡ board) × (r.values ≡ values) × (r.conductor ≡ conductor) × (r.producer ≡ producer)
+
 -- what was received, followed by what the rest has, is the committed messages of these claims, in the order of their places
 abbrev pub IsWhole : List StagedClaim → List PlacedMessage → Ring → Type 0
 IsWhole claims received rest = (h : List Claim) → Has rest h → messages_of received ++ committed_of h ≡ messages_of (placed_committed_of claims)
+
+-- the replies that a conductor transmitted
+abbrev pub replies_of : Conductor → List Record
+replies_of c = transmitted (transmitter_of c)
+
+-- the receivers that it took back, the oldest first
+abbrev pub joined_by : Conductor → List Joined
+joined_by c = heard_by (transmitter_of c)
+
+-- the counters, their value writes and the replies are the fold of the commands received, each at a moment
+abbrev pub IsFoldOfReceived : Conductor → CountersManager → Type 0
+IsFoldOfReceived c counters =
+    IsFoldOf (messages_of (received_of c)) (registry_of counters) (writes_of counters) (messages_in (replies_of c))
+
+-- the closed board has the words of these replies
+abbrev pub HasAllReplies : Board → List Record → ClosedBoard → Type 0
+HasAllReplies board replies closed =
+    (closed_capacity closed ≡ capacity_of board)
+    × IsClosed (capacity_of board) (start_of board) replies (closed_words closed)

@@ -39,8 +39,8 @@ pub record IsSameHandler (s t : Serving) : Type 0 where
   pub value_shares : shares_of t.counters.now ≡ shares_of s.counters.now
 
 -- a message is served, where a reply of 12 bytes has room on the board; where none has, nothing is done
-abbrev pub Serves : Serving → Message → Serving → Action → Type 0
-Serves s m t Abort = IsSameHandler s t × (ledger_of t ≡ ledger_of s) × IsAtEnd (ledger_of s).board
-Serves s m t Break = ⊥
-Serves s m t Commit = ⊥
-Serves s m t Continue = IsSameHandler s t × (ledger_of t ≡ served (ledger_of s) s.now m) × (IsAtEnd (ledger_of s).board → ⊥)
+abbrev pub ActsOn : Serving → Message → Serving → Action → Type 0
+ActsOn s m t Abort = IsSameHandler s t × (ledger_of t ≡ ledger_of s) × IsAtEnd (ledger_of s).board
+ActsOn s m t Break = ⊥
+ActsOn s m t Commit = ⊥
+ActsOn s m t Continue = IsSameHandler s t × (ledger_of t ≡ served (ledger_of s) s.now m) × (IsAtEnd (ledger_of s).board → ⊥)

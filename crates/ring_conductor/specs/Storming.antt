@@ -17,6 +17,8 @@ use Rattle.ring_conductor.specs.declared.storming.plan.StormPlan.{StormPlan}
 use Rattle.ring_conductor.specs.declared.storming.plan.StormReport.{StormReport}
 use Rattle.ring_conductor.specs.declared.storming.seats.StormClient.{StormClient}
 use Rattle.ring_conductor.specs.declared.storming.seats.Hub.{Hub}
+use Rattle.ring_conductor.specs.declared.storming.seats.LevelEnd.{LevelEnd}
+use Rattle.ring_conductor.specs.declared.storming.shared.Shared.{Shared}
 use Rattle.ring_conductor.specs.Applied.{applied}
 use Rattle.ring_conductor.specs.Asking.{producer_of, receiver_of}
 use Rattle.ring_conductor.specs.Conducting.{IsConductorOf, counters_of, received_of, transmitter_of}
@@ -75,7 +77,11 @@ sent_by p = length (claims_of p)
 
 -- a client at its seats
 abbrev pub IsClientOf : {K : Type 0} → Ring K → Board → StormClient → Type 0
-IsClientOf ring board c = IsClientSeat ring (producer_of c.client) × IsReceiverOf board (receiver_of c.client)
+IsClientOf ring board c = IsClientSeat ring (producer_of c.client) × IsReceiverOf board (receiver_of c.client) × (c.index < 64)
+
+-- it has sent no command, and was answered none
+abbrev pub IsNew : StormClient → Type 0
+IsNew c = (sent_by (producer_of c.client) ≡ 0) × (c.seen ≡ 0)
 
 -- how many commands the conductor took
 abbrev pub taken_by : Conductor → ℕ
@@ -88,6 +94,20 @@ HasCounters p c = registry_of (counters_of c) ≡ storm_counters p (messages_of 
 -- producer and conductor belong to this ring, this board and these values, and the counters are those of the messages taken
 abbrev pub IsHubOf : {K : Type 0} → StormPlan → Ring K → Board → CounterValues → Hub → Type 0
 IsHubOf p ring board values hub = IsProducerOf ring hub.producer × IsConductorOf IsConsumerOf ring board values hub.conductor × HasCounters p hub.conductor
+
+-- the same at what all threads share
+abbrev pub IsClientAt : {G : Type 0} → Shared G → StormClient → Type 0
+IsClientAt s c = IsClientOf s.ring.now s.board.now c
+
+abbrev pub IsConductorAt : {G : Type 0} → Shared G → Conductor → Type 0
+IsConductorAt s c = IsConductorOf IsConsumerOf s.ring.now s.board.now s.values.now c
+
+abbrev pub IsHubAt : {G : Type 0} → Shared G → Hub → Type 0
+IsHubAt s hub = IsHubOf s.plan s.ring.now s.board.now s.values.now hub
+
+-- all commands were taken, and so many clients had all their replies
+abbrev pub IsDone : StormPlan → ℕ → LevelEnd → Type 0
+IsDone p clients end = (all_commands p ≤ taken_by end.hub.conductor) × (end.seen ≡ clients * p.commands)
 
 -- no share is away, and no claim is open
 pub record HasAll (hub : Hub) : Type 0 where

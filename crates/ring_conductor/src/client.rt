@@ -41,7 +41,7 @@ pub enum Polled {
     NoReply,
     /// Nothing has come yet.
     Nothing,
-    /// Replies were overwritten before they were copied. What became of the commands in flight is unknown: each of them may
-    /// have been applied, and its reply may have been among those.
+    /// Replies were overwritten before they were copied. What became of the commands in flight is unknown: each of
+    /// them may have been applied, and its reply may have been among those.
     Lapped(Lapped),
 }

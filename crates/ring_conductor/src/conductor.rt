@@ -18,9 +18,9 @@ use ring_rings::Consumer;
 
 /// Takes commands from a ring, applies them to the counters that it owns, and transmits one reply to each.
 ///
-/// It belongs to the ring, the board and the values of the parts that it was made of; each call that takes them requires
-/// those. It is used by one thread at a time, and may move between threads. Where it is let go, neither the ring nor the
-/// board can ever be closed.
+/// It belongs to the ring, the board and the values of the parts that it was made of; each call that takes them
+/// requires those. It is used by one thread at a time, and may move between threads. Where it is let go, neither the
+/// ring nor the board can ever be closed.
 #[derive(Drop)]
 pub struct Conductor {
     pub(crate) consumer: Consumer,

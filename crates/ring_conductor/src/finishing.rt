@@ -4,14 +4,11 @@ pub(crate) mod fault;
 ghost use Rattle.std.specs.Prelude.{◌≡◌, IfErr, IfOk, OnOk, length};
 ghost use Rattle.ring_rings.specs.Closing.{AreOrdered, HandsOut, IsRefusedAs, Serves};
 ghost use Rattle.ring_rings.specs.Seats.{claims_of, open_claims_of, shares_of, view_of};
-ghost use Rattle.ring_board.specs.Closing.{IsClosed, closed_capacity, closed_words};
-ghost use Rattle.ring_board.specs.Seats.{capacity_of as board_capacity_of, heard_by, shares_of as board_shares_of, start_of, transmitted};
 ghost use Rattle.ring_board.specs.Runs.{AreAllRuns};
-ghost use Rattle.ring_counters.specs.Manager.{registry_of, writes_of};
-ghost use Rattle.ring_rings.specs.Reading.{messages_of};
-ghost use Rattle.ring_conductor.specs.Account.{IsFoldOf, messages_in};
+ghost use Rattle.ring_board.specs.Seats.{shares_of as board_shares_of};
 ghost use Rattle.ring_conductor.specs.Conducting.{IsConductorOf, counters_of, received_of, ring_view, transmitter_of};
-ghost use Rattle.ring_conductor.specs.Finishing.{IsWhole, finish_refusal_of, handed_back};
+ghost use Rattle.ring_conductor.specs.Finishing.{HasAllReplies, HasBack, IsFoldOfReceived, IsWhole};
+ghost use Rattle.ring_conductor.specs.Finishing.{finish_refusal_of, handed_back, joined_by, refusal_to, replies_of};
 
 use crate::conductor::Conductor;
 use crate::finishing::fault::{FinishFault, FinishRefused};
@@ -39,8 +36,9 @@ pub struct Finished {
 
 /// Tests whether a conductor may finish with this producer.
 fn test_finish(conductor: &Conductor, producer: &Producer) -> Result<(), FinishFault>
-    ensures refused { IsRefusedAs (λ fault. fault) (finish_refusal_of (open_claims_of producer.now) (shares_of producer.now) (board_shares_of (transmitter_of conductor.now))) result }
-    ensures ok { OnOk result ((open_claims_of producer.now ≡ 0) × (shares_of producer.now ≡ 65536) × (board_shares_of (transmitter_of conductor.now) ≡ 65536)) }
+    ensures refused { IsRefusedAs (λ fault. fault) (refusal_to conductor.now producer.now) result }
+    ensures ok { OnOk result ((open_claims_of producer.now ≡ 0) × (shares_of producer.now ≡ 65536)
+        × (board_shares_of (transmitter_of conductor.now) ≡ 65536)) }
 {
     let claims = producer.open_claims();
     if claims > 0 {
@@ -61,11 +59,11 @@ fn test_finish(conductor: &Conductor, producer: &Producer) -> Result<(), FinishF
     Ok(())
 }
 
-/// Closes ring and board, once all producers and all receivers are back and no claim is open, and hands out what lies in the
-/// ring, the board with all replies, and the counters. Readers of the values may be out still.
+/// Closes ring and board, once all producers and all receivers are back and no claim is open, and hands out what lies
+/// in the ring, the board with all replies, and the counters. Readers of the values may be out still.
 ///
-/// It refuses with `ClaimsOpen`, then with `ProducersOut`, and then with `ReceiversOut`, before anything is closed; all five
-/// come back then as they were, and the call can be made again.
+/// It refuses with `ClaimsOpen`, then with `ProducersOut`, and then with `ReceiversOut`, before anything is closed;
+/// all five come back then as they were, and the call can be made again.
 pub fn finish<R: CommandSource>(
     ring: R,
     board: Board,
@@ -77,24 +75,28 @@ pub fn finish<R: CommandSource>(
     requires producer { R.is_producer ring producer }
 
     // Once the producers have returned. Else all comes back as it was.
-    ensures refused { IsRefusedAs (handed_back ring board values conductor producer) (finish_refusal_of (open_claims_of producer) (shares_of producer) (board_shares_of (transmitter_of conductor))) result }
-    ensures same { IfErr result (λ r. (r.ring ≡ ring) × (r.board ≡ board) × (r.values ≡ values) × (r.conductor ≡ conductor) × (r.producer ≡ producer)) }
-    ensures returned { IfErr result (λ r. IsConductorOf R.is_consumer r.ring r.board r.values r.conductor × R.is_producer r.ring r.producer) }
+    ensures refused { IsRefusedAs (handed_back ring board values conductor producer)
+        (refusal_to conductor producer) result }
+    ensures same { IfErr result (HasBack ring board values conductor producer) }
+    ensures returned { IfErr result (λ r. IsConductorOf R.is_consumer r.ring r.board r.values r.conductor
+        × R.is_producer r.ring r.producer) }
 
     // The claims, in tail-exchange order: one behind the other from the ring's start on, so that none occurs twice.
     ensures ordered { IfOk result (λ _. AreOrdered (R.bytes ring) (R.start ring) (claims_of producer)) }
 
     // What was received, followed by what still lies in the ring, is the committed records, each whole and once.
     ensures whole { IfOk result (λ f. IsWhole (claims_of producer) (received_of conductor) f.rest) }
-    ensures left { IfOk result (λ f. HandsOut (R.bytes ring) (R.start ring) (view_of producer) (ring_view conductor) f.rest) }
+    ensures left { IfOk result (λ f.
+        HandsOut (R.bytes ring) (R.start ring) (view_of producer) (ring_view conductor) f.rest) }
 
-    // Each receiver's validated copies are rising contiguous runs of the transmitted list, broken only where its count rose.
-    ensures runs { IfOk result (λ _. AreAllRuns (transmitted (transmitter_of conductor)) (heard_by (transmitter_of conductor))) }
+    // Each receiver's validated copies are rising contiguous runs of the transmitted list, broken only where its count
+    // rose.
+    ensures runs { IfOk result (λ _. AreAllRuns (replies_of conductor) (joined_by conductor)) }
 
     // The counters and the transmitted replies are the fold of the commands received, each applied at a moment.
-    ensures folded { IfOk result (λ f. ∥ IsFoldOf (messages_of (received_of conductor)) (registry_of f.counters) (writes_of f.counters) (messages_in (transmitted (transmitter_of conductor))) ∥₁) }
+    ensures folded { IfOk result (λ f. ∥ IsFoldOfReceived conductor f.counters ∥₁) }
     ensures counters { IfOk result (λ f. f.counters ≡ counters_of conductor) }
-    ensures replies { IfOk result (λ f. (closed_capacity f.board ≡ board_capacity_of board) × IsClosed (board_capacity_of board) (start_of board) (transmitted (transmitter_of conductor)) (closed_words f.board)) }
+    ensures replies { IfOk result (λ f. HasAllReplies board (replies_of conductor) f.board) }
     ensures received { IfOk result (λ f. f.received ≡ length (received_of conductor)) }
 
     // The values are handed on, and the words of ids and heartbeat are those that were drawn and stored.

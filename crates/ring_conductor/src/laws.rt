@@ -14,12 +14,14 @@ ghost use Rattle.ring_conductor.specs.Writing.{Encodes, EncodesReply};
 
 /// A type id and a body together spell one command at most.
 pub fn one_command()
-    ensures { (type_id : ℤ) (body : List ℕ) (c d : Instruction) → Spells type_id body c → Spells type_id body d → c ≡ d }
+    ensures { (type_id : ℤ) (body : List ℕ) (c d : Instruction)
+        → Spells type_id body c → Spells type_id body d → c ≡ d }
 {}
 
 /// A type id and a body together spell one reply at most.
 pub fn one_reply()
-    ensures { (type_id : ℤ) (body : List ℕ) (r s : AnyReply) → reply.Spells type_id body r → reply.Spells type_id body s → r ≡ s }
+    ensures { (type_id : ℤ) (body : List ℕ) (r s : AnyReply)
+        → reply.Spells type_id body r → reply.Spells type_id body s → r ≡ s }
 {}
 
 /// A command whose key and label a counter may have is spelled by at most `LONGEST_COMMAND` bytes.
@@ -31,21 +33,22 @@ pub fn longest_command()
 pub fn command_round_trip()
     ensures command { (c : Instruction) (old new : List ℕ) (n : ℕ) → Encodes c old new (Some n)
         → command_of (type_id_of c) (take n new) ≡ Ok c }
-    ensures bytes { (type_id : ℤ) (body : List ℕ) (c : Instruction) (old new : List ℕ) (n : ℕ) → Spells type_id body c
-        → Encodes c old new (Some n) → take n new ≡ body }
+    ensures bytes { (type_id : ℤ) (body : List ℕ) (c : Instruction) (old new : List ℕ) (n : ℕ)
+        → Spells type_id body c → Encodes c old new (Some n) → take n new ≡ body }
 {}
 
 /// A reply that was encoded is decoded again, and the bytes of a reply that was decoded are encoded again.
 pub fn reply_round_trip()
     ensures reply { (r : AnyReply) (old new : List ℕ) (n : ℕ) → EncodesReply r old new n
         → reply_of (reply.type_id_of r) (take n new) ≡ Ok r }
-    ensures bytes { (type_id : ℤ) (body : List ℕ) (r : AnyReply) (old new : List ℕ) (n : ℕ) → reply.Spells type_id body r
-        → EncodesReply r old new n → take n new ≡ body }
+    ensures bytes { (type_id : ℤ) (body : List ℕ) (r : AnyReply) (old new : List ℕ) (n : ℕ)
+        → reply.Spells type_id body r → EncodesReply r old new n → take n new ≡ body }
 {}
 
 /// The fold of two lists of messages, one behind the other, is a fold of the second from where the first came to.
 pub fn fold_of_fold()
-    ensures { (l : Ledger) (first second : List (ℕ × Message)) → fold_of l (first ++ second) ≡ fold_of (fold_of l first) second }
+    ensures { (l : Ledger) (first second : List (ℕ × Message))
+        → fold_of l (first ++ second) ≡ fold_of (fold_of l first) second }
 {}
 
 /// A fold only lengthens the transmitted list.
@@ -55,5 +58,7 @@ pub fn fold_lengthens()
 
 /// A fold does not depend on what the transmitter knows of its shares, and of the receivers that it took back.
 pub fn fold_ignores_receivers()
-    ensures { (l : Ledger) (shares from : ℕ) (copies : List Taken) (heard : List Joined) (messages : List (ℕ × Message)) → fold_of (with_receivers shares from copies heard l) messages ≡ with_receivers shares from copies heard (fold_of l messages) }
+    ensures { (l : Ledger) (shares from : ℕ) (copies : List Taken) (heard : List Joined) (messages : List (ℕ × Message))
+        → fold_of (with_receivers shares from copies heard l) messages
+        ≡ with_receivers shares from copies heard (fold_of l messages) }
 {}

@@ -36,6 +36,3 @@ pub use protocol::reply::encode::encode_reply;
 pub use protocol::reply::{LONGEST_REPLY, Reply, type_ids as reply_type_ids};
 pub use storming::{Gate, OpenGate, StormFault, StormPlan, StormReport, storm};
 pub use whole::whole_run;
-
-#[cfg(test)]
-mod tests;

@@ -1,9 +1,9 @@
 //! Clients on threads of their own, against one conductor.
 ghost use Rattle.std.specs.Prelude.{◌≡◌, ◌↔◌, ◌≤◌, IfOk, Err, None};
 ghost use Rattle.ring_conductor.specs.declared.storming.plan.StormFault.TheVariants.{BadPlan};
-ghost use Rattle.ring_conductor.specs.Storming.{HasAll, IsHubOf, IsPlan, IsReportOf, all_commands, sent_by, taken_by};
+ghost use Rattle.ring_conductor.specs.Storming.{HasAll, IsDone, IsHubOf, IsPlan, IsReportOf, all_commands, sent_by};
 
-pub(crate) mod client;
+mod client;
 mod conductor;
 mod gate;
 mod hub;
@@ -19,7 +19,6 @@ use crate::finishing::finish;
 pub use gate::{Gate, OpenGate};
 use levels::level;
 pub use plan::{StormFault, StormPlan, StormReport};
-use report::report;
 use ring_board::Board;
 use ring_counters::{CounterValues, CountersManager};
 use ring_rings::ManyToOneRing;
@@ -33,33 +32,20 @@ use std::thread::Threads;
 
 /// Runs the clients of a plan against one conductor, all on threads of their own, and says what came of it.
 ///
-/// Each client sends its commands one by one through a many-to-one ring, as the gate lets it, and waits for each reply on a
-/// board that has room for all of them. Its first command allocates a counter of type 1 with an empty key and the label `c`
-/// and the client's number; each further one sets that counter to the command's number. The conductor works at the moment 0
-/// until it has taken all commands. Then all seats are joined and the conductor finishes, whatever came before.
+/// Each client sends its commands one by one through a many-to-one ring, as the gate lets it, and waits for each
+/// reply on a board that has room for all of them. Its first command allocates a counter of type 1 with an empty key
+/// and the label `c` and the client's number; each further one sets that counter to the command's number. The
+/// conductor works at the moment 0 until it has taken all commands. Then all seats are joined and the conductor
+/// finishes, whatever came before.
 ///
-/// `BadPlan` comes where a number of the plan is not allowed, before anything is done, then `OutOfMemory` where memory is
-/// wanting or a thread could not be started, and then `TurnsSpent` where a wait took as many turns as the plan allows. All
-/// threads have ended by then. It may wait.
+/// `BadPlan` comes where a number of the plan is not allowed, before anything is done, then `OutOfMemory` where memory
+/// is wanting, or a thread could not be started or was kept from it by the gate, and then `TurnsSpent` where a wait took
+/// as many turns as the plan allows. All threads have ended by then. It may wait.
 pub fn storm<R: Threads + Wait, G: Gate + Sync>(
     rt: &R,
     alloc: Global,
     plan: &StormPlan,
     gate: &G,
-) -> Result<StormReport, StormFault>
-    ensures bad_plan { (result ≡ Err BadPlan) ↔ (IsPlan plan.now → ⊥) }
-    ensures report { IfOk result (IsReportOf plan.now) }
-{
-    storm_without(rt, alloc, plan, gate, None)
-}
-
-/// A storm in which one thread can't be started: a client's by its number, then the conductor's.
-pub(crate) fn storm_without<R: Threads + Wait, G: Gate + Sync>(
-    rt: &R,
-    alloc: Global,
-    plan: &StormPlan,
-    gate: &G,
-    refused: Option<u32>,
 ) -> Result<StormReport, StormFault>
     ensures bad_plan { (result ≡ Err BadPlan) ↔ (IsPlan plan.now → ⊥) }
     ensures report { IfOk result (IsReportOf plan.now) }
@@ -81,7 +67,7 @@ pub(crate) fn storm_without<R: Threads + Wait, G: Gate + Sync>(
         conductor: Conductor::new(consumer, transmitter, counters),
     };
     let LevelEnd { hub, seen, failure } = run_threads(
-        rt, alloc, plan, gate, refused, &ring, &board, &values, hub,
+        rt, alloc, plan, gate, &ring, &board, &values, hub,
     );
     let finished = match finish(ring, board, values, hub.conductor, hub.producer) {
         Ok(finished) => finished,
@@ -89,7 +75,7 @@ pub(crate) fn storm_without<R: Threads + Wait, G: Gate + Sync>(
     };
     match failure {
         Some(failure) => Err(StormFault::from(failure)),
-        None => report(alloc, finished, seen),
+        None => report::report(alloc, finished, seen),
     }
 }
 
@@ -99,7 +85,6 @@ fn run_threads<R: Threads + Wait, G: Gate + Sync>(
     alloc: Global,
     plan: &StormPlan,
     gate: &G,
-    refused: Option<u32>,
     ring: &ManyToOneRing,
     board: &Board,
     values: &CounterValues,
@@ -112,7 +97,7 @@ fn run_threads<R: Threads + Wait, G: Gate + Sync>(
     ensures hub { IsHubOf plan.now ring.now board.now values.now result.hub }
     ensures whole { HasAll result.hub }
     ensures sent { sent_by result.hub.producer ≤ all_commands plan.now }
-    ensures done { (result.failure ≡ None) → (all_commands plan.now ≤ taken_by result.hub.conductor) × (result.seen ≡ all_commands plan.now) }
+    ensures done { (result.failure ≡ None) → IsDone plan.now plan.now.clients result }
 {
     let flag = AtomicBool::new(false);
     let stopped = &flag;
@@ -128,7 +113,7 @@ fn run_threads<R: Threads + Wait, G: Gate + Sync>(
             ensures hub { IsHubOf plan ring.entry.now board.entry.now values.entry.now result.hub }
             ensures whole { HasAll result.hub }
             ensures sent { sent_by result.hub.producer ≤ all_commands plan }
-            ensures done { (result.failure ≡ None) → (all_commands plan ≤ taken_by result.hub.conductor) × (result.seen ≡ all_commands plan) }
+            ensures done { (result.failure ≡ None) → IsDone plan plan.clients result }
         {
             let shared = Shared {
                 ring,
@@ -137,7 +122,6 @@ fn run_threads<R: Threads + Wait, G: Gate + Sync>(
                 gate,
                 stopped,
                 plan,
-                refused,
             };
             level(scope, rt, alloc, shared, plan.clients, hub)
         },

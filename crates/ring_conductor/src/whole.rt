@@ -12,12 +12,13 @@ use ring_counters::CountersManager;
 use ring_rings::ManyToOneRing;
 use std::alloc::{AllocError, Global};
 
-/// One run of the whole. A client asks for a counter, and the conductor works at the moment `early`; a listener subscribes; the
-/// client sets the counter to 7, and the conductor works at the moment `late`; the client asks for its reply; client and
-/// listener are joined, and the conductor finishes. Moments are in milliseconds and at most 2^62.
+/// One run of the whole. A client asks for a counter, and the conductor works at the moment `early`; a listener
+/// subscribes; the client sets the counter to 7, and the conductor works at the moment `late`; the client asks for
+/// its reply; client and listener are joined, and the conductor finishes. Moments are in milliseconds and at most
+/// 2^62.
 ///
-/// It is there to be read: its contract says of what comes out what `finish` says to each caller, with the moments of this one.
-/// `AllocError` comes where memory is wanting.
+/// It is there to be read: its contract says of what comes out what `finish` says to each caller, with the moments of
+/// this one. `AllocError` comes where memory is wanting.
 pub fn whole_run(alloc: Global, early: u64, late: u64) -> Result<Finished, AllocError>
     requires moments { (early ≤ 2 ^ 62) × (late ≤ 2 ^ 62) }
     ensures { IfOk result (Concludes early late) }

@@ -12,7 +12,8 @@ use ring_rings::{Producer, Ring, TryFault};
 use std::alloc::Global;
 use std::test::Fail;
 
-/// A conductor of some counters, with its ring of 1,024 bytes, its board of 256, the ring's sole producer and a listener.
+/// A conductor of some counters, with its ring of 1,024 bytes, its board of 256, the ring's sole producer and a
+/// listener.
 #[derive(Drop)]
 pub struct Bench<K> {
     ring: Ring<K>,

@@ -10,17 +10,19 @@ use ring_counters::{CounterValues, CountersManager};
 use ring_rings::{ManyToOneRing, Producer};
 use std::test::Fail;
 
-/// What the conductor hands out, or why it does not.
-fn finished(
-    ring: ManyToOneRing,
-    board: Board,
-    values: CounterValues,
-    conductor: Conductor,
-    producer: Producer,
-) -> Result<Finished, FinishFault>
-    requires conductor { IsConductorOf IsConsumerOf ring board values conductor }
-    requires producer { IsProducerOf ring producer }
+/// What the conductor hands out that did not finish before, or why it does not.
+fn finished(back: FinishRefused<ManyToOneRing>) -> Result<Finished, FinishFault>
+    requires conductor { IsConductorOf IsConsumerOf back.ring back.board back.values back.conductor }
+    requires producer { IsProducerOf back.ring back.producer }
 {
+    let FinishRefused {
+        reason: _,
+        ring,
+        board,
+        values,
+        conductor,
+        producer,
+    } = back;
     match finish(ring, board, values, conductor, producer) {
         Ok(finished) => Ok(finished),
         Err(back) => Err(back.reason),
@@ -38,7 +40,8 @@ fn refusal(
     requires conductor { IsConductorOf IsConsumerOf ring board values conductor }
     requires producer { IsProducerOf ring producer }
     ensures ring { IfOk result (λ back. back.ring ≡ ring) }
-    ensures conductor { IfOk result (λ back. IsConductorOf IsConsumerOf back.ring back.board back.values back.conductor) }
+    ensures conductor { IfOk result (λ back.
+        IsConductorOf IsConsumerOf back.ring back.board back.values back.conductor) }
     ensures producer { IfOk result (λ back. back.producer ≡ producer) }
 {
     match finish(ring, board, values, conductor, producer) {
@@ -57,13 +60,7 @@ fn finishes_once_producers_are_back(rt: HostRuntime) -> Result<(), Fail> {
     let mut back = refusal(ring, board, values, conductor, producer)?;
     assert_eq!(rt; back.reason, FinishFault::ProducersOut { shares: 1 });
     back.ring.join(&mut back.producer, other);
-    let finished = finished(
-        back.ring,
-        back.board,
-        back.values,
-        back.conductor,
-        back.producer,
-    )?;
+    let finished = finished(back)?;
     assert_eq!(rt; finished.received, 0);
     Ok(())
 }
@@ -81,13 +78,7 @@ fn finishes_once_claims_are_settled(rt: HostRuntime) -> Result<(), Fail> {
     assert_eq!(rt; back.reason, FinishFault::ClaimsOpen { claims: 1 });
     back.ring.abort(&mut back.producer, claim);
     back.ring.join(&mut back.producer, other);
-    let finished = finished(
-        back.ring,
-        back.board,
-        back.values,
-        back.conductor,
-        back.producer,
-    )?;
+    let finished = finished(back)?;
     assert_eq!(rt; finished.received, 0);
     Ok(())
 }
@@ -106,13 +97,7 @@ fn goes_on_after_it_did_not_finish(rt: HostRuntime) -> Result<(), Fail> {
         .conductor
         .do_work(&back.ring, &back.board, &back.values, 0, 9);
     assert_eq!(rt; one, work(1, WorkStop::Unpublished));
-    let finished = finished(
-        back.ring,
-        back.board,
-        back.values,
-        back.conductor,
-        back.producer,
-    )?;
+    let finished = finished(back)?;
     assert_eq!(rt; (finished.received, finished.board.tail()), (1, 24));
     Ok(())
 }

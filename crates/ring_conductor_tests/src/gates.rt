@@ -1,11 +1,11 @@
-//! When a storm's clients ask their gate, and when they tell it that they were answered.
-use ring_conductor::{Gate, StormPlan, storm};
+//! When a storm's clients ask their gate, and when they tell it that they were answered; and threads that do not start.
+use ring_conductor::{Gate, OpenGate, StormFault, StormPlan, storm};
 use std::sync::atomic::Ordering::SeqCst;
 use std::sync::atomic::{AtomicBool, AtomicU32};
 use std::test::Fail;
 
-/// Notes whether each client asks and tells in order: it asks for its next command once the last one was answered, and tells
-/// of an answer once it was let send that command.
+/// Notes whether each client asks and tells in order: it asks for its next command once the last one was answered,
+/// and tells of an answer once it was let send that command.
 #[derive(Drop)]
 struct Strict {
     let_send: [AtomicU32; 2],
@@ -52,4 +52,82 @@ fn each_answer_is_told_before_the_next_command(rt: HostRuntime) -> Result<(), Fa
     assert_eq!(rt; gate.answered[0].load(SeqCst), 300);
     assert_eq!(rt; gate.answered[1].load(SeqCst), 300);
     Ok(())
+}
+
+/// Lets no thread start with this number.
+#[derive(Drop)]
+struct Without {
+    thread: u32,
+}
+
+impl Gate for Without {
+    fn may_send(&self, _client: u32, _number: u32) -> bool {
+        true
+    }
+
+    fn answered(&self, _client: u32, _number: u32) {}
+
+    fn may_start(&self, thread: u32) -> bool {
+        thread != self.thread
+    }
+}
+
+#[test]
+fn a_thread_that_cannot_be_started_is_told_as_memory(rt: HostRuntime) {
+    let plan = StormPlan {
+        clients: 4,
+        commands: 100,
+        ring: 1024,
+        turns: 50_000_000,
+    };
+    for thread in 0..5 {
+        let report = storm(&rt, rt.alloc(), &plan, &Without { thread });
+        assert_eq!(rt; report, Err(StormFault::OutOfMemory));
+    }
+}
+
+/// Lets no conductor start behind 64 clients. It keeps each client for a while, lets it send then, and notes whether
+/// it was asked and whether an answer was told.
+#[derive(Drop)]
+struct NoConductor {
+    asked: AtomicBool,
+    told: AtomicBool,
+}
+
+impl Gate for NoConductor {
+    fn may_send(&self, client: u32, number: u32) -> bool {
+        self.asked.store(true, SeqCst);
+        for _ in 0..20_000 {
+            if self.told.load(SeqCst) {
+                break;
+            }
+        }
+        OpenGate.may_send(client, number)
+    }
+
+    fn answered(&self, _client: u32, _number: u32) {
+        self.told.store(true, SeqCst);
+    }
+
+    fn may_start(&self, thread: u32) -> bool {
+        thread < 64
+    }
+}
+
+#[test]
+fn no_answer_is_told_where_no_conductor_works(rt: HostRuntime) {
+    let gate = NoConductor {
+        asked: AtomicBool::new(false),
+        told: AtomicBool::new(false),
+    };
+    let plan = StormPlan {
+        clients: 64,
+        commands: 2,
+        ring: 4096,
+        turns: 50_000_000,
+    };
+    let report = storm(&rt, rt.alloc(), &plan, &gate);
+    assert_eq!(rt; report, Err(StormFault::OutOfMemory));
+    assert!(rt; gate.asked.load(SeqCst));
+    assert!(rt; !gate.told.load(SeqCst));
 }

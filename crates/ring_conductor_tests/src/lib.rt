@@ -28,4 +28,6 @@ mod sending;
 #[cfg(test)]
 mod storms;
 #[cfg(test)]
+mod talk;
+#[cfg(test)]
 mod whole;

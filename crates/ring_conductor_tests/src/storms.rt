@@ -109,7 +109,8 @@ fn plans_out_of_their_limits_are_refused(rt: HostRuntime) {
     }
 }
 
-/// Client 0 sends its first command after client 1's first was answered, and client 1 its second after client 0's first.
+/// Client 0 sends its first command after client 1's first was answered, and client 1 its second after client 0's
+/// first.
 #[derive(Drop)]
 struct InTurn {
     answered: [AtomicBool; 2],

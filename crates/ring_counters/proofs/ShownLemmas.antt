@@ -62,12 +62,19 @@ module _ (r : Registry) (ms : List Metadata) (vs : List Values) (queue : List �
   same_stored : (id : ℕ) (m : Metadata) (v : Values) → length (set vs id v) ≡ length (set ms id m)
   same_stored id m v = length-set vs id v ∙ s.same ∙ sym (length-set ms id m)
 
-  module _ (i : ℕ) (id : ℕ) (freed : List ℕ) (less : i < length r.freed) (is : id ≡ get_or r.freed i 0) (rest : freed ≡ remove r.freed i) where
+  -- the id was taken out of the queue at i
+  module _ (i : ℕ) (id : ℕ) (freed : List ℕ) (less : i < length r.freed) (taken : id ≡ get_or queue i 0) (left : freed ≡ remove queue i) where
+    is : id ≡ get_or r.freed i 0
+    is = taken ∙ ap (λ l. get_or l i 0) shown_queue
+
+    rest : freed ≡ remove r.freed i
+    rest = left ∙ ap (λ l. remove l i) shown_queue
+
     pub reused_inside : id < length ms
     reused_inside =
         let inside : get_or r.freed i 0 < count_of r = inside_from_status r.counters (get_or r.freed i 0)
         (used_from_reclaimed (status_at r (get_or r.freed i 0)) (reclaimed_at r.counters r.freed i less shown_kept.reclaimed)) in
-        omega (arith, shown_size)
+        omega (arith, shown_size, is)
 
     pub reused_kept : (m : Metadata) (v : Values) → m.status ≡ Allocated → (length (set vs id v) ≡ length (set ms id m)) × IsKept (registry (set ms id m) (set vs id v) freed timeout) room used ordered
     reused_kept m v new = (

@@ -1,6 +1,6 @@
 -- How a registry is kept in two lists of records.
-use Rattle.std.specs.Prelude.{◌≡◌, ◌≢◌, ℕ, ◌<◌, ◌≤◌, Bool, true, false, List, [], ◌∷◌, map, count_by, length, slice_index_or}
-use Rattle.ring_counters.specs.Counter.{Metadata, Values, Counter, unused_counter, deadline_of}
+use Rattle.std.specs.Prelude.{◌≡◌, ◌≢◌, ℕ, ◌-◌, ◌<◌, ◌≤◌, Bool, true, false, List, [], ◌∷◌, map, count_by, length, slice_index, slice_index_or}
+use Rattle.ring_counters.specs.Counter.{Metadata, Values, Counter, unused_counter, unused_metadata, deadline_of}
 use Rattle.ring_counters.specs.Registry.{Registry, count_of, counter_at, status_at, is_unused, is_allocated, is_reclaimed}
 
 -- the counters of these records
@@ -8,6 +8,10 @@ abbrev pub counters_of : List Metadata → List Values → List Counter
 counters_of [] vs = []
 counters_of (m ∷ ms) [] = []
 counters_of (m ∷ ms) (v ∷ vs) = record { metadata = m; values = v } ∷ counters_of ms vs
+
+-- the registry of these records
+abbrev pub registry_in : List Metadata → List Values → List ℕ → ℕ → Registry
+registry_in ms vs freed reuse_ms = record { counters = counters_of ms vs; freed = freed; reuse_ms = reuse_ms }
 
 -- whether each counter is in use
 abbrev pub live_flags : List Metadata → List Bool
@@ -28,6 +32,10 @@ AreReclaimed counters (id ∷ ids) =
 
 abbrev pub deadline_at : List Counter → ℕ → ℕ
 deadline_at counters id = deadline_of (slice_index_or counters id unused_counter).metadata.status
+
+-- the deadline of the last id in the queue, by the records
+abbrev pub last_deadline : List Metadata → List ℕ → ℕ
+last_deadline ms freed = deadline_of (slice_index_or ms (slice_index freed (length freed - 1)) unused_metadata).status
 
 abbrev pub AllDueFrom : List Counter → ℕ → List ℕ → Type 0
 AllDueFrom counters moment [] = Unit {0}

@@ -1,14 +1,28 @@
 -- What a manager shows.
-use Rattle.std.specs.Prelude.{◌≡◌, ℕ, List}
+use Rattle.std.specs.Prelude.{◌≡◌, ℕ, List, Option}
 use Rattle.atomic_table.specs.Seated.{TableId}
 use Rattle.ring_counters.specs.declared.values.rule.ValueWrite.{ValueWrite}
 use Rattle.ring_counters.specs.declared.values.seats.CounterValues.{CounterValues}
 use Rattle.ring_counters.specs.declared.manager.CountersManager.{CountersManager}
-use Rattle.ring_counters.specs.Registry.{Registry}
+use Rattle.ring_counters.specs.declared.fault.IdFault.{IdFault}
+use Rattle.ring_counters.specs.Counter.{Counter}
+use Rattle.ring_counters.specs.Registry.{Registry, counter_at, id_refusal_of, range_refusal_of}
 
 -- the counters
 abbrev pub registry_of : CountersManager → Registry
 registry_of m = m.records
+
+-- the counter with this id
+abbrev pub counter_in : CountersManager → ℕ → Counter
+counter_in m id = counter_at (registry_of m) id
+
+-- why a call on the counter with this id is refused
+abbrev pub refusal_at : CountersManager → ℕ → Option IdFault
+refusal_at m id = id_refusal_of (registry_of m) id
+
+-- why a call on the record with this id is refused
+abbrev pub range_refusal_at : CountersManager → ℕ → Option IdFault
+range_refusal_at m id = range_refusal_of (registry_of m) id
 
 -- the list of value writes
 abbrev pub writes_of : CountersManager → List ValueWrite

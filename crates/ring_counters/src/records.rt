@@ -4,11 +4,17 @@ pub(crate) mod metadata;
 pub(crate) mod value;
 pub(crate) mod wanted;
 
-ghost use Rattle.std.specs.Prelude.{◌≡◌, ◌≢◌, ℕ, ◌+◌, ◌-◌, ◌*◌, ◌^◌, ◌<◌, ◌≤◌, true, false, position, IfOk, IfSome, IfNone, MatchOption, length, replicate, slice_index, slice_index_or, slice_set, remove};
+ghost use Rattle.std.specs.Prelude.{◌≡◌, ℕ, ◌-◌, ◌^◌, ◌<◌, ◌≤◌, true, IfNone, IfOk, IfSome};
+ghost use Rattle.std.specs.Prelude.{length, position, remove, replicate, slice_index, slice_index_or, slice_set};
 ghost use Rattle.std.specs.VecDeque.{deque_capacity};
-ghost use Rattle.ring_counters.specs.Counter.{Metadata, Values, Counter, Allocated, deadline_of, unused_metadata, unused_values, unused_counter};
-ghost use Rattle.ring_counters.specs.Registry.{Registry, count_of, counter_at, status_at, is_due, is_allocated, next_id, due_id, unused_id, allocated_in, reclaimed_in, with_value, fresh_registry, answer, id_refusal_of, range_refusal_of, is_owned, owned_ids, closed_in, live_of, new_counter, AreShort, is_registered, registered_id};
+ghost use Rattle.ring_counters.specs.Counter.{deadline_of, unused_metadata, unused_values, unused_counter};
+ghost use Rattle.ring_counters.specs.Allocating.{HasShortTexts, counter_wanted};
+ghost use Rattle.ring_counters.specs.Registry.{allocated_in, answer, closed_in, count_of, counter_at, fresh_registry};
+ghost use Rattle.ring_counters.specs.Registry.{id_refusal_of, is_allocated, is_due, is_owned, is_registered, live_of};
+ghost use Rattle.ring_counters.specs.Registry.{next_id, owned_ids, range_refusal_of, reclaimed_in, registered_id};
+ghost use Rattle.ring_counters.specs.Registry.{status_at, unused_id, with_value};
 ghost use Rattle.ring_counters.specs.Infos.{IsInfoOf, AreInfos};
+ghost use Rattle.ring_counters.specs.Kept.{last_deadline};
 
 use crate::fault::IdFault;
 use crate::info::CounterInfo;
@@ -24,7 +30,8 @@ use std::marker::Model;
 pub(crate) struct Records {
     metadata: Vec<MetadataRecord>,
     values: Vec<ValueRecord>,
-    /// Whether each counter is in use, as its metadata say: close together, for a call that looks at nothing else there.
+    /// Whether each counter is in use, as its metadata say: close together, for a call that looks at nothing else
+    /// there.
     live: Vec<bool>,
     /// The freed ids in order of freeing, with room for every id.
     freed: VecDeque<u32>,
@@ -39,13 +46,16 @@ impl Model for Records {
     ghost use Rattle.std.specs.Prelude.{◌≡◌, length};
     ghost use Rattle.std.specs.VecDeque.{deque_capacity};
     ghost use Rattle.ring_counters.specs.Registry.{Registry};
-    ghost use Rattle.ring_counters.specs.Kept.{counters_of, live_flags, IsKept};
+    ghost use Rattle.ring_counters.specs.Kept.{live_flags, registry_in, IsKept};
 
     ghost Value = { Registry };
 
-    ghost view = { λ a. record { counters = counters_of a.metadata.items a.values.items; freed = a.freed.items; reuse_ms = a.reuse_ms } };
+    ghost view = { λ a. registry_in a.metadata.items a.values.items a.freed.items a.reuse_ms };
 
-    ghost invariant = { λ a. (length a.values.items ≡ length a.metadata.items) × IsKept (record { counters = counters_of a.metadata.items a.values.items; freed = a.freed.items; reuse_ms = a.reuse_ms }) (deque_capacity a.freed) a.used a.in_order × (a.live.items ≡ live_flags a.metadata.items) };
+    ghost invariant = { λ a. (length a.values.items ≡ length a.metadata.items)
+        × IsKept (registry_in a.metadata.items a.values.items a.freed.items a.reuse_ms)
+        (deque_capacity a.freed) a.used a.in_order
+        × (a.live.items ≡ live_flags a.metadata.items) };
 }
 
 /// This many metadata records that were never used.
@@ -72,9 +82,9 @@ fn unused_value_records(alloc: Global, count: u32) -> Result<Vec<ValueRecord>, A
 
 /// Makes the records of an id those of a counter in use.
 fn fill(metadata: &mut MetadataRecord, values: &mut ValueRecord, wanted: Wanted<'_>)
-    requires { AreShort wanted.key.now wanted.label.now }
-    ensures metadata { metadata.new ≡ (new_counter wanted.entry.type_id wanted.entry.key.now wanted.entry.label.now wanted.entry.registration wanted.entry.owner).metadata }
-    ensures values { values.new ≡ (new_counter wanted.entry.type_id wanted.entry.key.now wanted.entry.label.now wanted.entry.registration wanted.entry.owner).values }
+    requires { HasShortTexts wanted }
+    ensures metadata { metadata.new ≡ (counter_wanted wanted.entry).metadata }
+    ensures values { values.new ≡ (counter_wanted wanted.entry).values }
 {
     let Wanted {
         type_id,
@@ -87,7 +97,8 @@ fn fill(metadata: &mut MetadataRecord, values: &mut ValueRecord, wanted: Wanted<
     values.allocate(registration, owner);
 }
 
-/// Takes the id at this place out of the queue. The first one, which it mostly is, leaves without a look at which way is shorter.
+/// Takes the id at this place out of the queue. The first one, which it mostly is, leaves without a look at which way
+/// is shorter.
 fn take_freed(freed: &mut VecDeque<u32>, at: usize) -> u32
     requires { at < length freed.old.items }
     ensures id { result ≡ slice_index freed.old.items at }
@@ -114,7 +125,8 @@ fn stays_in_order(
     deadline: u64,
 ) -> bool
     requires { (k : ℕ) → k < length freed.now.items → slice_index freed.now.items k < length metadata.now }
-    ensures { result ≡ true → 0 < length freed.now.items → (in_order ≡ true) × (deadline_of (slice_index_or metadata.now (slice_index freed.now.items (length freed.now.items - 1)) unused_metadata).status ≤ deadline) }
+    ensures { result ≡ true → 0 < length freed.now.items → (in_order ≡ true)
+        × (last_deadline metadata.now freed.now.items ≤ deadline) }
 {
     match freed.back() {
         Some(last) => in_order && metadata[*last as usize].deadline() <= deadline,
@@ -145,11 +157,14 @@ impl Records {
         self.metadata.len() as u32
     }
 
-    /// How far the queue must be searched for an id that is due: where the deadlines never fall, no further than its first.
+    /// How far the queue must be searched for an id that is due: where the deadlines never fall, no further than its
+    /// first.
     fn reach(&self) -> usize
         ensures most { result ≤ length self.now.freed }
         ensures some { 0 < length self.now.freed → 0 < result }
-        ensures later { (k : ℕ) → result ≤ k → k < length self.now.freed → deadline_of (status_at self.now (slice_index self.now.freed 0)) ≤ deadline_of (status_at self.now (slice_index self.now.freed k)) }
+        ensures later { (k : ℕ) → result ≤ k → k < length self.now.freed
+            → deadline_of (status_at self.now (slice_index self.now.freed 0))
+            ≤ deadline_of (status_at self.now (slice_index self.now.freed k)) }
     {
         if self.in_order {
             self.freed.len().min(1)
@@ -185,10 +200,10 @@ impl Records {
     /// Gives the freed id at this place of the queue again.
     fn reuse(&mut self, at: usize, wanted: Wanted<'_>) -> u32
         requires at { at < length self.old.freed }
-        requires short { AreShort wanted.key.now wanted.label.now }
+        requires short { HasShortTexts wanted }
         ensures id { result ≡ slice_index self.old.freed at }
         ensures inside { result < count_of self.old }
-        ensures changes { self.new.counters ≡ slice_set self.old.counters result (new_counter wanted.entry.type_id wanted.entry.key.now wanted.entry.label.now wanted.entry.registration wanted.entry.owner) }
+        ensures changes { self.new.counters ≡ slice_set self.old.counters result (counter_wanted wanted.entry) }
         ensures queue { self.new.freed ≡ remove self.old.freed at }
         ensures timeout { self.new.reuse_ms ≡ self.old.reuse_ms }
     {
@@ -203,8 +218,8 @@ impl Records {
     /// Gives an id for the first time.
     fn begin(&mut self, id: u32, wanted: Wanted<'_>)
         requires id { unused_id self.old ≡ Some id }
-        requires short { AreShort wanted.key.now wanted.label.now }
-        ensures { self.new ≡ allocated_in self.old id (new_counter wanted.entry.type_id wanted.entry.key.now wanted.entry.label.now wanted.entry.registration wanted.entry.owner) }
+        requires short { HasShortTexts wanted }
+        ensures { self.new ≡ allocated_in self.old id (counter_wanted wanted.entry) }
     {
         let metadata = &mut self.metadata[id as usize];
         let values = &mut self.values[id as usize];
@@ -215,9 +230,10 @@ impl Records {
 
     /// Gives an id to a counter, if there is one.
     pub(crate) fn allocate(&mut self, now: u64, wanted: Wanted<'_>) -> Option<u32>
-        requires { AreShort wanted.key.now wanted.label.now }
+        requires { HasShortTexts wanted }
         ensures id { result ≡ next_id self.old now }
-        ensures some { IfSome result (λ id. (id < count_of self.old) × (self.new ≡ allocated_in self.old id (new_counter wanted.entry.type_id wanted.entry.key.now wanted.entry.label.now wanted.entry.registration wanted.entry.owner))) }
+        ensures some { IfSome result (λ id. (id < count_of self.old)
+            × (self.new ≡ allocated_in self.old id (counter_wanted wanted.entry))) }
         ensures none { IfNone result (self.new ≡ self.old) }
     {
         match self.first_due(now) {

@@ -6,7 +6,8 @@ ghost use Rattle.std.specs.Prelude.{◌≡◌, ℕ, ◌+◌, ◌<◌, ◌≤◌,
 ghost use Rattle.ring_counters.specs.declared.values.rule.ValueWrite.{ValueWrite};
 ghost use Rattle.ring_counters.specs.Views.{value_write, value_load};
 ghost use Rattle.ring_counters.specs.ValueWrites.{value_after, Begins, AreLoads};
-ghost use Rattle.ring_counters.specs.Seats.{IsWriterOf, IsReaderOf, values_count, writer_writes, made_of, seen_by, loads_of};
+ghost use Rattle.ring_counters.specs.Seats.{IsReaderOf, IsWriterOf, loads_of, made_of, seen_by};
+ghost use Rattle.ring_counters.specs.Seats.{values_count, writer_writes};
 
 use crate::fault::{BadId, NoShares};
 use crate::values::rule::{CutReader, JoinReader, LearnLoads, LoadValue, StoreValue};
@@ -25,7 +26,8 @@ impl CounterValues {
     ) -> Result<(CounterValues, ValueWriter), AllocError>
         requires some { 0 < count }
         requires few { count ≤ 4096 }
-        ensures { IfOk result (λ r. IsWriterOf r.0 r.1 × (values_count r.0 ≡ count) × (writer_writes r.1 ≡ []) × (r.1.shares ≡ 65536)) }
+        ensures { IfOk result (λ r. IsWriterOf r.0 r.1 × (values_count r.0 ≡ count)
+            × (writer_writes r.1 ≡ []) × (r.1.shares ≡ 65536)) }
     {
         let words = vec![in alloc; 0u64; count]?;
         let (table, seat) = Table::of_words(alloc, &words, &count)?;
@@ -61,7 +63,8 @@ impl CounterValues {
 
         // The value is the id's after some writes, loaded in this call, and none that the reader has seen is missing.
         ensures value { IfOk result (λ value. value ≡ value_after id (seen_by reader.new)) }
-        ensures loaded { IfOk result (λ value. loads_of reader.new ≡ loads_of reader.old ++ value_load id value (seen_by reader.new) ∷ []) }
+        ensures loaded { IfOk result (λ value. loads_of reader.new
+            ≡ loads_of reader.old ++ value_load id value (seen_by reader.new) ∷ []) }
         ensures later { IfOk result (λ _. Begins (seen_by reader.old) (seen_by reader.new)) }
         ensures made { made_of reader.new ≡ made_of reader.old }
         ensures err { IfErr result (λ _. reader.new ≡ reader.old) }
@@ -82,7 +85,8 @@ impl CounterValues {
         ensures writer { IsWriterOf self.now writer.new }
         ensures writes { writer_writes writer.new ≡ writer_writes writer.old }
         ensures enough { IsOk result ↔ (1 < writer.old.shares) }
-        ensures reader { IfOk result (λ r. IsReaderOf self.now r × (made_of r ≡ writer_writes writer.old) × (seen_by r ≡ writer_writes writer.old) × (loads_of r ≡ [])) }
+        ensures reader { IfOk result (λ r. IsReaderOf self.now r × (made_of r ≡ writer_writes writer.old)
+            × (seen_by r ≡ writer_writes writer.old) × (loads_of r ≡ [])) }
         ensures shares { IfOk result (λ _. writer.new.shares + 1 ≡ writer.old.shares) }
         ensures err { IfErr result (λ _. writer.new ≡ writer.old) }
     {

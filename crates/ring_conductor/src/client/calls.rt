@@ -3,9 +3,10 @@
 ghost use Rattle.std.specs.Prelude.{◌≡◌, IfErr, IfOk, OnOk};
 ghost use Rattle.ring_words.specs.Open.{ClaimAt};
 ghost use Rattle.ring_table.specs.ServiceSteps.{DrawsId};
-ghost use Rattle.ring_rings.specs.Seats.{capacity_of, open_claims_of, shares_of, view_of, IsOpenClaimOf, IsProducerOf};
-ghost use Rattle.ring_board.specs.Seats.{receiver_seat, IsReceiverOf};
-ghost use Rattle.ring_conductor.specs.Asking.{IsHeard, IsSendable, RefusesAs, RefusesSend, Sends, SendsAs, producer_of, receiver_of};
+ghost use Rattle.ring_rings.specs.Seats.{capacity_of, open_claims_of, shares_of, IsOpenClaimOf, IsProducerOf};
+ghost use Rattle.ring_board.specs.Seats.{IsReceiverOf};
+ghost use Rattle.ring_conductor.specs.Asking.{IsHeard, IsSendable, RefusesAs, RefusesSend, Sends, SendsAs};
+ghost use Rattle.ring_conductor.specs.Asking.{client_seat, client_view, producer_of, receiver_of};
 
 use crate::client::request::Request;
 use crate::client::{Client, Polled, SendFault};
@@ -45,7 +46,7 @@ impl Client {
     pub fn next_correlation_id(&mut self, ring: &ManyToOneRing) -> u64
         requires { IsProducerOf ring.now (producer_of self.old) }
         ensures producer { IsProducerOf ring.now (producer_of self.new) }
-        ensures draws { DrawsId (view_of (producer_of self.old)) result (view_of (producer_of self.new)) }
+        ensures draws { DrawsId (client_view self.old) result (client_view self.new) }
         ensures shares { shares_of (producer_of self.new) ≡ shares_of (producer_of self.old) }
         ensures open_claims { open_claims_of (producer_of self.new) ≡ open_claims_of (producer_of self.old) }
         ensures receiver { receiver_of self.new ≡ receiver_of self.old }
@@ -53,7 +54,8 @@ impl Client {
         ring.next_correlation_id(&mut self.producer)
     }
 
-    /// Makes one try to send a command with a correlation id that was drawn for it. It never waits, and takes no memory.
+    /// Makes one try to send a command with a correlation id that was drawn for it. It never waits, and takes no
+    /// memory.
     ///
     /// It refuses with `TooLong` a command of more than `LONGEST_COMMAND` bytes, and with `Refused` where
     /// `ManyToOneRing::write_once` does. Nothing was written then, and the call can be made again with the same id.
@@ -65,9 +67,12 @@ impl Client {
     ) -> Result<(), SendFault>
         requires { IsProducerOf ring.now (producer_of self.old) }
         ensures producer { IsProducerOf ring.now (producer_of self.new) }
-        ensures sent { OnOk result (IsSendable request.entry × SendsAs (capacity_of ring.now) correlation request.entry (view_of (producer_of self.old)) (view_of (producer_of self.new))) }
-        ensures refused { IfErr result (λ fault. RefusesAs (capacity_of ring.now) correlation request.entry (view_of (producer_of self.old)) fault (view_of (producer_of self.new))) }
-        ensures claims { (t : ClaimAt) → IsOpenClaimOf ring.now (producer_of self.old) t → IsOpenClaimOf ring.now (producer_of self.new) t }
+        ensures sent { OnOk result (IsSendable request.entry
+            × SendsAs (capacity_of ring.now) correlation request.entry (client_view self.old) (client_view self.new)) }
+        ensures refused { IfErr result (λ fault. RefusesAs (capacity_of ring.now) correlation request.entry
+            (client_view self.old) fault (client_view self.new)) }
+        ensures claims { (t : ClaimAt) → IsOpenClaimOf ring.now (producer_of self.old) t
+            → IsOpenClaimOf ring.now (producer_of self.new) t }
         ensures shares { shares_of (producer_of self.new) ≡ shares_of (producer_of self.old) }
         ensures open_claims { open_claims_of (producer_of self.new) ≡ open_claims_of (producer_of self.old) }
         ensures receiver { receiver_of self.new ≡ receiver_of self.old }
@@ -85,17 +90,19 @@ impl Client {
         }
     }
 
-    /// Draws a correlation id and makes one try to send the command with that id, which is answered. It never waits, and
-    /// takes no memory.
+    /// Draws a correlation id and makes one try to send the command with that id, which is answered. It never waits,
+    /// and takes no memory.
     ///
-    /// It refuses with `TooLong` a command of more than `LONGEST_COMMAND` bytes, for which no id was drawn, and with `Refused`
-    /// where `ManyToOneRing::write_once` does. Nothing was written then; the id, which the refusal gives, stays drawn, and
-    /// `send_as` can try again with it.
+    /// It refuses with `TooLong` a command of more than `LONGEST_COMMAND` bytes, for which no id was drawn, and with
+    /// `Refused` where `ManyToOneRing::write_once` does. Nothing was written then; the id, which the refusal gives,
+    /// stays drawn, and `send_as` can try again with it.
     pub fn send(&mut self, ring: &ManyToOneRing, request: Request<'_>) -> Result<u64, SendFault>
         requires { IsProducerOf ring.now (producer_of self.old) }
         ensures producer { IsProducerOf ring.now (producer_of self.new) }
-        ensures sent { IfOk result (λ correlation. IsSendable request.entry × Sends (capacity_of ring.now) request.entry (view_of (producer_of self.old)) correlation (view_of (producer_of self.new))) }
-        ensures refused { IfErr result (λ fault. RefusesSend (capacity_of ring.now) request.entry (view_of (producer_of self.old)) fault (view_of (producer_of self.new))) }
+        ensures sent { IfOk result (λ correlation. IsSendable request.entry
+            × Sends (capacity_of ring.now) request.entry (client_view self.old) correlation (client_view self.new)) }
+        ensures refused { IfErr result (λ fault. RefusesSend (capacity_of ring.now) request.entry
+            (client_view self.old) fault (client_view self.new)) }
         ensures shares { shares_of (producer_of self.new) ≡ shares_of (producer_of self.old) }
         ensures open_claims { open_claims_of (producer_of self.new) ≡ open_claims_of (producer_of self.old) }
         ensures receiver { receiver_of self.new ≡ receiver_of self.old }
@@ -109,14 +116,14 @@ impl Client {
         Ok(correlation)
     }
 
-    /// Takes what comes next on the board, for one who waits for the reply to the command with this correlation id. It never
-    /// waits, and takes no memory.
+    /// Takes what comes next on the board, for one who waits for the reply to the command with this correlation id.
+    /// It never waits, and takes no memory.
     ///
     /// After `Lapped` the next call goes on with the reply at latest. The bytes passed over lie from its `place` on.
     pub fn poll(&mut self, board: &Board, correlation: u64) -> Polled
         requires { IsReceiverOf board.now (receiver_of self.old) }
         ensures receiver { IsReceiverOf board.now (receiver_of self.new) }
-        ensures heard { IsHeard correlation (receiver_seat (receiver_of self.old)) (receiver_seat (receiver_of self.new)) result }
+        ensures heard { IsHeard correlation (client_seat self.old) (client_seat self.new) result }
         ensures producer { producer_of self.new ≡ producer_of self.old }
     {
         match self.receiver.receive(board) {

@@ -1,11 +1,10 @@
 //! Commands applied to the counters.
 
 ghost use Rattle.std.specs.Prelude.{◌≡◌, ◌^◌, ◌≤◌};
-ghost use Rattle.ring_counters.specs.Registry.{allocation_of, new_counter};
 ghost use Rattle.ring_counters.specs.Manager.{registry_of, IsManagerOf};
 ghost use Rattle.ring_conductor.specs.Command.{content_of, Free as FreeOf, Set as SetOf, Close as CloseOf};
-ghost use Rattle.ring_conductor.specs.Applied.{allocated, applied, obeyed};
-ghost use Rattle.ring_conductor.specs.Applying.{Applies};
+ghost use Rattle.ring_conductor.specs.Applied.{applied, obeyed};
+ghost use Rattle.ring_conductor.specs.Applying.{Applies, allocates};
 
 use crate::protocol::codes::RefusalCode;
 use crate::protocol::command::Command;
@@ -30,7 +29,8 @@ fn allocate(
     wanted: Wanted<'_>,
 ) -> Reply
     requires { IsManagerOf values.now counters.old }
-    ensures { Applies (allocated (registry_of counters.old) correlation (new_counter wanted.entry.type_id wanted.entry.key.now wanted.entry.label.now correlation wanted.entry.owner) (allocation_of (registry_of counters.old) now wanted.entry.key.now wanted.entry.label.now)) counters.old counters.new result }
+    ensures { Applies (allocates (registry_of counters.old) now correlation wanted.entry)
+        counters.old counters.new result }
 {
     let Wanted {
         type_id,
@@ -49,7 +49,8 @@ fn allocate(
 
 fn free(counters: &mut CountersManager, now: u64, correlation: u64, id: u32) -> Reply
     requires { now ≤ 2 ^ 62 }
-    ensures { Applies (obeyed now (registry_of counters.old) (FreeOf correlation id)) counters.old counters.new result }
+    ensures { Applies (obeyed now (registry_of counters.old) (FreeOf correlation id))
+        counters.old counters.new result }
 {
     match counters.free(now, id) {
         Ok(()) => Reply::Done { correlation },
@@ -68,7 +69,8 @@ fn set(
     value: i64,
 ) -> Reply
     requires { IsManagerOf values.now counters.old }
-    ensures { Applies (obeyed 0 (registry_of counters.old) (SetOf correlation id value)) counters.old counters.new result }
+    ensures { Applies (obeyed 0 (registry_of counters.old) (SetOf correlation id value))
+        counters.old counters.new result }
 {
     match counters.set(values, id, value) {
         Ok(()) => Reply::Done { correlation },
@@ -81,7 +83,8 @@ fn set(
 
 fn close(counters: &mut CountersManager, now: u64, correlation: u64, owner: u64) -> Reply
     requires { now ≤ 2 ^ 62 }
-    ensures { Applies (obeyed now (registry_of counters.old) (CloseOf correlation owner)) counters.old counters.new result }
+    ensures { Applies (obeyed now (registry_of counters.old) (CloseOf correlation owner))
+        counters.old counters.new result }
 {
     match counters.close_owner(now, owner) {
         Ok(freed) => Reply::Closed { correlation, freed },
@@ -101,7 +104,8 @@ fn obey(
 ) -> Reply
     requires values { IsManagerOf values.now counters.old }
     requires now { now ≤ 2 ^ 62 }
-    ensures { Applies (obeyed now (registry_of counters.old) (content_of command.entry)) counters.old counters.new result }
+    ensures { Applies (obeyed now (registry_of counters.old) (content_of command.entry))
+        counters.old counters.new result }
 {
     match command {
         Command::Allocate {
@@ -154,7 +158,8 @@ pub(crate) fn apply(
 ) -> Reply
     requires values { IsManagerOf values.now counters.old }
     requires now { now ≤ 2 ^ 62 }
-    ensures { Applies (applied now (registry_of counters.old) (record { type_id = type_id; body = body.now })) counters.old counters.new result }
+    ensures { Applies (applied now (registry_of counters.old) (record { type_id = type_id; body = body.now }))
+        counters.old counters.new result }
 {
     match decode_command(type_id, body) {
         Ok(command) => obey(counters, values, now, command),

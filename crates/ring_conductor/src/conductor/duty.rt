@@ -3,7 +3,9 @@
 ghost use Rattle.std.specs.Prelude.{◌≡◌, ◌^◌, ◌≤◌, []};
 ghost use Rattle.ring_rings.specs.Seats.{taken_of};
 ghost use Rattle.ring_board.specs.Seats.{heard_by, transmitted};
-ghost use Rattle.ring_conductor.specs.Conducting.{AreUnused, Begins, IsConductorOf, Works, consumer_of, counters_of, ledger_of, ring_view, transmitter_of, value_shares_of, work_stop};
+ghost use Rattle.ring_conductor.specs.Conducting.{AreUnused, Begins, IsConductorOf, Works, work_stop};
+ghost use Rattle.ring_conductor.specs.Conducting.{consumer_of, counters_of, ledger_of, ring_view};
+ghost use Rattle.ring_conductor.specs.Conducting.{transmitter_of, value_shares_of};
 
 use crate::conductor::serve::Serving;
 use crate::conductor::{Conductor, Work, WorkStop};
@@ -48,12 +50,14 @@ impl Conductor {
         &self.counters
     }
 
-    /// Takes at most `limit` commands from the ring. Each is applied to the counters at the moment `now`, in milliseconds
-    /// and at most 2^62, and gets exactly one reply, which carries its correlation id. No memory is taken.
+    /// Takes at most `limit` commands from the ring. Each is applied to the counters at the moment `now`, in
+    /// milliseconds and at most 2^62, and gets exactly one reply, which carries its correlation id. No memory is
+    /// taken.
     ///
-    /// It stops as a controlled read of the ring does, or with `BoardEnd` where a reply of 12 bytes would end above 2^62
-    /// on the board. The command stays in the ring then, not applied, also where its own reply would be shorter and would
-    /// fit. `Block` with no message does not say that the ring is empty: the next call goes on behind the end of the buffer.
+    /// It stops as a controlled read of the ring does, or with `BoardEnd` where a reply of 12 bytes would end above
+    /// 2^62 on the board. The command stays in the ring then, not applied, also where its own reply would be shorter
+    /// and would fit. `Block` with no message does not say that the ring is empty: the next call goes on behind the
+    /// end of the buffer.
     pub fn do_work<R: CommandSource>(
         &mut self,
         ring: &R,
@@ -65,7 +69,8 @@ impl Conductor {
         requires conductor { IsConductorOf R.is_consumer ring.now board.now values.now self.old }
         requires now { now ≤ 2 ^ 62 }
         ensures conductor { IsConductorOf R.is_consumer ring.now board.now values.now self.new }
-        ensures works { Works now limit (ring_view self.old) (ring_view self.new) (ledger_of self.old) (ledger_of self.new) result }
+        ensures works { Works now limit (ring_view self.old) (ring_view self.new)
+            (ledger_of self.old) (ledger_of self.new) result }
         ensures grows { Begins (transmitted (transmitter_of self.old)) (transmitted (transmitter_of self.new)) }
         ensures heard { heard_by (transmitter_of self.new) ≡ heard_by (transmitter_of self.old) }
         ensures value_shares { value_shares_of self.new ≡ value_shares_of self.old }

@@ -5,7 +5,7 @@ ghost use Rattle.ring_board.specs.Seats.{IsTransmitterOf, view_of, capacity_of, 
 ghost use Rattle.ring_layout.specs.History.{span};
 ghost use Rattle.ring_layout.specs.Places.{max_position, end_after};
 ghost use Rattle.ring_conductor.specs.Fold.{replied};
-ghost use Rattle.ring_conductor.specs.Serving.{IsReady, Serves};
+ghost use Rattle.ring_conductor.specs.Serving.{ActsOn, IsReady};
 
 use crate::conductor::apply::apply;
 use crate::conductor::serve::Serving;
@@ -31,7 +31,7 @@ fn answer(board: &Board, transmitter: &mut Transmitter, reply: &Reply)
 impl Handler for Serving<'_> {
     ghost ready = { λ s. IsReady s };
 
-    ghost step = { λ s m t a. Serves s m t a };
+    ghost step = { λ s m t a. ActsOn s m t a };
 
     fn on_message(&mut self, type_id: i32, body: &[u8]) -> Action {
         let room = self

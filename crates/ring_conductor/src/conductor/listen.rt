@@ -3,13 +3,15 @@
 ghost use Rattle.std.specs.Prelude.{◌≡◌, ◌+◌, ◌++◌, ◌<◌, ◌↔◌, [], ◌∷◌, IfOk, IsOk, OnErr, OnOk};
 ghost use Rattle.ring_board.specs.Refusals.{subscribe_refusal_of, IsSubscribedUnless};
 ghost use Rattle.ring_board.specs.Runs.{AreRuns};
-ghost use Rattle.ring_board.specs.Seats.{view_of, heard_by, shares_of, transmitted, IsTransmitterOf, IsReceiverOf, receiver_view, subscribed_at, copies_of};
+ghost use Rattle.ring_board.specs.Seats.{heard_by, shares_of, transmitted, IsTransmitterOf, IsReceiverOf};
+ghost use Rattle.ring_board.specs.Seats.{receiver_view, subscribed_at, copies_of};
 ghost use Rattle.ring_board.specs.Steps.{as_joined, fewer, newcomer, joined};
 ghost use Rattle.ring_counters.specs.Agree.{Agree};
 ghost use Rattle.ring_counters.specs.Manager.{registry_of, writes_of, IsManagerOf};
 ghost use Rattle.ring_counters.specs.Seats.{IsReaderOf, made_of, seen_by, loads_of};
 ghost use Rattle.ring_counters.specs.ValueWrites.{AreLoads};
-ghost use Rattle.ring_conductor.specs.Conducting.{KeepsSeats, KeepsTheRest, counters_of, transmitter_of, value_shares_of};
+ghost use Rattle.ring_conductor.specs.Conducting.{KeepsSeats, KeepsTheRest};
+ghost use Rattle.ring_conductor.specs.Conducting.{board_view, counters_of, transmitter_of, value_shares_of};
 
 use crate::conductor::Conductor;
 use ring_board::{Board, CopyReceiver, SubscribeFault};
@@ -27,8 +29,9 @@ impl Conductor {
         requires { IsTransmitterOf board.now (transmitter_of self.old) }
         ensures board { IsTransmitterOf board.now (transmitter_of self.new) }
         ensures refused { IsSubscribedUnless (subscribe_refusal_of (shares_of (transmitter_of self.old))) result }
-        ensures receiver { IfOk result (λ r. IsReceiverOf board.now r × (receiver_view r ≡ newcomer (view_of (transmitter_of self.old)))) }
-        ensures fewer { OnOk result (view_of (transmitter_of self.new) ≡ fewer (view_of (transmitter_of self.old))) }
+        ensures receiver { IfOk result (λ r. IsReceiverOf board.now r
+            × (receiver_view r ≡ newcomer (board_view self.old))) }
+        ensures fewer { OnOk result (board_view self.new ≡ fewer (board_view self.old)) }
         ensures others { KeepsTheRest self.old self.new }
         ensures err { OnErr result (self.new ≡ self.old) }
     {
@@ -41,9 +44,10 @@ impl Conductor {
         requires receiver { IsReceiverOf board.now receiver }
         ensures board { IsTransmitterOf board.now (transmitter_of self.new) }
         ensures runs { AreRuns (transmitted (transmitter_of self.old)) (subscribed_at receiver) (copies_of receiver) }
-        ensures joined { view_of (transmitter_of self.new) ≡ joined (view_of (transmitter_of self.old)) (receiver_view receiver) }
+        ensures joined { board_view self.new ≡ joined (board_view self.old) (receiver_view receiver) }
         ensures shares { shares_of (transmitter_of self.new) ≡ shares_of (transmitter_of self.old) + 1 }
-        ensures heard { heard_by (transmitter_of self.new) ≡ heard_by (transmitter_of self.old) ++ as_joined (receiver_view receiver) ∷ [] }
+        ensures heard { heard_by (transmitter_of self.new)
+            ≡ heard_by (transmitter_of self.old) ++ as_joined (receiver_view receiver) ∷ [] }
         ensures others { KeepsTheRest self.old self.new }
     {
         board.join(&mut self.transmitter, receiver);
@@ -57,7 +61,8 @@ impl Conductor {
         ensures values { IsManagerOf values.now (counters_of self.new) }
         ensures enough { IsOk result ↔ (1 < value_shares_of self.old) }
         ensures reader { IfOk result (λ r. IsReaderOf values.now r) }
-        ensures made { IfOk result (λ r. (made_of r ≡ writes_of (counters_of self.old)) × (seen_by r ≡ writes_of (counters_of self.old)) × (loads_of r ≡ [])) }
+        ensures made { IfOk result (λ r. (made_of r ≡ writes_of (counters_of self.old))
+            × (seen_by r ≡ writes_of (counters_of self.old)) × (loads_of r ≡ [])) }
         ensures shares { OnOk result (value_shares_of self.new + 1 ≡ value_shares_of self.old) }
         ensures registry { registry_of (counters_of self.new) ≡ registry_of (counters_of self.old) }
         ensures writes { writes_of (counters_of self.new) ≡ writes_of (counters_of self.old) }
@@ -67,8 +72,8 @@ impl Conductor {
         self.counters.reader(values)
     }
 
-    /// Takes a reader of the values back, with its share. What it loaded are values after first parts of the writes, after
-    /// which the values are the registry's.
+    /// Takes a reader of the values back, with its share. What it loaded are values after first parts of the writes,
+    /// after which the values are the registry's.
     pub fn join_value_reader(&mut self, values: &CounterValues, reader: ValueReader)
         requires counters { IsManagerOf values.now (counters_of self.old) }
         requires reader { IsReaderOf values.now reader }

@@ -3,7 +3,8 @@
 ghost use Rattle.std.specs.Prelude.{◌≡◌, ◌^◌, ◌≤◌, All};
 ghost use Rattle.ring_board.specs.Seats.{heard_by, transmitted};
 ghost use Rattle.ring_conductor.specs.declared.conductor.WorkStop.TheVariants.{Limit};
-ghost use Rattle.ring_conductor.specs.Conducting.{Begins, IsConductorOf, ledger_of, ring_view, transmitter_of, value_shares_of};
+ghost use Rattle.ring_conductor.specs.Conducting.{Begins, IsConductorOf};
+ghost use Rattle.ring_conductor.specs.Conducting.{ledger_of, ring_view, transmitter_of, value_shares_of};
 ghost use Rattle.ring_conductor.specs.Running.{Runs};
 
 use crate::conductor::{Conductor, Cycle, Work, WorkStop};
@@ -12,8 +13,8 @@ use ring_counters::CounterValues;
 use ring_rings::CommandSource;
 
 impl Conductor {
-    /// Calls `do_work` for each cycle, up to one that comes to the board's end. It gives the sum of the messages and the last
-    /// stop; without a cycle 0 and `Limit`.
+    /// Calls `do_work` for each cycle, up to one that comes to the board's end. It gives the sum of the messages and
+    /// the last stop; without a cycle 0 and `Limit`.
     pub fn run<R: CommandSource>(
         &mut self,
         ring: &R,
@@ -24,7 +25,8 @@ impl Conductor {
         requires conductor { IsConductorOf R.is_consumer ring.now board.now values.now self.old }
         requires moments { All (λ cycle. cycle.now ≤ 2 ^ 62) cycles.now }
         ensures conductor { IsConductorOf R.is_consumer ring.now board.now values.now self.new }
-        ensures runs { Runs cycles.now Limit (ring_view self.old) (ring_view self.new) (ledger_of self.old) (ledger_of self.new) result }
+        ensures runs { Runs cycles.now Limit (ring_view self.old) (ring_view self.new)
+            (ledger_of self.old) (ledger_of self.new) result }
         ensures grows { Begins (transmitted (transmitter_of self.old)) (transmitted (transmitter_of self.new)) }
         ensures heard { heard_by (transmitter_of self.new) ≡ heard_by (transmitter_of self.old) }
         ensures value_shares { value_shares_of self.new ≡ value_shares_of self.old }

@@ -1,14 +1,16 @@
 //! Why commands are refused, and the numbers that replies give for that.
 
 ghost use Rattle.std.specs.Prelude.{◌≡◌};
-ghost use Rattle.ring_conductor.specs.Codes.{IsNamed, bad_code, bad_correlation, number_of, of_allocate, of_bad, of_bad_owner, of_id};
+ghost use Rattle.ring_conductor.specs.Codes.{IsNamed, bad_code, bad_correlation, number_of};
+ghost use Rattle.ring_conductor.specs.Codes.{of_allocate, of_bad, of_bad_owner, of_id};
 
 use crate::protocol::fault::Bad;
 use ring_counters::{AllocateRefused, BadOwner, IdFault};
 use std::fmt;
 use thiserror::Error;
 
-/// Why the conductor refused a command. It stands in `Reply::Refused` by its number, from which `try_from` makes it again.
+/// Why the conductor refused a command. It stands in `Reply::Refused` by its number, from which `try_from` makes it
+/// again.
 #[derive(Clone, Copy, Debug, PartialEq, Eq)]
 pub enum RefusalCode {
     /// The key has more than 112 bytes.

@@ -22,7 +22,8 @@ pub mod type_ids {
     pub const CLOSE: i32 = 5;
 }
 
-/// The most bytes of a command whose key has at most 112 bytes and whose label has at most 380, as a counter's may have.
+/// The most bytes of a command whose key has at most 112 bytes and whose label has at most 380, as a counter's may
+/// have.
 pub const LONGEST_COMMAND: usize = 520;
 
 /// A command. Its reply carries the same correlation id. A command that was decoded borrows its key and its label
@@ -63,7 +64,8 @@ pub enum Command<'a> {
 }
 
 impl Command<'_> {
-    ghost use Rattle.ring_conductor.specs.Command.{content_of, correlation_id_of, spelling_of, type_id_of, HasShortTexts};
+    ghost use Rattle.ring_conductor.specs.Command.{HasShortTexts, content_of, correlation_id_of};
+    ghost use Rattle.ring_conductor.specs.Command.{spelling_of, type_id_of};
 
     /// The type id of the message that spells the command.
     pub fn type_id(&self) -> i32
@@ -91,8 +93,8 @@ impl Command<'_> {
         }
     }
 
-    /// How many bytes its spelling takes, at most `LONGEST_COMMAND` where the counters could take its key and its label.
-    /// `None` where the key or the label is longer than 2^32 - 1 bytes: it has no spelling then.
+    /// How many bytes its spelling takes, at most `LONGEST_COMMAND` where the counters could take its key and its
+    /// label. `None` where the key or the label is longer than 2^32 - 1 bytes: it has no spelling then.
     pub fn encoded_len(&self) -> Option<usize>
         ensures fits { IsSome result ↔ HasShortTexts (content_of self.now) }
         ensures len { IfSome result (λ n. n ≡ length (spelling_of (content_of self.now))) }

@@ -1,8 +1,11 @@
 //! What a client does.
-ghost use Rattle.std.specs.Prelude.{◌≡◌, ◌+◌, ◌≤◌, if◌then◌else◌};
+ghost use Rattle.std.specs.Prelude.{◌≡◌, ℕ, ◌+◌, ◌<◌, ◌≤◌, take, IfNone, IfSome, OnSome};
+ghost use Rattle.std.specs.Bool.{OnFalse, OnTrue};
 ghost use Rattle.ring_board.specs.Seats.{IsReceiverOf};
-ghost use Rattle.ring_conductor.specs.Asking.{producer_of, receiver_of};
-ghost use Rattle.ring_conductor.specs.Storming.{IsClientOf, IsClientSeat, sent_by};
+ghost use Rattle.ring_conductor.specs.Asking.{asked, producer_of, receiver_of};
+ghost use Rattle.ring_conductor.specs.Storming.{IsClientAt, IsClientSeat, IsNew, sent_by};
+ghost use Rattle.ring_conductor.specs.Turns.{Adds, AreAnswered, IsAnswered, Lengthens, Turns};
+ghost use Rattle.ring_conductor.specs.Turns.{claims_by, copies_by, label_of, numbered};
 
 use crate::client::request::Request;
 use crate::client::{Client, Polled};
@@ -17,10 +20,12 @@ use ring_rings::ManyToOneRing;
 const COUNTER_TYPE: i32 = 1;
 
 /// The label of a client's counter, and how long it is: `c` and the client's number, which is below 100.
-pub(crate) fn label_of(client: u32) -> ([u8; 3], usize)
-    ensures { result.1 ≤ 3 }
+fn label_of(client: u32) -> ([u8; 3], usize)
+    requires { client < 100 }
+    ensures length { result.1 ≤ 3 }
+    ensures label { take result.1 result.0 ≡ label_of client }
 {
-    let tens = b'0' + (client / 10 % 10) as u8;
+    let tens = b'0' + (client / 10) as u8;
     let ones = b'0' + (client % 10) as u8;
     if client < 10 {
         ([b'c', ones, 0], 2)
@@ -29,9 +34,11 @@ pub(crate) fn label_of(client: u32) -> ([u8; 3], usize)
     }
 }
 
-/// What a client asks by its command with this number: the first one allocates a counter with the label, each further one
-/// sets that counter to the command's number.
-fn request_of(label: &[u8], counter: u32, number: u32) -> Request<'_> {
+/// What a client asks by its command with this number: the first one allocates a counter with the label, each further
+/// one sets that counter to the command's number.
+fn request_of(label: &[u8], counter: u32, number: u32) -> Request<'_>
+    ensures { (correlation : ℕ) → asked result correlation ≡ numbered label.now counter number correlation }
+{
     if number == 1 {
         Request::Allocate {
             type_id: COUNTER_TYPE,
@@ -55,7 +62,9 @@ fn try_send(
 ) -> bool
     requires { IsClientSeat ring.now (producer_of client.old) }
     ensures seat { IsClientSeat ring.now (producer_of client.new) }
-    ensures sent { sent_by (producer_of client.new) ≡ sent_by (producer_of client.old) + (if result then 1 else 0) }
+    ensures sent { OnTrue result
+        (Adds (asked request.entry correlation) (claims_by client.old) (claims_by client.new)) }
+    ensures refused { OnFalse result (claims_by client.new ≡ claims_by client.old) }
     ensures receiver { receiver_of client.new ≡ receiver_of client.old }
 {
     client.send_as(ring, correlation, request).is_ok()
@@ -81,7 +90,9 @@ impl<G: Gate> Shared<'_, G> {
     fn send(&self, client: &mut Client, request: Request<'_>) -> Option<u64>
         requires { IsClientSeat self.now.ring.now (producer_of client.old) }
         ensures seat { IsClientSeat self.now.ring.now (producer_of client.new) }
-        ensures sent { sent_by (producer_of client.new) ≤ sent_by (producer_of client.old) + 1 }
+        ensures sent { IfSome result (λ correlation.
+            Adds (asked request.entry correlation) (claims_by client.old) (claims_by client.new)) }
+        ensures refused { IfNone result (claims_by client.new ≡ claims_by client.old) }
         ensures receiver { receiver_of client.new ≡ receiver_of client.old }
     {
         let correlation = client.next_correlation_id(self.ring);
@@ -102,6 +113,9 @@ impl<G: Gate> Shared<'_, G> {
     fn hear(&self, client: &mut Client, correlation: u64) -> Option<Reply>
         requires { IsReceiverOf self.now.board.now (receiver_of client.old) }
         ensures receiver { IsReceiverOf self.now.board.now (receiver_of client.new) }
+        ensures heard { IfSome result (λ reply.
+            IsAnswered correlation reply (copies_by client.old) (copies_by client.new)) }
+        ensures grows { Lengthens (copies_by client.old) (copies_by client.new) }
         ensures producer { producer_of client.new ≡ producer_of client.old }
     {
         let backoff = Backoff::new();
@@ -121,10 +135,15 @@ impl<G: Gate> Shared<'_, G> {
 
     /// Sends one command and waits for its reply. `None` where a wait came to its end.
     fn command(&self, client: &mut StormClient, number: u32) -> Option<()>
-        requires { IsClientOf self.now.ring.now self.now.board.now client.old }
-        ensures client { IsClientOf self.now.ring.now self.now.board.now client.new }
+        requires { IsClientAt self.now client.old }
+        ensures client { IsClientAt self.now client.new }
+        ensures turn { OnSome result (Turns client.old.index number
+            (claims_by client.old.client) (claims_by client.new.client)
+            (copies_by client.old.client) (copies_by client.new.client)) }
+        ensures claims { Lengthens (claims_by client.old.client) (claims_by client.new.client) }
+        ensures copies { Lengthens (copies_by client.old.client) (copies_by client.new.client) }
         ensures sent { sent_by (producer_of client.new.client) ≤ sent_by (producer_of client.old.client) + 1 }
-        ensures seen { client.new.seen ≡ client.old.seen }
+        ensures same { (client.new.index ≡ client.old.index) × (client.new.seen ≡ client.old.seen) }
     {
         if !self.wait_for_gate(client.index, number) {
             return None;
@@ -141,11 +160,12 @@ impl<G: Gate> Shared<'_, G> {
 
     /// Runs a client to its end. Where it gives up, all others are told to end.
     pub(crate) fn run_client(&self, mut client: StormClient) -> StormClient
-        requires client { IsClientOf self.now.ring.now self.now.board.now client }
-        requires new { (sent_by (producer_of client.client) ≡ 0) × (client.seen ≡ 0) }
-        ensures client { IsClientOf self.now.ring.now self.now.board.now result }
+        requires client { IsClientAt self.now client }
+        requires new { IsNew client }
+        ensures client { IsClientAt self.now result }
         ensures sent { sent_by (producer_of result.client) ≤ self.now.plan.commands }
         ensures seen { result.seen ≤ self.now.plan.commands }
+        ensures answered { AreAnswered result.index result.seen (claims_by result.client) (copies_by result.client) }
     {
         for number in 1..=self.plan.commands {
             if self.command(&mut client, number).is_none() {

@@ -1,8 +1,7 @@
 //! What the conductor does in a storm.
 ghost use Rattle.std.specs.Prelude.{◌≡◌, ◌+◌, ◌≤◌, IsTrue};
-ghost use Rattle.ring_rings.specs.Seats.{IsConsumerOf};
-ghost use Rattle.ring_conductor.specs.Conducting.{IsConductorOf};
-ghost use Rattle.ring_conductor.specs.Storming.{HasCounters, IsPlan, all_commands, board_shares_of, taken_by};
+ghost use Rattle.ring_conductor.specs.Storming.{HasCounters, IsConductorAt, IsPlan};
+ghost use Rattle.ring_conductor.specs.Storming.{all_commands, board_shares_of, taken_by};
 
 use crate::conductor::{Conductor, WorkStop};
 use crate::storming::shared::Shared;
@@ -19,9 +18,9 @@ pub(crate) struct ConductorEnd {
 impl<G> Shared<'_, G> {
     /// Works until a command comes, and says how many came. 0 where none came.
     fn work(&self, conductor: &mut Conductor) -> u64
-        requires conductor { IsConductorOf IsConsumerOf self.now.ring.now self.now.board.now self.now.values.now conductor.old }
+        requires conductor { IsConductorAt self.now conductor.old }
         requires counters { HasCounters self.now.plan conductor.old }
-        ensures conductor { IsConductorOf IsConsumerOf self.now.ring.now self.now.board.now self.now.values.now conductor.new }
+        ensures conductor { IsConductorAt self.now conductor.new }
         ensures counters { HasCounters self.now.plan conductor.new }
         ensures shares { board_shares_of conductor.new ≡ board_shares_of conductor.old }
         ensures taken { taken_by conductor.new ≡ taken_by conductor.old + result }
@@ -46,9 +45,9 @@ impl<G> Shared<'_, G> {
     /// Works until all commands are taken. Where it gives up, all others are told to end.
     pub(crate) fn run_conductor(&self, mut conductor: Conductor) -> ConductorEnd
         requires plan { IsPlan self.now.plan }
-        requires conductor { IsConductorOf IsConsumerOf self.now.ring.now self.now.board.now self.now.values.now conductor }
+        requires conductor { IsConductorAt self.now conductor }
         requires counters { HasCounters self.now.plan conductor }
-        ensures conductor { IsConductorOf IsConsumerOf self.now.ring.now self.now.board.now self.now.values.now result.conductor }
+        ensures conductor { IsConductorAt self.now result.conductor }
         ensures counters { HasCounters self.now.plan result.conductor }
         ensures shares { board_shares_of result.conductor ≡ board_shares_of conductor }
         ensures done { IsTrue result.is_done → all_commands self.now.plan ≤ taken_by result.conductor }

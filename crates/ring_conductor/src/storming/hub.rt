@@ -2,7 +2,7 @@
 ghost use Rattle.std.specs.Prelude.{◌≡◌, ◌+◌, ◌<◌, IfOk, OnErr, OnOk};
 ghost use Rattle.ring_rings.specs.Seats.{open_claims_of, shares_of};
 ghost use Rattle.ring_conductor.specs.Asking.{producer_of};
-ghost use Rattle.ring_conductor.specs.Storming.{IsClientOf, IsHubOf, board_shares_of, sent_by, taken_by};
+ghost use Rattle.ring_conductor.specs.Storming.{IsClientAt, IsHubAt, IsNew, board_shares_of, sent_by, taken_by};
 
 use crate::client::Client;
 use crate::storming::seats::{Hub, StormClient};
@@ -18,13 +18,15 @@ impl<G> Shared<'_, G> {
         hub: &mut Hub,
         index: u32,
     ) -> Result<StormClient, SubscribeFault>
-        requires hub { IsHubOf self.now.plan self.now.ring.now self.now.board.now self.now.values.now hub.old }
+        requires hub { IsHubAt self.now hub.old }
+        requires index { index < 64 }
         requires shares { (1 < shares_of hub.old.producer) × (1 < board_shares_of hub.old.conductor) }
-        ensures hub { IsHubOf self.now.plan self.now.ring.now self.now.board.now self.now.values.now hub.new }
-        ensures client { IfOk result (λ c. IsClientOf self.now.ring.now self.now.board.now c × (sent_by (producer_of c.client) ≡ 0) × (c.seen ≡ 0)) }
+        ensures hub { IsHubAt self.now hub.new }
+        ensures client { IfOk result (λ c. IsClientAt self.now c × IsNew c) }
         ensures producers { OnOk result (shares_of hub.new.producer + 1 ≡ shares_of hub.old.producer) }
         ensures receivers { OnOk result (board_shares_of hub.new.conductor + 1 ≡ board_shares_of hub.old.conductor) }
-        ensures claims { OnOk result ((open_claims_of hub.new.producer ≡ open_claims_of hub.old.producer) × (sent_by hub.new.producer ≡ sent_by hub.old.producer)) }
+        ensures claims { OnOk result ((open_claims_of hub.new.producer ≡ open_claims_of hub.old.producer)
+            × (sent_by hub.new.producer ≡ sent_by hub.old.producer)) }
         ensures taken { OnOk result (taken_by hub.new.conductor ≡ taken_by hub.old.conductor) }
         ensures err { OnErr result (hub.new ≡ hub.old) }
     {
@@ -43,12 +45,13 @@ impl<G> Shared<'_, G> {
 
     /// Takes a client's seats back, and says how many of its commands were answered.
     pub(crate) fn join_client(&self, hub: &mut Hub, client: StormClient) -> u64
-        requires hub { IsHubOf self.now.plan self.now.ring.now self.now.board.now self.now.values.now hub.old }
-        requires client { IsClientOf self.now.ring.now self.now.board.now client }
-        ensures hub { IsHubOf self.now.plan self.now.ring.now self.now.board.now self.now.values.now hub.new }
+        requires hub { IsHubAt self.now hub.old }
+        requires client { IsClientAt self.now client }
+        ensures hub { IsHubAt self.now hub.new }
         ensures producers { shares_of hub.new.producer ≡ shares_of hub.old.producer + 1 }
         ensures receivers { board_shares_of hub.new.conductor ≡ board_shares_of hub.old.conductor + 1 }
-        ensures claims { (open_claims_of hub.new.producer ≡ open_claims_of hub.old.producer) × (sent_by hub.new.producer ≡ sent_by hub.old.producer + sent_by (producer_of client.client)) }
+        ensures claims { (open_claims_of hub.new.producer ≡ open_claims_of hub.old.producer)
+            × (sent_by hub.new.producer ≡ sent_by hub.old.producer + sent_by (producer_of client.client)) }
         ensures taken { taken_by hub.new.conductor ≡ taken_by hub.old.conductor }
         ensures seen { result ≡ client.seen }
     {

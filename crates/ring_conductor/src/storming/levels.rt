@@ -4,7 +4,8 @@ ghost use Rattle.ring_conductor.specs.declared.storming.seats.Failure.TheVariant
 ghost use Rattle.ring_rings.specs.Seats.{open_claims_of, shares_of, IsConsumerOf};
 ghost use Rattle.ring_conductor.specs.Conducting.{IsConductorOf};
 ghost use Rattle.ring_conductor.specs.Asking.{producer_of};
-ghost use Rattle.ring_conductor.specs.Storming.{HasCounters, IsClientOf, IsHubOf, IsPlan, all_commands, board_shares_of, sent_by, taken_by};
+ghost use Rattle.ring_conductor.specs.Storming.{HasCounters, IsClientAt, IsClientOf, IsDone, IsHubAt, IsNew, IsPlan};
+ghost use Rattle.ring_conductor.specs.Storming.{all_commands, board_shares_of, sent_by, taken_by};
 
 use crate::storming::conductor::ConductorEnd;
 use crate::storming::gate::Gate;
@@ -15,12 +16,13 @@ use core::thread::Stack;
 use std::alloc::Global;
 use std::thread::{Scope, Threads};
 
-/// The stack of a thread. One that is too large refuses the thread.
-fn stack_of(thread: u32, refused: Option<u32>) -> Stack {
-    if refused == Some(thread) {
-        Stack::new().stack_size(usize::MAX)
-    } else {
+/// The stack that a thread is asked for with. For one that the gate refuses it is too large for any system, so that the
+/// thread can't be started.
+fn stack_of<G: Gate>(gate: &G, thread: u32) -> Stack {
+    if gate.may_start(thread) {
         Stack::new()
+    } else {
+        Stack::new().stack_size(usize::MAX)
     }
 }
 
@@ -45,8 +47,8 @@ fn conduct<'s, E, R: Threads, G: Gate + Sync>(
     hub: Hub,
 ) -> LevelEnd
     requires plan { IsPlan shared.plan }
-    requires hub { IsHubOf shared.plan shared.ring.now shared.board.now shared.values.now hub }
-    ensures hub { IsHubOf shared.entry.plan shared.entry.ring.now shared.entry.board.now shared.entry.values.now result.hub }
+    requires hub { IsHubAt shared hub }
+    ensures hub { IsHubAt shared.entry result.hub }
     ensures producer { result.hub.producer ≡ hub.producer }
     ensures receivers { board_shares_of result.hub.conductor ≡ board_shares_of hub.conductor }
     ensures seen { result.seen ≡ 0 }
@@ -64,10 +66,9 @@ fn conduct<'s, E, R: Threads, G: Gate + Sync>(
         gate,
         stopped,
         plan,
-        refused,
     } = shared;
     let shares = conductor.transmitter.shares();
-    let started = stack_of(plan.clients, refused).spawn_scoped_with(
+    let started = stack_of(gate, plan.clients).spawn_scoped_with(
         scope,
         ConductorBack {
             ring,
@@ -77,8 +78,10 @@ fn conduct<'s, E, R: Threads, G: Gate + Sync>(
             plan,
         },
         move || -> ConductorEnd
-            requires { IsPlan plan × IsConductorOf IsConsumerOf ring.now board.now values.now conductor × HasCounters plan conductor }
-            ensures conductor { IsConductorOf IsConsumerOf ring.entry.now board.entry.now values.entry.now result.conductor }
+            requires { IsPlan plan × IsConductorOf IsConsumerOf ring.now board.now values.now conductor
+                × HasCounters plan conductor }
+            ensures conductor { IsConductorOf IsConsumerOf ring.entry.now board.entry.now values.entry.now
+                result.conductor }
             ensures counters { HasCounters plan result.conductor }
             ensures shares { board_shares_of result.conductor ≡ board_shares_of conductor }
             ensures done { IsTrue result.is_done → all_commands plan ≤ taken_by result.conductor }
@@ -90,7 +93,6 @@ fn conduct<'s, E, R: Threads, G: Gate + Sync>(
                 gate,
                 stopped,
                 plan,
-                refused,
             };
             shared.run_conductor(conductor)
         },
@@ -134,15 +136,15 @@ pub(crate) fn level<'s, E, R: Threads, G: Gate + Sync>(
     mut hub: Hub,
 ) -> LevelEnd
     requires plan { IsPlan shared.plan × (remaining ≤ 64) }
-    requires hub { IsHubOf shared.plan shared.ring.now shared.board.now shared.values.now hub }
+    requires hub { IsHubAt shared hub }
     requires shares { (remaining < shares_of hub.producer) × (remaining < board_shares_of hub.conductor) }
-    ensures hub { IsHubOf shared.entry.plan shared.entry.ring.now shared.entry.board.now shared.entry.values.now result.hub }
+    ensures hub { IsHubAt shared.entry result.hub }
     ensures producers { shares_of result.hub.producer ≡ shares_of hub.producer }
     ensures receivers { board_shares_of result.hub.conductor ≡ board_shares_of hub.conductor }
     ensures open_claims { open_claims_of result.hub.producer ≡ open_claims_of hub.producer }
     ensures sent { sent_by result.hub.producer ≤ sent_by hub.producer + remaining * shared.entry.plan.commands }
     ensures seen { result.seen ≤ remaining * shared.entry.plan.commands }
-    ensures done { (result.failure ≡ None) → (all_commands shared.entry.plan ≤ taken_by result.hub.conductor) × (result.seen ≡ remaining * shared.entry.plan.commands) }
+    ensures done { (result.failure ≡ None) → IsDone shared.entry.plan remaining result }
 {
     if remaining == 0 {
         return conduct(scope, rt, shared, hub);
@@ -159,14 +161,13 @@ pub(crate) fn level<'s, E, R: Threads, G: Gate + Sync>(
         gate,
         stopped,
         plan,
-        refused,
     } = shared;
-    let started = stack_of(index, refused).spawn_scoped_with(
+    let started = stack_of(gate, index).spawn_scoped_with(
         scope,
         ClientBack { ring, board, plan },
         move || -> StormClient
             requires client { IsClientOf ring.now board.now client }
-            requires new { (sent_by (producer_of client.client) ≡ 0) × (client.seen ≡ 0) }
+            requires new { IsNew client }
             ensures client { IsClientOf ring.entry.now board.entry.now result }
             ensures sent { sent_by (producer_of result.client) ≤ plan.commands }
             ensures seen { result.seen ≤ plan.commands }
@@ -178,7 +179,6 @@ pub(crate) fn level<'s, E, R: Threads, G: Gate + Sync>(
                 gate,
                 stopped,
                 plan,
-                refused,
             };
             shared.run_client(client)
         },
@@ -201,18 +201,18 @@ pub(crate) fn level<'s, E, R: Threads, G: Gate + Sync>(
 /// Takes a client's seats back. It has spent its turns if a reply is wanting.
 fn gather<G>(shared: Shared<'_, G>, index: u32, end: LevelEnd, client: StormClient) -> LevelEnd
     requires plan { IsPlan shared.plan × (index < 64) }
-    requires hub { IsHubOf shared.plan shared.ring.now shared.board.now shared.values.now end.hub }
-    requires client { IsClientOf shared.ring.now shared.board.now client }
+    requires hub { IsHubAt shared end.hub }
+    requires client { IsClientAt shared client }
     requires sent { sent_by (producer_of client.client) ≤ shared.plan.commands }
     requires seen { (client.seen ≤ shared.plan.commands) × (end.seen ≤ index * shared.plan.commands) }
-    requires done { (end.failure ≡ None) → (all_commands shared.plan ≤ taken_by end.hub.conductor) × (end.seen ≡ index * shared.plan.commands) }
-    ensures hub { IsHubOf shared.entry.plan shared.entry.ring.now shared.entry.board.now shared.entry.values.now result.hub }
+    requires done { (end.failure ≡ None) → IsDone shared.plan index end }
+    ensures hub { IsHubAt shared.entry result.hub }
     ensures producers { shares_of result.hub.producer ≡ shares_of end.hub.producer + 1 }
     ensures receivers { board_shares_of result.hub.conductor ≡ board_shares_of end.hub.conductor + 1 }
     ensures open_claims { open_claims_of result.hub.producer ≡ open_claims_of end.hub.producer }
     ensures sent { sent_by result.hub.producer ≤ sent_by end.hub.producer + shared.entry.plan.commands }
     ensures seen { result.seen ≤ (index + 1) * shared.entry.plan.commands }
-    ensures done { (result.failure ≡ None) → (all_commands shared.entry.plan ≤ taken_by result.hub.conductor) × (result.seen ≡ (index + 1) * shared.entry.plan.commands) }
+    ensures done { (result.failure ≡ None) → IsDone shared.entry.plan (index + 1) result }
 {
     let LevelEnd {
         mut hub,

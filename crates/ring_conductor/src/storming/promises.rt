@@ -3,7 +3,8 @@ ghost use Rattle.std.specs.Prelude.{◌≡◌, ◌≤◌, IsTrue};
 ghost use Rattle.ring_rings.specs.Seats.{IsConsumerOf};
 ghost use Rattle.ring_conductor.specs.Conducting.{IsConductorOf};
 ghost use Rattle.ring_conductor.specs.Asking.{producer_of};
-ghost use Rattle.ring_conductor.specs.Storming.{HasCounters, IsClientOf, all_commands, board_shares_of, sent_by, taken_by};
+ghost use Rattle.ring_conductor.specs.Storming.{HasCounters, IsClientOf};
+ghost use Rattle.ring_conductor.specs.Storming.{all_commands, board_shares_of, sent_by, taken_by};
 
 use crate::storming::conductor::ConductorEnd;
 use crate::storming::plan::StormPlan;
@@ -22,7 +23,8 @@ pub(crate) struct ClientBack<'a> {
 }
 
 impl<'a> Promise<StormClient> for ClientBack<'a> {
-    ghost kept_by = { λ p r. IsClientOf p.ring.now p.board.now r × (sent_by (producer_of r.client) ≤ p.plan.commands) × (r.seen ≤ p.plan.commands) };
+    ghost kept_by = { λ p r. IsClientOf p.ring.now p.board.now r
+        × (sent_by (producer_of r.client) ≤ p.plan.commands) × (r.seen ≤ p.plan.commands) };
 }
 
 /// The conductor comes back with its shares.
@@ -36,5 +38,7 @@ pub(crate) struct ConductorBack<'a> {
 }
 
 impl<'a> Promise<ConductorEnd> for ConductorBack<'a> {
-    ghost kept_by = { λ p r. IsConductorOf IsConsumerOf p.ring.now p.board.now p.values.now r.conductor × HasCounters p.plan r.conductor × (board_shares_of r.conductor ≡ p.shares) × (IsTrue r.is_done → all_commands p.plan ≤ taken_by r.conductor) };
+    ghost kept_by = { λ p r. IsConductorOf IsConsumerOf p.ring.now p.board.now p.values.now r.conductor
+        × HasCounters p.plan r.conductor × (board_shares_of r.conductor ≡ p.shares)
+        × (IsTrue r.is_done → all_commands p.plan ≤ taken_by r.conductor) };
 }

@@ -17,8 +17,6 @@ pub(crate) struct Shared<'a, G> {
     /// Whether somebody gave up. Each wait looks at it in each turn.
     pub(crate) stopped: &'a AtomicBool,
     pub(crate) plan: StormPlan,
-    /// The thread that can't be started, in tests: a client's by its number, then the conductor's.
-    pub(crate) refused: Option<u32>,
 }
 
 impl<G> Shared<'_, G> {

@@ -1,10 +1,13 @@
 //! Making, allocating, setting and freeing counters.
-ghost use Rattle.std.specs.Prelude.{◌≡◌, ◌+◌, ◌^◌, ◌<◌, ◌≤◌, ◌↔◌, pos, [], ◌∷◌, ◌++◌, IfOk, IfErr, OnErr, OnOk, IsOkUnless, IsErr, MatchOption, Err, length, nat_lt};
+ghost use Rattle.std.specs.Prelude.{◌≡◌, ◌^◌, ◌≤◌, ◌↔◌, pos, [], ◌∷◌, ◌++◌, length, nat_lt};
+ghost use Rattle.std.specs.Prelude.{Err, IfOk, IsErr, IsOkUnless, MatchOption, OnErr, OnOk};
 ghost use Rattle.std.specs.List.{list_all};
-ghost use Rattle.ring_counters.specs.Registry.{fresh_registry, make_refusal_of, new_counter, text_refusal_of, allocation_of, allocated_in, id_refusal_of, answer, with_value, reclaimed_in, owned_ids, closed_in};
+ghost use Rattle.ring_counters.specs.Registry.{allocated_in, allocation_of, answer, closed_in, fresh_registry};
+ghost use Rattle.ring_counters.specs.Registry.{make_refusal_of, new_counter, owned_ids, reclaimed_in};
+ghost use Rattle.ring_counters.specs.Registry.{text_refusal_of, with_value};
 ghost use Rattle.ring_counters.specs.Views.{value_write};
 ghost use Rattle.ring_counters.specs.Seats.{values_count};
-ghost use Rattle.ring_counters.specs.Manager.{registry_of, writes_of, shares_of, IsManagerOf, KeepsValues};
+ghost use Rattle.ring_counters.specs.Manager.{refusal_at, registry_of, writes_of, shares_of, IsManagerOf, KeepsValues};
 
 use crate::fault::{AllocateRefused, BadOwner, IdFault, MakeFault};
 use crate::manager::CountersManager;
@@ -47,14 +50,15 @@ impl CountersManager {
     /// Makes `count` counters, all unused, and the values that readers load. A freed id may be given again `reuse_ms`
     /// milliseconds after it was freed.
     ///
-    /// `BadCount` comes where the count is 0 or above 4,096, `OutOfMemory` where memory is wanting. This takes all the memory
-    /// that the counters ever need.
+    /// `BadCount` comes where the count is 0 or above 4,096, `OutOfMemory` where memory is wanting. This takes all
+    /// the memory that the counters ever need.
     pub fn new(
         alloc: Global,
         count: u32,
         reuse_ms: u32,
     ) -> Result<(CounterValues, CountersManager), MakeFault>
-        ensures refusal { MatchOption (make_refusal_of count) (IsOkUnless result MakeFault.OutOfMemory) (λ fault. result ≡ Err fault) }
+        ensures refusal { MatchOption (make_refusal_of count)
+            (IsOkUnless result MakeFault.OutOfMemory) (λ fault. result ≡ Err fault) }
         ensures values { IfOk result (λ made. IsManagerOf made.0 made.1) }
         ensures count { IfOk result (λ made. values_count made.0 ≡ count) }
         ensures registry { IfOk result (λ made. registry_of made.1 ≡ fresh_registry count reuse_ms) }
@@ -85,7 +89,8 @@ impl CountersManager {
     ) -> Result<u32, AllocateRefused>
         requires { IsManagerOf values.now self.old }
         ensures id { result ≡ allocation_of (registry_of self.old) now key.now label.now }
-        ensures registry { IfOk result (λ id. registry_of self.new ≡ allocated_in (registry_of self.old) id (new_counter type_id key.now label.now registration 0)) }
+        ensures registry { IfOk result (λ id. registry_of self.new
+            ≡ allocated_in (registry_of self.old) id (new_counter type_id key.now label.now registration 0)) }
         ensures writes { IfOk result (λ id. writes_of self.new ≡ writes_of self.old ++ value_write id (pos 0) ∷ []) }
         ensures shares { shares_of self.new ≡ shares_of self.old }
         ensures values { IsManagerOf values.now self.new }
@@ -94,11 +99,11 @@ impl CountersManager {
         self.allocate_owned(values, now, type_id, key, label, registration, 0)
     }
 
-    /// Gives an id to a counter of an owner: the first freed id, in order of freeing, whose deadline is at most `now`, else
-    /// the lowest id that was never used. The counter's value is 0; a short key is followed by zeros.
+    /// Gives an id to a counter of an owner: the first freed id, in order of freeing, whose deadline is at most
+    /// `now`, else the lowest id that was never used. The counter's value is 0; a short key is followed by zeros.
     ///
-    /// `KeyTooLong`, `LabelTooLong`, `LabelNotAscii` and then `NoFreeCounter` come as their names say; after them all is as
-    /// before. A key or a label is never cut.
+    /// `KeyTooLong`, `LabelTooLong`, `LabelNotAscii` and then `NoFreeCounter` come as their names say; after them all
+    /// is as before. A key or a label is never cut.
     pub fn allocate_owned(
         &mut self,
         values: &CounterValues,
@@ -111,7 +116,8 @@ impl CountersManager {
     ) -> Result<u32, AllocateRefused>
         requires { IsManagerOf values.now self.old }
         ensures id { result ≡ allocation_of (registry_of self.old) now key.now label.now }
-        ensures registry { IfOk result (λ id. registry_of self.new ≡ allocated_in (registry_of self.old) id (new_counter type_id key.now label.now registration owner)) }
+        ensures registry { IfOk result (λ id. registry_of self.new
+            ≡ allocated_in (registry_of self.old) id (new_counter type_id key.now label.now registration owner)) }
         ensures writes { IfOk result (λ id. writes_of self.new ≡ writes_of self.old ++ value_write id (pos 0) ∷ []) }
         ensures shares { shares_of self.new ≡ shares_of self.old }
         ensures values { IsManagerOf values.now self.new }
@@ -136,11 +142,11 @@ impl CountersManager {
 
     /// Sets the value of a counter in use.
     ///
-    /// `BadId` comes where the id is not below the number of counters, `NotAllocated` where no counter in use has it; after
-    /// them all is as before.
+    /// `BadId` comes where the id is not below the number of counters, `NotAllocated` where no counter in use has it;
+    /// after them all is as before.
     pub fn set(&mut self, values: &CounterValues, id: u32, value: i64) -> Result<(), IdFault>
         requires { IsManagerOf values.now self.old }
-        ensures result { result ≡ answer (id_refusal_of (registry_of self.old) id) tt }
+        ensures result { result ≡ answer (refusal_at self.old id) tt }
         ensures registry { OnOk result (registry_of self.new ≡ with_value (registry_of self.old) id value) }
         ensures writes { OnOk result (writes_of self.new ≡ writes_of self.old ++ value_write id value ∷ []) }
         ensures shares { shares_of self.new ≡ shares_of self.old }
@@ -153,13 +159,13 @@ impl CountersManager {
         Ok(())
     }
 
-    /// Frees a counter at the moment `now`, at most 2^62 milliseconds: its id may be given again `reuse_ms` later. Its other
-    /// words stay until then.
+    /// Frees a counter at the moment `now`, at most 2^62 milliseconds: its id may be given again `reuse_ms` later.
+    /// Its other words stay until then.
     ///
     /// `BadId` and `NotAllocated` come as for `set`; after them all is as before.
     pub fn free(&mut self, now: u64, id: u32) -> Result<(), IdFault>
         requires { now ≤ 2 ^ 62 }
-        ensures result { result ≡ answer (id_refusal_of (registry_of self.old) id) tt }
+        ensures result { result ≡ answer (refusal_at self.old id) tt }
         ensures registry { OnOk result (registry_of self.new ≡ reclaimed_in (registry_of self.old) now id) }
         ensures values { KeepsValues self.old self.new }
         ensures err { OnErr result (self.new ≡ self.old) }
@@ -169,8 +175,8 @@ impl CountersManager {
         Ok(())
     }
 
-    /// Frees each counter in use of an owner at the moment `now`, at most 2^62 milliseconds, by rising id and each as `free`
-    /// does, and gives their number. It looks at every id that was ever used.
+    /// Frees each counter in use of an owner at the moment `now`, at most 2^62 milliseconds, by rising id and each as
+    /// `free` does, and gives their number. It looks at every id that was ever used.
     ///
     /// `BadOwner` comes where the owner is 0, which stands for none; all is then as before.
     pub fn close_owner(&mut self, now: u64, owner: u64) -> Result<u32, BadOwner>

@@ -126,8 +126,9 @@ impl<'a> Iterator for LiveCounters<'a> {
 impl<'a> FusedIterator for LiveCounters<'a> {}
 
 impl CountersManager {
-    /// Goes over the counters in use, by rising id: the same counters that `live` lists. It takes no memory, and looks at
-    /// every id that was ever used. Keys and labels are copied into the caller's buffers, where the caller asks for them.
+    /// Goes over the counters in use, by rising id: the same counters that `live` lists. It takes no memory, and
+    /// looks at every id that was ever used. Keys and labels are copied into the caller's buffers, where the caller
+    /// asks for them.
     pub fn iter(&self) -> LiveCounters<'_>
         ensures { result ≡ live_of (registry_of self.now) }
     {

@@ -2,11 +2,12 @@
 ghost use Rattle.std.specs.Prelude.{◌≡◌, ℕ, ◌+◌, ◌<◌, ◌↔◌, [], length, IfOk, IfErr, OnOk, OnErr, IsOk};
 ghost use Rattle.ring_counters.specs.Counter.{padded, state_of, deadline_of};
 ghost use Rattle.ring_counters.specs.Counter.{metadata_word as metadata_word_of, value_word as value_word_of};
-ghost use Rattle.ring_counters.specs.Registry.{count_of, counter_at, status_at, id_refusal_of, range_refusal_of, answer, live_of, registered_id};
+ghost use Rattle.ring_counters.specs.Registry.{answer, count_of, live_of, registered_id};
 ghost use Rattle.ring_counters.specs.Infos.{AreInfos};
 ghost use Rattle.ring_counters.specs.Agree.{Agree};
 ghost use Rattle.ring_counters.specs.ValueWrites.{AreLoads};
 ghost use Rattle.ring_counters.specs.Seats.{IsReaderOf, made_of, seen_by, loads_of};
+ghost use Rattle.ring_counters.specs.Manager.{counter_in, range_refusal_at, refusal_at};
 ghost use Rattle.ring_counters.specs.Manager.{registry_of, writes_of, shares_of, IsManagerOf};
 
 use crate::fault::{IdFault, NoShares, OutOfMemory};
@@ -28,7 +29,7 @@ impl CountersManager {
     ///
     /// `BadId` comes where the id is not below the number of counters, `NotAllocated` where no counter in use has it.
     pub fn value(&self, id: u32) -> Result<i64, IdFault>
-        ensures { result ≡ answer (id_refusal_of (registry_of self.now) id) (counter_at (registry_of self.now) id).values.value }
+        ensures { result ≡ answer (refusal_at self.now id) (counter_in self.now id).values.value }
     {
         self.records.check_allocated(id)?;
         Ok(self.records.values(id).value())
@@ -36,7 +37,7 @@ impl CountersManager {
 
     /// The owner of a counter in use, 0 for none. `BadId` and `NotAllocated` come as for `value`.
     pub fn owner(&self, id: u32) -> Result<u64, IdFault>
-        ensures { result ≡ answer (id_refusal_of (registry_of self.now) id) (counter_at (registry_of self.now) id).values.owner }
+        ensures { result ≡ answer (refusal_at self.now id) (counter_in self.now id).values.owner }
     {
         self.records.check_allocated(id)?;
         Ok(self.records.values(id).owner())
@@ -44,7 +45,7 @@ impl CountersManager {
 
     /// The type that a counter in use was allocated with. `BadId` and `NotAllocated` come as for `value`.
     pub fn type_id(&self, id: u32) -> Result<i32, IdFault>
-        ensures { result ≡ answer (id_refusal_of (registry_of self.now) id) (counter_at (registry_of self.now) id).metadata.type_id }
+        ensures { result ≡ answer (refusal_at self.now id) (counter_in self.now id).metadata.type_id }
     {
         self.records.check_allocated(id)?;
         Ok(self.records.metadata(id).type_id())
@@ -52,36 +53,36 @@ impl CountersManager {
 
     /// The registration id that a counter in use was allocated with. `BadId` and `NotAllocated` come as for `value`.
     pub fn registration(&self, id: u32) -> Result<u64, IdFault>
-        ensures { result ≡ answer (id_refusal_of (registry_of self.now) id) (counter_at (registry_of self.now) id).values.registration }
+        ensures { result ≡ answer (refusal_at self.now id) (counter_in self.now id).values.registration }
     {
         self.records.check_allocated(id)?;
         Ok(self.records.values(id).registration())
     }
 
-    /// The lowest id in use with this type and registration id, `None` where there is none. It looks at every id that was
-    /// ever used.
+    /// The lowest id in use with this type and registration id, `None` where there is none. It looks at every id that
+    /// was ever used.
     pub fn find(&self, type_id: i32, registration: u64) -> Option<u32>
         ensures { result ≡ registered_id (registry_of self.now) type_id registration }
     {
         self.records.find(type_id, registration)
     }
 
-    /// Copies the label of a counter in use, with zeros after it, and gives its length in bytes. `BadId` and `NotAllocated`
-    /// come as for `value`; `label` is then as before.
+    /// Copies the label of a counter in use, with zeros after it, and gives its length in bytes. `BadId` and
+    /// `NotAllocated` come as for `value`; `label` is then as before.
     pub fn label_into(&self, id: u32, label: &mut [u8; MAX_LABEL_LENGTH]) -> Result<usize, IdFault>
-        ensures result { result ≡ answer (id_refusal_of (registry_of self.now) id) (length (counter_at (registry_of self.now) id).metadata.label) }
-        ensures label { OnOk result (label.new ≡ padded 380 (counter_at (registry_of self.now) id).metadata.label) }
+        ensures result { result ≡ answer (refusal_at self.now id) (length (counter_in self.now id).metadata.label) }
+        ensures label { OnOk result (label.new ≡ padded 380 (counter_in self.now id).metadata.label) }
         ensures err { OnErr result (label.new ≡ label.old) }
     {
         self.records.check_allocated(id)?;
         Ok(self.records.metadata(id).label_into(label))
     }
 
-    /// Copies the key of a counter in use, with zeros after a short one. `BadId` and `NotAllocated` come as for `value`;
-    /// `key` is then as before.
+    /// Copies the key of a counter in use, with zeros after a short one. `BadId` and `NotAllocated` come as for
+    /// `value`; `key` is then as before.
     pub fn key_into(&self, id: u32, key: &mut [u8; MAX_KEY_LENGTH]) -> Result<(), IdFault>
-        ensures result { result ≡ answer (id_refusal_of (registry_of self.now) id) tt }
-        ensures key { OnOk result (key.new ≡ (counter_at (registry_of self.now) id).metadata.key) }
+        ensures result { result ≡ answer (refusal_at self.now id) tt }
+        ensures key { OnOk result (key.new ≡ (counter_in self.now id).metadata.key) }
         ensures err { OnErr result (key.new ≡ key.old) }
     {
         self.records.check_allocated(id)?;
@@ -93,16 +94,17 @@ impl CountersManager {
     ///
     /// `BadId` comes where the id is not below the number of counters.
     pub fn state(&self, id: u32) -> Result<i32, IdFault>
-        ensures { result ≡ answer (range_refusal_of (registry_of self.now) id) (state_of (status_at (registry_of self.now) id)) }
+        ensures { result ≡ answer (range_refusal_at self.now id) (state_of (counter_in self.now id).metadata.status) }
     {
         self.records.check_range(id)?;
         Ok(self.records.metadata(id).state())
     }
 
-    /// The moment from which an id may be given again, in milliseconds: 0 where it was never used, 2^63 - 1 where the counter
-    /// is in use. `BadId` comes as for `state`.
+    /// The moment from which an id may be given again, in milliseconds: 0 where it was never used, 2^63 - 1 where the
+    /// counter is in use. `BadId` comes as for `state`.
     pub fn deadline(&self, id: u32) -> Result<u64, IdFault>
-        ensures { result ≡ answer (range_refusal_of (registry_of self.now) id) (deadline_of (status_at (registry_of self.now) id)) }
+        ensures { result
+            ≡ answer (range_refusal_at self.now id) (deadline_of (counter_in self.now id).metadata.status) }
     {
         self.records.check_range(id)?;
         Ok(self.records.metadata(id).deadline())
@@ -124,7 +126,7 @@ impl CountersManager {
     pub fn metadata_word(&self, id: u32, k: usize) -> u64
         requires id { id < count_of (registry_of self.now) }
         requires k { k < 64 }
-        ensures { result ≡ metadata_word_of (counter_at (registry_of self.now) id).metadata k }
+        ensures { result ≡ metadata_word_of (counter_in self.now id).metadata k }
     {
         self.records.metadata(id).word(k)
     }
@@ -133,7 +135,7 @@ impl CountersManager {
     pub fn value_word(&self, id: u32, k: usize) -> u64
         requires id { id < count_of (registry_of self.now) }
         requires k { k < 16 }
-        ensures { result ≡ value_word_of (counter_at (registry_of self.now) id).values k }
+        ensures { result ≡ value_word_of (counter_in self.now id).values k }
     {
         self.records.values(id).word(k)
     }
@@ -145,7 +147,8 @@ impl CountersManager {
         requires { IsManagerOf values.now self.old }
         ensures enough { IsOk result ↔ (1 < shares_of self.old) }
         ensures reader { IfOk result (λ r. IsReaderOf values.now r) }
-        ensures made { IfOk result (λ r. (made_of r ≡ writes_of self.old) × (seen_by r ≡ writes_of self.old) × (loads_of r ≡ [])) }
+        ensures made { IfOk result (λ r. (made_of r ≡ writes_of self.old)
+            × (seen_by r ≡ writes_of self.old) × (loads_of r ≡ [])) }
         ensures shares { IfOk result (λ _. shares_of self.new + 1 ≡ shares_of self.old) }
         ensures registry { registry_of self.new ≡ registry_of self.old }
         ensures writes { writes_of self.new ≡ writes_of self.old }

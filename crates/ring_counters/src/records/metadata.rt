@@ -1,6 +1,8 @@
 //! A metadata record of 64 words.
 ghost use Rattle.std.specs.Prelude.{◌≡◌, ℕ, ◌+◌, ◌*◌, ◌/◌, ◌^◌, ◌<◌, ◌≤◌, length, slice_index};
-ghost use Rattle.ring_counters.specs.Counter.{Metadata, Allocated, Reclaimed, padded, unused_metadata, state_of, deadline_of, state_word, label_text, metadata_word, word_of_bytes};
+ghost use Rattle.ring_counters.specs.Counter.{Allocated, Metadata, Reclaimed, padded, unused_metadata};
+ghost use Rattle.ring_counters.specs.Counter.{deadline_of, label_text, metadata_word, state_of, state_word};
+ghost use Rattle.ring_counters.specs.Counter.{word_of_bytes};
 
 use crate::records::bytes::{load_bytes, store_bytes};
 use ring_layout::counter_descriptor::{
@@ -38,7 +40,8 @@ fn pack_state(state: i32, type_id: i32) -> u64
 fn store_label(words: &mut [u64], at: usize, label: &[u8])
     requires short { length label.now ≤ 380 }
     requires room { at + (length label.now + 11) / 8 ≤ length words.old }
-    ensures inside { (k : ℕ) → 8 * k < length label.now + 4 → slice_index words.new (at + k) ≡ word_of_bytes (label_text label.now) k }
+    ensures inside { (k : ℕ) → 8 * k < length label.now + 4
+        → slice_index words.new (at + k) ≡ word_of_bytes (label_text label.now) k }
     ensures below { (i : ℕ) → i < at → slice_index words.new i ≡ slice_index words.old i }
     ensures above { (i : ℕ) → at + (length label.now + 11) / 8 ≤ i → slice_index words.new i ≡ slice_index words.old i }
 {
@@ -60,7 +63,8 @@ impl MetadataRecord {
     pub(crate) fn allocate(&mut self, type_id: i32, key: &[u8], label: &[u8])
         requires key { length key.now ≤ 112 }
         requires label { length label.now ≤ 380 }
-        ensures { self.new ≡ record { status = Allocated; type_id = type_id; key = padded 112 key.now; label = label.now } }
+        ensures { self.new
+            ≡ record { status = Allocated; type_id = type_id; key = padded 112 key.now; label = label.now } }
     {
         self.words = [0; METADATA_WORDS];
         self.words[STATE_WORD] = pack_state(RECORD_ALLOCATED, type_id);

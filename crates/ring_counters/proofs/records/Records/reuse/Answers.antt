@@ -3,49 +3,33 @@ use Rattle.ring_counters.specs.Counter.{Metadata, Allocated}
 use Rattle.ring_counters.specs.Registry.{Registry, is_allocated}
 use Rattle.ring_counters.proofs.FlagLemmas.{flags_size, flags_stored}
 use Rattle.ring_counters.proofs.KeptLemmas.{kept_room}
-use Rattle.ring_counters.proofs.ShownLemmas.{Shows, shown_size, reused_inside, reused_kept, stored, shown_queue}
+use Rattle.ring_counters.proofs.ShownLemmas.{Shows, shown_size, reused_inside, reused_kept, stored}
 use Rattle.ring_counters.proofs.records.Records.reuse.Goals as goal
 
 pub index_mut-metadata-requires : goal.index_mut-metadata-requires
 index_mut-metadata-requires c =
     let s : Shows c.args.self.now _ _ _ _ _ _ _ = record { view = c.self.view_is; same = c.self.invariant.0; kept = c.self.invariant.1 } in
     let found = c.take_freed-id.ensures in
-    let queue = shown_queue _ _ _ _ _ _ _ _ s in
-    let less : c.args.at < length c.self.inside.freed.items = omega (arith, ap length queue, c.requires.at) in
-    let is : c.take_freed-id.result ≡ get_or c.args.self.now.freed c.args.at 0 = found.id ∙ ap (λ l. get_or l c.args.at 0) queue in
-    let rest : c.take_freed-id.new.freed.items ≡ remove c.args.self.now.freed c.args.at = found.items ∙ ap (λ l. remove l c.args.at) queue in
-    omega (arith, reused_inside _ _ _ _ _ _ _ _ s _ c.take_freed-id.result _ c.requires.at is rest, c.self.inside.metadata.ok.0)
+    omega (arith, reused_inside _ _ _ _ _ _ _ _ s _ _ _ c.requires.at found.id found.items, c.self.inside.metadata.ok.0)
 
 pub index_mut-values-requires : goal.index_mut-values-requires
 index_mut-values-requires c =
     let s : Shows c.args.self.now _ _ _ _ _ _ _ = record { view = c.self.view_is; same = c.self.invariant.0; kept = c.self.invariant.1 } in
     let found = c.take_freed-id.ensures in
-    let queue = shown_queue _ _ _ _ _ _ _ _ s in
-    let less : c.args.at < length c.self.inside.freed.items = omega (arith, ap length queue, c.requires.at) in
-    let is : c.take_freed-id.result ≡ get_or c.args.self.now.freed c.args.at 0 = found.id ∙ ap (λ l. get_or l c.args.at 0) queue in
-    let rest : c.take_freed-id.new.freed.items ≡ remove c.args.self.now.freed c.args.at = found.items ∙ ap (λ l. remove l c.args.at) queue in
-    omega (arith, reused_inside _ _ _ _ _ _ _ _ s _ c.take_freed-id.result _ c.requires.at is rest, s.same, c.self.inside.values.ok.0)
+    omega (arith, reused_inside _ _ _ _ _ _ _ _ s _ _ _ c.requires.at found.id found.items, s.same, c.self.inside.values.ok.0)
 
 pub index_mut-requires : goal.index_mut-requires
 index_mut-requires c =
     let s : Shows c.args.self.now _ _ _ _ _ _ _ = record { view = c.self.view_is; same = c.self.invariant.0; kept = c.self.invariant.1 } in
     let found = c.take_freed-id.ensures in
-    let queue = shown_queue _ _ _ _ _ _ _ _ s in
-    let less : c.args.at < length c.self.inside.freed.items = omega (arith, ap length queue, c.requires.at) in
-    let is : c.take_freed-id.result ≡ get_or c.args.self.now.freed c.args.at 0 = found.id ∙ ap (λ l. get_or l c.args.at 0) queue in
-    let rest : c.take_freed-id.new.freed.items ≡ remove c.args.self.now.freed c.args.at = found.items ∙ ap (λ l. remove l c.args.at) queue in
-    omega (arith, reused_inside _ _ _ _ _ _ _ _ s _ c.take_freed-id.result _ c.requires.at is rest, flags_size _ _ c.self.invariant.2, c.self.inside.live.ok.0)
+    omega (arith, reused_inside _ _ _ _ _ _ _ _ s _ _ _ c.requires.at found.id found.items, flags_size _ _ c.self.invariant.2, c.self.inside.live.ok.0)
 
 pub invariant_of-self : goal.invariant_of-self
 invariant_of-self c =
     let s : Shows c.args.self.now _ _ _ _ _ _ _ = record { view = c.self.view_is; same = c.self.invariant.0; kept = c.self.invariant.1 } in
     let found = c.take_freed-id.ensures in
-    let queue = shown_queue _ _ _ _ _ _ _ _ s in
-    let less : c.args.at < length c.self.inside.freed.items = omega (arith, ap length queue, c.requires.at) in
-    let is : c.take_freed-id.result ≡ get_or c.args.self.now.freed c.args.at 0 = found.id ∙ ap (λ l. get_or l c.args.at 0) queue in
-    let rest : c.take_freed-id.new.freed.items ≡ remove c.args.self.now.freed c.args.at = found.items ∙ ap (λ l. remove l c.args.at) queue in
     let status : c.fill.new.metadata.status ≡ Allocated = ap (λ (m : Metadata). m.status) c.fill.ensures.metadata in
-    let kept = reused_kept _ _ _ _ _ _ _ _ s _ c.take_freed-id.result _ c.requires.at is rest _ _ status in
+    let kept = reused_kept _ _ _ _ _ _ _ _ s _ _ _ c.requires.at found.id found.items _ _ status in
     (kept.0, kept_room _ _ _ _ _ found.capacity kept.1, flags_stored _ _ c.self.invariant.2 _ _ _ (sym (ap is_allocated status)))
 
 pub returns-clause-changes : goal.returns-clause-changes
@@ -58,8 +42,4 @@ pub returns-clause-inside : goal.returns-clause-inside
 returns-clause-inside c =
     let s : Shows c.args.self.now _ _ _ _ _ _ _ = record { view = c.self.view_is; same = c.self.invariant.0; kept = c.self.invariant.1 } in
     let found = c.take_freed-id.ensures in
-    let queue = shown_queue _ _ _ _ _ _ _ _ s in
-    let less : c.args.at < length c.self.inside.freed.items = omega (arith, ap length queue, c.requires.at) in
-    let is : c.take_freed-id.result ≡ get_or c.args.self.now.freed c.args.at 0 = found.id ∙ ap (λ l. get_or l c.args.at 0) queue in
-    let rest : c.take_freed-id.new.freed.items ≡ remove c.args.self.now.freed c.args.at = found.items ∙ ap (λ l. remove l c.args.at) queue in
-    omega (arith, reused_inside _ _ _ _ _ _ _ _ s _ c.take_freed-id.result _ c.requires.at is rest, shown_size _ _ _ _ _ _ _ _ s)
+    omega (arith, reused_inside _ _ _ _ _ _ _ _ s _ _ _ c.requires.at found.id found.items, shown_size _ _ _ _ _ _ _ _ s)

@@ -2,7 +2,7 @@ use Rattle.std.proofs.Common.{◌∙◌, ap}
 use Rattle.ring_counters.specs.declared.manager.CountersManager.{CountersManager}
 use Rattle.ring_counters.specs.Manager.{registry_of}
 use Rattle.ring_conductor.proofs.StormLemmas.{reported}
-use Rattle.ring_conductor.proofs.storming.storm_without.Goals as goal
+use Rattle.ring_conductor.proofs.storming.storm.Goals as goal
 
 pub returns-in-None-clause-report : goal.returns-in-None-clause-report
 returns-in-None-clause-report g c =

@@ -1,0 +1,12 @@
+-- What the owner of the records is to allocate.
+use Rattle.ring_counters.specs.declared.records.wanted.Wanted.{Wanted}
+use Rattle.ring_counters.specs.Counter.{Counter}
+use Rattle.ring_counters.specs.Registry.{AreShort, new_counter}
+
+-- key and label keep their limits
+abbrev pub HasShortTexts : Wanted → Type 0
+HasShortTexts w = AreShort w.key.now w.label.now
+
+-- the counter that is wanted
+abbrev pub counter_wanted : Wanted → Counter
+counter_wanted w = new_counter w.type_id w.key.now w.label.now w.registration w.owner
