@@ -19,7 +19,8 @@ use Rattle.ring_rings.specs.declared.ring.Ring.{Ring}
 use Rattle.ring_rings.specs.declared.ring.Producer.{Producer}
 use Rattle.ring_rings.specs.Bodies.{put_at, PutsBytes}
 use Rattle.ring_rings.specs.Seats.{claims_of, view_of, IsOpenClaimOf}
-use Rattle.ring_loose.specs.Claims.{HasClaim, HoldsNothing, IsHeld, IsHeldIfOpen, AreHeld, AreOpen}
+use Rattle.ring_loose.specs.Claims.{HoldsNothing, HoldsPlace, IsHeldIfOpen, AreHeld, AreOpen}
+use Rattle.ring_loose.specs.Held.{HasAt}
 use Rattle.ring_loose.proofs.HeldLemmas.{held_inside, in_pushed, in_set}
 
 -- Claims that are held -----------------------------------------------------------
@@ -46,7 +47,7 @@ held_more cs c claims t at all = All-push (IsHeldIfOpen more) cs c (All-weaker (
     more : List (Option ClaimAt)
     more = claims ++ Some t ∷ []
 
-    still : (p : ℕ) → IsHeld claims p → IsHeld more p
+    still : (p : ℕ) → HoldsPlace claims p → HoldsPlace more p
     still p held = record {
       index = held.index;
       claim = held.claim;
@@ -54,17 +55,17 @@ held_more cs c claims t at all = All-push (IsHeldIfOpen more) cs c (All-weaker (
       at_place = held.at_place;
     }
 
-    last : IsHeld more c.place
+    last : HoldsPlace more c.place
     last = record { index = length claims; claim = t; has = get_or_push claims (Some t) None (length claims) refl; at_place = at }
 
 -- a claim is settled, and held no more
-pub held_less : (cs : List StagedClaim) (claims : List (Option ClaimAt)) (k : ℕ) (t : ClaimAt) (s : ClaimState) → s ≢ Open → HasClaim claims k t → AreHeld cs claims → AreHeld (changed t.place (staged (Stored s)) cs) (set claims k None)
+pub held_less : (cs : List StagedClaim) (claims : List (Option ClaimAt)) (k : ℕ) (t : ClaimAt) (s : ClaimState) → s ≢ Open → HasAt claims k t → AreHeld cs claims → AreHeld (changed t.place (staged (Stored s)) cs) (set claims k None)
 held_less cs claims k t s settled had all = all_changed (IsHeldIfOpen claims) (IsHeldIfOpen (set claims k None)) t.place (staged (Stored s)) (λ c at held is_open. absurd (settled is_open)) (λ c off held is_open. elsewhere c.place off (held is_open)) cs all
   where
-    elsewhere : (p : ℕ) → p ≢ t.place → IsHeld claims p → IsHeld (set claims k None) p
+    elsewhere : (p : ℕ) → p ≢ t.place → HoldsPlace claims p → HoldsPlace (set claims k None) p
     elsewhere p off held =
         let other : held.index ≢ k =
-        λ same. let one : Some held.claim ≡ Some t = sym (subst (λ i. HasClaim claims i held.claim) same held.has) ∙ had in
+        λ same. let one : Some held.claim ≡ Some t = sym (subst (λ i. HasAt claims i held.claim) same held.has) ∙ had in
         let claim : held.claim ≡ t = cc in
         off (sym held.at_place ∙ ap (λ c. c.place) claim) in
         record { index = held.index; claim = held.claim; has = get_or-set_other claims k held.index None None other ∙ held.has; at_place = held.at_place }
@@ -118,14 +119,14 @@ module _ {K : Type 0} (ring : Ring K) where
   one_more_open old new claims t c are keeps is_open elsewhere at more =
       record { open_of = of_new; apart = apart; all = subst (λ cs. AreHeld cs (claims ++ Some t ∷ [])) (sym more) (held_more (claims_of old) c claims t at are.all) }
     where
-      of_new : (i : ℕ) (s : ClaimAt) → HasClaim (claims ++ Some t ∷ []) i s → IsOpenClaimOf ring new s
+      of_new : (i : ℕ) (s : ClaimAt) → HasAt (claims ++ Some t ∷ []) i s → IsOpenClaimOf ring new s
       of_new i s has =
           elim (in_pushed claims t s i has) as (λ _. IsOpenClaimOf ring new s) [
             | inl before ↦ keeps s (are.open_of i s before)
             | inr last ↦ subst (IsOpenClaimOf ring new) last.1 is_open
           ]
 
-      apart : (i j : ℕ) (a b : ClaimAt) → i ≢ j → HasClaim (claims ++ Some t ∷ []) i a → HasClaim (claims ++ Some t ∷ []) j b → a.place ≢ b.place
+      apart : (i j : ℕ) (a b : ClaimAt) → i ≢ j → HasAt (claims ++ Some t ∷ []) i a → HasAt (claims ++ Some t ∷ []) j b → a.place ≢ b.place
       apart i j a b differ has_a has_b =
           elim (in_pushed claims t a i has_a) as (λ _. a.place ≢ b.place) [
             | inl first ↦
@@ -141,7 +142,7 @@ module _ {K : Type 0} (ring : Ring K) where
           ]
 
   -- a claim is settled and taken from the list
-  pub one_less_open : (old new : Producer) (claims : List (Option ClaimAt)) (k : ℕ) (t : ClaimAt) (s : ClaimState) → s ≢ Open → AreOpen ring old claims → HasClaim claims k t
+  pub one_less_open : (old new : Producer) (claims : List (Option ClaimAt)) (k : ℕ) (t : ClaimAt) (s : ClaimState) → s ≢ Open → AreOpen ring old claims → HasAt claims k t
       → ((u : ClaimAt) → IsOpenClaimOf ring old u → u.place ≢ t.place → IsOpenClaimOf ring new u) → claims_of new ≡ changed t.place (staged (Stored s)) (claims_of old) → AreOpen ring new (set claims k None)
   one_less_open old new claims k t s settled are had others change = record {
     open_of = λ i u has. let was = in_taken i u has in others u (are.open_of i u was.1) (are.apart i k u t was.0 was.1 had);
@@ -150,23 +151,23 @@ module _ {K : Type 0} (ring : Ring K) where
   }
     where
       -- a claim of the list without one is another one of the list
-      in_taken : (i : ℕ) (s : ClaimAt) → HasClaim (set claims k None) i s → (i ≢ k) × HasClaim claims i s
+      in_taken : (i : ℕ) (s : ClaimAt) → HasAt (set claims k None) i s → (i ≢ k) × HasAt claims i s
       in_taken i s has =
-          elim (in_set claims k None s i (held_inside claims k t had) has) as (λ _. (i ≢ k) × HasClaim claims i s) [ inl put ↦ absurd cc | inr other ↦ other ]
+          elim (in_set claims k None s i (held_inside claims k t had) has) as (λ _. (i ≢ k) × HasAt claims i s) [ inl put ↦ absurd cc | inr other ↦ other ]
 
   -- bytes are put into a claim
-  pub one_put_open : (old new : Producer) (claims : List (Option ClaimAt)) (k : ℕ) (t : ClaimAt) (offset : ℕ) (bytes : List ℕ) → AreOpen ring old claims → HasClaim claims k t → IsOpenClaimOf ring new t
+  pub one_put_open : (old new : Producer) (claims : List (Option ClaimAt)) (k : ℕ) (t : ClaimAt) (offset : ℕ) (bytes : List ℕ) → AreOpen ring old claims → HasAt claims k t → IsOpenClaimOf ring new t
       → ((s : ClaimAt) → IsOpenClaimOf ring old s → s.place ≢ t.place → IsOpenClaimOf ring new s) → claims_of new ≡ changed t.place (put_at offset bytes) (claims_of old) → AreOpen ring new claims
   one_put_open old new claims k t offset bytes are had is_open others change =
       record { open_of = of_new; apart = are.apart; all = subst (λ cs. AreHeld cs claims) (sym change) (all_changed (IsHeldIfOpen claims) (IsHeldIfOpen claims) t.place (put_at offset bytes) (λ c at held. held) (λ c off held. held) (claims_of old) are.all) }
     where
-      of_new : (i : ℕ) (s : ClaimAt) → HasClaim claims i s → IsOpenClaimOf ring new s
+      of_new : (i : ℕ) (s : ClaimAt) → HasAt claims i s → IsOpenClaimOf ring new s
       of_new i s has = dite (ℕ_discrete i k)
-          (λ here. let one : Some t ≡ Some s = sym had ∙ subst (λ n. HasClaim claims n s) here has in let same : t ≡ s = cc in subst (IsOpenClaimOf ring new) same is_open)
+          (λ here. let one : Some t ≡ Some s = sym had ∙ subst (λ n. HasAt claims n s) here has in let same : t ≡ s = cc in subst (IsOpenClaimOf ring new) same is_open)
           (λ off. others s (are.open_of i s has) (are.apart i k s t off has had))
 
   -- bytes are put into a claim, or refused
   pub put_open : {T E : Type 0} (r : Result T E) (old new : Producer) (claims : List (Option ClaimAt)) (k : ℕ) (t : ClaimAt) (offset : ℕ) (bytes : List ℕ) → OnOk r (PutsBytes t.place offset bytes (view_of old) (view_of new)) → OnErr r (new ≡ old)
-      → AreOpen ring old claims → HasClaim claims k t → IsOpenClaimOf ring new t → ((s : ClaimAt) → IsOpenClaimOf ring old s → s.place ≢ t.place → IsOpenClaimOf ring new s) → AreOpen ring new claims
+      → AreOpen ring old claims → HasAt claims k t → IsOpenClaimOf ring new t → ((s : ClaimAt) → IsOpenClaimOf ring old s → s.place ≢ t.place → IsOpenClaimOf ring new s) → AreOpen ring new claims
   put_open (Ok x) old new claims k t offset bytes put same are had is_open others = one_put_open old new claims k t offset bytes are had is_open others (ap (λ (v : View). v.producer.claims) put.view)
   put_open (Err e) old new claims k t offset bytes put same are had is_open others = subst (λ p. AreOpen ring p claims) (sym same) are

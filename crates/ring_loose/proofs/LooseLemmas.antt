@@ -13,7 +13,8 @@ use Rattle.ring_rings.specs.declared.ring.Producer.{Producer}
 use Rattle.ring_rings.specs.declared.ring.Consumer.{Consumer}
 use Rattle.ring_rings.specs.Seats.{view_of, IsProducerOf}
 use Rattle.ring_rings.specs.Closing.{close_refusal_of, IsRefusedAs}
-use Rattle.ring_loose.specs.Claims.{HasClaim, Holder, HoldsNone, SettlesAt}
+use Rattle.ring_loose.specs.Claims.{Holder, SettlesAt}
+use Rattle.ring_loose.specs.Held.{HasAt, IsFree}
 use Rattle.ring_loose.proofs.ClaimsLemmas.{same_open}
 use Rattle.ring_loose.proofs.TryLemmas.{Keeps}
 use Rattle.ring_loose.specs.Loose.{AreSeats, Loose, aborted_view, all_aborted, with_holder}
@@ -27,13 +28,13 @@ front claims n o inside has =
     let next : suc n ≡ n + 1 = omega arith in
     drop-cons claims n None inside ∙ ap (λ x. x ∷ drop (suc n) claims) has ∙ ap (λ m. o ∷ drop m claims) next
 
-none_at : (claims : List (Option ClaimAt)) (n : ℕ) → HoldsNone claims (n + 1) → slice_index_or claims n None ≡ None
+none_at : (claims : List (Option ClaimAt)) (n : ℕ) → IsFree claims (n + 1) → slice_index_or claims n None ≡ None
 none_at claims n gone = by_case (slice_index_or claims n None) refl
   where
     by_case : (o : Option ClaimAt) → slice_index_or claims n None ≡ o → slice_index_or claims n None ≡ None
     by_case None e = e
     by_case (Some t) e =
-        let at : n ≡ n + 1 - 1 = omega arith in absurd (gone t (record { positive = omega arith; has = subst (λ i. HasClaim claims i t) at e }))
+        let at : n ≡ n + 1 - 1 = omega arith in absurd (gone t (record { positive = omega arith; has = subst (λ i. HasAt claims i t) at e }))
 
 -- of a ring the claims below an index were aborted
 pub record AbortedTo (start : Loose) (count n : ℕ) (now : Loose) : Type 0 where
@@ -60,7 +61,7 @@ module _ (start : Loose) (count n : ℕ) (now : Loose) (so_far : AbortedTo start
     }
 
     -- no claim is open at the index
-    passes : next ≡ now → HoldsNone now.holder.claims (n + 1) → AbortedTo start count (n + 1) next
+    passes : next ≡ now → IsFree now.holder.claims (n + 1) → AbortedTo start count (n + 1) next
     passes same gone =
         let none : slice_index_or now.holder.claims n None ≡ None = none_at now.holder.claims n gone in
         let held = ap (λ (l : Loose). l.holder.claims) same in
@@ -73,8 +74,8 @@ module _ (start : Loose) (count n : ℕ) (now : Loose) (so_far : AbortedTo start
     aborts did =
         let claims = now.holder.claims in
         let at : n + 1 - 1 ≡ n = omega arith in
-        let has : HasClaim claims n did.claim = subst (λ i. HasClaim claims i did.claim) at did.holds.has in
-        let held : next.holder.claims ≡ set claims n None = did.given_up ∙ ap (λ i. set claims i None) at in
+        let has : HasAt claims n did.claim = subst (λ i. HasAt claims i did.claim) at did.goes.here.has in
+        let held : next.holder.claims ≡ set claims n None = did.goes.given_up ∙ ap (λ i. set claims i None) at in
         let rest_of : drop (n + 1) next.holder.claims ≡ drop (n + 1) claims = ap (λ l. drop (n + 1) l) held ∙ drop-set-lt (n + 1) claims n None (omega arith) in
         on (ap length held ∙ length-set claims n None)
         (λ k lt. ap (λ l. slice_index_or l k None) held ∙ get_or-set_other claims n k None None (λ same. omega (arith, lt, same)))
@@ -83,7 +84,7 @@ module _ (start : Loose) (count n : ℕ) (now : Loose) (so_far : AbortedTo start
         ∙ ap (λ l. with_claims (all_aborted (Some did.claim ∷ l) now.holder.view.producer.claims) now.holder.view) rest_of
         ∙ ap (λ l. with_claims (all_aborted l now.holder.view.producer.claims) now.holder.view) (sym (front claims n (Some did.claim) here has)))
 
-    pub aborted_on : {T : Type 0} (r : Option T) → MatchOption r (next ≡ now) (λ _. SettlesAt Aborted now.holder (n + 1) next.holder) → IfNone r (HoldsNone now.holder.claims (n + 1)) → AbortedTo start count (n + 1) next
+    pub aborted_on : {T : Type 0} (r : Option T) → MatchOption r (next ≡ now) (λ _. SettlesAt Aborted now.holder (n + 1) next.holder) → IfNone r (IsFree now.holder.claims (n + 1)) → AbortedTo start count (n + 1) next
     aborted_on None same gone = passes same gone
     aborted_on (Some x) did gone = aborts did
 

@@ -1,12 +1,17 @@
 -- What the claims and writes of a producer leave of its view.
-use Rattle.std.proofs.Common.{Result, Ok, Err, OnOk, IfErr, Option, ◌≡◌, ℕ, ℤ, List, [], ◌∷◌, ◌++◌, length, refl, ap, sym, subst, ◌∙◌, inl, inr}
+use Rattle.std.proofs.Common.{Result, Ok, Err, OnOk, OnErr, IfErr, IsTrue, is_err, Option, ◌≡◌, ℕ, ◌+◌, ◌<◌, ℤ, List, [], ◌∷◌, ◌++◌, length, refl, ap, sym, subst, ◌∙◌, inl, inr}
 use Rattle.ring_words.specs.Open.{ClaimAt}
 use Rattle.ring_words.specs.declared.fault.ClaimFault.{ClaimFault}
 use Rattle.ring_table.specs.declared.claim.StagedClaim.{StagedClaim}
 use Rattle.ring_table.specs.declared.view.View.{View}
 use Rattle.ring_table.specs.Views.{with_claim}
 use Rattle.ring_rings.specs.Claiming.{AfterTries, AreContended, Claims, Refuses, Writes, claim_behind, looked, record_behind}
-use Rattle.ring_loose.specs.Claims.{AreHeld, Declines, Holder}
+use Rattle.ring_rings.specs.declared.ring.Producer.{Producer}
+use Rattle.ring_rings.specs.Bodies.{PutsBytes}
+use Rattle.ring_rings.specs.Seats.{view_of}
+use Rattle.ring_words.specs.declared.fault.PutRange.{PutRange}
+use Rattle.ring_loose.specs.Claims.{AreHeld, Declines, Holder, Puts, holder}
+use Rattle.ring_loose.specs.Held.{IsHeld}
 use Rattle.ring_loose.proofs.ClaimsLemmas.{held_settled_more}
 
 -- shares and claims stay
@@ -79,3 +84,10 @@ wrote (Err fault) C type_id body v w written refused = let kept = keeps_after C 
 pub declines : {T : Type 0} (r : Result T ClaimFault) (C : ℕ) (type_id : ℤ) (len : ℕ) (old new : Holder) → new.claims ≡ old.claims → IfErr r (λ fault. AfterTries C type_id len old.view (λ v. Refuses C type_id len v fault new.view)) → IfErr r (λ fault. Declines C old type_id len fault new)
 declines (Ok x) C type_id len old new same refused = refused
 declines (Err fault) C type_id len old new same refused = record { refused = refused; same = same }
+
+-- bytes were put into a claim that is held, or refused
+pub put_came : (r : Result (Unit {0}) PutRange) (number offset : ℕ) (bytes : List ℕ) (t : ClaimAt) (p q : Producer) (cs ds : List (Option ClaimAt)) → IsHeld cs number t → ds ≡ cs → (IsTrue (is_err r) → t.len < offset + length bytes)
+    → OnErr r (q ≡ p) → OnOk r (PutsBytes t.place offset bytes (view_of p) (view_of q)) → Puts number offset bytes (holder (view_of p) cs) r (holder (view_of q) ds)
+put_came (Ok x) number offset bytes t p q cs ds here held past same put = record { claim = t; here = here; put = put; same = held }
+put_came (Err e) number offset bytes t p q cs ds here held past same put =
+    (record { claim = t; here = here; past = past refl }, ap (λ d. holder (view_of q) d) held ∙ ap (λ v. holder (view_of v) cs) same)

@@ -6,7 +6,7 @@ use Rattle.ring_table.specs.declared.claim.StagedClaim.{StagedClaim}
 use Rattle.ring_table.specs.declared.claim.Stage.TheVariants.{Stored}
 use Rattle.ring_table.specs.declared.view.View.{View}
 use Rattle.ring_table.specs.Changes.{changed, staged}
-use Rattle.ring_table.specs.Views.{with_claims}
+use Rattle.ring_table.specs.Views.{beaten, with_claims, with_consumer}
 use Rattle.ring_rings.specs.declared.ring.Ring.{Ring}
 use Rattle.ring_rings.specs.declared.ring.Producer.{Producer}
 use Rattle.ring_rings.specs.declared.ring.Consumer.{Consumer}
@@ -43,6 +43,14 @@ with_view v l = with_holder (holder v l.holder.claims) l
 -- the ring where the consumer knows this
 abbrev pub with_reader : View → Loose → Loose
 with_reader v l = record l { consumer = v }
+
+-- the position of the consumer's head
+abbrev pub head_in : Loose → ℕ
+head_in l = l.consumer.consumer.head
+
+-- what the consumer knows once this heartbeat is stored
+abbrev pub beaten_view : ℕ → Loose → View
+beaten_view value l = with_consumer (beaten value l.consumer.consumer) l.consumer
 
 -- a producer's claims after those that it holds were aborted
 abbrev pub all_aborted : List (Option ClaimAt) → List StagedClaim → List StagedClaim

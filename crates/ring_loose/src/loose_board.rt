@@ -1,13 +1,13 @@
 //! The broadcast buffer of a run, with its numbered receivers.
-ghost use Rattle.std.specs.Prelude.{◌≡◌, ◌+◌, ◌-◌, length, slice_set, IfNone, IfOk, IfSome, OnErr, OnOk, MatchOption, MatchResult};
+ghost use Rattle.std.specs.Prelude.{◌≡◌, ◌+◌, IfNone, IfOk, IfSome, OnErr, OnOk, OnSome, length};
 ghost use Rattle.ring_board.specs.Refusals.{make_refusal_of, subscribe_refusal_of, transmit_refusal_of, IsMadeUnless, IsRefusedBy, IsSubscribedUnless};
 ghost use Rattle.ring_board.specs.Layout.{all_shares};
 ghost use Rattle.ring_board.specs.Seats.{capacity_of, next_record, shares_of, tail_of, view_of, IsTransmitterOf};
 ghost use Rattle.ring_board.specs.Steps.{sent_on};
-ghost use Rattle.ring_loose.specs.Held.{IsFree, held_count};
+ghost use Rattle.ring_loose.specs.Held.{IsFree, held_count, held_in};
 ghost use Rattle.ring_loose.specs.Receivers.{AreReceivers, Leaves, ReceivesAt, Subscribes, crowd};
 
-use crate::held::take_held;
+use crate::numbered::Numbered;
 use crate::received::Received;
 use crate::receiving::receive_at;
 use ring_board::{Board, CopyReceiver, MakeFault, SubscribeFault, TransmitFault, Transmitter};
@@ -18,11 +18,11 @@ use std::alloc::{AllocError, Global};
 pub struct LooseBoard {
     board: Board,
     transmitter: Transmitter,
-    /// The receiver of each number, less 1, until it leaves.
-    receivers: Vec<Option<CopyReceiver>>,
+    /// The receivers that have not left.
+    receivers: Numbered<CopyReceiver>,
     ghost transmits: { IsTransmitterOf board transmitter },
-    ghost receive: { AreReceivers board receivers.items },
-    ghost shares: { shares_of transmitter + held_count receivers.items ≡ all_shares },
+    ghost receive: { AreReceivers board receivers },
+    ghost shares: { shares_of transmitter + held_count (held_in receivers) ≡ all_shares },
 }
 
 /// Makes a receiver, and keeps it under the next number, which is given. The room to keep it is made first.
@@ -30,41 +30,48 @@ fn make_receiver(
     alloc: Global,
     board: &Board,
     transmitter: &mut Transmitter,
-    receivers: &mut Vec<Option<CopyReceiver>>,
+    receivers: &mut Numbered<CopyReceiver>,
 ) -> Result<Result<usize, SubscribeFault>, AllocError>
     requires transmitter { IsTransmitterOf board.now transmitter.old }
-    requires receivers { AreReceivers board.now receivers.old.items }
+    requires receivers { AreReceivers board.now receivers.old }
     ensures transmitter { IsTransmitterOf board.now transmitter.new }
-    ensures receivers { AreReceivers board.now receivers.new.items }
-    ensures made { IfOk result (λ made. MatchResult made (λ number. Subscribes (crowd transmitter.old receivers.old.items) number (crowd transmitter.new receivers.new.items)) (λ _. (transmitter.new ≡ transmitter.old) × (receivers.new.items ≡ receivers.old.items))) }
+    ensures receivers { AreReceivers board.now receivers.new }
+    ensures made { IfOk result (λ made. IfOk made (λ number.
+        Subscribes (crowd transmitter.old receivers.old) number (crowd transmitter.new receivers.new))) }
+    ensures same { IfOk result (λ made. OnErr made
+        ((transmitter.new ≡ transmitter.old) × (held_in receivers.new ≡ held_in receivers.old))) }
     ensures refused { IfOk result (λ made. IsSubscribedUnless (subscribe_refusal_of (shares_of transmitter.old)) made) }
-    ensures shares { shares_of transmitter.new + held_count receivers.new.items ≡ shares_of transmitter.old + held_count receivers.old.items }
+    ensures shares { shares_of transmitter.new + held_count (held_in receivers.new)
+        ≡ shares_of transmitter.old + held_count (held_in receivers.old) }
 {
-    receivers.reserve(1)?;
+    receivers.reserve()?;
     let receiver = match board.subscribe(alloc, transmitter) {
         Ok(receiver) => receiver,
         Err(fault) => return Ok(Err(fault)),
     };
-    receivers.push_reserved(Some(receiver));
-    Ok(Ok(receivers.len()))
+    Ok(Ok(receivers.hold(receiver)))
 }
 
 /// Joins the receiver of this number, if it is here.
 fn join_receiver(
     board: &Board,
     transmitter: &mut Transmitter,
-    receivers: &mut [Option<CopyReceiver>],
+    receivers: &mut Numbered<CopyReceiver>,
     number: usize,
 ) -> Option<()>
     requires transmitter { IsTransmitterOf board.now transmitter.old }
     requires receivers { AreReceivers board.now receivers.old }
     ensures transmitter { IsTransmitterOf board.now transmitter.new }
     ensures receivers { AreReceivers board.now receivers.new }
-    ensures left { MatchOption result ((transmitter.new ≡ transmitter.old) × (receivers.new ≡ receivers.old)) (λ _. Leaves (crowd transmitter.old receivers.old) number (crowd transmitter.new receivers.new)) }
-    ensures gone { IfNone result (IsFree receivers.old number) }
-    ensures shares { shares_of transmitter.new + held_count receivers.new ≡ shares_of transmitter.old + held_count receivers.old }
+    ensures left { OnSome result
+        (Leaves (crowd transmitter.old receivers.old) number (crowd transmitter.new receivers.new)) }
+    ensures same { IfNone result
+        ((transmitter.new ≡ transmitter.old) × (held_in receivers.new ≡ held_in receivers.old)) }
+    ensures free { IfNone result (IsFree (held_in receivers.old) number) }
+    ensures shares { shares_of transmitter.new + held_count (held_in receivers.new)
+        ≡ shares_of transmitter.old + held_count (held_in receivers.old) }
 {
-    let receiver = take_held(receivers, number)?;
+    let receiver = receivers.take(number)?;
     board.join(transmitter, receiver);
     Some(())
 }
@@ -78,23 +85,30 @@ impl LooseBoard {
         Ok(LooseBoard {
             board,
             transmitter,
-            receivers: Vec::new(alloc),
+            receivers: Numbered::new(alloc),
         })
     }
 
     /// Transmits a message.
     pub fn transmit(&mut self, type_id: i32, body: &[u8]) -> Result<(), TransmitFault>
-        ensures refused { IsRefusedBy (transmit_refusal_of (capacity_of self.old.board) (tail_of self.old.transmitter) type_id (length body.now)) result }
+        ensures refused { IsRefusedBy
+            (transmit_refusal_of (capacity_of self.old.board) (tail_of self.old.transmitter) type_id (length body.now))
+            result }
         ensures same { OnErr result (self.new ≡ self.old) }
-        ensures sent { OnOk result (view_of self.new.transmitter ≡ sent_on (view_of self.old.transmitter) (next_record (capacity_of self.old.board) (tail_of self.old.transmitter) type_id body.now)) }
+        ensures sent { OnOk result (view_of self.new.transmitter ≡ sent_on (view_of self.old.transmitter)
+            (next_record (capacity_of self.old.board) (tail_of self.old.transmitter) type_id body.now)) }
+        ensures receivers { self.new.receivers ≡ self.old.receivers }
     {
         self.board.transmit(&mut self.transmitter, type_id, body)
     }
 
     /// Makes a receiver and gives its number.
     pub fn subscribe(&mut self, alloc: Global) -> Result<Result<usize, SubscribeFault>, AllocError>
-        ensures refused { IfOk result (λ made. IsSubscribedUnless (subscribe_refusal_of (shares_of self.old.transmitter)) made) }
-        ensures made { IfOk result (λ made. MatchResult made (λ number. Subscribes (crowd self.old.transmitter self.old.receivers.items) number (crowd self.new.transmitter self.new.receivers.items)) (λ _. self.new.transmitter ≡ self.old.transmitter)) }
+        ensures refused { IfOk result (λ made.
+            IsSubscribedUnless (subscribe_refusal_of (shares_of self.old.transmitter)) made) }
+        ensures made { IfOk result (λ made. IfOk made (λ number. Subscribes
+            (crowd self.old.transmitter self.old.receivers) number (crowd self.new.transmitter self.new.receivers))) }
+        ensures same { IfOk result (λ made. OnErr made (self.new.transmitter ≡ self.old.transmitter)) }
     {
         make_receiver(
             alloc,
@@ -106,16 +120,20 @@ impl LooseBoard {
 
     /// Asks the receiver of this number for the next message; `None` where it is not here.
     pub fn receive(&mut self, alloc: Global, number: usize) -> Option<Result<Received, AllocError>>
-        ensures told { IfSome result (λ answer. IfOk answer (λ told. ReceivesAt told self.old.receivers.items number self.new.receivers.items)) }
-        ensures gone { IfNone result (IsFree self.old.receivers.items number) }
+        ensures told { IfSome result (λ answer. IfOk answer (λ told.
+            ReceivesAt told self.old.receivers number self.new.receivers)) }
+        ensures free { IfNone result (IsFree (held_in self.old.receivers) number) }
+        ensures rest { (self.new.board ≡ self.old.board) × (self.new.transmitter ≡ self.old.transmitter) }
     {
         receive_at(alloc, &self.board, &mut self.receivers, number)
     }
 
     /// Joins the receiver of this number; `None` where it is not here.
     pub fn leave(&mut self, number: usize) -> Option<()>
-        ensures left { MatchOption result (self.new.receivers.items ≡ self.old.receivers.items) (λ _. Leaves (crowd self.old.transmitter self.old.receivers.items) number (crowd self.new.transmitter self.new.receivers.items)) }
-        ensures gone { IfNone result (IsFree self.old.receivers.items number) }
+        ensures left { OnSome result (Leaves
+            (crowd self.old.transmitter self.old.receivers) number (crowd self.new.transmitter self.new.receivers)) }
+        ensures same { IfNone result (held_in self.new.receivers ≡ held_in self.old.receivers) }
+        ensures free { IfNone result (IsFree (held_in self.old.receivers) number) }
     {
         join_receiver(
             &self.board,
@@ -129,7 +147,7 @@ impl LooseBoard {
     fn join_all(&mut self)
         ensures { shares_of self.new.transmitter ≡ all_shares }
     {
-        for index in 0..self.receivers.len() {
+        for index in 0..self.receivers.drawn() {
             let _ = self.leave(index + 1);
         }
     }

@@ -1,18 +1,18 @@
 //! The ring of a run, with its numbered claims.
-ghost use Rattle.std.specs.Prelude.{◌≡◌, ◌≤◌, ◌+◌, ◌-◌, length, slice_set, IfErr, IfNone, IfOk, IfSome, OnErr, OnOk, MatchOption, MatchResult};
+ghost use Rattle.std.specs.Prelude.{◌≡◌, ◌+◌, IfErr, IfNone, IfOk, IfSome, MatchOption, OnErr, OnOk, OnSome, length};
 ghost use Rattle.ring_layout.specs.declared.message.ClaimState.TheVariants.{Committed, Aborted};
-ghost use Rattle.ring_rings.specs.Claiming.{AfterTries, Writes};
 ghost use Rattle.ring_rings.specs.Closing.{HandsOut, Serves};
 ghost use Rattle.ring_rings.specs.Joining.{LoadsPositions};
 ghost use Rattle.ring_rings.specs.Reading.{Controls, Reads};
-ghost use Rattle.ring_rings.specs.Seats.{capacity_of, shares_of, view_of, IsProducerOf};
-ghost use Rattle.ring_loose.specs.Claims.{holder, AreOpen, Declines, Holds, HoldsNone, HoldsNothing, IsPast, Makes, PutsAt, SettlesAt};
-ghost use Rattle.ring_loose.specs.Loose.{aborted_view, fresh_loose, with_holder, with_reader, with_view};
+ghost use Rattle.ring_rings.specs.Seats.{capacity_of, shares_of, IsProducerOf};
+ghost use Rattle.ring_loose.specs.Claims.{AreOpen, Declines, HoldsNothing, Puts, SettlesAt, Tries, WritesAfter, holder_of};
+ghost use Rattle.ring_loose.specs.Held.{IsFree, held_in};
+ghost use Rattle.ring_loose.specs.Loose.{aborted_view, beaten_view, fresh_loose, head_in, with_holder, with_reader, with_view};
 ghost use Rattle.ring_table.specs.ServiceSteps.{DrawsId, LoadsHeartbeat};
-ghost use Rattle.ring_table.specs.Views.{beaten, with_consumer};
 ghost use Rattle.ring_words.specs.Fresh.{make_refusal_of, IsMadeUnless};
 ghost use Rattle.ring_words.specs.Read.{stop_of};
 
+use crate::numbered::Numbered;
 use ring_rings::{Claim, Consumer, ManyToOneRing, Producer};
 use ring_words::{ClaimFault, Handler, MakeFault, Positions, PutRange, ReadEnd, SoloRing};
 use std::alloc::{AllocError, Global};
@@ -33,77 +33,70 @@ pub struct LooseRing {
     ring: ManyToOneRing,
     producer: Producer,
     consumer: Consumer,
-    /// The claim of each number, less 1, until it is settled.
-    claims: Vec<Option<Claim>>,
+    /// The claims that are not settled.
+    claims: Numbered<Claim>,
 }
 
 impl Model for LooseRing {
-    ghost use Rattle.ring_rings.specs.Seats.{capacity_of, consumer_view, view_of};
-    ghost use Rattle.ring_loose.specs.Claims.{holder};
+    ghost use Rattle.ring_rings.specs.Seats.{capacity_of, consumer_view};
+    ghost use Rattle.ring_loose.specs.Claims.{holder_of};
+    ghost use Rattle.ring_loose.specs.Held.{held_in};
     ghost use Rattle.ring_loose.specs.Loose.{AreSeats, Loose};
 
     ghost Value = { Loose };
 
-    ghost view = { λ a. record { capacity = capacity_of a.ring; holder = holder (view_of a.producer) a.claims.items; consumer = consumer_view a.consumer } };
+    ghost view = { λ a. record {
+      capacity = capacity_of a.ring;
+      holder = holder_of a.producer a.claims;
+      consumer = consumer_view a.consumer;
+    } };
 
-    ghost invariant = { λ a. AreSeats a.ring a.producer a.consumer a.claims.items };
-}
-
-/// Takes the claim of this number, if it is open.
-fn take_claim(claims: &mut [Option<Claim>], number: usize) -> Option<Claim>
-    ensures taken { MatchOption result (claims.new ≡ claims.old) (λ claim. Holds claims.old number claim × (claims.new ≡ slice_set claims.old (number - 1) None)) }
-    ensures gone { IfNone result (HoldsNone claims.old number) }
-{
-    let index = number.checked_sub(1)?;
-    if index >= claims.len() {
-        return None;
-    }
-    claims[index].take()
+    ghost invariant = { λ a. AreSeats a.ring a.producer a.consumer (held_in a.claims) };
 }
 
 /// Puts bytes into the claim of this number, if it is open.
 fn put_into(
     ring: &ManyToOneRing,
     producer: &mut Producer,
-    claims: &mut [Option<Claim>],
+    claims: &mut Numbered<Claim>,
     number: usize,
     offset: usize,
     bytes: &[u8],
 ) -> Option<Result<(), PutRange>>
     requires producer { IsProducerOf ring.now producer.old }
-    requires claims { AreOpen ring.now producer.old claims.old }
+    requires claims { AreOpen ring.now producer.old (held_in claims.old) }
     ensures producer { IsProducerOf ring.now producer.new }
-    ensures claims { AreOpen ring.now producer.new claims.new }
+    ensures claims { AreOpen ring.now producer.new (held_in claims.new) }
     ensures shares { shares_of producer.new ≡ shares_of producer.old }
-    ensures put { MatchOption result ((producer.new ≡ producer.old) × (claims.new ≡ claims.old)) (λ answer. MatchResult answer (λ _. PutsAt (holder (view_of producer.old) claims.old) number offset bytes.now (holder (view_of producer.new) claims.new)) (λ _. IsPast claims.old number offset bytes.now × (producer.new ≡ producer.old) × (claims.new ≡ claims.old))) }
-    ensures gone { IfNone result (HoldsNone claims.old number) }
+    ensures put { IfSome result (λ put. Puts number offset bytes.now
+        (holder_of producer.old claims.old) put (holder_of producer.new claims.new)) }
+    ensures same { IfNone result ((producer.new ≡ producer.old) × (held_in claims.new ≡ held_in claims.old)) }
+    ensures free { IfNone result (IsFree (held_in claims.old) number) }
 {
-    let index = number.checked_sub(1)?;
-    if index >= claims.len() {
-        return None;
-    }
-    match &mut claims[index] {
-        Some(claim) => Some(ring.put(producer, claim, offset, bytes)),
-        None => None,
-    }
+    let mut claim = claims.take(number)?;
+    let put = ring.put(producer, &mut claim, offset, bytes);
+    claims.put_back(number, claim);
+    Some(put)
 }
 
 /// Commits the claim of this number, if it is open.
 fn commit_claim(
     ring: &ManyToOneRing,
     producer: &mut Producer,
-    claims: &mut [Option<Claim>],
+    claims: &mut Numbered<Claim>,
     number: usize,
 ) -> Option<()>
     requires producer { IsProducerOf ring.now producer.old }
-    requires claims { AreOpen ring.now producer.old claims.old }
+    requires claims { AreOpen ring.now producer.old (held_in claims.old) }
     ensures producer { IsProducerOf ring.now producer.new }
-    ensures claims { AreOpen ring.now producer.new claims.new }
+    ensures claims { AreOpen ring.now producer.new (held_in claims.new) }
     ensures shares { shares_of producer.new ≡ shares_of producer.old }
-    ensures settled { MatchOption result ((producer.new ≡ producer.old) × (claims.new ≡ claims.old)) (λ _. SettlesAt Committed (holder (view_of producer.old) claims.old) number (holder (view_of producer.new) claims.new)) }
-    ensures gone { IfNone result (HoldsNone claims.old number) }
+    ensures settled { OnSome result
+        (SettlesAt Committed (holder_of producer.old claims.old) number (holder_of producer.new claims.new)) }
+    ensures same { IfNone result ((producer.new ≡ producer.old) × (held_in claims.new ≡ held_in claims.old)) }
+    ensures free { IfNone result (IsFree (held_in claims.old) number) }
 {
-    let claim = take_claim(claims, number)?;
+    let claim = claims.take(number)?;
     ring.commit(producer, claim);
     Some(())
 }
@@ -112,18 +105,20 @@ fn commit_claim(
 fn abort_claim(
     ring: &ManyToOneRing,
     producer: &mut Producer,
-    claims: &mut [Option<Claim>],
+    claims: &mut Numbered<Claim>,
     number: usize,
 ) -> Option<()>
     requires producer { IsProducerOf ring.now producer.old }
-    requires claims { AreOpen ring.now producer.old claims.old }
+    requires claims { AreOpen ring.now producer.old (held_in claims.old) }
     ensures producer { IsProducerOf ring.now producer.new }
-    ensures claims { AreOpen ring.now producer.new claims.new }
+    ensures claims { AreOpen ring.now producer.new (held_in claims.new) }
     ensures shares { shares_of producer.new ≡ shares_of producer.old }
-    ensures settled { MatchOption result ((producer.new ≡ producer.old) × (claims.new ≡ claims.old)) (λ _. SettlesAt Aborted (holder (view_of producer.old) claims.old) number (holder (view_of producer.new) claims.new)) }
-    ensures gone { IfNone result (HoldsNone claims.old number) }
+    ensures settled { OnSome result
+        (SettlesAt Aborted (holder_of producer.old claims.old) number (holder_of producer.new claims.new)) }
+    ensures same { IfNone result ((producer.new ≡ producer.old) × (held_in claims.new ≡ held_in claims.old)) }
+    ensures free { IfNone result (IsFree (held_in claims.old) number) }
 {
-    let claim = take_claim(claims, number)?;
+    let claim = claims.take(number)?;
     ring.abort(producer, claim);
     Some(())
 }
@@ -133,28 +128,27 @@ fn make_claim<R: Wait>(
     rt: &R,
     ring: &ManyToOneRing,
     producer: &mut Producer,
-    claims: &mut Vec<Option<Claim>>,
+    claims: &mut Numbered<Claim>,
     type_id: i32,
     len: usize,
 ) -> Result<Result<Claimed, ClaimFault>, AllocError>
     requires producer { IsProducerOf ring.now producer.old }
-    requires claims { AreOpen ring.now producer.old claims.old.items }
+    requires claims { AreOpen ring.now producer.old (held_in claims.old) }
     ensures producer { IsProducerOf ring.now producer.new }
-    ensures claims { AreOpen ring.now producer.new claims.new.items }
+    ensures claims { AreOpen ring.now producer.new (held_in claims.new) }
     ensures shares { shares_of producer.new ≡ shares_of producer.old }
-    ensures made { MatchResult result (λ made. MatchResult made (λ claimed. Makes (capacity_of ring.now) (holder (view_of producer.old) claims.old.items) type_id len claimed.number claimed.index (holder (view_of producer.new) claims.new.items)) (λ fault. Declines (capacity_of ring.now) (holder (view_of producer.old) claims.old.items) type_id len fault (holder (view_of producer.new) claims.new.items))) (λ _. (producer.new ≡ producer.old) × (claims.new.items ≡ claims.old.items)) }
+    ensures tried { IfOk result (λ tried. Tries (capacity_of ring.now) type_id len
+        (holder_of producer.old claims.old) tried (holder_of producer.new claims.new)) }
+    ensures same { IfErr result (λ _. (producer.new ≡ producer.old) × (held_in claims.new ≡ held_in claims.old)) }
 {
-    claims.reserve(1)?;
+    claims.reserve()?;
     let claim = match ring.claim(rt, producer, type_id, len) {
         Ok(claim) => claim,
         Err(fault) => return Ok(Err(fault)),
     };
     let index = claim.index();
-    claims.push_reserved(Some(claim));
-    Ok(Ok(Claimed {
-        number: claims.len(),
-        index,
-    }))
+    let number = claims.hold(claim);
+    Ok(Ok(Claimed { number, index }))
 }
 
 impl LooseRing {
@@ -168,14 +162,16 @@ impl LooseRing {
             ring,
             producer,
             consumer,
-            claims: Vec::new(alloc),
+            claims: Numbered::new(alloc),
         })
     }
 
     /// Writes a message. It may wait.
     pub fn write<R: Wait>(&mut self, rt: &R, type_id: i32, body: &[u8]) -> Result<(), ClaimFault>
-        ensures written { OnOk result (AfterTries self.old.capacity type_id (length body.now) self.old.holder.view (λ v. Writes self.old.capacity type_id body.now v self.new.holder.view)) }
-        ensures refused { IfErr result (λ fault. Declines self.old.capacity self.old.holder type_id (length body.now) fault self.new.holder) }
+        ensures written { OnOk result
+            (WritesAfter self.old.capacity type_id body.now self.old.holder.view self.new.holder.view) }
+        ensures refused { IfErr result (λ fault.
+            Declines self.old.capacity self.old.holder type_id (length body.now) fault self.new.holder) }
         ensures rest { self.new ≡ with_view self.new.holder.view self.old }
     {
         self.ring.write(rt, &mut self.producer, type_id, body)
@@ -188,7 +184,9 @@ impl LooseRing {
         type_id: i32,
         len: usize,
     ) -> Result<Result<Claimed, ClaimFault>, AllocError>
-        ensures made { MatchResult result (λ made. MatchResult made (λ claimed. Makes self.old.capacity self.old.holder type_id len claimed.number claimed.index self.new.holder) (λ fault. Declines self.old.capacity self.old.holder type_id len fault self.new.holder)) (λ _. self.new ≡ self.old) }
+        ensures tried { IfOk result (λ tried.
+            Tries self.old.capacity type_id len self.old.holder tried self.new.holder) }
+        ensures same { IfErr result (λ _. self.new ≡ self.old) }
         ensures rest { self.new ≡ with_holder self.new.holder self.old }
     {
         make_claim(
@@ -208,8 +206,9 @@ impl LooseRing {
         offset: usize,
         bytes: &[u8],
     ) -> Option<Result<(), PutRange>>
-        ensures put { MatchOption result (self.new ≡ self.old) (λ answer. MatchResult answer (λ _. PutsAt self.old.holder number offset bytes.now self.new.holder) (λ _. IsPast self.old.holder.claims number offset bytes.now × (self.new ≡ self.old))) }
-        ensures gone { IfNone result (HoldsNone self.old.holder.claims number) }
+        ensures put { MatchOption result (self.new ≡ self.old)
+            (λ put. Puts number offset bytes.now self.old.holder put self.new.holder) }
+        ensures free { IfNone result (IsFree self.old.holder.claims number) }
         ensures rest { self.new ≡ with_holder self.new.holder self.old }
     {
         put_into(
@@ -224,8 +223,9 @@ impl LooseRing {
 
     /// Commits the claim of this number; `None` where it is not open.
     pub fn commit(&mut self, number: usize) -> Option<()>
-        ensures settled { MatchOption result (self.new ≡ self.old) (λ _. SettlesAt Committed self.old.holder number self.new.holder) }
-        ensures gone { IfNone result (HoldsNone self.old.holder.claims number) }
+        ensures settled { MatchOption result (self.new ≡ self.old)
+            (λ _. SettlesAt Committed self.old.holder number self.new.holder) }
+        ensures free { IfNone result (IsFree self.old.holder.claims number) }
         ensures rest { self.new ≡ with_holder self.new.holder self.old }
     {
         commit_claim(&self.ring, &mut self.producer, &mut self.claims, number)
@@ -233,8 +233,9 @@ impl LooseRing {
 
     /// Aborts the claim of this number; `None` where it is not open.
     pub fn abort(&mut self, number: usize) -> Option<()>
-        ensures settled { MatchOption result (self.new ≡ self.old) (λ _. SettlesAt Aborted self.old.holder number self.new.holder) }
-        ensures gone { IfNone result (HoldsNone self.old.holder.claims number) }
+        ensures settled { MatchOption result (self.new ≡ self.old)
+            (λ _. SettlesAt Aborted self.old.holder number self.new.holder) }
+        ensures free { IfNone result (IsFree self.old.holder.claims number) }
         ensures rest { self.new ≡ with_holder self.new.holder self.old }
     {
         abort_claim(&self.ring, &mut self.producer, &mut self.claims, number)
@@ -245,8 +246,9 @@ impl LooseRing {
         requires { H.ready handler.old }
         ensures ready { H.ready handler.new }
         ensures reads { Reads H.step limit self.old.consumer self.new.consumer handler.old handler.new result.messages }
-        ensures bytes { self.old.consumer.consumer.head + result.bytes ≡ self.new.consumer.consumer.head }
-        ensures stopped { result.stopped ≡ stop_of self.old.capacity limit result.messages self.new.consumer.consumer.head result.bytes }
+        ensures bytes { head_in self.old + result.bytes ≡ head_in self.new }
+        ensures stopped { result.stopped
+            ≡ stop_of self.old.capacity limit result.messages (head_in self.new) result.bytes }
         ensures rest { self.new ≡ with_reader self.new.consumer self.old }
     {
         self.ring.read(&mut self.consumer, limit, handler)
@@ -257,7 +259,7 @@ impl LooseRing {
         requires { H.ready handler.old }
         ensures ready { H.ready handler.new }
         ensures controls { Controls H.step limit self.old.consumer self.new.consumer handler.old handler.new result }
-        ensures bytes { self.old.consumer.consumer.head + result.bytes ≡ self.new.consumer.consumer.head }
+        ensures bytes { head_in self.old + result.bytes ≡ head_in self.new }
         ensures rest { self.new ≡ with_reader self.new.consumer self.old }
     {
         self.ring
@@ -282,7 +284,7 @@ impl LooseRing {
 
     /// Stores the consumer's heartbeat.
     pub fn set_heartbeat(&mut self, value: u64)
-        ensures { self.new ≡ with_reader (with_consumer (beaten value self.old.consumer.consumer) self.old.consumer) self.old }
+        ensures { self.new ≡ with_reader (beaten_view value self.old) self.old }
     {
         self.ring.set_heartbeat(&mut self.consumer, value);
     }
@@ -301,7 +303,7 @@ impl LooseRing {
         ensures view { self.new.holder.view ≡ aborted_view self.old.holder }
         ensures rest { self.new ≡ with_holder self.new.holder self.old }
     {
-        for index in 0..self.claims.len() {
+        for index in 0..self.claims.drawn() {
             let _ = self.abort(index + 1);
         }
     }

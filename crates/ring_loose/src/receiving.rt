@@ -1,8 +1,9 @@
 //! Numbered receivers that ask for messages.
 ghost use Rattle.std.specs.Prelude.{◌≡◌, IfNone, IfOk, IfSome};
-ghost use Rattle.ring_loose.specs.Held.{IsFree, held_count};
+ghost use Rattle.ring_loose.specs.Held.{IsFree, held_count, held_in};
 ghost use Rattle.ring_loose.specs.Receivers.{AreReceivers, ReceivesAt};
 
+use crate::numbered::Numbered;
 use crate::received::Received;
 use ring_board::{Board, CopyReceiver};
 use std::alloc::{AllocError, Global};
@@ -11,21 +12,18 @@ use std::alloc::{AllocError, Global};
 pub fn receive_at(
     alloc: Global,
     board: &Board,
-    receivers: &mut [Option<CopyReceiver>],
+    receivers: &mut Numbered<CopyReceiver>,
     number: usize,
 ) -> Option<Result<Received, AllocError>>
     requires { AreReceivers board.now receivers.old }
     ensures receivers { AreReceivers board.now receivers.new }
-    ensures told { IfSome result (λ answer. IfOk answer (λ told. ReceivesAt told receivers.old number receivers.new)) }
-    ensures gone { IfNone result (IsFree receivers.old number) }
-    ensures count { held_count receivers.new ≡ held_count receivers.old }
+    ensures told { IfSome result (λ answer. IfOk answer (λ told.
+        ReceivesAt told receivers.old number receivers.new)) }
+    ensures free { IfNone result (IsFree (held_in receivers.old) number) }
+    ensures count { held_count (held_in receivers.new) ≡ held_count (held_in receivers.old) }
 {
-    let index = number.checked_sub(1)?;
-    if index >= receivers.len() {
-        return None;
-    }
-    match &mut receivers[index] {
-        Some(receiver) => Some(Received::of(alloc, board, receiver)),
-        None => None,
-    }
+    let mut receiver = receivers.take(number)?;
+    let received = Received::of(alloc, board, &mut receiver);
+    receivers.put_back(number, receiver);
+    Some(received)
 }

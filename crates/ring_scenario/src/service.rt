@@ -4,7 +4,7 @@ ghost use Rattle.ring_rings.specs.Seats.{open_claims_of, shares_of, IsConsumerOf
 ghost use Rattle.ring_board.specs.Seats.{shares_of as board_shares_of, IsTransmitterOf};
 ghost use Rattle.ring_counters.specs.Manager.{IsManagerOf};
 ghost use Rattle.ring_conductor.specs.Conducting.{consumer_of, counters_of, transmitter_of, value_shares_of};
-ghost use Rattle.ring_loose.specs.Held.{held_count};
+ghost use Rattle.ring_loose.specs.Held.{held_count, held_in};
 ghost use Rattle.ring_loose.specs.Receivers.{AreReceivers};
 ghost use Rattle.ring_scenario.specs.Watchers.{AreWatchers};
 
@@ -19,6 +19,7 @@ pub use closing::Served;
 use ring_board::{Board, CopyReceiver};
 use ring_conductor::Conductor;
 use ring_counters::{CounterValues, ValueReader};
+use ring_loose::Numbered;
 use ring_rings::{ManyToOneRing, Producer};
 
 /// A conductor with its ring, its broadcast buffer and its counters, the listeners to its replies and the watchers of
@@ -30,17 +31,16 @@ pub struct CommandService {
     board: Board,
     values: CounterValues,
     conductor: Conductor,
-    /// The listener of each number, less 1.
-    listeners: Vec<Option<CopyReceiver>>,
-    /// The watcher of each number, less 1, until it is taken away.
-    watchers: Vec<Option<ValueReader>>,
+    listeners: Numbered<CopyReceiver>,
+    /// The watchers that were not taken away.
+    watchers: Numbered<ValueReader>,
     ghost produces: { IsProducerOf ring producer },
     ghost consumes: { IsConsumerOf ring (consumer_of conductor) },
     ghost replies: { IsTransmitterOf board (transmitter_of conductor) },
     ghost counts: { IsManagerOf values (counters_of conductor) },
     ghost whole: { (open_claims_of producer ≡ 0) × (shares_of producer ≡ 65536) },
-    ghost listen: { AreReceivers board listeners.items },
-    ghost shares: { board_shares_of (transmitter_of conductor) + held_count listeners.items ≡ 65536 },
-    ghost watch: { AreWatchers values watchers.items },
-    ghost value_shares: { value_shares_of conductor + held_count watchers.items ≡ 65536 },
+    ghost listen: { AreReceivers board listeners },
+    ghost shares: { board_shares_of (transmitter_of conductor) + held_count (held_in listeners) ≡ 65536 },
+    ghost watch: { AreWatchers values watchers },
+    ghost value_shares: { value_shares_of conductor + held_count (held_in watchers) ≡ 65536 },
 }

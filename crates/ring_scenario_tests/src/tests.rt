@@ -3,6 +3,7 @@ mod claims;
 mod examples;
 mod fakes;
 mod input_output;
+mod options;
 mod receivers;
 mod scripts;
 mod service;

@@ -1,15 +1,15 @@
 //! The listeners to the conductor's replies.
-ghost use Rattle.std.specs.Prelude.{◌≡◌, ◌+◌, IfNone, IfOk, IfSome, MatchResult, MatchOption};
+ghost use Rattle.std.specs.Prelude.{◌≡◌, ◌+◌, IfNone, IfOk, IfSome, OnErr, OnSome};
 ghost use Rattle.ring_board.specs.Refusals.{subscribe_refusal_of, IsSubscribedUnless};
 ghost use Rattle.ring_board.specs.Seats.{shares_of, IsTransmitterOf};
 ghost use Rattle.ring_conductor.specs.Conducting.{KeepsTheRest, transmitter_of};
-ghost use Rattle.ring_loose.specs.Held.{IsFree, held_count};
+ghost use Rattle.ring_loose.specs.Held.{IsFree, held_count, held_in};
 ghost use Rattle.ring_loose.specs.Receivers.{AreReceivers, Leaves, ReceivesAt, Subscribes, crowd};
 
 use super::CommandService;
 use ring_board::{Board, CopyReceiver, SubscribeFault};
 use ring_conductor::Conductor;
-use ring_loose::{Received, receive_at, take_held};
+use ring_loose::{Numbered, Received, receive_at};
 use std::alloc::{AllocError, Global};
 
 /// Makes a listener, and keeps it under the next number, which is given. The room to keep it is made first.
@@ -17,43 +17,53 @@ fn make_listener(
     alloc: Global,
     board: &Board,
     conductor: &mut Conductor,
-    listeners: &mut Vec<Option<CopyReceiver>>,
+    listeners: &mut Numbered<CopyReceiver>,
 ) -> Result<Result<usize, SubscribeFault>, AllocError>
     requires transmitter { IsTransmitterOf board.now (transmitter_of conductor.old) }
-    requires listeners { AreReceivers board.now listeners.old.items }
+    requires listeners { AreReceivers board.now listeners.old }
     ensures transmitter { IsTransmitterOf board.now (transmitter_of conductor.new) }
-    ensures listeners { AreReceivers board.now listeners.new.items }
-    ensures made { IfOk result (λ made. MatchResult made (λ number. Subscribes (crowd (transmitter_of conductor.old) listeners.old.items) number (crowd (transmitter_of conductor.new) listeners.new.items)) (λ _. (conductor.new ≡ conductor.old) × (listeners.new.items ≡ listeners.old.items))) }
-    ensures refused { IfOk result (λ made. IsSubscribedUnless (subscribe_refusal_of (shares_of (transmitter_of conductor.old))) made) }
-    ensures shares { shares_of (transmitter_of conductor.new) + held_count listeners.new.items ≡ shares_of (transmitter_of conductor.old) + held_count listeners.old.items }
+    ensures listeners { AreReceivers board.now listeners.new }
+    ensures made { IfOk result (λ made. IfOk made (λ number. Subscribes
+        (crowd (transmitter_of conductor.old) listeners.old) number
+        (crowd (transmitter_of conductor.new) listeners.new))) }
+    ensures same { IfOk result (λ made. OnErr made
+        ((conductor.new ≡ conductor.old) × (held_in listeners.new ≡ held_in listeners.old))) }
+    ensures refused { IfOk result (λ made.
+        IsSubscribedUnless (subscribe_refusal_of (shares_of (transmitter_of conductor.old))) made) }
+    ensures shares { shares_of (transmitter_of conductor.new) + held_count (held_in listeners.new)
+        ≡ shares_of (transmitter_of conductor.old) + held_count (held_in listeners.old) }
     ensures others { KeepsTheRest conductor.old conductor.new }
 {
-    listeners.reserve(1)?;
+    listeners.reserve()?;
     let listener = match conductor.subscribe(alloc, board) {
         Ok(listener) => listener,
         Err(fault) => return Ok(Err(fault)),
     };
-    listeners.push_reserved(Some(listener));
-    Ok(Ok(listeners.len()))
+    Ok(Ok(listeners.hold(listener)))
 }
 
 /// Joins the listener of this number, if it is here.
 fn join_listener(
     board: &Board,
     conductor: &mut Conductor,
-    listeners: &mut [Option<CopyReceiver>],
+    listeners: &mut Numbered<CopyReceiver>,
     number: usize,
 ) -> Option<()>
     requires transmitter { IsTransmitterOf board.now (transmitter_of conductor.old) }
     requires listeners { AreReceivers board.now listeners.old }
     ensures transmitter { IsTransmitterOf board.now (transmitter_of conductor.new) }
     ensures listeners { AreReceivers board.now listeners.new }
-    ensures left { MatchOption result ((conductor.new ≡ conductor.old) × (listeners.new ≡ listeners.old)) (λ _. Leaves (crowd (transmitter_of conductor.old) listeners.old) number (crowd (transmitter_of conductor.new) listeners.new)) }
-    ensures free { IfNone result (IsFree listeners.old number) }
-    ensures shares { shares_of (transmitter_of conductor.new) + held_count listeners.new ≡ shares_of (transmitter_of conductor.old) + held_count listeners.old }
+    ensures left { OnSome result (Leaves
+        (crowd (transmitter_of conductor.old) listeners.old) number
+        (crowd (transmitter_of conductor.new) listeners.new)) }
+    ensures same { IfNone result
+        ((conductor.new ≡ conductor.old) × (held_in listeners.new ≡ held_in listeners.old)) }
+    ensures free { IfNone result (IsFree (held_in listeners.old) number) }
+    ensures shares { shares_of (transmitter_of conductor.new) + held_count (held_in listeners.new)
+        ≡ shares_of (transmitter_of conductor.old) + held_count (held_in listeners.old) }
     ensures others { KeepsTheRest conductor.old conductor.new }
 {
-    let listener = take_held(listeners, number)?;
+    let listener = listeners.take(number)?;
     conductor.join_receiver(board, listener);
     Some(())
 }
@@ -61,8 +71,12 @@ fn join_listener(
 impl CommandService {
     /// Makes a listener and gives its number.
     pub fn listen(&mut self, alloc: Global) -> Result<Result<usize, SubscribeFault>, AllocError>
-        ensures refused { IfOk result (λ made. IsSubscribedUnless (subscribe_refusal_of (shares_of (transmitter_of self.old.conductor))) made) }
-        ensures made { IfOk result (λ made. MatchResult made (λ number. Subscribes (crowd (transmitter_of self.old.conductor) self.old.listeners.items) number (crowd (transmitter_of self.new.conductor) self.new.listeners.items)) (λ _. self.new.conductor ≡ self.old.conductor)) }
+        ensures refused { IfOk result (λ made.
+            IsSubscribedUnless (subscribe_refusal_of (shares_of (transmitter_of self.old.conductor))) made) }
+        ensures made { IfOk result (λ made. IfOk made (λ number. Subscribes
+            (crowd (transmitter_of self.old.conductor) self.old.listeners) number
+            (crowd (transmitter_of self.new.conductor) self.new.listeners))) }
+        ensures same { IfOk result (λ made. OnErr made (self.new.conductor ≡ self.old.conductor)) }
         ensures others { KeepsTheRest self.old.conductor self.new.conductor }
     {
         make_listener(alloc, &self.board, &mut self.conductor, &mut self.listeners)
@@ -70,16 +84,23 @@ impl CommandService {
 
     /// Asks the listener of this number for the next reply; `None` where it is not here.
     pub fn hear(&mut self, alloc: Global, number: usize) -> Option<Result<Received, AllocError>>
-        ensures told { IfSome result (λ answer. IfOk answer (λ told. ReceivesAt told self.old.listeners.items number self.new.listeners.items)) }
-        ensures free { IfNone result (IsFree self.old.listeners.items number) }
+        ensures told { IfSome result (λ answer. IfOk answer (λ told.
+            ReceivesAt told self.old.listeners number self.new.listeners)) }
+        ensures free { IfNone result (IsFree (held_in self.old.listeners) number) }
+        ensures ring { (self.new.ring ≡ self.old.ring) × (self.new.producer ≡ self.old.producer) }
+        ensures conductor { (self.new.board ≡ self.old.board) × (self.new.conductor ≡ self.old.conductor) }
+        ensures values { (self.new.values ≡ self.old.values) × (self.new.watchers ≡ self.old.watchers) }
     {
         receive_at(alloc, &self.board, &mut self.listeners, number)
     }
 
     /// Joins the listener of this number, if it is here.
     fn dismiss(&mut self, number: usize) -> Option<()>
-        ensures left { MatchOption result (self.new.listeners.items ≡ self.old.listeners.items) (λ _. Leaves (crowd (transmitter_of self.old.conductor) self.old.listeners.items) number (crowd (transmitter_of self.new.conductor) self.new.listeners.items)) }
-        ensures free { IfNone result (IsFree self.old.listeners.items number) }
+        ensures left { OnSome result (Leaves
+            (crowd (transmitter_of self.old.conductor) self.old.listeners) number
+            (crowd (transmitter_of self.new.conductor) self.new.listeners)) }
+        ensures same { IfNone result (held_in self.new.listeners ≡ held_in self.old.listeners) }
+        ensures free { IfNone result (IsFree (held_in self.old.listeners) number) }
         ensures others { KeepsTheRest self.old.conductor self.new.conductor }
     {
         join_listener(
@@ -95,7 +116,7 @@ impl CommandService {
         ensures shares { shares_of (transmitter_of self.new.conductor) ≡ 65536 }
         ensures others { KeepsTheRest self.old.conductor self.new.conductor }
     {
-        for index in 0..self.listeners.len() {
+        for index in 0..self.listeners.drawn() {
             let _ = self.dismiss(index + 1);
         }
     }

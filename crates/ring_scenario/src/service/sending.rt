@@ -1,6 +1,6 @@
 //! Commands go into the ring.
 ghost use Rattle.std.specs.Prelude.{◌≡◌, ◌↔◌, length, IfErr, IfNone, IfOk, IfSome, IsSome, OnOk};
-ghost use Rattle.ring_rings.specs.Claiming.{AfterTries, Refuses, Writes};
+ghost use Rattle.ring_loose.specs.Claims.{RefusesAfter, WritesAfter};
 ghost use Rattle.ring_rings.specs.Seats.{capacity_of, open_claims_of, shares_of, view_of, IsProducerOf};
 ghost use Rattle.ring_scenario.specs.Instructions.{FitsRoom};
 ghost use Rattle.ring_scenario.specs.Serving.{RefusesRequest, SendsRequest};
@@ -25,8 +25,10 @@ fn write_message<R: Wait>(
 ) -> Result<(), ClaimFault>
     requires { IsProducerOf ring.now producer.old }
     ensures producer { IsProducerOf ring.now producer.new }
-    ensures written { OnOk result (AfterTries (capacity_of ring.now) type_id (length body.now) (view_of producer.old) (λ v. Writes (capacity_of ring.now) type_id body.now v (view_of producer.new))) }
-    ensures refused { IfErr result (λ fault. AfterTries (capacity_of ring.now) type_id (length body.now) (view_of producer.old) (λ v. Refuses (capacity_of ring.now) type_id (length body.now) v fault (view_of producer.new))) }
+    ensures written { OnOk result
+        (WritesAfter (capacity_of ring.now) type_id body.now (view_of producer.old) (view_of producer.new)) }
+    ensures refused { IfErr result (λ fault. RefusesAfter (capacity_of ring.now) type_id (length body.now)
+        (view_of producer.old) fault (view_of producer.new)) }
     ensures open_claims { open_claims_of producer.new ≡ open_claims_of producer.old }
     ensures shares { shares_of producer.new ≡ shares_of producer.old }
 {
@@ -44,8 +46,10 @@ fn send_request<R: Wait>(
     requires { IsProducerOf ring.now producer.old }
     ensures producer { IsProducerOf ring.now producer.new }
     ensures fits { IsSome result ↔ FitsRoom request.now }
-    ensures sent { IfSome result (λ answer. IfOk answer (λ correlation. SendsRequest (capacity_of ring.now) request.now (view_of producer.old) correlation (view_of producer.new))) }
-    ensures refused { IfSome result (λ answer. IfErr answer (λ fault. RefusesRequest (capacity_of ring.now) request.now (view_of producer.old) fault (view_of producer.new))) }
+    ensures sent { IfSome result (λ answer. IfOk answer (λ correlation.
+        SendsRequest (capacity_of ring.now) request.now (view_of producer.old) correlation (view_of producer.new))) }
+    ensures refused { IfSome result (λ answer. IfErr answer (λ fault.
+        RefusesRequest (capacity_of ring.now) request.now (view_of producer.old) fault (view_of producer.new))) }
     ensures none { IfNone result (producer.new ≡ producer.old) }
     ensures open_claims { open_claims_of producer.new ≡ open_claims_of producer.old }
     ensures shares { shares_of producer.new ≡ shares_of producer.old }
@@ -66,8 +70,10 @@ fn send_request<R: Wait>(
 impl CommandService {
     /// Writes a message into the ring, as `ManyToOneRing::write` does.
     pub fn send<R: Wait>(&mut self, rt: &R, type_id: i32, body: &[u8]) -> Result<(), ClaimFault>
-        ensures written { OnOk result (AfterTries (capacity_of self.old.ring) type_id (length body.now) (view_of self.old.producer) (λ v. Writes (capacity_of self.old.ring) type_id body.now v (view_of self.new.producer))) }
-        ensures refused { IfErr result (λ fault. AfterTries (capacity_of self.old.ring) type_id (length body.now) (view_of self.old.producer) (λ v. Refuses (capacity_of self.old.ring) type_id (length body.now) v fault (view_of self.new.producer))) }
+        ensures written { OnOk result (WritesAfter (capacity_of self.old.ring) type_id body.now
+            (view_of self.old.producer) (view_of self.new.producer)) }
+        ensures refused { IfErr result (λ fault. RefusesAfter (capacity_of self.old.ring) type_id (length body.now)
+            (view_of self.old.producer) fault (view_of self.new.producer)) }
         ensures conductor { self.new.conductor ≡ self.old.conductor }
     {
         write_message(rt, &self.ring, &mut self.producer, type_id, body)
@@ -79,8 +85,10 @@ impl CommandService {
     /// `None` where the command takes more than 4,096 bytes; all is then as before.
     pub fn request<R: Wait>(&mut self, rt: &R, request: &Request) -> Option<Result<u64, ClaimFault>>
         ensures fits { IsSome result ↔ FitsRoom request.now }
-        ensures sent { IfSome result (λ answer. IfOk answer (λ correlation. SendsRequest (capacity_of self.old.ring) request.now (view_of self.old.producer) correlation (view_of self.new.producer))) }
-        ensures refused { IfSome result (λ answer. IfErr answer (λ fault. RefusesRequest (capacity_of self.old.ring) request.now (view_of self.old.producer) fault (view_of self.new.producer))) }
+        ensures sent { IfSome result (λ answer. IfOk answer (λ correlation. SendsRequest
+            (capacity_of self.old.ring) request.now (view_of self.old.producer) correlation (view_of self.new.producer))) }
+        ensures refused { IfSome result (λ answer. IfErr answer (λ fault. RefusesRequest
+            (capacity_of self.old.ring) request.now (view_of self.old.producer) fault (view_of self.new.producer))) }
         ensures none { IfNone result (self.new.producer ≡ self.old.producer) }
         ensures conductor { self.new.conductor ≡ self.old.conductor }
     {

@@ -1,46 +1,49 @@
 //! The watchers of the counters' values.
-ghost use Rattle.std.specs.Prelude.{◌≡◌, ◌+◌, ◌<◌, ◌↔◌, IfErr, IfNone, IfOk, IfSome, IsOk, MatchResult, MatchOption};
+ghost use Rattle.std.specs.Prelude.{◌≡◌, ◌+◌, ◌<◌, ◌↔◌, IfNone, IfOk, IfSome, IsOk, OnErr, OnSome};
 ghost use Rattle.ring_counters.specs.Manager.{registry_of, writes_of, IsManagerOf};
 ghost use Rattle.ring_counters.specs.Seats.{values_count};
 ghost use Rattle.ring_conductor.specs.Conducting.{KeepsSeats, counters_of, value_shares_of};
-ghost use Rattle.ring_loose.specs.Held.{IsFree, held_count};
+ghost use Rattle.ring_loose.specs.Held.{IsFree, held_count, held_in};
 ghost use Rattle.ring_scenario.specs.Watchers.{AreWatchers, Peeks, Unwatches, Watches};
 
 use super::CommandService;
 use ring_conductor::Conductor;
 use ring_counters::{BadId, CounterValues, NoShares, ValueReader};
-use ring_loose::take_held;
+use ring_loose::Numbered;
 use std::alloc::AllocError;
 
 /// Makes a watcher, and keeps it under the next number, which is given. The room to keep it is made first.
 fn make_watcher(
     values: &CounterValues,
     conductor: &mut Conductor,
-    watchers: &mut Vec<Option<ValueReader>>,
+    watchers: &mut Numbered<ValueReader>,
 ) -> Result<Result<usize, NoShares>, AllocError>
     requires values { IsManagerOf values.now (counters_of conductor.old) }
-    requires watchers { AreWatchers values.now watchers.old.items }
+    requires watchers { AreWatchers values.now watchers.old }
     ensures values { IsManagerOf values.now (counters_of conductor.new) }
-    ensures watchers { AreWatchers values.now watchers.new.items }
-    ensures made { IfOk result (λ made. MatchResult made (λ number. Watches (writes_of (counters_of conductor.old)) watchers.old.items number watchers.new.items) (λ _. (conductor.new ≡ conductor.old) × (watchers.new.items ≡ watchers.old.items))) }
+    ensures watchers { AreWatchers values.now watchers.new }
+    ensures made { IfOk result (λ made. IfOk made (λ number.
+        Watches (writes_of (counters_of conductor.old)) watchers.old number watchers.new)) }
+    ensures same { IfOk result (λ made. OnErr made
+        ((conductor.new ≡ conductor.old) × (held_in watchers.new ≡ held_in watchers.old))) }
     ensures enough { IfOk result (λ made. IsOk made ↔ (1 < value_shares_of conductor.old)) }
-    ensures shares { value_shares_of conductor.new + held_count watchers.new.items ≡ value_shares_of conductor.old + held_count watchers.old.items }
+    ensures shares { value_shares_of conductor.new + held_count (held_in watchers.new)
+        ≡ value_shares_of conductor.old + held_count (held_in watchers.old) }
     ensures registry { registry_of (counters_of conductor.new) ≡ registry_of (counters_of conductor.old) }
     ensures others { KeepsSeats conductor.old conductor.new }
 {
-    watchers.reserve(1)?;
+    watchers.reserve()?;
     let watcher = match conductor.value_reader(values) {
         Ok(watcher) => watcher,
         Err(fault) => return Ok(Err(fault)),
     };
-    watchers.push_reserved(Some(watcher));
-    Ok(Ok(watchers.len()))
+    Ok(Ok(watchers.hold(watcher)))
 }
 
 /// Loads a value for the watcher of this number, if it is here.
 fn load_at(
     values: &CounterValues,
-    watchers: &mut [Option<ValueReader>],
+    watchers: &mut Numbered<ValueReader>,
     number: usize,
     id: u32,
 ) -> Option<Result<i64, BadId>>
@@ -48,38 +51,37 @@ fn load_at(
     ensures watchers { AreWatchers values.now watchers.new }
     ensures in_range { IfSome result (λ loaded. IsOk loaded ↔ (id < values_count values.now)) }
     ensures loaded { IfSome result (λ loaded. IfOk loaded (λ value. Peeks id value watchers.old number watchers.new)) }
-    ensures refused { IfSome result (λ loaded. IfErr loaded (λ _. watchers.new ≡ watchers.old)) }
-    ensures free { IfNone result (IsFree watchers.old number) }
-    ensures count { held_count watchers.new ≡ held_count watchers.old }
+    ensures refused { IfSome result (λ loaded. OnErr loaded (held_in watchers.new ≡ held_in watchers.old)) }
+    ensures free { IfNone result (IsFree (held_in watchers.old) number) }
+    ensures count { held_count (held_in watchers.new) ≡ held_count (held_in watchers.old) }
 {
-    let index = number.checked_sub(1)?;
-    if index >= watchers.len() {
-        return None;
-    }
-    match &mut watchers[index] {
-        Some(watcher) => Some(values.load(watcher, id)),
-        None => None,
-    }
+    let mut watcher = watchers.take(number)?;
+    let loaded = values.load(&mut watcher, id);
+    watchers.put_back(number, watcher);
+    Some(loaded)
 }
 
 /// Joins the watcher of this number, if it is here.
 fn join_watcher(
     values: &CounterValues,
     conductor: &mut Conductor,
-    watchers: &mut [Option<ValueReader>],
+    watchers: &mut Numbered<ValueReader>,
     number: usize,
 ) -> Option<()>
     requires values { IsManagerOf values.now (counters_of conductor.old) }
     requires watchers { AreWatchers values.now watchers.old }
     ensures values { IsManagerOf values.now (counters_of conductor.new) }
     ensures watchers { AreWatchers values.now watchers.new }
-    ensures left { MatchOption result ((conductor.new ≡ conductor.old) × (watchers.new ≡ watchers.old)) (λ _. Unwatches watchers.old number watchers.new) }
-    ensures free { IfNone result (IsFree watchers.old number) }
-    ensures shares { value_shares_of conductor.new + held_count watchers.new ≡ value_shares_of conductor.old + held_count watchers.old }
+    ensures left { OnSome result (Unwatches watchers.old number watchers.new) }
+    ensures same { IfNone result
+        ((conductor.new ≡ conductor.old) × (held_in watchers.new ≡ held_in watchers.old)) }
+    ensures free { IfNone result (IsFree (held_in watchers.old) number) }
+    ensures shares { value_shares_of conductor.new + held_count (held_in watchers.new)
+        ≡ value_shares_of conductor.old + held_count (held_in watchers.old) }
     ensures registry { registry_of (counters_of conductor.new) ≡ registry_of (counters_of conductor.old) }
     ensures others { KeepsSeats conductor.old conductor.new }
 {
-    let watcher = take_held(watchers, number)?;
+    let watcher = watchers.take(number)?;
     conductor.join_value_reader(values, watcher);
     Some(())
 }
@@ -87,7 +89,9 @@ fn join_watcher(
 impl CommandService {
     /// Makes a watcher and gives its number. `NoShares` where one share of the values is left.
     pub fn watch(&mut self) -> Result<Result<usize, NoShares>, AllocError>
-        ensures made { IfOk result (λ made. MatchResult made (λ number. Watches (writes_of (counters_of self.old.conductor)) self.old.watchers.items number self.new.watchers.items) (λ _. self.new.conductor ≡ self.old.conductor)) }
+        ensures made { IfOk result (λ made. IfOk made (λ number.
+            Watches (writes_of (counters_of self.old.conductor)) self.old.watchers number self.new.watchers)) }
+        ensures same { IfOk result (λ made. OnErr made (self.new.conductor ≡ self.old.conductor)) }
         ensures enough { IfOk result (λ made. IsOk made ↔ (1 < value_shares_of self.old.conductor)) }
         ensures registry { registry_of (counters_of self.new.conductor) ≡ registry_of (counters_of self.old.conductor) }
         ensures others { KeepsSeats self.old.conductor self.new.conductor }
@@ -99,16 +103,23 @@ impl CommandService {
     /// below the number of counters.
     pub fn peek(&mut self, number: usize, id: u32) -> Option<Result<i64, BadId>>
         ensures in_range { IfSome result (λ loaded. IsOk loaded ↔ (id < values_count self.old.values)) }
-        ensures loaded { IfSome result (λ loaded. IfOk loaded (λ value. Peeks id value self.old.watchers.items number self.new.watchers.items)) }
-        ensures free { IfNone result (IsFree self.old.watchers.items number) }
+        ensures loaded { IfSome result (λ loaded. IfOk loaded (λ value.
+            Peeks id value self.old.watchers number self.new.watchers)) }
+        ensures refused { IfSome result (λ loaded. OnErr loaded
+            (held_in self.new.watchers ≡ held_in self.old.watchers)) }
+        ensures free { IfNone result (IsFree (held_in self.old.watchers) number) }
+        ensures ring { (self.new.ring ≡ self.old.ring) × (self.new.producer ≡ self.old.producer) }
+        ensures conductor { (self.new.board ≡ self.old.board) × (self.new.conductor ≡ self.old.conductor) }
+        ensures values { (self.new.values ≡ self.old.values) × (self.new.listeners ≡ self.old.listeners) }
     {
         load_at(&self.values, &mut self.watchers, number, id)
     }
 
     /// Takes the watcher of this number away; `None` where it is not here.
     pub fn unwatch(&mut self, number: usize) -> Option<()>
-        ensures left { MatchOption result (self.new.watchers.items ≡ self.old.watchers.items) (λ _. Unwatches self.old.watchers.items number self.new.watchers.items) }
-        ensures free { IfNone result (IsFree self.old.watchers.items number) }
+        ensures left { OnSome result (Unwatches self.old.watchers number self.new.watchers) }
+        ensures same { IfNone result (held_in self.new.watchers ≡ held_in self.old.watchers) }
+        ensures free { IfNone result (IsFree (held_in self.old.watchers) number) }
         ensures registry { registry_of (counters_of self.new.conductor) ≡ registry_of (counters_of self.old.conductor) }
         ensures others { KeepsSeats self.old.conductor self.new.conductor }
     {
@@ -126,7 +137,7 @@ impl CommandService {
         ensures registry { registry_of (counters_of self.new.conductor) ≡ registry_of (counters_of self.old.conductor) }
         ensures others { KeepsSeats self.old.conductor self.new.conductor }
     {
-        for index in 0..self.watchers.len() {
+        for index in 0..self.watchers.drawn() {
             let _ = self.unwatch(index + 1);
         }
     }

@@ -1,6 +1,6 @@
 //! Scripts with the broadcast buffer and its receivers.
-use super::{Row, run, run_with};
-use ring_scenario::{Options, RunFault};
+use super::{Row, run};
+use ring_scenario::RunFault;
 use std::test::Fail;
 
 /// What scripts print.
@@ -242,33 +242,6 @@ fn refuses_a_number_that_is_not_held(rt: HostRuntime) {
         let (outcome, output) = run(&rt, script);
         assert_eq!(rt; outcome, Err(RunFault::BadLine { line }), "{script:?}");
         assert_eq!(rt; output.as_slice(), wanted, "{script:?}");
-    }
-}
-
-#[test]
-fn takes_the_board_of_the_option(rt: HostRuntime) {
-    let options = Options {
-        board: 512,
-        ..Options::default()
-    };
-    let row = Row {
-        what: "takes the board of the option",
-        script: "transmit 1 000102030405060708090a0b0c0d0e0f000102030405060708090a0b0c0d0e0f10\nend\n",
-        wanted: "ok\nend messages 0 left 0\n",
-    };
-    assert!(rt; row.holds_with(&rt, &options));
-}
-
-#[test]
-fn refuses_a_bad_board(rt: HostRuntime) {
-    for board in [0, 64, 128, 255, 257, 384, 33_554_432, u32::MAX] {
-        let options = Options {
-            board,
-            ..Options::default()
-        };
-        let (outcome, output) = run_with(&rt, &options, b"end");
-        assert_eq!(rt; outcome, Err(RunFault::BadCapacity), "{board}");
-        assert!(rt; output.is_empty());
     }
 }
 

@@ -1,6 +1,5 @@
 //! Scripts and what they print.
-use super::{Row, run, run_with};
-use ring_scenario::{Options, RunFault};
+use super::{Row, run};
 
 /// What scripts print.
 const ROWS: [Row; 8] = [
@@ -156,31 +155,4 @@ fn takes_any_spelling_of_a_line(rt: HostRuntime) {
     let (outcome, output) = run(&rt, script);
     assert_eq!(rt; outcome, Ok(()));
     assert_eq!(rt; output.as_slice(), wanted.as_slice());
-}
-
-#[test]
-fn takes_the_capacity_of_the_option(rt: HostRuntime) {
-    let options = Options {
-        ring: 256,
-        ..Options::default()
-    };
-    let row = Row {
-        what: "takes the capacity of the option",
-        script: "write 1 000102030405060708090a0b0c0d0e0f10\nend\n",
-        wanted: "ok\nend messages 0 left 1\n",
-    };
-    assert!(rt; row.holds_with(&rt, &options));
-}
-
-#[test]
-fn refuses_a_bad_capacity(rt: HostRuntime) {
-    for ring in [0, 64, 100, 127, 129, 33_554_432, u32::MAX] {
-        let options = Options {
-            ring,
-            ..Options::default()
-        };
-        let (outcome, output) = run_with(&rt, &options, b"end");
-        assert_eq!(rt; outcome, Err(RunFault::BadCapacity), "{ring}");
-        assert!(rt; output.is_empty());
-    }
 }

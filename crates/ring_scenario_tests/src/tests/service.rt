@@ -1,6 +1,5 @@
 //! Scripts with commands, the conductor and its counters.
 use super::{Row, run};
-use ring_scenario::Options;
 use std::test::Fail;
 
 /// What scripts print.
@@ -265,49 +264,6 @@ fn prints_what_is_wanted(rt: HostRuntime) {
     for row in &ROWS {
         assert!(rt; row.holds(&rt), "{}", row.what);
     }
-}
-
-#[test]
-fn tells_a_listener_that_it_was_lapped(rt: HostRuntime) {
-    let options = Options {
-        replies: 256,
-        ..Options::default()
-    };
-    let row = Row {
-        what: "tells a listener that it was lapped",
-        script: "listen\nfree 9\nfree 9\nfree 9\nfree 9\nfree 9\nfree 9\nfree 9\nfree 9\nfree 9\nfree 9\nfree 9\nwork 0 20\nhear 1\nhear 1\nend\n",
-        wanted: "listener 1\nsent 0\nsent 1\nsent 2\nsent 3\nsent 4\nsent 5\nsent 6\nsent 7\nsent 8\nsent 9\nsent 10\nwork 11 stopped unpublished\nlapped 1\ncopy 103 0a0000000000000014000000 place 256\nend messages 0 left 0\nfinished received 11 left 0 live 0\n",
-    };
-    assert!(rt; row.holds_with(&rt, &options));
-}
-
-#[test]
-fn takes_the_command_ring_of_the_option(rt: HostRuntime) {
-    let options = Options {
-        commands: 128,
-        ..Options::default()
-    };
-    let row = Row {
-        what: "takes the command ring of the option",
-        script: "set 0 1\nfree 0\nend\n",
-        wanted: "refused 5 TooLong 20 max 16\nsent 1\nend messages 0 left 0\nfinished received 0 left 1 live 0\n",
-    };
-    assert!(rt; row.holds_with(&rt, &options));
-}
-
-#[test]
-fn gives_an_id_again_after_the_reuse_time_of_the_option(rt: HostRuntime) {
-    let options = Options {
-        counters: 1,
-        reuse_ms: 3,
-        ..Options::default()
-    };
-    let row = Row {
-        what: "gives an id again after the reuse time of the option",
-        script: "listen\nallocate 1 - -\nfree 0\nwork 5 9\nallocate 1 - -\nwork 7 9\nallocate 1 - -\nwork 8 9\nhear 1\nhear 1\nhear 1\nhear 1\ncounters\nend\n",
-        wanted: "listener 1\nsent 0\nsent 1\nwork 2 stopped unpublished\nsent 2\nwork 1 stopped unpublished\nsent 3\nwork 1 stopped unpublished\ncopy 101 000000000000000000000000 place 0\ncopy 102 0100000000000000 place 24\ncopy 103 020000000000000013000000 place 40\ncopy 101 030000000000000000000000 place 64\ncounter 0 type 1 value 0 registration 3 label -\ncounters 1\nend messages 0 left 0\nfinished received 4 left 0 live 1\n",
-    };
-    assert!(rt; row.holds_with(&rt, &options));
 }
 
 #[test]

@@ -1,6 +1,5 @@
 //! Lines that run clients on threads of their own.
 use super::Row;
-use ring_scenario::Options;
 
 /// What scripts print.
 const ROWS: [Row; 2] = [
@@ -21,18 +20,4 @@ fn prints_what_is_wanted(rt: HostRuntime) {
     for row in &ROWS {
         assert!(rt; row.holds(&rt), "{}", row.what);
     }
-}
-
-#[test]
-fn refuses_a_storm_on_a_small_ring(rt: HostRuntime) {
-    let options = Options {
-        commands: 128,
-        ..Options::default()
-    };
-    let row = Row {
-        what: "refuses a storm on a small ring",
-        script: "storm 1 1\nend\n",
-        wanted: "refused 26 BadPlan\nend messages 0 left 0\n",
-    };
-    assert!(rt; row.holds_with(&rt, &options));
 }

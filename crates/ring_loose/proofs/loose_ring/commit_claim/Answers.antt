@@ -2,16 +2,17 @@ use Rattle.std.proofs.Common.{◌-◌, ap, sym, subst}
 use Rattle.ring_layout.specs.declared.message.ClaimState.TheVariants.{Committed}
 use Rattle.ring_table.specs.declared.view.View.{View}
 use Rattle.ring_loose.specs.Claims.{AreOpen}
+use Rattle.ring_loose.specs.Held.{held_in}
 use Rattle.ring_loose.proofs.ClaimsLemmas.{one_less_open}
 use Rattle.ring_loose.proofs.loose_ring.commit_claim.Goals as goal
 
 pub commit-requires-clause-claim : goal.commit-requires-clause-claim
-commit-requires-clause-claim c = c.requires.claims.open_of (c.args.number - 1) c.in_ok-claim.claim c.in_ok-claim.ensures.taken.0.has
+commit-requires-clause-claim c = c.requires.claims.open_of (c.args.number - 1) c.in_ok-claim.claim c.in_ok-claim.ensures.taken.here.has
 
 pub returns-clause-claims : goal.returns-clause-claims
 returns-clause-claims c =
     let taken = c.in_ok-claim.ensures.taken in
     let change = ap (λ (v : View). v.producer.claims) c.commit.ensures.settled in
-    subst (AreOpen c.args.ring.now c.commit.new.producer) (sym taken.1)
-    (one_less_open c.args.ring.now c.args.producer.now c.commit.new.producer c.args.claims.now (c.args.number - 1) c.in_ok-claim.claim Committed (λ same. absurd cc)
-    c.requires.claims taken.0.has c.commit.ensures.others change)
+    subst (AreOpen c.args.ring.now c.commit.new.producer) (sym taken.given_up)
+    (one_less_open c.args.ring.now c.args.producer.now c.commit.new.producer (held_in c.args.claims.now) (c.args.number - 1) c.in_ok-claim.claim Committed (λ same. absurd cc)
+    c.requires.claims taken.here.has c.commit.ensures.others change)

@@ -1,32 +1,32 @@
-use Rattle.std.proofs.Common.{rules, sym, subst, ◌++◌, ◌∷◌, [], Some, ◌≡◌}
+use Rattle.std.proofs.Common.{subst, sym, Some, ◌++◌, ◌∷◌, []}
 use Rattle.std.specs.Int.{w32}
 use Rattle.std.proofs.lemmas.Int.{to_z-of_z}
-use Rattle.ring_rings.specs.Claiming.{AfterTries, Refuses}
 use Rattle.ring_rings.specs.Seats.{capacity_of, view_of}
-use Rattle.ring_loose.specs.Claims.{AreOpen}
+use Rattle.ring_loose.specs.Claims.{AreOpen, RefusesAfter}
+use Rattle.ring_loose.specs.Held.{held_in}
 use Rattle.ring_loose.proofs.ClaimsLemmas.{one_more_open, same_open}
 use Rattle.ring_loose.proofs.TryLemmas.{gains_claim, keeps_after}
 use Rattle.ring_loose.proofs.loose_ring.make_claim.Goals as goal
 
 pub returns-in-Err-clause-claims : goal.returns-in-Err-clause-claims
 returns-in-Err-clause-claims g c =
-    let items : c.reserve.new.self.items ≡ c.args.claims.now.items = search rules in
     let kept = keeps_after _ _ _ _ _ _ c.in-Err.ensures.refused in
-    subst (AreOpen c.args.ring.now c.claim.new.producer) (sym items) (same_open c.args.ring.now c.args.producer.now c.claim.new.producer c.args.claims.now.items kept.claims c.requires.claims)
+    subst (AreOpen c.args.ring.now c.claim.new.producer) (sym c.reserve.ensures.same)
+    (same_open c.args.ring.now c.args.producer.now c.claim.new.producer (held_in c.args.claims.now) kept.claims c.requires.claims)
 
-pub returns-in-Err-clause-made : goal.returns-in-Err-clause-made
-returns-in-Err-clause-made g c = record {
-  refused = subst (λ n. AfterTries (capacity_of c.args.ring.now) n c.args.len (view_of c.args.producer.now) (λ v. Refuses (capacity_of c.args.ring.now) n c.args.len v c.in-Err.fault (view_of c.claim.new.producer))) (to_z-of_z w32 c.args.type_id c.ranges.type_id) c.in-Err.ensures.refused;
-  same = search rules;
+pub returns-in-Err-clause-tried : goal.returns-in-Err-clause-tried
+returns-in-Err-clause-tried g c = record {
+  refused = subst (λ n. RefusesAfter (capacity_of c.args.ring.now) n c.args.len (view_of c.args.producer.now) c.in-Err.fault (view_of c.claim.new.producer)) (to_z-of_z w32 c.args.type_id c.ranges.type_id) c.in-Err.ensures.refused;
+  same = c.reserve.ensures.same;
 }
 
 pub returns-clause-claims : goal.returns-clause-claims
 returns-clause-claims g c =
-    let items : c.push_reserved.new.self.items ≡ c.args.claims.now.items ++ Some c.in-Ok.claim ∷ [] = search rules in
     let gained = gains_claim _ _ _ c.in-Ok.claim _ _ c.in-Ok.ensures.claimed in
-    subst (AreOpen c.args.ring.now c.claim.new.producer) (sym items)
-    (one_more_open c.args.ring.now c.args.producer.now c.claim.new.producer c.args.claims.now.items c.in-Ok.claim gained.0 c.requires.claims c.claim.ensures.claims
-    c.in-Ok.ensures.is_open c.in-Ok.ensures.apart gained.1 gained.2.claims)
+    subst (AreOpen c.args.ring.now c.claim.new.producer) (sym c.hold-number.ensures.held)
+    (subst (λ l. AreOpen c.args.ring.now c.claim.new.producer (l ++ Some c.in-Ok.claim ∷ [])) (sym c.reserve.ensures.same)
+    (one_more_open c.args.ring.now c.args.producer.now c.claim.new.producer (held_in c.args.claims.now) c.in-Ok.claim gained.0 c.requires.claims c.claim.ensures.claims
+    c.in-Ok.ensures.is_open c.in-Ok.ensures.apart gained.1 gained.2.claims))
 
 pub returns-in-Err-clause-shares : goal.returns-in-Err-clause-shares
 returns-in-Err-clause-shares g c = (keeps_after _ _ _ _ _ _ c.in-Err.ensures.refused).shares

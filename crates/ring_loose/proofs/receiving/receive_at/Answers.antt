@@ -1,29 +1,25 @@
-use Rattle.std.proofs.Common.{◌≡◌, ◌∙◌, None, Some, ap, slice_set, subst, arith}
-use Rattle.std.proofs.lemmas.List.{get_or_default}
+use Rattle.std.proofs.Common.{◌-◌}
 use Rattle.std.proofs.lemmas.Result.{IfOk-weaker}
 use Rattle.ring_board.specs.Seats.{IsReceiverOf}
-use Rattle.ring_loose.specs.Held.{HasAt, IsHeld}
-use Rattle.ring_loose.proofs.HeldLemmas.{of_set}
+use Rattle.ring_loose.specs.Held.{Stays, held_in}
+use Rattle.ring_loose.proofs.HeldLemmas.{count_stays, of_stays, stays, vacated}
 use Rattle.ring_loose.proofs.receiving.receive_at.Goals as goal
 
-pub of-requires : goal.of-requires
-of-requires c =
-    c.requires c.in_ok-index.index c.in-Some.receiver
-    (get_or_default c.args.receivers.now c.in_ok-index.index None c.index-receivers-index.result c.if-index-receivers.false ∙ c.in-Some.is)
+pub of-received-requires : goal.of-received-requires
+of-received-requires c = c.requires (c.args.number - 1) c.in_ok-receiver.receiver c.in_ok-receiver.ensures.taken.here.has
 
-pub returns-in-Some-clause-receivers : goal.returns-in-Some-clause-receivers
-returns-in-Some-clause-receivers c =
-    let new = c.of.new.receiver in
-    let board = c.args.board.now in
-    of_set (IsReceiverOf board) c.args.receivers.now c.in_ok-index.index (Some new) c.requires c.if-index-receivers.false
-    (λ x e. let same : new ≡ x = cc in subst (IsReceiverOf board) same c.of.ensures.receiver)
+pub put_back-requires : goal.put_back-requires
+put_back-requires c = vacated _ _ _ _ c.in_ok-receiver.ensures.taken
 
-pub returns-in-Some-clause-told : goal.returns-in-Some-clause-told
-returns-in-Some-clause-told c =
-    let receivers = c.args.receivers.now in
-    let index = c.in_ok-index.index in
-    let at = c.in_ok-index.ensures in
-    let has : HasAt receivers index c.in-Some.receiver = get_or_default receivers index None c.index-receivers-index.result c.if-index-receivers.false ∙ c.in-Some.is in
-    let here : IsHeld receivers c.args.number c.in-Some.receiver =
-    record { positive = omega (arith, at.0); has = subst (λ i. HasAt receivers i c.in-Some.receiver) at.1 has } in
-    IfOk-weaker c.of.result _ _ (λ told h. record { before = c.in-Some.receiver; after = c.of.new.receiver; here = here; told_it = h; others = ap (λ i. slice_set receivers i (Some c.of.new.receiver)) at.1 }) c.of.ensures.told
+pub returns-clause-receivers : goal.returns-clause-receivers
+returns-clause-receivers c =
+    let held = stays _ _ _ _ _ _ c.in_ok-receiver.ensures.taken c.put_back.ensures in
+    of_stays (IsReceiverOf c.args.board.now) _ _ _ _ _ c.requires held c.of-received.ensures.receiver
+
+pub returns-clause-told : goal.returns-clause-told
+returns-clause-told c =
+    let held = stays _ _ _ _ _ _ c.in_ok-receiver.ensures.taken c.put_back.ensures in
+    IfOk-weaker c.of-received.result _ _ (λ told h. record { before = c.in_ok-receiver.receiver; after = c.of-received.new.receiver; told_it = h; stays = held }) c.of-received.ensures.told
+
+pub returns-clause-count : goal.returns-clause-count
+returns-clause-count c = count_stays _ _ _ _ _ (stays _ _ _ _ _ _ c.in_ok-receiver.ensures.taken c.put_back.ensures)

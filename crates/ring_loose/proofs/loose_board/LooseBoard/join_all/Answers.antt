@@ -1,5 +1,5 @@
 use Rattle.std.proofs.Common.{◌≡◌, arith}
-use Rattle.ring_loose.specs.Held.{held_count}
+use Rattle.ring_loose.specs.Held.{held_count, held_in}
 use Rattle.ring_loose.proofs.HeldLemmas.{count_none}
 use Rattle.ring_loose.proofs.loose_board.LooseBoard.join_all.Goals as goal
 
@@ -7,5 +7,5 @@ pub returns : goal.returns
 returns c =
     let board = c.loop-index.self in
     let left = c.loop-index.invariant in
-    let gone : held_count board.receivers.items ≡ 0 = count_none board.receivers.items (λ k lt. left.1 k (omega (arith, left.0, c.loop-index-test.false))) in
+    let gone : held_count (held_in board.receivers) ≡ 0 = count_none (held_in board.receivers) (λ k lt. left.1 k (omega (arith, left.0, c.loop-index-test.false))) in
     let shares = board.shares in omega arith

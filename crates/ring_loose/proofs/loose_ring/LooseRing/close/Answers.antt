@@ -1,6 +1,7 @@
 use Rattle.std.proofs.Common.{◌≡◌, false, true, IsOk, ap, subst, sym}
 use Rattle.ring_rings.specs.Seats.{claims_of}
 use Rattle.ring_loose.specs.Claims.{HoldsNothing}
+use Rattle.ring_loose.specs.Held.{held_in}
 use Rattle.ring_loose.specs.Loose.{Loose}
 use Rattle.ring_loose.proofs.ClaimsLemmas.{none_counted}
 use Rattle.ring_loose.proofs.LooseLemmas.{not_refused}
@@ -9,7 +10,7 @@ use Rattle.ring_loose.proofs.loose_ring.LooseRing.close.Goals as goal
 pub unreachable-requires : goal.unreachable-requires
 unreachable-requires c =
     let inside = c.self.inside in
-    let held : inside.claims.items ≡ c.abort_all.new.self.holder.claims = ap (λ (l : Loose). l.holder.claims) c.self.view_is in
-    let none = none_counted (claims_of inside.producer) inside.claims.items (subst HoldsNothing (sym held) c.abort_all.ensures.none) c.self.invariant.held.all in
+    let held : held_in inside.claims ≡ c.abort_all.new.self.holder.claims = ap (λ (l : Loose). l.holder.claims) c.self.view_is in
+    let none = none_counted (claims_of inside.producer) (held_in inside.claims) (subst HoldsNothing (sym held) c.abort_all.ensures.none) c.self.invariant.held.all in
     let ok = not_refused _ _ _ c.close.result none c.self.invariant.alone c.close.ensures.refused in
     let clash : false ≡ true = subst IsOk c.in-Err.is ok in absurd cc

@@ -3,6 +3,7 @@ use Rattle.std.specs.Int.{w32}
 use Rattle.std.proofs.lemmas.Int.{to_z-of_z}
 use Rattle.ring_rings.specs.Seats.{capacity_of, view_of}
 use Rattle.ring_loose.specs.Claims.{Declines, holder}
+use Rattle.ring_loose.specs.Held.{held_in}
 use Rattle.ring_loose.specs.Loose.{Loose}
 use Rattle.ring_loose.proofs.ClaimsLemmas.{still_open}
 use Rattle.ring_loose.proofs.TryLemmas.{declines, wrote}
@@ -17,7 +18,7 @@ invariant_of-self g c =
 pub returns-clause-refused : goal.returns-clause-refused
 returns-clause-refused g c =
     let inside = c.self.inside in
-    let new = holder (view_of c.write.new.producer) inside.claims.items in
-    let faults = declines c.write.result _ _ _ (holder (view_of inside.producer) inside.claims.items) new refl c.write.ensures.refused in
+    let new = holder (view_of c.write.new.producer) (held_in inside.claims) in
+    let faults = declines c.write.result _ _ _ (holder (view_of inside.producer) (held_in inside.claims)) new refl c.write.ensures.refused in
     subst (λ (l : Loose). IfErr c.write.result (λ fault. Declines l.capacity l.holder c.args.type_id (length c.args.body.now) fault new)) c.self.view_is
-    (subst (λ n. IfErr c.write.result (λ fault. Declines (capacity_of inside.ring) (holder (view_of inside.producer) inside.claims.items) n (length c.args.body.now) fault new)) (to_z-of_z w32 c.args.type_id c.ranges.type_id) faults)
+    (subst (λ n. IfErr c.write.result (λ fault. Declines (capacity_of inside.ring) (holder (view_of inside.producer) (held_in inside.claims)) n (length c.args.body.now) fault new)) (to_z-of_z w32 c.args.type_id c.ranges.type_id) faults)

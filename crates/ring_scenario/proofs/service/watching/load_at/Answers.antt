@@ -1,35 +1,29 @@
-use Rattle.std.proofs.Common.{◌≡◌, ◌∙◌, None, Some, ap, slice_set, subst, sym, arith}
-use Rattle.std.proofs.lemmas.List.{set-get_or, get_or_default}
+use Rattle.std.proofs.Common.{◌-◌}
 use Rattle.ring_counters.specs.Seats.{IsReaderOf}
-use Rattle.ring_loose.specs.Held.{HasAt, IsHeld}
-use Rattle.ring_loose.proofs.HeldLemmas.{of_set}
-use Rattle.ring_scenario.proofs.ServiceLemmas.{IfErr-weaker, IfOk-both}
+use Rattle.ring_loose.proofs.HeldLemmas.{count_stays, of_stays, stays, stays_same, vacated}
+use Rattle.ring_scenario.proofs.ServiceLemmas.{OnErr-from, peeks}
 use Rattle.ring_scenario.proofs.service.watching.load_at.Goals as goal
 
-pub load-requires : goal.load-requires
-load-requires c =
-    c.requires c.in_ok-index.index c.in-Some.watcher
-    (get_or_default c.args.watchers.now c.in_ok-index.index None c.index-watchers-index.result c.if-index-watchers.false ∙ c.in-Some.is)
+pub load-loaded-requires : goal.load-loaded-requires
+load-loaded-requires c = c.requires (c.args.number - 1) c.in_ok-watcher.watcher c.in_ok-watcher.ensures.taken.here.has
 
-pub returns-in-Some-clause-watchers : goal.returns-in-Some-clause-watchers
-returns-in-Some-clause-watchers c =
-    let new = c.load.new.reader in
-    let values = c.args.values.now in
-    of_set (IsReaderOf values) c.args.watchers.now c.in_ok-index.index (Some new) c.requires c.if-index-watchers.false
-    (λ x e. let same : new ≡ x = cc in subst (IsReaderOf values) same c.load.ensures.reader)
+pub put_back-requires : goal.put_back-requires
+put_back-requires c = vacated _ _ _ _ c.in_ok-watcher.ensures.taken
 
-pub returns-in-Some-clause-loaded : goal.returns-in-Some-clause-loaded
-returns-in-Some-clause-loaded c =
-    let watchers = c.args.watchers.now in
-    let index = c.in_ok-index.index in
-    let at = c.in_ok-index.ensures in
-    let has : HasAt watchers index c.in-Some.watcher = get_or_default watchers index None c.index-watchers-index.result c.if-index-watchers.false ∙ c.in-Some.is in
-    let here : IsHeld watchers c.args.number c.in-Some.watcher =
-    record { positive = omega (arith, at.0); has = subst (λ i. HasAt watchers i c.in-Some.watcher) at.1 has } in
-    IfOk-both c.load.result _ _ _ (λ value h later. record { before = c.in-Some.watcher; after = c.load.new.reader; here = here; value_is = h; later = later; others = ap (λ i. slice_set watchers i (Some c.load.new.reader)) at.1 }) c.load.ensures.value c.load.ensures.later
+pub returns-clause-watchers : goal.returns-clause-watchers
+returns-clause-watchers c =
+    let held = stays _ _ _ _ _ _ c.in_ok-watcher.ensures.taken c.put_back.ensures in
+    of_stays (IsReaderOf c.args.values.now) _ _ _ _ _ c.requires held c.load-loaded.ensures.reader
 
-pub returns-in-Some-clause-refused : goal.returns-in-Some-clause-refused
-returns-in-Some-clause-refused c =
-    let watchers = c.args.watchers.now in
-    let index = c.in_ok-index.index in
-    IfErr-weaker c.load.result _ _ (λ fault same. ap (λ r. slice_set watchers index (Some r)) same ∙ (ap (λ o. slice_set watchers index o) (sym c.in-Some.is) ∙ set-get_or watchers index c.index-watchers-index.result)) c.load.ensures.err
+pub returns-clause-loaded : goal.returns-clause-loaded
+returns-clause-loaded c =
+    let held = stays _ _ _ _ _ _ c.in_ok-watcher.ensures.taken c.put_back.ensures in
+    let load = c.load-loaded.ensures in peeks c.load-loaded.result _ _ _ c.in_ok-watcher.watcher c.load-loaded.new.reader _ held load.value load.loaded load.later
+
+pub returns-clause-refused : goal.returns-clause-refused
+returns-clause-refused c =
+    let held = stays _ _ _ _ _ _ c.in_ok-watcher.ensures.taken c.put_back.ensures in
+    OnErr-from c.load-loaded.result _ _ (stays_same _ _ _ _ _ held) c.load-loaded.ensures.err
+
+pub returns-clause-count : goal.returns-clause-count
+returns-clause-count c = count_stays _ _ _ _ _ (stays _ _ _ _ _ _ c.in_ok-watcher.ensures.taken c.put_back.ensures)

@@ -1,15 +1,16 @@
-use Rattle.std.proofs.Common.{rules, sym, subst, ◌++◌, ◌∷◌, [], Some, ◌≡◌}
+use Rattle.std.proofs.Common.{subst}
 use Rattle.ring_counters.specs.Seats.{IsReaderOf}
-use Rattle.ring_scenario.specs.Watchers.{AreWatchers}
-use Rattle.ring_loose.proofs.HeldLemmas.{of_pushed}
+use Rattle.ring_loose.specs.Held.{Comes, held_in}
+use Rattle.ring_loose.proofs.HeldLemmas.{of_comes}
 use Rattle.ring_scenario.proofs.service.watching.make_watcher.Goals as goal
 
 pub returns-clause-watchers : goal.returns-clause-watchers
 returns-clause-watchers c =
-    let values = c.args.values.now in
-    let items : c.push_reserved.new.self.items ≡ c.args.watchers.now.items ++ Some c.in-Ok.watcher ∷ [] = search rules in
-    subst (AreWatchers values) (sym items) (of_pushed (IsReaderOf values) c.args.watchers.now.items c.in-Ok.watcher c.requires.watchers c.in-Ok.ensures.reader)
+    let comes = subst (λ l. Comes c.in-Ok.watcher l c.hold.result (held_in c.hold.new.self)) c.reserve.ensures.same c.hold.ensures in
+    of_comes (IsReaderOf c.args.values.now) _ _ _ _ c.requires.watchers comes c.in-Ok.ensures.reader
 
 pub returns-clause-made : goal.returns-clause-made
 returns-clause-made c =
-    let made = c.in-Ok.ensures.made in record { reader = c.in-Ok.watcher; knows = made.1; unread = made.2; held = search rules; number = search rules }
+    let made = c.in-Ok.ensures.made in
+    let comes = subst (λ l. Comes c.in-Ok.watcher l c.hold.result (held_in c.hold.new.self)) c.reserve.ensures.same c.hold.ensures in
+    record { reader = c.in-Ok.watcher; knows = made.1; unread = made.2; comes = comes }
