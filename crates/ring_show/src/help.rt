@@ -1,8 +1,22 @@
 //! The texts of the help.
 
-pub const ABOUT: &str = "Shows what lies in a ring, from a copy of its memory in a file.";
+pub const ABOUT: &str =
+    "Shows what lies in a ring or in counters, from a copy of their memory in a file.";
 
 pub const RING: &str = "Lists the records of a ring between its head and its tail";
+
+pub const COUNTERS: &str = "Lists the counters in use and those that were freed, by rising id";
+
+pub const METADATA: &str =
+    "The file with the copy of the metadata, to which --at and --length belong";
+
+pub const VALUES: &str = "The file with the copy of the values; it may be the same file";
+
+pub const VALUES_AT: &str = "Where the copy of the values begins in its file [default: 0]";
+
+pub const VALUES_LENGTH: &str = "How many bytes it has [default: up to the end of the file]";
+
+pub const FROM_ID: &str = "List from this id on";
 
 pub const FILE: &str = "The file with the copy";
 

@@ -83,15 +83,11 @@ pub fn words_of(alloc: Global, bytes: &[u8]) -> Result<Vec<u64>, ShowFault> {
 }
 
 /// The words of a section of a file.
-pub fn words<R: AllocGlobal + Files>(
-    rt: &R,
-    file: &str,
-    section: Section,
-) -> Result<Vec<u64>, ShowFault> {
+pub fn words<R: AllocGlobal + Files>(rt: &R, section: Section<'_>) -> Result<Vec<u64>, ShowFault> {
     if section.at > MAX_SKIP {
         return Err(ShowFault::InputTooShort);
     }
-    let mut reader = fs::open(rt, file).map_err(|_| ShowFault::InputUnread)?;
+    let mut reader = fs::open(rt, section.file).map_err(|_| ShowFault::InputUnread)?;
     skip(&mut reader, section.at)?;
     let bytes = read_section(rt.alloc(), &mut reader, section.length)?;
     words_of(rt.alloc(), bytes.as_slice())

@@ -1,8 +1,9 @@
-//! Shows what lies in a ring: reads a copy of its memory from a file, and prints a
-//! table that a person reads, or JSON.
+//! Shows what lies in a ring, or in counters: reads a copy of their memory from files,
+//! and prints a table that a person reads, or JSON.
 #![tactic(auto)]
 
 mod bodies;
+mod counters;
 mod fault;
 mod help;
 mod input;
@@ -74,9 +75,14 @@ fn run<R: AllocGlobal + Env + Files + Print + Eprint>(rt: &R) -> Result<ExitCode
 fn report_of<R: AllocGlobal + Files>(rt: &R, options: &Options<'_>) -> Result<Report, ShowFault> {
     let alloc = rt.alloc();
     match options.subject {
-        Subject::Ring { file } => {
-            let words = input::words(rt, file, options.section)?;
+        Subject::Ring(section) => {
+            let words = input::words(rt, section)?;
             ring::report(alloc, words.as_slice(), options)
+        }
+        Subject::Counters { metadata, values } => {
+            let metadata = input::words(rt, metadata)?;
+            let values = input::words(rt, values)?;
+            counters::report(alloc, metadata.as_slice(), values.as_slice(), options)
         }
     }
 }

@@ -3,10 +3,22 @@ use crate::help;
 use clap::{Arg, ArgAction, ArgMatches, Command, Error, value_parser};
 use std::alloc::Global;
 
+/// A section of a file, in bytes. Without a length it goes to the file's end.
+#[derive(Clone, Copy, Debug)]
+pub struct Section<'a> {
+    pub file: &'a str,
+    pub at: u64,
+    pub length: Option<u64>,
+}
+
 /// What is shown, and where its memory lies.
 #[derive(Clone, Copy, Debug)]
 pub enum Subject<'a> {
-    Ring { file: &'a str },
+    Ring(Section<'a>),
+    Counters {
+        metadata: Section<'a>,
+        values: Section<'a>,
+    },
 }
 
 /// How the bytes of messages, keys and labels are shown.
@@ -24,18 +36,10 @@ pub enum Format {
     Json,
 }
 
-/// A section of a file, in bytes. Without a length it goes to the file's end.
-#[derive(Clone, Copy, Debug, PartialEq, Eq)]
-pub struct Section {
-    pub at: u64,
-    pub length: Option<u64>,
-}
-
 /// A command line that was taken.
 #[derive(Clone, Copy, Debug)]
 pub struct Options<'a> {
     pub subject: Subject<'a>,
-    pub section: Section,
     pub from: Option<u64>,
     pub bodies: Bodies,
     pub format: Format,
@@ -84,12 +88,19 @@ fn command<'a>(alloc: Global) -> Result<Command<'a>, Error> {
     let ring = shown(alloc, "ring", help::RING)?
         .arg(file(alloc, "FILE", help::FILE))?
         .arg(number(alloc, "from", "POSITION", help::FROM))?;
+    let counters = shown(alloc, "counters", help::COUNTERS)?
+        .arg(file(alloc, "METADATA", help::METADATA))?
+        .arg(file(alloc, "VALUES", help::VALUES))?
+        .arg(number(alloc, "values-at", "BYTES", help::VALUES_AT))?
+        .arg(number(alloc, "values-length", "BYTES", help::VALUES_LENGTH))?
+        .arg(number(alloc, "from", "ID", help::FROM_ID))?;
     let command = Command::new(alloc, "ring-show")
         .bin_name("ring-show")?
         .about(help::ABOUT)
         .after_help(help::AFTER)
         .subcommand_required(true)
-        .subcommand(ring)?;
+        .subcommand(ring)?
+        .subcommand(counters)?;
     Ok(command)
 }
 
@@ -97,19 +108,28 @@ fn command<'a>(alloc: Global) -> Result<Command<'a>, Error> {
 pub fn parse<'a>(alloc: Global, words: &'a [String]) -> Result<Options<'a>, Error> {
     let mut matches = command(alloc)?.try_get_matches_from(words)?;
     match matches.remove_subcommand() {
-        Some((_name, inner)) => Ok(options_of(&inner)),
-        None => Ok(options_of(&matches)),
+        Some((name, inner)) => Ok(options_of(name, &inner)),
+        None => Ok(options_of("", &matches)),
     }
 }
 
-fn options_of<'a>(matches: &ArgMatches<'a>) -> Options<'a> {
+/// The section that these three arguments name.
+fn named_section<'a>(matches: &ArgMatches<'a>, file: &str, at: &str, length: &str) -> Section<'a> {
+    Section {
+        file: matches.get_str(file).unwrap_or(""),
+        at: matches.get_one(at).unwrap_or(0),
+        length: matches.get_one(length),
+    }
+}
+
+fn options_of<'a>(name: &str, matches: &ArgMatches<'a>) -> Options<'a> {
     Options {
-        subject: Subject::Ring {
-            file: matches.get_str("FILE").unwrap_or(""),
-        },
-        section: Section {
-            at: matches.get_one("at").unwrap_or(0),
-            length: matches.get_one("length"),
+        subject: match name {
+            "counters" => Subject::Counters {
+                metadata: named_section(matches, "METADATA", "at", "length"),
+                values: named_section(matches, "VALUES", "values-at", "values-length"),
+            },
+            _ => Subject::Ring(named_section(matches, "FILE", "at", "length")),
         },
         from: matches.get_one("from"),
         bodies: match matches.get_str("bodies") {

@@ -1,4 +1,5 @@
 //! What is shown, whatever it is and however it is printed.
+use std::alloc::{AllocError, Global};
 
 /// A value in a table.
 #[derive(Debug, Drop)]
@@ -39,4 +40,28 @@ pub struct Report {
     pub rows: Vec<Vec<Cell>>,
     pub summary: String,
     pub findings: Vec<String>,
+}
+
+impl Report {
+    /// The report of memory that is not what it is said to be.
+    pub fn refused(
+        alloc: Global,
+        kind: &'static str,
+        list: &'static str,
+        summary: &str,
+        finding: String,
+    ) -> Result<Report, AllocError> {
+        let mut findings = Vec::new(alloc);
+        findings.push(finding)?;
+        Ok(Report {
+            kind,
+            fields: Vec::new(alloc),
+            picture: String::new(alloc),
+            list,
+            columns: Vec::new(alloc),
+            rows: Vec::new(alloc),
+            summary: String::from_str(alloc, summary)?,
+            findings,
+        })
+    }
 }

@@ -192,24 +192,15 @@ fn summary(alloc: Global, ring: &RingSnapshot<'_>, tally: Tally) -> Result<Strin
 
 /// What lies in the words of a ring.
 pub fn report(alloc: Global, words: &[u64], options: &Options<'_>) -> Result<Report, ShowFault> {
-    let mut findings = Vec::new(alloc);
     let ring = match RingSnapshot::new(words) {
         Ok(ring) => ring,
         Err(finding) => {
-            findings.push(format!(in alloc; "{finding}")?)?;
-            return Ok(Report {
-                kind: "ring",
-                fields: Vec::new(alloc),
-                picture: String::new(alloc),
-                list: "records",
-                columns: Vec::new(alloc),
-                rows: Vec::new(alloc),
-                summary: String::from_str(alloc, "not a ring")?,
-                findings,
-            });
+            let text = format!(in alloc; "{finding}")?;
+            return Ok(Report::refused(alloc, "ring", "records", "not a ring", text)?);
         }
     };
     let gathered = gather(alloc, &ring, options)?;
+    let mut findings = Vec::new(alloc);
     if let Some(finding) = gathered.finding {
         findings.push(format!(in alloc; "{finding}")?)?;
     }

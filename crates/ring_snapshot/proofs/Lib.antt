@@ -1,1 +1,4 @@
 pub mod ListingLemmas
+pub mod CounterLemmas
+pub mod WriteLemmas
+pub mod BoardLemmas

@@ -1,22 +1,21 @@
 -- The words of a history list its records.
 use Rattle.std.proofs.Common.{◌≡◌, ℕ, zero, suc, ◌+◌, ◌-◌, ◌*◌, ◌/◌, ◌%◌, ◌^◌, ◌<◌, ◌≤◌, List, [], ◌∷◌, ◌++◌, length, drop, slice_index, refl, ap, sym, ◌∙◌, arith, inl, inr, ℤ, pos, negsuc, neg_ℤ, nat_abs, ◌≤ℤ◌, true, false, Ok, Err, rules}
-use Rattle.std.specs.Prelude.{int_lt, int_le, ◌==◌, nat_le, nat_lt, not, ◌&&◌, if◌then◌else◌}
-use Rattle.std.specs.Int.{from_le_bytes, cast_signed, w32, w64}
+use Rattle.std.specs.Prelude.{int_lt, not, ◌&&◌, if◌then◌else◌}
+use Rattle.std.specs.Int.{from_le_bytes, w64}
 use Rattle.std.proofs.lemmas.Int.{ints}
 use Rattle.std.proofs.lemmas.Bool.{cases_lt, lt-ltb, le-ltb, le-leb, lt-leb, ne_eqb, cond-true, cond-false}
 use Rattle.std.proofs.lemmas.List.{ext_get_or, get_or-drop, get_or_past}
 use Rattle.std.proofs.lemmas.List.FromFn.{length-map-range_with_len, get_or-map-range_with_len}
 use Rattle.std.proofs.lemmas.List.Elements.{All-head, All-tail, All-get_or}
 use Rattle.ring_layout.specs.declared.message.Claim.{Claim}
-use Rattle.ring_layout.specs.declared.message.ClaimState.{ClaimState}
 use Rattle.ring_layout.specs.declared.message.ClaimState.TheVariants.{Open, Committed, Aborted}
 use Rattle.ring_layout.specs.History.{IsMessage, span_of, span}
 use Rattle.ring_layout.specs.Places.{IsCapacity, index, room, next_place, end_of}
-use Rattle.ring_layout.specs.Picture.{word_at, claim_word}
+use Rattle.ring_layout.specs.Picture.{claim_word}
 use Rattle.ring_layout.specs.Headers.{header, header_of, padding_type}
 use Rattle.ring_layout.proofs.Laps.{index_step, mod_aligned}
 use Rattle.ring_layout.proofs.CapacityLemmas.{capacity_blocks}
-use Rattle.ring_layout.proofs.PlaceLemmas.{next_le, next_cases, next_within, next_aligned, next_fixed, span_bounds, end_of_le}
+use Rattle.ring_layout.proofs.PlaceLemmas.{next_le, next_cases, next_within, next_aligned, span_bounds, end_of_le}
 use Rattle.ring_layout.proofs.PictureLemmas.{word_at_padding_header, word_at_record, word_at_rest}
 use Rattle.ring_layout.proofs.HeaderLemmas.{len_of-header, type_of-header, fits_pos, fits_neg}
 use Rattle.ring_layout.proofs.WordBytes.{byte_of_word}

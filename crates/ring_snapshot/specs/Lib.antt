@@ -1,1 +1,5 @@
 pub mod RingRecords
+pub mod CounterWords
+pub mod CounterRecords
+pub mod BoardRecords
+pub mod WordLists

@@ -1,5 +1,5 @@
 -- The records in the words of a ring, whatever these are, and those of a history. Positions are running byte counts, and C is the capacity of the buffer.
-use Rattle.std.specs.Prelude.{◌≡◌, ℕ, zero, suc, ◌+◌, ◌-◌, ◌*◌, ◌/◌, ◌%◌, ◌^◌, ◌<◌, ◌≤◌, Bool, true, ◌&&◌, ◌==◌, not, nat_le, nat_lt, int_lt, int_le, if◌then◌else◌, ℤ, pos, nat_abs, List, [], ◌∷◌, ◌++◌, All, length, slice_index, Result, Ok, Err, Option, Some, None, ◌||◌}
+use Rattle.std.specs.Prelude.{◌≡◌, ℕ, zero, suc, ◌+◌, ◌-◌, ◌*◌, ◌/◌, ◌%◌, ◌^◌, ◌<◌, ◌≤◌, Bool, ◌&&◌, ◌==◌, not, nat_le, nat_lt, int_lt, int_le, if◌then◌else◌, ℤ, pos, nat_abs, List, [], ◌∷◌, ◌++◌, All, length, slice_index, Result, Ok, Err, Option, Some, None, ◌||◌}
 use Rattle.std.specs.Int.{cast_signed, w32}
 use Rattle.ring_layout.specs.declared.message.Claim.{Claim}
 use Rattle.ring_layout.specs.declared.message.ClaimState.{ClaimState}
@@ -11,7 +11,6 @@ use Rattle.ring_layout.specs.Headers.{padding_type}
 use Rattle.ring_layout.specs.Layout.{tail_index, head_index}
 use Rattle.ring_counters.specs.Records.{bytes_at}
 use Rattle.ring_snapshot.specs.declared.record.Record.{Record}
-use Rattle.ring_snapshot.specs.declared.record.RecordState.{RecordState}
 use Rattle.ring_snapshot.specs.declared.record.RecordState.TheVariants.{Open, Committed, Aborted, AbortedOrPadding, Unstored}
 use Rattle.ring_snapshot.specs.declared.ring_finding.RingFinding.{RingFinding}
 use Rattle.ring_snapshot.specs.declared.ring_finding.RingFinding.TheVariants.{UnalignedPosition, TailBeforeHead, TailTooFar, OutsideOfRecords, BadLength, BadType}

@@ -1,16 +1,30 @@
-//! What lies in the words of a ring: read from a copy of its memory, whatever
-//! that holds.
+//! What lies in the words of a ring, a board, and of counters: read from a copy of
+//! their memory, whatever that holds; and writing such a copy.
 #![tactic(auto)]
 
+mod board;
+mod board_finding;
+mod board_record;
 mod body;
+mod counter;
+mod counters;
+mod counters_finding;
 mod record;
 mod ring;
 mod ring_finding;
+mod write;
 
+pub use board::{BoardRecords, BoardSnapshot};
+pub use board_finding::BoardFinding;
+pub use board_record::BoardRecord;
 pub use body::Body;
+pub use counter::{Counter, CounterState};
+pub use counters::{Counters, CountersSnapshot};
+pub use counters_finding::CountersFinding;
 pub use record::{Record, RecordState};
 pub use ring::{Records, RingSnapshot};
 pub use ring_finding::RingFinding;
+pub use write::{CounterMetadata, CounterValueWords, Words, write_words};
 
 #[cfg(test)]
 mod tests;

@@ -1,0 +1,147 @@
+//! The report of counters.
+use crate::bodies;
+use crate::fault::ShowFault;
+use crate::options::{Bodies, Options};
+use crate::report::{Cell, Column, Field, Report};
+use ring_layout::counter_descriptor::NOT_FREE_FOR_REUSE;
+use ring_snapshot::{Body, Counter, CounterState, CountersFinding, CountersSnapshot};
+use std::alloc::{AllocError, Global};
+
+fn state_name(state: CounterState) -> &'static str {
+    match state {
+        CounterState::Allocated => "in use",
+        CounterState::Reclaimed => "freed",
+    }
+}
+
+fn columns(alloc: Global, bodies: Bodies) -> Result<Vec<Column>, AllocError> {
+    let mut columns = Vec::new(alloc);
+    for (name, is_number) in [
+        ("id", true),
+        ("state", false),
+        ("type", true),
+        ("value", true),
+        ("registration", true),
+        ("owner", true),
+        ("deadline", true),
+        ("label", false),
+    ] {
+        columns.push(Column { name, is_number })?;
+    }
+    if bodies != Bodies::None {
+        columns.push(Column {
+            name: "key",
+            is_number: false,
+        })?;
+    }
+    Ok(columns)
+}
+
+/// A key without the zeros at its end: memory does not tell how long it is.
+fn key_cell(alloc: Global, bodies: Bodies, key: Body<'_>) -> Result<Cell, AllocError> {
+    let bytes: Vec<u8> = key.collect(alloc)?;
+    let mut len = 0;
+    for (k, byte) in bytes.iter().enumerate() {
+        if *byte != 0 {
+            len = k + 1;
+        }
+    }
+    bodies::cell(alloc, bodies, &bytes[..len.min(bytes.len())])
+}
+
+fn row(alloc: Global, bodies: Bodies, counter: Counter<'_>) -> Result<Vec<Cell>, AllocError> {
+    let mut row = Vec::new(alloc);
+    row.push(Cell::Unsigned(u64::from(counter.id)))?;
+    row.push(Cell::Text(String::from_str(alloc, state_name(counter.state))?))?;
+    row.push(Cell::Signed(i64::from(counter.type_id)))?;
+    row.push(Cell::Signed(counter.value))?;
+    row.push(Cell::Unsigned(counter.registration))?;
+    row.push(Cell::Unsigned(counter.owner))?;
+    row.push(if counter.deadline == NOT_FREE_FOR_REUSE {
+        Cell::Nothing
+    } else {
+        Cell::Unsigned(counter.deadline)
+    })?;
+    let label: Vec<u8> = counter.label.collect(alloc)?;
+    row.push(bodies::cell(alloc, Bodies::Text, label.as_slice())?)?;
+    if bodies != Bodies::None {
+        row.push(key_cell(alloc, bodies, counter.key)?)?;
+    }
+    Ok(row)
+}
+
+/// What is gathered of counters.
+#[derive(Drop)]
+struct Gathered {
+    rows: Vec<Vec<Cell>>,
+    findings: Vec<String>,
+    in_use: u32,
+    freed: u32,
+}
+
+fn gather(
+    alloc: Global,
+    counters: &CountersSnapshot<'_>,
+    options: &Options<'_>,
+) -> Result<Gathered, AllocError> {
+    let mut gathered = Gathered {
+        rows: Vec::new(alloc),
+        findings: Vec::new(alloc),
+        in_use: 0,
+        freed: 0,
+    };
+    let first = u32::try_from(options.from.unwrap_or(0)).unwrap_or(u32::MAX);
+    for entry in counters.counters_from(first) {
+        match entry {
+            Ok(counter) => {
+                match counter.state {
+                    CounterState::Allocated => gathered.in_use = gathered.in_use.saturating_add(1),
+                    CounterState::Reclaimed => gathered.freed = gathered.freed.saturating_add(1),
+                }
+                gathered.rows.push(row(alloc, options.bodies, counter)?)?;
+            }
+            Err(finding) => gathered.findings.push(format!(in alloc; "{finding}")?)?,
+        }
+    }
+    Ok(gathered)
+}
+
+/// What lies in the words of counters.
+pub fn report(
+    alloc: Global,
+    metadata: &[u64],
+    values: &[u64],
+    options: &Options<'_>,
+) -> Result<Report, ShowFault> {
+    let counters = match CountersSnapshot::new(metadata, values) {
+        Ok(counters) => counters,
+        Err(finding) => return refused(alloc, finding),
+    };
+    let gathered = gather(alloc, &counters, options)?;
+    let mut fields = Vec::new(alloc);
+    fields.push(Field {
+        name: "ids",
+        value: Cell::Unsigned(u64::from(counters.count())),
+    })?;
+    let summary = format!(in alloc;
+        "{} in use, {} freed, of {} ids",
+        gathered.in_use,
+        gathered.freed,
+        counters.count()
+    )?;
+    Ok(Report {
+        kind: "counters",
+        fields,
+        picture: String::new(alloc),
+        list: "counters",
+        columns: columns(alloc, options.bodies)?,
+        rows: gathered.rows,
+        summary,
+        findings: gathered.findings,
+    })
+}
+
+fn refused(alloc: Global, finding: CountersFinding) -> Result<Report, ShowFault> {
+    let text = format!(in alloc; "{finding}")?;
+    Ok(Report::refused(alloc, "counters", "counters", "not counters", text)?)
+}

@@ -1,0 +1,28 @@
+use Rattle.std.proofs.Common.{rules, ◌≡◌, ◌+◌, ◌-◌, ◌<◌, ◌∷◌, length, ap, sym, ◌∙◌, arith}
+use Rattle.ring_snapshot.specs.RingRecords.{up_to_eight}
+use Rattle.ring_snapshot.specs.BoardRecords.{listing, records_left}
+use Rattle.ring_snapshot.proofs.BoardLemmas.{next_ok, next_err}
+use Rattle.ring_snapshot.proofs.board.BoardRecordsIterator.next.Goals as goal
+use Rattle.ring_snapshot.proofs.board.BoardRecordsIterator.next.Goals.{in-Ok, in-Err}
+
+pub returns-clause-steps : goal.returns-clause-steps
+returns-clause-steps c =
+    let old = c.args.self.now in
+    let x = c.entry_at-entry.result in
+    let some : 0 < old.most = search rules in
+    let before : old.at < old.tail = search rules in
+    elim c.match-entry.branch [
+      | in-Ok w ↦
+          let span : up_to_eight w.in-Ok.record.length ≡ w.align8.result = sym (w.align8.ensures ∙ ap up_to_eight w.from.ensures) in
+          next_ok old.board.capacity old.board.words.now old.intent old.latest old.tail old.most old.at x w.in-Ok.record some before c.entry_at-entry.ensures.entry w.in-Ok.is
+          ∙ ap (λ k. x ∷ listing old.board.capacity old.board.words.now old.intent old.latest old.tail (old.most - 1) (old.at + k)) span
+          ∙ ap (λ s. x ∷ records_left s) (sym w.self-is)
+      | in-Err w ↦
+          next_err old.board.capacity old.board.words.now old.intent old.latest old.tail old.most old.at x w.in-Err._finding some before c.entry_at-entry.ensures.entry w.in-Err.is
+          ∙ ap (λ s. x ∷ records_left s) (sym w.self-is)
+    ]
+
+pub returns-clause-goes : goal.returns-clause-goes
+returns-clause-goes c =
+    let less : length (records_left c.match-entry.self) < length (records_left c.args.self.now) = omega (arith, ap length (returns-clause-steps c)) in
+    search (rules, less)

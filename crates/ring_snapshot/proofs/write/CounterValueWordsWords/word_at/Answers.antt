@@ -1,0 +1,18 @@
+use Rattle.std.proofs.Common.{◌*◌, ◌/◌, ◌%◌, arith, ap, sym, ◌∙◌}
+use Rattle.std.specs.Prelude.{Some}
+use Rattle.ring_counters.specs.Counter.{value_word}
+use Rattle.ring_counters.specs.Manager.{registry_of}
+use Rattle.ring_counters.specs.Registry.{count_of, counter_at}
+use Rattle.ring_snapshot.proofs.WriteLemmas.{at_index, past_index}
+use Rattle.ring_snapshot.proofs.write.CounterValueWordsWords.word_at.Goals as goal
+
+pub returns-then-id-count : goal.returns-then-id-count
+returns-then-id-count c =
+    let r = registry_of c.args.self.now.0.now in
+    sym (past_index (λ i. value_word (counter_at r (i / 16)).values (i % 16)) (16 * count_of r) c.args.index (omega (arith, c.count.ensures, c.if-id-count.true)))
+
+pub returns : goal.returns
+returns c =
+    let r = registry_of c.args.self.now.0.now in
+    ap Some c.value_word.ensures
+    ∙ sym (at_index (λ i. value_word (counter_at r (i / 16)).values (i % 16)) (16 * count_of r) c.args.index (omega (arith, c.count.ensures, c.if-id-count.false)))

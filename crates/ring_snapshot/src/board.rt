@@ -1,0 +1,252 @@
+//! The records of a board.
+ghost use Rattle.std.specs.Prelude.{◌≡◌, ◌+◌, ◌%◌, ◌≤◌, length};
+ghost use Rattle.ring_board.specs.Layout.{IsBoardCapacity, board_words};
+
+use crate::board_finding::BoardFinding;
+use crate::board_record::BoardRecord;
+use crate::body::Body;
+use ring_layout::broadcast_buffer_descriptor::{
+    LATEST_COUNTER_WORD, MAX_CAPACITY, MIN_CAPACITY, TAIL_COUNTER_WORD, TAIL_INTENT_COUNTER_WORD,
+    TRAILER_WORDS,
+};
+use ring_layout::record_descriptor::{HEADER_LENGTH, PADDING_MSG_TYPE_ID};
+use ring_layout::{align8, byte_index, max_message, unpack_header, word_index};
+
+/// A board's words: those of its buffer, and those of its trailer.
+#[derive(Clone, Copy, Debug)]
+pub struct BoardSnapshot<'a> {
+    capacity: u32,
+    words: &'a [u64],
+    ghost lawful: { IsBoardCapacity capacity },
+    ghost whole: { length words.now ≡ board_words capacity },
+}
+
+/// The records of a board from a position on, in order. It ends at the tail, and behind a finding.
+#[derive(Debug, Drop)]
+pub struct BoardRecords<'a> {
+    board: BoardSnapshot<'a>,
+    intent: u64,
+    tail: u64,
+    latest: u64,
+    at: u64,
+    most: u64,
+    ghost aligned: { (at % 8 ≡ 0) × (tail % 8 ≡ 0) },
+    ghost order: { (at ≤ tail) × (latest ≤ tail) × (tail ≤ intent) },
+}
+
+impl<'a> BoardSnapshot<'a> {
+    ghost use Rattle.std.specs.Prelude.{◌≡◌, ◌≢◌, ℕ, ◌+◌, ◌-◌, ◌*◌, ◌/◌, ◌%◌, ◌^◌, ◌<◌, ◌≤◌, List, length, slice_index, IfOk, IfErr};
+    ghost use Rattle.ring_board.specs.Layout.{IsBoardCapacity, board_words, intent_index, tail_index, latest_index};
+    ghost use Rattle.ring_board.specs.Refusals.{IsRefusedBy};
+    ghost use Rattle.ring_snapshot.specs.declared.board_finding.BoardFinding.TheVariants.{BadSize};
+    ghost use Rattle.ring_snapshot.specs.RingRecords.{up_to_eight};
+    ghost use Rattle.ring_snapshot.specs.BoardRecords.{intent_in, tail_in, latest_in, records_left, listing, listed_from, first_whole, positions_finding, from_finding};
+
+    /// Takes the words of a board. `BadSize` where no board has so many.
+    pub fn new(words: &'a [u64]) -> Result<Self, BoardFinding>
+        ensures board { IfOk result (λ b. (b.words.now ≡ words.now) × IsBoardCapacity b.capacity × (length words.now ≡ board_words b.capacity)) }
+        ensures refused { IfErr result (λ f. (f ≡ BadSize (length words.now)) × ((C : ℕ) → IsBoardCapacity C → length words.now ≢ board_words C)) }
+    {
+        let refused = BoardFinding::BadSize { words: words.len() };
+        if words.len() < TRAILER_WORDS || words.len() - TRAILER_WORDS > MAX_CAPACITY as usize / 8 {
+            return Err(refused);
+        }
+        let capacity = (words.len() - TRAILER_WORDS) as u32 * 8;
+        if !capacity.is_power_of_two() || capacity < MIN_CAPACITY {
+            return Err(refused);
+        }
+        Ok(BoardSnapshot { capacity, words })
+    }
+
+    /// The bytes of its buffer.
+    pub fn capacity(&self) -> u32
+        ensures capacity { result ≡ self.now.capacity }
+        ensures lawful { IsBoardCapacity result }
+    {
+        self.capacity
+    }
+
+    /// Where the running transmission is to end.
+    pub fn intent(&self) -> u64
+        ensures { result ≡ slice_index self.now.words.now (intent_index self.now.capacity) }
+    {
+        self.words[self.capacity as usize / 8 + TAIL_INTENT_COUNTER_WORD]
+    }
+
+    /// Where the last transmission ended.
+    pub fn tail(&self) -> u64
+        ensures { result ≡ slice_index self.now.words.now (tail_index self.now.capacity) }
+    {
+        self.words[self.capacity as usize / 8 + TAIL_COUNTER_WORD]
+    }
+
+    /// The place of the last record.
+    pub fn latest(&self) -> u64
+        ensures { result ≡ slice_index self.now.words.now (latest_index self.now.capacity) }
+    {
+        self.words[self.capacity as usize / 8 + LATEST_COUNTER_WORD]
+    }
+
+    /// The records of the running lap; the last one alone, where the intent has begun to overwrite the first of them. It
+    /// refuses positions that make no sense, in this order: `UnalignedPosition`, `TailBeforeLatest`, `IntentBeforeTail`,
+    /// `TailTooFar`, `IntentTooFar`.
+    ///
+    /// It does not go back into the lap before: memory does not tell where the first of its records that is still whole
+    /// begins, and a message may look like a header. `records_from` lists them where a begin is known.
+    pub fn records(&self) -> Result<BoardRecords<'a>, BoardFinding>
+        ensures refused { IsRefusedBy (positions_finding self.now.capacity (intent_in self.now) (tail_in self.now) (latest_in self.now)) result }
+        ensures listed { IfOk result (λ r. records_left r ≡ listed_from self.now (first_whole self.now.capacity (intent_in self.now) (latest_in self.now))) }
+    {
+        let (intent, tail, latest) = (self.intent(), self.tail(), self.latest());
+        self.check_positions(intent, tail, latest)?;
+        let lap = latest - byte_index(self.capacity, latest);
+        let whole = intent - lap <= u64::from(self.capacity);
+        let first = if whole { lap } else { latest };
+        Ok(self.listing(intent, tail, latest, first))
+    }
+
+    /// The records from a position on, which has to be the begin of one, as of that at which a receiver stands. It refuses as
+    /// `records` does, and with `OutsideOfRecords` a position where no record begins or what lay there is overwritten.
+    pub fn records_from(&self, position: u64) -> Result<BoardRecords<'a>, BoardFinding>
+        ensures refused { IsRefusedBy (from_finding self.now.capacity (intent_in self.now) (tail_in self.now) (latest_in self.now) position) result }
+        ensures listed { IfOk result (λ r. records_left r ≡ listed_from self.now position) }
+    {
+        let (intent, tail, latest) = (self.intent(), self.tail(), self.latest());
+        self.check_positions(intent, tail, latest)?;
+        let begins = position <= latest || position == tail;
+        if position % 8 != 0 || !begins || intent - position > u64::from(self.capacity) {
+            return Err(BoardFinding::OutsideOfRecords { position });
+        }
+        Ok(self.listing(intent, tail, latest, position))
+    }
+
+    /// The records from a position on.
+    fn listing(&self, intent: u64, tail: u64, latest: u64, first: u64) -> BoardRecords<'a>
+        requires aligned { (first % 8 ≡ 0) × (tail % 8 ≡ 0) }
+        requires order { (first ≤ tail) × (latest ≤ tail) × (tail ≤ intent) }
+        ensures { records_left result ≡ listing self.now.capacity self.now.words.now intent latest tail ((tail - first) / 8) first }
+    {
+        BoardRecords {
+            board: *self,
+            intent,
+            tail,
+            latest,
+            at: first,
+            most: (tail - first) / 8,
+        }
+    }
+
+    /// Tests the positions of the trailer.
+    fn check_positions(&self, intent: u64, tail: u64, latest: u64) -> Result<(), BoardFinding>
+        ensures { IsRefusedBy (positions_finding self.now.capacity intent tail latest) result }
+    {
+        if intent % 8 != 0 || tail % 8 != 0 || latest % 8 != 0 {
+            return Err(BoardFinding::UnalignedPosition {
+                intent,
+                tail,
+                latest,
+            });
+        }
+        if tail < latest {
+            return Err(BoardFinding::TailBeforeLatest { tail, latest });
+        }
+        if intent < tail {
+            return Err(BoardFinding::IntentBeforeTail { intent, tail });
+        }
+        let room = u64::from(self.capacity) - byte_index(self.capacity, latest);
+        if tail - latest > room {
+            return Err(BoardFinding::TailTooFar { tail, latest });
+        }
+        if intent - latest > u64::from(self.capacity) {
+            return Err(BoardFinding::IntentTooFar { intent, latest });
+        }
+        Ok(())
+    }
+}
+
+impl<'a> BoardRecords<'a> {
+    ghost use Rattle.std.specs.Prelude.{◌≡◌, ◌+◌, ◌<◌, ◌≤◌, IfOk};
+    ghost use Rattle.ring_snapshot.specs.RingRecords.{up_to_eight};
+    ghost use Rattle.ring_snapshot.specs.BoardRecords.{is_length, entry_at};
+
+    /// Tests whether a record of this length, header included, may lie at the position.
+    fn is_length(&self, length: u32) -> bool
+        ensures { result ≡ is_length self.now.board.capacity self.now.latest self.now.tail self.now.at length }
+    {
+        let capacity = self.board.capacity;
+        if length < HEADER_LENGTH as u32 || length > HEADER_LENGTH as u32 + max_message(capacity) {
+            return false;
+        }
+        let span = align8(u64::from(length));
+        if span > u64::from(capacity) - byte_index(capacity, self.at) {
+            return false;
+        }
+        if self.at < self.latest {
+            span <= self.latest - self.at
+        } else {
+            self.at == self.latest && span == self.tail - self.at
+        }
+    }
+
+    /// What lies at the position, which is before the tail.
+    fn entry_at(&self) -> Result<BoardRecord<'a>, BoardFinding>
+        requires { self.now.at < self.now.tail }
+        ensures entry { result ≡ entry_at self.now.board.capacity self.now.board.words.now self.now.intent self.now.latest self.now.tail self.now.at }
+        ensures inside { IfOk result (λ r. (8 ≤ r.length) × (self.now.at + up_to_eight r.length ≤ self.now.tail)) }
+    {
+        let capacity = self.board.capacity;
+        let index = byte_index(capacity, self.at) as u32;
+        let (len, type_id) = unpack_header(self.board.words[word_index(capacity, self.at)]);
+        let length = len.unsigned_abs();
+        if len < 1 || !self.is_length(length) {
+            return Err(BoardFinding::BadLength { index, length: len });
+        }
+        let is_padding = type_id == PADDING_MSG_TYPE_ID;
+        if is_padding && (self.at >= self.latest || index + length != capacity) {
+            return Err(BoardFinding::BadLength { index, length: len });
+        }
+        if !is_padding && type_id < 1 {
+            return Err(BoardFinding::BadType { index, type_id });
+        }
+        let bytes = if is_padding {
+            0
+        } else {
+            length as usize - HEADER_LENGTH
+        };
+        Ok(BoardRecord {
+            place: self.at,
+            index,
+            is_padding,
+            is_valid: self.intent - self.at < u64::from(capacity),
+            type_id,
+            length,
+            body: Body::new(self.board.words, index as usize + HEADER_LENGTH, bytes),
+        })
+    }
+}
+
+impl<'a> Iterator for BoardRecords<'a> {
+    ghost use Rattle.std.specs.Iterator.{YieldsFirst, item_count};
+    ghost use Rattle.ring_snapshot.specs.BoardRecords.{records_left};
+
+    type Item = Result<BoardRecord<'a>, BoardFinding>;
+
+    ghost next_gives = { YieldsFirst records_left };
+
+    ghost remaining = { item_count records_left };
+
+    fn next(&mut self) -> Option<Result<BoardRecord<'a>, BoardFinding>> {
+        if self.most == 0 || self.at >= self.tail {
+            return None;
+        }
+        let entry = self.entry_at();
+        match &entry {
+            Ok(record) => {
+                self.at += align8(u64::from(record.length));
+                self.most -= 1;
+            }
+            Err(_finding) => self.most = 0,
+        }
+        Some(entry)
+    }
+}

@@ -1,0 +1,87 @@
+//! Writing the words of a ring, a closed board or counters.
+ghost use Rattle.std.specs.Prelude.{◌≡◌, ℕ, List, OnOk, slice_get};
+ghost use Rattle.std.specs.Io.KnownBytes.{Appends};
+ghost use Rattle.ring_board.specs.Closing.{closed_words};
+ghost use Rattle.ring_board.specs.Records.{bytes_of};
+ghost use Rattle.ring_counters.specs.Manager.{registry_of};
+ghost use Rattle.ring_snapshot.specs.WordLists.{metadata_words, value_words};
+
+use ring_board::ClosedBoard;
+use ring_counters::CountersManager;
+use ring_layout::counter_descriptor::{COUNTER_WORDS, METADATA_WORDS};
+use ring_words::SoloRing;
+use std::io::{self, ErrorKind, Write};
+
+/// Memory that is a list of words.
+pub trait Words {
+    ghost words: { Self → List ℕ };
+
+    /// The word at an index, `None` behind the last one.
+    fn word_at(&self, index: usize) -> Option<u64>
+        ensures { result ≡ slice_get (words self.now) index };
+}
+
+/// The words of the buffer, and then those of the trailer.
+impl Words for SoloRing {
+    ghost words = { λ r. r.words };
+
+    fn word_at(&self, index: usize) -> Option<u64> {
+        self.word(index)
+    }
+}
+
+/// The words of the buffer, and then those of the trailer.
+impl Words for ClosedBoard {
+    ghost words = { closed_words };
+
+    fn word_at(&self, index: usize) -> Option<u64> {
+        self.word(index)
+    }
+}
+
+/// The metadata of counters, as words: 64 of each id.
+#[derive(Drop)]
+pub struct CounterMetadata<'a>(pub &'a CountersManager);
+
+impl<'a> Words for CounterMetadata<'a> {
+    ghost words = { λ m. metadata_words (registry_of m.0.now) };
+
+    fn word_at(&self, index: usize) -> Option<u64> {
+        let id = index / METADATA_WORDS;
+        if id >= self.0.count() as usize {
+            return None;
+        }
+        Some(self.0.metadata_word(id as u32, index % METADATA_WORDS))
+    }
+}
+
+/// The values of counters, as words: 16 of each id.
+#[derive(Drop)]
+pub struct CounterValueWords<'a>(pub &'a CountersManager);
+
+impl<'a> Words for CounterValueWords<'a> {
+    ghost words = { λ m. value_words (registry_of m.0.now) };
+
+    fn word_at(&self, index: usize) -> Option<u64> {
+        let id = index / COUNTER_WORDS;
+        if id >= self.0.count() as usize {
+            return None;
+        }
+        Some(self.0.value_word(id as u32, index % COUNTER_WORDS))
+    }
+}
+
+/// Writes words, each as 8 bytes, little-endian. A short write goes on with the rest. It ends with the first error of the
+/// writer; some of the words are then written.
+pub fn write_words<S: Words, W: Write>(source: &S, out: &mut W) -> io::Result<()>
+    ensures { OnOk result (Appends (W.contents out.old) (W.contents out.new) (bytes_of (S.words source.now))) }
+{
+    for index in 0..usize::MAX {
+        let Some(word) = source.word_at(index) else {
+            return Ok(());
+        };
+        out.write_all(&word.to_le_bytes())?;
+    }
+    // No memory has so many words.
+    Err(io::Error::from(ErrorKind::FileTooLarge))
+}
