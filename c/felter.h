@@ -1,0 +1,171 @@
+/* felter: rings and counters for the threads of one process.
+ *
+ * The library behind this header is proved; this header, and what a caller keeps, is not.
+ *
+ * Handles. A handle owns a seat (a producer, a consumer, ..) together with its ring, which lives as long as one of
+ * its handles does. The order in which handles are freed is free.
+ *   1. Begin each handle as FELTER_EMPTY. Never copy one and use both, and never read or write what is in it: two
+ *      copies would free one object twice. Free it by felter_free when done. An empty or freed handle answers
+ *      FELTER_NO_HANDLE.
+ *   2. One call at a time uses a handle. It may go to another thread if its last call is ordered before that thread's
+ *      first one: by a thread's start or join, a lock, or a seq_cst atomic. Else two calls race for what it owns.
+ *      Different handles may be used at the same time, also of one ring.
+ *   3. The handles of one call are different ones, and its buffers, numbers and handles do not overlap. A buffer that
+ *      is read is readable for its length, and one that is written is writable for its room (at most 2^63 - 1 bytes),
+ *      and no other thread touches it during the call. NULL goes only with length 0. A pointer to a number is never
+ *      NULL.
+ *   4. No call from a signal handler or from a forked child of a process with threads, and no asynchronous cancellation
+ *      during a call: a handle that a call was working on is empty then.
+ *   5. malloc, realloc and free are one allocator, and align to 16 bytes. The processor has x86-64-v2.
+ *   6. The producers of one felter_join are of one ring. It compares the capacities, and answers FELTER_OTHER_RING
+ *      where they differ. Two rings of one capacity are not told apart: what is proved does not hold then.
+ *
+ * Answers. Each call but felter_free answers a code of enum felter_code; FELTER_OK is 0. A call that refuses leaves
+ * every handle as it was. Out numbers are written on FELTER_OK alone, unless a call says otherwise. Nothing waits:
+ * FELTER_INSUFFICIENT_CAPACITY, FELTER_CONTENDED and FELTER_NO_MESSAGE are for the caller to try again, with a pause of
+ * its own. Every call of a handle can answer FELTER_NO_HANDLE and FELTER_WRONG_HANDLE.
+ *
+ * Units. Capacities, lengths, offsets and positions are bytes; positions count from the ring's start and never wrap.
+ * Moments are milliseconds, at most 2^62, by a clock of the caller.
+ *
+ * Link: cc program.c libring_c.a liblibc_c.a
+ */
+#ifndef FELTER_H
+#define FELTER_H
+
+#include <stddef.h>
+#include <stdint.h>
+
+#ifdef __cplusplus
+extern "C" {
+#endif
+
+enum felter_code {
+    FELTER_OK = 0,
+    /* Numbers of the library. */
+    FELTER_BAD_CAPACITY = 1,          /* no power of two from 128 to 2^24 */
+    FELTER_BAD_START = 2,             /* no multiple of the capacity, or above 2^62 */
+    FELTER_OUT_OF_MEMORY = 3,         /* there was no memory */
+    FELTER_BAD_TYPE = 4,              /* the type id is below 1 */
+    FELTER_TOO_LONG = 5,              /* the message is longer than an eighth of the capacity */
+    FELTER_POSITION_LIMIT = 6,        /* the record would end above 2^62 */
+    FELTER_INSUFFICIENT_CAPACITY = 7, /* the ring is full */
+    FELTER_CONTENDED = 8,             /* another producer was faster */
+    FELTER_PUT_RANGE = 9,             /* the bytes do not lie inside the claim */
+    FELTER_NO_SHARES = 12,            /* one share is left, and is needed */
+    FELTER_BAD_COUNT = 15,            /* the number of counters is 0 or above 4096 */
+    FELTER_KEY_TOO_LONG = 16,         /* the key has more than 112 bytes */
+    FELTER_LABEL_TOO_LONG = 17,       /* the label has more than 380 bytes */
+    FELTER_LABEL_NOT_ASCII = 18,      /* the label has a byte of 128 or more */
+    FELTER_NO_FREE_COUNTER = 19,      /* every id was used, and none that was freed is due */
+    FELTER_BAD_ID = 20,               /* the id is not below the number of counters */
+    FELTER_NOT_ALLOCATED = 21,        /* no counter with this id is in use */
+    FELTER_BAD_OWNER = 28,            /* the owner is 0, which stands for none */
+    /* Numbers of this interface. */
+    FELTER_NO_HANDLE = 100,           /* the handle is empty */
+    FELTER_WRONG_HANDLE = 101,        /* the handle is of another kind */
+    FELTER_HANDLE_IN_USE = 102,       /* the handle that was to be filled is not empty */
+    FELTER_CLAIM_OPEN = 103,          /* a claim of the producer is open */
+    FELTER_NO_CLAIM = 104,            /* no claim of this number is open */
+    FELTER_NO_MESSAGE = 105,          /* nothing is there yet */
+    FELTER_SHORT_BUFFER = 106,        /* the message is longer than the buffer, and stays */
+    FELTER_BAD_MOMENT = 107,          /* the moment is above 2^62 */
+    FELTER_OTHER_RING = 108           /* the two handles are of two rings */
+};
+
+/* What a handle is inside. */
+typedef struct felter_handle { void *at; } felter_handle;
+
+typedef struct felter_producer { felter_handle handle; } felter_producer;
+typedef struct felter_consumer { felter_handle handle; } felter_consumer;
+typedef struct felter_counters { felter_handle handle; } felter_counters;
+
+/* The first value of a handle of any kind. */
+#define FELTER_EMPTY {{0}}
+
+/* Lets go of what a handle owns, and empties it: felter_free(&producer.handle). An empty one stays empty. The open
+ * claim of a producer is aborted, so that the consumer passes it. Its share of the ring is lost: after 65,535 producers
+ * that were split off and freed without felter_join, felter_split of that ring answers FELTER_NO_SHARES. */
+void felter_free(felter_handle *handle);
+
+/* Rings ---------------------------------------------------------------------------------------------------------- */
+
+/* Makes a ring of a capacity, with a producer that holds all 65,536 shares and the consumer. The handles are empty
+ * before; else FELTER_HANDLE_IN_USE. FELTER_BAD_CAPACITY, FELTER_BAD_START, FELTER_OUT_OF_MEMORY. */
+int32_t felter_many_to_one_new(uint32_t capacity, felter_producer *producer, felter_consumer *consumer);
+int32_t felter_many_to_one_new_at(uint32_t capacity, uint64_t start, felter_producer *producer,
+                                  felter_consumer *consumer);
+/* The same of a ring with one producer, which cannot be split. */
+int32_t felter_one_to_one_new(uint32_t capacity, felter_producer *producer, felter_consumer *consumer);
+int32_t felter_one_to_one_new_at(uint32_t capacity, uint64_t start, felter_producer *producer,
+                                 felter_consumer *consumer);
+
+/* Writes a message, by one try. FELTER_BAD_TYPE, FELTER_TOO_LONG, FELTER_POSITION_LIMIT, FELTER_INSUFFICIENT_CAPACITY,
+ * FELTER_CONTENDED (many-to-one alone). */
+int32_t felter_write(felter_producer *producer, int32_t type_id, const uint8_t *body, size_t len);
+
+/* Claims room for a message of len bytes, which are 0 until they are put, and says the claim's number. One claim of a
+ * producer may be open at a time, else FELTER_CLAIM_OPEN (split it to have more). The consumer passes no open claim:
+ * settle it. Else it refuses as felter_write. */
+int32_t felter_claim(felter_producer *producer, int32_t type_id, size_t len, uint64_t *claim);
+/* Puts bytes into an open claim from a byte on. FELTER_NO_CLAIM, FELTER_PUT_RANGE. */
+int32_t felter_put(felter_producer *producer, uint64_t claim, size_t offset, const uint8_t *bytes, size_t len);
+/* Settles an open claim: the consumer is shown its message (commit) or passes it (abort). FELTER_NO_CLAIM. */
+int32_t felter_commit(felter_producer *producer, uint64_t claim);
+int32_t felter_abort(felter_producer *producer, uint64_t claim);
+
+/* Makes another producer of a many-to-one ring, with one share. No claim of the producer is open: FELTER_CLAIM_OPEN.
+ * FELTER_NO_SHARES, FELTER_OUT_OF_MEMORY, FELTER_HANDLE_IN_USE; FELTER_WRONG_HANDLE of a one-to-one ring. */
+int32_t felter_split(felter_producer *producer, felter_producer *other);
+/* Takes another producer of the same many-to-one ring in (rule 6), with its shares, and empties its handle. No claim of
+ * either is open: FELTER_CLAIM_OPEN. FELTER_OTHER_RING. */
+int32_t felter_join(felter_producer *producer, felter_producer *other);
+
+/* Loads the head, and then the tail. */
+int32_t felter_positions(felter_producer *producer, uint64_t *head, uint64_t *tail);
+/* Draws the ring's next correlation id. */
+int32_t felter_next_id(felter_producer *producer, uint64_t *id);
+/* Loads the heartbeat that the consumer stored last, 0 before the first. */
+int32_t felter_heartbeat(felter_producer *producer, uint64_t *value);
+int32_t felter_set_heartbeat(felter_consumer *consumer, uint64_t value);
+/* How many of the ring's 65,536 shares the producer holds. */
+int32_t felter_shares(felter_producer *producer, uint32_t *shares);
+
+/* Reads the next message into a buffer. FELTER_NO_MESSAGE; FELTER_SHORT_BUFFER, where *len says how many bytes are
+ * wanted. An eighth of the capacity is always enough. */
+int32_t felter_read(felter_consumer *consumer, int32_t *type_id, size_t *len, uint8_t *buffer, size_t room);
+
+/* Counters ------------------------------------------------------------------------------------------------------- */
+
+/* Makes counters with the ids below `count`. A freed id rests for `reuse_ms`. FELTER_BAD_COUNT, FELTER_OUT_OF_MEMORY,
+ * FELTER_HANDLE_IN_USE. */
+int32_t felter_counters_new(uint32_t count, uint32_t reuse_ms, felter_counters *counters);
+/* Allocates a counter of value 0, and says its id. FELTER_KEY_TOO_LONG, FELTER_LABEL_TOO_LONG, FELTER_LABEL_NOT_ASCII,
+ * FELTER_NO_FREE_COUNTER. */
+int32_t felter_counter_allocate(felter_counters *counters, uint64_t now, int32_t type_id, const uint8_t *key,
+                                size_t key_len, const uint8_t *label, size_t label_len, uint64_t registration,
+                                uint32_t *id);
+/* The same with an owner; 0 stands for none. */
+int32_t felter_counter_allocate_owned(felter_counters *counters, uint64_t now, int32_t type_id, const uint8_t *key,
+                                      size_t key_len, const uint8_t *label, size_t label_len, uint64_t registration,
+                                      uint64_t owner, uint32_t *id);
+/* Each call with an id can answer FELTER_BAD_ID and FELTER_NOT_ALLOCATED. */
+int32_t felter_counter_free(felter_counters *counters, uint64_t now, uint32_t id); /* FELTER_BAD_MOMENT */
+int32_t felter_counter_set(felter_counters *counters, uint32_t id, int64_t value);
+/* Adds to the value, which wraps, and says the value before. */
+int32_t felter_counter_add(felter_counters *counters, uint32_t id, int64_t delta, int64_t *before);
+int32_t felter_counter_value(felter_counters *counters, uint32_t id, int64_t *value);
+int32_t felter_counter_type_id(felter_counters *counters, uint32_t id, int32_t *type_id);
+int32_t felter_counter_registration(felter_counters *counters, uint32_t id, uint64_t *registration);
+int32_t felter_counter_owner(felter_counters *counters, uint32_t id, uint64_t *owner);
+/* Finds the lowest id in use of a type and registration id; else FELTER_NOT_ALLOCATED. */
+int32_t felter_counter_find(felter_counters *counters, int32_t type_id, uint64_t registration, uint32_t *id);
+/* The number of ids, in use or not. To list the counters in use, ask for each id's type: FELTER_NOT_ALLOCATED says that
+ * it is not in use. */
+int32_t felter_counters_count(felter_counters *counters, uint32_t *count);
+/* Frees each counter of an owner, and says how many. FELTER_BAD_OWNER, FELTER_BAD_MOMENT. */
+int32_t felter_counters_close_owner(felter_counters *counters, uint64_t now, uint64_t owner, uint32_t *freed);
+#ifdef __cplusplus
+}
+#endif
+#endif

@@ -1,0 +1,3 @@
+pub mod HandleValues
+mod ReadLemmas
+pub mod Values

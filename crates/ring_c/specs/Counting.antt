@@ -1,0 +1,95 @@
+-- What calls of counters do: c are the counters before, d after, and the code is what is answered.
+use Rattle.std.specs.Prelude.{◌≡◌, ◌≢◌, ◌⊎◌, ◌<◌, ◌≤◌, ◌^◌, ℕ, ℤ, pos, List, [], ◌∷◌, ◌++◌, length, Some, None, Ok, Err}
+use Rattle.ring_counters.specs.declared.fault.AllocateRefused.{AllocateRefused}
+use Rattle.ring_counters.specs.declared.fault.AllocateRefused.TheVariants.{KeyTooLong, LabelTooLong, LabelNotAscii, NoFreeCounter}
+use Rattle.ring_counters.specs.declared.fault.IdFault.{IdFault}
+use Rattle.ring_counters.specs.declared.fault.IdFault.TheVariants.{BadId, NotAllocated}
+use Rattle.ring_counters.specs.declared.fault.MakeFault.{MakeFault}
+use Rattle.ring_counters.specs.declared.fault.MakeFault.TheVariants.{BadCount, OutOfMemory}
+use Rattle.ring_counters.specs.Manager.{registry_of, writes_of}
+use Rattle.ring_counters.specs.Registry.{Registry, allocated_in, allocation_of, answer, closed_in, counter_at, count_of, id_refusal_of, new_counter, owned_ids, reclaimed_in, registered_id, value_at, value_plus, with_value}
+use Rattle.ring_counters.specs.Views.{value_write}
+use Rattle.ring_c.specs.declared.counters.CountersSide.{CountersSide}
+
+-- the code of counters that are not made
+abbrev pub make_code : MakeFault → ℤ
+make_code BadCount = pos 15
+make_code OutOfMemory = pos 3
+
+-- the code of an id that is refused
+abbrev pub id_code : IdFault → ℤ
+id_code BadId = pos 20
+id_code NotAllocated = pos 21
+
+-- the code of a counter that is not allocated
+abbrev pub allocate_code : AllocateRefused → ℤ
+allocate_code KeyTooLong = pos 16
+allocate_code LabelTooLong = pos 17
+allocate_code LabelNotAscii = pos 18
+allocate_code NoFreeCounter = pos 19
+
+-- the id is refused, and nothing changed
+pub record IdRefused {T : Type 0} (asked : T) (id : ℕ) (c d : CountersSide) (code : ℤ) : Type 0 where
+  pub fault : IdFault
+  pub is : answer (id_refusal_of (registry_of c.manager) id) asked ≡ Err fault
+  pub code_is : code ≡ id_code fault
+  pub same : d ≡ c
+
+-- the counters were asked of this id, and did not change
+abbrev pub Asked : {T : Type 0} → (Registry → T) → ℕ → T → T → CountersSide → CountersSide → ℤ → Type 0
+Asked ask id before after c d code = ((code ≡ pos 0) × (answer (id_refusal_of (registry_of c.manager) id) (ask (registry_of c.manager)) ≡ Ok after) × (d ≡ c))
+    ⊎ (IdRefused (ask (registry_of c.manager)) id c d code × (after ≡ before))
+
+-- a counter in use got this value
+pub record Stores (id : ℕ) (value : ℤ) (c d : CountersSide) : Type 0 where
+  pub registry : registry_of d.manager ≡ with_value (registry_of c.manager) id value
+  pub writes : writes_of d.manager ≡ writes_of c.manager ++ value_write id value ∷ []
+
+abbrev pub WasSet : ℕ → ℤ → CountersSide → CountersSide → ℤ → Type 0
+WasSet id value c d code = ((code ≡ pos 0) × Stores id value c d) ⊎ IdRefused {T = Unit {0}} tt id c d code
+
+-- so much was added, and the value before is put out
+abbrev pub WasAdded : ℕ → ℤ → ℤ → ℤ → CountersSide → CountersSide → ℤ → Type 0
+WasAdded id delta before after c d code =
+    ((code ≡ pos 0) × (after ≡ value_at (registry_of c.manager) id) × Stores id (value_plus (registry_of c.manager) id delta) c d)
+    ⊎ (IdRefused (value_at (registry_of c.manager) id) id c d code × (after ≡ before))
+
+-- the moment is above 2^62, and nothing changed; else P tells
+abbrev pub AtMoment : ℕ → Type 0 → CountersSide → CountersSide → ℤ → Type 0
+AtMoment now P c d code = ((2 ^ 62 < now) × (code ≡ pos 107) × (d ≡ c)) ⊎ ((now ≤ 2 ^ 62) × P)
+
+-- a counter was freed
+abbrev pub WasFreed : ℕ → ℕ → CountersSide → CountersSide → ℤ → Type 0
+WasFreed now id c d code = AtMoment now (((code ≡ pos 0) × (registry_of d.manager ≡ reclaimed_in (registry_of c.manager) now id) × (writes_of d.manager ≡ writes_of c.manager)) ⊎ IdRefused {T = Unit {0}} tt id c d code) c d code
+
+-- an owner's counters were freed, and their number is put out
+abbrev pub OwnerClosed : ℕ → ℕ → ℕ → ℕ → CountersSide → CountersSide → ℤ → Type 0
+OwnerClosed now owner before freed c d code = AtMoment now
+    (((code ≡ pos 0) × (owner ≢ 0) × (freed ≡ length (owned_ids (registry_of c.manager) owner)) × (registry_of d.manager ≡ closed_in (registry_of c.manager) now owner))
+    ⊎ ((code ≡ pos 28) × (owner ≡ 0) × (d ≡ c))) c d code
+
+-- a counter was allocated
+pub record Allocates (now : ℕ) (type_id : ℤ) (key label : List ℕ) (registration owner id : ℕ) (c d : CountersSide) : Type 0 where
+  pub is : allocation_of (registry_of c.manager) now key label ≡ Ok id
+  pub registry : registry_of d.manager ≡ allocated_in (registry_of c.manager) id (new_counter type_id key label registration owner)
+  pub writes : writes_of d.manager ≡ writes_of c.manager ++ value_write id (pos 0) ∷ []
+
+-- or not
+pub record NotAllocates (now : ℕ) (key label : List ℕ) (c d : CountersSide) (code : ℤ) : Type 0 where
+  pub fault : AllocateRefused
+  pub is : allocation_of (registry_of c.manager) now key label ≡ Err fault
+  pub code_is : code ≡ allocate_code fault
+  pub same : d ≡ c
+
+abbrev pub WasAllocated : ℕ → ℤ → List ℕ → List ℕ → ℕ → ℕ → ℕ → ℕ → CountersSide → CountersSide → ℤ → Type 0
+WasAllocated now type_id key label registration owner before id c d code =
+    ((code ≡ pos 0) × Allocates now type_id key label registration owner id c d) ⊎ (NotAllocates now key label c d code × (id ≡ before))
+
+-- the lowest id in use of a type and a registration id
+abbrev pub WasFound : ℤ → ℕ → ℕ → ℕ → CountersSide → CountersSide → ℤ → Type 0
+WasFound type_id registration before id c d code = (d ≡ c)
+    × (((code ≡ pos 0) × (registered_id (registry_of c.manager) type_id registration ≡ Some id))
+    ⊎ ((code ≡ pos 21) × (registered_id (registry_of c.manager) type_id registration ≡ None) × (id ≡ before)))
+
+abbrev pub WasCounted : ℕ → CountersSide → CountersSide → ℤ → Type 0
+WasCounted count c d code = (d ≡ c) × (code ≡ pos 0) × (count ≡ count_of (registry_of c.manager))

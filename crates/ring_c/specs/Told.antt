@@ -1,0 +1,120 @@
+-- What the answer of an export says of the handles before and after it.
+use Rattle.std.specs.Prelude.{◌≡◌, ◌≢◌, ◌⊎◌, ℕ, ℤ, pos, [], MatchOption, Bool}
+use Rattle.std.specs.declared.option.Option.{Option}
+use Rattle.std.specs.declared.option.Option.TheVariants.{None, Some}
+use Rattle.ring_words.specs.declared.fault.MakeFault.{MakeFault}
+use Rattle.ring_words.specs.Fresh.{make_refusal_of}
+use Rattle.ring_table.specs.declared.view.View.{View}
+use Rattle.ring_rings.specs.Opening.{first_consumer, first_producer}
+use Rattle.ring_counters.specs.Manager.{registry_of, shares_of, writes_of}
+use Rattle.ring_counters.specs.Registry.{fresh_registry}
+use Rattle.ring_counters.specs.Registry.{make_refusal_of as counters_refusal_of}
+use Rattle.ring_c.specs.Codes.{make_code}
+use Rattle.ring_c.specs.Counting.{make_code as counters_code}
+use Rattle.ring_c.specs.declared.counters.CountersSide.{CountersSide}
+use Rattle.ring_c.specs.Producing.{IsApart, IsWhole, Splits, TakesIn}
+use Rattle.ring_c.specs.Side.{Reading, Side}
+use Rattle.ring_c.specs.declared.held.Held.{Held}
+use Rattle.ring_c.specs.declared.held.Held.TheVariants.{Producer, Consumer, Counters}
+
+-- What a handle holds, where it is of one kind ---------------------------------------
+
+abbrev pub a_producer : Held → Option Side
+a_producer (Producer p) = Some p
+a_producer _ = None
+
+abbrev pub a_consumer : Held → Option Reading
+a_consumer (Consumer c) = Some c
+a_consumer _ = None
+
+abbrev pub some_counters : Held → Option CountersSide
+some_counters (Counters c) = Some c
+some_counters _ = None
+
+-- the handle holds one of this kind, of which P holds
+abbrev pub Holds : {S : Type 0} → (Held → Option S) → (S → Type 0) → Option Held → Type 0
+Holds kind P held = MatchOption held ⊥ (λ h. MatchOption (kind h) ⊥ P)
+
+-- Calls of one handle ------------------------------------------------------------
+
+-- an empty handle answers 100 and stays empty, and another kind's 101 and stays as it is; of this kind P tells
+abbrev pub Uses : {S : Type 0} → (Held → Option S) → (S → S → ℤ → Type 0) → Option Held → Option Held → ℤ → Type 0
+Uses kind P before after code = MatchOption before ((code ≡ pos 100) × (after ≡ None))
+    (λ h. MatchOption (kind h) ((code ≡ pos 101) × (after ≡ Some h)) (λ s. Holds kind (λ t. P s t code) after))
+
+-- Rings that are made ------------------------------------------------------------
+
+-- a ring is refused with the refusal's code; where there is none it is made, unless memory is wanting
+abbrev pub IsMakeCode : ℕ → ℕ → ℤ → Type 0
+IsMakeCode C start code = MatchOption (make_refusal_of C start) ((code ≡ pos 0) ⊎ (code ≡ pos 3)) (λ fault. code ≡ make_code fault)
+
+-- a producer and the consumer of one ring, which know this
+pub record ArePaired (many : Bool) (C : ℕ) (v w : View) (p : Side) (c : Reading) : Type 0 where
+  pub producer : p ≡ record { many = many; table = p.table; capacity = C; view = v; claim = None }
+  pub consumer : c ≡ record { many = many; table = p.table; capacity = C; view = w }
+
+abbrev pub HoldPair : Bool → ℕ → View → View → Option Held → Option Held → Type 0
+HoldPair many C v w p c = Holds a_producer (λ s. Holds a_consumer (λ r. ArePaired many C v w s r) c) p
+
+-- the producer holds all shares, and both stand at the start
+abbrev pub HoldFresh : Bool → ℕ → ℕ → Option Held → Option Held → Type 0
+HoldFresh many C start p c = HoldPair many C (first_producer C start) (first_consumer C start) p c
+
+-- handles in use answer 102 and stay as they are; else a ring is made for them, or refused
+abbrev pub Opens : Bool → ℕ → ℕ → Option Held → Option Held → Option Held → Option Held → ℤ → Type 0
+Opens many C start p c p' c' code = (((p ≢ None) ⊎ (c ≢ None)) × (code ≡ pos 102) × (p' ≡ p) × (c' ≡ c))
+    ⊎ ((p ≡ None) × (c ≡ None) × IsMakeCode C start code × (((code ≡ pos 0) × HoldFresh many C start p' c') ⊎ ((code ≢ pos 0) × (p' ≡ None) × (c' ≡ None))))
+
+-- Splitting ----------------------------------------------------------------------
+
+-- a producer was split, or not
+abbrev pub SplitsOff : Option Held → Option Held → Option Held → ℤ → Type 0
+SplitsOff p p' o' code = MatchOption p ((code ≡ pos 100) × (p' ≡ None) × (o' ≡ None))
+    (λ h. MatchOption (a_producer h) (((code ≡ pos 101) ⊎ (code ≡ pos 3)) × (p' ≡ Some h) × (o' ≡ None))
+    (λ s. ((code ≡ pos 0) × Holds a_producer (λ t. Holds a_producer (λ o. Splits s t o) o') p') ⊎ (IsWhole s code × Holds a_producer (λ t. t ≡ s) p' × (o' ≡ None))))
+
+-- a handle in use answers 102 and stays as it is; else a producer is split off into it, or not
+abbrev pub SplitsInto : Option Held → Option Held → Option Held → Option Held → ℤ → Type 0
+SplitsInto p o p' o' code = ((o ≢ None) × (code ≡ pos 102) × (p' ≡ p) × (o' ≡ o)) ⊎ ((o ≡ None) × SplitsOff p p' o' code)
+
+-- Counters that are made ---------------------------------------------------------
+
+-- counters are refused with the refusal's code; where there is none they are made, unless memory is wanting
+abbrev pub IsCountersCode : ℕ → ℤ → Type 0
+IsCountersCode count code = MatchOption (counters_refusal_of count) ((code ≡ pos 0) ⊎ (code ≡ pos 3)) (λ fault. code ≡ counters_code fault)
+
+-- counters of which none was used, with all shares
+pub record AreNew (count reuse_ms : ℕ) (c : CountersSide) : Type 0 where
+  pub registry : registry_of c.manager ≡ fresh_registry count reuse_ms
+  pub writes : writes_of c.manager ≡ []
+  pub shares : shares_of c.manager ≡ 65536
+
+abbrev pub HoldFreshCounters : ℕ → ℕ → Option Held → Type 0
+HoldFreshCounters count reuse_ms h = Holds some_counters (AreNew count reuse_ms) h
+
+-- a handle in use answers 102 and stays as it is; else counters are made for it, or refused
+abbrev pub OpensCounters : ℕ → ℕ → Option Held → Option Held → ℤ → Type 0
+OpensCounters count reuse_ms h h' code = ((h ≢ None) × (code ≡ pos 102) × (h' ≡ h))
+    ⊎ ((h ≡ None) × IsCountersCode count code × (((code ≡ pos 0) × HoldFreshCounters count reuse_ms h') ⊎ ((code ≢ pos 0) × (h' ≡ None))))
+
+-- Joining ------------------------------------------------------------------------
+
+-- where the handle holds one of this kind, P holds of it
+abbrev pub IfHolds : {S : Type 0} → (Held → Option S) → (S → Type 0) → Option Held → Type 0
+IfHolds kind P held = MatchOption held (Unit {0}) (λ h. MatchOption (kind h) (Unit {0}) P)
+
+-- where both are producers, they are of one ring
+abbrev pub AreOfOneRing : Option Held → Option Held → Type 0
+AreOfOneRing p o = IfHolds a_producer (λ s. IfHolds a_producer (λ t. (s.table ≡ t.table) × (s.capacity ≡ t.capacity)) o) p
+
+-- the second producer was taken in by the first, or both stay as they were
+abbrev pub Joined : Side → Side → Option Held → Option Held → ℤ → Type 0
+Joined s t p' o' code = ((code ≡ pos 0) × Holds a_producer (λ u. TakesIn s t u) p' × (o' ≡ None))
+    ⊎ (IsApart s t code × Holds a_producer (λ u. u ≡ s) p' × Holds a_producer (λ u. u ≡ t) o')
+
+abbrev pub JoinsInto : Option Held → Option Held → Option Held → Option Held → ℤ → Type 0
+JoinsInto p o p' o' code = MatchOption p ((code ≡ pos 100) × (p' ≡ None) × (o' ≡ o))
+    (λ h. MatchOption o ((code ≡ pos 100) × (p' ≡ Some h) × (o' ≡ None))
+    (λ k. MatchOption (a_producer h) ((code ≡ pos 101) × (p' ≡ Some h) × (o' ≡ Some k))
+    (λ s. MatchOption (a_producer k) ((code ≡ pos 101) × (p' ≡ Some h) × (o' ≡ Some k))
+    (λ t. Joined s t p' o' code))))

@@ -1,0 +1,69 @@
+//! The codes that exports answer.
+ghost use Rattle.std.specs.Prelude.{◌≡◌};
+ghost use Rattle.ring_c.specs.Codes.{claim_code, make_code, try_code};
+
+use ring_rings::{ClaimFault, MakeFault, TryFault};
+
+/// The call did what it says.
+pub(crate) const DONE: i32 = 0;
+/// There was no memory.
+pub(crate) const OUT_OF_MEMORY: i32 = 3;
+/// Bytes do not lie inside a claim.
+pub(crate) const PUT_RANGE: i32 = 9;
+/// One share is left, and is needed.
+pub(crate) const NO_SHARES: i32 = 12;
+/// No counter with this id is in use.
+pub(crate) const NOT_ALLOCATED: i32 = 21;
+/// The owner is 0.
+pub(crate) const BAD_OWNER: i32 = 28;
+/// The handle is empty.
+pub(crate) const NO_HANDLE: i32 = 100;
+/// The handle stands for something else.
+pub(crate) const WRONG_HANDLE: i32 = 101;
+/// The handle that was to be filled is not empty.
+pub(crate) const HANDLE_IN_USE: i32 = 102;
+/// A claim of the producer is open.
+pub(crate) const CLAIM_OPEN: i32 = 103;
+/// No claim of this number is open.
+pub(crate) const NO_CLAIM: i32 = 104;
+/// Nothing is there yet.
+pub(crate) const NO_MESSAGE: i32 = 105;
+/// The message is longer than the buffer, and stays.
+pub(crate) const SHORT_BUFFER: i32 = 106;
+/// The moment is above 2^62.
+pub(crate) const BAD_MOMENT: i32 = 107;
+/// The two handles are of two rings.
+pub(crate) const OTHER_RING: i32 = 108;
+
+/// The code of a refused claim.
+pub(crate) fn code_of_claim(fault: ClaimFault) -> i32
+    ensures { result ≡ claim_code fault }
+{
+    match fault {
+        ClaimFault::BadType { type_id: _ } => 4,
+        ClaimFault::TooLong { len: _, max: _ } => 5,
+        ClaimFault::PositionLimit { tail: _ } => 6,
+        ClaimFault::InsufficientCapacity { tail: _, head: _ } => 7,
+    }
+}
+
+/// The code of a refused try.
+pub(crate) fn code_of_try(fault: TryFault) -> i32
+    ensures { result ≡ try_code fault }
+{
+    match fault {
+        TryFault::Refused(fault) => code_of_claim(fault),
+        TryFault::Contended { tail: _, seen: _ } => 8,
+    }
+}
+
+/// The code of a ring that was not made.
+pub(crate) fn code_of_make(fault: MakeFault) -> i32
+    ensures { result ≡ make_code fault }
+{
+    match fault {
+        MakeFault::BadCapacity => 1,
+        MakeFault::BadStart => 2,
+        MakeFault::OutOfMemory => OUT_OF_MEMORY,
+    }
+}

@@ -1,0 +1,15 @@
+//! Counters in a handle.
+ghost use Rattle.std.specs.Prelude.{◌≡◌};
+ghost use Rattle.std.specs.Arc.{arc_value};
+ghost use Rattle.ring_counters.specs.Manager.{IsManagerOf};
+
+use ring_counters::{CounterValues, CountersManager};
+use std::sync::Arc;
+
+/// The counters' manager, with their values.
+#[derive(Drop)]
+pub struct CountersSide {
+    pub(crate) values: Arc<CounterValues>,
+    pub(crate) manager: CountersManager,
+    ghost of: { IsManagerOf (arc_value values) manager },
+}

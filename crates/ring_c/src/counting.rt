@@ -1,0 +1,193 @@
+//! What a handle's counters do.
+ghost use Rattle.std.specs.Prelude.{◌≡◌};
+ghost use Rattle.ring_counters.specs.Registry.{counter_at};
+ghost use Rattle.ring_c.specs.Counting.{Asked, OwnerClosed, WasAdded, WasAllocated, WasCounted, WasFound, WasFreed, WasSet, allocate_code, id_code};
+
+use crate::code::{BAD_MOMENT, BAD_OWNER, DONE, NOT_ALLOCATED};
+use crate::counters::CountersSide;
+use ring_counters::{AllocateRefused, IdFault};
+
+/// The greatest moment, in milliseconds.
+const LAST_MOMENT: u64 = 1 << 62;
+
+/// The code of an id that is refused.
+fn code_of_id(fault: IdFault) -> i32
+    ensures { result ≡ id_code fault }
+{
+    match fault {
+        IdFault::BadId => 20,
+        IdFault::NotAllocated => 21,
+    }
+}
+
+/// The code of a counter that is not allocated.
+fn code_of_allocate(fault: AllocateRefused) -> i32
+    ensures { result ≡ allocate_code fault }
+{
+    match fault {
+        AllocateRefused::KeyTooLong => 16,
+        AllocateRefused::LabelTooLong => 17,
+        AllocateRefused::LabelNotAscii => 18,
+        AllocateRefused::NoFreeCounter => 19,
+    }
+}
+
+/// What a counter is allocated with.
+#[derive(Drop)]
+pub(crate) struct Wanted<'a> {
+    pub(crate) now: u64,
+    pub(crate) type_id: i32,
+    pub(crate) key: &'a [u8],
+    pub(crate) label: &'a [u8],
+    pub(crate) registration: u64,
+    pub(crate) owner: u64,
+}
+
+impl CountersSide {
+    /// Allocates a counter, and says its id.
+    pub(crate) fn allocate(&mut self, wanted: Wanted<'_>, id: &mut u32) -> i32
+        ensures { WasAllocated wanted.entry.now wanted.entry.type_id wanted.entry.key.now wanted.entry.label.now wanted.entry.registration wanted.entry.owner id.old id.new self.old self.new result }
+    {
+        let made = self.manager.allocate_owned(
+            &self.values,
+            wanted.now,
+            wanted.type_id,
+            wanted.key,
+            wanted.label,
+            wanted.registration,
+            wanted.owner,
+        );
+        match made {
+            Ok(made) => {
+                *id = made;
+                DONE
+            }
+            Err(fault) => code_of_allocate(fault),
+        }
+    }
+
+    /// Sets a counter's value.
+    pub(crate) fn set(&mut self, id: u32, value: i64) -> i32
+        ensures { WasSet id value self.old self.new result }
+    {
+        match self.manager.set(&self.values, id, value) {
+            Ok(()) => DONE,
+            Err(fault) => code_of_id(fault),
+        }
+    }
+
+    /// Adds to a counter's value, and says the value before.
+    pub(crate) fn add(&mut self, id: u32, delta: i64, before: &mut i64) -> i32
+        ensures { WasAdded id delta before.old before.new self.old self.new result }
+    {
+        match self.manager.add(&self.values, id, delta) {
+            Ok(value) => {
+                *before = value;
+                DONE
+            }
+            Err(fault) => code_of_id(fault),
+        }
+    }
+
+    /// Frees a counter.
+    pub(crate) fn free(&mut self, now: u64, id: u32) -> i32
+        ensures { WasFreed now id self.old self.new result }
+    {
+        if now > LAST_MOMENT {
+            return BAD_MOMENT;
+        }
+        match self.manager.free(now, id) {
+            Ok(()) => DONE,
+            Err(fault) => code_of_id(fault),
+        }
+    }
+
+    /// Frees each counter of an owner, and says how many.
+    pub(crate) fn close_owner(&mut self, now: u64, owner: u64, freed: &mut u32) -> i32
+        ensures { OwnerClosed now owner freed.old freed.new self.old self.new result }
+    {
+        if now > LAST_MOMENT {
+            return BAD_MOMENT;
+        }
+        match self.manager.close_owner(now, owner) {
+            Ok(count) => {
+                *freed = count;
+                DONE
+            }
+            Err(_) => BAD_OWNER,
+        }
+    }
+
+    /// Finds the lowest id in use of a type and a registration id.
+    pub(crate) fn find(&mut self, type_id: i32, registration: u64, id: &mut u32) -> i32
+        ensures { WasFound type_id registration id.old id.new self.old self.new result }
+    {
+        match self.manager.find(type_id, registration) {
+            Some(found) => {
+                *id = found;
+                DONE
+            }
+            None => NOT_ALLOCATED,
+        }
+    }
+
+    /// Says how many ids there are.
+    pub(crate) fn count(&mut self, count: &mut u32) -> i32
+        ensures { WasCounted count.new self.old self.new result }
+    {
+        *count = self.manager.count();
+        DONE
+    }
+
+    /// Says a counter's value.
+    pub(crate) fn value(&mut self, id: u32, value: &mut i64) -> i32
+        ensures { Asked (λ r. (counter_at r id).values.value) id value.old value.new self.old self.new result }
+    {
+        match self.manager.value(id) {
+            Ok(answer) => {
+                *value = answer;
+                DONE
+            }
+            Err(fault) => code_of_id(fault),
+        }
+    }
+
+    /// Says a counter's type.
+    pub(crate) fn type_id(&mut self, id: u32, type_id: &mut i32) -> i32
+        ensures { Asked (λ r. (counter_at r id).metadata.type_id) id type_id.old type_id.new self.old self.new result }
+    {
+        match self.manager.type_id(id) {
+            Ok(answer) => {
+                *type_id = answer;
+                DONE
+            }
+            Err(fault) => code_of_id(fault),
+        }
+    }
+
+    /// Says a counter's registration id.
+    pub(crate) fn registration(&mut self, id: u32, registration: &mut u64) -> i32
+        ensures { Asked (λ r. (counter_at r id).values.registration) id registration.old registration.new self.old self.new result }
+    {
+        match self.manager.registration(id) {
+            Ok(answer) => {
+                *registration = answer;
+                DONE
+            }
+            Err(fault) => code_of_id(fault),
+        }
+    }
+
+    /// Says a counter's owner, 0 for none.
+    pub(crate) fn owner(&mut self, id: u32, owner: &mut u64) -> i32
+        ensures { Asked (λ r. (counter_at r id).values.owner) id owner.old owner.new self.old self.new result }
+    {
+        match self.manager.owner(id) {
+            Ok(answer) => {
+                *owner = answer;
+                DONE
+            }
+            Err(fault) => code_of_id(fault),
+        }
+    }
+}

@@ -1,0 +1,293 @@
+//! What a handle of counters does.
+ghost use Rattle.ring_counters.specs.Registry.{counter_at};
+ghost use Rattle.ring_c.specs.Counting.{Asked, OwnerClosed, WasAdded, WasAllocated, WasCounted, WasFound, WasFreed, WasSet};
+ghost use Rattle.ring_c.specs.Told.{some_counters, Uses};
+
+use crate::code::{NO_HANDLE, WRONG_HANDLE};
+use crate::counting::Wanted;
+use crate::handle::Handle;
+use crate::held::Held;
+use std::alloc::Global;
+
+/// Allocates a counter of value 0, and says its id.
+#[unsafe(no_mangle)]
+pub extern "C" fn felter_counter_allocate(
+    alloc: Global,
+    counters: &mut Handle,
+    now: u64,
+    type_id: i32,
+    key: &[u8],
+    label: &[u8],
+    registration: u64,
+    id: &mut u32,
+) -> i32
+    ensures { Uses some_counters (WasAllocated now type_id key.now label.now registration 0 id.old id.new) counters.old.held counters.new.held result }
+{
+    let Some(mut held) = counters.take(alloc) else {
+        return NO_HANDLE;
+    };
+    let code = match &mut *held {
+        Held::Counters(side) => side.allocate(
+            Wanted {
+                now,
+                type_id,
+                key,
+                label,
+                registration,
+                owner: 0,
+            },
+            id,
+        ),
+        _ => WRONG_HANDLE,
+    };
+    counters.put(held);
+    code
+}
+
+/// Allocates a counter of value 0 for an owner, and says its id.
+#[unsafe(no_mangle)]
+pub extern "C" fn felter_counter_allocate_owned(
+    alloc: Global,
+    counters: &mut Handle,
+    now: u64,
+    type_id: i32,
+    key: &[u8],
+    label: &[u8],
+    registration: u64,
+    owner: u64,
+    id: &mut u32,
+) -> i32
+    ensures { Uses some_counters (WasAllocated now type_id key.now label.now registration owner id.old id.new) counters.old.held counters.new.held result }
+{
+    let Some(mut held) = counters.take(alloc) else {
+        return NO_HANDLE;
+    };
+    let code = match &mut *held {
+        Held::Counters(side) => side.allocate(
+            Wanted {
+                now,
+                type_id,
+                key,
+                label,
+                registration,
+                owner,
+            },
+            id,
+        ),
+        _ => WRONG_HANDLE,
+    };
+    counters.put(held);
+    code
+}
+
+/// Sets a counter's value.
+#[unsafe(no_mangle)]
+pub extern "C" fn felter_counter_set(
+    alloc: Global,
+    counters: &mut Handle,
+    id: u32,
+    value: i64,
+) -> i32
+    ensures { Uses some_counters (WasSet id value) counters.old.held counters.new.held result }
+{
+    let Some(mut held) = counters.take(alloc) else {
+        return NO_HANDLE;
+    };
+    let code = match &mut *held {
+        Held::Counters(side) => side.set(id, value),
+        _ => WRONG_HANDLE,
+    };
+    counters.put(held);
+    code
+}
+
+/// Adds to a counter's value, which wraps, and says the value before.
+#[unsafe(no_mangle)]
+pub extern "C" fn felter_counter_add(
+    alloc: Global,
+    counters: &mut Handle,
+    id: u32,
+    delta: i64,
+    before: &mut i64,
+) -> i32
+    ensures { Uses some_counters (WasAdded id delta before.old before.new) counters.old.held counters.new.held result }
+{
+    let Some(mut held) = counters.take(alloc) else {
+        return NO_HANDLE;
+    };
+    let code = match &mut *held {
+        Held::Counters(side) => side.add(id, delta, before),
+        _ => WRONG_HANDLE,
+    };
+    counters.put(held);
+    code
+}
+
+/// Frees a counter at a moment, in milliseconds and at most 2^62.
+#[unsafe(no_mangle)]
+pub extern "C" fn felter_counter_free(
+    alloc: Global,
+    counters: &mut Handle,
+    now: u64,
+    id: u32,
+) -> i32
+    ensures { Uses some_counters (WasFreed now id) counters.old.held counters.new.held result }
+{
+    let Some(mut held) = counters.take(alloc) else {
+        return NO_HANDLE;
+    };
+    let code = match &mut *held {
+        Held::Counters(side) => side.free(now, id),
+        _ => WRONG_HANDLE,
+    };
+    counters.put(held);
+    code
+}
+
+/// Frees each counter of an owner, and says how many.
+#[unsafe(no_mangle)]
+pub extern "C" fn felter_counters_close_owner(
+    alloc: Global,
+    counters: &mut Handle,
+    now: u64,
+    owner: u64,
+    freed: &mut u32,
+) -> i32
+    ensures { Uses some_counters (OwnerClosed now owner freed.old freed.new) counters.old.held counters.new.held result }
+{
+    let Some(mut held) = counters.take(alloc) else {
+        return NO_HANDLE;
+    };
+    let code = match &mut *held {
+        Held::Counters(side) => side.close_owner(now, owner, freed),
+        _ => WRONG_HANDLE,
+    };
+    counters.put(held);
+    code
+}
+
+/// Finds the lowest id in use of a type and a registration id.
+#[unsafe(no_mangle)]
+pub extern "C" fn felter_counter_find(
+    alloc: Global,
+    counters: &mut Handle,
+    type_id: i32,
+    registration: u64,
+    id: &mut u32,
+) -> i32
+    ensures { Uses some_counters (WasFound type_id registration id.old id.new) counters.old.held counters.new.held result }
+{
+    let Some(mut held) = counters.take(alloc) else {
+        return NO_HANDLE;
+    };
+    let code = match &mut *held {
+        Held::Counters(side) => side.find(type_id, registration, id),
+        _ => WRONG_HANDLE,
+    };
+    counters.put(held);
+    code
+}
+
+/// Says how many ids there are, in use or not.
+#[unsafe(no_mangle)]
+pub extern "C" fn felter_counters_count(
+    alloc: Global,
+    counters: &mut Handle,
+    count: &mut u32,
+) -> i32
+    ensures { Uses some_counters (WasCounted count.new) counters.old.held counters.new.held result }
+{
+    let Some(mut held) = counters.take(alloc) else {
+        return NO_HANDLE;
+    };
+    let code = match &mut *held {
+        Held::Counters(side) => side.count(count),
+        _ => WRONG_HANDLE,
+    };
+    counters.put(held);
+    code
+}
+
+/// Says a counter's value.
+#[unsafe(no_mangle)]
+pub extern "C" fn felter_counter_value(
+    alloc: Global,
+    counters: &mut Handle,
+    id: u32,
+    value: &mut i64,
+) -> i32
+    ensures { Uses some_counters (Asked (λ r. (counter_at r id).values.value) id value.old value.new) counters.old.held counters.new.held result }
+{
+    let Some(mut held) = counters.take(alloc) else {
+        return NO_HANDLE;
+    };
+    let code = match &mut *held {
+        Held::Counters(side) => side.value(id, value),
+        _ => WRONG_HANDLE,
+    };
+    counters.put(held);
+    code
+}
+
+/// Says a counter's type.
+#[unsafe(no_mangle)]
+pub extern "C" fn felter_counter_type_id(
+    alloc: Global,
+    counters: &mut Handle,
+    id: u32,
+    type_id: &mut i32,
+) -> i32
+    ensures { Uses some_counters (Asked (λ r. (counter_at r id).metadata.type_id) id type_id.old type_id.new) counters.old.held counters.new.held result }
+{
+    let Some(mut held) = counters.take(alloc) else {
+        return NO_HANDLE;
+    };
+    let code = match &mut *held {
+        Held::Counters(side) => side.type_id(id, type_id),
+        _ => WRONG_HANDLE,
+    };
+    counters.put(held);
+    code
+}
+
+/// Says a counter's registration id.
+#[unsafe(no_mangle)]
+pub extern "C" fn felter_counter_registration(
+    alloc: Global,
+    counters: &mut Handle,
+    id: u32,
+    registration: &mut u64,
+) -> i32
+    ensures { Uses some_counters (Asked (λ r. (counter_at r id).values.registration) id registration.old registration.new) counters.old.held counters.new.held result }
+{
+    let Some(mut held) = counters.take(alloc) else {
+        return NO_HANDLE;
+    };
+    let code = match &mut *held {
+        Held::Counters(side) => side.registration(id, registration),
+        _ => WRONG_HANDLE,
+    };
+    counters.put(held);
+    code
+}
+
+/// Says a counter's owner, 0 for none.
+#[unsafe(no_mangle)]
+pub extern "C" fn felter_counter_owner(
+    alloc: Global,
+    counters: &mut Handle,
+    id: u32,
+    owner: &mut u64,
+) -> i32
+    ensures { Uses some_counters (Asked (λ r. (counter_at r id).values.owner) id owner.old owner.new) counters.old.held counters.new.held result }
+{
+    let Some(mut held) = counters.take(alloc) else {
+        return NO_HANDLE;
+    };
+    let code = match &mut *held {
+        Held::Counters(side) => side.owner(id, owner),
+        _ => WRONG_HANDLE,
+    };
+    counters.put(held);
+    code
+}

@@ -1,0 +1,63 @@
+//! Counters that are made for a handle.
+ghost use Rattle.std.specs.Prelude.{◌≡◌, ◌≢◌, pos, IfOk, MatchResult};
+ghost use Rattle.std.specs.declared.option.Option.TheVariants.{Some};
+ghost use Rattle.ring_c.specs.Counting.{make_code};
+ghost use Rattle.ring_c.specs.Told.{HoldFreshCounters, IsCountersCode, OpensCounters};
+
+use crate::code::{DONE, HANDLE_IN_USE, OUT_OF_MEMORY};
+use crate::counters::CountersSide;
+use crate::handle::Handle;
+use crate::held::Held;
+use ring_counters::{CountersManager, MakeFault};
+use std::alloc::Global;
+use std::sync::Arc;
+
+/// The code of counters that were not made.
+fn code_of_make(fault: MakeFault) -> i32
+    ensures { result ≡ make_code fault }
+{
+    match fault {
+        MakeFault::BadCount => 15,
+        MakeFault::OutOfMemory => OUT_OF_MEMORY,
+    }
+}
+
+/// Makes counters.
+fn make_counters(alloc: Global, count: u32, reuse_ms: u32) -> Result<Box<Held>, i32>
+    ensures made { IfOk result (λ made. HoldFreshCounters count reuse_ms (Some made.value)) }
+    ensures code { MatchResult result (λ _. IsCountersCode count (pos 0)) (λ code. IsCountersCode count code × (code ≢ pos 0)) }
+{
+    let (values, manager) = match CountersManager::new(alloc, count, reuse_ms) {
+        Ok(made) => made,
+        Err(fault) => return Err(code_of_make(fault)),
+    };
+    let Ok(values) = Arc::new(alloc, values) else {
+        return Err(OUT_OF_MEMORY);
+    };
+    match Box::new(alloc, Held::Counters(CountersSide { values, manager })) {
+        Ok(made) => Ok(made),
+        Err(_) => Err(OUT_OF_MEMORY),
+    }
+}
+
+/// Makes counters with the ids below `count`. A freed id rests for `reuse_ms` milliseconds.
+#[unsafe(no_mangle)]
+pub extern "C" fn felter_counters_new(
+    alloc: Global,
+    count: u32,
+    reuse_ms: u32,
+    counters: &mut Handle,
+) -> i32
+    ensures { OpensCounters count reuse_ms counters.old.held counters.new.held result }
+{
+    if !counters.is_empty(alloc) {
+        return HANDLE_IN_USE;
+    }
+    match make_counters(alloc, count, reuse_ms) {
+        Ok(made) => {
+            counters.put(made);
+            DONE
+        }
+        Err(code) => code,
+    }
+}

@@ -1,0 +1,183 @@
+//! Rings that are made for handles.
+ghost use Rattle.std.specs.Prelude.{◌≡◌, ◌≢◌, pos, true, false, IfErr, IfOk, MatchResult};
+ghost use Rattle.std.specs.declared.option.Option.TheVariants.{Some};
+ghost use Rattle.ring_rings.specs.Seats.{consumer_view, view_of};
+ghost use Rattle.ring_c.specs.Side.{capacity_in, is_many, table_in, IsConsumerIn, IsProducerIn};
+ghost use Rattle.ring_c.specs.Told.{HoldFresh, HoldPair, IsMakeCode, Opens};
+
+use crate::code::{DONE, HANDLE_IN_USE, OUT_OF_MEMORY, code_of_make};
+use crate::consumer::ConsumerSide;
+use crate::handle::Handle;
+use crate::held::Held;
+use crate::producer::ProducerSide;
+use crate::ring::AnyRing;
+use ring_rings::{Consumer, ManyToOneRing, OneToOneRing, Producer};
+use std::alloc::Global;
+use std::sync::Arc;
+
+/// What two handles are filled with.
+type Pair = (Box<Held>, Box<Held>);
+
+/// Puts a new ring's producer and consumer into boxes.
+fn box_both(
+    alloc: Global,
+    ring: AnyRing,
+    same: AnyRing,
+    producer: Producer,
+    consumer: Consumer,
+) -> Result<Pair, i32>
+    requires same { (is_many same ≡ is_many ring) × (table_in same ≡ table_in ring) × (capacity_in same ≡ capacity_in ring) }
+    requires producer { IsProducerIn ring producer }
+    requires consumer { IsConsumerIn same consumer }
+    ensures made { IfOk result (λ made. HoldPair (is_many ring) (capacity_in ring) (view_of producer) (consumer_view consumer) (Some made.0.value) (Some made.1.value)) }
+    ensures refused { IfErr result (λ code. code ≡ pos 3) }
+{
+    let one = Held::Producer(ProducerSide {
+        ring,
+        producer,
+        claim: None,
+    });
+    let two = Held::Consumer(ConsumerSide {
+        ring: same,
+        consumer,
+    });
+    let Ok(one) = Box::new(alloc, one) else {
+        return Err(OUT_OF_MEMORY);
+    };
+    let Ok(two) = Box::new(alloc, two) else {
+        return Err(OUT_OF_MEMORY);
+    };
+    Ok((one, two))
+}
+
+/// Makes a ring of many producers.
+fn make_many(alloc: Global, capacity: u32, start: u64) -> Result<Pair, i32>
+    ensures made { IfOk result (λ made. HoldFresh true capacity start (Some made.0.value) (Some made.1.value)) }
+    ensures code { MatchResult result (λ _. IsMakeCode capacity start (pos 0)) (λ code. IsMakeCode capacity start code × (code ≢ pos 0)) }
+{
+    let (ring, producer, consumer) = match ManyToOneRing::new_at(alloc, capacity, start) {
+        Ok(made) => made,
+        Err(fault) => return Err(code_of_make(fault)),
+    };
+    let Ok(ring) = Arc::new(alloc, ring) else {
+        return Err(OUT_OF_MEMORY);
+    };
+    let Ok(same) = Arc::try_clone(&ring) else {
+        return Err(OUT_OF_MEMORY);
+    };
+    let (ring, same) = (AnyRing::Many(ring), AnyRing::Many(same));
+    box_both(alloc, ring, same, producer, consumer)
+}
+
+/// Makes a ring of one producer.
+fn make_one(alloc: Global, capacity: u32, start: u64) -> Result<Pair, i32>
+    ensures made { IfOk result (λ made. HoldFresh false capacity start (Some made.0.value) (Some made.1.value)) }
+    ensures code { MatchResult result (λ _. IsMakeCode capacity start (pos 0)) (λ code. IsMakeCode capacity start code × (code ≢ pos 0)) }
+{
+    let (ring, producer, consumer) = match OneToOneRing::new_at(alloc, capacity, start) {
+        Ok(made) => made,
+        Err(fault) => return Err(code_of_make(fault)),
+    };
+    let Ok(ring) = Arc::new(alloc, ring) else {
+        return Err(OUT_OF_MEMORY);
+    };
+    let Ok(same) = Arc::try_clone(&ring) else {
+        return Err(OUT_OF_MEMORY);
+    };
+    let (ring, same) = (AnyRing::One(ring), AnyRing::One(same));
+    box_both(alloc, ring, same, producer, consumer)
+}
+
+/// Makes a ring that starts at a multiple of its capacity, with a producer that holds all shares, and the consumer.
+#[unsafe(no_mangle)]
+pub extern "C" fn felter_many_to_one_new_at(
+    alloc: Global,
+    capacity: u32,
+    start: u64,
+    producer: &mut Handle,
+    consumer: &mut Handle,
+) -> i32
+    ensures { Opens true capacity start producer.old.held consumer.old.held producer.new.held consumer.new.held result }
+{
+    if !producer.is_empty(alloc) || !consumer.is_empty(alloc) {
+        return HANDLE_IN_USE;
+    }
+    match make_many(alloc, capacity, start) {
+        Ok((one, two)) => {
+            producer.put(one);
+            consumer.put(two);
+            DONE
+        }
+        Err(code) => code,
+    }
+}
+
+/// Makes a ring that starts at 0, with a producer that holds all shares, and the consumer.
+#[unsafe(no_mangle)]
+pub extern "C" fn felter_many_to_one_new(
+    alloc: Global,
+    capacity: u32,
+    producer: &mut Handle,
+    consumer: &mut Handle,
+) -> i32
+    ensures { Opens true capacity 0 producer.old.held consumer.old.held producer.new.held consumer.new.held result }
+{
+    if !producer.is_empty(alloc) || !consumer.is_empty(alloc) {
+        return HANDLE_IN_USE;
+    }
+    match make_many(alloc, capacity, 0) {
+        Ok((one, two)) => {
+            producer.put(one);
+            consumer.put(two);
+            DONE
+        }
+        Err(code) => code,
+    }
+}
+
+/// Makes a ring with one producer that starts at a multiple of its capacity.
+#[unsafe(no_mangle)]
+pub extern "C" fn felter_one_to_one_new_at(
+    alloc: Global,
+    capacity: u32,
+    start: u64,
+    producer: &mut Handle,
+    consumer: &mut Handle,
+) -> i32
+    ensures { Opens false capacity start producer.old.held consumer.old.held producer.new.held consumer.new.held result }
+{
+    if !producer.is_empty(alloc) || !consumer.is_empty(alloc) {
+        return HANDLE_IN_USE;
+    }
+    match make_one(alloc, capacity, start) {
+        Ok((one, two)) => {
+            producer.put(one);
+            consumer.put(two);
+            DONE
+        }
+        Err(code) => code,
+    }
+}
+
+/// Makes a ring with one producer that starts at 0.
+#[unsafe(no_mangle)]
+pub extern "C" fn felter_one_to_one_new(
+    alloc: Global,
+    capacity: u32,
+    producer: &mut Handle,
+    consumer: &mut Handle,
+) -> i32
+    ensures { Opens false capacity 0 producer.old.held consumer.old.held producer.new.held consumer.new.held result }
+{
+    if !producer.is_empty(alloc) || !consumer.is_empty(alloc) {
+        return HANDLE_IN_USE;
+    }
+    match make_one(alloc, capacity, 0) {
+        Ok((one, two)) => {
+            producer.put(one);
+            consumer.put(two);
+            DONE
+        }
+        Err(code) => code,
+    }
+}

@@ -1,0 +1,175 @@
+//! What a producer's handle does.
+ghost use Rattle.ring_layout.specs.declared.message.ClaimState.TheVariants.{Aborted, Committed};
+ghost use Rattle.ring_c.specs.Producing.{Claimed, Counted, Drew, HeardBeat, Positioned, Put, Settled, Wrote};
+ghost use Rattle.ring_c.specs.Told.{a_producer, Uses};
+
+use crate::code::{NO_HANDLE, WRONG_HANDLE};
+use crate::handle::Handle;
+use crate::held::Held;
+use std::alloc::Global;
+
+/// Writes a message, by one try.
+#[unsafe(no_mangle)]
+pub extern "C" fn felter_write(
+    alloc: Global,
+    producer: &mut Handle,
+    type_id: i32,
+    body: &[u8],
+) -> i32
+    ensures { Uses a_producer (Wrote type_id body.now) producer.old.held producer.new.held result }
+{
+    let Some(mut held) = producer.take(alloc) else {
+        return NO_HANDLE;
+    };
+    let code = match &mut *held {
+        Held::Producer(side) => side.write(type_id, body),
+        _ => WRONG_HANDLE,
+    };
+    producer.put(held);
+    code
+}
+
+/// Claims room for a message of `len` bytes, which are 0 until they are put, and says the claim's number.
+#[unsafe(no_mangle)]
+pub extern "C" fn felter_claim(
+    alloc: Global,
+    producer: &mut Handle,
+    type_id: i32,
+    len: usize,
+    claim: &mut u64,
+) -> i32
+    ensures { Uses a_producer (Claimed type_id len claim.old claim.new) producer.old.held producer.new.held result }
+{
+    let Some(mut held) = producer.take(alloc) else {
+        return NO_HANDLE;
+    };
+    let code = match &mut *held {
+        Held::Producer(side) => side.claim(type_id, len, claim),
+        _ => WRONG_HANDLE,
+    };
+    producer.put(held);
+    code
+}
+
+/// Puts bytes into the open claim, from the byte `offset` on.
+#[unsafe(no_mangle)]
+pub extern "C" fn felter_put(
+    alloc: Global,
+    producer: &mut Handle,
+    claim: u64,
+    offset: usize,
+    bytes: &[u8],
+) -> i32
+    ensures { Uses a_producer (Put claim offset bytes.now) producer.old.held producer.new.held result }
+{
+    let Some(mut held) = producer.take(alloc) else {
+        return NO_HANDLE;
+    };
+    let code = match &mut *held {
+        Held::Producer(side) => side.put(claim, offset, bytes),
+        _ => WRONG_HANDLE,
+    };
+    producer.put(held);
+    code
+}
+
+/// Settles the open claim: the consumer is shown its message.
+#[unsafe(no_mangle)]
+pub extern "C" fn felter_commit(alloc: Global, producer: &mut Handle, claim: u64) -> i32
+    ensures { Uses a_producer (Settled Committed claim) producer.old.held producer.new.held result }
+{
+    let Some(mut held) = producer.take(alloc) else {
+        return NO_HANDLE;
+    };
+    let code = match &mut *held {
+        Held::Producer(side) => side.commit(claim),
+        _ => WRONG_HANDLE,
+    };
+    producer.put(held);
+    code
+}
+
+/// Settles the open claim: the consumer passes it.
+#[unsafe(no_mangle)]
+pub extern "C" fn felter_abort(alloc: Global, producer: &mut Handle, claim: u64) -> i32
+    ensures { Uses a_producer (Settled Aborted claim) producer.old.held producer.new.held result }
+{
+    let Some(mut held) = producer.take(alloc) else {
+        return NO_HANDLE;
+    };
+    let code = match &mut *held {
+        Held::Producer(side) => side.abort(claim),
+        _ => WRONG_HANDLE,
+    };
+    producer.put(held);
+    code
+}
+
+/// Loads the head, and then the tail.
+#[unsafe(no_mangle)]
+pub extern "C" fn felter_positions(
+    alloc: Global,
+    producer: &mut Handle,
+    head: &mut u64,
+    tail: &mut u64,
+) -> i32
+    ensures { Uses a_producer (Positioned head.new tail.new) producer.old.held producer.new.held result }
+{
+    let Some(mut held) = producer.take(alloc) else {
+        return NO_HANDLE;
+    };
+    let code = match &mut *held {
+        Held::Producer(side) => side.positions(head, tail),
+        _ => WRONG_HANDLE,
+    };
+    producer.put(held);
+    code
+}
+
+/// Draws the ring's next correlation id.
+#[unsafe(no_mangle)]
+pub extern "C" fn felter_next_id(alloc: Global, producer: &mut Handle, id: &mut u64) -> i32
+    ensures { Uses a_producer (Drew id.new) producer.old.held producer.new.held result }
+{
+    let Some(mut held) = producer.take(alloc) else {
+        return NO_HANDLE;
+    };
+    let code = match &mut *held {
+        Held::Producer(side) => side.next_id(id),
+        _ => WRONG_HANDLE,
+    };
+    producer.put(held);
+    code
+}
+
+/// Loads the heartbeat that the consumer stored last, 0 before the first.
+#[unsafe(no_mangle)]
+pub extern "C" fn felter_heartbeat(alloc: Global, producer: &mut Handle, value: &mut u64) -> i32
+    ensures { Uses a_producer (HeardBeat value.new) producer.old.held producer.new.held result }
+{
+    let Some(mut held) = producer.take(alloc) else {
+        return NO_HANDLE;
+    };
+    let code = match &mut *held {
+        Held::Producer(side) => side.heartbeat(value),
+        _ => WRONG_HANDLE,
+    };
+    producer.put(held);
+    code
+}
+
+/// Says how many of the ring's 65,536 shares the producer holds.
+#[unsafe(no_mangle)]
+pub extern "C" fn felter_shares(alloc: Global, producer: &mut Handle, shares: &mut u32) -> i32
+    ensures { Uses a_producer (Counted shares.new) producer.old.held producer.new.held result }
+{
+    let Some(mut held) = producer.take(alloc) else {
+        return NO_HANDLE;
+    };
+    let code = match &mut *held {
+        Held::Producer(side) => side.shares(shares),
+        _ => WRONG_HANDLE,
+    };
+    producer.put(held);
+    code
+}

@@ -1,0 +1,34 @@
+//! Rings for C: each export works on handles, and each handle owns what it stands for.
+#![tactic(auto)]
+
+mod code;
+mod consumer;
+mod copying;
+mod counters;
+mod counting;
+mod exports;
+mod handle;
+mod held;
+mod loose;
+mod producer;
+mod ring;
+
+pub use exports::consuming::{felter_read, felter_set_heartbeat};
+pub use exports::counting::{
+    felter_counter_add, felter_counter_allocate, felter_counter_allocate_owned,
+    felter_counter_find, felter_counter_free, felter_counter_owner, felter_counter_registration,
+    felter_counter_set, felter_counter_type_id, felter_counter_value, felter_counters_close_owner,
+    felter_counters_count,
+};
+pub use exports::counting_new::felter_counters_new;
+pub use exports::joining::felter_join;
+pub use exports::opening::{
+    felter_many_to_one_new, felter_many_to_one_new_at, felter_one_to_one_new,
+    felter_one_to_one_new_at,
+};
+pub use exports::producing::{
+    felter_abort, felter_claim, felter_commit, felter_heartbeat, felter_next_id, felter_positions,
+    felter_put, felter_shares, felter_write,
+};
+pub use exports::sharing::{felter_free, felter_split};
+pub use handle::{Handle, handle_crosses};

@@ -1,0 +1,241 @@
+//! A producer in a handle.
+ghost use Rattle.std.specs.Prelude.{◌≡◌, IfErr, IfOk, OnOk};
+ghost use Rattle.ring_layout.specs.declared.message.ClaimState.TheVariants.{Aborted, Committed};
+ghost use Rattle.ring_c.specs.Producing.{Claimed, Counted, Drew, HeardBeat, IsApart, IsWhole, Positioned, Put, Settled, Splits, TakesIn, Wrote};
+
+use crate::code::{
+    CLAIM_OPEN, DONE, NO_CLAIM, NO_SHARES, OTHER_RING, OUT_OF_MEMORY, PUT_RANGE, WRONG_HANDLE,
+    code_of_claim, code_of_try,
+};
+use crate::ring::AnyRing;
+use ring_rings::{Claim, Producer};
+use std::marker::Model;
+use std::sync::Arc;
+
+/// A producer, with the ring that it writes into.
+#[derive(Drop)]
+pub struct ProducerSide {
+    pub(crate) ring: AnyRing,
+    pub(crate) producer: Producer,
+    /// The claim that is open, if one is.
+    pub(crate) claim: Option<Claim>,
+}
+
+impl Model for ProducerSide {
+    ghost use Rattle.ring_rings.specs.Seats.{view_of};
+    ghost use Rattle.ring_c.specs.Side.{capacity_in, is_many, table_in, IsSide, Side};
+
+    ghost Value = { Side };
+
+    ghost view = { λ a. record { many = is_many a.ring; table = table_in a.ring; capacity = capacity_in a.ring; view = view_of a.producer; claim = a.claim } };
+
+    ghost invariant = { λ a. IsSide a.ring a.producer a.claim };
+}
+
+impl ProducerSide {
+    /// Writes a message, by one try.
+    pub(crate) fn write(&mut self, type_id: i32, body: &[u8]) -> i32
+        ensures { Wrote type_id body.now self.old self.new result }
+    {
+        match &self.ring {
+            AnyRing::Many(ring) => match ring.write_once(&mut self.producer, type_id, body) {
+                Ok(()) => DONE,
+                Err(fault) => code_of_try(fault),
+            },
+            AnyRing::One(ring) => match ring.write(&mut self.producer, type_id, body) {
+                Ok(()) => DONE,
+                Err(fault) => code_of_claim(fault),
+            },
+        }
+    }
+
+    /// Claims room for a message, where no claim is open.
+    pub(crate) fn claim(&mut self, type_id: i32, len: usize, number: &mut u64) -> i32
+        ensures { Claimed type_id len number.old number.new self.old self.new result }
+    {
+        if let Some(_) = &self.claim {
+            return CLAIM_OPEN;
+        }
+        match &self.ring {
+            AnyRing::Many(ring) => match ring.claim_once(&mut self.producer, type_id, len) {
+                Ok(claim) => {
+                    *number = claim.place();
+                    self.claim = Some(claim);
+                    DONE
+                }
+                Err(fault) => code_of_try(fault),
+            },
+            AnyRing::One(ring) => match ring.claim(&mut self.producer, type_id, len) {
+                Ok(claim) => {
+                    *number = claim.place();
+                    self.claim = Some(claim);
+                    DONE
+                }
+                Err(fault) => code_of_claim(fault),
+            },
+        }
+    }
+
+    /// Puts bytes into the open claim.
+    pub(crate) fn put(&mut self, number: u64, offset: usize, bytes: &[u8]) -> i32
+        ensures { Put number offset bytes.now self.old self.new result }
+    {
+        let Some(claim) = &mut self.claim else {
+            return NO_CLAIM;
+        };
+        if claim.place() != number {
+            return NO_CLAIM;
+        }
+        let put = match &self.ring {
+            AnyRing::Many(ring) => ring.put(&mut self.producer, claim, offset, bytes),
+            AnyRing::One(ring) => ring.put(&mut self.producer, claim, offset, bytes),
+        };
+        match put {
+            Ok(()) => DONE,
+            Err(_) => PUT_RANGE,
+        }
+    }
+
+    /// Commits the open claim.
+    pub(crate) fn commit(&mut self, number: u64) -> i32
+        ensures { Settled Committed number self.old self.new result }
+    {
+        let Some(claim) = self.claim.take() else {
+            return NO_CLAIM;
+        };
+        if claim.place() != number {
+            self.claim = Some(claim);
+            return NO_CLAIM;
+        }
+        match &self.ring {
+            AnyRing::Many(ring) => ring.commit(&mut self.producer, claim),
+            AnyRing::One(ring) => ring.commit(&mut self.producer, claim),
+        }
+        DONE
+    }
+
+    /// Aborts the open claim.
+    pub(crate) fn abort(&mut self, number: u64) -> i32
+        ensures { Settled Aborted number self.old self.new result }
+    {
+        let Some(claim) = self.claim.take() else {
+            return NO_CLAIM;
+        };
+        if claim.place() != number {
+            self.claim = Some(claim);
+            return NO_CLAIM;
+        }
+        match &self.ring {
+            AnyRing::Many(ring) => ring.abort(&mut self.producer, claim),
+            AnyRing::One(ring) => ring.abort(&mut self.producer, claim),
+        }
+        DONE
+    }
+
+    /// Aborts the open claim, if one is.
+    pub(crate) fn abort_open(&mut self) {
+        if let Some(claim) = self.claim.take() {
+            match &self.ring {
+                AnyRing::Many(ring) => ring.abort(&mut self.producer, claim),
+                AnyRing::One(ring) => ring.abort(&mut self.producer, claim),
+            }
+        }
+    }
+
+    /// Loads the head, and then the tail.
+    pub(crate) fn positions(&mut self, head: &mut u64, tail: &mut u64) -> i32
+        ensures { Positioned head.new tail.new self.old self.new result }
+    {
+        let found = match &self.ring {
+            AnyRing::Many(ring) => ring.positions(&mut self.producer),
+            AnyRing::One(ring) => ring.positions(&mut self.producer),
+        };
+        *head = found.head;
+        *tail = found.tail;
+        DONE
+    }
+
+    /// Draws the ring's next correlation id.
+    pub(crate) fn next_id(&mut self, id: &mut u64) -> i32
+        ensures { Drew id.new self.old self.new result }
+    {
+        *id = match &self.ring {
+            AnyRing::Many(ring) => ring.next_correlation_id(&mut self.producer),
+            AnyRing::One(ring) => ring.next_correlation_id(&mut self.producer),
+        };
+        DONE
+    }
+
+    /// Loads the consumer's heartbeat.
+    pub(crate) fn heartbeat(&mut self, value: &mut u64) -> i32
+        ensures { HeardBeat value.new self.old self.new result }
+    {
+        *value = match &self.ring {
+            AnyRing::Many(ring) => ring.heartbeat(&mut self.producer),
+            AnyRing::One(ring) => ring.heartbeat(&mut self.producer),
+        };
+        DONE
+    }
+
+    /// Says how many shares it holds.
+    pub(crate) fn shares(&mut self, shares: &mut u32) -> i32
+        ensures { Counted shares.new self.old self.new result }
+    {
+        *shares = self.producer.shares();
+        DONE
+    }
+
+    /// Makes another producer of the same ring, where no claim is open.
+    pub(crate) fn split(&mut self) -> Result<ProducerSide, i32>
+        ensures split { IfOk result (Splits self.old self.new) }
+        ensures refused { IfErr result (λ code. (self.new ≡ self.old) × IsWhole self.old code) }
+    {
+        let AnyRing::Many(ring) = &self.ring else {
+            return Err(WRONG_HANDLE);
+        };
+        if self.claim.is_some() {
+            return Err(CLAIM_OPEN);
+        }
+        let Ok(same) = Arc::try_clone(ring) else {
+            return Err(OUT_OF_MEMORY);
+        };
+        match ring.split(&mut self.producer) {
+            Ok(producer) => Ok(ProducerSide {
+                ring: AnyRing::Many(same),
+                producer,
+                claim: None,
+            }),
+            Err(_) => Err(NO_SHARES),
+        }
+    }
+
+    /// Takes another producer of the same ring in, with its shares, where no claim of either is open. Else it comes back.
+    pub(crate) fn join(&mut self, other: ProducerSide) -> Result<(), (i32, ProducerSide)>
+        requires { (self.old.table ≡ other.table) × (self.old.capacity ≡ other.capacity) }
+        ensures joined { OnOk result (TakesIn self.old other self.new) }
+        ensures refused { IfErr result (λ r. (self.new ≡ self.old) × (r.1 ≡ other) × IsApart self.old other r.0) }
+    {
+        let AnyRing::Many(ring) = &self.ring else {
+            return Err((WRONG_HANDLE, other));
+        };
+        let AnyRing::Many(same) = &other.ring else {
+            return Err((WRONG_HANDLE, other));
+        };
+        if ring.capacity() != same.capacity() {
+            return Err((OTHER_RING, other));
+        }
+        if let Some(_) = &self.claim {
+            return Err((CLAIM_OPEN, other));
+        }
+        if let Some(_) = &other.claim {
+            return Err((CLAIM_OPEN, other));
+        }
+        let ProducerSide {
+            ring: _,
+            producer,
+            claim: _,
+        } = other;
+        ring.join(&mut self.producer, producer);
+        Ok(())
+    }
+}
