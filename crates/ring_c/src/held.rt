@@ -1,6 +1,5 @@
 //! What a handle can stand for.
 use crate::consumer::ConsumerSide;
-use crate::counters::CountersSide;
 use crate::producer::ProducerSide;
 
 /// What a handle can stand for.
@@ -10,5 +9,4 @@ pub enum Held {
     Vacant,
     Producer(ProducerSide),
     Consumer(ConsumerSide),
-    Counters(CountersSide),
 }

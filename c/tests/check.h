@@ -1,0 +1,36 @@
+/* What the tests of C share. A test ends with status 1 at the first check that fails, and says where. */
+#ifndef CHECK_H
+#define CHECK_H
+
+#include "felter.h"
+
+#include <inttypes.h>
+#include <stdio.h>
+#include <stdlib.h>
+#include <string.h>
+
+/* Refuses to go on where this is not so. */
+#define CHECK(that)                                                     \
+    do {                                                                \
+        if (!(that)) {                                                  \
+            fprintf(stderr, "%s:%d: not so: %s\n", __FILE__, __LINE__, #that); \
+            exit(1);                                                    \
+        }                                                               \
+    } while (0)
+
+/* Refuses to go on where a call answers another code. */
+#define EXPECT(code, call)                                                                                    \
+    do {                                                                                                      \
+        int32_t answered = (call);                                                                            \
+        if (answered != (code)) {                                                                             \
+            fprintf(stderr, "%s:%d: %" PRId32 " and not %s: %s\n", __FILE__, __LINE__, answered, #code, #call); \
+            exit(1);                                                                                          \
+        }                                                                                                     \
+    } while (0)
+
+#define LAST_POSITION ((uint64_t)1 << 62)
+
+/* The bytes of a text, without its end. */
+#define BYTES(text) (const uint8_t *)(text), sizeof(text) - 1
+
+#endif

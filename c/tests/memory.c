@@ -1,0 +1,125 @@
+/* Each request for memory is refused in turn: a call then answers FELTER_OUT_OF_MEMORY, leaves its handles as they
+ * were, does what it should when it is called again, and nothing is leaked.
+ * Link with -Wl,--wrap=malloc,--wrap=calloc,--wrap=realloc,--wrap=aligned_alloc,--wrap=posix_memalign,--wrap=free. */
+#include "check.h"
+
+#include <errno.h>
+
+void *__real_malloc(size_t size);
+void *__real_calloc(size_t count, size_t size);
+void *__real_realloc(void *at, size_t size);
+void *__real_aligned_alloc(size_t align, size_t size);
+int __real_posix_memalign(void **at, size_t align, size_t size);
+void __real_free(void *at);
+
+static long left = -1;  /* so many requests are granted, and then one is refused; -1: all are granted */
+static long live;       /* pieces of memory that were not given back */
+static int refused;
+
+static int refuses(void) {
+    if (left < 0) return 0;
+    refused = left == 0;
+    left--;
+    return refused;
+}
+
+void *__wrap_malloc(size_t size) {
+    void *at = refuses() ? NULL : __real_malloc(size);
+    live += at != NULL;
+    return at;
+}
+
+void *__wrap_calloc(size_t count, size_t size) {
+    void *at = refuses() ? NULL : __real_calloc(count, size);
+    live += at != NULL;
+    return at;
+}
+
+void *__wrap_realloc(void *from, size_t size) {
+    void *at = refuses() ? NULL : __real_realloc(from, size);
+    live += from == NULL && at != NULL;
+    return at;
+}
+
+void *__wrap_aligned_alloc(size_t align, size_t size) {
+    void *at = refuses() ? NULL : __real_aligned_alloc(align, size);
+    live += at != NULL;
+    return at;
+}
+
+int __wrap_posix_memalign(void **at, size_t align, size_t size) {
+    int code = refuses() ? ENOMEM : __real_posix_memalign(at, align, size);
+    live += code == 0;
+    return code;
+}
+
+void __wrap_free(void *at) {
+    live -= at != NULL;
+    __real_free(at);
+}
+
+/* Everything that takes memory works on these. */
+static struct {
+    felter_producer producer, other, single;
+    felter_consumer consumer, of_single;
+} all;
+
+static int32_t make_many(void) { return felter_many_to_one_new(128, &all.producer, &all.consumer); }
+static int32_t make_one(void) { return felter_one_to_one_new(128, &all.single, &all.of_single); }
+static int32_t split(void) { return felter_split(&all.producer, &all.other); }
+static int32_t join(void) { return felter_join(&all.producer, &all.other); }
+static int32_t write_one(void) { return felter_write(&all.producer, 1, BYTES("kept")); }
+static int32_t read_one(void) {
+    uint8_t buffer[4];
+    int32_t type_id = 0;
+    size_t len = 0;
+    int32_t code = felter_read(&all.consumer, &type_id, &len, buffer, 4);
+    CHECK(code != FELTER_OK || (type_id == 1 && len == 4 && memcmp(buffer, "kept", 4) == 0));
+    return code;
+}
+
+static int32_t (*const steps[])(void) = {make_many, make_one, split, write_one, join, read_one};
+
+static void free_all(void) {
+    felter_handle *handles[] = {&all.producer.handle, &all.other.handle, &all.single.handle, &all.consumer.handle,
+                                &all.of_single.handle};
+    for (size_t i = 0; i < sizeof handles / sizeof *handles; i++) felter_free(handles[i]);
+}
+
+int main(void) {
+    int refusals = 0;
+    setvbuf(stdout, NULL, _IONBF, 0);
+    for (long at = 0; at < 1000; at++) {
+        long before = live;
+        left = at;
+        refused = 0;
+        int met = 0;
+        for (size_t i = 0; i < sizeof steps / sizeof *steps; i++) {
+            int32_t code = steps[i]();
+            if (refused) {
+                refused = 0;
+                met = 1;
+                refusals++;
+                if (code != FELTER_OUT_OF_MEMORY) {
+                    fprintf(stderr, "request %ld, step %zu: %d where memory was refused\n", at, i, (int)code);
+                    return 1;
+                }
+                code = steps[i]();
+            }
+            if (code != FELTER_OK) {
+                fprintf(stderr, "request %ld, step %zu: %d\n", at, i, (int)code);
+                return 1;
+            }
+        }
+        left = -1;
+        free_all();
+        CHECK(live == before);
+        if (!met) {
+            CHECK(refusals >= 5);
+            printf("memory: %d requests refused in turn, none leaked\n", refusals);
+            return 0;
+        }
+    }
+    CHECK(!"an end of the requests");
+    return 1;
+}

@@ -1,0 +1,140 @@
+"""Tests of felter.py: python3 python/test_felter.py"""
+
+import ctypes
+import threading
+import time
+import unittest
+
+import felter
+from felter import Message, Number
+
+
+class Case(unittest.TestCase):
+    def refuses(self, number, call, *parameters):
+        with self.assertRaises(felter.Error) as caught:
+            call(*parameters)
+        self.assertEqual(caught.exception.number, number)
+        return caught.exception
+
+
+def body_of(sender, number):
+    """The message with a number of a sender."""
+    return b"%d %d " % (sender, number) + bytes((number * 31 + sender + i) % 256 for i in range(number % 40))
+
+
+def run(*calls):
+    """Runs calls on threads of their own, and raises what one of them raised."""
+    raised = []
+
+    def guarded(call):
+        try:
+            call()
+        except BaseException as what:
+            raised.append(what)
+
+    threads = [threading.Thread(target=guarded, args=(call,)) for call in calls]
+    for it in threads:
+        it.start()
+    for it in threads:
+        it.join()
+    if raised:
+        raise raised[0]
+
+
+class Rings(Case):
+    def test_messages_come_whole_and_in_order(self):
+        producer, consumer = felter.many_to_one(4096)
+        for number in range(20):
+            producer.write(1 + number, body_of(1, number))
+        read = [consumer.read(), *consumer]
+        self.assertEqual(read, [Message(1 + number, body_of(1, number)) for number in range(20)])
+        self.assertIsNone(consumer.read())
+        producer.write(3, b"")
+        producer.write(4, b"\0\1\0")
+        self.assertEqual(list(consumer), [Message(3, b""), Message(4, b"\0\1\0")])
+        self.assertEqual(list(consumer), [])
+        producer.write(5, bytes(512))
+        self.assertEqual(consumer.read(), Message(5, bytes(512)))
+
+    def test_two_threads_write_and_a_third_reads(self):
+        count = 1500
+        first, consumer = felter.many_to_one(1024)
+        second = first.split()
+        read = {1: [], 2: []}
+
+        def write(producer, sender):
+            for number in range(count):
+                while True:
+                    try:
+                        producer.write(sender, body_of(sender, number))
+                        break
+                    except felter.Error as refused:
+                        if not refused.is_passing:
+                            raise
+                        time.sleep(0)
+
+        def collect():
+            while sum(map(len, read.values())) < 2 * count:
+                for message in consumer:
+                    read[message.type_id].append(message.body)
+                time.sleep(0)
+
+        run(lambda: write(first, 1), lambda: write(second, 2), collect)
+        for sender, bodies in read.items():
+            self.assertEqual(bodies, [body_of(sender, number) for number in range(count)])
+        first.join(second)
+        self.refuses(Number.NO_HANDLE, second.write, 1, b"")
+        self.assertEqual(first.shares(), 65536)
+
+    def test_claims_are_committed_and_aborted(self):
+        producer, consumer = felter.one_to_one(128)
+        with producer.claim(7, 6) as claim:
+            claim.put(2, b"ab")
+            self.refuses(Number.PUT_RANGE, claim.put, 5, b"ab")
+            self.refuses(Number.CLAIM_OPEN, producer.claim, 1, 1)
+            self.assertIsNone(consumer.read())
+        self.assertEqual(consumer.read(), Message(7, b"\0\0ab\0\0"))
+        self.refuses(Number.NO_CLAIM, claim.commit)
+        with self.assertRaises(KeyError):
+            with producer.claim(8, 4) as claim:
+                claim.put(0, b"lost")
+                raise KeyError
+        producer.write(9, b"next")
+        self.assertEqual(list(consumer), [Message(9, b"next")])
+
+    def test_refusals_have_their_numbers(self):
+        self.refuses(Number.BAD_CAPACITY, felter.many_to_one, 100)
+        self.refuses(Number.BAD_START, felter.one_to_one, 128, 64)
+        with self.assertRaises(ctypes.ArgumentError):
+            felter.many_to_one(2**32 + 128)
+        producer, consumer = felter.many_to_one(128, 256)
+        refused = self.refuses(Number.BAD_TYPE, producer.write, 0, b"")
+        self.assertEqual(str(refused), "4 BAD_TYPE")
+        self.refuses(Number.TOO_LONG, producer.write, 1, bytes(17))
+        for _ in range(5):
+            producer.write(1, bytes(16))
+        self.assertTrue(self.refuses(Number.INSUFFICIENT_CAPACITY, producer.write, 1, bytes(16)).is_passing)
+        self.assertEqual(producer.positions(), (256, 256 + 5 * 24))
+        self.refuses(Number.WRONG_HANDLE, felter.one_to_one(128)[0].split)
+        self.assertEqual([producer.next_id(), producer.next_id()], [0, 1])
+        consumer.set_heartbeat(5)
+        self.assertEqual(producer.heartbeat(), 5)
+
+    def test_rings_are_not_mixed_and_handles_are_freed(self):
+        producer, consumer = felter.many_to_one(128)
+        other, _ = felter.many_to_one(128)
+        self.refuses(Number.OTHER_RING, producer.join, other)
+        self.refuses(Number.OTHER_RING, producer.join, producer)
+        split = producer.split()
+        self.refuses(Number.OTHER_RING, other.join, split)
+        with split:
+            split.write(3, b"kept")
+        self.refuses(Number.NO_HANDLE, split.write, 3, b"")
+        with consumer:
+            self.assertEqual(list(consumer), [Message(3, b"kept")])
+        self.refuses(Number.NO_HANDLE, consumer.read)
+        self.assertEqual(producer.shares(), 65535)
+
+
+if __name__ == "__main__":
+    unittest.main()

@@ -1,0 +1,71 @@
+//! A handle that frees itself, and the numbers of rings.
+use crate::error::Error;
+use crate::raw::{self, Raw};
+use std::cell::Cell;
+use std::fmt;
+use std::marker::PhantomData;
+use std::sync::atomic::{AtomicU64, Ordering};
+
+/// A handle. It is not `Sync`, by its marker.
+pub(crate) struct Handle {
+    raw: Raw,
+    one_call: PhantomData<Cell<()>>,
+}
+
+// SAFETY: that the library's handles may go to another thread is proved there. A value that is moved to another thread
+// is moved after the calls before it.
+unsafe impl Send for Handle {}
+
+impl Handle {
+    /// An empty one.
+    pub(crate) const fn empty() -> Handle {
+        Handle { raw: Raw::EMPTY, one_call: PhantomData }
+    }
+
+    /// For a call. The pointer is used in that call alone.
+    pub(crate) fn raw(&mut self) -> *mut Raw {
+        &mut self.raw
+    }
+}
+
+impl Drop for Handle {
+    fn drop(&mut self) {
+        // SAFETY: the handle is ours, and no other call uses it.
+        unsafe { raw::felter_free(&mut self.raw) }
+    }
+}
+
+impl fmt::Debug for Handle {
+    fn fmt(&self, f: &mut fmt::Formatter<'_>) -> fmt::Result {
+        f.write_str("..")
+    }
+}
+
+/// What a call answered.
+pub(crate) fn done(code: i32) -> Result<(), Error> {
+    match code {
+        raw::OK => Ok(()),
+        refused => Err(Error::of(refused)),
+    }
+}
+
+/// Which ring a handle belongs to. No two have the same number in one process.
+#[derive(Clone, Copy, Debug, PartialEq, Eq)]
+pub(crate) struct Number(u64);
+
+impl Number {
+    /// The next one.
+    pub(crate) fn next() -> Number {
+        static NEXT: AtomicU64 = AtomicU64::new(0);
+        Number(NEXT.fetch_add(1, Ordering::Relaxed))
+    }
+
+    /// Refuses another ring's handle.
+    pub(crate) fn must_be(self, other: Number) -> Result<(), Error> {
+        if self == other {
+            Ok(())
+        } else {
+            Err(Error::OtherRing)
+        }
+    }
+}

@@ -1,0 +1,42 @@
+//! Rings for the threads of one process, proved for every interleaving.
+//!
+//! ```
+//! let (mut producer, mut consumer) = felter::many_to_one(65_536)?;
+//! let mut other = producer.split()?;
+//! let sender = std::thread::spawn(move || other.write(7, b"hello"));
+//! sender.join().expect("it does not panic")?;
+//! let mut room = [0; 64];
+//! let message = consumer.read(&mut room)?.expect("it was written");
+//! assert_eq!((message.type_id, message.body), (7, &b"hello"[..]));
+//! # Ok::<(), felter::Error>(())
+//! ```
+//!
+//! Nothing waits: a full ring, a faster producer and an empty ring are answers, and the caller tries again in a way of
+//! its own. Capacities, lengths and positions are bytes.
+//!
+//! Each handle owns what it stands for together with its ring, so no lifetime ties them, and they
+//! may be dropped in any order. A handle may go to another thread, and one thread uses it at a time: handles are
+//! [`Send`] and not [`Sync`].
+//!
+//! ```compile_fail,E0277
+//! let (producer, _consumer) = felter::many_to_one(128).expect("a power of two");
+//! std::thread::scope(|scope| {
+//!     scope.spawn(|| { let _shared = &producer; });
+//! });
+//! ```
+//!
+//! What the proved library asks of its callers is kept by this crate, so that its users need no `unsafe`: a call takes
+//! its handle by `&mut`, which is one call at a time and two handles in a call of two; handles cannot be copied;
+//! buffers are slices; and each handle has the number of its ring, so that handles of two are refused
+//! ([`Error::OtherRing`]). What is left to users is the process: no call from a signal handler or in a forked child,
+//! and a processor of x86-64-v2 or later. This crate itself, its declarations among it, is tested and not proved.
+
+mod error;
+mod handle;
+mod message;
+mod raw;
+mod ring;
+
+pub use error::{Error, Refused};
+pub use message::Message;
+pub use ring::{many_to_one, many_to_one_at, one_to_one, one_to_one_at, Claim, Consumer, Positions, Producer};

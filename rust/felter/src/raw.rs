@@ -1,0 +1,45 @@
+//! The calls of `felter.h`, as they stand there. `c/compare` compares them.
+use std::ffi::c_void;
+use std::ptr;
+
+/// What a handle is to C: a struct of one pointer.
+#[repr(C)]
+pub(crate) struct Raw {
+    at: *mut c_void,
+}
+
+impl Raw {
+    pub(crate) const EMPTY: Raw = Raw { at: ptr::null_mut() };
+}
+
+pub(crate) const OK: i32 = 0;
+
+// Handles.
+extern "C" {
+    pub(crate) fn felter_free(handle: *mut Raw);
+}
+
+// Rings.
+extern "C" {
+    pub(crate) fn felter_many_to_one_new_at(capacity: u32, start: u64, producer: *mut Raw, consumer: *mut Raw) -> i32;
+    pub(crate) fn felter_one_to_one_new_at(capacity: u32, start: u64, producer: *mut Raw, consumer: *mut Raw) -> i32;
+    pub(crate) fn felter_write(producer: *mut Raw, type_id: i32, body: *const u8, len: usize) -> i32;
+    pub(crate) fn felter_claim(producer: *mut Raw, type_id: i32, len: usize, claim: *mut u64) -> i32;
+    pub(crate) fn felter_put(producer: *mut Raw, claim: u64, offset: usize, bytes: *const u8, len: usize) -> i32;
+    pub(crate) fn felter_commit(producer: *mut Raw, claim: u64) -> i32;
+    pub(crate) fn felter_abort(producer: *mut Raw, claim: u64) -> i32;
+    pub(crate) fn felter_split(producer: *mut Raw, other: *mut Raw) -> i32;
+    pub(crate) fn felter_join(producer: *mut Raw, other: *mut Raw) -> i32;
+    pub(crate) fn felter_positions(producer: *mut Raw, head: *mut u64, tail: *mut u64) -> i32;
+    pub(crate) fn felter_next_id(producer: *mut Raw, id: *mut u64) -> i32;
+    pub(crate) fn felter_heartbeat(producer: *mut Raw, value: *mut u64) -> i32;
+    pub(crate) fn felter_set_heartbeat(consumer: *mut Raw, value: u64) -> i32;
+    pub(crate) fn felter_shares(producer: *mut Raw, shares: *mut u32) -> i32;
+    pub(crate) fn felter_read(
+        consumer: *mut Raw,
+        type_id: *mut i32,
+        len: *mut usize,
+        buffer: *mut u8,
+        room: usize,
+    ) -> i32;
+}

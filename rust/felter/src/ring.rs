@@ -1,0 +1,231 @@
+//! Rings: many-to-one and one-to-one.
+use crate::error::{Error, Refused};
+use crate::handle::{done, Handle, Number};
+use crate::message::Message;
+use crate::raw;
+
+/// Makes a ring of any number of producers, with the first of them, which holds all 65,536 shares, and its consumer.
+///
+/// Errors: [`Error::BadCapacity`], [`Error::OutOfMemory`].
+pub fn many_to_one(capacity: u32) -> Result<(Producer, Consumer), Error> {
+    many_to_one_at(capacity, 0)
+}
+
+/// Makes such a ring, whose positions begin at `start`.
+///
+/// Errors: also [`Error::BadStart`].
+pub fn many_to_one_at(capacity: u32, start: u64) -> Result<(Producer, Consumer), Error> {
+    let (mut producer, mut consumer) = (Handle::empty(), Handle::empty());
+    // SAFETY: two empty handles.
+    done(unsafe { raw::felter_many_to_one_new_at(capacity, start, producer.raw(), consumer.raw()) })?;
+    Ok(with_number(producer, consumer))
+}
+
+/// Makes a ring of one producer, which cannot be split.
+///
+/// Errors: [`Error::BadCapacity`], [`Error::OutOfMemory`].
+pub fn one_to_one(capacity: u32) -> Result<(Producer, Consumer), Error> {
+    one_to_one_at(capacity, 0)
+}
+
+/// Makes such a ring, whose positions begin at `start`.
+///
+/// Errors: also [`Error::BadStart`].
+pub fn one_to_one_at(capacity: u32, start: u64) -> Result<(Producer, Consumer), Error> {
+    let (mut producer, mut consumer) = (Handle::empty(), Handle::empty());
+    // SAFETY: two empty handles.
+    done(unsafe { raw::felter_one_to_one_new_at(capacity, start, producer.raw(), consumer.raw()) })?;
+    Ok(with_number(producer, consumer))
+}
+
+fn with_number(producer: Handle, consumer: Handle) -> (Producer, Consumer) {
+    (Producer { handle: producer, ring: Number::next() }, Consumer { handle: consumer })
+}
+
+/// Where a ring's head and tail stand, in bytes that only rise.
+#[derive(Clone, Copy, Debug, PartialEq, Eq)]
+pub struct Positions {
+    /// Where the next read begins.
+    pub head: u64,
+    /// Where the next claim begins.
+    pub tail: u64,
+}
+
+/// Writes into a ring.
+///
+/// A producer that is dropped takes its share of the ring with it, and there are 65,536: [`join`](Producer::join) it
+/// instead where that matters.
+#[derive(Debug)]
+pub struct Producer {
+    handle: Handle,
+    ring: Number,
+}
+
+impl Producer {
+    /// Writes a message, by one try.
+    ///
+    /// Errors: [`Error::BadType`], [`Error::TooLong`], [`Error::PositionLimit`], [`Error::InsufficientCapacity`], and
+    /// of a many-to-one ring [`Error::Contended`].
+    pub fn write(&mut self, type_id: i32, body: &[u8]) -> Result<(), Error> {
+        // SAFETY: our handle, and a slice's pointer and length.
+        done(unsafe { raw::felter_write(self.handle.raw(), type_id, body.as_ptr(), body.len()) })
+    }
+
+    /// Claims room for a message of `len` bytes, which are 0 until they are put. The consumer passes no open claim.
+    ///
+    /// Errors: as [`write`](Producer::write); [`Error::ClaimOpen`] where a claim was forgotten (`mem::forget`).
+    ///
+    /// ```
+    /// let (mut producer, mut consumer) = felter::many_to_one(128)?;
+    /// let mut claim = producer.claim(3, 5)?;
+    /// claim.put(0, b"never")?;
+    /// drop(claim); // which aborts it
+    /// let mut claim = producer.claim(4, 5)?;
+    /// claim.put(1, b"bc")?;
+    /// claim.commit();
+    /// let mut room = [0; 16];
+    /// assert_eq!(consumer.read(&mut room)?.map(|message| message.body), Some(&b"\0bc\0\0"[..]));
+    /// # Ok::<(), felter::Error>(())
+    /// ```
+    ///
+    /// A claim does not outlive its producer, which can do nothing else meanwhile:
+    ///
+    /// ```compile_fail,E0499
+    /// let (mut producer, _consumer) = felter::many_to_one(128).expect("a power of two");
+    /// let claim = producer.claim(1, 8).expect("there is room");
+    /// producer.write(2, b"beside it").expect("there is room");
+    /// claim.commit();
+    /// ```
+    pub fn claim(&mut self, type_id: i32, len: usize) -> Result<Claim<'_>, Error> {
+        let mut number = 0;
+        // SAFETY: our handle, and a number of ours.
+        done(unsafe { raw::felter_claim(self.handle.raw(), type_id, len, &mut number) })?;
+        Ok(Claim { producer: self, number, is_open: true })
+    }
+
+    /// Makes another producer of a many-to-one ring, with one share.
+    ///
+    /// Errors: [`Error::NoShares`], [`Error::OutOfMemory`]; [`Error::WrongHandle`] of a one-to-one ring;
+    /// [`Error::ClaimOpen`] where a claim was forgotten.
+    pub fn split(&mut self) -> Result<Producer, Error> {
+        let mut other = Handle::empty();
+        // SAFETY: two handles, the second empty.
+        done(unsafe { raw::felter_split(self.handle.raw(), other.raw()) })?;
+        Ok(Producer { handle: other, ring: self.ring })
+    }
+
+    /// Takes another producer of the same ring in, with its shares.
+    ///
+    /// Errors: [`Error::OtherRing`], [`Error::ClaimOpen`]; both producers are then as they were.
+    pub fn join(&mut self, mut other: Producer) -> Result<(), Refused<Producer>> {
+        let joined = self.ring.must_be(other.ring).and_then(|()| {
+            // SAFETY: two handles of one ring, as their numbers tell.
+            done(unsafe { raw::felter_join(self.handle.raw(), other.handle.raw()) })
+        });
+        joined.map_err(|reason| Refused { reason, back: other })
+    }
+
+    /// Loads the head, and then the tail.
+    pub fn positions(&mut self) -> Result<Positions, Error> {
+        let (mut head, mut tail) = (0, 0);
+        // SAFETY: our handle, and two numbers of ours.
+        done(unsafe { raw::felter_positions(self.handle.raw(), &mut head, &mut tail) })?;
+        Ok(Positions { head, tail })
+    }
+
+    /// Draws the ring's next correlation id.
+    pub fn next_id(&mut self) -> Result<u64, Error> {
+        let mut id = 0;
+        // SAFETY: our handle, and a number of ours.
+        done(unsafe { raw::felter_next_id(self.handle.raw(), &mut id) })?;
+        Ok(id)
+    }
+
+    /// Loads the heartbeat that the consumer stored last, 0 before the first.
+    pub fn heartbeat(&mut self) -> Result<u64, Error> {
+        let mut value = 0;
+        // SAFETY: our handle, and a number of ours.
+        done(unsafe { raw::felter_heartbeat(self.handle.raw(), &mut value) })?;
+        Ok(value)
+    }
+
+    /// How many of the ring's 65,536 shares it holds.
+    pub fn shares(&mut self) -> Result<u32, Error> {
+        let mut shares = 0;
+        // SAFETY: our handle, and a number of ours.
+        done(unsafe { raw::felter_shares(self.handle.raw(), &mut shares) })?;
+        Ok(shares)
+    }
+}
+
+/// Room in a ring for one message. It is aborted where it is dropped: the consumer then passes it.
+#[derive(Debug)]
+pub struct Claim<'a> {
+    producer: &'a mut Producer,
+    number: u64,
+    is_open: bool,
+}
+
+impl Claim<'_> {
+    /// Puts bytes into the message, from a byte on.
+    ///
+    /// Errors: [`Error::PutRange`].
+    pub fn put(&mut self, offset: usize, bytes: &[u8]) -> Result<(), Error> {
+        let raw = self.producer.handle.raw();
+        // SAFETY: our producer's handle, and a slice's pointer and length.
+        done(unsafe { raw::felter_put(raw, self.number, offset, bytes.as_ptr(), bytes.len()) })
+    }
+
+    /// Shows the message to the consumer.
+    pub fn commit(mut self) {
+        // SAFETY: our producer's handle.
+        let code = unsafe { raw::felter_commit(self.producer.handle.raw(), self.number) };
+        debug_assert_eq!(code, raw::OK);
+        self.is_open = false;
+    }
+}
+
+impl Drop for Claim<'_> {
+    fn drop(&mut self) {
+        if self.is_open {
+            // SAFETY: our producer's handle.
+            let code = unsafe { raw::felter_abort(self.producer.handle.raw(), self.number) };
+            debug_assert_eq!(code, raw::OK);
+        }
+    }
+}
+
+/// What a read of one message answered.
+fn message_of(code: i32, type_id: i32, len: usize, buffer: &[u8]) -> Result<Option<Message<'_>>, Error> {
+    match done(code) {
+        Ok(()) => Ok(Some(Message { type_id, body: &buffer[..len] })),
+        Err(Error::NoMessage) => Ok(None),
+        Err(Error::ShortBuffer { .. }) => Err(Error::ShortBuffer { wanted: len }),
+        Err(other) => Err(other),
+    }
+}
+
+/// Reads a ring.
+#[derive(Debug)]
+pub struct Consumer {
+    handle: Handle,
+}
+
+impl Consumer {
+    /// Reads the next message into a buffer; `None` where nothing is there yet.
+    ///
+    /// Errors: [`Error::ShortBuffer`]; the message then stays. An eighth of the capacity is always enough.
+    pub fn read<'a>(&mut self, buffer: &'a mut [u8]) -> Result<Option<Message<'a>>, Error> {
+        let (mut type_id, mut len) = (0, 0);
+        let (at, room) = (buffer.as_mut_ptr(), buffer.len());
+        // SAFETY: our handle, two numbers of ours, and a slice's pointer and length.
+        let code = unsafe { raw::felter_read(self.handle.raw(), &mut type_id, &mut len, at, room) };
+        message_of(code, type_id, len, buffer)
+    }
+
+    /// Stores the heartbeat that producers load.
+    pub fn set_heartbeat(&mut self, value: u64) -> Result<(), Error> {
+        // SAFETY: our handle.
+        done(unsafe { raw::felter_set_heartbeat(self.handle.raw(), value) })
+    }
+}

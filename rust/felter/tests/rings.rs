@@ -1,0 +1,144 @@
+//! Rings on threads, from safe code.
+#![forbid(unsafe_code)]
+
+use felter::{many_to_one, one_to_one, Consumer, Error, Message, Producer};
+use std::thread;
+
+/// The n-th message of a producer: its id and number, and bytes that follow from both.
+fn body_of(id: u32, n: u32, most: usize) -> Vec<u8> {
+    let mut body = [id.to_le_bytes(), n.to_le_bytes()].concat();
+    let more = (n as usize * 7 + id as usize) % (most - 7);
+    body.extend((0..more).map(|i| (n as usize * 31 + id as usize * 17 + i * 5) as u8));
+    body
+}
+
+fn until_done<T>(mut call: impl FnMut() -> Result<T, Error>) -> T {
+    loop {
+        match call() {
+            Ok(done) => return done,
+            Err(refused) => assert!(refused.is_passing(), "{refused}"),
+        }
+        thread::yield_now();
+    }
+}
+
+/// Writes messages, every second by a claim that comes after one that is dropped.
+fn produce(producer: &mut Producer, id: u32, count: u32, most: usize) {
+    for n in 0..count {
+        let body = body_of(id, n, most);
+        if n % 2 == 0 {
+            until_done(|| producer.write(1 + id as i32, &body));
+            continue;
+        }
+        until_done(|| producer.claim(1, 3).map(drop));
+        until_done(|| {
+            let mut claim = producer.claim(1 + id as i32, body.len())?;
+            claim.put(4, &body[4..])?;
+            claim.put(0, &body[..4])?;
+            claim.commit();
+            Ok(())
+        });
+    }
+}
+
+/// Reads until all came, and compares each message whole and in the order of its producer.
+fn consume(consumer: &mut Consumer, producers: usize, count: u32, most: usize) {
+    let mut next = vec![0; producers];
+    let mut look = |message: Message<'_>| {
+        let id = message.type_id as usize - 1;
+        assert_eq!(message.body, body_of(id as u32, next[id], most));
+        next[id] += 1;
+    };
+    let (mut left, mut room) = (producers * count as usize, vec![0; most]);
+    while left > 0 {
+        if let Some(message) = consumer.read(&mut room).expect("there is room") {
+            look(message);
+            left -= 1;
+        } else {
+            thread::yield_now();
+        }
+    }
+    assert_eq!(consumer.read(&mut room), Ok(None));
+    assert!(next.iter().all(|&it| it == count));
+}
+
+fn passes_all(producers: u32, capacity: u32, count: u32) {
+    let (mut first, mut consumer) = many_to_one(capacity).expect("a capacity");
+    let most = (capacity as usize / 8).min(200);
+    let others: Vec<Producer> = (1..producers).map(|_| first.split().expect("a share")).collect();
+    let come_back: Vec<Producer> = thread::scope(|scope| {
+        let threads: Vec<_> = (1..)
+            .zip(others)
+            .map(|(id, mut producer)| {
+                scope.spawn(move || {
+                    produce(&mut producer, id, count, most);
+                    producer
+                })
+            })
+            .collect();
+        let mine = scope.spawn(|| produce(&mut first, 0, count, most));
+        consume(&mut consumer, producers as usize, count, most);
+        mine.join().expect("it does not panic");
+        threads.into_iter().map(|it| it.join().expect("it does not panic")).collect()
+    });
+    assert_eq!(first.shares(), Ok(65_536 - (producers - 1)));
+    for producer in come_back {
+        first.join(producer).expect("one ring");
+    }
+    assert_eq!(first.shares(), Ok(65_536));
+}
+
+#[test]
+fn messages_of_four_producers_come_whole_and_in_order() {
+    passes_all(4, 65_536, 5_000);
+}
+
+#[test]
+fn messages_go_through_the_smallest_ring() {
+    passes_all(2, 128, 3_000);
+}
+
+#[test]
+fn a_single_producer_is_never_contended() {
+    let (mut producer, mut consumer) = one_to_one(1024).expect("a capacity");
+    thread::scope(|scope| {
+        scope.spawn(|| produce(&mut producer, 0, 5_000, 128));
+        consume(&mut consumer, 1, 5_000, 128);
+    });
+    assert_eq!(producer.split().unwrap_err(), Error::WrongHandle);
+}
+
+#[test]
+fn refusals_have_their_numbers_and_change_nothing() {
+    assert_eq!(many_to_one(100).unwrap_err(), Error::BadCapacity);
+    assert_eq!(felter::many_to_one_at(128, 64).unwrap_err(), Error::BadStart);
+    let (mut producer, mut consumer) = felter::many_to_one_at(128, 1280).expect("a start");
+    assert_eq!(producer.write(0, b""), Err(Error::BadType));
+    assert_eq!(producer.write(1, &[0; 17]), Err(Error::TooLong));
+    assert_eq!(Error::TooLong.to_string(), "5 TooLong");
+    assert_eq!(producer.claim(1, 4).unwrap().put(3, b"ab"), Err(Error::PutRange));
+    producer.write(6, b"sixteen bytes...").expect("there is room");
+    let short = consumer.read(&mut [0; 15]).unwrap_err();
+    assert_eq!(short, Error::ShortBuffer { wanted: 16 });
+    assert_eq!((short.number(), short.to_string().as_str()), (106, "106 ShortBuffer wanted 16"));
+    let mut room = [0; 16];
+    let read = consumer.read(&mut room).unwrap();
+    assert_eq!(read, Some(Message { type_id: 6, body: b"sixteen bytes..." }));
+    let positions = producer.positions().unwrap();
+    assert_eq!((positions.head, positions.tail), (1280 + 16 + 24, 1280 + 16 + 24));
+    assert_eq!((producer.next_id(), producer.next_id()), (Ok(0), Ok(1)));
+    assert_eq!(producer.heartbeat(), Ok(0));
+    consumer.set_heartbeat(77).unwrap();
+    assert_eq!(producer.heartbeat(), Ok(77));
+}
+
+#[test]
+fn handles_of_two_rings_of_one_capacity_are_refused_and_come_back() {
+    let (mut one, _of_one) = many_to_one(128).unwrap();
+    let (mut two, _of_two) = many_to_one(128).unwrap();
+    let other = two.split().unwrap();
+    let refused = one.join(other).unwrap_err();
+    assert_eq!(refused.reason, Error::OtherRing);
+    two.join(refused.back).expect("its own ring");
+    assert_eq!((one.shares(), two.shares()), (Ok(65_536), Ok(65_536)));
+}
