@@ -1,4 +1,4 @@
-/* felter: rings for the threads of one process.
+/* felter: rings and counters for the threads of one process.
  *
  * The library behind this header is proved; this header, and what a caller keeps, is not.
  *
@@ -26,6 +26,7 @@
  * its own. Every call of a handle can answer FELTER_NO_HANDLE and FELTER_WRONG_HANDLE.
  *
  * Units. Capacities, lengths, offsets and positions are bytes; positions count from the ring's start and never wrap.
+ * Moments are milliseconds, at most 2^62, by a clock of the caller.
  *
  * Link: cc program.c libring_c.a liblibc_c.a
  */
@@ -52,6 +53,14 @@ enum felter_code {
     FELTER_CONTENDED = 8,             /* another producer was faster */
     FELTER_PUT_RANGE = 9,             /* the bytes do not lie inside the claim */
     FELTER_NO_SHARES = 12,            /* one share is left, and is needed */
+    FELTER_BAD_COUNT = 15,            /* the number of counters is 0 or above 4096 */
+    FELTER_KEY_TOO_LONG = 16,         /* the key has more than 112 bytes */
+    FELTER_LABEL_TOO_LONG = 17,       /* the label has more than 380 bytes */
+    FELTER_LABEL_NOT_ASCII = 18,      /* the label has a byte of 128 or more */
+    FELTER_NO_FREE_COUNTER = 19,      /* every id was used, and none that was freed is due */
+    FELTER_BAD_ID = 20,               /* the id is not below the number of counters */
+    FELTER_NOT_ALLOCATED = 21,        /* no counter with this id is in use */
+    FELTER_BAD_OWNER = 28,            /* the owner is 0, which stands for none */
     /* Numbers of this interface. */
     FELTER_NO_HANDLE = 100,           /* the handle is empty */
     FELTER_WRONG_HANDLE = 101,        /* the handle is of another kind */
@@ -60,6 +69,7 @@ enum felter_code {
     FELTER_NO_CLAIM = 104,            /* no claim of this number is open */
     FELTER_NO_MESSAGE = 105,          /* nothing is there yet */
     FELTER_SHORT_BUFFER = 106,        /* the message is longer than the buffer, and stays */
+    FELTER_BAD_MOMENT = 107,          /* the moment is above 2^62 */
     FELTER_OTHER_RING = 108           /* the two handles are of two rings */
 };
 
@@ -68,6 +78,7 @@ typedef struct felter_handle { void *at; } felter_handle;
 
 typedef struct felter_producer { felter_handle handle; } felter_producer;
 typedef struct felter_consumer { felter_handle handle; } felter_consumer;
+typedef struct felter_counters { felter_handle handle; } felter_counters;
 
 /* The first value of a handle of any kind. */
 #define FELTER_EMPTY {{0}}
@@ -124,6 +135,36 @@ int32_t felter_shares(felter_producer *producer, uint32_t *shares);
  * wanted. An eighth of the capacity is always enough. */
 int32_t felter_read(felter_consumer *consumer, int32_t *type_id, size_t *len, uint8_t *buffer, size_t room);
 
+/* Counters ------------------------------------------------------------------------------------------------------- */
+
+/* Makes counters with the ids below `count`. A freed id rests for `reuse_ms`. FELTER_BAD_COUNT, FELTER_OUT_OF_MEMORY,
+ * FELTER_HANDLE_IN_USE. */
+int32_t felter_counters_new(uint32_t count, uint32_t reuse_ms, felter_counters *counters);
+/* Allocates a counter of value 0, and says its id. FELTER_KEY_TOO_LONG, FELTER_LABEL_TOO_LONG, FELTER_LABEL_NOT_ASCII,
+ * FELTER_NO_FREE_COUNTER. */
+int32_t felter_counter_allocate(felter_counters *counters, uint64_t now, int32_t type_id, const uint8_t *key,
+                                size_t key_len, const uint8_t *label, size_t label_len, uint64_t registration,
+                                uint32_t *id);
+/* The same with an owner; 0 stands for none. */
+int32_t felter_counter_allocate_owned(felter_counters *counters, uint64_t now, int32_t type_id, const uint8_t *key,
+                                      size_t key_len, const uint8_t *label, size_t label_len, uint64_t registration,
+                                      uint64_t owner, uint32_t *id);
+/* Each call with an id can answer FELTER_BAD_ID and FELTER_NOT_ALLOCATED. */
+int32_t felter_counter_free(felter_counters *counters, uint64_t now, uint32_t id); /* FELTER_BAD_MOMENT */
+int32_t felter_counter_set(felter_counters *counters, uint32_t id, int64_t value);
+/* Adds to the value, which wraps, and says the value before. */
+int32_t felter_counter_add(felter_counters *counters, uint32_t id, int64_t delta, int64_t *before);
+int32_t felter_counter_value(felter_counters *counters, uint32_t id, int64_t *value);
+int32_t felter_counter_type_id(felter_counters *counters, uint32_t id, int32_t *type_id);
+int32_t felter_counter_registration(felter_counters *counters, uint32_t id, uint64_t *registration);
+int32_t felter_counter_owner(felter_counters *counters, uint32_t id, uint64_t *owner);
+/* Finds the lowest id in use of a type and registration id; else FELTER_NOT_ALLOCATED. */
+int32_t felter_counter_find(felter_counters *counters, int32_t type_id, uint64_t registration, uint32_t *id);
+/* The number of ids, in use or not. To list the counters in use, ask for each id's type: FELTER_NOT_ALLOCATED says that
+ * it is not in use. */
+int32_t felter_counters_count(felter_counters *counters, uint32_t *count);
+/* Frees each counter of an owner, and says how many. FELTER_BAD_OWNER, FELTER_BAD_MOMENT. */
+int32_t felter_counters_close_owner(felter_counters *counters, uint64_t now, uint64_t owner, uint32_t *freed);
 #ifdef __cplusplus
 }
 #endif

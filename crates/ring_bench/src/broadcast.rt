@@ -95,7 +95,8 @@ fn receive_all(board: &Board, mut receiver: CopyReceiver, is_over: &AtomicBool) 
     (copies, receiver.lapped_count())
 }
 
-/// A receiver on a thread of its own. `WrongMessage` where its last copy is not of the last message, or one is out of order.
+/// A receiver on a thread of its own. `WrongMessage` where its last copy is not of the last message, or one is out of
+/// order.
 fn listen(
     board: &Board,
     receiver: CopyReceiver,
@@ -141,8 +142,9 @@ fn listen_two<R: Threads + Sync>(
     Ok(first?.plus(second?))
 }
 
-/// Transmits so many messages. `NoContender` where the contender is no board, there are not two receivers, or the size is no
-/// multiple of 8; `NoBoard` where there is no board of that capacity; `Refused` and `WrongMessage` where messages are lost.
+/// Transmits so many messages. `NoContender` where the contender is no board, there are not two receivers, or the size
+/// is no multiple of 8; `NoBoard` where there is no board of that capacity; `Refused` and `WrongMessage` where messages
+/// are lost.
 pub fn run_broadcast<R: Clock + Threads + Sync>(
     rt: &R,
     alloc: Global,

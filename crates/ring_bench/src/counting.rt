@@ -163,8 +163,8 @@ fn cycle_often<R: Clock>(
     nanos_since(rt, start)
 }
 
-/// Does so often, or some more, what the job says. `NoContender` where the contender is no counters, or the job is none of
-/// theirs; `Refused`, `Stuck` and `WrongMessage` where values are lost.
+/// Does so often, or some more, what the job says. `NoContender` where the contender is no counters, or the job is none
+/// of theirs; `Refused`, `Stuck` and `WrongMessage` where values are lost.
 pub fn run_counters<R: Clock + Threads + Sync>(
     rt: &R,
     alloc: Global,

@@ -241,9 +241,9 @@ fn run_five<R: Clock + Threads + Sync>(
     sample
 }
 
-/// Sends so many messages, or some more, from the producers to the consumer. `NoContender` where no such ring takes part
-/// with so many producers, or the size is no multiple of 8; `NoRing` where there is no ring of that capacity; `Refused`,
-/// `Stuck` and `WrongMessage` where messages are lost.
+/// Sends so many messages, or some more, from the producers to the consumer. `NoContender` where no such ring takes
+/// part with so many producers, or the size is no multiple of 8; `NoRing` where there is no ring of that capacity;
+/// `Refused`, `Stuck` and `WrongMessage` where messages are lost.
 pub fn run_flow<R: Clock + Threads + Sync>(
     rt: &R,
     alloc: Global,

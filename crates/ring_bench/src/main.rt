@@ -1,5 +1,6 @@
-//! Measures the rings, the broadcast buffer, the counters and storms. It answers requests on standard input, one a line:
-//! `list`, `run WORKLOAD CONTENDER SIZE CAPACITY THREADS MILLISECONDS` and `quit`. The last line of each answer is `end`.
+//! Measures the rings, the broadcast buffer, the counters and storms. It answers requests on standard input, one a
+//! line: `list`, `run WORKLOAD CONTENDER SIZE CAPACITY THREADS MILLISECONDS` and `quit`. The last line of each answer
+//! is `end`.
 #![tactic(auto)]
 
 mod batches;

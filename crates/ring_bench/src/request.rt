@@ -32,8 +32,8 @@ fn number(word: &str) -> Result<u64, Fault> {
 }
 
 impl Request {
-    /// Reads the words behind `run`. `BadRequest` where one is missing or no number, and `NoContender` where there is no
-    /// entry with these names.
+    /// Reads the words behind `run`. `BadRequest` where one is missing or no number, and `NoContender` where there is
+    /// no entry with these names.
     pub fn parse(words: &[&str]) -> Result<Request, Fault> {
         let [workload, contender, size, capacity, threads, milliseconds] = words else {
             return Err(Fault::BadRequest);

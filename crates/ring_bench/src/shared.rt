@@ -111,8 +111,8 @@ impl SharedRing for ManyToOneRing {
     }
 }
 
-/// Writes a message, and waits while there is no room. `Refused` where such a message is never taken, `Stuck` where there
-/// was no room for a long time.
+/// Writes a message, and waits while there is no room. `Refused` where such a message is never taken, `Stuck` where
+/// there was no room for a long time.
 pub fn send<S: SharedRing>(
     ring: &S,
     producer: &mut Producer,

@@ -45,10 +45,10 @@ fn check(plan: &StormPlan, report: &StormReport) -> Result<(), Fault> {
     }
 }
 
-/// Runs a storm in which each client sends so many commands, and gives the time of the whole call: the threads are started
-/// in it, and what they share is made, joined and taken apart. `NoContender` where the contender is no storm; `NoStorm`
-/// where its numbers are not allowed, memory or a thread is wanting, or nothing came for a long time; `WrongMessage` where
-/// commands or replies are lost.
+/// Runs a storm in which each client sends so many commands, and gives the time of the whole call: the threads are
+/// started in it, and what they share is made, joined and taken apart. `NoContender` where the contender is no storm;
+/// `NoStorm` where its numbers are not allowed, memory or a thread is wanting, or nothing came for a long time;
+/// `WrongMessage` where commands or replies are lost.
 pub fn run_storm<R: Clock + Threads + Wait>(
     rt: &R,
     alloc: Global,

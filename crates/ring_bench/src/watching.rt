@@ -15,8 +15,8 @@ use std::time::Instant;
 /// The counter that is watched.
 const WATCHED: u32 = 7;
 
-/// Reads the counter until it has the last value. `WrongMessage` where a value is less than the one before, `Stuck` where the
-/// last one does not come.
+/// Reads the counter until it has the last value. `WrongMessage` where a value is less than the one before, `Stuck`
+/// where the last one does not come.
 fn watch(
     values: &CounterValues,
     mut reader: ValueReader,

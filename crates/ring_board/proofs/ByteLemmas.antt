@@ -16,7 +16,8 @@ use Rattle.ring_board.specs.Records.{first_words, words_of, word_count, bytes_of
 
 -- Words --------------------------------------------------------------------
 
-pub first_words_snoc : (k : ℕ) (bytes : List ℕ) → first_words (suc k) bytes ≡ first_words k bytes ++ from_le_bytes w64 (drop (8 * k) bytes) ∷ []
+pub first_words_snoc : (k : ℕ) (bytes : List ℕ)
+    → first_words (suc k) bytes ≡ first_words k bytes ++ from_le_bytes w64 (drop (8 * k) bytes) ∷ []
 first_words_snoc zero bytes = refl
 first_words_snoc (suc k) bytes = ap (λ l. from_le_bytes w64 bytes ∷ l) (first_words_snoc k (drop 8 bytes)
     ∙ ap (λ l. first_words k (drop 8 bytes) ++ from_le_bytes w64 l ∷ [])
@@ -35,10 +36,12 @@ module _ (bytes : List ℕ) (small : (i : ℕ) → get_or bytes i 0 < 256) where
       (cases_lt i (length bytes))
 
   word_of_few : length bytes ≤ 8 → to_le_bytes w64 (from_le_bytes w64 bytes) ≡ padded
-  word_of_few le = let r : length (replicate {A = ℕ} (8 - length bytes) 0) ≡ 8 - length bytes = length-replicate (8 - length bytes) 0 in
+  word_of_few le = let r : length (replicate {A = ℕ} (8 - length bytes) 0) ≡ 8 - length bytes =
+      length-replicate (8 - length bytes) 0 in
       let long : length padded ≡ 8 = length-append bytes (replicate (8 - length bytes) 0) ∙ omega arith in
       le_bytes_8 padded (from_le_bytes w64 bytes) long
-      (λ i. ⊎_elim (λ h. let same = padded_at le i h in let s = small i in omega arith) (λ h. let past = get_or_past padded i 0 (omega arith) in
+      (λ i. ⊎_elim (λ h. let same = padded_at le i h in let s = small i in omega arith)
+      (λ h. let past = get_or_past padded i 0 (omega arith) in
       omega arith) (cases_lt i 8))
       (from_le_bytes-same bytes padded (λ i lt. sym (padded_at le i lt)))
 
@@ -54,14 +57,17 @@ pub words_back : (k : ℕ) (bytes : List ℕ) → ((i : ℕ) → get_or bytes i 
 words_back zero [] small le = refl
 words_back zero (x ∷ xs) small le = absurd (omega arith)
 words_back (suc k) bytes small le = ⊎_elim
-    (λ few. ap (λ l. take (length bytes) (l ++ bytes_of (first_words k (drop 8 bytes)))) (word_of_few bytes small (omega arith))
+    (λ few. ap (λ l. take (length bytes) (l ++ bytes_of (first_words k (drop 8 bytes))))
+    (word_of_few bytes small (omega arith))
     ∙ (take-append-le (length bytes) (padded bytes small) (bytes_of (first_words k (drop 8 bytes)))
     (let l = length-append bytes (replicate (8 - length bytes) 0) in
     omega arith)
     ∙ take-append_seam bytes (replicate (8 - length bytes) 0)))
-    (λ more. let rest : List ℕ = drop 8 bytes in let long = length-drop 8 bytes in let front = length-take-le 8 bytes more in
+    (λ more. let rest : List ℕ = drop 8 bytes in let long = length-drop 8 bytes in let front =
+    length-take-le 8 bytes more in
     ap (λ l. take (length bytes) (l ++ bytes_of (first_words k rest))) (word_of_more bytes small more)
-    ∙ (ap (λ n. take n (take 8 bytes ++ bytes_of (first_words k rest))) (let e : length bytes ≡ length (take 8 bytes) + length rest = omega arith in
+    ∙ (ap (λ n. take n (take 8 bytes ++ bytes_of (first_words k rest)))
+    (let e : length bytes ≡ length (take 8 bytes) + length rest = omega arith in
     e)
     ∙ (take-append-add (take 8 bytes) (bytes_of (first_words k rest)) (length rest)
     ∙ (ap (λ l. take 8 bytes ++ l) (words_back k rest (λ i. let d = get_or-drop 8 bytes i 0 in let s = small (8 + i) in
@@ -79,12 +85,14 @@ module _ (C : ℕ) (m : Message) (narrow : C ≤ 2 ^ 24) (lawful : IsMessage C m
   announced_header = let s = lawful.short in mod_low (cast_unsigned w32 m.type_id) 32 (8 + length m.body) (omega arith)
 
   pub header_not_padding : header_of m / 2 ^ 32 < 2 ^ 31
-  header_not_padding = let s = lawful.short in let h = shr_high (cast_unsigned w32 m.type_id) 32 (8 + length m.body) (omega arith) in
+  header_not_padding =
+      let s = lawful.short in let h = shr_high (cast_unsigned w32 m.type_id) 32 (8 + length m.body) (omega arith) in
       let t = small_pattern m.type_id lawful.type_id lawful.type_fits in omega arith
 
   -- the body of its words
   pub body_back : take (length m.body) (bytes_of (words_of m.body)) ≡ m.body
-  body_back = words_back (word_count (length m.body)) m.body (λ i. ⊎_elim (λ h. All-get_or (λ (b : ℕ). b < 256) m.body i 0 h lawful.bytes)
+  body_back = words_back (word_count (length m.body)) m.body
+      (λ i. ⊎_elim (λ h. All-get_or (λ (b : ℕ). b < 256) m.body i 0 h lawful.bytes)
       (λ h. let past = get_or_past m.body i 0 h in
       omega arith) (cases_lt i (length m.body))) (omega arith)
 
@@ -96,7 +104,8 @@ module _ (C : ℕ) (m : Message) (narrow : C ≤ 2 ^ 24) (lawful : IsMessage C m
   -- a message is the one that its header announces, with its body
   pub message_whole : message_of (header_of m) m.body ≡ m
   message_whole = let s = lawful.short in
-      let t = type_of-header (pos (8 + length m.body)) m.type_id (fits_pos (8 + length m.body) (omega arith)) lawful.type_fits in
+      let t = type_of-header (pos (8 + length m.body)) m.type_id
+      (fits_pos (8 + length m.body) (omega arith)) lawful.type_fits in
       λ i. record { type_id = t i; body = m.body }
 
   -- a message is the one that its header and words hold

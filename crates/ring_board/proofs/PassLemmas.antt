@@ -25,7 +25,8 @@ total_snoc (x ∷ xs) w = let i = total_snoc xs w in omega arith
 
 total_has : (vs : List View) (i : ℕ) (v : View) → get_elem? vs i ≡ some v → v.shares ≤ total_shares vs
 total_has [] i v e = absurd (some-ne-none v (sym e))
-total_has (x ∷ xs) zero v e = let s : x.shares ≡ v.shares = ap (λ (y : View). y.shares) (some-injective x v e) in omega arith
+total_has (x ∷ xs) zero v e =
+    let s : x.shares ≡ v.shares = ap (λ (y : View). y.shares) (some-injective x v e) in omega arith
 total_has (x ∷ xs) (suc i) v e = let s = total_has xs i v e in omega arith
 
 -- the last of a list that is not empty
@@ -44,11 +45,14 @@ module _ (C e : ℕ) where
       let on = ap (get_elem? (x ∷ xs)) k ∙ q.1 in (inl (q.0, on, inl is), inl (q.0, on, is))
 
   pub splits_off : (id : ℕ) (v : View) → v.stage ≡ Idle → 0 < v.shares → Splits (Holds C e) id v (fewer v) (newcomer v)
-  splits_off id v eq some_share s b at = let h = owner C e s b id v Idle (λ by mine k. k) at eq in let w : View = fewer v in
+  splits_off id v eq some_share s b at =
+      let h = owner C e s b id v Idle (λ by mine k. k) at eq in let w : View = fewer v in
       let u : View = newcomer v in let start = h.seated.started in
-      let here : get_elem? (set s.views id w) id ≡ some w = set_here s.views id w (in_list s.views id v h.seated.here) in
+      let here : get_elem? (set s.views id w) id ≡ some w =
+      set_here s.views id w (in_list s.views id v h.seated.here) in
       let keep : (j : ℕ) (x : View) (st : Stage) → Knows C e id v j x st
-      → Knows C e id w j x st = λ j x st. knows_moves C e id v w (λ y k. k) (λ k r g. g) (le_refl (intent e v.sent v.stage)) j x st in
+      → Knows C e id w j x st =
+      λ j x st. knows_moves C e id v w (λ y k. k) (λ k r g. g) (le_refl (intent e v.sent v.stage)) j x st in
       let c = comes h.lawful.roomy h.lawful.whole v.sent h.memory.chain in
       let place : last_of v.start v.sent ≡ last_of e v.sent = ap (λ (y : ℕ). last_of y v.sent) start in
       let knows : Knows C e id w id u Resting = (
@@ -73,22 +77,32 @@ module _ (C e : ℕ) where
             behind = seats.behind;
             each = λ j x g. ⊎_elim (λ old. seats_stay (IsSeat C e id w) s.views id w (let a = seats.each id v at in
                 record { knows = subst (Knows C e id w id w) (sym eq) refl; copies = a.copies; log = a.log })
-                (λ j y _ on. let a = seats.each j y on in record { knows = keep j y y.stage a.knows; copies = a.copies; log = a.log }) j x old)
+                (λ j y _ on. let a = seats.each j y on in record {
+                  knows = keep j y y.stage a.knows;
+                  copies =
+                      a.copies;
+                  log = a.log;
+                }) j x old)
                 (λ (is : u ≡ x). subst (IsSeat C e id w j) is
                 (record { knows = knows; copies = no_copies v.sent u.from; log = no_log C e v.sent v.stage }))
                 (at_snoc (set s.views id w) u x j g);
             joined = seats.joined;
-            shares = let a = total_set s.views id v w at in let t = total_snoc (set s.views id w) u in let f = seats.shares in omega arith;
+            shares = let a = total_set s.views id v w at in let t = total_snoc (set s.views id w) u in let f =
+                seats.shares in omega arith;
           };
         },
       )
 
-  pub takes_in : (id : ℕ) (v : View) (other : ℕ) (w : View) → v.stage ≡ Idle → Joins (Holds C e) id v other w (joined v w) spent
-  takes_in id v other w eq s b at ne there = let h = owner C e s b id v Idle (λ by mine k. k) at eq in let u : View = joined v w in
+  pub takes_in : (id : ℕ) (v : View) (other : ℕ) (w : View) → v.stage ≡ Idle
+      → Joins (Holds C e) id v other w (joined v w) spent
+  takes_in id v other w eq s b at ne there =
+      let h = owner C e s b id v Idle (λ by mine k. k) at eq in let u : View = joined v w in
       let was : get_elem? s.views other ≡ some w = sym (set_else s.views id other u ne) ∙ there in
-      let here : get_elem? (set s.views id u) id ≡ some u = set_here s.views id u (in_list s.views id v h.seated.here) in
+      let here : get_elem? (set s.views id u) id ≡ some u =
+      set_here s.views id u (in_list s.views id v h.seated.here) in
       let keep : (j : ℕ) (x : View) (st : Stage) → Knows C e id v j x st
-      → Knows C e id u j x st = λ j x st. knows_moves C e id v u (λ y k. k) (λ k r g. g) (le_refl (intent e v.sent v.stage)) j x st in (
+      → Knows C e id u j x st =
+      λ j x st. knows_moves C e id v u (λ y k. k) (λ k r g. g) (le_refl (intent e v.sent v.stage)) j x st in (
         id,
         u,
         record {
@@ -102,12 +116,24 @@ module _ (C e : ℕ) where
             each = seats_stay (IsSeat C e id u) (set s.views id u) other spent
                 (record { knows = tt; copies = no_copies v.sent 0; log = no_log C e v.sent v.stage })
                 (λ j x _ on. seats_stay (IsSeat C e id u) s.views id u
-                (record { knows = subst (Knows C e id u id u) (sym eq) refl; copies = (seats.each other w was).copies; log = (seats.each id v at).log })
-                (λ j y _ on. let a = seats.each j y on in record { knows = keep j y y.stage a.knows; copies = a.copies; log = a.log }) j x on);
+                (record {
+                  knows = subst (Knows C e id u id u) (sym eq) refl;
+                  copies =
+                      (seats.each other w was).copies;
+                  log = (seats.each id v at).log;
+                })
+                (λ j y _ on. let a = seats.each j y on in record {
+                  knows = keep j y y.stage a.knows;
+                  copies =
+                      a.copies;
+                  log = a.log;
+                }) j x on);
             joined = λ j x g. ⊎_elim (λ old. seats.joined j x old)
-                (λ (is : as_joined w ≡ x). subst (λ (y : Joined). AreRuns v.sent y.from y.copies) is (seats.each other w was).copies)
+                (λ (is : as_joined w ≡ x). subst (λ (y : Joined). AreRuns v.sent y.from y.copies) is
+                (seats.each other w was).copies)
                 (at_snoc v.heard (as_joined w) x j g);
-            shares = let a = total_set s.views id v u at in let d = total_set (set s.views id u) other w spent there in let f = seats.shares in omega arith;
+            shares = let a = total_set s.views id v u at in let d =
+                total_set (set s.views id u) other w spent there in let f = seats.shares in omega arith;
           };
         },
       )
@@ -120,7 +146,8 @@ module _ (C e : ℕ) where
       (λ k. (sym (set-get_or s.words i 0) k, sym (set_again s.views id me.0 at) k)) b in
       let t = total_has s.views id me.0 at in let f = h.seated.shares in
       let found = ap (λ (j : ℕ). get_or s.words j 0) is ∙ (h.memory.latest_is
-      ∙ (ap (λ (st : Stage). latest e me.0.sent st) eq ∙ ap (λ (y : ℕ). last_of y me.0.sent) (sym h.seated.started))) in (
+      ∙ (ap (λ (st : Stage). latest e me.0.sent st) eq
+      ∙ ap (λ (y : ℕ). last_of y me.0.sent) (sym h.seated.started))) in (
         me.0,
         keeps,
         tt,
@@ -132,8 +159,10 @@ module _ (C e : ℕ) where
             (h.seated.each id me.0 at).copies,
             omega arith,
             (let y = h.memory.latest_is in
-                let z = last_low C h.lawful.roomy h.lawful.whole e me.0.sent h.memory.chain in let l = h.memory.low in let w = ap (λ (st : Stage). latest e me.0.sent st) eq in
-                let v = ap (λ (st : Stage). intent e me.0.sent st) eq in let u = ap (λ (j : ℕ). get_or s.words j 0) is in omega arith),
+                let z = last_low C h.lawful.roomy h.lawful.whole e me.0.sent h.memory.chain in let l =
+                h.memory.low in let w = ap (λ (st : Stage). latest e me.0.sent st) eq in
+                let v = ap (λ (st : Stage). intent e me.0.sent st) eq in let u =
+                ap (λ (j : ℕ). get_or s.words j 0) is in omega arith),
           ),
           is ∙ sym (ap latest_index h.seated.capacity),
         ),

@@ -26,7 +26,8 @@ index_below C p roomy whole = let lt = mod_below p C (omega arith) in omega arit
 module _ (C e b p z : ℕ) (l : Lies C e b p z) (roomy : 256 ≤ C) (whole : C % 64 ≡ 0) where
   pub lies_cases : ((p ≡ b) × (z ≤ b + room C b)) ⊎ ((p ≡ b + room C b) × (room C b < z - p))
   lies_cases = let so = l.some_room in ⊎_elim
-      (λ t. let at : p ≡ b = l.lies ∙ t.1 in let fits = t.0 in inl (at, (let z' : z ≤ b + room C b = omega arith in z')))
+      (λ t. let at : p ≡ b = l.lies ∙ t.1 in let fits =
+      t.0 in inl (at, (let z' : z ≤ b + room C b = omega arith in z')))
       (λ t. inr (l.lies ∙ t.1, t.0)) (next_cases C b (z - p))
 
   pub lies_after : b ≤ p
@@ -34,18 +35,22 @@ module _ (C e b p z : ℕ) (l : Lies C e b p z) (roomy : 256 ≤ C) (whole : C %
 
   pub lies_near : z ≤ b + C
   lies_near = let s = l.short in let so = l.some_room in let below = mod_below b C (omega arith) in
-      ⊎_elim (λ t. let a = t.1 in let c : z ≤ b + C = omega arith in c) (λ t. let a = t.0 in let d = t.1 in let c : z ≤ b + C = omega arith in
+      ⊎_elim (λ t. let a = t.1 in let c : z ≤ b + C = omega arith in c)
+      (λ t. let a = t.0 in let d = t.1 in let c : z ≤ b + C = omega arith in
       c) lies_cases
 
   pub lies_inside : p % C + (z - p) ≤ C
-  lies_inside = let s = l.short in let w = next_within C b (z - p) (omega arith) (omega arith) in let m = ap (λ (x : ℕ). x % C) l.lies in omega arith
+  lies_inside = let s = l.short in let w = next_within C b (z - p) (omega arith) (omega arith) in let m =
+      ap (λ (x : ℕ). x % C) l.lies in omega arith
 
   pub lies_whole : p % 8 ≡ 0
-  lies_whole = let w = next_aligned C b (z - p) (omega arith) (omega arith) l.begins_whole in let m = ap (λ (x : ℕ). x % 8) l.lies in omega arith
+  lies_whole = let w = next_aligned C b (z - p) (omega arith) (omega arith) l.begins_whole in let m =
+      ap (λ (x : ℕ). x % 8) l.lies in omega arith
 
   -- padding is shorter than what comes behind it
   pub lies_needed : b < p → p < b + (z - p)
-  lies_needed lt = ⊎_elim (λ t. let a = t.0 in absurd (omega arith)) (λ t. let a = t.0 in let d = t.1 in let c : p < b + (z - p) = omega arith in
+  lies_needed lt = ⊎_elim (λ t. let a = t.0 in absurd (omega arith))
+      (λ t. let a = t.0 in let d = t.1 in let c : p < b + (z - p) = omega arith in
       c) lies_cases
 
   pub lies_before : place_before C b z ≡ p
@@ -55,7 +60,8 @@ module _ (C e b p z : ℕ) (l : Lies C e b p z) (roomy : 256 ≤ C) (whole : C %
 
 -- Lists of records ---------------------------------------------------------
 
-pub chain_snoc : (C e : ℕ) (l : List Record) (r : Record) → Chain C e l → Follows C (end_of e l) r → Chain C e (l ++ r ∷ [])
+pub chain_snoc : (C e : ℕ) (l : List Record) (r : Record) → Chain C e l → Follows C (end_of e l) r
+    → Chain C e (l ++ r ∷ [])
 chain_snoc C e [] r c f = (f, tt)
 chain_snoc C e (x ∷ xs) r c f = (c.0, chain_snoc C (end x) xs r c.1 f)
 
@@ -75,7 +81,8 @@ module _ (C : ℕ) (roomy : 256 ≤ C) (whole : C % 64 ≡ 0) where
   pub chain_rises : (e : ℕ) (l : List Record) → Chain C e l → e ≤ end_of e l
   chain_rises e [] c = omega arith
   chain_rises e (x ∷ xs) c =
-      let f = c.0.fits in let g = lies_after C e x.before x.place (end x) f roomy whole in let b = f.begins in let so = f.some_room in
+      let f = c.0.fits in let g = lies_after C e x.before x.place (end x) f roomy whole in let b = f.begins in let so =
+      f.some_room in
       let i = chain_rises (end x) xs c.1 in omega arith
 
   -- an entry lies between the start and the end, and its successor behind it
@@ -83,24 +90,30 @@ module _ (C : ℕ) (roomy : 256 ≤ C) (whole : C % 64 ≡ 0) where
       → Follows C r.before r × (e ≤ r.before) × (end r ≤ end_of e l)
   chain_at e [] c k r at = absurd (some-ne-none r (sym at))
   chain_at e (x ∷ xs) c zero r at = let f : Follows C e x = c.0 in let b : x.before ≡ e = f.fits.begins in
-      subst (λ (y : Record). Follows C y.before y × (e ≤ y.before) × (end y ≤ end_of (end x) xs)) (some-injective x r at)
+      subst (λ (y : Record). Follows C y.before y × (e ≤ y.before) × (end y ≤ end_of (end x) xs))
+      (some-injective x r at)
       (subst (λ (d : ℕ). Follows C d x) (sym b) f, omega arith, chain_rises (end x) xs c.1)
   chain_at e (x ∷ xs) c (suc k) r at = let i = chain_at (end x) xs c.1 k r at in let f : Follows C e x = c.0 in
       let b : x.before ≡ e = f.fits.begins in
-      let g = lies_after C e x.before x.place (end x) f.fits roomy whole in let so = f.fits.some_room in let o = i.1 in (i.0, omega arith, i.2)
+      let g = lies_after C e x.before x.place (end x) f.fits roomy whole in let so = f.fits.some_room in let o =
+      i.1 in (i.0, omega arith, i.2)
 
-  pub chain_next : (e : ℕ) (l : List Record) → Chain C e l → (k : ℕ) (r q : Record) → get_elem? l k ≡ some r → get_elem? l (suc k) ≡ some q
+  pub chain_next : (e : ℕ) (l : List Record) → Chain C e l → (k : ℕ) (r q : Record) → get_elem? l k ≡ some r
+      → get_elem? l (suc k) ≡ some q
       → q.before ≡ end r
   chain_next e [] c k r q at on = absurd (some-ne-none r (sym at))
   chain_next e (x ∷ []) c zero r q at on = absurd (some-ne-none q (sym on))
   chain_next e (x ∷ y ∷ l) c zero r q at on = let b : y.before ≡ end x = c.1.0.fits.begins in
-      subst (λ (z : Record). q.before ≡ end z) (some-injective x r at) (subst (λ (z : Record). z.before ≡ end x) (some-injective y q on) b)
+      subst (λ (z : Record). q.before ≡ end z) (some-injective x r at)
+      (subst (λ (z : Record). z.before ≡ end x) (some-injective y q on) b)
   chain_next e (x ∷ xs) c (suc k) r q at on = chain_next (end x) xs c.1 k r q at on
 
-  pub chain_last : (e : ℕ) (l : List Record) → Chain C e l → (k : ℕ) (r : Record) → get_elem? l k ≡ some r → suc k ≡ length l
+  pub chain_last : (e : ℕ) (l : List Record) → Chain C e l → (k : ℕ) (r : Record) → get_elem? l k ≡ some r
+      → suc k ≡ length l
       → (end_of e l ≡ end r) × (last_of e l ≡ r.place)
   chain_last e [] c k r at is = absurd (some-ne-none r (sym at))
-  chain_last e (x ∷ []) c zero r at is = let s : x ≡ r = some-injective x r at in (ap end s, ap (λ (z : Record). z.place) s)
+  chain_last e (x ∷ []) c zero r at is =
+      let s : x ≡ r = some-injective x r at in (ap end s, ap (λ (z : Record). z.place) s)
   chain_last e (x ∷ y ∷ l) c zero r at is = absurd (omega arith)
   chain_last e (x ∷ xs) c (suc k) r at is = let i = chain_last (end x) xs c.1 k r at (omega arith) in
       (i.0, last_moves xs k r x.place (end x) at ∙ i.1)
@@ -108,7 +121,8 @@ module _ (C : ℕ) (roomy : 256 ≤ C) (whole : C % 64 ≡ 0) where
   -- the last place is not beyond the end
   pub last_low : (e : ℕ) (l : List Record) → Chain C e l → last_of e l ≤ end_of e l
   last_low e [] c = omega arith
-  last_low e (x ∷ xs) c = let f = c.0.fits in let a = lies_after C e x.before x.place (end x) f roomy whole in let so = f.some_room in
+  last_low e (x ∷ xs) c =
+      let f = c.0.fits in let a = lies_after C e x.before x.place (end x) f roomy whole in let so = f.some_room in
       let i = chain_rises (end x) xs c.1 in
       let j = last_low (end x) xs c.1 in ⊎_elim (λ g. omega arith) (λ g. omega arith) (last_or x.place (end x) xs)
     where

@@ -11,13 +11,16 @@ use Rattle.ring_board.specs.Steps.{Sat}
 
 -- What was answered ----------------------------------------------------------
 
-pub answered_more : (v w : View) (more : List Taken) (r : RawRecord) → w.capacity ≡ v.capacity → w.copies ≡ v.copies ++ more → IsAnswered v r → IsAnswered w r
+pub answered_more : (v w : View) (more : List Taken) (r : RawRecord) → w.capacity ≡ v.capacity
+    → w.copies ≡ v.copies ++ more → IsAnswered v r → IsAnswered w r
 answered_more v w more r size longer h = let q = h.copy in record {
-  copy = (q.0, q.1, ap (λ (l : List Taken). get_elem? l q.0) longer ∙ at_longer v.copies more q.0 q.1 q.2, q.3, q.4, q.5);
+  copy =
+      (q.0, q.1, ap (λ (l : List Taken). get_elem? l q.0) longer ∙ at_longer v.copies more q.0 q.1 q.2, q.3, q.4, q.5);
   inside = subst (λ (n : ℕ). IsInside n r) (sym size) h.inside;
 }
 
-pub answered_same : (v w : View) (r : RawRecord) → w.capacity ≡ v.capacity → w.copies ≡ v.copies → IsAnswered v r → IsAnswered w r
+pub answered_same : (v w : View) (r : RawRecord) → w.capacity ≡ v.capacity → w.copies ≡ v.copies → IsAnswered v r
+    → IsAnswered w r
 answered_same v w r size same h = let q = h.copy in record {
   copy = (q.0, q.1, ap (λ (l : List Taken). get_elem? l q.0) same ∙ q.2, q.3, q.4, q.5);
   inside = subst (λ (n : ℕ). IsInside n r) (sym size) h.inside;
@@ -26,11 +29,17 @@ answered_same v w r size same h = let q = h.copy in record {
 -- the record that was answered last
 pub answered_last : (m m' : Sat) (r : RawRecord) → GotRecord r m m' → IsInside m.0.capacity r → IsAnswered m'.0 r
 answered_last m m' r got inside = let copy = got.1 in
-    let taken : Taken = record { place = r.place; message = record { type_id = r.type_id; body = got.0 }; count = m.0.count } in record {
+    let taken : Taken = record {
+      place = r.place;
+      message = record { type_id = r.type_id; body = got.0 };
+      count =
+          m.0.count;
+    } in record {
       copy = (
         length m.0.copies,
         taken,
-        ap (λ (s : Sat). get_elem? s.0.copies (length m.0.copies)) copy.1 ∙ at_last m.0.copies taken (length m.0.copies) refl,
+        ap (λ (s : Sat). get_elem? s.0.copies (length m.0.copies)) copy.1
+            ∙ at_last m.0.copies taken (length m.0.copies) refl,
         refl,
         refl,
         got.2,

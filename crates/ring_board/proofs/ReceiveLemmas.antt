@@ -38,16 +38,23 @@ module _ (C e slots id : ℕ) (me : Sat) (i : ℕ) where
   pub loads_tail : me.0.stage ≡ Resting → i ≡ tail_index C → MayLoadAt tail_index LoadsTail
   loads_tail eq is s b _ at _ = let h = b.2 in let x : ℕ = get_or s.words i 0 in
       let found : x ≡ end_of e b.1.sent = ap (λ (j : ℕ). get_or s.words j 0) is ∙ h.memory.tail_is in
-      let le = intent_after C e h.lawful.roomy h.lawful.whole s.words b.1.sent b.1.stage h.memory.running in let low = h.memory.low in
-      let size = (knows C e s b.0 b.1 h id me.0 at Resting eq).0 in
-      (tail_loaded me.0 x, keeps, tt, tail_keeps C e s b.0 b.1 h id me.0 at eq x i me.1 found, ((refl, omega arith), named tail_index size is))
+      let le = intent_after C e h.lawful.roomy h.lawful.whole s.words b.1.sent b.1.stage h.memory.running in let low =
+      h.memory.low in
+      let size = (knows C e s b.0 b.1 h id me.0 at Resting eq).0 in (
+        tail_loaded me.0 x,
+        keeps,
+        tt,
+        tail_keeps C e s b.0 b.1 h id me.0 at eq x i me.1 found,
+        ((refl, omega arith), named tail_index size is),
+      )
 
   header_there : me.0.stage ≡ Sure → i ≡ index C me.0.at → MayLoad (LoadsHeader i)
   header_there eq is s b _ at _ = let x : ℕ = get_or s.words i 0 in (
     header_loaded me.0 i me.0.stage x,
     keeps,
     tt,
-    retarget s (header_loaded me.0 i Sure x) (header_loaded me.0 i me.0.stage x) (ap (λ (st : Stage). header_loaded me.0 i st x) eq)
+    retarget s (header_loaded me.0 i Sure x) (header_loaded me.0 i me.0.stage x)
+        (ap (λ (st : Stage). header_loaded me.0 i st x) eq)
         (header_keeps C e s b.0 b.1 b.2 id me.0 at eq x i me.1 is refl),
     refl,
   )
@@ -57,7 +64,8 @@ module _ (C e slots id : ℕ) (me : Sat) (i : ℕ) where
     header_loaded me.0 i me.0.stage x,
     keeps,
     tt,
-    retarget s (header_loaded me.0 i (Padded w) x) (header_loaded me.0 i me.0.stage x) (ap (λ (st : Stage). header_loaded me.0 i st x) eq)
+    retarget s (header_loaded me.0 i (Padded w) x) (header_loaded me.0 i me.0.stage x)
+        (ap (λ (st : Stage). header_loaded me.0 i st x) eq)
         (header_behind_keeps C e s b.0 b.1 b.2 id me.0 at w eq x i me.1 is refl),
     refl,
   )
@@ -82,8 +90,10 @@ module _ (C e slots id : ℕ) (me : Sat) (i : ℕ) where
   intent_found s b is = ap (λ (j : ℕ). get_or s.words j 0) is ∙ b.2.memory.intent_is
 
   -- a load of the intent, where the rule holds of the seat once it is validated
-  checks : i ≡ intent_index C → (st : Stage) → me.0.stage ≡ st → ((by : ℕ) (mine : View) → Knows C e by mine id me.0 st → me.0.capacity ≡ C)
-      → ((s : St) (b : Holds C e s) → get_elem? s.views id ≡ some me.0 → get_or s.words i 0 ≡ intent e b.1.sent b.1.stage
+  checks : i ≡ intent_index C → (st : Stage) → me.0.stage ≡ st
+      → ((by : ℕ) (mine : View) → Knows C e by mine id me.0 st → me.0.capacity ≡ C)
+      → ((s : St) (b : Holds C e s) → get_elem? s.views id ≡ some me.0
+      → get_or s.words i 0 ≡ intent e b.1.sent b.1.stage
       → Kept s (validated me.0 (get_or s.words i 0))) → MayLoadAt intent_index LoadsIntent
   checks is st eq sized kept s b _ at _ = let x : ℕ = get_or s.words i 0 in let f = intent_found s b is in
       let size = sized b.0 b.1 (knows C e s b.0 b.1 b.2 id me.0 at st eq) in (
@@ -106,7 +116,8 @@ module _ (C e slots id : ℕ) (me : Sat) (i : ℕ) where
   checks_entry w un is = ⊎_elim (λ t. checks_header w t.0 is) (λ t. checks is (Again w) t (λ by mine k. k.0)
       (λ s b at. behind_intent_keeps C e s b.0 b.1 b.2 id me.0 at w t (get_or s.words i 0) i me.1)) un
 
-  checks_copy : (w : ℕ) (ws : List ℕ) → me.0.stage ≡ Reading w ws → length ws ≡ word_count (body_len w) → i ≡ intent_index C
+  checks_copy : (w : ℕ) (ws : List ℕ) → me.0.stage ≡ Reading w ws → length ws ≡ word_count (body_len w)
+      → i ≡ intent_index C
       → MayLoadAt intent_index LoadsIntent
   checks_copy w ws eq long is = checks is (Reading w ws) eq (λ by mine k. k.0)
       (λ s b at. copy_intent_keeps C e s b.0 b.1 b.2 id me.0 at w ws eq long (get_or s.words i 0) i me.1)
@@ -129,7 +140,8 @@ module _ (C e slots id : ℕ) (me : Sat) (i : ℕ) where
           (
             a.0,
             ap (λ (y : ℕ). (answered me.0 y a.0 x, me.1)) (sym seen),
-            subst (λ (y : ℕ). x < me.0.at + me.0.capacity → (length a.0 ≡ body_len y) × IsSound me.0.capacity me.0.at y) (sym seen) a.2,
+            subst (λ (y : ℕ). x < me.0.at + me.0.capacity → (length a.0 ≡ body_len y) × IsSound me.0.capacity me.0.at y)
+                (sym seen) a.2,
           ),
           named intent_index size is,
         ),
@@ -138,5 +150,6 @@ module _ (C e slots id : ℕ) (me : Sat) (i : ℕ) where
   pub loads_latest : me.0.stage ≡ Behind → i ≡ latest_index C → MayLoadAt latest_index LoadsLatest
   loads_latest eq is s b _ at _ = let x : ℕ = get_or s.words i 0 in
       let size = (knows C e s b.0 b.1 b.2 id me.0 at Behind eq).0 in
-      let k = latest_keeps C e s b.0 b.1 b.2 id me.0 at eq x i me.1 (ap (λ (j : ℕ). get_or s.words j 0) is ∙ b.2.memory.latest_is) in
+      let k = latest_keeps C e s b.0 b.1 b.2 id me.0 at eq x i me.1
+      (ap (λ (j : ℕ). get_or s.words j 0) is ∙ b.2.memory.latest_is) in
       (latest_loaded me.0 k.0 x, keeps, tt, k.1, ((k.0, refl, k.2, k.3, k.4), named latest_index size is))

@@ -13,7 +13,8 @@ use Rattle.ring_board.proofs.PlaceLemmas.{lies_after, lies_needed, chain_at, cha
 
 module _ (C e : ℕ) (roomy : 256 ≤ C) (whole : C % 64 ≡ 0) (ws : List ℕ) (sent : List Record) where
   lies_on : (b p z : ℕ) → Lies C (end_of e sent) b p z → end_of e sent ≤ z
-  lies_on b p z l = let a = lies_after C (end_of e sent) b p z l roomy whole in let is = l.begins in let so = l.some_room in omega arith
+  lies_on b p z l = let a = lies_after C (end_of e sent) b p z l roomy whole in let is = l.begins in let so =
+      l.some_room in omega arith
 
   pub intent_after : (st : Stage) → Running C (end_of e sent) ws st → end_of e sent ≤ intent e sent st
   intent_after Idle h = omega arith
@@ -31,9 +32,11 @@ module _ (C e : ℕ) (roomy : 256 ≤ C) (whole : C % 64 ≡ 0) (ws : List ℕ) 
   intent_after Behind h = absurd h
 
   -- an entry of what latest shows is sent, or begins at the tail
-  pub shown_at : (st : Stage) → Running C (end_of e sent) ws st → (k : ℕ) (q : Record) → get_elem? (shown sent st) k ≡ some q
+  pub shown_at : (st : Stage) → Running C (end_of e sent) ws st → (k : ℕ) (q : Record)
+      → get_elem? (shown sent st) k ≡ some q
       → (get_elem? sent k ≡ some q) ⊎ (Follows C (end_of e sent) q)
-  shown_at (Shown r) h k q at = ⊎_elim (λ t. inl t) (λ is. inr (subst (Follows C (end_of e sent)) is h.0)) (at_snoc sent r q k at)
+  shown_at (Shown r) h k q at =
+      ⊎_elim (λ t. inl t) (λ is. inr (subst (Follows C (end_of e sent)) is h.0)) (at_snoc sent r q k at)
   shown_at Idle h k q at = inl at
   shown_at (Begun d) h k q at = inl at
   shown_at (Storing d) h k q at = inl at
@@ -95,13 +98,16 @@ module _ (C e : ℕ) (roomy : 256 ≤ C) (whole : C % 64 ≡ 0) (ws : List ℕ) 
 
   -- latest shows an entry that the intent has not lapped
   abbrev pub IsLatest : Stage → Type 0
-  IsLatest st = (k : ℕ) × (q : Record) × (get_elem? (shown sent st) k ≡ some q) × (latest e sent st ≡ q.place) × (intent e sent st < q.place + C) ×
+  IsLatest st = (k : ℕ) × (q : Record) × (get_elem? (shown sent st) k ≡ some q) × (latest e sent st ≡ q.place)
+      × (intent e sent st < q.place + C) ×
       (q.place ≤ intent e sent st)
 
-  pub latest_shown : Chain C e sent → (r : Record) (j : ℕ) → get_elem? sent j ≡ some r → (st : Stage) → Running C (end_of e sent) ws st → IsLatest st
+  pub latest_shown : Chain C e sent → (r : Record) (j : ℕ) → get_elem? sent j ≡ some r → (st : Stage)
+      → Running C (end_of e sent) ws st → IsLatest st
   latest_shown chain r j on st run = let l = last_entry sent j r on in let k : ℕ = l.0 in let q : Record = l.1 in
       let c = chain_last C roomy whole e sent chain k q l.2 l.3 in
-      let f = (chain_at C roomy whole e sent chain k q l.2).0.fits in let sh = f.short in let so = f.some_room in let ce = c.0 in
+      let f = (chain_at C roomy whole e sent chain k q l.2).0.fits in let sh = f.short in let so =
+      f.some_room in let ce = c.0 in
       at_stage st run k q l.2 c.1 ce sh
     where
       last_entry : (l : List Record) (i : ℕ) (a : Record) → get_elem? l i ≡ some a
@@ -111,18 +117,23 @@ module _ (C e : ℕ) (roomy : 256 ≤ C) (whole : C % 64 ≡ 0) (ws : List ℕ) 
       last_entry (x ∷ y ∷ l) i a g = let t = last_entry (y ∷ l) 0 y refl in (suc t.0, t.1, t.2, ap suc t.3)
 
       near : (b p z from to : ℕ) → Lies C to b p z → to - from ≤ C / 8 + 15 → from ≤ to → (z < from + C) × (from ≤ z)
-      near b p z from to l short le = let y = l.begins in let m = lies_needed C to b p z l roomy whole in let d = l.short in let so = l.some_room in
+      near b p z from to l short le = let y = l.begins in let m = lies_needed C to b p z l roomy whole in let d =
+          l.short in let so = l.some_room in
           let a = lies_after C to b p z l roomy whole in
           (⊎_elim (λ lt. let x = m lt in omega arith) (λ ge. omega arith) (cases_lt b p), omega arith)
 
-      at_stage : (u : Stage) → Running C (end_of e sent) ws u → (k : ℕ) (q : Record) → get_elem? sent k ≡ some q → last_of e sent ≡ q.place
+      at_stage : (u : Stage) → Running C (end_of e sent) ws u → (k : ℕ) (q : Record) → get_elem? sent k ≡ some q
+          → last_of e sent ≡ q.place
           → end_of e sent ≡ end q → end q - q.place ≤ C / 8 + 15 → IsLatest u
       at_stage Idle g k q on_k la ends sh = (k, q, on_k, la, omega arith, omega arith)
-      at_stage (Begun d) g k q on_k la ends sh = let n = near d.before d.place d.end q.place (end_of e sent) g.0 (omega arith) (omega arith) in
+      at_stage (Begun d) g k q on_k la ends sh =
+          let n = near d.before d.place d.end q.place (end_of e sent) g.0 (omega arith) (omega arith) in
           (k, q, on_k, la, n.0, n.1)
-      at_stage (Storing d) g k q on_k la ends sh = let n = near d.before d.place d.end q.place (end_of e sent) g.0 (omega arith) (omega arith) in
+      at_stage (Storing d) g k q on_k la ends sh =
+          let n = near d.before d.place d.end q.place (end_of e sent) g.0 (omega arith) (omega arith) in
           (k, q, on_k, la, n.0, n.1)
-      at_stage (Written b) g k q on_k la ends sh = let n = near b.before b.place (end b) q.place (end_of e sent) g.0.fits (omega arith)
+      at_stage (Written b) g k q on_k la ends sh =
+          let n = near b.before b.place (end b) q.place (end_of e sent) g.0.fits (omega arith)
           (omega arith) in
           (k, q, on_k, la, n.0, n.1)
       at_stage (Shown b) g k q on_k la ends sh = let d = g.0.fits.short in let so = g.0.fits.some_room in

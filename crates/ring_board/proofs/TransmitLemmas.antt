@@ -25,19 +25,25 @@ use Rattle.ring_board.proofs.SeatLemmas.{St, runs_more, receives_more, sent_more
 
 -- one more store, apart from those
 stand_on : (C : ℕ) (ws : List ℕ) (xs : List (ℕ × ℕ)) (p w : ℕ) → index C p < length ws
-    → ((j : ℕ) (x : ℕ × ℕ) → get_elem? xs j ≡ some x → index C x.0 ≢ index C p) → Stand C ws xs → Stand C (set ws (index C p) w) (xs ++ (p, w) ∷ [])
-stand_on C ws xs p w lt other old j x e = ⊎_elim (λ at. get_or-set_other ws (index C p) (index C x.0) w 0 (other j x at) ∙ old j x at)
-    (λ is. subst (λ (y : ℕ × ℕ). get_or (set ws (index C p) w) (index C y.0) 0 ≡ y.1) is (get_or-set_same ws (index C p) w 0 lt))
+    → ((j : ℕ) (x : ℕ × ℕ) → get_elem? xs j ≡ some x → index C x.0 ≢ index C p) → Stand C ws xs
+    → Stand C (set ws (index C p) w) (xs ++ (p, w) ∷ [])
+stand_on C ws xs p w lt other old j x e =
+    ⊎_elim (λ at. get_or-set_other ws (index C p) (index C x.0) w 0 (other j x at) ∙ old j x at)
+    (λ is. subst (λ (y : ℕ × ℕ). get_or (set ws (index C p) w) (index C y.0) 0 ≡ y.1) is
+    (get_or-set_same ws (index C p) w 0 lt))
     (at_snoc xs (p, w) x j e)
 
-module _ (C : ℕ) (roomy : 256 ≤ C) (whole : C % 64 ≡ 0) (ws ws' : List ℕ) (same : (i : ℕ) → i < C / 8 → get_or ws' i 0 ≡ get_or ws i 0) where
+module _ (C : ℕ) (roomy : 256 ≤ C) (whole : C % 64 ≡ 0) (ws ws' : List ℕ)
+    (same : (i : ℕ) → i < C / 8 → get_or ws' i 0 ≡ get_or ws i 0) where
   stand_kept : (xs : List (ℕ × ℕ)) → Stand C ws xs → Stand C ws' xs
   stand_kept xs old j x e = same (index C x.0) (index_below C x.0 roomy whole) ∙ old j x e
 
 -- what a draft becomes when its header is stored
-pub written_as : (C : ℕ) (d : Draft) (m : Message) (x : ℕ) → C ≤ 2 ^ 24 → IsMessage C m → words_of m.body ≡ d.words → x ≡ header_of m
+pub written_as : (C : ℕ) (d : Draft) (m : Message) (x : ℕ) → C ≤ 2 ^ 24 → IsMessage C m → words_of m.body ≡ d.words
+    → x ≡ header_of m
     → written d x ≡ record { before = d.before; place = d.place; message = m }
-written_as C d m x narrow lawful words num = let F : Message → Record = λ (q : Message). record { before = d.before; place = d.place; message = q } in
+written_as C d m x narrow lawful words num =
+    let F : Message → Record = λ (q : Message). record { before = d.before; place = d.place; message = q } in
     (λ k. F (message_in (num k) (sym words k))) ∙ ap F (message_back C m narrow lawful)
 
 module _ (C e : ℕ) where
@@ -47,7 +53,8 @@ module _ (C e : ℕ) where
 
     -- the words without a name stay
     unnamed_kept : (j x : ℕ) → j < C / 8 + 3 → (i : ℕ) → IsUnnamed C i → get_or (set s.words j x) i 0 ≡ 0
-    unnamed_kept j x few i is = get_or-set_other s.words j i x 0 (λ e. let behind = is.0 in omega arith) ∙ h.memory.unnamed i is
+    unnamed_kept j x few i is =
+        get_or-set_other s.words j i x 0 (λ e. let behind = is.0 in omega arith) ∙ h.memory.unnamed i is
 
     -- a store into the buffer
     word_stored_at : (st : Stage) (p x : ℕ) → p % 8 ≡ 0 → end_of e me.sent ≤ p → p < intent e me.sent me.stage
@@ -55,9 +62,11 @@ module _ (C e : ℕ) where
         → shown me.sent st ≡ shown me.sent me.stage → so_far me.sent st ≡ so_far me.sent me.stage ++ (p, x) ∷ []
         → Running C (end_of e me.sent) (set s.words (index C p) x) st
         → Knows C e id (staged me st) id (staged me st) st → Kept (index C p) x (staged me st)
-    word_stored_at st p x p8 after below i l sh grows running mine = let wide = h.memory.wide in let roomy = h.lawful.roomy in let whole = h.lawful.whole in
+    word_stored_at st p x p8 after below i l sh grows running mine =
+        let wide = h.memory.wide in let roomy = h.lawful.roomy in let whole = h.lawful.whole in
         let lt : index C p < C / 8 = index_below C p roomy whole in
-        let out : (c : ℕ) → C / 8 ≤ c → get_or (set s.words (index C p) x) c 0 ≡ get_or s.words c 0 = λ c le. get_or-set_other s.words
+        let out : (c : ℕ) → C / 8 ≤ c → get_or (set s.words (index C p) x) c 0 ≡ get_or s.words c 0 =
+        λ c le. get_or-set_other s.words
         (index C p) c x 0 (λ e. omega arith) in
         rebuilt C e s id me (staged me st) h (set s.words (index C p) x) (record {
           wide = length-set s.words (index C p) x ∙ wide;
@@ -67,24 +76,30 @@ module _ (C e : ℕ) where
           tail_is = out (C / 8 + 1) (omega arith) ∙ h.memory.tail_is;
           latest_is = out (C / 8 + 2) (omega arith) ∙ (h.memory.latest_is ∙ sym l);
           unnamed = unnamed_kept (index C p) x (omega arith);
-          valid = λ k r at j y on now. let c = chain_at C roomy whole e me.sent h.memory.chain k r at in let f = c.0.fits in
+          valid = λ k r at j y on now. let c = chain_at C roomy whole e me.sent h.memory.chain k r at in let f =
+              c.0.fits in
               let b = stores_where r j y f.begins_whole (lies_whole C r.before r.before r.place (end r) f roomy whole)
               (lies_after C r.before r.before r.place (end r) f roomy whole) on in
               let c2 = c.2 in let b1 = b.1 in
               let now' : intent e me.sent me.stage < y.0 + C = subst (λ (u : ℕ). u < y.0 + C) i now in
-              get_or-set_other s.words (index C p) (index C y.0) x 0 (λ same. let far = a_lap_on y.0 p C roomy whole b.2 p8 (omega arith) same in
+              get_or-set_other s.words (index C p) (index C y.0) x 0
+              (λ same. let far = a_lap_on y.0 p C roomy whole b.2 p8 (omega arith) same in
               omega arith) ∙ h.memory.valid k r at j y on now';
           running = running;
-          exact = λ c lt. stores_one C s.words (so_far me.sent me.stage) p x roomy whole (omega arith) h.memory.exact c lt
+          exact =
+              λ c lt. stores_one C s.words (so_far me.sent me.stage) p x roomy whole (omega arith) h.memory.exact c lt
               ∙ ap (λ (l : List (ℕ × ℕ)). last_at C l c 0) (sym grows);
         }) h.seated.behind mine
-        (λ j v. knows_moves C e id me (staged me st) (λ u. subst (λ (l : List Record). Receives e me.sent l u) (sym sh)) (λ k r at. at)
+        (λ j v. knows_moves C e id me (staged me st) (λ u. subst (λ (l : List Record). Receives e me.sent l u) (sym sh))
+        (λ k r at. at)
         (subst (λ (y : ℕ). intent e me.sent me.stage ≤ y) (sym i) (omega arith)) j v v.stage)
-        (λ v u. u) (loads_rise C e me.sent me.stage st (subst (λ (y : ℕ). intent e me.sent me.stage ≤ y) (sym i) (omega arith))
+        (λ v u. u) (loads_rise C e me.sent me.stage st
+        (subst (λ (y : ℕ). intent e me.sent me.stage ≤ y) (sym i) (omega arith))
         (subst (λ (y : ℕ). latest e me.sent me.stage ≤ y) (sym l) (omega arith))) (staged_alike me st)
 
     module _ (d : Draft) (eq : me.stage ≡ Storing d) where
-      ran : Lies C (end_of e me.sent) d.before d.place d.end × (d.place + 8 + 8 * length d.words ≤ d.end) × Stand C s.words
+      ran : Lies C (end_of e me.sent) d.before d.place d.end × (d.place + 8 + 8 * length d.words ≤ d.end)
+          × Stand C s.words
           (filled d.before d.place d.words)
       ran = subst (Running C (end_of e me.sent) s.words) eq h.memory.running
 
@@ -95,9 +110,11 @@ module _ (C e : ℕ) where
       p_whole = lies_whole C (end_of e me.sent) d.before d.place d.end ran.0 h.lawful.roomy h.lawful.whole
 
       -- a position of the record that is not yet stored is apart from what is
-      drawn_apart : (p : ℕ) → p % 8 ≡ 0 → d.place ≤ p → p < d.end → (p ≡ d.place) ⊎ (d.place + 8 + 8 * length d.words ≤ p) → (j : ℕ) (y : ℕ × ℕ)
+      drawn_apart : (p : ℕ) → p % 8 ≡ 0 → d.place ≤ p → p < d.end
+          → (p ≡ d.place) ⊎ (d.place + 8 + 8 * length d.words ≤ p) → (j : ℕ) (y : ℕ × ℕ)
           → get_elem? drawn j ≡ some y → index C y.0 ≢ index C p
-      drawn_apart p p8 from to fresh j y on = let l = ran.0 in let roomy = h.lawful.roomy in let whole = h.lawful.whole in
+      drawn_apart p p8 from to fresh j y on =
+          let l = ran.0 in let roomy = h.lawful.roomy in let whole = h.lawful.whole in
           let a = lies_after C (end_of e me.sent) d.before d.place d.end l roomy whole in
           let near = lies_near C (end_of e me.sent) d.before d.place d.end l roomy whole in let so = ran.1 in
           let w = filled_where d.before d.place d.words j y l.begins_whole p_whole on in
@@ -105,25 +122,31 @@ module _ (C e : ℕ) where
           apart y.0 p C roomy whole w.1 p8 (omega arith) (omega arith))
           (λ (c : (d.place < y.0) × (y.0 < d.place + 8 + 8 * length d.words)). let f = c.0 in let g = c.1 in
           ⊎_elim (λ (is : p ≡ d.place). λ same. apart p y.0 C roomy whole p8 w.1 (omega arith) (omega arith) (sym same))
-          (λ (past : d.place + 8 + 8 * length d.words ≤ p). apart y.0 p C roomy whole w.1 p8 (omega arith) (omega arith)) fresh) w.0
+          (λ (past : d.place + 8 + 8 * length d.words ≤ p). apart y.0 p C roomy whole w.1 p8 (omega arith)
+          (omega arith)) fresh) w.0
 
       word_stored : (x : ℕ) → d.place + 8 + 8 * length d.words < d.end
           → Kept (index C (d.place + 8 + 8 * length d.words)) x (staged me (Storing (with_words d (x ∷ []))))
-      word_stored x room = let p : ℕ = d.place + 8 + 8 * length d.words in let l = ran.0 in let roomy = h.lawful.roomy in let whole = h.lawful.whole in
+      word_stored x room = let p : ℕ = d.place + 8 + 8 * length d.words in let l = ran.0 in let roomy =
+          h.lawful.roomy in let whole = h.lawful.whole in
           let a = lies_after C (end_of e me.sent) d.before d.place d.end l roomy whole in let b = l.begins in
-          let p8 = p_whole in let z8 = l.ends_whole in let wide = h.memory.wide in let lt : index C p < C / 8 = index_below C p roomy whole in
+          let p8 = p_whole in let z8 = l.ends_whole in let wide = h.memory.wide in let lt : index C p < C / 8 =
+          index_below C p roomy whole in
           let d' : Draft = with_words d (x ∷ []) in
           let grow : filled d.before d.place d'.words ≡ drawn ++ (p, x) ∷ [] = ap (λ m. gap d.before d.place ++ m)
-          (placed_snoc (d.place + 8) d.words x) ∙ sym (append_assoc (gap d.before d.place) (placed_words (d.place + 8) d.words) ((p, x) ∷ [])) in
+          (placed_snoc (d.place + 8) d.words x) ∙ sym
+          (append_assoc (gap d.before d.place) (placed_words (d.place + 8) d.words) ((p, x) ∷ [])) in
           let long : length d'.words ≡ length d.words + 1 = length-append d.words (x ∷ []) in
-          word_stored_at (Storing d') p x (omega arith) (omega arith) (subst (λ (u : Stage). p < intent e me.sent u) (sym eq) room)
+          word_stored_at (Storing d') p x (omega arith) (omega arith)
+          (subst (λ (u : Stage). p < intent e me.sent u) (sym eq) room)
           (ap (intent e me.sent) (sym eq)) (ap (latest e me.sent) (sym eq)) (ap (shown me.sent) (sym eq))
           (ap (λ m. stores_of me.sent ++ m) grow ∙ (sym (append_assoc (stores_of me.sent) drawn ((p, x) ∷ []))
           ∙ ap (λ (u : Stage). so_far me.sent u ++ (p, x) ∷ []) (sym eq))) (
             l,
             omega arith,
             subst (Stand C (set s.words (index C p) x)) (sym grow)
-                (stand_on C s.words drawn p x (omega arith) (drawn_apart p (omega arith) (omega arith) room (inr (omega arith))) ran.2),
+                (stand_on C s.words drawn p x (omega arith)
+                (drawn_apart p (omega arith) (omega arith) room (inr (omega arith))) ran.2),
           ) refl
 
       abbrev record_of : Message → Record
@@ -131,33 +154,50 @@ module _ (C e : ℕ) where
 
       header_stored : (m : Message) → IsMessage C m → words_of m.body ≡ d.words → d.place + span (length m.body) ≡ d.end
           → Kept (index C d.place) (header_of m) (staged me (Written (record_of m)))
-      header_stored m lawful is full = let p : ℕ = d.place in let x : ℕ = header_of m in let r : Record = record_of m in let l = ran.0 in
-          let roomy = h.lawful.roomy in let whole = h.lawful.whole in let a = lies_after C (end_of e me.sent) d.before d.place d.end l roomy whole in
-          let b = l.begins in let so = l.some_room in let wide = h.memory.wide in let lt : index C p < C / 8 = index_below C p roomy whole in
+      header_stored m lawful is full =
+          let p : ℕ = d.place in let x : ℕ = header_of m in let r : Record = record_of m in let l = ran.0 in
+          let roomy = h.lawful.roomy in let whole = h.lawful.whole in let a =
+          lies_after C (end_of e me.sent) d.before d.place d.end l roomy whole in
+          let b = l.begins in let so = l.some_room in let wide = h.memory.wide in let lt : index C p < C / 8 =
+          index_below C p roomy whole in
           let same : filled d.before d.place (words_of m.body) ≡ drawn = ap (filled d.before d.place) is in
-          word_stored_at (Written r) p x p_whole (omega arith) (subst (λ (u : Stage). p < intent e me.sent u) (sym eq) (omega arith))
+          word_stored_at (Written r) p x p_whole (omega arith)
+          (subst (λ (u : Stage). p < intent e me.sent u) (sym eq) (omega arith))
           (full ∙ ap (intent e me.sent) (sym eq)) (ap (latest e me.sent) (sym eq)) (ap (shown me.sent) (sym eq))
           (ap (λ m. stores_of me.sent ++ (m ++ (p, x) ∷ [])) same
-          ∙ (sym (append_assoc (stores_of me.sent) drawn ((p, x) ∷ [])) ∙ ap (λ (u : Stage). so_far me.sent u ++ (p, x) ∷ []) (sym eq))) (
-            record { fits = subst (λ (u : ℕ). Lies C (end_of e me.sent) d.before d.place u) (sym full) l; lawful = lawful },
+          ∙ (sym (append_assoc (stores_of me.sent) drawn ((p, x) ∷ []))
+          ∙ ap (λ (u : Stage). so_far me.sent u ++ (p, x) ∷ []) (sym eq))) (
+            record {
+              fits = subst (λ (u : ℕ). Lies C (end_of e me.sent) d.before d.place u) (sym full) l;
+              lawful =
+                  lawful;
+            },
             subst (λ (m : List (ℕ × ℕ)). Stand C (set s.words (index C p) x) (m ++ (p, x) ∷ [])) (sym same)
-                (stand_on C s.words drawn p x (omega arith) (drawn_apart p p_whole (omega arith) (omega arith) (inl refl)) ran.2),
+                (stand_on C s.words drawn p x (omega arith)
+                (drawn_apart p p_whole (omega arith) (omega arith) (inl refl)) ran.2),
           ) refl
 
-    padding_stored : (d : Draft) → me.stage ≡ Begun d → Kept (index C d.before) (padding_header (d.place - d.before)) (staged me (Storing d))
-    padding_stored d eq = let run = subst (Running C (end_of e me.sent) s.words) eq h.memory.running in let p : ℕ = d.before in
-        let x : ℕ = padding_header (d.place - d.before) in let l = run.0 in let lt0 = run.1 in let roomy = h.lawful.roomy in let whole = h.lawful.whole in
-        let b = l.begins in let so = l.some_room in let wide = h.memory.wide in let lt : index C p < C / 8 = index_below C p roomy whole in
+    padding_stored : (d : Draft) → me.stage ≡ Begun d
+        → Kept (index C d.before) (padding_header (d.place - d.before)) (staged me (Storing d))
+    padding_stored d eq =
+        let run = subst (Running C (end_of e me.sent) s.words) eq h.memory.running in let p : ℕ = d.before in
+        let x : ℕ = padding_header (d.place - d.before) in let l = run.0 in let lt0 = run.1 in let roomy =
+        h.lawful.roomy in let whole = h.lawful.whole in
+        let b = l.begins in let so = l.some_room in let wide = h.memory.wide in let lt : index C p < C / 8 =
+        index_below C p roomy whole in
         let none = ap length run.2 in
-        let is : filled d.before d.place d.words ≡ (p, x) ∷ [] = ap (λ (c : Bool). cond c ((p, x) ∷ []) [] ++ placed_words (d.place + 8) d.words)
+        let is : filled d.before d.place d.words ≡ (p, x) ∷ [] =
+        ap (λ (c : Bool). cond c ((p, x) ∷ []) [] ++ placed_words (d.place + 8) d.words)
         (lt-ltb d.before d.place lt0) ∙ ap (λ (ws : List ℕ). (p, x) ∷ placed_words (d.place + 8) ws) run.2 in
-        word_stored_at (Storing d) p x l.begins_whole (omega arith) (subst (λ (u : Stage). p < intent e me.sent u) (sym eq) (omega arith))
+        word_stored_at (Storing d) p x l.begins_whole (omega arith)
+        (subst (λ (u : Stage). p < intent e me.sent u) (sym eq) (omega arith))
         (ap (intent e me.sent) (sym eq)) (ap (latest e me.sent) (sym eq)) (ap (shown me.sent) (sym eq))
         (ap (λ m. stores_of me.sent ++ m) is ∙ ap (λ (u : Stage). so_far me.sent u ++ (p, x) ∷ []) (sym eq)) (
           l,
           omega arith,
           subst (Stand C (set s.words (index C p) x)) (sym is)
-              (stand_on C s.words [] p x (omega arith) (λ j y on. absurd (some-ne-none y (sym on))) (λ j y on. absurd (some-ne-none y (sym on)))),
+              (stand_on C s.words [] p x (omega arith) (λ j y on. absurd (some-ne-none y (sym on)))
+              (λ j y on. absurd (some-ne-none y (sym on)))),
         ) refl
 
     -- Stores into the trailer
@@ -174,46 +214,62 @@ module _ (C e : ℕ) where
       outer_0 : k ≢ 0 → get_or (set s.words (C / 8 + k) x) (C / 8) 0 ≡ get_or s.words (C / 8) 0
       outer_0 ne = get_or-set_other s.words (C / 8 + k) (C / 8) x 0 (λ e. ne (omega arith))
 
-    intent_stored_as : (st : Stage) (z : ℕ) → me.stage ≡ Idle → z ≤ max_position → end_of e me.sent ≤ z → intent e me.sent st ≡ z
+    intent_stored_as : (st : Stage) (z : ℕ) → me.stage ≡ Idle → z ≤ max_position → end_of e me.sent ≤ z
+        → intent e me.sent st ≡ z
         → latest e me.sent st ≡ last_of e me.sent → shown me.sent st ≡ me.sent → so_far me.sent st ≡ stores_of me.sent
         → Running C (end_of e me.sent) (set s.words (C / 8 + 0) z) st → Knows C e id (staged me st) id (staged me st) st
         → Kept (C / 8 + 0) z (staged me st)
-    intent_stored_as st z eq low later i l sh grows running mine = let roomy = h.lawful.roomy in let whole = h.lawful.whole in
+    intent_stored_as st z eq low later i l sh grows running mine =
+        let roomy = h.lawful.roomy in let whole = h.lawful.whole in
         let ws : List ℕ = set s.words (C / 8 + 0) z in
-        let risen : intent e me.sent me.stage ≤ intent e me.sent st = subst (λ (y : ℕ). intent e me.sent me.stage ≤ y) (sym i)
+        let risen : intent e me.sent me.stage ≤ intent e me.sent st =
+        subst (λ (y : ℕ). intent e me.sent me.stage ≤ y) (sym i)
         (subst (λ (u : Stage). intent e me.sent u ≤ z) (sym eq) later) in
         rebuilt C e s id me (staged me st) h ws (record {
           wide = length-set s.words (C / 8 + 0) z ∙ h.memory.wide;
           chain = h.memory.chain;
           low = subst (λ (y : ℕ). y ≤ max_position) (sym i) low;
-          intent_is = ap (λ (c : ℕ). get_or ws c 0) (let g : C / 8 ≡ C / 8 + 0 = omega arith in g) ∙ (here 0 z (omega arith) ∙ sym i);
+          intent_is = ap (λ (c : ℕ). get_or ws c 0) (let g : C / 8 ≡ C / 8 + 0 = omega arith in g)
+              ∙ (here 0 z (omega arith) ∙ sym i);
           tail_is = outer 0 z 1 (λ e. omega arith) ∙ h.memory.tail_is;
           latest_is = outer 0 z 2 (λ e. omega arith) ∙ (h.memory.latest_is ∙ (ap (latest e me.sent) eq ∙ sym l));
           unnamed = unnamed_kept (C / 8 + 0) z (omega arith);
           valid = λ k r at j y on now. let now' : z < y.0 + C = subst (λ (u : ℕ). u < y.0 + C) i now in
               inner 0 z (index C y.0) (index_below C y.0 roomy whole)
-              ∙ h.memory.valid k r at j y on (subst (λ (u : Stage). intent e me.sent u < y.0 + C) (sym eq) (omega arith));
+              ∙ h.memory.valid k r at j y on (subst (λ (u : Stage). intent e me.sent u < y.0 + C) (sym eq)
+              (omega arith));
           running = running;
           exact = λ c lt. inner 0 z c lt
               ∙ (h.memory.exact c lt ∙ ap (λ (l : List (ℕ × ℕ)). last_at C l c 0) (ap (so_far me.sent) eq ∙ sym grows));
         }) h.seated.behind mine
-        (λ j v. knows_moves C e id me (staged me st) (λ u. subst (λ (l : List Record). Receives e me.sent l u) (ap (shown me.sent) eq ∙ sym sh))
+        (λ j v. knows_moves C e id me (staged me st)
+        (λ u. subst (λ (l : List Record). Receives e me.sent l u) (ap (shown me.sent) eq ∙ sym sh))
         (λ k r at. at) risen j v v.stage)
-        (λ v u. u) (loads_rise C e me.sent me.stage st risen (let same = ap (latest e me.sent) eq in omega arith)) (staged_alike me st)
+        (λ v u. u) (loads_rise C e me.sent me.stage st risen (let same = ap (latest e me.sent) eq in omega arith))
+        (staged_alike me st)
 
-    intent_stored : (z : ℕ) → me.stage ≡ Idle → z ≤ max_position → Lies C (end_of e me.sent) me.at (place_before me.capacity me.at z) z
+    intent_stored : (z : ℕ) → me.stage ≡ Idle → z ≤ max_position
+        → Lies C (end_of e me.sent) me.at (place_before me.capacity me.at z) z
         → Kept (C / 8 + 0) z (after_intent me z)
-    intent_stored z eq low l = let p : ℕ = place_before me.capacity me.at z in let d : Draft = draft me.at p z [] in let roomy = h.lawful.roomy in
+    intent_stored z eq low l = let p : ℕ = place_before me.capacity me.at z in let d : Draft =
+        draft me.at p z [] in let roomy = h.lawful.roomy in
         let a = lies_after C (end_of e me.sent) me.at p z l roomy h.lawful.whole in
         let b = l.begins in let so = l.some_room in let later : end_of e me.sent ≤ z = omega arith in
         cond_both (ltb me.at p) (Begun d) (Storing d) (λ (st : Stage). Kept (C / 8 + 0) z (staged me st))
         (λ t. intent_stored_as (Begun d) z eq low later refl refl refl refl (l, ltb-true me.at p t, refl) refl)
-        (λ f. let none : filled me.at p [] ≡ [] = ap (λ (c : Bool). cond c ((me.at, padding_header (p - me.at)) ∷ []) [] ++ []) f in
-        intent_stored_as (Storing d) z eq low later refl refl refl (ap (λ m. stores_of me.sent ++ m) none ∙ append_nil (stores_of me.sent))
-        (l, omega arith, subst (Stand C (set s.words (C / 8 + 0) z)) (sym none) (λ j y on. absurd (some-ne-none y (sym on)))) refl)
+        (λ f. let none : filled me.at p [] ≡ [] =
+        ap (λ (c : Bool). cond c ((me.at, padding_header (p - me.at)) ∷ []) [] ++ []) f in
+        intent_stored_as (Storing d) z eq low later refl refl refl
+        (ap (λ m. stores_of me.sent ++ m) none ∙ append_nil (stores_of me.sent)) (
+          l,
+          omega arith,
+          subst (Stand C (set s.words (C / 8 + 0) z)) (sym none)
+              (λ j y on. absurd (some-ne-none y (sym on))),
+        ) refl)
 
     latest_stored : (r : Record) → me.stage ≡ Written r → Kept (C / 8 + 2) r.place (staged me (Shown r))
-    latest_stored r eq = let run = subst (Running C (end_of e me.sent) s.words) eq h.memory.running in let x : ℕ = r.place in
+    latest_stored r eq =
+        let run = subst (Running C (end_of e me.sent) s.words) eq h.memory.running in let x : ℕ = r.place in
         let ws : List ℕ = set s.words (C / 8 + 2) x in let roomy = h.lawful.roomy in let whole = h.lawful.whole in
         let same : intent e me.sent me.stage ≡ end r = ap (intent e me.sent) eq in
         rebuilt C e s id me (staged me (Shown r)) h ws (record {
@@ -227,19 +283,24 @@ module _ (C e : ℕ) where
           valid = λ k q at j y on now. inner 2 x (index C y.0) (index_below C y.0 roomy whole)
               ∙ h.memory.valid k q at j y on (subst (λ (u : ℕ). u < y.0 + C) (sym same) now);
           running = (run.0, stand_kept C roomy whole s.words ws (inner 2 x) (stores r) run.1);
-          exact = λ c lt. inner 2 x c lt ∙ (h.memory.exact c lt ∙ ap (λ (u : Stage). last_at C (so_far me.sent u) c 0) eq);
+          exact =
+              λ c lt. inner 2 x c lt ∙ (h.memory.exact c lt ∙ ap (λ (u : Stage). last_at C (so_far me.sent u) c 0) eq);
         }) h.seated.behind refl
-        (λ j v. knows_moves C e id me (staged me (Shown r)) (λ u k. receives_more C e me.sent r roomy whole h.lawful.aligned run.0 u
+        (λ j v. knows_moves C e id me (staged me (Shown r))
+        (λ u k. receives_more C e me.sent r roomy whole h.lawful.aligned run.0 u
         (subst (λ (l : Stage). Receives e me.sent (shown me.sent l) u) eq k)) (λ k r at. at) (let le = same in
         omega arith) j v v.stage)
         (λ v u. u) (loads_rise C e me.sent me.stage (Shown r) (let le = same in
         omega arith) (subst (λ (u : Stage). latest e me.sent u ≤ r.place) (sym eq)
         (let low = last_low C roomy whole e me.sent h.memory.chain in
-        let a = lies_after C (end_of e me.sent) r.before r.place (end r) run.0.fits roomy whole in let b = run.0.fits.begins in omega arith))) (staged_alike me (Shown r))
+        let a = lies_after C (end_of e me.sent) r.before r.place (end r) run.0.fits roomy whole in let b =
+        run.0.fits.begins in omega arith))) (staged_alike me (Shown r))
 
     tail_stored : (r : Record) → me.stage ≡ Shown r → Kept (C / 8 + 1) (end r) (sent_on me r)
-    tail_stored r eq = let run = subst (Running C (end_of e me.sent) s.words) eq h.memory.running in let x : ℕ = end r in
-        let ws : List ℕ = set s.words (C / 8 + 1) x in let roomy = h.lawful.roomy in let whole = h.lawful.whole in let all : List Record = me.sent ++ r ∷ [] in
+    tail_stored r eq =
+        let run = subst (Running C (end_of e me.sent) s.words) eq h.memory.running in let x : ℕ = end r in
+        let ws : List ℕ = set s.words (C / 8 + 1) x in let roomy = h.lawful.roomy in let whole =
+        h.lawful.whole in let all : List Record = me.sent ++ r ∷ [] in
         let ends : end_of e all ≡ end r = end_snoc e me.sent r in
         let was : intent e me.sent me.stage ≡ end r = ap (intent e me.sent) eq in
         let same : intent e me.sent me.stage ≡ end_of e all = was ∙ sym ends in
@@ -254,74 +315,90 @@ module _ (C e : ℕ) where
           unnamed = unnamed_kept (C / 8 + 1) x (omega arith);
           valid = λ k q at j y on now. inner 1 x (index C y.0) (index_below C y.0 roomy whole) ∙
               ⊎_elim (λ old. h.memory.valid k q old j y on (subst (λ (u : ℕ). u < y.0 + C) (sym same) now))
-              (λ is. run.1 j y (subst (λ (v : Record). get_elem? (stores v) j ≡ some y) (sym is) on)) (at_snoc me.sent r q k at);
+              (λ is. run.1 j y (subst (λ (v : Record). get_elem? (stores v) j ≡ some y) (sym is) on))
+              (at_snoc me.sent r q k at);
           running = tt;
-          exact = λ c lt. inner 1 x c lt ∙ (h.memory.exact c lt ∙ (ap (λ (u : Stage). last_at C (so_far me.sent u) c 0) eq
+          exact =
+              λ c lt. inner 1 x c lt ∙ (h.memory.exact c lt ∙ (ap (λ (u : Stage). last_at C (so_far me.sent u) c 0) eq
               ∙ ap (λ (l : List (ℕ × ℕ)). last_at C l c 0) (sym (stores_of_snoc me.sent r))));
         }) (sym ends) refl
         (λ j v. knows_moves C e id me (sent_on me r) (λ u k. sent_more e me.sent (me.sent ++ r ∷ []) r u
-        (subst (λ (l : Stage). Receives e me.sent (shown me.sent l) u) eq k)) (λ k q at. at_longer me.sent (r ∷ []) k q at) (let le = same in
+        (subst (λ (l : Stage). Receives e me.sent (shown me.sent l) u) eq k))
+        (λ k q at. at_longer me.sent (r ∷ []) k q at) (let le = same in
         omega arith) j v v.stage)
         (λ v u. runs_more me.sent r v.from v.copies u)
-        (λ l k. loads_sent C e me.sent r roomy whole run.0 l (subst (λ (u : Stage). LoadOk C e me.sent u l) eq k)) (sent_alike me r)
+        (λ l k. loads_sent C e me.sent r roomy whole run.0 l (subst (λ (u : Stage). LoadOk C e me.sent u l) eq k))
+        (sent_alike me r)
 
   -- The steps
   moved : (s : St) (id : ℕ) (cs : List (ℕ × (Unit {0}))) (i j x y : ℕ) (w v : View) → i ≡ j → x ≡ y → w ≡ v
-      → IsBoard C e id v record { words = set s.words j y; homes = s.homes; views = set s.views id v } → Holds C e (stepped s i x id cs w keeps)
+      → IsBoard C e id v record { words = set s.words j y; homes = s.homes; views = set s.views id v }
+      → Holds C e (stepped s i x id cs w keeps)
   moved s id cs i j x y w v is num same h = subst (λ
       (q : ℕ × ℕ × View). Holds C e record { words = set s.words q.0 q.1; homes = s.homes; views = set s.views id q.2 })
       (λ k. (sym is k, sym num k, sym same k)) (id, v, h)
 
   module _ (slots id : ℕ) (me : Sat) (i x : ℕ) where
-    pub stores_intent : me.0.stage ≡ Idle → i ≡ C / 8 → x ≤ max_position → Lies C me.0.at me.0.at (place_before C me.0.at x) x
+    pub stores_intent : me.0.stage ≡ Idle → i ≡ C / 8 → x ≤ max_position
+        → Lies C me.0.at me.0.at (place_before C me.0.at x) x
         → Allows (Holds C e) slots id me i (λ _. x) (λ _. StoresIntent me x)
     stores_intent eq is low l s b _ at _ = let h = owner C e s b id me.0 Idle (λ by mine k. k) at eq in
         let l' : Lies C (end_of e me.0.sent) me.0.at (place_before me.0.capacity me.0.at x) x = subst
-        (λ (q : ℕ × ℕ). Lies C q.0 me.0.at (place_before q.1 me.0.at x) x) (λ k. (h.seated.behind k, sym h.seated.capacity k)) l in (
+        (λ (q : ℕ × ℕ). Lies C q.0 me.0.at (place_before q.1 me.0.at x) x)
+        (λ k. (h.seated.behind k, sym h.seated.capacity k)) l in (
           after_intent me.0 x,
           keeps,
           tt,
-          moved s id me.1 i (C / 8 + 0) x x (after_intent me.0 x) (after_intent me.0 x) (let g : i ≡ C / 8 + 0 = omega arith in
+          moved s id me.1 i (C / 8 + 0) x x (after_intent me.0 x) (after_intent me.0 x)
+              (let g : i ≡ C / 8 + 0 = omega arith in
               g) refl refl (intent_stored s id me.0 h x eq low l'),
           refl,
         )
 
-    pub stores_padding : (d : Draft) → me.0.stage ≡ Begun d → i ≡ index C d.before → x ≡ padding_header (d.place - d.before)
+    pub stores_padding : (d : Draft) → me.0.stage ≡ Begun d → i ≡ index C d.before
+        → x ≡ padding_header (d.place - d.before)
         → Allows (Holds C e) slots id me i (λ _. x) (λ _. StoresPadding me x)
     stores_padding d eq is num s b _ at _ = let h = owner C e s b id me.0 (Begun d) (λ by mine k. k) at eq in
         let w : View = staged me.0 (after_padding me.0.stage) in (
           w,
           keeps,
           tt,
-          moved s id me.1 i (index C d.before) x (padding_header (d.place - d.before)) w (staged me.0 (Storing d)) is num
+          moved s id me.1 i (index C d.before) x (padding_header (d.place - d.before)) w
+              (staged me.0 (Storing d)) is num
               (ap (λ (u : Stage). staged me.0 (after_padding u)) eq) (padding_stored s id me.0 h d eq),
           refl,
         )
 
-    pub stores_word : (d : Draft) → me.0.stage ≡ Storing d → i ≡ index C (d.place + 8 + 8 * length d.words) → d.place + 8 + 8 * length d.words < d.end
+    pub stores_word : (d : Draft) → me.0.stage ≡ Storing d → i ≡ index C (d.place + 8 + 8 * length d.words)
+        → d.place + 8 + 8 * length d.words < d.end
         → Allows (Holds C e) slots id me i (λ _. x) (λ _. StoresWord me x)
     stores_word d eq is room s b _ at _ = let h = owner C e s b id me.0 (Storing d) (λ by mine k. k) at eq in
         let w : View = staged me.0 (after_words me.0.stage (x ∷ [])) in (
           w,
           keeps,
           tt,
-          moved s id me.1 i (index C (d.place + 8 + 8 * length d.words)) x x w (staged me.0 (Storing (with_words d (x ∷ [])))) is refl
+          moved s id me.1 i (index C (d.place + 8 + 8 * length d.words)) x x w
+              (staged me.0 (Storing (with_words d (x ∷ [])))) is refl
               (ap (λ (u : Stage). staged me.0 (after_words u (x ∷ []))) eq) (word_stored s id me.0 h d eq x room),
           refl,
         )
 
-    pub stores_header : (d : Draft) (m : Message) → me.0.stage ≡ Storing d → i ≡ index C d.place → IsMessage C m → words_of m.body ≡ d.words
+    pub stores_header : (d : Draft) (m : Message) → me.0.stage ≡ Storing d → i ≡ index C d.place → IsMessage C m
+        → words_of m.body ≡ d.words
         → d.place + span (length m.body) ≡ d.end → x ≡ header_of m
         → Allows (Holds C e) slots id me i (λ _. x) (λ _. StoresHeader me x)
-    stores_header d m eq is lawful words full num s b _ at _ = let h = owner C e s b id me.0 (Storing d) (λ by mine k. k) at eq in
+    stores_header d m eq is lawful words full num s b _ at _ =
+        let h = owner C e s b id me.0 (Storing d) (λ by mine k. k) at eq in
         let w : View = staged me.0 (after_header me.0.stage x) in
-        let held : written d x ≡ record { before = d.before; place = d.place; message = m } = written_as C d m x h.lawful.narrow lawful words num in (
+        let held : written d x ≡ record { before = d.before; place = d.place; message = m } =
+        written_as C d m x h.lawful.narrow lawful words num in (
           w,
           keeps,
           tt,
           moved s id me.1 i (index C d.place) x (header_of m) w
               (staged me.0 (Written (record { before = d.before; place = d.place; message = m }))) is num
-              (ap (λ (u : Stage). staged me.0 (after_header u x)) eq ∙ ap (λ (r : Record). staged me.0 (Written r)) held)
+              (ap (λ (u : Stage). staged me.0 (after_header u x)) eq
+              ∙ ap (λ (r : Record). staged me.0 (Written r)) held)
               (header_stored s id me.0 h d eq m lawful words full),
           refl,
         )
@@ -333,12 +410,20 @@ module _ (C e : ℕ) where
           w,
           keeps,
           tt,
-          moved s id me.1 i (C / 8 + 2) x r.place w (staged me.0 (Shown r)) is num (ap (λ (u : Stage). staged me.0 (after_latest u)) eq)
+          moved s id me.1 i (C / 8 + 2) x r.place w (staged me.0 (Shown r)) is num
+              (ap (λ (u : Stage). staged me.0 (after_latest u)) eq)
               (latest_stored s id me.0 h r eq),
           refl,
         )
 
     pub stores_tail : (r : Record) → me.0.stage ≡ Shown r → i ≡ C / 8 + 1 → x ≡ end r
         → Allows (Holds C e) slots id me i (λ _. x) (λ _. StoresTail me x)
-    stores_tail r eq is num s b _ at _ = let h = owner C e s b id me.0 (Shown r) (λ by mine k. k) at eq in let w : View = after_tail me.0 me.0.stage in
-        (w, keeps, tt, moved s id me.1 i (C / 8 + 1) x (end r) w (sent_on me.0 r) is num (ap (after_tail me.0) eq) (tail_stored s id me.0 h r eq), refl)
+    stores_tail r eq is num s b _ at _ =
+        let h = owner C e s b id me.0 (Shown r) (λ by mine k. k) at eq in let w : View = after_tail me.0 me.0.stage in (
+          w,
+          keeps,
+          tt,
+          moved s id me.1 i (C / 8 + 1) x (end r) w (sent_on me.0 r) is num (ap (after_tail me.0) eq)
+              (tail_stored s id me.0 h r eq),
+          refl,
+        )

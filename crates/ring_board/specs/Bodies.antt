@@ -22,20 +22,25 @@ WereLoaded C log place ws = (j : ℕ) → j < length ws → WasLoaded C log (pla
 
 -- the bytes are those of words that were loaded behind the header at a place
 abbrev pub IsLoaded : ℕ → List Load → ℕ → List ℕ → Type 0
-IsLoaded C log place body = (ws : List ℕ) × WereLoaded C log place ws × (length ws ≡ word_count (length body)) × (body ≡ take (length body) (bytes_of ws))
+IsLoaded C log place body = (ws : List ℕ) × WereLoaded C log place ws × (length ws ≡ word_count (length body))
+    × (body ≡ take (length body) (bytes_of ws))
 
 -- a body was loaded, and all else is as before
 abbrev pub GaveBody : ℕ → List ℕ → Sat → Sat → Type 0
-GaveBody place body m m' = (loads : List Load) × (m' ≡ (record m.0 { log = m.0.log ++ loads }, m.1)) × IsLoaded m.0.capacity loads place body
+GaveBody place body m m' =
+    (loads : List Load) × (m' ≡ (record m.0 { log = m.0.log ++ loads }, m.1)) × IsLoaded m.0.capacity loads place body
 
--- where the intent x has not reached the place plus the capacity, what was loaded as a record's body is the body that the transmitter gave it
+-- where the intent x has not reached the place plus the capacity, what was loaded as a record's body is the body that
+-- the transmitter gave it
 abbrev pub AreRight : View → ℕ → Type 0
-AreRight v x = (n : ℕ) (c : Taken) (body : List ℕ) → get_elem? v.copies n ≡ some c → x < c.place + v.capacity → IsLoaded v.capacity v.log c.place body
+AreRight v x = (n : ℕ) (c : Taken) (body : List ℕ) → get_elem? v.copies n ≡ some c → x < c.place + v.capacity
+    → IsLoaded v.capacity v.log c.place body
     → length body ≡ length c.message.body → body ≡ c.message.body
 
 -- the body of this record, wherever it was loaded, is the one that the transmitter gave it
 abbrev pub IsRight : View → RawRecord → Type 0
-IsRight v r = (n : ℕ) (c : Taken) (body : List ℕ) → get_elem? v.copies n ≡ some c → c.place ≡ r.place → IsLoaded v.capacity v.log r.place body
+IsRight v r = (n : ℕ) (c : Taken) (body : List ℕ) → get_elem? v.copies n ≡ some c → c.place ≡ r.place
+    → IsLoaded v.capacity v.log r.place body
     → length body ≡ length c.message.body → body ≡ c.message.body
 
 -- an intent was loaded, all else is as before, and the answer is whether it lies below the place plus the capacity
@@ -44,7 +49,8 @@ Validated r valid m m' = (x : ℕ) × (m' ≡ (logged m.0 (Intent x), m.1)) × (
 
 -- The steps ----------------------------------------------------------------
 
--- a word was loaded, and the tail was t, which is no less than the one seen last, nor than the end of any record that was answered
+-- a word was loaded, and the tail was t, which is no less than the one seen last, nor than the end of any record that
+-- was answered
 abbrev pub LoadsUnread : ℕ → Sat → ℕ → Sat → Type 0
 LoadsUnread i m x m' = (t : ℕ) × (m' ≡ (logged m.0 (Word i t x), m.1)) × (last_tail m.0.log 0 ≤ t)
     × ((n : ℕ) (c : Taken) → get_elem? m.0.copies n ≡ some c → c.place + span (length c.message.body) ≤ t)

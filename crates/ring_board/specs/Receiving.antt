@@ -22,35 +22,48 @@ RestsAt C place m = (m.0.stage ≡ Resting) × (m.0.at ≡ place) × (m.0.capaci
 
 -- p is the receiver's place, or behind padding whose header is among these loads
 abbrev pub ComesTo : View → List Load → ℕ → Type 0
-ComesTo v loads p = (p ≡ v.at) ⊎ ((w : ℕ) × (t : ℕ) × (j : ℕ) × (get_elem? loads j ≡ some (Word (index v.capacity v.at) t w)) × (is_padding w ≡ true) × (p ≡ v.at + announced w))
+ComesTo v loads p = (p ≡ v.at)
+    ⊎ ((w : ℕ) × (t : ℕ) × (j : ℕ) × (get_elem? loads j ≡ some (Word (index v.capacity v.at) t w))
+    × (is_padding w ≡ true) × (p ≡ v.at + announced w))
 
 -- the validation at p failed, at the intent x
 abbrev pub GotMiss : ℕ → ℕ → Sat → Sat → Type 0
-GotMiss p x m m' = (loads : List Load) × (m' ≡ (record m.0 { stage = Behind; at = p; log = m.0.log ++ (loads ++ Intent x ∷ []) }, m.1)) × ComesTo m.0 loads p × (p + m.0.capacity ≤ x)
+GotMiss p x m m' = (loads : List Load)
+    × (m' ≡ (record m.0 { stage = Behind; at = p; log = m.0.log ++ (loads ++ Intent x ∷ []) }, m.1))
+    × ComesTo m.0 loads p × (p + m.0.capacity ≤ x)
 
 -- what looking for the next entry does
 abbrev pub FoundIs : Found → Sat → Sat → Type 0
 FoundIs (Nothing t) m m' = (m' ≡ (record m.0 { stage = Resting; log = m.0.log ++ Tail t ∷ [] }, m.1)) × (t ≤ m.0.at)
-FoundIs (Entry p w) m m' = (loads : List Load) × (m' ≡ (record m.0 { stage = Reading w []; at = p; log = m.0.log ++ loads }, m.1)) × ComesTo m.0 loads p × IsSound m.0.capacity p w
+FoundIs (Entry p w) m m' = (loads : List Load)
+    × (m' ≡ (record m.0 { stage = Reading w []; at = p; log = m.0.log ++ loads }, m.1)) × ComesTo m.0 loads p
+    × IsSound m.0.capacity p w
 FoundIs (Missed p x) m m' = GotMiss p x m m'
 
 -- what going to the next entry does, whose header is loaded and not yet validated
 abbrev pub NearIs : Found → Sat → Sat → Type 0
 NearIs (Nothing t) m m' = FoundIs (Nothing t) m m'
-NearIs (Entry p w) m m' = (loads : List Load) × (st : Stage) × (m' ≡ (record m.0 { stage = st; at = p; log = m.0.log ++ loads }, m.1)) × IsUnread w st × ComesTo m.0 loads p × (p ≤ max_position)
+NearIs (Entry p w) m m' = (loads : List Load) × (st : Stage)
+    × (m' ≡ (record m.0 { stage = st; at = p; log = m.0.log ++ loads }, m.1)) × IsUnread w st × ComesTo m.0 loads p
+    × (p ≤ max_position)
 NearIs (Missed p x) m m' = GotMiss p x m m'
 
 -- so many words of a body were loaded behind the header w, and their bytes lie at the front of out
 abbrev pub CopiedWords : ℕ → ℕ → List ℕ → Sat → Sat → Type 0
-CopiedWords w count out m m' = (ws : List ℕ) × (loads : List Load) × (m' ≡ (record m.0 { stage = Reading w ws; log = m.0.log ++ loads }, m.1)) × (length ws ≡ count) × (take (8 * count) out ≡ bytes_of ws)
+CopiedWords w count out m m' = (ws : List ℕ) × (loads : List Load)
+    × (m' ≡ (record m.0 { stage = Reading w ws; log = m.0.log ++ loads }, m.1)) × (length ws ≡ count)
+    × (take (8 * count) out ≡ bytes_of ws)
 
 -- a body of len bytes was copied to the front of out, and validated
 abbrev pub TookAll : ℕ → ℕ → List ℕ → Sat → Sat → Type 0
-TookAll w len out m m' = (loads : List Load) × (m' ≡ (record (copied m.0 (message_of w (take len out))) { log = m.0.log ++ loads }, m.1)) × (len ≤ length out)
+TookAll w len out m m' = (loads : List Load)
+    × (m' ≡ (record (copied m.0 (message_of w (take len out))) { log = m.0.log ++ loads }, m.1)) × (len ≤ length out)
 
 -- a validation failed at the intent x
 abbrev pub TookNone : ℕ → Sat → Sat → Type 0
-TookNone x m m' = (loads : List Load) × (m' ≡ (record m.0 { stage = Behind; log = m.0.log ++ (loads ++ Intent x ∷ []) }, m.1)) × (m.0.at + m.0.capacity ≤ x)
+TookNone x m m' = (loads : List Load)
+    × (m' ≡ (record m.0 { stage = Behind; log = m.0.log ++ (loads ++ Intent x ∷ []) }, m.1))
+    × (m.0.at + m.0.capacity ≤ x)
 
 -- a tail that was loaded is not beyond the place, and nothing else changed
 abbrev pub GotNothing : Sat → Sat → Type 0
@@ -59,16 +72,44 @@ GotNothing m m' = (t : ℕ) × (m' ≡ (record m.0 { stage = Resting; log = m.0.
 -- a copy came: of the record at the place, or behind padding there. The next place is its end
 abbrev pub GotCopy : ℕ → ℤ → List ℕ → Sat → Sat → Type 0
 GotCopy place type_id body m m' = (loads : List Load)
-    × (m' ≡ (record m.0 { stage = Resting; at = place + span (length body); next = suc m.0.next; copies = m.0.copies ++ record { place = place; message = record { type_id = type_id; body = body }; count = m.0.count } ∷ []; log = m.0.log ++ loads }, m.1))
+    × (m' ≡ (
+      record m.0 {
+        stage = Resting;
+        at = place + span (length body);
+        next = suc m.0.next;
+        copies =
+            m.0.copies ++ record {
+              place = place;
+              message = record { type_id = type_id; body = body };
+              count = m.0.count;
+            }
+            ∷ [];
+        log = m.0.log ++ loads;
+      },
+      m.1,
+    ))
     × ComesTo m.0 loads place
 
--- the receiver was lapped at its place, or behind padding there: the count rose by one, and the place is the latest loaded after the intent that showed it.
+-- the receiver was lapped at its place, or behind padding there: the count rose by one, and the place is the latest
+-- loaded after the intent that showed it.
 -- What lies from the place where it was lapped up to that was passed over
 abbrev pub GotLapped : Lapped → Sat → Sat → Type 0
-GotLapped l m m' = (loads : List Load) × (k : ℕ) × (x : ℕ) × ComesTo m.0 loads l.place × (l.place + m.0.capacity ≤ l.intent) × (l.count ≡ suc m.0.count) × (l.place < x)
-    × (m' ≡ (record m.0 { stage = Resting; at = x; next = k; count = suc m.0.count; log = m.0.log ++ (loads ++ (Intent l.intent ∷ Latest x ∷ [])) }, m.1))
+GotLapped l m m' = (loads : List Load) × (k : ℕ) × (x : ℕ) × ComesTo m.0 loads l.place
+    × (l.place + m.0.capacity ≤ l.intent) × (l.count ≡ suc m.0.count) × (l.place < x)
+    × (m' ≡ (
+      record m.0 {
+        stage = Resting;
+        at = x;
+        next = k;
+        count = suc m.0.count;
+        log =
+            m.0.log ++ (loads ++ (Intent l.intent ∷ Latest x ∷ []));
+      },
+      m.1,
+    ))
 
--- a record was answered unread. Its place, type id and length are those of the new copy, which has the body that the transmitter gave it
+-- a record was answered unread. Its place, type id and length are those of the new copy, which has the body that the
+-- transmitter gave it
 abbrev pub GotRecord : RawRecord → Sat → Sat → Type 0
 GotRecord r m m' = (body : List ℕ) × GotCopy r.place r.type_id body m m' × (length body ≡ r.len)
 

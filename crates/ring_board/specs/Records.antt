@@ -1,4 +1,5 @@
--- Records on a board, where they lie, and the words that their transmission stores. Positions are running byte counts, and C is the capacity of the buffer.
+-- Records on a board, where they lie, and the words that their transmission stores. Positions are running byte counts,
+-- and C is the capacity of the buffer.
 use Rattle.std.specs.Prelude.{◌≡◌, ◌≢◌, ℕ, Bool, zero, suc, ◌+◌, ◌-◌, ◌/◌, ◌%◌, ◌^◌, ◌≤◌, ◌==◌, if◌then◌else◌, pos, List, [], ◌∷◌, ◌++◌, length, take, drop, nat_lt, ◌⊎◌}
 use Rattle.std.specs.Int.{from_le_bytes, to_le_bytes, cast_signed, w32, w64}
 use mathlib.Core.Option.{some}
@@ -122,4 +123,5 @@ pub record IsNewest (C : ℕ) (xs : List (ℕ × ℕ)) (i w : ℕ) (x : ℕ × �
 
 -- the word at the index i is that of the greatest position stored there, or 0 where none was
 abbrev pub IsBoardWord : ℕ → List (ℕ × ℕ) → ℕ → ℕ → Type 0
-IsBoardWord C xs i w = ((x : ℕ × ℕ) × IsNewest C xs i w x) ⊎ (((j : ℕ) (y : ℕ × ℕ) → get_elem? xs j ≡ some y → index C y.0 ≢ i) × (w ≡ 0))
+IsBoardWord C xs i w =
+    ((x : ℕ × ℕ) × IsNewest C xs i w x) ⊎ (((j : ℕ) (y : ℕ × ℕ) → get_elem? xs j ≡ some y → index C y.0 ≢ i) × (w ≡ 0))

@@ -50,7 +50,8 @@ Stand C ws xs = (j : ℕ) (x : ℕ × ℕ) → get_elem? xs j ≡ some x → sli
 abbrev pub Running : ℕ → ℕ → List ℕ → Stage → Type 0
 Running C e ws Idle = Unit {0}
 Running C e ws (Begun d) = Lies C e d.before d.place d.end × (d.before < d.place) × (d.words ≡ [])
-Running C e ws (Storing d) = Lies C e d.before d.place d.end × (d.place + 8 + 8 * length d.words ≤ d.end) × Stand C ws (filled d.before d.place d.words)
+Running C e ws (Storing d) = Lies C e d.before d.place d.end × (d.place + 8 + 8 * length d.words ≤ d.end)
+    × Stand C ws (filled d.before d.place d.words)
 Running C e ws (Written r) = Follows C e r × Stand C ws (stores r)
 Running C e ws (Shown r) = Follows C e r × Stand C ws (stores r)
 Running C e ws _ = ⊥
@@ -59,23 +60,27 @@ Running C e ws _ = ⊥
 
 -- the next entry lies at the place, or behind a padding there, or is not yet sent
 abbrev pub Before : ℕ → List Record → ℕ → ℕ → Type 0
-Before e all at next = ((r : Record) × (get_elem? all next ≡ some r) × ((at ≡ r.place) ⊎ (at ≡ r.before))) ⊎ ((next ≡ length all) × (at ≡ end_of e all))
+Before e all at next = ((r : Record) × (get_elem? all next ≡ some r) × ((at ≡ r.place) ⊎ (at ≡ r.before)))
+    ⊎ ((next ≡ length all) × (at ≡ end_of e all))
 
 -- a first copy would be the entry at the place of subscribing
 abbrev pub Fresh : ℕ → List Record → ℕ → ℕ → Type 0
-Fresh e all at next = ((r : Record) × (get_elem? all next ≡ some r) × (at ≡ r.place)) ⊎ ((all ≡ []) × (next ≡ 0) × (at ≡ e))
+Fresh e all at next =
+    ((r : Record) × (get_elem? all next ≡ some r) × (at ≡ r.place)) ⊎ ((all ≡ []) × (next ≡ 0) × (at ≡ e))
 
 -- where a receiver stands, and how its last copy lies to that
 pub record Receives (e : ℕ) (sent all : List Record) (v : View) : Type 0 where
   pub before : Before e all v.at v.next
   pub climbs : v.from + v.count ≤ v.at
-  pub past : (i : ℕ) (c : Taken) → get_elem? v.copies i ≡ some c → suc i ≡ length v.copies → (c.count ≤ v.count) × (c.place < v.at)
+  pub past : (i : ℕ) (c : Taken) → get_elem? v.copies i ≡ some c → suc i ≡ length v.copies
+      → (c.count ≤ v.count) × (c.place < v.at)
       × (c.count ≡ v.count → (k : ℕ) × (r : Record) × (v.next ≡ suc k) × (get_elem? sent k ≡ some r) × IsCopy r c)
   pub fresh : v.copies ≡ [] → v.count ≡ 0 → (v.at ≡ v.from) × Fresh e all v.at v.next
 
 -- w is the word at the place of a record, or of the padding before it
 abbrev pub IsHeader : Record → ℕ → ℕ → Type 0
-IsHeader r at w = ((at ≡ r.place) × (w ≡ header_of r.message)) ⊎ ((at ≡ r.before) × (r.before < r.place) × (w ≡ padding_header (r.place - r.before)))
+IsHeader r at w = ((at ≡ r.place) × (w ≡ header_of r.message))
+    ⊎ ((at ≡ r.before) × (r.before < r.place) × (w ≡ padding_header (r.place - r.before)))
 
 module _ (C now : ℕ) (sent : List Record) (at next : ℕ) where
   abbrev pub Next : (Record → Type 0) → Type 0
@@ -85,10 +90,12 @@ module _ (C now : ℕ) (sent : List Record) (at next : ℕ) where
   abbrev pub Loaded : Stage → Type 0
   Loaded Resting = Unit {0}
   Loaded Sure = Next (λ r. (at ≡ r.place) ⊎ ((at ≡ r.before) × (r.before < r.place)))
-  Loaded (Headed w) = Next (λ r. ((at ≡ r.place) ⊎ ((at ≡ r.before) × (r.before < r.place))) × (now < at + C → IsHeader r at w))
+  Loaded (Headed w) =
+      Next (λ r. ((at ≡ r.place) ⊎ ((at ≡ r.before) × (r.before < r.place))) × (now < at + C → IsHeader r at w))
   Loaded (Padded w) = Next (λ r. (at ≡ r.before) × (r.before < r.place) × (w ≡ padding_header (r.place - r.before)))
   Loaded (Again w) = Next (λ r. (at ≡ r.place) × (now < at + C → w ≡ header_of r.message))
-  Loaded (Reading w ws) = Next (λ r. (at ≡ r.place) × (w ≡ header_of r.message) × (now < at + C → ws ≡ take (length ws) (words_of r.message.body)))
+  Loaded (Reading w ws) = Next (λ r. (at ≡ r.place) × (w ≡ header_of r.message)
+      × (now < at + C → ws ≡ take (length ws) (words_of r.message.body)))
   Loaded Behind = Next (λ r. at + C ≤ now)
   Loaded _ = ⊥
 
@@ -100,17 +107,20 @@ Knows C e by mine j v (Begun d) = j ≡ by
 Knows C e by mine j v (Storing d) = j ≡ by
 Knows C e by mine j v (Written r) = j ≡ by
 Knows C e by mine j v (Shown r) = j ≡ by
-Knows C e by mine j v st = (v.capacity ≡ C) × Receives e mine.sent (shown mine.sent mine.stage) v × Loaded C (intent e mine.sent mine.stage) mine.sent v.at v.next st
+Knows C e by mine j v st = (v.capacity ≡ C) × Receives e mine.sent (shown mine.sent mine.stage) v
+    × Loaded C (intent e mine.sent mine.stage) mine.sent v.at v.next st
 
 -- What was loaded ----------------------------------------------------------
 
--- A counter is not above the present one. A word is that of each position there below the tail seen, or the intent has passed that
+-- A counter is not above the present one. A word is that of each position there below the tail seen, or the intent has
+-- passed that
 abbrev pub LoadOk : ℕ → ℕ → List Record → Stage → Load → Type 0
 LoadOk C e sent st (Intent x) = x ≤ intent e sent st
 LoadOk C e sent st (Tail x) = x ≤ end_of e sent
 LoadOk C e sent st (Latest x) = x ≤ latest e sent st
 LoadOk C e sent st (Word i t w) = (t ≤ end_of e sent)
-    × ((k : ℕ) (r : Record) → get_elem? sent k ≡ some r → (j : ℕ) (y : ℕ × ℕ) → get_elem? (stores r) j ≡ some y → index C y.0 ≡ i → y.0 < t → intent e sent st < y.0 + C → w ≡ y.1)
+    × ((k : ℕ) (r : Record) → get_elem? sent k ≡ some r → (j : ℕ) (y : ℕ × ℕ) → get_elem? (stores r) j ≡ some y
+    → index C y.0 ≡ i → y.0 < t → intent e sent st < y.0 + C → w ≡ y.1)
 
 abbrev pub Logged : ℕ → ℕ → List Record → Stage → List Load → Type 0
 Logged C e sent st log = (i : ℕ) (l : Load) → get_elem? log i ≡ some l → LoadOk C e sent st l
@@ -170,4 +180,18 @@ Holds C e s = (by : ℕ) × (mine : View) × IsBoard C e by mine s
 
 -- the view of a new board's transmitter
 abbrev pub opening_view : ℕ → ℕ → View
-opening_view C e = record { stage = Idle; shares = all_shares; capacity = C; start = e; sent = []; from = e; at = e; next = 0; count = 0; copies = []; log = []; heard = [] }
+opening_view C e = record {
+  stage = Idle;
+  shares = all_shares;
+  capacity = C;
+  start = e;
+  sent = [];
+  from = e;
+  at =
+      e;
+  next = 0;
+  count = 0;
+  copies = [];
+  log = [];
+  heard = [];
+}

@@ -15,12 +15,15 @@ pub record IsCopy (r : Record) (c : Taken) : Type 0 where
 pub record Neighbours (sent : List Record) (a b : Taken) : Type 0 where
   pub rises : a.place < b.place
   pub counts : a.count ≤ b.count
-  pub joined : a.count ≡ b.count → (k : ℕ) × (r : Record) × (q : Record) × (get_elem? sent k ≡ some r) × (get_elem? sent (suc k) ≡ some q) × IsCopy r a × IsCopy q b
+  pub joined : a.count ≡ b.count → (k : ℕ) × (r : Record) × (q : Record) × (get_elem? sent k ≡ some r)
+      × (get_elem? sent (suc k) ≡ some q) × IsCopy r a × IsCopy q b
 
 -- copies are runs of the transmitted list, of a receiver that subscribed at the place `from`
 pub record AreRuns (sent : List Record) (from : ℕ) (copies : List Taken) : Type 0 where
-  pub entries : (i : ℕ) (c : Taken) → get_elem? copies i ≡ some c → (k : ℕ) × (r : Record) × (get_elem? sent k ≡ some r) × IsCopy r c
-  pub follow : (i : ℕ) (a b : Taken) → get_elem? copies i ≡ some a → get_elem? copies (suc i) ≡ some b → Neighbours sent a b
+  pub entries : (i : ℕ) (c : Taken) → get_elem? copies i ≡ some c
+      → (k : ℕ) × (r : Record) × (get_elem? sent k ≡ some r) × IsCopy r c
+  pub follow : (i : ℕ) (a b : Taken) → get_elem? copies i ≡ some a → get_elem? copies (suc i) ≡ some b
+      → Neighbours sent a b
   pub first : (c : Taken) → get_elem? copies 0 ≡ some c → c.count ≡ 0 → c.place ≡ from
 
 -- what each of these receivers copied are runs of the transmitted list

@@ -67,11 +67,17 @@ IsTransmitterOf board t = (t.seat.table_id ≡ board.table.shared.table_id) × I
 
 -- a board of this capacity with its transmitter, which begins at this start
 abbrev pub IsNewAt : ℕ → ℕ → Board × Transmitter → Type 0
-IsNewAt capacity start made = IsTransmitterOf made.0 made.1 × (view_of made.1 ≡ opening_view capacity start) × (tail_of made.1 ≡ start)
+IsNewAt capacity start made =
+    IsTransmitterOf made.0 made.1 × (view_of made.1 ≡ opening_view capacity start) × (tail_of made.1 ≡ start)
 
 -- the record that comes next behind a tail
 abbrev pub next_record : ℕ → ℕ → ℤ → List ℕ → Record
-next_record C tail type_id body = record { before = tail; place = next_place C tail (span (length body)); message = record { type_id = type_id; body = body } }
+next_record C tail type_id body = record {
+  before = tail;
+  place = next_place C tail (span (length body));
+  message =
+      record { type_id = type_id; body = body };
+}
 
 -- A transmission in steps --------------------------------------------------
 
@@ -102,7 +108,8 @@ begun_len b = b.len
 
 -- the transmitter has begun a transmission of a message of this type id and length
 pub record HasBegun (C : ℕ) (t : Transmitter) (type_id : ℤ) (len : ℕ) (b : Begun) : Type 0 where
-  pub view : begun_view b ≡ staged (view_of t) (drafted (draft (tail_of t) (next_place C (tail_of t) (span len)) (end_after C (tail_of t) (span len)) []))
+  pub view : begun_view b ≡ staged (view_of t)
+      (drafted (draft (tail_of t) (next_place C (tail_of t) (span len)) (end_after C (tail_of t) (span len)) []))
   pub tail : begun_tail b ≡ tail_of t
   pub type_id_given : begun_type_id b ≡ type_id
   pub len_given : begun_len b ≡ len
@@ -139,7 +146,9 @@ lapped_count_of r = r.seat.me.0.count
 
 -- what a call of `receive` answered and did
 abbrev pub Received : CopyReceiver → CopyReceiver → Result (Option Copied) Lapped → Type 0
-Received old new result = MatchResult result (λ o. MatchOption o (GotNothing (receiver_seat old) (receiver_seat new)) (λ c. GotCopy c.place c.type_id c.body.now (receiver_seat old) (receiver_seat new)))
+Received old new result = MatchResult result
+    (λ o. MatchOption o (GotNothing (receiver_seat old) (receiver_seat new))
+    (λ c. GotCopy c.place c.type_id c.body.now (receiver_seat old) (receiver_seat new)))
     (λ l. GotLapped l (receiver_seat old) (receiver_seat new))
 
 -- Raw receivers ------------------------------------------------------------
@@ -164,7 +173,8 @@ answered_by r = r.seat.me.0.copies
 
 -- a record that a receiver with this view answered
 pub record IsAnswered (v : View) (r : RawRecord) : Type 0 where
-  pub copy : (n : ℕ) × (c : Taken) × (get_elem? v.copies n ≡ some c) × (c.place ≡ r.place) × (c.message.type_id ≡ r.type_id) × (length c.message.body ≡ r.len)
+  pub copy : (n : ℕ) × (c : Taken) × (get_elem? v.copies n ≡ some c) × (c.place ≡ r.place)
+      × (c.message.type_id ≡ r.type_id) × (length c.message.body ≡ r.len)
   pub inside : IsInside v.capacity r
 
 -- where the receiver stands: the record there is looked for next
@@ -177,7 +187,8 @@ raw_lapped_count_of r = r.seat.me.0.count
 -- what a call of `receive_next` answered and did
 abbrev pub ReceivedNext : Receiver → Receiver → Result (Option RawRecord) Lapped → Type 0
 ReceivedNext old new result = MatchResult result
-    (λ o. MatchOption o (GotNothing (raw_seat old) (raw_seat new)) (λ r. GotRecord r (raw_seat old) (raw_seat new) × IsAnswered (raw_view new) r))
+    (λ o. MatchOption o (GotNothing (raw_seat old) (raw_seat new))
+    (λ r. GotRecord r (raw_seat old) (raw_seat new) × IsAnswered (raw_view new) r))
     (λ l. GotLapped l (raw_seat old) (raw_seat new))
 
 -- what the receiver answered stays answered

@@ -124,7 +124,8 @@ IsHeaderPlace v p = ((v.stage ≡ Sure) × (p ≡ v.at)) ⊎ ((w : ℕ) × (v.st
 -- a header was loaded at the index i
 abbrev pub header_loaded : View → ℕ → Stage → ℕ → View
 header_loaded v i Sure x = record v { stage = Headed x; log = v.log ++ word_load v i x ∷ [] }
-header_loaded v i (Padded w) x = record v { stage = Again x; at = v.at + announced w; log = v.log ++ word_load v i x ∷ [] }
+header_loaded v i (Padded w) x =
+    record v { stage = Again x; at = v.at + announced w; log = v.log ++ word_load v i x ∷ [] }
 header_loaded v i st x = v
 
 abbrev pub LoadsHeader : ℕ → Sat → ℕ → Sat → Type 0
@@ -146,7 +147,13 @@ copy_of v m = record { place = v.at; message = m; count = v.count }
 
 -- the receiver behind a copy of this message
 abbrev pub copied : View → Message → View
-copied v m = record v { stage = Resting; at = v.at + span (length m.body); next = suc v.next; copies = v.copies ++ copy_of v m ∷ [] }
+copied v m = record v {
+  stage = Resting;
+  at = v.at + span (length m.body);
+  next = suc v.next;
+  copies =
+      v.copies ++ copy_of v m ∷ [];
+}
 
 -- a validation went well
 abbrev pub passed : View → Stage → View
@@ -165,7 +172,8 @@ pub record IsSound (C at w : ℕ) : Type 0 where
   pub whole : at % 8 ≡ 0
 
 abbrev pub IsSoundAt : View → Stage → Type 0
-IsSoundAt v (Headed w) = (is_padding w ≡ false → IsSound v.capacity v.at w) × (is_padding w ≡ true → v.at + announced w ≤ max_position)
+IsSoundAt v (Headed w) =
+    (is_padding w ≡ false → IsSound v.capacity v.at w) × (is_padding w ≡ true → v.at + announced w ≤ max_position)
 IsSoundAt v (Again w) = IsSound v.capacity v.at w
 IsSoundAt v _ = Unit {0}
 
@@ -188,18 +196,21 @@ header_seen _ = 0
 
 -- an intent was loaded, to validate the header w of a record with this body, which is answered unread
 abbrev pub answered : View → ℕ → List ℕ → ℕ → View
-answered v w body x = logged (if nat_lt x (v.at + v.capacity) then copied v (message_of w body) else staged v Behind) (Intent x)
+answered v w body x =
+    logged (if nat_lt x (v.at + v.capacity) then copied v (message_of w body) else staged v Behind) (Intent x)
 
 abbrev pub AnswersEntry : Sat → ℕ → Sat → Type 0
 AnswersEntry m x m' = (body : List ℕ) × (m' ≡ (answered m.0 (header_seen m.0.stage) body x, m.1))
-    × (x < m.0.at + m.0.capacity → (length body ≡ body_len (header_seen m.0.stage)) × IsSound m.0.capacity m.0.at (header_seen m.0.stage))
+    × (x < m.0.at + m.0.capacity → (length body ≡ body_len (header_seen m.0.stage))
+    × IsSound m.0.capacity m.0.at (header_seen m.0.stage))
 
 -- the receiver goes to the record at latest, the entry k of the list, which lies behind its place
 abbrev pub latest_loaded : View → ℕ → ℕ → View
 latest_loaded v k x = record v { stage = Resting; at = x; next = k; count = suc v.count; log = v.log ++ Latest x ∷ [] }
 
 abbrev pub LoadsLatest : Sat → ℕ → Sat → Type 0
-LoadsLatest m x m' = (k : ℕ) × (m' ≡ (latest_loaded m.0 k x, m.1)) × (suc m.0.count ≤ x) × (x ≤ max_position) × (m.0.at < x)
+LoadsLatest m x m' =
+    (k : ℕ) × (m' ≡ (latest_loaded m.0 k x, m.1)) × (suc m.0.count ≤ x) × (x ≤ max_position) × (m.0.at < x)
 
 -- Split and join -----------------------------------------------------------
 
@@ -209,7 +220,21 @@ fewer v = record v { shares = v.shares - 1 }
 -- a receiver at latest
 abbrev pub newcomer : View → View
 newcomer v = let p = last_of v.start v.sent in
-    record { stage = Resting; shares = 1; capacity = v.capacity; start = v.start; sent = []; from = p; at = p; next = length v.sent - 1; count = 0; copies = []; log = []; heard = [] }
+    record {
+      stage = Resting;
+      shares = 1;
+      capacity = v.capacity;
+      start = v.start;
+      sent = [];
+      from = p;
+      at = p;
+      next =
+          length v.sent - 1;
+      count = 0;
+      copies = [];
+      log = [];
+      heard = [];
+    }
 
 -- a receiver with this view, as it is known once it was joined
 abbrev pub as_joined : View → Joined
@@ -217,11 +242,27 @@ as_joined u = record { from = u.from; copies = u.copies }
 
 -- the transmitter takes back a receiver's share, and has its copies
 abbrev pub joined : View → View → View
-joined v u = record v { shares = v.shares + u.shares; from = u.from; copies = u.copies; heard = v.heard ++ as_joined u ∷ [] }
+joined v u =
+    record v { shares = v.shares + u.shares; from = u.from; copies = u.copies; heard = v.heard ++ as_joined u ∷ [] }
 
 abbrev pub spent : View
-spent = record { stage = Spent; shares = 0; capacity = 0; start = 0; sent = []; from = 0; at = 0; next = 0; count = 0; copies = []; log = []; heard = [] }
+spent = record {
+  stage = Spent;
+  shares = 0;
+  capacity = 0;
+  start = 0;
+  sent = [];
+  from = 0;
+  at = 0;
+  next = 0;
+  count =
+      0;
+  copies = [];
+  log = [];
+  heard = [];
+}
 
 -- what the transmitter learns by a load of latest
 abbrev pub Learns : Sat → ℕ → Sat → Type 0
-Learns m x m' = (m' ≡ m) × (x ≡ last_of m.0.start m.0.sent) × AreRuns m.0.sent m.0.from m.0.copies × (m.0.shares ≤ 2 ^ 16) × (x ≤ max_position)
+Learns m x m' = (m' ≡ m) × (x ≡ last_of m.0.start m.0.sent) × AreRuns m.0.sent m.0.from m.0.copies
+    × (m.0.shares ≤ 2 ^ 16) × (x ≤ max_position)

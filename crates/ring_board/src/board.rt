@@ -18,7 +18,8 @@ pub struct Board {
     pub(crate) words: Vec<u64>,
     pub(crate) capacity: u32,
     ghost key: { table.shared.key.capacity ≡ capacity },
-    ghost wide: { (table.shared.table_id.words ≡ capacity / 8 + 16) × (table.shared.table_id.slots ≡ 0) × (vec_len words ≡ capacity / 8 + 16) },
+    ghost wide: { (table.shared.table_id.words ≡ capacity / 8 + 16) × (table.shared.table_id.slots ≡ 0)
+        × (vec_len words ≡ capacity / 8 + 16) },
     ghost lawful: { (256 ≤ capacity) × (capacity ≤ 2 ^ 24) × (capacity % 64 ≡ 0) },
     ghost power: { IsTrue (is_power_of_two capacity) },
 }
@@ -104,8 +105,8 @@ pub struct CopyReceiver {
     ghost room: { vec_len scratch ≡ seat.me.0.capacity / 8 },
 }
 
-/// A receiver that answers records unread. Their bodies are loaded, and validated, when its user asks. It is used by one
-/// thread at a time, and may move between threads. One that is let go keeps the board from closing for good.
+/// A receiver that answers records unread. Their bodies are loaded, and validated, when its user asks. It is used by
+/// one thread at a time, and may move between threads. One that is let go keeps the board from closing for good.
 #[derive(Drop)]
 pub struct Receiver {
     pub(crate) seat: BoardSeat,

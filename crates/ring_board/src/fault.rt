@@ -45,8 +45,8 @@ pub enum SubscribeFault {
     OutOfMemory,
 }
 
-/// The receiver was lapped: so often by now, at this place, as this intent showed. The bytes that it passed over are its
-/// own `place` after the call less this one.
+/// The receiver was lapped: so often by now, at this place, as this intent showed. The bytes that it passed over are
+/// its own `place` after the call less this one.
 #[derive(Clone, Copy, Debug, PartialEq, Eq, Error)]
 #[error("13 Lapped {count} place {place} intent {intent}")]
 pub struct Lapped {

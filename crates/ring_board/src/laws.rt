@@ -8,10 +8,12 @@ ghost use Rattle.ring_board.specs.Runs.{AreRuns};
 
 /// States that runs of a transmitted list are runs of every longer list that it is a prefix of. It computes nothing.
 pub fn runs_stay_runs()
-    ensures { (sent more : List Record) (from : ℕ) (copies : List Taken) → AreRuns sent from copies → AreRuns (sent ++ more) from copies }
+    ensures { (sent more : List Record) (from : ℕ) (copies : List Taken) → AreRuns sent from copies
+        → AreRuns (sent ++ more) from copies }
 {}
 
 /// States that a body that was loaded stays so in every longer log. It computes nothing.
 pub fn loaded_stays_loaded()
-    ensures { (C place : ℕ) (before loads after : List Load) (body : List ℕ) → IsLoaded C loads place body → IsLoaded C (before ++ (loads ++ after)) place body }
+    ensures { (C place : ℕ) (before loads after : List Load) (body : List ℕ) → IsLoaded C loads place body
+        → IsLoaded C (before ++ (loads ++ after)) place body }
 {}

@@ -34,7 +34,8 @@ fn is_board_capacity(capacity: u32) -> bool
 fn copy_words(closed: &Closed<(), Global>, words: &mut Vec<u64>)
     requires { IsFull closed.now.words × (slots_len closed.now.words ≡ vec_len words.old) }
     ensures len { vec_len words.new ≡ vec_len words.old }
-    ensures words { (i : ℕ) → i < vec_len words.old → slice_index words.new.items i ≡ slice_index (slots_items closed.now.words) i }
+    ensures words { (i : ℕ) → i < vec_len words.old
+        → slice_index words.new.items i ≡ slice_index (slots_items closed.now.words) i }
 {
     for i in 0..words.len() {
         words[i] = closed.word(i);
@@ -53,8 +54,8 @@ impl Board {
     }
 
     /// Makes a board that starts at a multiple of its capacity, in bytes, with its transmitter, which holds all shares.
-    /// `BadCapacity` where the capacity is no power of two from 256 to 2^24, `BadStart` where the start is no multiple of
-    /// it or above 2^62, `OutOfMemory` where there is none.
+    /// `BadCapacity` where the capacity is no power of two from 256 to 2^24, `BadStart` where the start is no multiple
+    /// of it or above 2^62, `OutOfMemory` where there is none.
     pub fn new_at(
         alloc: Global,
         capacity: u32,
@@ -119,7 +120,8 @@ impl Board {
     pub fn close(self, transmitter: Transmitter) -> Result<ClosedBoard, BoardCloseRefused>
         requires { IsTransmitterOf self transmitter }
         ensures refused { IsRefusedAs (kept_open self transmitter) (close_refusal_of (shares_of transmitter)) result }
-        ensures closed { IfOk result (λ c. (closed_capacity c ≡ capacity_of self) × IsClosed (capacity_of self) (start_of self) (transmitted transmitter) (closed_words c)) }
+        ensures closed { IfOk result (λ c. (closed_capacity c ≡ capacity_of self)
+            × IsClosed (capacity_of self) (start_of self) (transmitted transmitter) (closed_words c)) }
         ensures runs { IfOk result (λ _. AreAllRuns (transmitted transmitter) (heard_by transmitter)) }
     {
         if transmitter.shares != ALL_SHARES {

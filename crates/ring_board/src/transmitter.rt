@@ -41,7 +41,8 @@ impl Board {
         requires { tail ≤ max_position }
         ensures refused { IsRefusedBy (transmit_refusal_of self.now.capacity tail type_id len) result }
         ensures lawful { OnOk result ((pos 1 ≤ℤ type_id) × (len ≤ self.now.capacity / 8)) }
-        ensures spot { IfOk result (λ s. (s.place ≡ next_place self.now.capacity tail (span len)) × (s.end ≡ s.place + span len) × (s.end ≤ max_position)) }
+        ensures spot { IfOk result (λ s. (s.place ≡ next_place self.now.capacity tail (span len))
+            × (s.end ≡ s.place + span len) × (s.end ≤ max_position)) }
     {
         if !is_type_id(type_id) {
             return Err(TransmitFault::BadType { type_id });
@@ -63,7 +64,8 @@ impl Board {
         requires stage { (z : ℕ) × (seat.old.me.0.stage ≡ drafted (draft tail place z [])) }
         requires gap { (tail ≤ place) × (place ≤ tail + self.now.capacity) }
         ensures same { IsSameSeat seat.old seat.new }
-        ensures padded { (z : ℕ) → seat.old.me.0.stage ≡ drafted (draft tail place z []) → seat.new.me ≡ (staged seat.old.me.0 (Storing (draft tail place z [])), seat.old.me.1) }
+        ensures padded { (z : ℕ) → seat.old.me.0.stage ≡ drafted (draft tail place z [])
+            → seat.new.me ≡ (staged seat.old.me.0 (Storing (draft tail place z [])), seat.old.me.1) }
     {
         if tail < place {
             self.store_padding(seat, tail, padding_header(place - tail));
@@ -78,7 +80,8 @@ impl Board {
         requires lawful { (pos 1 ≤ℤ type_id) × (length body.now ≤ self.now.capacity / 8) }
         requires whole { (tail % 8 ≡ 0) × (place ≤ max_position) }
         ensures same { IsSameSeat seat.old seat.new }
-        ensures written { seat.new.me ≡ (staged seat.old.me.0 (Written (next_record self.now.capacity tail type_id body.now)), seat.old.me.1) }
+        ensures written { seat.new.me
+            ≡ (staged seat.old.me.0 (Written (next_record self.now.capacity tail type_id body.now)), seat.old.me.1) }
     {
         self.store_gap(seat, tail, place);
         self.store_body(seat, place, body);
@@ -91,7 +94,8 @@ impl Board {
         requires seat { IsSeatOf self.now seat.old }
         requires stage { (r : Record) × (seat.old.me.0.stage ≡ Written r) × (place ≡ r.place) × (tail ≡ end r) }
         ensures same { IsSameSeat seat.old seat.new }
-        ensures sent { (r : Record) → seat.old.me.0.stage ≡ Written r → seat.new.me ≡ (sent_on seat.old.me.0 r, seat.old.me.1) }
+        ensures sent { (r : Record) → seat.old.me.0.stage ≡ Written r
+            → seat.new.me ≡ (sent_on seat.old.me.0 r, seat.old.me.1) }
     {
         self.store_latest(seat, place);
         self.store_tail(seat, tail);
@@ -105,7 +109,8 @@ impl Board {
         type_id: i32,
         len: usize,
     ) -> Result<(), TransmitFault>
-        ensures { IsRefusedBy (transmit_refusal_of (capacity_of self.now) (tail_of transmitter.now) type_id len) result }
+        ensures { IsRefusedBy (transmit_refusal_of (capacity_of self.now) (tail_of transmitter.now) type_id len)
+            result }
     {
         self.admit(transmitter.tail, type_id, len)?;
         Ok(())
@@ -122,9 +127,12 @@ impl Board {
     ) -> Result<(), TransmitFault>
         requires { IsTransmitterOf self.now transmitter.old }
         ensures board { IsTransmitterOf self.now transmitter.new }
-        ensures refused { IsRefusedBy (transmit_refusal_of (capacity_of self.now) (tail_of transmitter.old) type_id (length body.now)) result }
+        ensures refused { IsRefusedBy (transmit_refusal_of (capacity_of self.now) (tail_of transmitter.old) type_id
+            (length body.now)) result }
         ensures same { OnErr result (transmitter.new ≡ transmitter.old) }
-        ensures sent { OnOk result (view_of transmitter.new ≡ sent_on (view_of transmitter.old) (next_record (capacity_of self.now) (tail_of transmitter.old) type_id body.now)) }
+        ensures sent { OnOk result (view_of transmitter.new
+            ≡ sent_on (view_of transmitter.old) (next_record (capacity_of self.now)
+            (tail_of transmitter.old) type_id body.now)) }
     {
         let tail = transmitter.tail;
         let Admission { place, end, .. } = self.admit(tail, type_id, body.len())?;
@@ -145,8 +153,10 @@ impl Board {
         len: usize,
     ) -> Result<Begun, BeginRefused>
         requires { IsTransmitterOf self.now transmitter }
-        ensures refused { IsRefusedAs (refused_with transmitter) (transmit_refusal_of (capacity_of self.now) (tail_of transmitter) type_id len) result }
-        ensures begun { IfOk result (λ b. IsBegunOf self.now b × HasBegun (capacity_of self.now) transmitter type_id len b) }
+        ensures refused { IsRefusedAs (refused_with transmitter)
+            (transmit_refusal_of (capacity_of self.now) (tail_of transmitter) type_id len) result }
+        ensures begun { IfOk result (λ b. IsBegunOf self.now b
+            × HasBegun (capacity_of self.now) transmitter type_id len b) }
     {
         let Admission { place, end, .. } = match self.admit(transmitter.tail, type_id, len) {
             Ok(admission) => admission,
@@ -179,7 +189,8 @@ impl Board {
         requires board { IsBegunOf self.now begun }
         requires len { length body.now ≡ begun_len begun }
         ensures board { IsFilledOf self.now result }
-        ensures filled { filled_view result ≡ staged (begun_view begun) (Written (next_record (capacity_of self.now) (begun_tail begun) (begun_type_id begun) body.now)) }
+        ensures filled { filled_view result ≡ staged (begun_view begun)
+            (Written (next_record (capacity_of self.now) (begun_tail begun) (begun_type_id begun) body.now)) }
     {
         let Begun {
             mut seat,

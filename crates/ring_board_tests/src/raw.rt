@@ -68,7 +68,8 @@ fn is_loaded_whole(board: &Board, receiver: &mut Receiver, raw: &RawRecord, out:
     requires raw { IsAnswered (raw_view receiver.old) raw.now }
     requires room { len_of raw.now ≤ length out.old }
     ensures board { IsRawOf board.now receiver.new }
-    ensures whole { result ≡ true → (n : ℕ) × (c : Taken) × (get_elem? (answered_by receiver.new) n ≡ some c) × (c.place ≡ place_of raw.now) × (c.message.body ≡ take (len_of raw.now) out.new) }
+    ensures whole { result ≡ true → (n : ℕ) × (c : Taken) × (get_elem? (answered_by receiver.new) n ≡ some c)
+        × (c.place ≡ place_of raw.now) × (c.message.body ≡ take (len_of raw.now) out.new) }
 {
     receiver.load_body(board, raw, out);
     receiver.validate(board, raw)

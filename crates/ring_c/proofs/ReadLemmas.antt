@@ -21,23 +21,29 @@ never_on s t m a (inl fits) on = subst GoesOn fits.action on
 never_on s t m a (inr exceeds) on = subst GoesOn exceeds.action on
 
 -- a handler that goes on was shown nothing
-shown_none : (s t : Copying) (ms : List PlacedMessage) (actions : List Action) → Handles Copies s (messages_of ms) actions t → All GoesOn actions → (ms ≡ []) × (s ≡ t)
+shown_none : (s t : Copying) (ms : List PlacedMessage) (actions : List Action)
+    → Handles Copies s (messages_of ms) actions t → All GoesOn actions → (ms ≡ []) × (s ≡ t)
 shown_none s t [] [] handled on = (refl, handled)
 shown_none s t [] (a ∷ actions) handled on = absurd handled
 shown_none s t (m ∷ ms) [] handled on = absurd handled
-shown_none s t (m ∷ ms) (a ∷ actions) handled on = absurd (never_on s handled.0 m.message a handled.1 (All-head GoesOn a actions on))
+shown_none s t (m ∷ ms) (a ∷ actions) handled on =
+    absurd (never_on s handled.0 m.message a handled.1 (All-head GoesOn a actions on))
 
 -- one that goes on until it breaks was shown one message
-shown_one : (s t : Copying) (ms : List PlacedMessage) (actions before : List Action) → Handles Copies s (messages_of ms) actions t → All GoesOn before → actions ≡ before ++ Break ∷ []
+shown_one : (s t : Copying) (ms : List PlacedMessage) (actions before : List Action)
+    → Handles Copies s (messages_of ms) actions t → All GoesOn before → actions ≡ before ++ Break ∷ []
     → (m : PlacedMessage) × (ms ≡ m ∷ []) × Copies s m.message t Break
-shown_one s t ms actions before handled on is = one before on (subst (λ answers. Handles Copies s (messages_of ms) answers t) is handled)
+shown_one s t ms actions before handled on is =
+    one before on (subst (λ answers. Handles Copies s (messages_of ms) answers t) is handled)
   where
-    last : (ms : List PlacedMessage) → Handles Copies s (messages_of ms) (Break ∷ []) t → (m : PlacedMessage) × (ms ≡ m ∷ []) × Copies s m.message t Break
+    last : (ms : List PlacedMessage) → Handles Copies s (messages_of ms) (Break ∷ []) t
+        → (m : PlacedMessage) × (ms ≡ m ∷ []) × Copies s m.message t Break
     last [] handled = absurd handled
     last (m ∷ []) handled = (m, refl, subst (λ u. Copies s m.message u Break) handled.2 handled.1)
     last (m ∷ (n ∷ ms)) handled = absurd handled.2
 
-    one : (before : List Action) → All GoesOn before → Handles Copies s (messages_of ms) (before ++ Break ∷ []) t → (m : PlacedMessage) × (ms ≡ m ∷ []) × Copies s m.message t Break
+    one : (before : List Action) → All GoesOn before → Handles Copies s (messages_of ms) (before ++ Break ∷ []) t
+        → (m : PlacedMessage) × (ms ≡ m ∷ []) × Copies s m.message t Break
     one [] on handled = last ms handled
     one (a ∷ before) on handled = absurd (first ms handled)
       where
@@ -64,11 +70,14 @@ aborted s t m (inl fits) = absurd (subst is_abort fits.action tt)
 
 -- Of the consumer ----------------------------------------------------------------
 
-none_more : (v w : View) (ms : List PlacedMessage) → w.consumer.taken ≡ v.consumer.taken ++ ms → ms ≡ [] → w.consumer.taken ≡ v.consumer.taken
-none_more v w ms taken none = taken ∙ ap (λ (ns : List PlacedMessage). v.consumer.taken ++ ns) none ∙ append-nil v.consumer.taken
+none_more : (v w : View) (ms : List PlacedMessage) → w.consumer.taken ≡ v.consumer.taken ++ ms → ms ≡ []
+    → w.consumer.taken ≡ v.consumer.taken
+none_more v w ms taken none =
+    taken ∙ ap (λ (ns : List PlacedMessage). v.consumer.taken ++ ns) none ∙ append-nil v.consumer.taken
 
 -- the heartbeats stay
-pub same_beats : (limit : ℕ) (v w : View) (s t : Copying) (end : ReadEnd) → Controls Copies limit v w s t end → w.consumer.heartbeats ≡ v.consumer.heartbeats
+pub same_beats : (limit : ℕ) (v w : View) (s t : Copying) (end : ReadEnd) → Controls Copies limit v w s t end
+    → w.consumer.heartbeats ≡ v.consumer.heartbeats
 same_beats limit v w s t end (inl on) = on.reads.moves.heartbeats
 same_beats limit v w s t end (inr (inl broke)) = broke.reads.moves.heartbeats
 same_beats limit v w s t end (inr (inr aborts)) = aborts.reads.moves.heartbeats
@@ -77,13 +86,19 @@ abbrev outs : Copying → Out
 outs s = out s.type_id s.len s.buffer.now
 
 -- it took one message, or none, or left one that is too long
-pub took_one : (limit : ℕ) (v w : View) (s t : Copying) (end : ReadEnd) → s.code ≡ pos 105 → Controls Copies limit v w s t end
+pub took_one : (limit : ℕ) (v w : View) (s t : Copying) (end : ReadEnd) → s.code ≡ pos 105
+    → Controls Copies limit v w s t end
     → TookOne v w (out s.type_id s.len s.buffer.now) (out t.type_id t.len t.buffer.now) t.code
 took_one limit v w s t end waits (inl on) =
     let none = shown_none s t on.reads.messages on.reads.actions on.reads.handled on.went_on in
-    inr (inl (ap (λ (u : Copying). u.code) (sym none.1) ∙ waits, record { taken = none_more v w on.reads.messages on.reads.taken none.0; outs = ap outs (sym none.1) }))
+    inr (inl (
+      ap (λ (u : Copying). u.code) (sym none.1)
+          ∙ waits,
+      record { taken = none_more v w on.reads.messages on.reads.taken none.0; outs = ap outs (sym none.1) },
+    ))
 took_one limit v w s t end waits (inr (inl broke)) =
-    let one = shown_one s t broke.reads.messages broke.reads.actions broke.before broke.reads.handled broke.went_on broke.broke in
+    let one = shown_one s t broke.reads.messages broke.reads.actions broke.before broke.reads.handled broke.went_on
+    broke.broke in
     let fits = broken s t one.0.message one.2 in
     inl (
       fits.code,
@@ -95,8 +110,10 @@ took_one limit v w s t end waits (inr (inl broke)) =
       },
     )
 took_one limit v w s t end waits (inr (inr aborts)) =
-    let none = shown_none s aborts.before aborts.reads.messages aborts.reads.actions aborts.reads.handled aborts.went_on in
-    let exceeds = aborted s t aborts.message (subst (λ (u : Copying). Copies u aborts.message t Abort) (sym none.1) aborts.aborted) in
+    let none =
+    shown_none s aborts.before aborts.reads.messages aborts.reads.actions aborts.reads.handled aborts.went_on in
+    let exceeds = aborted s t aborts.message
+    (subst (λ (u : Copying). Copies u aborts.message t Abort) (sym none.1) aborts.aborted) in
     inr (inr (
       exceeds.code,
       record {
@@ -108,17 +125,24 @@ took_one limit v w s t end waits (inr (inr aborts)) =
     ))
 
 -- the same where these are what it tells
-pub told_as : (v w : View) (o : Out) (t : Copying) (type_id : ℤ) (len : ℕ) (buffer : List ℕ) (code : ℤ) → type_id ≡ t.type_id → len ≡ t.len → buffer ≡ t.buffer.now → code ≡ t.code
+pub told_as : (v w : View) (o : Out) (t : Copying) (type_id : ℤ) (len : ℕ) (buffer : List ℕ) (code : ℤ)
+    → type_id ≡ t.type_id → len ≡ t.len → buffer ≡ t.buffer.now → code ≡ t.code
     → TookOne v w o (out t.type_id t.len t.buffer.now) t.code → TookOne v w o (out type_id len buffer) code
 told_as v w o t type_id len buffer code e₁ e₂ e₃ e₄ took =
     subst (λ (x : Out × ℤ). TookOne v w o x.0 x.1) (λ i. (out (sym e₁ i) (sym e₂ i) (sym e₃ i), sym e₄ i)) took
 
 -- the buffer is the same one
-pub same_borrow : (limit : ℕ) (v w : View) (s t : Copying) (end : ReadEnd) → Controls Copies limit v w s t end → t.buffer.ghost_name ≡ s.buffer.ghost_name
-same_borrow limit v w s t end (inl on) = ap (λ (u : Copying). u.buffer.ghost_name) (sym (shown_none s t on.reads.messages on.reads.actions on.reads.handled on.went_on).1)
+pub same_borrow : (limit : ℕ) (v w : View) (s t : Copying) (end : ReadEnd) → Controls Copies limit v w s t end
+    → t.buffer.ghost_name ≡ s.buffer.ghost_name
+same_borrow limit v w s t end (inl on) =
+    ap (λ (u : Copying). u.buffer.ghost_name)
+    (sym (shown_none s t on.reads.messages on.reads.actions on.reads.handled on.went_on).1)
 same_borrow limit v w s t end (inr (inl broke)) =
-    let one = shown_one s t broke.reads.messages broke.reads.actions broke.before broke.reads.handled broke.went_on broke.broke in
+    let one = shown_one s t broke.reads.messages broke.reads.actions broke.before broke.reads.handled broke.went_on
+    broke.broke in
     (broken s t one.0.message one.2).borrow
 same_borrow limit v w s t end (inr (inr aborts)) =
-    let none = shown_none s aborts.before aborts.reads.messages aborts.reads.actions aborts.reads.handled aborts.went_on in
-    (aborted s t aborts.message (subst (λ (u : Copying). Copies u aborts.message t Abort) (sym none.1) aborts.aborted)).borrow
+    let none =
+    shown_none s aborts.before aborts.reads.messages aborts.reads.actions aborts.reads.handled aborts.went_on in
+    (aborted s t aborts.message (subst (λ (u : Copying). Copies u aborts.message t Abort)
+    (sym none.1) aborts.aborted)).borrow

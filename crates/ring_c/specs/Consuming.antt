@@ -22,7 +22,8 @@ pub record Took (v w : View) (before after : Out) : Type 0 where
   pub message : PlacedMessage
   pub taken : w.consumer.taken ≡ v.consumer.taken ++ message ∷ []
   pub room : length message.message.body ≤ length before.buffer
-  pub outs : after ≡ out message.message.type_id (length message.message.body) (overwritten 0 message.message.body before.buffer)
+  pub outs : after ≡ out message.message.type_id (length message.message.body)
+      (overwritten 0 message.message.body before.buffer)
 
 -- none was taken, and nothing is put out
 pub record TookNone (v w : View) (before after : Out) : Type 0 where
@@ -42,7 +43,8 @@ TookOne v w before after code = ((code ≡ pos 0) × Took v w before after)
 
 -- a message was read, or not
 abbrev pub ReadOne : Out → Out → Reading → Reading → ℤ → Type 0
-ReadOne before after r s code = (s ≡ having_read s.view r) × (s.view.consumer.heartbeats ≡ r.view.consumer.heartbeats) × TookOne r.view s.view before after code
+ReadOne before after r s code = (s ≡ having_read s.view r) × (s.view.consumer.heartbeats ≡ r.view.consumer.heartbeats)
+    × TookOne r.view s.view before after code
 
 -- the heartbeat was stored
 abbrev pub Beat : ℕ → Reading → Reading → ℤ → Type 0

@@ -37,7 +37,8 @@ pub record IdRefused {T : Type 0} (asked : T) (id : ℕ) (c d : CountersSide) (c
 
 -- the counters were asked of this id, and did not change
 abbrev pub Asked : {T : Type 0} → (Registry → T) → ℕ → T → T → CountersSide → CountersSide → ℤ → Type 0
-Asked ask id before after c d code = ((code ≡ pos 0) × (answer (id_refusal_of (registry_of c.manager) id) (ask (registry_of c.manager)) ≡ Ok after) × (d ≡ c))
+Asked ask id before after c d code = ((code ≡ pos 0)
+    × (answer (id_refusal_of (registry_of c.manager) id) (ask (registry_of c.manager)) ≡ Ok after) × (d ≡ c))
     ⊎ (IdRefused (ask (registry_of c.manager)) id c d code × (after ≡ before))
 
 -- a counter in use got this value
@@ -51,7 +52,8 @@ WasSet id value c d code = ((code ≡ pos 0) × Stores id value c d) ⊎ IdRefus
 -- so much was added, and the value before is put out
 abbrev pub WasAdded : ℕ → ℤ → ℤ → ℤ → CountersSide → CountersSide → ℤ → Type 0
 WasAdded id delta before after c d code =
-    ((code ≡ pos 0) × (after ≡ value_at (registry_of c.manager) id) × Stores id (value_plus (registry_of c.manager) id delta) c d)
+    ((code ≡ pos 0) × (after ≡ value_at (registry_of c.manager) id)
+    × Stores id (value_plus (registry_of c.manager) id delta) c d)
     ⊎ (IdRefused (value_at (registry_of c.manager) id) id c d code × (after ≡ before))
 
 -- the moment is above 2^62, and nothing changed; else P tells
@@ -60,18 +62,23 @@ AtMoment now P c d code = ((2 ^ 62 < now) × (code ≡ pos 107) × (d ≡ c)) �
 
 -- a counter was freed
 abbrev pub WasFreed : ℕ → ℕ → CountersSide → CountersSide → ℤ → Type 0
-WasFreed now id c d code = AtMoment now (((code ≡ pos 0) × (registry_of d.manager ≡ reclaimed_in (registry_of c.manager) now id) × (writes_of d.manager ≡ writes_of c.manager)) ⊎ IdRefused {T = Unit {0}} tt id c d code) c d code
+WasFreed now id c d code =
+    AtMoment now (((code ≡ pos 0) × (registry_of d.manager ≡ reclaimed_in (registry_of c.manager) now id)
+    × (writes_of d.manager ≡ writes_of c.manager)) ⊎ IdRefused {T = Unit {0}} tt id c d code) c d code
 
 -- an owner's counters were freed, and their number is put out
 abbrev pub OwnerClosed : ℕ → ℕ → ℕ → ℕ → CountersSide → CountersSide → ℤ → Type 0
 OwnerClosed now owner before freed c d code = AtMoment now
-    (((code ≡ pos 0) × (owner ≢ 0) × (freed ≡ length (owned_ids (registry_of c.manager) owner)) × (registry_of d.manager ≡ closed_in (registry_of c.manager) now owner))
+    (((code ≡ pos 0) × (owner ≢ 0) × (freed ≡ length (owned_ids (registry_of c.manager) owner))
+    × (registry_of d.manager ≡ closed_in (registry_of c.manager) now owner))
     ⊎ ((code ≡ pos 28) × (owner ≡ 0) × (d ≡ c))) c d code
 
 -- a counter was allocated
-pub record Allocates (now : ℕ) (type_id : ℤ) (key label : List ℕ) (registration owner id : ℕ) (c d : CountersSide) : Type 0 where
+pub record Allocates (now : ℕ) (type_id : ℤ) (key label : List ℕ) (registration owner id : ℕ)
+    (c d : CountersSide) : Type 0 where
   pub is : allocation_of (registry_of c.manager) now key label ≡ Ok id
-  pub registry : registry_of d.manager ≡ allocated_in (registry_of c.manager) id (new_counter type_id key label registration owner)
+  pub registry : registry_of d.manager ≡ allocated_in (registry_of c.manager) id
+      (new_counter type_id key label registration owner)
   pub writes : writes_of d.manager ≡ writes_of c.manager ++ value_write id (pos 0) ∷ []
 
 -- or not
@@ -83,7 +90,8 @@ pub record NotAllocates (now : ℕ) (key label : List ℕ) (c d : CountersSide) 
 
 abbrev pub WasAllocated : ℕ → ℤ → List ℕ → List ℕ → ℕ → ℕ → ℕ → ℕ → CountersSide → CountersSide → ℤ → Type 0
 WasAllocated now type_id key label registration owner before id c d code =
-    ((code ≡ pos 0) × Allocates now type_id key label registration owner id c d) ⊎ (NotAllocates now key label c d code × (id ≡ before))
+    ((code ≡ pos 0) × Allocates now type_id key label registration owner id c d)
+    ⊎ (NotAllocates now key label c d code × (id ≡ before))
 
 -- the lowest id in use of a type and a registration id
 abbrev pub WasFound : ℤ → ℕ → ℕ → ℕ → CountersSide → CountersSide → ℤ → Type 0

@@ -47,7 +47,8 @@ IsWritten false capacity type_id body v w = WritesAlone capacity type_id body v 
 -- 0 says that the message was written, and another code why it was refused
 abbrev pub Wrote : ℤ → List ℕ → Side → Side → ℤ → Type 0
 Wrote type_id body p q code = (q ≡ knowing q.view p)
-    × (((code ≡ pos 0) × IsWritten p.many p.capacity type_id body p.view q.view) ⊎ IsRefused p.many p.capacity type_id (length body) p.view q.view code)
+    × (((code ≡ pos 0) × IsWritten p.many p.capacity type_id body p.view q.view)
+    ⊎ IsRefused p.many p.capacity type_id (length body) p.view q.view code)
 
 -- Claims -------------------------------------------------------------------------
 
@@ -70,26 +71,34 @@ pub record ClaimRefused (type_id : ℤ) (len : ℕ) (p q : Side) (before number 
 
 abbrev pub Claimed : ℤ → ℕ → ℕ → ℕ → Side → Side → ℤ → Type 0
 Claimed type_id len before number p q code =
-    MatchOption p.claim (((code ≡ pos 0) × MadeClaim type_id len p q number) ⊎ ClaimRefused type_id len p q before number code)
+    MatchOption p.claim (((code ≡ pos 0) × MadeClaim type_id len p q number)
+    ⊎ ClaimRefused type_id len p q before number code)
     (λ _. Declined (pos 103) p q code × (number ≡ before))
 
 -- the claim of this number is open, and P tells; else 104
 abbrev pub WithClaim : ℕ → (ClaimAt → Type 0) → Side → Side → ℤ → Type 0
-WithClaim number P p q code = MatchOption p.claim (Declined (pos 104) p q code) (λ t. ((t.place ≡ number) × P t) ⊎ ((t.place ≢ number) × Declined (pos 104) p q code))
+WithClaim number P p q code = MatchOption p.claim (Declined (pos 104) p q code)
+    (λ t. ((t.place ≡ number) × P t) ⊎ ((t.place ≢ number) × Declined (pos 104) p q code))
 
 -- bytes were put into the open claim, or do not lie inside it
 abbrev pub Put : ℕ → ℕ → List ℕ → Side → Side → ℤ → Type 0
-Put number offset bytes p q code = WithClaim number (λ t. ((code ≡ pos 0) × (q ≡ knowing q.view p) × PutsBytes t.place offset bytes p.view q.view)
+Put number offset bytes p q code =
+    WithClaim number (λ t. ((code ≡ pos 0) × (q ≡ knowing q.view p) × PutsBytes t.place offset bytes p.view q.view)
     ⊎ ((t.len < offset + length bytes) × Declined (pos 9) p q code)) p q code
 
 -- the open claim was settled
 abbrev pub Settled : ClaimState → ℕ → Side → Side → ℤ → Type 0
-Settled state number p q code = WithClaim number (λ t. (code ≡ pos 0) × (q ≡ record (knowing (with_claims (changed t.place (staged (Stored state)) p.view.producer.claims) p.view) p) { claim = None })) p q code
+Settled state number p q code = WithClaim number
+    (λ t. (code ≡ pos 0)
+    × (q ≡ record (knowing (with_claims (changed t.place (staged (Stored state)) p.view.producer.claims) p.view) p) {
+      claim = None;
+    })) p q code
 
 -- What producers load and draw ---------------------------------------------------
 
 abbrev pub Positioned : ℕ → ℕ → Side → Side → ℤ → Type 0
-Positioned head tail p q code = (code ≡ pos 0) × (q ≡ knowing q.view p) × LoadsPositions p.capacity p.view head tail q.view
+Positioned head tail p q code =
+    (code ≡ pos 0) × (q ≡ knowing q.view p) × LoadsPositions p.capacity p.view head tail q.view
 
 abbrev pub Drew : ℕ → Side → Side → ℤ → Type 0
 Drew id p q code = (code ≡ pos 0) × (q ≡ knowing q.view p) × DrawsId p.view id q.view
@@ -115,7 +124,8 @@ pub record Splits (p q other : Side) : Type 0 where
 
 -- why a producer is not split: its ring has one producer, a claim of it is open, it has one share, or memory is wanting
 abbrev pub IsWhole : Side → ℤ → Type 0
-IsWhole p code = ((code ≡ pos 101) × (p.many ≡ false)) ⊎ (((code ≡ pos 103) × (p.claim ≢ None)) ⊎ (((code ≡ pos 12) × (p.view.producer.shares ≡ 1)) ⊎ (code ≡ pos 3)))
+IsWhole p code = ((code ≡ pos 101) × (p.many ≡ false))
+    ⊎ (((code ≡ pos 103) × (p.claim ≢ None)) ⊎ (((code ≡ pos 12) × (p.view.producer.shares ≡ 1)) ⊎ (code ≡ pos 3)))
 
 -- the other one was taken in, with its shares
 pub record TakesIn (p other q : Side) : Type 0 where
@@ -125,4 +135,5 @@ pub record TakesIn (p other q : Side) : Type 0 where
 -- why it was not: a ring has one producer, the capacities differ, or a claim is open
 abbrev pub IsApart : Side → Side → ℤ → Type 0
 IsApart p other code = ((code ≡ pos 101) × ((p.many ≡ false) ⊎ (other.many ≡ false)))
-    ⊎ (((code ≡ pos 108) × (p.capacity ≢ other.capacity)) ⊎ ((code ≡ pos 103) × ((p.claim ≢ None) ⊎ (other.claim ≢ None))))
+    ⊎ (((code ≡ pos 108) × (p.capacity ≢ other.capacity))
+    ⊎ ((code ≡ pos 103) × ((p.claim ≢ None) ⊎ (other.claim ≢ None))))

@@ -1,16 +1,21 @@
 -- What the answer of an export says of the handles before and after it.
-use Rattle.std.specs.Prelude.{◌≡◌, ◌≢◌, ◌⊎◌, ℕ, ℤ, pos, MatchOption, Bool}
+use Rattle.std.specs.Prelude.{◌≡◌, ◌≢◌, ◌⊎◌, ℕ, ℤ, pos, [], MatchOption, Bool}
 use Rattle.std.specs.declared.option.Option.{Option}
 use Rattle.std.specs.declared.option.Option.TheVariants.{None, Some}
 use Rattle.ring_words.specs.declared.fault.MakeFault.{MakeFault}
 use Rattle.ring_words.specs.Fresh.{make_refusal_of}
 use Rattle.ring_table.specs.declared.view.View.{View}
 use Rattle.ring_rings.specs.Opening.{first_consumer, first_producer}
+use Rattle.ring_counters.specs.Manager.{registry_of, shares_of, writes_of}
+use Rattle.ring_counters.specs.Registry.{fresh_registry}
+use Rattle.ring_counters.specs.Registry.{make_refusal_of as counters_refusal_of}
 use Rattle.ring_c.specs.Codes.{make_code}
+use Rattle.ring_c.specs.Counting.{make_code as counters_code}
+use Rattle.ring_c.specs.declared.counters.CountersSide.{CountersSide}
 use Rattle.ring_c.specs.Producing.{IsApart, IsWhole, Splits, TakesIn}
 use Rattle.ring_c.specs.Side.{Reading, Side}
 use Rattle.ring_c.specs.declared.held.Held.{Held}
-use Rattle.ring_c.specs.declared.held.Held.TheVariants.{Producer, Consumer}
+use Rattle.ring_c.specs.declared.held.Held.TheVariants.{Producer, Consumer, Counters}
 
 -- What a handle holds, where it is of one kind ---------------------------------------
 
@@ -21,6 +26,10 @@ a_producer _ = None
 abbrev pub a_consumer : Held → Option Reading
 a_consumer (Consumer c) = Some c
 a_consumer _ = None
+
+abbrev pub some_counters : Held → Option CountersSide
+some_counters (Counters c) = Some c
+some_counters _ = None
 
 -- the handle holds one of this kind, of which P holds
 abbrev pub Holds : {S : Type 0} → (Held → Option S) → (S → Type 0) → Option Held → Type 0
@@ -37,7 +46,8 @@ Uses kind P before after code = MatchOption before ((code ≡ pos 100) × (after
 
 -- a ring is refused with the refusal's code; where there is none it is made, unless memory is wanting
 abbrev pub IsMakeCode : ℕ → ℕ → ℤ → Type 0
-IsMakeCode C start code = MatchOption (make_refusal_of C start) ((code ≡ pos 0) ⊎ (code ≡ pos 3)) (λ fault. code ≡ make_code fault)
+IsMakeCode C start code =
+    MatchOption (make_refusal_of C start) ((code ≡ pos 0) ⊎ (code ≡ pos 3)) (λ fault. code ≡ make_code fault)
 
 -- a producer and the consumer of one ring, which know this
 pub record ArePaired (many : Bool) (C : ℕ) (v w : View) (p : Side) (c : Reading) : Type 0 where
@@ -54,7 +64,8 @@ HoldFresh many C start p c = HoldPair many C (first_producer C start) (first_con
 -- handles in use answer 102 and stay as they are; else a ring is made for them, or refused
 abbrev pub Opens : Bool → ℕ → ℕ → Option Held → Option Held → Option Held → Option Held → ℤ → Type 0
 Opens many C start p c p' c' code = (((p ≢ None) ⊎ (c ≢ None)) × (code ≡ pos 102) × (p' ≡ p) × (c' ≡ c))
-    ⊎ ((p ≡ None) × (c ≡ None) × IsMakeCode C start code × (((code ≡ pos 0) × HoldFresh many C start p' c') ⊎ ((code ≢ pos 0) × (p' ≡ None) × (c' ≡ None))))
+    ⊎ ((p ≡ None) × (c ≡ None) × IsMakeCode C start code
+    × (((code ≡ pos 0) × HoldFresh many C start p' c') ⊎ ((code ≢ pos 0) × (p' ≡ None) × (c' ≡ None))))
 
 -- Splitting ----------------------------------------------------------------------
 
@@ -62,11 +73,35 @@ Opens many C start p c p' c' code = (((p ≢ None) ⊎ (c ≢ None)) × (code �
 abbrev pub SplitsOff : Option Held → Option Held → Option Held → ℤ → Type 0
 SplitsOff p p' o' code = MatchOption p ((code ≡ pos 100) × (p' ≡ None) × (o' ≡ None))
     (λ h. MatchOption (a_producer h) (((code ≡ pos 101) ⊎ (code ≡ pos 3)) × (p' ≡ Some h) × (o' ≡ None))
-    (λ s. ((code ≡ pos 0) × Holds a_producer (λ t. Holds a_producer (λ o. Splits s t o) o') p') ⊎ (IsWhole s code × Holds a_producer (λ t. t ≡ s) p' × (o' ≡ None))))
+    (λ s. ((code ≡ pos 0) × Holds a_producer (λ t. Holds a_producer (λ o. Splits s t o) o') p')
+    ⊎ (IsWhole s code × Holds a_producer (λ t. t ≡ s) p' × (o' ≡ None))))
 
 -- a handle in use answers 102 and stays as it is; else a producer is split off into it, or not
 abbrev pub SplitsInto : Option Held → Option Held → Option Held → Option Held → ℤ → Type 0
-SplitsInto p o p' o' code = ((o ≢ None) × (code ≡ pos 102) × (p' ≡ p) × (o' ≡ o)) ⊎ ((o ≡ None) × SplitsOff p p' o' code)
+SplitsInto p o p' o' code =
+    ((o ≢ None) × (code ≡ pos 102) × (p' ≡ p) × (o' ≡ o)) ⊎ ((o ≡ None) × SplitsOff p p' o' code)
+
+-- Counters that are made ---------------------------------------------------------
+
+-- counters are refused with the refusal's code; where there is none they are made, unless memory is wanting
+abbrev pub IsCountersCode : ℕ → ℤ → Type 0
+IsCountersCode count code =
+    MatchOption (counters_refusal_of count) ((code ≡ pos 0) ⊎ (code ≡ pos 3)) (λ fault. code ≡ counters_code fault)
+
+-- counters of which none was used, with all shares
+pub record AreNew (count reuse_ms : ℕ) (c : CountersSide) : Type 0 where
+  pub registry : registry_of c.manager ≡ fresh_registry count reuse_ms
+  pub writes : writes_of c.manager ≡ []
+  pub shares : shares_of c.manager ≡ 65536
+
+abbrev pub HoldFreshCounters : ℕ → ℕ → Option Held → Type 0
+HoldFreshCounters count reuse_ms h = Holds some_counters (AreNew count reuse_ms) h
+
+-- a handle in use answers 102 and stays as it is; else counters are made for it, or refused
+abbrev pub OpensCounters : ℕ → ℕ → Option Held → Option Held → ℤ → Type 0
+OpensCounters count reuse_ms h h' code = ((h ≢ None) × (code ≡ pos 102) × (h' ≡ h))
+    ⊎ ((h ≡ None) × IsCountersCode count code
+    × (((code ≡ pos 0) × HoldFreshCounters count reuse_ms h') ⊎ ((code ≢ pos 0) × (h' ≡ None))))
 
 -- Joining ------------------------------------------------------------------------
 
@@ -76,7 +111,8 @@ IfHolds kind P held = MatchOption held (Unit {0}) (λ h. MatchOption (kind h) (U
 
 -- where both are producers, they are of one ring
 abbrev pub AreOfOneRing : Option Held → Option Held → Type 0
-AreOfOneRing p o = IfHolds a_producer (λ s. IfHolds a_producer (λ t. (s.table ≡ t.table) × (s.capacity ≡ t.capacity)) o) p
+AreOfOneRing p o =
+    IfHolds a_producer (λ s. IfHolds a_producer (λ t. (s.table ≡ t.table) × (s.capacity ≡ t.capacity)) o) p
 
 -- the second producer was taken in by the first, or both stay as they were
 abbrev pub Joined : Side → Side → Option Held → Option Held → ℤ → Type 0

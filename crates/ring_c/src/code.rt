@@ -12,6 +12,10 @@ pub(crate) const OUT_OF_MEMORY: i32 = 3;
 pub(crate) const PUT_RANGE: i32 = 9;
 /// One share is left, and is needed.
 pub(crate) const NO_SHARES: i32 = 12;
+/// No counter with this id is in use.
+pub(crate) const NOT_ALLOCATED: i32 = 21;
+/// The owner is 0.
+pub(crate) const BAD_OWNER: i32 = 28;
 /// The handle is empty.
 pub(crate) const NO_HANDLE: i32 = 100;
 /// The handle stands for something else.
@@ -26,6 +30,8 @@ pub(crate) const NO_CLAIM: i32 = 104;
 pub(crate) const NO_MESSAGE: i32 = 105;
 /// The message is longer than the buffer, and stays.
 pub(crate) const SHORT_BUFFER: i32 = 106;
+/// The moment is above 2^62.
+pub(crate) const BAD_MOMENT: i32 = 107;
 /// The two handles are of two rings.
 pub(crate) const OTHER_RING: i32 = 108;
 

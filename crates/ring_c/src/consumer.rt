@@ -22,7 +22,13 @@ impl Model for ConsumerSide {
 
     ghost Value = { Reading };
 
-    ghost view = { λ a. record { many = is_many a.ring; table = table_in a.ring; capacity = capacity_in a.ring; view = consumer_view a.consumer } };
+    ghost view = { λ a. record {
+      many = is_many a.ring;
+      table = table_in a.ring;
+      capacity = capacity_in a.ring;
+      view =
+          consumer_view a.consumer;
+    } };
 
     ghost invariant = { λ a. IsConsumerIn a.ring a.consumer };
 }
@@ -34,7 +40,9 @@ fn take_one<K>(ring: &Ring<K>, consumer: &mut Consumer, copying: &mut Copying<'_
     ensures consumer { IsConsumerOf ring.now consumer.new }
     ensures borrow { copying.new.buffer.ghost_name ≡ copying.old.buffer.ghost_name }
     ensures beats { heartbeats_of consumer.new ≡ heartbeats_of consumer.old }
-    ensures took { TookOne (consumer_view consumer.old) (consumer_view consumer.new) (out copying.old.type_id copying.old.len copying.old.buffer.now) (out copying.new.type_id copying.new.len copying.new.buffer.now) copying.new.code }
+    ensures took { TookOne (consumer_view consumer.old) (consumer_view consumer.new)
+        (out copying.old.type_id copying.old.len copying.old.buffer.now)
+        (out copying.new.type_id copying.new.len copying.new.buffer.now) copying.new.code }
 {
     ring.controlled_read(consumer, 1, copying).stopped
 }
@@ -50,7 +58,8 @@ fn read_into<K>(
     requires { IsConsumerOf ring.now consumer.old }
     ensures consumer { IsConsumerOf ring.now consumer.new }
     ensures beats { heartbeats_of consumer.new ≡ heartbeats_of consumer.old }
-    ensures took { TookOne (consumer_view consumer.old) (consumer_view consumer.new) (out type_id.old len.old buffer.old) (out type_id.new len.new buffer.new) result.0 }
+    ensures took { TookOne (consumer_view consumer.old) (consumer_view consumer.new)
+        (out type_id.old len.old buffer.old) (out type_id.new len.new buffer.new) result.0 }
 {
     let mut copying = Copying {
         buffer,
@@ -67,7 +76,8 @@ fn read_into<K>(
 impl ConsumerSide {
     /// Reads up to one message, as far as the end of the ring's buffer.
     fn try_read(&mut self, type_id: &mut i32, len: &mut usize, buffer: &mut [u8]) -> (i32, Stop)
-        ensures { ReadOne (out type_id.old len.old buffer.old) (out type_id.new len.new buffer.new) self.old self.new result.0 }
+        ensures { ReadOne (out type_id.old len.old buffer.old)
+            (out type_id.new len.new buffer.new) self.old self.new result.0 }
     {
         match &self.ring {
             AnyRing::Many(ring) => read_into(ring, &mut self.consumer, type_id, len, buffer),
@@ -77,7 +87,8 @@ impl ConsumerSide {
 
     /// Reads the next message into a buffer, and says its type id and length.
     pub(crate) fn read(&mut self, type_id: &mut i32, len: &mut usize, buffer: &mut [u8]) -> i32
-        ensures { ReadOne (out type_id.old len.old buffer.old) (out type_id.new len.new buffer.new) self.old self.new result }
+        ensures { ReadOne (out type_id.old len.old buffer.old)
+            (out type_id.new len.new buffer.new) self.old self.new result }
     {
         let (code, stopped) = self.try_read(type_id, len, buffer);
         if code == NO_MESSAGE && stopped == Stop::Block {

@@ -46,7 +46,8 @@ pub(crate) struct Wanted<'a> {
 impl CountersSide {
     /// Allocates a counter, and says its id.
     pub(crate) fn allocate(&mut self, wanted: Wanted<'_>, id: &mut u32) -> i32
-        ensures { WasAllocated wanted.entry.now wanted.entry.type_id wanted.entry.key.now wanted.entry.label.now wanted.entry.registration wanted.entry.owner id.old id.new self.old self.new result }
+        ensures { WasAllocated wanted.entry.now wanted.entry.type_id wanted.entry.key.now wanted.entry.label.now
+            wanted.entry.registration wanted.entry.owner id.old id.new self.old self.new result }
     {
         let made = self.manager.allocate_owned(
             &self.values,
@@ -167,7 +168,8 @@ impl CountersSide {
 
     /// Says a counter's registration id.
     pub(crate) fn registration(&mut self, id: u32, registration: &mut u64) -> i32
-        ensures { Asked (λ r. (counter_at r id).values.registration) id registration.old registration.new self.old self.new result }
+        ensures { Asked (λ r. (counter_at r id).values.registration) id registration.old registration.new self.old
+            self.new result }
     {
         match self.manager.registration(id) {
             Ok(answer) => {

@@ -1,5 +1,7 @@
 //! What C calls.
 pub(crate) mod consuming;
+pub(crate) mod counting;
+pub(crate) mod counting_new;
 pub(crate) mod joining;
 pub(crate) mod opening;
 pub(crate) mod producing;

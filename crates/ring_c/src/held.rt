@@ -1,5 +1,6 @@
 //! What a handle can stand for.
 use crate::consumer::ConsumerSide;
+use crate::counters::CountersSide;
 use crate::producer::ProducerSide;
 
 /// What a handle can stand for.
@@ -9,4 +10,5 @@ pub enum Held {
     Vacant,
     Producer(ProducerSide),
     Consumer(ConsumerSide),
+    Counters(CountersSide),
 }

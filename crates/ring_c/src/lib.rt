@@ -4,6 +4,8 @@
 mod code;
 mod consumer;
 mod copying;
+mod counters;
+mod counting;
 mod exports;
 mod handle;
 mod held;
@@ -12,6 +14,13 @@ mod producer;
 mod ring;
 
 pub use exports::consuming::{felter_read, felter_set_heartbeat};
+pub use exports::counting::{
+    felter_counter_add, felter_counter_allocate, felter_counter_allocate_owned,
+    felter_counter_find, felter_counter_free, felter_counter_owner, felter_counter_registration,
+    felter_counter_set, felter_counter_type_id, felter_counter_value, felter_counters_close_owner,
+    felter_counters_count,
+};
+pub use exports::counting_new::felter_counters_new;
 pub use exports::joining::felter_join;
 pub use exports::opening::{
     felter_many_to_one_new, felter_many_to_one_new_at, felter_one_to_one_new,

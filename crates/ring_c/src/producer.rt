@@ -27,7 +27,14 @@ impl Model for ProducerSide {
 
     ghost Value = { Side };
 
-    ghost view = { λ a. record { many = is_many a.ring; table = table_in a.ring; capacity = capacity_in a.ring; view = view_of a.producer; claim = a.claim } };
+    ghost view = { λ a. record {
+      many = is_many a.ring;
+      table = table_in a.ring;
+      capacity = capacity_in a.ring;
+      view =
+          view_of a.producer;
+      claim = a.claim;
+    } };
 
     ghost invariant = { λ a. IsSide a.ring a.producer a.claim };
 }
@@ -209,7 +216,8 @@ impl ProducerSide {
         }
     }
 
-    /// Takes another producer of the same ring in, with its shares, where no claim of either is open. Else it comes back.
+    /// Takes another producer of the same ring in, with its shares, where no claim of either is open. Else it comes
+    /// back.
     pub(crate) fn join(&mut self, other: ProducerSide) -> Result<(), (i32, ProducerSide)>
         requires { (self.old.table ≡ other.table) × (self.old.capacity ≡ other.capacity) }
         ensures joined { OnOk result (TakesIn self.old other self.new) }

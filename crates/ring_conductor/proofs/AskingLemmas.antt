@@ -7,16 +7,18 @@ use Rattle.ring_rings.specs.Claiming.{RefusesTry, Writes}
 use Rattle.ring_conductor.specs.declared.client.request.Request.{Request}
 use Rattle.ring_conductor.specs.declared.client.request.Request.TheVariants.{Allocate, Free, Set, AllocateOwned, Close}
 use Rattle.ring_conductor.specs.Asking.{asked, IsSendable, SendsAs}
-use Rattle.ring_conductor.specs.Command.{Instruction, HasShortTexts, spelling_of, type_id_of}
-use Rattle.ring_conductor.specs.Writing.{Encodes, over_start}
-use Rattle.ring_conductor.proofs.Lengths.{free_length, set_length, close_length, allocate_length, allocate_owned_length}
-use Rattle.ring_conductor.proofs.Written.{command_bytes}
+use Rattle.ring_protocol.specs.Command.{Instruction, HasShortTexts, spelling_of, type_id_of}
+use Rattle.ring_protocol.specs.Writing.{Encodes, over_start}
+use Rattle.ring_protocol.proofs.Lengths.{free_length, set_length, close_length, allocate_length, allocate_owned_length}
+use Rattle.ring_protocol.proofs.Written.{command_bytes}
 
 same_length : (r : Request) (a b : ℕ) → length (spelling_of (asked r a)) ≡ length (spelling_of (asked r b))
-same_length (Allocate type_id key label) a b = allocate_length a type_id key.now label.now ∙ sym (allocate_length b type_id key.now label.now)
+same_length (Allocate type_id key label) a b =
+    allocate_length a type_id key.now label.now ∙ sym (allocate_length b type_id key.now label.now)
 same_length (Free id) a b = free_length a id ∙ sym (free_length b id)
 same_length (Set id value) a b = set_length a id value ∙ sym (set_length b id value)
-same_length (AllocateOwned type_id owner key label) a b = allocate_owned_length a type_id owner key.now label.now ∙ sym (allocate_owned_length b type_id owner key.now label.now)
+same_length (AllocateOwned type_id owner key label) a b = allocate_owned_length a type_id owner key.now label.now
+    ∙ sym (allocate_owned_length b type_id owner key.now label.now)
 same_length (Close owner) a b = close_length a owner ∙ sym (close_length b owner)
 
 short_texts : (r : Request) (a b : ℕ) → HasShortTexts (asked r a) → HasShortTexts (asked r b)
@@ -34,32 +36,44 @@ same_type (AllocateOwned type_id owner key label) a = refl
 same_type (Close owner) a = refl
 
 -- what can be sent fits into the buffer
-pub fits : (r : Request) (a : ℕ) (c : Instruction) (room : ℕ) → c ≡ asked r a → room ≡ 520 → IsSendable r → HasShortTexts c × (length (spelling_of c) ≤ room)
+pub fits : (r : Request) (a : ℕ) (c : Instruction) (room : ℕ) → c ≡ asked r a → room ≡ 520 → IsSendable r
+    → HasShortTexts c × (length (spelling_of c) ≤ room)
 fits r a c room is wide h = (
   subst HasShortTexts (sym is) (short_texts r 0 a h.texts),
-  subst (λ n. length (spelling_of c) ≤ n) (sym wide) (subst (λ n. n ≤ 520) (same_length r 0 a ∙ sym (ap (λ x. length (spelling_of x)) is)) h.room),
+  subst (λ n. length (spelling_of c) ≤ n) (sym wide)
+      (subst (λ n. n ≤ 520) (same_length r 0 a ∙ sym (ap (λ x. length (spelling_of x)) is)) h.room),
 )
 
-pub sendable : (r : Request) (a : ℕ) (c : Instruction) (room : ℕ) → c ≡ asked r a → room ≡ 520 → HasShortTexts c × (length (spelling_of c) ≤ room) → IsSendable r
+pub sendable : (r : Request) (a : ℕ) (c : Instruction) (room : ℕ) → c ≡ asked r a → room ≡ 520
+    → HasShortTexts c × (length (spelling_of c) ≤ room) → IsSendable r
 sendable r a c room is wide h = record {
   texts = short_texts r a 0 (subst HasShortTexts is h.0);
-  room = subst (λ n. n ≤ 520) (ap (λ x. length (spelling_of x)) is ∙ same_length r a 0) (subst (λ n. length (spelling_of c) ≤ n) wide h.1);
+  room = subst (λ n. n ≤ 520) (ap (λ x. length (spelling_of x)) is ∙ same_length r a 0)
+      (subst (λ n. length (spelling_of c) ≤ n) wide h.1);
 }
 
-pub too_long : (r : Request) (a : ℕ) (c : Instruction) (old new : List ℕ) (o : Option ℕ) → c ≡ asked r a → length old ≡ 520 → Encodes c old new o → o ≡ None → IsSendable r → ⊥
-too_long r a c old new o is wide e none h = true≢false (sym (subst IsSome none (e.fits.1 (fits r a c (length old) is wide h))))
+pub too_long : (r : Request) (a : ℕ) (c : Instruction) (old new : List ℕ) (o : Option ℕ) → c ≡ asked r a
+    → length old ≡ 520 → Encodes c old new o → o ≡ None → IsSendable r → ⊥
+too_long r a c old new o is wide e none h =
+    true≢false (sym (subst IsSome none (e.fits.1 (fits r a c (length old) is wide h))))
 
-pub encoded : (r : Request) (a : ℕ) (c : Instruction) (old new : List ℕ) (n : ℕ) → c ≡ asked r a → length old ≡ 520 → Encodes c old new (Some n) → IsSendable r
+pub encoded : (r : Request) (a : ℕ) (c : Instruction) (old new : List ℕ) (n : ℕ) → c ≡ asked r a → length old ≡ 520
+    → Encodes c old new (Some n) → IsSendable r
 encoded r a c old new n is wide e = sendable r a c (length old) is wide (e.fits.0 refl)
 
-pub spelled : (r : Request) (a : ℕ) (c : Instruction) (old new : List ℕ) (n : ℕ) → c ≡ asked r a → Encodes c old new (Some n) → take n new ≡ spelling_of (asked r a)
+pub spelled : (r : Request) (a : ℕ) (c : Instruction) (old new : List ℕ) (n : ℕ) → c ≡ asked r a
+    → Encodes c old new (Some n) → take n new ≡ spelling_of (asked r a)
 spelled r a c old new n is e = command_bytes c old new n e ∙ ap spelling_of is
 
-pub of_type : (r : Request) (a : ℕ) (c : Instruction) (t : ℤ) → c ≡ asked r a → t ≡ type_id_of c → to_z w32 (of_z w32 t) ≡ type_id_of (asked r a)
+pub of_type : (r : Request) (a : ℕ) (c : Instruction) (t : ℤ) → c ≡ asked r a → t ≡ type_id_of c
+    → to_z w32 (of_z w32 t) ≡ type_id_of (asked r a)
 of_type r a c t is type_is = ap (λ z. to_z w32 (of_z w32 z)) (type_is ∙ ap type_id_of is) ∙ same_type r a
 
 pub written_as : (C : ℕ) (t s : ℤ) (b d : List ℕ) (v w : View) → t ≡ s → b ≡ d → Writes C t b v w → Writes C s d v w
-written_as C t s b d v w type_is body_is h = subst (λ x. Writes C x d v w) type_is (subst (λ x. Writes C t x v w) body_is h)
+written_as C t s b d v w type_is body_is h =
+    subst (λ x. Writes C x d v w) type_is (subst (λ x. Writes C t x v w) body_is h)
 
-pub refused_as : (C : ℕ) (t s : ℤ) (n m : ℕ) (v : View) (fault : TryFault) (w : View) → t ≡ s → n ≡ m → RefusesTry C t n v fault w → RefusesTry C s m v fault w
-refused_as C t s n m v fault w type_is len_is h = subst (λ x. RefusesTry C x m v fault w) type_is (subst (λ x. RefusesTry C t x v fault w) len_is h)
+pub refused_as : (C : ℕ) (t s : ℤ) (n m : ℕ) (v : View) (fault : TryFault) (w : View) → t ≡ s → n ≡ m
+    → RefusesTry C t n v fault w → RefusesTry C s m v fault w
+refused_as C t s n m v fault w type_is len_is h =
+    subst (λ x. RefusesTry C x m v fault w) type_is (subst (λ x. RefusesTry C t x v fault w) len_is h)

@@ -20,13 +20,17 @@ pub messages_of-append : (a b : List PlacedMessage) → messages_of (a ++ b) ≡
 messages_of-append [] b = refl
 messages_of-append (m ∷ a) b = ap (λ l. m.message ∷ l) (messages_of-append a b)
 
-placed_committed_of-append : (a b : List StagedClaim) → placed_committed_of (a ++ b) ≡ placed_committed_of a ++ placed_committed_of b
+placed_committed_of-append : (a b : List StagedClaim)
+    → placed_committed_of (a ++ b) ≡ placed_committed_of a ++ placed_committed_of b
 placed_committed_of-append [] b = refl
 placed_committed_of-append (c ∷ a) b =
     let here = shown_at c.stage (placed_message c) in
-    ap (λ l. here ++ l) (placed_committed_of-append a b) ∙ sym (append_assoc here (placed_committed_of a) (placed_committed_of b))
+    ap (λ l. here ++ l) (placed_committed_of-append a b)
+    ∙ sym (append_assoc here (placed_committed_of a) (placed_committed_of b))
 
-same_shown : (from place : ℕ) (m : Message) (stage : Stage) → let c : StagedClaim = record { from = from; place = place; message = m; stage = stage } in shown (claim_of c) ≡ messages_of (shown_at stage (placed_message c))
+same_shown : (from place : ℕ) (m : Message) (stage : Stage)
+    → let c : StagedClaim = record { from = from; place = place; message = m; stage = stage } in shown (claim_of c)
+    ≡ messages_of (shown_at stage (placed_message c))
 same_shown from place m Moved = refl
 same_shown from place m Padded = refl
 same_shown from place m (Stored Open) = refl
@@ -37,12 +41,17 @@ same_committed : (cs : List StagedClaim) → committed_of (claims_of cs) ≡ mes
 same_committed [] = refl
 same_committed (c ∷ cs) =
     let here = shown_at c.stage (placed_message c) in
-    (λ i. same_shown c.from c.place c.message c.stage i ++ same_committed cs i) ∙ sym (messages_of-append here (placed_committed_of cs))
+    (λ i. same_shown c.from c.place c.message c.stage i ++ same_committed cs i)
+    ∙ sym (messages_of-append here (placed_committed_of cs))
 
-pub whole : (C start : ℕ) (p r : View) (rest : Ring) → HandsOut C start p r rest → ((h g : List Claim) → Has rest h → Has rest g → committed_of h ≡ committed_of g)
+pub whole : (C start : ℕ) (p r : View) (rest : Ring) → HandsOut C start p r rest
+    → ((h g : List Claim) → Has rest h → Has rest g → committed_of h ≡ committed_of g)
     → IsWhole p.producer.claims r.consumer.taken rest
 whole C start p r rest out one h has =
-    let left = ap (λ l. messages_of r.consumer.taken ++ l) (one h (claims_of out.left) has out.has ∙ same_committed out.left) in
+    let left = ap (λ l. messages_of r.consumer.taken ++ l)
+    (one h (claims_of out.left) has out.has ∙ same_committed out.left) in
     let passed = ap (λ l. messages_of l ++ messages_of (placed_committed_of out.left)) out.messages in
-    let all = ap (λ l. messages_of (placed_committed_of l)) out.whole ∙ (ap messages_of (placed_committed_of-append out.passed out.left) ∙ messages_of-append (placed_committed_of out.passed) (placed_committed_of out.left)) in
+    let all = ap (λ l. messages_of (placed_committed_of l)) out.whole
+    ∙ (ap messages_of (placed_committed_of-append out.passed out.left)
+    ∙ messages_of-append (placed_committed_of out.passed) (placed_committed_of out.left)) in
     left ∙ (passed ∙ sym all)

@@ -13,8 +13,8 @@ use Rattle.ring_layout.proofs.PlaceLemmas.{next_le, span_bounds}
 use Rattle.ring_table.specs.declared.claim.PlacedMessage.{PlacedMessage}
 use Rattle.ring_rings.specs.Reading.{messages_of}
 use Rattle.ring_board.specs.declared.shared.view.View.{View}
-use Rattle.ring_conductor.specs.declared.protocol.reply.Reply.{Reply}
-use Rattle.ring_conductor.specs.Reply.{spelling_of}
+use Rattle.ring_protocol.specs.declared.reply.Reply.{Reply}
+use Rattle.ring_protocol.specs.Reply.{spelling_of}
 use Rattle.ring_conductor.specs.Applied.{applied}
 use Rattle.ring_conductor.specs.Fold.{Ledger, fold_of, at_moment, replied, served}
 use Rattle.ring_conductor.specs.Serving.{ledger_of, HaveRoom, IsSameHandler, ActsOn}
@@ -30,28 +30,37 @@ same_twice s t u a b = record {
 }
 
 same_once : (s : Serving) → IsSameHandler s s
-same_once s = record { moment = refl; board = refl; values = refl; counters = refl; transmitter = refl; value_shares = refl }
+same_once s =
+    record { moment = refl; board = refl; values = refl; counters = refl; transmitter = refl; value_shares = refl }
 
 abbrev pub Folds : Serving → List Message → Serving → Type 0
-Folds s ms t = IsSameHandler s t × (ledger_of t ≡ fold_of (ledger_of s) (at_moment s.now ms)) × HaveRoom s.now (ledger_of s) ms
+Folds s ms t =
+    IsSameHandler s t × (ledger_of t ≡ fold_of (ledger_of s) (at_moment s.now ms)) × HaveRoom s.now (ledger_of s) ms
 
-one_more : (s u t : Serving) (m : Message) (ms : List Message) → ActsOn s m u Continue → Folds u ms t → Folds s (m ∷ ms) t
+one_more : (s u t : Serving) (m : Message) (ms : List Message) → ActsOn s m u Continue → Folds u ms t
+    → Folds s (m ∷ ms) t
 one_more s u t m ms w f =
-    let at_once = subst (λ (n : ℕ). HaveRoom n (ledger_of u) ms) w.0.moment f.2 in
-    (same_twice s u t w.0 f.0, f.1 ∙ (λ i. fold_of (w.1 i) (at_moment (w.0.moment i) ms)), (w.2, subst (λ (l : Ledger). HaveRoom s.now l ms) w.1 at_once))
+    let at_once = subst (λ (n : ℕ). HaveRoom n (ledger_of u) ms) w.0.moment f.2 in (
+      same_twice s u t w.0 f.0,
+      f.1 ∙ (λ i. fold_of (w.1 i) (at_moment (w.0.moment i) ms)),
+      (w.2, subst (λ (l : Ledger). HaveRoom s.now l ms) w.1 at_once),
+    )
 
 -- a read that goes on after each message
-pub folded : (s t : Serving) (ms : List Message) (actions : List Action) → Handles ActsOn s ms actions t → All GoesOn actions → Folds s ms t
+pub folded : (s t : Serving) (ms : List Message) (actions : List Action) → Handles ActsOn s ms actions t
+    → All GoesOn actions → Folds s ms t
 folded s t [] [] h on = subst (λ (x : Serving). Folds s [] x) h (same_once s, refl, tt)
 folded s t [] (a ∷ actions) h on = absurd h
 folded s t (m ∷ ms) [] h on = absurd h
 folded s t (m ∷ ms) (Abort ∷ actions) h on = absurd (All-head GoesOn Abort actions on)
 folded s t (m ∷ ms) (Break ∷ actions) h on = absurd (All-head GoesOn Break actions on)
 folded s t (m ∷ ms) (Commit ∷ actions) h on = absurd h.1
-folded s t (m ∷ ms) (Continue ∷ actions) h on = one_more s h.0 t m ms h.1 (folded h.0 t ms actions h.2 (All-tail GoesOn Continue actions on))
+folded s t (m ∷ ms) (Continue ∷ actions) h on =
+    one_more s h.0 t m ms h.1 (folded h.0 t ms actions h.2 (All-tail GoesOn Continue actions on))
 
 -- it never breaks
-pub never_breaks : (s t : Serving) (ms : List Message) (before : List Action) → Handles ActsOn s ms (before ++ Break ∷ []) t → ⊥
+pub never_breaks : (s t : Serving) (ms : List Message) (before : List Action)
+    → Handles ActsOn s ms (before ++ Break ∷ []) t → ⊥
 never_breaks s t [] [] h = h
 never_breaks s t [] (a ∷ before) h = h
 never_breaks s t (m ∷ ms) [] h = h.1
@@ -70,7 +79,8 @@ replied_on v reply =
     let bytes = (span_bounds n).1 in
     omega arith
 
-pub answered : (l : Ledger) (now : ℕ) (ms : List Message) → l.board.at + 8 * length ms ≤ (fold_of l (at_moment now ms)).board.at
+pub answered : (l : Ledger) (now : ℕ) (ms : List Message)
+    → l.board.at + 8 * length ms ≤ (fold_of l (at_moment now ms)).board.at
 answered l now [] = omega arith
 answered l now (m ∷ ms) =
     let one = replied_on l.board (applied now l.registry m).reply in

@@ -1,10 +1,3 @@
-pub mod Readers
-pub mod Dispatch
-pub mod ReadCommands
-pub mod ReadReplies
-pub mod Joined
-pub mod Written
-pub mod Lengths
 pub mod FoldLemmas
 pub mod WorkLemmas
 pub mod FinishLemmas

@@ -28,22 +28,32 @@ kept v w shares claims = record {
 
 pub written : (C : ℕ) (type_id : ℤ) (body : List ℕ) (v w : View) → Writes C type_id body v w → Sends 1 v w
 written C type_id body v w h =
-    let claims : w.producer.claims ≡ v.producer.claims ++ record_behind C h.tail type_id body ∷ [] = ap (λ (u : View). u.producer.claims) h.view in
-    let counted : open_count w.producer.claims ≡ open_count v.producer.claims + 0 = ap open_count claims ∙ open_count-more v.producer.claims (record_behind C h.tail type_id body) in
+    let claims : w.producer.claims ≡ v.producer.claims ++ record_behind C h.tail type_id body ∷ [] =
+    ap (λ (u : View). u.producer.claims) h.view in
+    let counted : open_count w.producer.claims ≡ open_count v.producer.claims + 0 =
+    ap open_count claims ∙ open_count-more v.producer.claims (record_behind C h.tail type_id body) in
     record {
       shares = ap (λ (u : View). u.producer.shares) h.view;
-      open_claims = (let old : ℕ = open_count v.producer.claims in let new : ℕ = open_count w.producer.claims in let same : new ≡ old + 0 = counted in let done : new ≡ old = omega arith in done);
+      open_claims = (let old : ℕ = open_count v.producer.claims in let new : ℕ =
+          open_count w.producer.claims in let same : new ≡ old + 0 = counted in let done : new ≡ old =
+          omega arith in done);
       claims = ap length claims ∙ length-append v.producer.claims (record_behind C h.tail type_id body ∷ []);
     }
 
-pub refused : (C : ℕ) (type_id : ℤ) (len : ℕ) (v : View) (fault : TryFault) (w : View) → RefusesTry C type_id len v fault w → Sends 0 v w
-refused C type_id len v (Refused fault) w (inl h) = kept v w (ap (λ (u : View). u.producer.shares) h.1) (ap (λ (u : View). u.producer.claims) h.1)
-refused C type_id len v (Refused fault) w (inr (inl h)) = kept v w (ap (λ (u : View). u.producer.shares) h.view) (ap (λ (u : View). u.producer.claims) h.view)
-refused C type_id len v (Refused fault) w (inr (inr h)) = kept v w (ap (λ (u : View). u.producer.shares) h.view) (ap (λ (u : View). u.producer.claims) h.view)
-refused C type_id len v (Contended tail seen) w h = kept v w (ap (λ (u : View). u.producer.shares) h.view) (ap (λ (u : View). u.producer.claims) h.view)
+pub refused : (C : ℕ) (type_id : ℤ) (len : ℕ) (v : View) (fault : TryFault) (w : View)
+    → RefusesTry C type_id len v fault w → Sends 0 v w
+refused C type_id len v (Refused fault) w (inl h) =
+    kept v w (ap (λ (u : View). u.producer.shares) h.1) (ap (λ (u : View). u.producer.claims) h.1)
+refused C type_id len v (Refused fault) w (inr (inl h)) =
+    kept v w (ap (λ (u : View). u.producer.shares) h.view) (ap (λ (u : View). u.producer.claims) h.view)
+refused C type_id len v (Refused fault) w (inr (inr h)) =
+    kept v w (ap (λ (u : View). u.producer.shares) h.view) (ap (λ (u : View). u.producer.claims) h.view)
+refused C type_id len v (Contended tail seen) w h =
+    kept v w (ap (λ (u : View). u.producer.shares) h.view) (ap (λ (u : View). u.producer.claims) h.view)
 
 -- after one try
-pub tried : {T : Type 0} (C : ℕ) (type_id : ℤ) (body : List ℕ) (v w : View) (r : Result T TryFault) → OnOk r (Writes C type_id body v w) → IfErr r (λ fault. RefusesTry C type_id (length body) v fault w)
+pub tried : {T : Type 0} (C : ℕ) (type_id : ℤ) (body : List ℕ) (v w : View) (r : Result T TryFault)
+    → OnOk r (Writes C type_id body v w) → IfErr r (λ fault. RefusesTry C type_id (length body) v fault w)
     → Sends (if is_ok r then 1 else 0) v w
 tried C type_id body v w (Ok done) ok err = written C type_id body v w ok
 tried C type_id body v w (Err fault) ok err = refused C type_id (length body) v fault w err
@@ -52,10 +62,12 @@ tried C type_id body v w (Err fault) ok err = refused C type_id (length body) v 
 
 length-insert : (c : StagedClaim) (cs : List StagedClaim) → length (insert_claim c cs) ≡ suc (length cs)
 length-insert c [] = refl
-length-insert c (d ∷ ds) = elim (cases_lt c.place d.place) as (λ _. length (insert_claim c (d ∷ ds)) ≡ suc (suc (length ds))) [
-  | inl before ↦ ap (λ b. length (cond b (c ∷ d ∷ ds) (d ∷ insert_claim c ds))) (lt-ltb c.place d.place before)
-  | inr behind ↦ ap (λ b. length (cond b (c ∷ d ∷ ds) (d ∷ insert_claim c ds))) (le-ltb c.place d.place behind) ∙ ap suc (length-insert c ds)
-]
+length-insert c (d ∷ ds) =
+    elim (cases_lt c.place d.place) as (λ _. length (insert_claim c (d ∷ ds)) ≡ suc (suc (length ds))) [
+      | inl before ↦ ap (λ b. length (cond b (c ∷ d ∷ ds) (d ∷ insert_claim c ds))) (lt-ltb c.place d.place before)
+      | inr behind ↦ ap (λ b. length (cond b (c ∷ d ∷ ds) (d ∷ insert_claim c ds))) (le-ltb c.place d.place behind)
+          ∙ ap suc (length-insert c ds)
+    ]
 
 length-interleaved : (xs ys : List StagedClaim) → length (interleaved xs ys) ≡ length xs + length ys
 length-interleaved xs [] = let n : ℕ = length xs in let done : n ≡ n + 0 = omega arith in done
@@ -72,7 +84,8 @@ pub record Gathers (v w u : View) : Type 0 where
 
 pub gathered : (C : ℕ) (v w u : View) → Joins C v w u → Gathers v w u
 gathered C v w u h =
-    let claims : u.producer.claims ≡ interleaved v.producer.claims w.producer.claims = ap (λ (z : View). z.producer.claims) h.view in
+    let claims : u.producer.claims ≡ interleaved v.producer.claims w.producer.claims =
+    ap (λ (z : View). z.producer.claims) h.view in
     record {
       shares = ap (λ (z : View). z.producer.shares) h.view;
       open_claims = ap open_count claims ∙ open_count-interleaved v.producer.claims w.producer.claims;

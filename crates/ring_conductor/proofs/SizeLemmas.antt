@@ -9,9 +9,9 @@ use Rattle.ring_counters.specs.declared.fault.AllocateRefused.{AllocateRefused}
 use Rattle.ring_counters.specs.declared.fault.IdFault.{IdFault}
 use Rattle.ring_counters.specs.Counter.{Counter, Reclaimed, unused_counter}
 use Rattle.ring_counters.specs.Registry.{Registry, allocation_of, count_of, counter_at, fresh_registry, id_refusal_of, new_counter, owned_ids, reclaimed_in, with_value}
-use Rattle.ring_conductor.specs.declared.protocol.fault.Bad.{Bad}
-use Rattle.ring_conductor.specs.Command.{Instruction, Allocate, Free, Set, AllocateOwned, Close}
-use Rattle.ring_conductor.specs.Reading.{command_of}
+use Rattle.ring_protocol.specs.declared.fault.Bad.{Bad}
+use Rattle.ring_protocol.specs.Command.{Instruction, Allocate, Free, Set, AllocateOwned, Close}
+use Rattle.ring_protocol.specs.Reading.{command_of}
 use Rattle.ring_conductor.specs.Applied.{Outcome, allocated, done_unless, obeyed, obeyed_if_read}
 use Rattle.ring_conductor.specs.Fold.{Ledger, fold_of, served}
 
@@ -28,34 +28,51 @@ twice r s t a b = record { count = b.count ∙ a.count; reuse_ms = b.reuse_ms �
 reclaims : (r : Registry) (now id : ℕ) → KeepsSize r (reclaimed_in r now id)
 reclaims r now id =
     let c = counter_at r id in
-    record { count = length-set r.counters id (record c { metadata = record c.metadata { status = Reclaimed (now + r.reuse_ms) } }); reuse_ms = refl }
+    record {
+      count = length-set r.counters id
+          (record c { metadata = record c.metadata { status = Reclaimed (now + r.reuse_ms) } });
+      reuse_ms = refl;
+    }
 
 all_reclaimed : (now : ℕ) (ids : List ℕ) (r : Registry) → KeepsSize r (fold (λ s id. reclaimed_in s now id) r ids)
 all_reclaimed now [] r = same r
-all_reclaimed now (id ∷ ids) r = twice r (reclaimed_in r now id) (fold (λ s id. reclaimed_in s now id) (reclaimed_in r now id) ids) (reclaims r now id) (all_reclaimed now ids (reclaimed_in r now id))
+all_reclaimed now (id ∷ ids) r = twice r (reclaimed_in r now id)
+    (fold (λ s id. reclaimed_in s now id) (reclaimed_in r now id) ids) (reclaims r now id)
+    (all_reclaimed now ids (reclaimed_in r now id))
 
 sets : (r : Registry) (id : ℕ) (value : _) → KeepsSize r (with_value r id value)
 sets r id value =
     let c = counter_at r id in
-    record { count = length-set r.counters id (record c { values = record c.values { value = value } }); reuse_ms = refl }
+    record {
+      count = length-set r.counters id (record c { values = record c.values { value = value } });
+      reuse_ms =
+          refl;
+    }
 
-allocates : (r : Registry) (correlation : ℕ) (c : Counter) (result : Result ℕ AllocateRefused) → KeepsSize r (allocated r correlation c result).registry
+allocates : (r : Registry) (correlation : ℕ) (c : Counter) (result : Result ℕ AllocateRefused)
+    → KeepsSize r (allocated r correlation c result).registry
 allocates r correlation c (Ok id) = record { count = length-set r.counters id c; reuse_ms = refl }
 allocates r correlation c (Err fault) = same r
 
-does : (o : Option IdFault) (r : Registry) (correlation : ℕ) (new : Registry) (writes : List ValueWrite) → KeepsSize r new → KeepsSize r (done_unless o r correlation new writes).registry
+does : (o : Option IdFault) (r : Registry) (correlation : ℕ) (new : Registry) (writes : List ValueWrite)
+    → KeepsSize r new → KeepsSize r (done_unless o r correlation new writes).registry
 does None r correlation new writes keeps = keeps
 does (Some fault) r correlation new writes keeps = same r
 
-either : (b : Bool) (r : Registry) (x y : Outcome) → KeepsSize r x.registry → KeepsSize r y.registry → KeepsSize r (cond b x y).registry
+either : (b : Bool) (r : Registry) (x y : Outcome) → KeepsSize r x.registry → KeepsSize r y.registry
+    → KeepsSize r (cond b x y).registry
 either true r x y first second = first
 either false r x y first second = second
 
 obeys : (now : ℕ) (r : Registry) (i : Instruction) → KeepsSize r (obeyed now r i).registry
-obeys now r (Allocate correlation type_id key label) = allocates r correlation (new_counter type_id key label correlation 0) (allocation_of r now key label)
-obeys now r (AllocateOwned correlation type_id owner key label) = allocates r correlation (new_counter type_id key label correlation owner) (allocation_of r now key label)
-obeys now r (Free correlation id) = does (id_refusal_of r id) r correlation (reclaimed_in r now id) [] (reclaims r now id)
-obeys now r (Set correlation id value) = does (id_refusal_of r id) r correlation (with_value r id value) _ (sets r id value)
+obeys now r (Allocate correlation type_id key label) =
+    allocates r correlation (new_counter type_id key label correlation 0) (allocation_of r now key label)
+obeys now r (AllocateOwned correlation type_id owner key label) =
+    allocates r correlation (new_counter type_id key label correlation owner) (allocation_of r now key label)
+obeys now r (Free correlation id) =
+    does (id_refusal_of r id) r correlation (reclaimed_in r now id) [] (reclaims r now id)
+obeys now r (Set correlation id value) =
+    does (id_refusal_of r id) r correlation (with_value r id value) _ (sets r id value)
 obeys now r (Close correlation owner) = either (owner == 0) r _ _ (same r) (all_reclaimed now (owned_ids r owner) r)
 
 reads : (now : ℕ) (r : Registry) (result : Result Instruction Bad) → KeepsSize r (obeyed_if_read now r result).registry
@@ -67,10 +84,12 @@ pub folds_size : (l : Ledger) (ps : List (ℕ × Message)) → KeepsSize l.regis
 folds_size l [] = same l.registry
 folds_size l (p ∷ ps) =
     let next = served l p.0 p.1 in
-    twice l.registry next.registry (fold_of next ps).registry (reads p.0 l.registry (command_of p.1.type_id p.1.body)) (folds_size next ps)
+    twice l.registry next.registry (fold_of next ps).registry (reads p.0 l.registry (command_of p.1.type_id p.1.body))
+    (folds_size next ps)
 
 -- fresh counters are the fresh ones of their own number and timeout
-pub fresh_again : (r : Registry) (count reuse_ms : ℕ) → r ≡ fresh_registry count reuse_ms → fresh_registry (count_of r) r.reuse_ms ≡ r
+pub fresh_again : (r : Registry) (count reuse_ms : ℕ) → r ≡ fresh_registry count reuse_ms
+    → fresh_registry (count_of r) r.reuse_ms ≡ r
 fresh_again r count reuse_ms e =
     let long : count_of r ≡ count = ap count_of e ∙ length-replicate count unused_counter in
     let time : r.reuse_ms ≡ reuse_ms = ap (λ (s : Registry). s.reuse_ms) e in

@@ -28,19 +28,19 @@ use Rattle.ring_counters.specs.Infos.{AreInfos}
 use Rattle.ring_counters.specs.Registry.{Registry, allocation_of, closed_in, count_of, counter_at, fresh_registry, id_refusal_of, ids_of, is_allocated, live_ids, live_of, new_counter, owned_ids, reclaimed_in, status_at, with_value}
 use Rattle.ring_counters.specs.Views.{value_write}
 use Rattle.ring_conductor.specs.declared.conductor.Work.{Work}
-use Rattle.ring_conductor.specs.declared.protocol.fault.Bad.{Bad}
-use Rattle.ring_conductor.specs.declared.protocol.reply.Reply.TheVariants.{Closed}
+use Rattle.ring_protocol.specs.declared.fault.Bad.{Bad}
+use Rattle.ring_protocol.specs.declared.reply.Reply.TheVariants.{Closed}
 use Rattle.ring_conductor.specs.declared.storming.plan.StormFault.{StormFault}
 use Rattle.ring_conductor.specs.declared.storming.plan.StormPlan.{StormPlan}
 use Rattle.ring_conductor.specs.declared.storming.plan.StormReport.{StormReport}
 use Rattle.ring_conductor.specs.Applied.{allocated, applied, done_unless, obeyed, obeyed_if_read, refused}
-use Rattle.ring_conductor.specs.Codes.{bad_owner_code}
-use Rattle.ring_conductor.specs.Command.{Instruction, Allocate, AllocateOwned, Close, Free, Set}
+use Rattle.ring_protocol.specs.Codes.{bad_owner_code}
+use Rattle.ring_protocol.specs.Command.{Instruction, Allocate, AllocateOwned, Close, Free, Set}
 use Rattle.ring_conductor.specs.Conducting.{Works}
 use Rattle.ring_conductor.specs.Finishing.{IsWhole}
 use Rattle.ring_conductor.specs.Storming.{IsBoardFor, IsReportOf, all_commands, counters_after, storm_counters, sum_of, with_value_of}
 use Rattle.ring_conductor.specs.Fold.{Ledger, fold_of, at_moment, served}
-use Rattle.ring_conductor.specs.Reading.{command_of}
+use Rattle.ring_protocol.specs.Reading.{command_of}
 use Rattle.ring_conductor.proofs.FinishLemmas.{messages_of-append}
 use Rattle.ring_conductor.proofs.FoldLemmas.{lengths}
 
@@ -55,7 +55,8 @@ module _ (now limit : ℕ) (v w : View) (l k : Ledger) (done : Work) (works : Wo
   work_shares = ap (λ (x : Ledger). x.board.shares) works.folded ∙ fold_shares l now (messages_of works.messages)
 
   pub work_taken : length w.consumer.taken ≡ length v.consumer.taken + done.messages
-  work_taken = let counted = works.counted in ap length works.received ∙ (length-append v.consumer.taken works.messages ∙ (omega arith))
+  work_taken = let counted = works.counted in ap length works.received
+      ∙ (length-append v.consumer.taken works.messages ∙ (omega arith))
 
 -- The counters -----------------------------------------------------------------
 
@@ -63,46 +64,68 @@ fold_counters : (l : Ledger) (ms : List Message) → (fold_of l (at_moment 0 ms)
 fold_counters l [] = refl
 fold_counters l (m ∷ ms) = fold_counters (served l 0 m) ms
 
-counters_after-append : (r : Registry) (a b : List Message) → counters_after r (a ++ b) ≡ counters_after (counters_after r a) b
+counters_after-append : (r : Registry) (a b : List Message)
+    → counters_after r (a ++ b) ≡ counters_after (counters_after r a) b
 counters_after-append r [] b = refl
 counters_after-append r (m ∷ a) b = counters_after-append (applied 0 r m).registry a b
 
-module _ (p : StormPlan) (limit : ℕ) (v w : View) (l k : Ledger) (done : Work) (works : Works 0 limit v w l k done) where
+module _ (p : StormPlan) (limit : ℕ) (v w : View) (l k : Ledger) (done : Work)
+    (works : Works 0 limit v w l k done) where
   -- the counters are still those of the messages taken
-  pub work_counters : l.registry ≡ storm_counters p (messages_of v.consumer.taken) → k.registry ≡ storm_counters p (messages_of w.consumer.taken)
+  pub work_counters : l.registry ≡ storm_counters p (messages_of v.consumer.taken)
+      → k.registry ≡ storm_counters p (messages_of w.consumer.taken)
   work_counters before =
       let old = messages_of v.consumer.taken in
       let new = messages_of works.messages in
-      let after : k.registry ≡ counters_after l.registry new = ap (λ (x : Ledger). x.registry) works.folded ∙ fold_counters l new in
-      let all : messages_of w.consumer.taken ≡ old ++ new = ap messages_of works.received ∙ messages_of-append v.consumer.taken works.messages in
-      after ∙ (ap (λ r. counters_after r new) before ∙ (sym (counters_after-append (fresh_registry p.clients 0) old new) ∙ sym (ap (storm_counters p) all)))
+      let after : k.registry ≡ counters_after l.registry new =
+      ap (λ (x : Ledger). x.registry) works.folded ∙ fold_counters l new in
+      let all : messages_of w.consumer.taken ≡ old ++ new =
+      ap messages_of works.received ∙ messages_of-append v.consumer.taken works.messages in
+      after ∙ (ap (λ r. counters_after r new) before
+      ∙ (sym (counters_after-append (fresh_registry p.clients 0) old new) ∙ sym (ap (storm_counters p) all)))
 
 -- How many counters there are --------------------------------------------------
 
-allocated_count : (r : Registry) (correlation : ℕ) (c : Counter) (found : Result ℕ AllocateRefused) → count_of (allocated r correlation c found).registry ≡ count_of r
+allocated_count : (r : Registry) (correlation : ℕ) (c : Counter) (found : Result ℕ AllocateRefused)
+    → count_of (allocated r correlation c found).registry ≡ count_of r
 allocated_count r correlation c (Ok id) = length-set r.counters id c
 allocated_count r correlation c (Err fault) = refl
 
-done_count : (refusal : Option IdFault) (r : Registry) (correlation : ℕ) (new : Registry) (writes : List ValueWrite) → count_of new ≡ count_of r → count_of (done_unless refusal r correlation new writes).registry ≡ count_of r
+done_count : (refusal : Option IdFault) (r : Registry) (correlation : ℕ) (new : Registry) (writes : List ValueWrite)
+    → count_of new ≡ count_of r → count_of (done_unless refusal r correlation new writes).registry ≡ count_of r
 done_count None r correlation new writes same = same
 done_count (Some fault) r correlation new writes same = refl
 
-closed_count : (now : ℕ) (ids : List ℕ) (r : Registry) → count_of (fold (λ s id. reclaimed_in s now id) r ids) ≡ count_of r
+closed_count : (now : ℕ) (ids : List ℕ) (r : Registry)
+    → count_of (fold (λ s id. reclaimed_in s now id) r ids) ≡ count_of r
 closed_count now [] r = refl
 closed_count now (id ∷ ids) r = closed_count now ids (reclaimed_in r now id) ∙ length-set r.counters id _
 
 obeyed_count : (r : Registry) (command : Instruction) → count_of (obeyed 0 r command).registry ≡ count_of r
-obeyed_count r (Allocate correlation type_id key label) = allocated_count r correlation (new_counter type_id key label correlation 0) (allocation_of r 0 key label)
-obeyed_count r (AllocateOwned correlation type_id owner key label) = allocated_count r correlation (new_counter type_id key label correlation owner) (allocation_of r 0 key label)
-obeyed_count r (Free correlation id) = done_count (id_refusal_of r id) r correlation (reclaimed_in r 0 id) [] (length-set r.counters id _)
-obeyed_count r (Set correlation id value) = done_count (id_refusal_of r id) r correlation (with_value r id value) (value_write id value ∷ []) (length-set r.counters id _)
+obeyed_count r (Allocate correlation type_id key label) =
+    allocated_count r correlation (new_counter type_id key label correlation 0) (allocation_of r 0 key label)
+obeyed_count r (AllocateOwned correlation type_id owner key label) =
+    allocated_count r correlation (new_counter type_id key label correlation owner) (allocation_of r 0 key label)
+obeyed_count r (Free correlation id) =
+    done_count (id_refusal_of r id) r correlation (reclaimed_in r 0 id) [] (length-set r.counters id _)
+obeyed_count r (Set correlation id value) =
+    done_count (id_refusal_of r id) r correlation (with_value r id value) (value_write id value ∷ [])
+    (length-set r.counters id _)
 obeyed_count r (Close correlation owner) = by (owner == 0)
   where
-    by : (b : Bool) → count_of (if b then refused r correlation bad_owner_code else record { registry = closed_in r 0 owner; writes = []; reply = Closed correlation (length (owned_ids r owner)) }).registry ≡ count_of r
+    by : (b : Bool)
+        → count_of (if b then refused r correlation bad_owner_code else
+        record {
+          registry = closed_in r 0 owner;
+          writes = [];
+          reply =
+              Closed correlation (length (owned_ids r owner));
+        }).registry ≡ count_of r
     by true = refl
     by false = closed_count 0 (owned_ids r owner) r
 
-read_count : (r : Registry) (command : Result Instruction Bad) → count_of (obeyed_if_read 0 r command).registry ≡ count_of r
+read_count : (r : Registry) (command : Result Instruction Bad)
+    → count_of (obeyed_if_read 0 r command).registry ≡ count_of r
 read_count r (Ok command) = obeyed_count r command
 read_count r (Err bad) = refl
 
@@ -126,7 +149,8 @@ few_live r =
 
 -- What a listing counts --------------------------------------------------------
 
-pub infos_length : (infos : List CounterInfo) (counters : List (ℕ × Counter)) → AreInfos infos counters → length infos ≡ length counters
+pub infos_length : (infos : List CounterInfo) (counters : List (ℕ × Counter)) → AreInfos infos counters
+    → length infos ≡ length counters
 infos_length [] [] are = refl
 infos_length [] (c ∷ cs) are = absurd are
 infos_length (i ∷ is) [] are = absurd are
@@ -141,11 +165,13 @@ few_infos r infos are =
 abbrev pub with_info : ℤ → CounterInfo → ℤ
 with_info sum info = saturate_signed w64 (sum +ℤ info.value)
 
-pub infos_sum : (sum : ℤ) (infos : List CounterInfo) (counters : List (ℕ × Counter)) → AreInfos infos counters → fold with_info sum infos ≡ fold with_value_of sum counters
+pub infos_sum : (sum : ℤ) (infos : List CounterInfo) (counters : List (ℕ × Counter)) → AreInfos infos counters
+    → fold with_info sum infos ≡ fold with_value_of sum counters
 infos_sum sum [] [] are = refl
 infos_sum sum [] (c ∷ cs) are = absurd are
 infos_sum sum (i ∷ is) [] are = absurd are
-infos_sum sum (i ∷ is) (c ∷ cs) are = ap (λ v. fold with_info (saturate_signed w64 (sum +ℤ v)) is) are.0.value ∙ infos_sum (with_value_of sum c) is cs are.1
+infos_sum sum (i ∷ is) (c ∷ cs) are = ap (λ v. fold with_info (saturate_signed w64 (sum +ℤ v)) is) are.0.value
+    ∙ infos_sum (with_value_of sum c) is cs are.1
 
 -- What is left -----------------------------------------------------------------
 
@@ -167,7 +193,8 @@ few_committed (c ∷ cs) =
 
 committed_of-append : (a b : List Claim) → committed_of (a ++ b) ≡ committed_of a ++ committed_of b
 committed_of-append [] b = refl
-committed_of-append (c ∷ a) b = ap (λ l. shown c ++ l) (committed_of-append a b) ∙ sym (append_assoc (shown c) (committed_of a) (committed_of b))
+committed_of-append (c ∷ a) b =
+    ap (λ l. shown c ++ l) (committed_of-append a b) ∙ sym (append_assoc (shown c) (committed_of a) (committed_of b))
 
 -- there are so many committed messages, with those that were read
 pub record HasLeft (rest : Ring) (all read : ℕ) : Type 0 where
@@ -178,17 +205,22 @@ pub record HasLeft (rest : Ring) (all read : ℕ) : Type 0 where
 pub none_read : (rest : Ring) (h : List Claim) → Has rest h → HasLeft rest (length (committed_of h)) 0
 none_read rest h has = record { history = h; has = has; count = omega arith }
 
-pub more_read : {S : Type 0} (step : S → Message → S → Action → Type 0) (limit : ℕ) (old new : Ring) (s t : S) (count all read more : ℕ) → Reads step limit old new s t count → HasLeft old all read → more ≤ read + count → HasLeft new all more
+pub more_read : {S : Type 0} (step : S → Message → S → Action → Type 0) (limit : ℕ) (old new : Ring) (s t : S)
+    (count all read more : ℕ) → Reads step limit old new s t count → HasLeft old all read → more ≤ read + count
+    → HasLeft new all more
 more_read step limit old new s t count all read more reads before few =
     let passes = reads.passes before.history before.has in
-    let parts = ap (λ h. length (committed_of h)) passes.whole ∙ (ap length (committed_of-append passes.passed passes.rest) ∙ length-append (committed_of passes.passed) (committed_of passes.rest)) in
+    let parts = ap (λ h. length (committed_of h)) passes.whole
+    ∙ (ap length (committed_of-append passes.passed passes.rest)
+    ∙ length-append (committed_of passes.passed) (committed_of passes.rest)) in
     let shown = ap length passes.shown in
     let counted = reads.counted in
     let sum = before.count in
     record { history = passes.rest; has = passes.left; count = omega arith }
 
 -- what was received and what is left are not more than the claims
-pub few_left : (claims : List StagedClaim) (received : List PlacedMessage) (rest : Ring) (h : List Claim) → Has rest h → IsWhole claims received rest → length received + length (committed_of h) ≤ length claims
+pub few_left : (claims : List StagedClaim) (received : List PlacedMessage) (rest : Ring) (h : List Claim) → Has rest h
+    → IsWhole claims received rest → length received + length (committed_of h) ≤ length claims
 few_left claims received rest h has whole =
     let all = ap length (whole h has) in
     let both = length-append (messages_of received) (committed_of h) in
@@ -197,9 +229,12 @@ few_left claims received rest h has whole =
     let few = few_committed claims in
     omega arith
 
-module _ (p : StormPlan) (claims : List StagedClaim) (taken : List PlacedMessage) (rest : Ring) (h : List Claim) (has : Has rest h) (whole : IsWhole claims taken rest) (sent : length claims ≤ all_commands p) (done : all_commands p ≤ length taken)
+module _ (p : StormPlan) (claims : List StagedClaim) (taken : List PlacedMessage) (rest : Ring) (h : List Claim)
+    (has : Has rest h) (whole : IsWhole claims taken rest) (sent : length claims ≤ all_commands p)
+    (done : all_commands p ≤ length taken)
     (counters : Registry) (folded : counters ≡ storm_counters p (messages_of taken)) where
-  report_of : (r : StormReport) → r.received ≡ length taken → r.seen ≡ all_commands p → r.left ≤ length (committed_of h) → r.live ≡ length (live_of counters) → r.sum ≡ sum_of (live_of counters) → IsReportOf p r
+  report_of : (r : StormReport) → r.received ≡ length taken → r.seen ≡ all_commands p → r.left ≤ length (committed_of h)
+      → r.live ≡ length (live_of counters) → r.sum ≡ sum_of (live_of counters) → IsReportOf p r
   report_of r received seen left live sum =
       let few = few_left claims taken rest h has whole in
       record {
@@ -213,19 +248,30 @@ module _ (p : StormPlan) (claims : List StagedClaim) (taken : List PlacedMessage
       }
 
   -- the report of a storm that took all commands
-  pub reported : (result : Result StormReport StormFault) (n m : ℕ) → n ≡ length taken → m ≡ all_commands p → IfOk result (λ r. (r.received ≡ n) × (r.seen ≡ m)) → IfOk result (λ r. (g : List Claim) → Has rest g → r.left ≤ length (committed_of g))
-      → IfOk result (λ r. r.live ≡ length (live_of counters)) → IfOk result (λ r. r.sum ≡ sum_of (live_of counters)) → IfOk result (IsReportOf p)
-  reported (Ok r) n m n_is m_is counts left live sum = report_of r (counts.0 ∙ n_is) (counts.1 ∙ m_is) (left h has) live sum
+  pub reported : (result : Result StormReport StormFault) (n m : ℕ) → n ≡ length taken → m ≡ all_commands p
+      → IfOk result (λ r. (r.received ≡ n) × (r.seen ≡ m))
+      → IfOk result (λ r. (g : List Claim) → Has rest g → r.left ≤ length (committed_of g))
+      → IfOk result (λ r. r.live ≡ length (live_of counters)) → IfOk result (λ r. r.sum ≡ sum_of (live_of counters))
+      → IfOk result (IsReportOf p)
+  reported (Ok r) n m n_is m_is counts left live sum =
+      report_of r (counts.0 ∙ n_is) (counts.1 ∙ m_is) (left h has) live sum
   reported (Err fault) n m n_is m_is counts left live sum = counts
 
 -- The board --------------------------------------------------------------------
 
-pub board_for : (p : StormPlan) (all n C : ℕ) → all ≡ all_commands p → C ≡ max n 256 → IsPowerOfTwo n → 24 * all + 1 ≤ n → n / 2 < max 1 (24 * all + 1) → IsBoardFor p C
+pub board_for : (p : StormPlan) (all n C : ℕ) → all ≡ all_commands p → C ≡ max n 256 → IsPowerOfTwo n → 24 * all + 1 ≤ n
+    → n / 2 < max 1 (24 * all + 1) → IsBoardFor p C
 board_for p all n C all_is C_is power low up = elim (cases_lt n 256) as (λ _. IsBoardFor p C) [
   | inl small ↦
       let same : C ≡ 256 = omega arith in
       record { power = (8, same); least = omega arith; room = omega arith; tight = inl same }
   | inr great ↦
       let same : C ≡ n = omega arith in
-      record { power = subst IsPowerOfTwo (sym same) power; least = omega arith; room = omega arith; tight = inr (omega arith) }
+      record {
+        power = subst IsPowerOfTwo (sym same) power;
+        least = omega arith;
+        room = omega arith;
+        tight =
+            inr (omega arith);
+      }
 ]

@@ -15,7 +15,7 @@ use Rattle.ring_conductor.specs.declared.client.SendFault.{SendFault}
 use Rattle.ring_conductor.specs.declared.client.SendFault.TheVariants as fault
 use Rattle.ring_conductor.specs.declared.client.request.Request.{Request}
 use Rattle.ring_conductor.specs.Asking.{asked, IsHeard, IsSendable, RefusesAs, SendsAs}
-use Rattle.ring_conductor.specs.Command.{Instruction, spelling_of, type_id_of}
+use Rattle.ring_protocol.specs.Command.{Instruction, spelling_of, type_id_of}
 use Rattle.ring_conductor.specs.Turns.{Adds, AreAnswered, Lengthens, Turns}
 
 -- Longer lists -------------------------------------------------------------------
@@ -28,7 +28,8 @@ longer a b c one two = (one.0 ++ two.0, two.1 ∙ (ap (λ l. l ++ two.0) one.1 �
 
 -- Sending ------------------------------------------------------------------------
 
-written : (C : ℕ) (c : Instruction) (v w : View) → Writes C (type_id_of c) (spelling_of c) v w → Adds c v.producer.claims w.producer.claims
+written : (C : ℕ) (c : Instruction) (v w : View) → Writes C (type_id_of c) (spelling_of c) v w
+    → Adds c v.producer.claims w.producer.claims
 written C c v w h = record {
   claim = record_behind C h.tail (type_id_of c) (spelling_of c);
   added = ap (λ (u : View). u.producer.claims) h.view;
@@ -36,7 +37,8 @@ written C c v w h = record {
   committed = refl;
 }
 
-refused : (C : ℕ) (c : Instruction) (v : View) (f : TryFault) (w : View) → RefusesTry C (type_id_of c) (length (spelling_of c)) v f w → w.producer.claims ≡ v.producer.claims
+refused : (C : ℕ) (c : Instruction) (v : View) (f : TryFault) (w : View)
+    → RefusesTry C (type_id_of c) (length (spelling_of c)) v f w → w.producer.claims ≡ v.producer.claims
 refused C c v (Refused f) w (inl h) = ap (λ (u : View). u.producer.claims) h.1
 refused C c v (Refused f) w (inr (inl h)) = ap (λ (u : View). u.producer.claims) h.view
 refused C c v (Refused f) w (inr (inr h)) = ap (λ (u : View). u.producer.claims) h.view
@@ -44,26 +46,33 @@ refused C c v (Contended tail seen) w h = ap (λ (u : View). u.producer.claims) 
 
 module _ {T : Type 0} (C id : ℕ) (r : Request) (v w : View) where
   -- a try adds the command where it succeeds
-  adds : (result : Result T SendFault) → OnOk result (IsSendable r × SendsAs C id r v w) → OnTrue (is_ok result) (Adds (asked r id) v.producer.claims w.producer.claims)
+  adds : (result : Result T SendFault) → OnOk result (IsSendable r × SendsAs C id r v w)
+      → OnTrue (is_ok result) (Adds (asked r id) v.producer.claims w.producer.claims)
   adds (Ok done) h = written C (asked r id) v w h.1
   adds (Err f) h = tt
 
   -- and nothing else
-  keeps : (result : Result T SendFault) → IfErr result (λ f. RefusesAs C id r v f w) → OnFalse (is_ok result) (w.producer.claims ≡ v.producer.claims)
+  keeps : (result : Result T SendFault) → IfErr result (λ f. RefusesAs C id r v f w)
+      → OnFalse (is_ok result) (w.producer.claims ≡ v.producer.claims)
   keeps (Ok done) h = tt
   keeps (Err fault.TooLong) h = ap (λ (u : View). u.producer.claims) h.1
   keeps (Err (fault.Refused correlation reason)) h = refused C (asked r id) v reason w h.2
 
-  pub adds_where : (result : Result T SendFault) (b : Bool) → b ≡ is_ok result → OnOk result (IsSendable r × SendsAs C id r v w) → OnTrue b (Adds (asked r id) v.producer.claims w.producer.claims)
-  adds_where result b is h = subst (λ x. OnTrue x (Adds (asked r id) v.producer.claims w.producer.claims)) (sym is) (adds result h)
+  pub adds_where : (result : Result T SendFault) (b : Bool) → b ≡ is_ok result
+      → OnOk result (IsSendable r × SendsAs C id r v w)
+      → OnTrue b (Adds (asked r id) v.producer.claims w.producer.claims)
+  adds_where result b is h =
+      subst (λ x. OnTrue x (Adds (asked r id) v.producer.claims w.producer.claims)) (sym is) (adds result h)
 
-  pub keeps_where : (result : Result T SendFault) (b : Bool) → b ≡ is_ok result → IfErr result (λ f. RefusesAs C id r v f w) → OnFalse b (w.producer.claims ≡ v.producer.claims)
+  pub keeps_where : (result : Result T SendFault) (b : Bool) → b ≡ is_ok result
+      → IfErr result (λ f. RefusesAs C id r v f w) → OnFalse b (w.producer.claims ≡ v.producer.claims)
   keeps_where result b is h = subst (λ x. OnFalse x (w.producer.claims ≡ v.producer.claims)) (sym is) (keeps result h)
 
 -- Hearing ------------------------------------------------------------------------
 
 -- whatever is told, no copy is lost
-pub hears_more : (correlation : ℕ) (old new : Sat) (told : Polled) → IsHeard correlation old new told → Lengthens old.0.copies new.0.copies
+pub hears_more : (correlation : ℕ) (old new : Sat) (told : Polled) → IsHeard correlation old new told
+    → Lengthens old.0.copies new.0.copies
 hears_more correlation old new (Answered r) h = (_, ap (λ (m : Sat). m.0.copies) h.0.copied.1)
 hears_more correlation old new (Another r) h = (_, ap (λ (m : Sat). m.0.copies) h.0.copied.1)
 hears_more correlation old new NoReply h = (_, ap (λ (m : Sat). m.0.copies) h.copied.1)
@@ -73,26 +82,41 @@ hears_more correlation old new (Lapped l) h = ([], ap (λ (m : Sat). m.0.copies)
 -- Turns --------------------------------------------------------------------------
 
 -- what comes later does no harm
-pub still_answered : (client n : ℕ) (claims more_claims : List StagedClaim) (copies more_copies : List Taken) → Lengthens claims more_claims → Lengthens copies more_copies
+pub still_answered : (client n : ℕ) (claims more_claims : List StagedClaim) (copies more_copies : List Taken)
+    → Lengthens claims more_claims → Lengthens copies more_copies
     → AreAnswered client n claims copies → AreAnswered client n more_claims more_copies
 still_answered client zero claims more_claims copies more_copies c d h = tt
 still_answered client (suc n) claims more_claims copies more_copies c d h =
     (h.0, h.1, h.2, h.3, h.4, h.5, longer h.1 claims more_claims h.6 c, longer h.3 copies more_copies h.7 d)
 
 -- one more
-one_more : (client n number : ℕ) (claims more_claims : List StagedClaim) (copies more_copies : List Taken) → number ≡ n + 1 → Turns client number claims more_claims copies more_copies
+one_more : (client n number : ℕ) (claims more_claims : List StagedClaim) (copies more_copies : List Taken)
+    → number ≡ n + 1 → Turns client number claims more_claims copies more_copies
     → AreAnswered client n claims copies → AreAnswered client (n + 1) more_claims more_copies
 one_more client n number claims more_claims copies more_copies is turn h =
-    subst (λ k. AreAnswered client k more_claims more_copies) (sym (add-one n))
-    (claims, more_claims, copies, more_copies, h, subst (λ k. Turns client k claims more_claims copies more_copies) (is ∙ add-one n) turn, same_length more_claims, same_length more_copies)
+    subst (λ k. AreAnswered client k more_claims more_copies) (sym (add-one n)) (
+      claims,
+      more_claims,
+      copies,
+      more_copies,
+      h,
+      subst (λ k. Turns client k claims more_claims copies more_copies)
+          (is ∙ add-one n) turn,
+      same_length more_claims,
+      same_length more_copies,
+    )
 
-pub answered_as : (client other n m : ℕ) (claims : List StagedClaim) (copies : List Taken) → other ≡ client → m ≡ n → AreAnswered client n claims copies → AreAnswered other m claims copies
+pub answered_as : (client other n m : ℕ) (claims : List StagedClaim) (copies : List Taken) → other ≡ client → m ≡ n
+    → AreAnswered client n claims copies → AreAnswered other m claims copies
 answered_as client other n m claims copies same_client same h =
-    subst (λ k. AreAnswered k m claims copies) (sym same_client) (subst (λ k. AreAnswered client k claims copies) (sym same) h)
+    subst (λ k. AreAnswered k m claims copies) (sym same_client)
+    (subst (λ k. AreAnswered client k claims copies) (sym same) h)
 
 -- one more, of a client that is otherwise the same
-pub next_answered : (client other n m number : ℕ) (claims more_claims : List StagedClaim) (copies more_copies : List Taken) → other ≡ client → m ≡ n → number ≡ n + 1
-    → Turns client number claims more_claims copies more_copies → AreAnswered client n claims copies → AreAnswered other (m + 1) more_claims more_copies
+pub next_answered : (client other n m number : ℕ) (claims more_claims : List StagedClaim)
+    (copies more_copies : List Taken) → other ≡ client → m ≡ n → number ≡ n + 1
+    → Turns client number claims more_claims copies more_copies → AreAnswered client n claims copies
+    → AreAnswered other (m + 1) more_claims more_copies
 next_answered client other n m number claims more_claims copies more_copies same_client same is turn h =
     answered_as client other (n + 1) (m + 1) more_claims more_copies same_client (ap (λ k. k + 1) same)
     (one_more client n number claims more_claims copies more_copies is turn h)

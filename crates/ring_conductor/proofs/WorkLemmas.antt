@@ -25,7 +25,8 @@ module _ (limit : ℕ) (v w : View) (s t : Serving) (end : ReadEnd) where
   broke_off : Broke ActsOn limit v w s t end → ⊥
   broke_off broke =
       let ms = messages_of broke.reads.messages in
-      never_breaks s t ms broke.before (subst (λ actions. Handles ActsOn s ms actions t) broke.broke broke.reads.handled)
+      never_breaks s t ms broke.before
+      (subst (λ actions. Handles ActsOn s ms actions t) broke.broke broke.reads.handled)
 
   folds_on : (on : WentOn ActsOn limit v w s t end) → Folds s (messages_of on.reads.messages) t
   folds_on on = folded s t (messages_of on.reads.messages) on.reads.actions on.reads.handled on.went_on
@@ -33,7 +34,8 @@ module _ (limit : ℕ) (v w : View) (s t : Serving) (end : ReadEnd) where
   folds_off : (off : Aborts ActsOn limit v w s t end) → Folds s (messages_of off.reads.messages) t
   folds_off off =
       let ms = messages_of off.reads.messages in
-      left s off.before t off.message ms (folded s off.before ms off.reads.actions off.reads.handled off.went_on) off.aborted
+      left s off.before t off.message ms (folded s off.before ms off.reads.actions off.reads.handled off.went_on)
+      off.aborted
 
   -- the handler is the same afterwards
   pub stays : Controls ActsOn limit v w s t end → IsSameHandler s t
@@ -68,7 +70,8 @@ module _ (limit : ℕ) (v w : View) (s t : Serving) (end : ReadEnd) (done : Work
         stops = inl (record {
           bytes = end.bytes;
           moved = r.bytes;
-          stopped = r.stopped ∙ ap work_stop (on.stopped ∙ ap (λ n. stop_of w.capacity limit n w.consumer.head end.bytes) (sym r.messages));
+          stopped = r.stopped ∙ ap work_stop (on.stopped
+              ∙ ap (λ n. stop_of w.capacity limit n w.consumer.head end.bytes) (sym r.messages));
         });
         blocked = λ e. r.blocked (is_unpublished end.stopped (sym r.stopped ∙ e));
       }
@@ -108,7 +111,8 @@ module _ (now limit : ℕ) (v w : View) (l k : Ledger) (done : Work) (works : Wo
   pub took : (n : ℕ) → n ≡ length v.consumer.taken → n + done.messages ≡ length w.consumer.taken
   took n old =
       let counted = works.counted in
-      let all : length w.consumer.taken ≡ length v.consumer.taken + length works.messages = ap length works.received ∙ length-append v.consumer.taken works.messages in
+      let all : length w.consumer.taken ≡ length v.consumer.taken + length works.messages =
+      ap length works.received ∙ length-append v.consumer.taken works.messages in
       omega arith
 
   pub took_room : (n : ℕ) → 8 * n ≤ l.board.at → 8 * (n + done.messages) ≤ k.board.at

@@ -11,8 +11,8 @@ use Rattle.ring_counters.specs.declared.values.rule.ValueWrite.{ValueWrite}
 use Rattle.ring_counters.specs.declared.manager.CountersManager.{CountersManager}
 use Rattle.ring_counters.specs.Registry.{Registry, count_of, fresh_registry}
 use Rattle.ring_counters.specs.Manager.{registry_of, writes_of}
-use Rattle.ring_conductor.specs.declared.protocol.reply.Reply.{Reply}
-use Rattle.ring_conductor.specs.Reply.{type_id_of, spelling_of}
+use Rattle.ring_protocol.specs.declared.reply.Reply.{Reply}
+use Rattle.ring_protocol.specs.Reply.{type_id_of, spelling_of}
 use Rattle.ring_conductor.specs.Applied.{applied}
 
 -- the counters, all value writes, and the replies as messages
@@ -50,13 +50,17 @@ abbrev pub messages_in : List Record → List Message
 messages_in [] = []
 messages_in (r ∷ rs) = r.message ∷ messages_in rs
 
--- there are moments, one for each message, such that the messages make these of as many fresh counters, with this reuse timeout
-pub record IsFoldOf (messages : List Message) (registry : Registry) (writes : List ValueWrite) (replies : List Message) : Type 0 where
+-- there are moments, one for each message, such that the messages make these of as many fresh counters, with this reuse
+-- timeout
+pub record IsFoldOf (messages : List Message) (registry : Registry) (writes : List ValueWrite)
+    (replies : List Message) : Type 0 where
   pub timed : List (ℕ × Message)
   pub each : untimed timed ≡ messages
   pub moments : All (λ p. p.0 ≤ 2 ^ 62) timed
-  pub folded : account_of (fresh_account (count_of registry) registry.reuse_ms) timed ≡ record { registry = registry; writes = writes; replies = replies }
+  pub folded : account_of (fresh_account (count_of registry) registry.reuse_ms) timed
+      ≡ record { registry = registry; writes = writes; replies = replies }
 
 -- what was taken makes of fresh counters these counters, and the transmitted list
 abbrev pub HasFold : Consumer → CountersManager → Transmitter → Type 0
-HasFold consumer counters transmitter = IsFoldOf (messages_of (taken_of consumer)) (registry_of counters) (writes_of counters) (messages_in (transmitted transmitter))
+HasFold consumer counters transmitter = IsFoldOf (messages_of (taken_of consumer)) (registry_of counters)
+    (writes_of counters) (messages_in (transmitted transmitter))

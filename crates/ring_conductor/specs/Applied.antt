@@ -7,12 +7,12 @@ use Rattle.ring_counters.specs.declared.fault.IdFault.{IdFault}
 use Rattle.ring_counters.specs.Counter.{Counter}
 use Rattle.ring_counters.specs.Registry.{Registry, new_counter, allocation_of, allocated_in, id_refusal_of, reclaimed_in, with_value, owned_ids, closed_in}
 use Rattle.ring_counters.specs.Views.{value_write}
-use Rattle.ring_conductor.specs.declared.protocol.fault.Bad.{Bad}
-use Rattle.ring_conductor.specs.declared.protocol.reply.Reply.{Reply}
-use Rattle.ring_conductor.specs.declared.protocol.reply.Reply.TheVariants.{Allocated, Done, Refused, Closed}
-use Rattle.ring_conductor.specs.Command.{Instruction, Allocate, Free, Set, AllocateOwned, Close}
-use Rattle.ring_conductor.specs.Reading.{command_of}
-use Rattle.ring_conductor.specs.Codes.{allocate_code, id_code, bad_code, bad_correlation, bad_owner_code}
+use Rattle.ring_protocol.specs.declared.fault.Bad.{Bad}
+use Rattle.ring_protocol.specs.declared.reply.Reply.{Reply}
+use Rattle.ring_protocol.specs.declared.reply.Reply.TheVariants.{Allocated, Done, Refused, Closed}
+use Rattle.ring_protocol.specs.Command.{Instruction, Allocate, Free, Set, AllocateOwned, Close}
+use Rattle.ring_protocol.specs.Reading.{command_of}
+use Rattle.ring_protocol.specs.Codes.{allocate_code, id_code, bad_code, bad_correlation, bad_owner_code}
 
 -- the counters afterwards, the values that were written, and the reply
 pub record Outcome : Type 0 where
@@ -26,7 +26,8 @@ refused r correlation code = record { registry = r; writes = []; reply = Refused
 
 -- a counter gets this id, or none
 abbrev pub allocated : Registry → ℕ → Counter → Result ℕ AllocateRefused → Outcome
-allocated r correlation c (Ok id) = record { registry = allocated_in r id c; writes = value_write id (pos 0) ∷ []; reply = Allocated correlation id }
+allocated r correlation c (Ok id) =
+    record { registry = allocated_in r id c; writes = value_write id (pos 0) ∷ []; reply = Allocated correlation id }
 allocated r correlation c (Err fault) = refused r correlation (allocate_code fault)
 
 -- the counters become these, unless there is a refusal
@@ -36,14 +37,21 @@ done_unless (Some fault) r correlation new writes = refused r correlation (id_co
 
 -- what a command does at a moment. The registration id of a counter is the correlation id of its command
 abbrev pub obeyed : ℕ → Registry → Instruction → Outcome
-obeyed now r (Allocate correlation type_id key label) = allocated r correlation (new_counter type_id key label correlation 0) (allocation_of r now key label)
+obeyed now r (Allocate correlation type_id key label) =
+    allocated r correlation (new_counter type_id key label correlation 0) (allocation_of r now key label)
 obeyed now r (AllocateOwned correlation type_id owner key label) =
     allocated r correlation (new_counter type_id key label correlation owner) (allocation_of r now key label)
 obeyed now r (Free correlation id) = done_unless (id_refusal_of r id) r correlation (reclaimed_in r now id) []
-obeyed now r (Set correlation id value) = done_unless (id_refusal_of r id) r correlation (with_value r id value) (value_write id value ∷ [])
+obeyed now r (Set correlation id value) =
+    done_unless (id_refusal_of r id) r correlation (with_value r id value) (value_write id value ∷ [])
 obeyed now r (Close correlation owner) =
     if owner == 0 then refused r correlation bad_owner_code
-    else record { registry = closed_in r now owner; writes = []; reply = Closed correlation (length (owned_ids r owner)) }
+    else record {
+      registry = closed_in r now owner;
+      writes = [];
+      reply =
+          Closed correlation (length (owned_ids r owner));
+    }
 
 -- what was read is obeyed; what can't be read is refused
 abbrev pub obeyed_if_read : ℕ → Registry → Result Instruction Bad → Outcome

@@ -10,7 +10,7 @@ use Rattle.ring_board.specs.declared.board.CopyReceiver.{CopyReceiver}
 use Rattle.ring_board.specs.Receiving.{GotCopy, GotLapped, GotNothing}
 use Rattle.ring_board.specs.Seats.{receiver_seat}
 use Rattle.ring_board.specs.Steps.{Sat}
-use Rattle.ring_conductor.specs.declared.protocol.reply.Reply.{Reply}
+use Rattle.ring_protocol.specs.declared.reply.Reply.{Reply}
 use Rattle.ring_conductor.specs.declared.client.request.Request.{Request}
 use Rattle.ring_conductor.specs.declared.client.request.Request.TheVariants as of
 use Rattle.ring_conductor.specs.declared.client.Client.{Client}
@@ -18,9 +18,9 @@ use Rattle.ring_conductor.specs.declared.client.Polled.{Polled}
 use Rattle.ring_conductor.specs.declared.client.Polled.TheVariants.{Answered, Another, NoReply, Nothing, Lapped}
 use Rattle.ring_conductor.specs.declared.client.SendFault.{SendFault}
 use Rattle.ring_conductor.specs.declared.client.SendFault.TheVariants.{TooLong, Refused}
-use Rattle.ring_conductor.specs.Command.{Instruction, Allocate, Free, Set, AllocateOwned, Close, HasShortTexts, spelling_of, type_id_of}
-use Rattle.ring_conductor.specs.Reading.{reply_of}
-use Rattle.ring_conductor.specs.Reply as reply
+use Rattle.ring_protocol.specs.Command.{Instruction, Allocate, Free, Set, AllocateOwned, Close, HasShortTexts, spelling_of, type_id_of}
+use Rattle.ring_protocol.specs.Reading.{reply_of}
+use Rattle.ring_protocol.specs.Reply as reply
 
 abbrev pub producer_of : Client → Producer
 producer_of c = c.producer
@@ -53,13 +53,15 @@ pub record IsSendable (r : Request) : Type 0 where
 
 -- the command with this correlation id is one committed claim more
 abbrev pub SendsAs : ℕ → ℕ → Request → View → View → Type 0
-SendsAs C correlation request v w = let command = asked request correlation in Writes C (type_id_of command) (spelling_of command) v w
+SendsAs C correlation request v w =
+    let command = asked request correlation in Writes C (type_id_of command) (spelling_of command) v w
 
 -- nothing was written: the command is too long, or the ring refused it
 abbrev pub RefusesAs : ℕ → ℕ → Request → View → SendFault → View → Type 0
 RefusesAs C correlation request v TooLong w = (IsSendable request → ⊥) × (w ≡ v)
 RefusesAs C correlation request v (Refused id reason) w =
-    let command = asked request correlation in IsSendable request × (id ≡ correlation) × RefusesTry C (type_id_of command) (length (spelling_of command)) v reason w
+    let command = asked request correlation in IsSendable request × (id ≡ correlation)
+    × RefusesTry C (type_id_of command) (length (spelling_of command)) v reason w
 
 -- an id was drawn, and the command with that correlation id is one committed claim more
 pub record Sends (C : ℕ) (request : Request) (v : View) (correlation : ℕ) (w : View) : Type 0 where
@@ -68,7 +70,8 @@ pub record Sends (C : ℕ) (request : Request) (v : View) (correlation : ℕ) (w
   pub sent : SendsAs C correlation request between w
 
 -- an id was drawn, and the ring refused the command with that correlation id
-pub record RefusesDrawn (C : ℕ) (request : Request) (v : View) (correlation : ℕ) (reason : TryFault) (w : View) : Type 0 where
+pub record RefusesDrawn (C : ℕ) (request : Request) (v : View) (correlation : ℕ) (reason : TryFault)
+    (w : View) : Type 0 where
   pub between : View
   pub draws : DrawsId v correlation between
   pub refused : RefusesAs C correlation request between (Refused correlation reason) w

@@ -44,9 +44,11 @@ ledger_of c = record { registry = registry_of c.counters; writes = writes_of c.c
 abbrev pub value_shares_of : Conductor → ℕ
 value_shares_of c = shares_of c.counters
 
--- the conductor reads this ring, whose consumer is known by `is_consumer`, transmits on this board and writes these values
+-- the conductor reads this ring, whose consumer is known by `is_consumer`, transmits on this board and writes these
+-- values
 abbrev pub IsConductorOf : {R : Type 0} → (R → Consumer → Type 0) → R → Board → CounterValues → Conductor → Type 0
-IsConductorOf is_consumer ring board values c = is_consumer ring c.consumer × IsTransmitterOf board c.transmitter × IsManagerOf values c.counters
+IsConductorOf is_consumer ring board values c =
+    is_consumer ring c.consumer × IsTransmitterOf board c.transmitter × IsManagerOf values c.counters
 
 abbrev pub consumer_of : Conductor → Consumer
 consumer_of c = c.consumer
@@ -78,7 +80,8 @@ Begins old new = (more : List Record) × (new ≡ old ++ more)
 
 -- no counter was ever used, and no value written
 abbrev pub AreUnused : CountersManager → Type 0
-AreUnused counters = ((count : ℕ) × (reuse_ms : ℕ) × (registry_of counters ≡ fresh_registry count reuse_ms)) × (writes_of counters ≡ [])
+AreUnused counters =
+    ((count : ℕ) × (reuse_ms : ℕ) × (registry_of counters ≡ fresh_registry count reuse_ms)) × (writes_of counters ≡ [])
 
 -- how the stop of a read is told
 abbrev pub work_stop : Stop → WorkStop
@@ -102,7 +105,8 @@ pub record IsCutOff (limit : ℕ) (v w : View) (board : BoardView) (done : Work)
   pub before_end : v.consumer.head < w.consumer.head → w.consumer.head % w.capacity ≢ 0
   pub full : IsAtEnd board
 
--- messages were taken at a moment, and counters, value writes and replies are their fold: v and l are what the conductor
+-- messages were taken at a moment, and counters, value writes and replies are their fold: v and l are what the
+-- conductor
 -- knew of the ring, and its ledger, w and k the same afterwards. Each was taken where a reply of 12 bytes had room
 pub record Works (now limit : ℕ) (v w : View) (l k : Ledger) (done : Work) : Type 0 where
   pub messages : List PlacedMessage

@@ -48,9 +48,11 @@ abbrev pub HasBack : {R : Type 0} → R → Board → CounterValues → Conducto
 HasBack ring board values conductor producer r =
     (r.ring ≡ ring) × (r.board ≡ board) × (r.values ≡ values) × (r.conductor ≡ conductor) × (r.producer ≡ producer)
 
--- what was received, followed by what the rest has, is the committed messages of these claims, in the order of their places
+-- what was received, followed by what the rest has, is the committed messages of these claims, in the order of their
+-- places
 abbrev pub IsWhole : List StagedClaim → List PlacedMessage → Ring → Type 0
-IsWhole claims received rest = (h : List Claim) → Has rest h → messages_of received ++ committed_of h ≡ messages_of (placed_committed_of claims)
+IsWhole claims received rest =
+    (h : List Claim) → Has rest h → messages_of received ++ committed_of h ≡ messages_of (placed_committed_of claims)
 
 -- the replies that a conductor transmitted
 abbrev pub replies_of : Conductor → List Record

@@ -8,8 +8,8 @@ use Rattle.ring_board.specs.declared.shared.view.Taken.{Taken}
 use Rattle.ring_board.specs.declared.shared.view.View.{View}
 use Rattle.ring_board.specs.Seats.{next_record}
 use Rattle.ring_board.specs.Steps.{sent_on}
-use Rattle.ring_conductor.specs.declared.protocol.reply.Reply.{Reply}
-use Rattle.ring_conductor.specs.Reply.{type_id_of, spelling_of}
+use Rattle.ring_protocol.specs.declared.reply.Reply.{Reply}
+use Rattle.ring_protocol.specs.Reply.{type_id_of, spelling_of}
 use Rattle.ring_conductor.specs.Applied.{applied}
 
 -- the counters, all value writes, and what the transmitter knows: its list is the part `sent`
@@ -35,7 +35,8 @@ fold_of l (p ∷ ps) = fold_of (served l p.0 p.1) ps
 
 -- what the transmitter knows of its shares, and of the receivers that it took back, is this
 abbrev pub with_receivers : ℕ → ℕ → List Taken → List Joined → Ledger → Ledger
-with_receivers shares from copies heard l = record l { board = record l.board { shares = shares; from = from; copies = copies; heard = heard } }
+with_receivers shares from copies heard l =
+    record l { board = record l.board { shares = shares; from = from; copies = copies; heard = heard } }
 
 -- these messages, all at one moment
 abbrev pub at_moment : ℕ → List Message → List (ℕ × Message)

@@ -1,10 +1,3 @@
-pub mod Field
-pub mod Bad
-pub mod Command
-pub mod Reply
-pub mod Reading
-pub mod Writing
-pub mod Codes
 pub mod Applied
 pub mod Fold
 pub mod Account

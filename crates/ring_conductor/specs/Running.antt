@@ -11,11 +11,13 @@ use Rattle.ring_conductor.specs.Conducting.{Works}
 abbrev pub report : ℕ → WorkStop → Work
 report messages stopped = record { messages = messages; stopped = stopped }
 
--- A call for each cycle, up to one that came to the board's end. The report has the sum of the messages and the last stop, or
+-- A call for each cycle, up to one that came to the board's end. The report has the sum of the messages and the last
+-- stop, or
 -- `last` where there is no cycle
 abbrev pub Runs : List Cycle → WorkStop → View → View → Ledger → Ledger → Work → Type 0
 Runs [] last v w l k done = (w ≡ v) × (k ≡ l) × (done ≡ report 0 last)
 Runs (c ∷ cs) last v w l k done =
     (u : View) × (j : Ledger) × (first : Work) × Works c.now c.limit v u l j first
     × (((first.stopped ≡ BoardEnd) × (w ≡ u) × (k ≡ j) × (done ≡ first))
-    ⊎ ((first.stopped ≢ BoardEnd) × ((others : Work) × Runs cs first.stopped u w j k others × (done ≡ report (first.messages + others.messages) others.stopped))))
+    ⊎ ((first.stopped ≢ BoardEnd) × ((others : Work) × Runs cs first.stopped u w j k others
+    × (done ≡ report (first.messages + others.messages) others.stopped))))

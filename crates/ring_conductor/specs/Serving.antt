@@ -21,7 +21,12 @@ HaveRoom now l [] = Unit {0}
 HaveRoom now l (m ∷ ms) = (IsAtEnd l.board → ⊥) × HaveRoom now (served l now m) ms
 
 abbrev pub ledger_of : Serving → Ledger
-ledger_of s = record { registry = registry_of s.counters.now; writes = writes_of s.counters.now; board = view_of s.transmitter.now }
+ledger_of s = record {
+  registry = registry_of s.counters.now;
+  writes = writes_of s.counters.now;
+  board =
+      view_of s.transmitter.now;
+}
 
 -- transmitter and counters belong to the board and the values
 pub record IsReady (s : Serving) : Type 0 where
@@ -43,4 +48,5 @@ abbrev pub ActsOn : Serving → Message → Serving → Action → Type 0
 ActsOn s m t Abort = IsSameHandler s t × (ledger_of t ≡ ledger_of s) × IsAtEnd (ledger_of s).board
 ActsOn s m t Break = ⊥
 ActsOn s m t Commit = ⊥
-ActsOn s m t Continue = IsSameHandler s t × (ledger_of t ≡ served (ledger_of s) s.now m) × (IsAtEnd (ledger_of s).board → ⊥)
+ActsOn s m t Continue =
+    IsSameHandler s t × (ledger_of t ≡ served (ledger_of s) s.now m) × (IsAtEnd (ledger_of s).board → ⊥)

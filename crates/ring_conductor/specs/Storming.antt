@@ -77,7 +77,8 @@ sent_by p = length (claims_of p)
 
 -- a client at its seats
 abbrev pub IsClientOf : {K : Type 0} → Ring K → Board → StormClient → Type 0
-IsClientOf ring board c = IsClientSeat ring (producer_of c.client) × IsReceiverOf board (receiver_of c.client) × (c.index < 64)
+IsClientOf ring board c =
+    IsClientSeat ring (producer_of c.client) × IsReceiverOf board (receiver_of c.client) × (c.index < 64)
 
 -- it has sent no command, and was answered none
 abbrev pub IsNew : StormClient → Type 0
@@ -91,9 +92,11 @@ taken_by c = length (received_of c)
 abbrev pub HasCounters : StormPlan → Conductor → Type 0
 HasCounters p c = registry_of (counters_of c) ≡ storm_counters p (messages_of (received_of c))
 
--- producer and conductor belong to this ring, this board and these values, and the counters are those of the messages taken
+-- producer and conductor belong to this ring, this board and these values, and the counters are those of the messages
+-- taken
 abbrev pub IsHubOf : {K : Type 0} → StormPlan → Ring K → Board → CounterValues → Hub → Type 0
-IsHubOf p ring board values hub = IsProducerOf ring hub.producer × IsConductorOf IsConsumerOf ring board values hub.conductor × HasCounters p hub.conductor
+IsHubOf p ring board values hub = IsProducerOf ring hub.producer
+    × IsConductorOf IsConsumerOf ring board values hub.conductor × HasCounters p hub.conductor
 
 -- the same at what all threads share
 abbrev pub IsClientAt : {G : Type 0} → Shared G → StormClient → Type 0
@@ -117,7 +120,8 @@ pub record HasAll (hub : Hub) : Type 0 where
 
 -- The report -------------------------------------------------------------------
 
--- all commands were taken, none is left, and each client had all replies; the live counters, and the sum of their values,
+-- all commands were taken, none is left, and each client had all replies; the live counters, and the sum of their
+-- values,
 -- are those that messages, as many as were taken, make of fresh counters
 pub record IsReportOf (p : StormPlan) (r : StormReport) : Type 0 where
   pub received : r.received ≡ all_commands p

@@ -8,11 +8,11 @@ use Rattle.ring_table.specs.declared.claim.Stage.TheVariants.{Stored}
 use Rattle.ring_rings.specs.Seats.{claims_of}
 use Rattle.ring_board.specs.declared.shared.view.Taken.{Taken}
 use Rattle.ring_board.specs.Seats.{copies_of}
-use Rattle.ring_conductor.specs.declared.protocol.reply.Reply.{Reply}
+use Rattle.ring_protocol.specs.declared.reply.Reply.{Reply}
 use Rattle.ring_conductor.specs.declared.client.Client.{Client}
 use Rattle.ring_conductor.specs.Asking.{producer_of, receiver_of}
-use Rattle.ring_conductor.specs.Command.{Instruction, Allocate, Set, spelling_of, type_id_of}
-use Rattle.ring_conductor.specs.Reply as reply
+use Rattle.ring_protocol.specs.Command.{Instruction, Allocate, Set, spelling_of, type_id_of}
+use Rattle.ring_protocol.specs.Reply as reply
 
 -- the label of a client's counter: `c` and the client's number in decimal digits, without a leading zero
 abbrev pub label_of : ℕ → List ℕ
@@ -54,7 +54,8 @@ pub record IsAnswered (correlation : ℕ) (r : Reply) (old new : List Taken) : T
   pub answers : reply.correlation_id_of r ≡ correlation
 
 -- a client's command with this number was sent with some correlation id, and then a reply with that id came
-pub record Turns (client number : ℕ) (claims more_claims : List StagedClaim) (copies more_copies : List Taken) : Type 0 where
+pub record Turns (client number : ℕ) (claims more_claims : List StagedClaim)
+    (copies more_copies : List Taken) : Type 0 where
   pub correlation : ℕ
   pub counter : ℕ
   pub sent : Adds (turn_of client counter number correlation) claims more_claims
@@ -65,7 +66,8 @@ pub record Turns (client number : ℕ) (claims more_claims : List StagedClaim) (
 abbrev pub AreAnswered : ℕ → ℕ → List StagedClaim → List Taken → Type 0
 AreAnswered client zero claims copies = Unit {0}
 AreAnswered client (suc n) claims copies =
-    (claims_before : List StagedClaim) × (claims_after : List StagedClaim) × (copies_before : List Taken) × (copies_after : List Taken)
+    (claims_before : List StagedClaim) × (claims_after : List StagedClaim) × (copies_before : List Taken)
+    × (copies_after : List Taken)
     × AreAnswered client n claims_before copies_before
     × Turns client (suc n) claims_before claims_after copies_before copies_after
     × Lengthens claims_after claims × Lengthens copies_after copies

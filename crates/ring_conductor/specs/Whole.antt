@@ -17,9 +17,12 @@ use Rattle.ring_conductor.specs.declared.finishing.Finished.{Finished}
 use Rattle.ring_conductor.specs.Account.{account_of, fresh_account, messages_in}
 use Rattle.ring_conductor.specs.Fold.{at_moment}
 
--- Claims lie one behind the other from the ring's start on. What was received, some messages at the moment `early` and others
--- at the moment `late`, followed by what still lies in the ring, is their committed messages, each whole and once. What was
--- received makes of four fresh counters these counters, all value writes, and the replies, which the closed board has. What
+-- Claims lie one behind the other from the ring's start on. What was received, some messages at the moment `early` and
+-- others
+-- at the moment `late`, followed by what still lies in the ring, is their committed messages, each whole and once. What
+-- was
+-- received makes of four fresh counters these counters, all value writes, and the replies, which the closed board has.
+-- What
 -- each of the two listeners copied are runs of all replies
 pub record Concludes (early late : ℕ) (f : Finished) : Type 0 where
   pub claims : List StagedClaim
@@ -27,7 +30,8 @@ pub record Concludes (early late : ℕ) (f : Finished) : Type 0 where
   pub first : List Message
   pub others : List Message
   pub received : f.received ≡ length (first ++ others)
-  pub whole : (h : List Claim) → Has f.rest h → (first ++ others) ++ committed_of h ≡ messages_of (placed_committed_of claims)
+  pub whole : (h : List Claim) → Has f.rest h
+      → (first ++ others) ++ committed_of h ≡ messages_of (placed_committed_of claims)
   pub sent : List Record
   pub folded : account_of (fresh_account 4 50) (at_moment early first ++ at_moment late others)
       ≡ record { registry = registry_of f.counters; writes = writes_of f.counters; replies = messages_in sent }

@@ -4,9 +4,8 @@ ghost use Rattle.std.specs.Prelude.{◌≡◌, length};
 mod calls;
 pub(crate) mod request;
 
-use crate::protocol::command::LONGEST_COMMAND;
-use crate::protocol::reply::Reply;
 use ring_board::{CopyReceiver, Lapped};
+use ring_protocol::{LONGEST_COMMAND, Reply};
 use ring_rings::{Producer, TryFault};
 use thiserror::Error;
 

@@ -1,49 +1,10 @@
-//! What the grammar promises: each spelling is of one message, and what was encoded is decoded again.
-
-ghost use Rattle.std.specs.Prelude.{◌≡◌, ◌≤◌, ◌++◌, length, ℕ, ℤ, List, take, Some, Ok};
-ghost use Rattle.ring_conductor.specs.declared.protocol.reply.Reply.{Reply as AnyReply};
+//! What holds of the fold of commands.
+ghost use Rattle.std.specs.Prelude.{◌≡◌, ◌++◌, ℕ, List};
 ghost use Rattle.ring_layout.specs.declared.message.Message.{Message};
 ghost use Rattle.ring_board.specs.declared.shared.view.Joined.{Joined};
 ghost use Rattle.ring_board.specs.declared.shared.view.Taken.{Taken};
 ghost use Rattle.ring_conductor.specs.Conducting.{Begins};
 ghost use Rattle.ring_conductor.specs.Fold.{Ledger, fold_of, with_receivers};
-ghost use Rattle.ring_conductor.specs.Command.{Instruction, spelling_of, type_id_of, HasLawfulTexts, Spells};
-ghost use Rattle.ring_conductor.specs.Reply as reply;
-ghost use Rattle.ring_conductor.specs.Reading.{command_of, reply_of};
-ghost use Rattle.ring_conductor.specs.Writing.{Encodes, EncodesReply};
-
-/// A type id and a body together spell one command at most.
-pub fn one_command()
-    ensures { (type_id : ℤ) (body : List ℕ) (c d : Instruction)
-        → Spells type_id body c → Spells type_id body d → c ≡ d }
-{}
-
-/// A type id and a body together spell one reply at most.
-pub fn one_reply()
-    ensures { (type_id : ℤ) (body : List ℕ) (r s : AnyReply)
-        → reply.Spells type_id body r → reply.Spells type_id body s → r ≡ s }
-{}
-
-/// A command whose key and label a counter may have is spelled by at most `LONGEST_COMMAND` bytes.
-pub fn longest_command()
-    ensures { (c : Instruction) → HasLawfulTexts c → length (spelling_of c) ≤ 520 }
-{}
-
-/// A command that was encoded is decoded again, and the bytes of a command that was decoded are encoded again.
-pub fn command_round_trip()
-    ensures command { (c : Instruction) (old new : List ℕ) (n : ℕ) → Encodes c old new (Some n)
-        → command_of (type_id_of c) (take n new) ≡ Ok c }
-    ensures bytes { (type_id : ℤ) (body : List ℕ) (c : Instruction) (old new : List ℕ) (n : ℕ)
-        → Spells type_id body c → Encodes c old new (Some n) → take n new ≡ body }
-{}
-
-/// A reply that was encoded is decoded again, and the bytes of a reply that was decoded are encoded again.
-pub fn reply_round_trip()
-    ensures reply { (r : AnyReply) (old new : List ℕ) (n : ℕ) → EncodesReply r old new n
-        → reply_of (reply.type_id_of r) (take n new) ≡ Ok r }
-    ensures bytes { (type_id : ℤ) (body : List ℕ) (r : AnyReply) (old new : List ℕ) (n : ℕ)
-        → reply.Spells type_id body r → EncodesReply r old new n → take n new ≡ body }
-{}
 
 /// The fold of two lists of messages, one behind the other, is a fold of the second from where the first came to.
 pub fn fold_of_fold()

@@ -13,7 +13,6 @@ mod client;
 mod conductor;
 mod finishing;
 mod laws;
-mod protocol;
 mod storming;
 mod whole;
 
@@ -22,17 +21,11 @@ pub use client::{Client, Polled, SendFault};
 pub use conductor::{Conductor, Cycle, Work, WorkStop};
 pub use finishing::fault::{FinishFault, FinishRefused};
 pub use finishing::{Finished, finish};
-pub use laws::{
-    command_round_trip, fold_ignores_receivers, fold_lengthens, fold_of_fold, longest_command,
-    one_command, one_reply, reply_round_trip,
+pub use laws::{fold_ignores_receivers, fold_lengthens, fold_of_fold};
+pub use ring_protocol::{
+    Bad, Command, LONGEST_COMMAND, LONGEST_REPLY, RefusalCode, Reply, UnknownCode,
+    command_round_trip, command_type_ids, decode_command, decode_reply, encode_command,
+    encode_reply, longest_command, one_command, one_reply, reply_round_trip, reply_type_ids,
 };
-pub use protocol::codes::{RefusalCode, UnknownCode};
-pub use protocol::command::decode::decode_command;
-pub use protocol::command::encode::encode_command;
-pub use protocol::command::{Command, LONGEST_COMMAND, type_ids as command_type_ids};
-pub use protocol::fault::Bad;
-pub use protocol::reply::decode::decode_reply;
-pub use protocol::reply::encode::encode_reply;
-pub use protocol::reply::{LONGEST_REPLY, Reply, type_ids as reply_type_ids};
 pub use storming::{Gate, OpenGate, StormFault, StormPlan, StormReport, storm};
 pub use whole::whole_run;

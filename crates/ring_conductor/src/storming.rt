@@ -39,8 +39,8 @@ use std::thread::Threads;
 /// finishes, whatever came before.
 ///
 /// `BadPlan` comes where a number of the plan is not allowed, before anything is done, then `OutOfMemory` where memory
-/// is wanting, or a thread could not be started or was kept from it by the gate, and then `TurnsSpent` where a wait took
-/// as many turns as the plan allows. All threads have ended by then. It may wait.
+/// is wanting, or a thread could not be started or was kept from it by the gate, and then `TurnsSpent` where a wait
+/// took as many turns as the plan allows. All threads have ended by then. It may wait.
 pub fn storm<R: Threads + Wait, G: Gate + Sync>(
     rt: &R,
     alloc: Global,

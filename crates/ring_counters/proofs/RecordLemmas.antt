@@ -27,15 +27,18 @@ small_from_all bytes all j =
       | inr h ↦ omega (arith, get_or_past bytes j 0 h)
     ]
 
-byte_from_word : (bytes : List ℕ) → AreSmall bytes → (k : ℕ) → word_of_bytes bytes (k / 8) / 2 ^ (8 * (k % 8)) % 256 ≡ slice_index bytes k
+byte_from_word : (bytes : List ℕ) → AreSmall bytes → (k : ℕ)
+    → word_of_bytes bytes (k / 8) / 2 ^ (8 * (k % 8)) % 256 ≡ slice_index bytes k
 unfolding AreSmall
 byte_from_word bytes small k =
-    byte_of_word (drop (8 * (k / 8)) bytes) (λ j. let e = get_or-drop (8 * (k / 8)) bytes j 0 in omega (arith, e, small (8 * (k / 8) + j))) (k % 8) (omega arith)
+    byte_of_word (drop (8 * (k / 8)) bytes) (λ j. let e =
+    get_or-drop (8 * (k / 8)) bytes j 0 in omega (arith, e, small (8 * (k / 8) + j))) (k % 8) (omega arith)
     ∙ get_or-drop (8 * (k / 8)) bytes (k % 8) 0
     ∙ ap (slice_index bytes) (omega arith)
 
 -- a byte of the words is that of the bytes that they show from the word `at` on
-shown_byte : (words bytes : List ℕ) (at i k : ℕ) → AreSmall bytes → i ≡ 8 * at + k → slice_index words (at + k / 8) ≡ word_of_bytes bytes (k / 8) → byte_at words i ≡ slice_index bytes k
+shown_byte : (words bytes : List ℕ) (at i k : ℕ) → AreSmall bytes → i ≡ 8 * at + k
+    → slice_index words (at + k / 8) ≡ word_of_bytes bytes (k / 8) → byte_at words i ≡ slice_index bytes k
 shown_byte words bytes at i k small e shows =
     let word : i / 8 ≡ at + k / 8 = omega arith in
     let rest : i % 8 ≡ k % 8 = omega arith in
@@ -60,42 +63,63 @@ slice_index-padded n bytes i =
     ]
 
 -- a word depends on the bytes alone
-pub word_of-same : (xs ys : List ℕ) → ((i : ℕ) → slice_index xs i ≡ slice_index ys i) → (k : ℕ) → word_of_bytes xs k ≡ word_of_bytes ys k
+pub word_of-same : (xs ys : List ℕ) → ((i : ℕ) → slice_index xs i ≡ slice_index ys i) → (k : ℕ)
+    → word_of_bytes xs k ≡ word_of_bytes ys k
 word_of-same xs ys same k =
-    from_le_bytes-same (drop (8 * k) xs) (drop (8 * k) ys) (λ i h. get_or-drop (8 * k) xs i 0 ∙ same (8 * k + i) ∙ sym (get_or-drop (8 * k) ys i 0))
+    from_le_bytes-same (drop (8 * k) xs) (drop (8 * k) ys)
+    (λ i h. get_or-drop (8 * k) xs i 0 ∙ same (8 * k + i) ∙ sym (get_or-drop (8 * k) ys i 0))
 
 pub word_of-padded : (n : ℕ) (bytes : List ℕ) (k : ℕ) → word_of_bytes bytes k ≡ word_of_bytes (padded n bytes) k
 word_of-padded n bytes = word_of-same bytes (padded n bytes) (slice_index-padded n bytes)
 
 no_word : (k : ℕ) → word_of_bytes [] k ≡ 0
 no_word zero = refl
-no_word (suc k) = word_of-same [] [] (λ i. refl) (suc k) ∙ from_le_bytes-same (drop (8 * suc k) []) [] (λ i h. get_or-drop (8 * suc k) [] i 0)
+no_word (suc k) = word_of-same [] [] (λ i. refl) (suc k)
+    ∙ from_le_bytes-same (drop (8 * suc k) []) [] (λ i h. get_or-drop (8 * suc k) [] i 0)
 
 pub word_of-zeros : (bytes : List ℕ) → ((i : ℕ) → slice_index bytes i ≡ 0) → (k : ℕ) → word_of_bytes bytes k ≡ 0
 word_of-zeros bytes zeros k = word_of-same bytes [] zeros k ∙ no_word k
 
 -- behind the bytes the words are 0
 pub word_of-past : (bytes : List ℕ) (k : ℕ) → length bytes ≤ 8 * k → word_of_bytes bytes k ≡ 0
-word_of-past bytes k h = from_le_bytes-same (drop (8 * k) bytes) [] (λ i less. get_or-drop (8 * k) bytes i 0 ∙ get_or_past bytes (8 * k + i) 0 (omega arith))
+word_of-past bytes k h = from_le_bytes-same (drop (8 * k) bytes) []
+    (λ i less. get_or-drop (8 * k) bytes i 0 ∙ get_or_past bytes (8 * k + i) 0 (omega arith))
 
 -- ---- a label behind its length
 
 module _ (label : List ℕ) (short : length label ≤ 380) where
   -- its first 4 bytes stand in one word with its length
-  pub first_of_text : AreSmall label → from_le_bytes w64 label * 2 ^ 32 % 2 ^ 64 + length label ≡ word_of_bytes (label_text label) 0
+  pub first_of_text : AreSmall label → from_le_bytes w64 label * 2 ^ 32 % 2 ^ 64 + length label
+      ≡ word_of_bytes (label_text label) 0
   unfolding AreSmall
-  first_of_text small = omega (arith, from_le_bytes-to_le_bytes_4 (length label) (omega arith), small 0, small 1, small 2, small 3, small 4, small 5, small 6, small 7)
+  first_of_text small =
+      omega (
+        arith,
+        from_le_bytes-to_le_bytes_4 (length label)
+            (omega arith),
+        small 0,
+        small 1,
+        small 2,
+        small 3,
+        small 4,
+        small 5,
+        small 6,
+        small 7,
+      )
 
   -- the words behind it are those of the bytes from the fifth on
-  pub rest_of_text : (n k : ℕ) → n ≡ min (length label) 4 → word_of_bytes (drop n label) k ≡ word_of_bytes (label_text label) (suc k)
+  pub rest_of_text : (n k : ℕ) → n ≡ min (length label) 4
+      → word_of_bytes (drop n label) k ≡ word_of_bytes (label_text label) (suc k)
   rest_of_text n k is =
       from_le_bytes-same (drop (8 * k) (drop n label)) (drop (8 * suc k) (label_text label))
       (λ i h. get_or-drop (8 * k) (drop n label) i 0 ∙ get_or-drop n label (8 * k + i) 0 ∙ behind (8 * k + i)
-      ∙ (let at : suc (suc (suc (suc (4 + (8 * k + i))))) ≡ 8 * suc k + i = omega arith in ap (slice_index (label_text label)) at) ∙ sym (get_or-drop (8 * suc k) (label_text label) i 0))
+      ∙ (let at : suc (suc (suc (suc (4 + (8 * k + i))))) ≡ 8 * suc k + i =
+      omega arith in ap (slice_index (label_text label)) at) ∙ sym (get_or-drop (8 * suc k) (label_text label) i 0))
     where
       behind : (i : ℕ) → slice_index label (n + i) ≡ slice_index (label_text label) (suc (suc (suc (suc (4 + i)))))
       behind i =
-          elim (cases_lt (length label) 4) as (λ _. slice_index label (n + i) ≡ slice_index (label_text label) (suc (suc (suc (suc (4 + i)))))) [
+          elim (cases_lt (length label) 4) as (λ _. slice_index label (n + i)
+          ≡ slice_index (label_text label) (suc (suc (suc (suc (4 + i)))))) [
             | inl less ↦ get_or_past label (n + i) 0 (omega arith) ∙ sym (get_or_past label (4 + i) 0 (omega arith))
             | inr more ↦ ap (slice_index label) (omega arith)
           ]
@@ -107,11 +131,14 @@ state_fits Unused = record { sfits = omega arith }
 state_fits Allocated = record { sfits = omega arith }
 state_fits (Reclaimed d) = record { sfits = omega arith }
 
-low_of-state_word : (s : Status) (type_id : ℤ) → state_word (state_of s) type_id % 2 ^ 32 ≡ cast_unsigned w32 (state_of s)
-low_of-state_word s type_id = mod_low (cast_unsigned w32 type_id) 32 (cast_unsigned w32 (state_of s)) (pattern_below (state_of s) (state_fits s))
+low_of-state_word : (s : Status) (type_id : ℤ)
+    → state_word (state_of s) type_id % 2 ^ 32 ≡ cast_unsigned w32 (state_of s)
+low_of-state_word s type_id =
+    mod_low (cast_unsigned w32 type_id) 32 (cast_unsigned w32 (state_of s)) (pattern_below (state_of s) (state_fits s))
 
 high_of-state_word : (s : Status) (type_id : ℤ) → state_word (state_of s) type_id / 2 ^ 32 ≡ cast_unsigned w32 type_id
-high_of-state_word s type_id = shr_high (cast_unsigned w32 type_id) 32 (cast_unsigned w32 (state_of s)) (pattern_below (state_of s) (state_fits s))
+high_of-state_word s type_id = shr_high (cast_unsigned w32 type_id) 32 (cast_unsigned w32 (state_of s))
+    (pattern_below (state_of s) (state_fits s))
 
 status_from-state : (s : Status) → status_from (cast_unsigned w32 (state_of s)) (deadline_of s) ≡ s
 status_from-state Unused = refl
@@ -121,12 +148,15 @@ status_from-state (Reclaimed d) = refl
 pub metadata_word-key : (m : Metadata) (k : ℕ) → 2 ≤ k → k < 16 → metadata_word m k ≡ word_of_bytes m.key (k - 2)
 unfolding metadata_word
 metadata_word-key m k lo hi =
-    cond-false _ _ _ (ne_eqb k 0 (λ e. omega arith)) ∙ cond-false _ _ _ (ne_eqb k 1 (λ e. omega arith)) ∙ cond-true _ _ _ (lt-ltb k 16 hi)
+    cond-false _ _ _ (ne_eqb k 0 (λ e. omega arith)) ∙ cond-false _ _ _ (ne_eqb k 1 (λ e. omega arith))
+    ∙ cond-true _ _ _ (lt-ltb k 16 hi)
 
-pub metadata_word-label : (m : Metadata) (k : ℕ) → 16 ≤ k → metadata_word m k ≡ word_of_bytes (label_text m.label) (k - 16)
+pub metadata_word-label : (m : Metadata) (k : ℕ) → 16 ≤ k
+    → metadata_word m k ≡ word_of_bytes (label_text m.label) (k - 16)
 unfolding metadata_word
 metadata_word-label m k lo =
-    cond-false _ _ _ (ne_eqb k 0 (λ e. omega arith)) ∙ cond-false _ _ _ (ne_eqb k 1 (λ e. omega arith)) ∙ cond-false _ _ _ (le-ltb k 16 lo)
+    cond-false _ _ _ (ne_eqb k 0 (λ e. omega arith)) ∙ cond-false _ _ _ (ne_eqb k 1 (λ e. omega arith))
+    ∙ cond-false _ _ _ (le-ltb k 16 lo)
 
 module _ (words : List ℕ) (m : Metadata) (h : IsMetadata words m) where
   pub state_shown : slice_index words 0 ≡ state_word (state_of m.status) m.type_id
@@ -159,12 +189,14 @@ module _ (words : List ℕ) (m : Metadata) (h : IsMetadata words m) where
   key_byte k lt =
       let at : 2 + k / 8 - 2 ≡ k / 8 = omega arith in
       shown_byte words m.key 2 (16 + k) k (small_from_all m.key h.lawful.key) (omega arith)
-      (h.shows (2 + k / 8) (omega arith) ∙ metadata_word-key m (2 + k / 8) (omega arith) (omega arith) ∙ ap (word_of_bytes m.key) at)
+      (h.shows (2 + k / 8) (omega arith) ∙ metadata_word-key m (2 + k / 8) (omega arith) (omega arith)
+      ∙ ap (word_of_bytes m.key) at)
 
   text_word : (k : ℕ) → k < 48 → slice_index words (16 + k) ≡ word_of_bytes (label_text m.label) k
   text_word k lt =
       let at : 16 + k - 16 ≡ k = omega arith in
-      h.shows (16 + k) (omega arith) ∙ metadata_word-label m (16 + k) (omega arith) ∙ ap (word_of_bytes (label_text m.label)) at
+      h.shows (16 + k) (omega arith) ∙ metadata_word-label m (16 + k) (omega arith)
+      ∙ ap (word_of_bytes (label_text m.label)) at
 
   text_small : AreSmall (label_text m.label)
   unfolding AreSmall
@@ -175,7 +207,8 @@ module _ (words : List ℕ) (m : Metadata) (h : IsMetadata words m) where
   text_small (suc (suc (suc (suc j)))) = small_from_all m.label h.lawful.label j
 
   pub label_byte : (k : ℕ) → k < 380 → byte_at words (132 + k) ≡ slice_index m.label k
-  label_byte k lt = shown_byte words (label_text m.label) 16 (132 + k) (suc (suc (suc (suc k)))) text_small (omega arith) (text_word (suc (suc (suc (suc k))) / 8) (omega arith))
+  label_byte k lt = shown_byte words (label_text m.label) 16 (132 + k) (suc (suc (suc (suc k)))) text_small
+      (omega arith) (text_word (suc (suc (suc (suc k))) / 8) (omega arith))
 
   pub length_decoded : slice_index words 16 % 2 ^ 32 ≡ length m.label
   length_decoded =
@@ -187,7 +220,8 @@ module _ (words : List ℕ) (m : Metadata) (h : IsMetadata words m) where
   unfolding metadata_of
   metadata_decoded =
       let key : bytes_at words 16 112 ≡ m.key =
-      ext_get_or 0 (bytes_at words 16 112) m.key (length-map-range_with_len (byte_at words) 16 112 ∙ sym h.lawful.key_length)
+      ext_get_or 0 (bytes_at words 16 112) m.key
+      (length-map-range_with_len (byte_at words) 16 112 ∙ sym h.lawful.key_length)
       (λ k lt. let lt' : k < 112 = omega (arith, length-map-range_with_len (byte_at words) 16 112) in
       get_or-map-range_with_len (byte_at words) 16 112 k (16 + k) 0 lt' refl ∙ key_byte k lt') in
       let n = length m.label in
@@ -236,7 +270,8 @@ signed w z y e f = ap (λ x. cast_signed w (cast_unsigned w x)) e ∙ to_z-of_z 
 
 -- ---- words that a call stores
 
-shows_from : (words : List ℕ) (m : Metadata) → slice_index words 0 ≡ state_word (state_of m.status) m.type_id → slice_index words 1 ≡ deadline_of m.status
+shows_from : (words : List ℕ) (m : Metadata) → slice_index words 0 ≡ state_word (state_of m.status) m.type_id
+    → slice_index words 1 ≡ deadline_of m.status
     → ((k : ℕ) → 2 ≤ k → k < 16 → slice_index words k ≡ word_of_bytes m.key (k - 2))
     → ((k : ℕ) → 16 ≤ k → k < 64 → slice_index words k ≡ word_of_bytes (label_text m.label) (k - 16))
     → (k : ℕ) → k < 64 → slice_index words k ≡ metadata_word m k
@@ -266,11 +301,14 @@ unused_metadata_shown = record {
 value_word-past : (v : Values) (k : ℕ) → 3 ≤ k → value_word v k ≡ 0
 unfolding value_word
 value_word-past v k h =
-    cond-false _ _ _ (ne_eqb k 0 (λ e. omega arith)) ∙ cond-false _ _ _ (ne_eqb k 1 (λ e. omega arith)) ∙ cond-false _ _ _ (ne_eqb k 2 (λ e. omega arith))
+    cond-false _ _ _ (ne_eqb k 0 (λ e. omega arith)) ∙ cond-false _ _ _ (ne_eqb k 1 (λ e. omega arith))
+    ∙ cond-false _ _ _ (ne_eqb k 2 (λ e. omega arith))
 
-value_word-same : (v : Values) (value : ℤ) (k : ℕ) → value_word (record v { value = value }) (suc k) ≡ value_word v (suc k)
+value_word-same : (v : Values) (value : ℤ) (k : ℕ)
+    → value_word (record v { value = value }) (suc k) ≡ value_word v (suc k)
 unfolding value_word
-value_word-same v value k = cond-false _ _ _ (ne_eqb (suc k) 0 (λ e. omega arith)) ∙ sym (cond-false _ _ _ (ne_eqb (suc k) 0 (λ e. omega arith)))
+value_word-same v value k = cond-false _ _ _ (ne_eqb (suc k) 0 (λ e. omega arith))
+    ∙ sym (cond-false _ _ _ (ne_eqb (suc k) 0 (λ e. omega arith)))
 
 pub unused_values_shown : IsValues (replicate 16 0) unused_values
 unfolding value_word
@@ -283,22 +321,33 @@ unused_values_shown = record { value = record { sfits = omega arith }; shows = �
     none (suc (suc (suc k))) = value_word-past unused_values (suc (suc (suc k))) (omega arith)
 
 -- a record after its state and its deadline were stored
-pub reclaimed_shown : (words : List ℕ) (m : Metadata) (state deadline : ℕ) → IsMetadata words m → length words ≡ 64 → state ≡ state_word (negsuc 0) m.type_id
+pub reclaimed_shown : (words : List ℕ) (m : Metadata) (state deadline : ℕ) → IsMetadata words m → length words ≡ 64
+    → state ≡ state_word (negsuc 0) m.type_id
     → IsMetadata (set (set words 0 state) 1 deadline) (record m { status = Reclaimed deadline })
 reclaimed_shown words m state deadline h len is = record {
-  lawful = record { type_id = h.lawful.type_id; key_length = h.lawful.key_length; key = h.lawful.key; label_length = h.lawful.label_length; label = h.lawful.label };
+  lawful = record {
+    type_id = h.lawful.type_id;
+    key_length = h.lawful.key_length;
+    key = h.lawful.key;
+    label_length =
+        h.lawful.label_length;
+    label = h.lawful.label;
+  };
   shows =
       let first : (k : ℕ) → 2 ≤ k → slice_index (set (set words 0 state) 1 deadline) k ≡ slice_index words k =
-      λ k lo. get_or-set_other (set words 0 state) 1 k deadline 0 (λ e. omega arith) ∙ get_or-set_other words 0 k state 0 (λ e. omega arith) in
+      λ k lo. get_or-set_other (set words 0 state) 1 k deadline 0 (λ e. omega arith)
+      ∙ get_or-set_other words 0 k state 0 (λ e. omega arith) in
       shows_from (set (set words 0 state) 1 deadline) (record m { status = Reclaimed deadline })
-      (get_or-set_other (set words 0 state) 1 0 deadline 0 (λ e. omega arith) ∙ get_or-set_same words 0 state 0 (omega arith) ∙ is)
+      (get_or-set_other (set words 0 state) 1 0 deadline 0 (λ e. omega arith)
+      ∙ get_or-set_same words 0 state 0 (omega arith) ∙ is)
       (get_or-set_same (set words 0 state) 1 deadline 0 (omega (arith, length-set {A = ℕ})))
       (λ k lo hi. first k lo ∙ h.shows k (omega arith) ∙ metadata_word-key m k lo hi)
       (λ k lo hi. first k (omega arith) ∙ h.shows k hi ∙ metadata_word-label m k lo);
 }
 
 -- a record of zeros after all of an allocated counter was stored
-pub allocated_shown : (type_id : ℤ) (key label w0 w1 w2 : List ℕ) (state : ℕ) → FitsSigned w32 type_id → AreSmall key → AreSmall label → length key ≤ 112 → length label ≤ 380
+pub allocated_shown : (type_id : ℤ) (key label w0 w1 w2 : List ℕ) (state : ℕ) → FitsSigned w32 type_id → AreSmall key
+    → AreSmall label → length key ≤ 112 → length label ≤ 380
     → state ≡ state_word (pos 1) type_id
     → w0 ≡ set (set (replicate 64 0) 0 state) 1 (2 ^ 63 - 1)
     → ((k : ℕ) → 8 * k < length key → slice_index w1 (2 + k) ≡ word_of_bytes key k)
@@ -309,13 +358,20 @@ pub allocated_shown : (type_id : ℤ) (key label w0 w1 w2 : List ℕ) (state : �
     → ((i : ℕ) → 16 + (length label + 11) / 8 ≤ i → slice_index w2 i ≡ slice_index w1 i)
     → IsMetadata w2 record { status = Allocated; type_id = type_id; key = padded 112 key; label = label }
 unfolding AreSmall
-allocated_shown type_id key label w0 w1 w2 state fits small_key small_label few_key few_label is_state is_w0 inside below above text_inside text_below text_above =
+allocated_shown type_id key label w0 w1 w2 state fits small_key small_label few_key few_label is_state is_w0 inside
+    below above text_inside text_below text_above =
     let m : Metadata = record { status = Allocated; type_id = type_id; key = padded 112 key; label = label } in
     record {
       lawful = record {
         type_id = fits;
-        key_length = omega (arith, length-append key (replicate (112 - length key) 0), length-replicate {A = ℕ} (112 - length key) 0);
-        key = All-from_get_or (λ (b : ℕ). b < 256) (padded 112 key) 0 (λ i h. omega (arith, slice_index-padded 112 key i, small_key i));
+        key_length = omega (
+          arith,
+          length-append key (replicate (112 - length key) 0),
+          length-replicate {A = ℕ}
+              (112 - length key) 0,
+        );
+        key = All-from_get_or (λ (b : ℕ). b < 256) (padded 112 key) 0
+            (λ i h. omega (arith, slice_index-padded 112 key i, small_key i));
         label_length = few_label;
         label = All-from_get_or (λ (b : ℕ). b < 256) label 0 (λ i h. small_label i);
       };
@@ -342,26 +398,36 @@ allocated_shown type_id key label w0 w1 w2 state fits small_key small_label few_
 
     label_word : (k : ℕ) → 16 ≤ k → slice_index w2 k ≡ word_of_bytes (label_text label) (k - 16)
     label_word k lo =
-        elim (cases_lt (8 * (k - 16)) (length label + 4)) as (λ _. slice_index w2 k ≡ word_of_bytes (label_text label) (k - 16)) [
-          | inl less ↦ (let at : 16 + (k - 16) ≡ k = omega arith in sym (ap (slice_index w2) at) ∙ text_inside (k - 16) less)
-          | inr more ↦ text_above k (omega arith) ∙ above k (omega arith) ∙ blank k (omega arith) ∙ sym (word_of-past (label_text label) (k - 16) (omega arith))
+        elim (cases_lt (8 * (k - 16)) (length label + 4)) as (λ _. slice_index w2 k
+        ≡ word_of_bytes (label_text label) (k - 16)) [
+          | inl less ↦ (let at : 16 + (k - 16) ≡ k = omega arith in sym (ap (slice_index w2) at)
+              ∙ text_inside (k - 16) less)
+          | inr more ↦ text_above k (omega arith) ∙ above k (omega arith) ∙ blank k (omega arith)
+              ∙ sym (word_of-past (label_text label) (k - 16) (omega arith))
         ]
 
-pub allocated_values_shown : (registration owner : ℕ) → IsValues (set (set (replicate 16 0) 1 registration) 2 owner) record { value = pos 0; registration = registration; owner = owner }
+pub allocated_values_shown : (registration owner : ℕ)
+    → IsValues (set (set (replicate 16 0) 1 registration) 2 owner)
+    record { value = pos 0; registration = registration; owner = owner }
 unfolding value_word
 allocated_values_shown registration owner = record { value = record { sfits = omega arith }; shows = λ k h. shown k }
   where
-    shown : (k : ℕ) → slice_index (set (set (replicate 16 0) 1 registration) 2 owner) k ≡ value_word (record { value = pos 0; registration = registration; owner = owner }) k
+    shown : (k : ℕ) → slice_index (set (set (replicate 16 0) 1 registration) 2 owner) k
+        ≡ value_word (record { value = pos 0; registration = registration; owner = owner }) k
     shown zero = refl
     shown (suc zero) = refl
     shown (suc (suc zero)) = refl
-    shown (suc (suc (suc k))) = zero_past 13 k ∙ sym (value_word-past (record { value = pos 0; registration = registration; owner = owner }) (suc (suc (suc k))) (omega arith))
+    shown (suc (suc (suc k))) = zero_past 13 k
+        ∙ sym (value_word-past (record { value = pos 0; registration = registration; owner = owner })
+        (suc (suc (suc k))) (omega arith))
 
-pub set_values_shown : (words : List ℕ) (v : Values) (value : ℤ) (bits : ℕ) → IsValues words v → length words ≡ 16 → FitsSigned w64 value → bits ≡ cast_unsigned w64 value
+pub set_values_shown : (words : List ℕ) (v : Values) (value : ℤ) (bits : ℕ) → IsValues words v → length words ≡ 16
+    → FitsSigned w64 value → bits ≡ cast_unsigned w64 value
     → IsValues (set words 0 bits) (record v { value = value })
 unfolding value_word
 set_values_shown words v value bits h len fits is = record { value = fits; shows = shown }
   where
     shown : (k : ℕ) → k < 16 → slice_index (set words 0 bits) k ≡ value_word (record v { value = value }) k
     shown zero less = get_or-set_same words 0 bits 0 (omega arith) ∙ is
-    shown (suc k) less = get_or-set_other words 0 (suc k) bits 0 (λ e. omega arith) ∙ h.shows (suc k) less ∙ sym (value_word-same v value k)
+    shown (suc k) less = get_or-set_other words 0 (suc k) bits 0 (λ e. omega arith) ∙ h.shows (suc k) less
+        ∙ sym (value_word-same v value k)

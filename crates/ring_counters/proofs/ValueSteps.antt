@@ -18,12 +18,14 @@ use Rattle.ring_counters.specs.ValuesRule.{all_shares, Fits, ValuesRule, Loads, 
 
 -- ---- values after writes
 
-value_from-snoc : (before : ℤ) (id : ℕ) (ws : List ValueWrite) (w : ValueWrite) → value_from before id (ws ++ w ∷ []) ≡ cond (eqb w.id id) w.value (value_from before id ws)
+value_from-snoc : (before : ℤ) (id : ℕ) (ws : List ValueWrite) (w : ValueWrite)
+    → value_from before id (ws ++ w ∷ []) ≡ cond (eqb w.id id) w.value (value_from before id ws)
 value_from-snoc before id [] w = refl
 value_from-snoc before id (x ∷ ws) w = value_from-snoc (cond (eqb x.id id) x.value before) id ws w
 
 -- one more write changes the value of its id and of no other
-pub value_after-snoc : (id : ℕ) (ws : List ValueWrite) (w : ValueWrite) → value_after id (ws ++ w ∷ []) ≡ cond (eqb w.id id) w.value (value_after id ws)
+pub value_after-snoc : (id : ℕ) (ws : List ValueWrite) (w : ValueWrite)
+    → value_after id (ws ++ w ∷ []) ≡ cond (eqb w.id id) w.value (value_after id ws)
 value_after-snoc id ws w = value_from-snoc (pos 0) id ws w
 
 longer : (xs ys : List ValueWrite) (w : ValueWrite) → Begins xs ys → Begins xs (ys ++ w ∷ [])
@@ -35,29 +37,35 @@ same_as xs ys e = ([], sym e ∙ sym (append-nil xs))
 from_none : (ys : List ValueWrite) → Begins [] ys
 from_none ys = (ys, refl)
 
-loads_longer : (made : List ValueWrite) (ls : List ValueLoad) (all : List ValueWrite) (w : ValueWrite) → AreLoads made ls all → AreLoads made ls (all ++ w ∷ [])
+loads_longer : (made : List ValueWrite) (ls : List ValueLoad) (all : List ValueWrite) (w : ValueWrite)
+    → AreLoads made ls all → AreLoads made ls (all ++ w ∷ [])
 loads_longer made [] all w h = longer made all w h
 loads_longer made (l ∷ ls) all w h = (h.0, h.1, loads_longer l.after ls all w h.2)
 
 -- one more load, after all writes
-loads_snoc : (made : List ValueWrite) (ls : List ValueLoad) (all : List ValueWrite) (id : ℕ) → AreLoads made ls all → AreLoads made (ls ++ value_load id (value_after id all) all ∷ []) all
+loads_snoc : (made : List ValueWrite) (ls : List ValueLoad) (all : List ValueWrite) (id : ℕ) → AreLoads made ls all
+    → AreLoads made (ls ++ value_load id (value_after id all) all ∷ []) all
 loads_snoc made [] all id h = (h, refl, same_as all all refl)
 loads_snoc made (l ∷ ls) all id h = (h.0, h.1, loads_snoc l.after ls all id h.2)
 
 -- ---- shares
 
-shares_set : (views : List ValuesView) (by : ℕ) (v w : ValuesView) → get_elem? views by ≡ some v → all_shares (set views by w) + v.shares ≡ all_shares views + w.shares
+shares_set : (views : List ValuesView) (by : ℕ) (v w : ValuesView) → get_elem? views by ≡ some v
+    → all_shares (set views by w) + v.shares ≡ all_shares views + w.shares
 shares_set [] by v w e = absurd (some-ne-none v (sym e))
-shares_set (x ∷ xs) zero v w e = let h : x.shares ≡ v.shares = ap (λ (u : ValuesView). u.shares) (some-injective x v e) in omega arith
+shares_set (x ∷ xs) zero v w e =
+    let h : x.shares ≡ v.shares = ap (λ (u : ValuesView). u.shares) (some-injective x v e) in omega arith
 shares_set (x ∷ xs) (suc by) v w e = let h = shares_set xs by v w e in omega arith
 
 shares_snoc : (views : List ValuesView) (w : ValuesView) → all_shares (views ++ w ∷ []) ≡ all_shares views + w.shares
 shares_snoc [] w = omega arith
 shares_snoc (x ∷ xs) w = let h = shares_snoc xs w in omega arith
 
-shares_at : (views : List ValuesView) (by : ℕ) (v : ValuesView) → get_elem? views by ≡ some v → v.shares ≤ all_shares views
+shares_at : (views : List ValuesView) (by : ℕ) (v : ValuesView) → get_elem? views by ≡ some v
+    → v.shares ≤ all_shares views
 shares_at [] by v e = absurd (some-ne-none v (sym e))
-shares_at (x ∷ xs) zero v e = let h : x.shares ≡ v.shares = ap (λ (u : ValuesView). u.shares) (some-injective x v e) in omega arith
+shares_at (x ∷ xs) zero v e =
+    let h : x.shares ≡ v.shares = ap (λ (u : ValuesView). u.shares) (some-injective x v e) in omega arith
 shares_at (x ∷ xs) (suc by) v e = let h = shares_at xs by v e in omega arith
 
 -- ---- views
@@ -65,11 +73,14 @@ shares_at (x ∷ xs) (suc by) v e = let h = shares_at xs by v e in omega arith
 index_set : (xs : List ℕ) (i j v : ℕ) → i < length xs → slice_index (set xs i v) j ≡ cond (eqb i j) v (slice_index xs j)
 index_set xs i j v h =
     ⊎_elim
-    (λ (t : (eqb i j ≡ true) × (i ≡ j)). subst (λ k. slice_index (set xs i v) k ≡ v) t.1 (get_or-set_same xs i v 0 h) ∙ sym (ap (λ b. cond b v (slice_index xs j)) t.0))
-    (λ (f : (eqb i j ≡ false) × (i ≢ j)). get_or-set_other xs i j v 0 (λ e. f.1 (sym e)) ∙ sym (ap (λ b. cond b v (slice_index xs j)) f.0))
+    (λ (t : (eqb i j ≡ true) × (i ≡ j)). subst (λ k. slice_index (set xs i v) k ≡ v) t.1 (get_or-set_same xs i v 0 h)
+    ∙ sym (ap (λ b. cond b v (slice_index xs j)) t.0))
+    (λ (f : (eqb i j ≡ false) × (i ≢ j)). get_or-set_other xs i j v 0 (λ e. f.1 (sym e))
+    ∙ sym (ap (λ b. cond b v (slice_index xs j)) f.0))
     (eqb_tells i j)
 
-fits_set : (writer : ℕ) (all : List ValueWrite) (views : List ValuesView) (by : ℕ) (w : ValuesView) → ((j : ℕ) (u : ValuesView) → j ≢ by → get_elem? views j ≡ some u → Fits writer all j u) → Fits writer all by w
+fits_set : (writer : ℕ) (all : List ValueWrite) (views : List ValuesView) (by : ℕ) (w : ValuesView)
+    → ((j : ℕ) (u : ValuesView) → j ≢ by → get_elem? views j ≡ some u → Fits writer all j u) → Fits writer all by w
     → (j : ℕ) (u : ValuesView) → get_elem? (set views by w) j ≡ some u → Fits writer all j u
 fits_set writer all views by w others mine j u e =
     ⊎_elim
@@ -81,30 +92,37 @@ not_writer : false ≡ true → ⊥
 not_writer e = true≢false (sym e)
 
 -- a load leaves the words as they are
-module _ (count : ℕ) (s : State (Unit {0}) ValuesView) (r : ValuesRule count s.words s.views) (id by : ℕ) (v w : ValuesView) (at : get_elem? s.views by ≡ some v) (same : w.shares ≡ v.shares) (fits : Fits r.0 r.1 by w) where
+module _ (count : ℕ) (s : State (Unit {0}) ValuesView) (r : ValuesRule count s.words s.views) (id by : ℕ)
+    (v w : ValuesView) (at : get_elem? s.views by ≡ some v) (same : w.shares ≡ v.shares)
+    (fits : Fits r.0 r.1 by w) where
   loaded_rule : ValuesRule count (set s.words id (slice_index s.words id)) (set s.views by w)
   loaded_rule =
       let words : set s.words id (slice_index s.words id) ≡ s.words = set-get_or s.words id 0 in
       let p = shares_set s.views by v w at in
       let total : all_shares s.views ≡ 65536 = r.3 in
-      subst (λ l. ValuesRule count l (set s.views by w)) (sym words) (r.0, r.1, r.2, omega arith, r.4, r.5, fits_set r.0 r.1 s.views by w (λ j u _ e. r.6 j u e) fits)
+      subst (λ l. ValuesRule count l (set s.views by w)) (sym words)
+      (r.0, r.1, r.2, omega arith, r.4, r.5, fits_set r.0 r.1 s.views by w (λ j u _ e. r.6 j u e) fits)
 
 pub loads : (count slots by id : ℕ) (v : ValuesView) (carried : List (ℕ × Unit {0})) → id < count
-    → Allows (λ s. ValuesRule count s.words s.views) slots by (v, carried) id (λ n. n) (λ n w. Loads id v n w.0 × (w.1 ≡ carried))
+    → Allows (λ s. ValuesRule count s.words s.views) slots by (v, carried) id (λ n. n)
+    (λ n w. Loads id v n w.0 × (w.1 ≡ carried))
 loads count slots by id v carried inside s r homes at small =
     let all = r.1 in
     let h = r.6 by v at in
     let w = values_view v.writes v.shares all v.made (v.loads ++ value_load id (value_after id all) all ∷ []) in
-    let found : cast_signed w64 (slice_index s.words id) ≡ value_after id all = ap (cast_signed w64) (r.5 id inside) ∙ to_z-of_z w64 (value_after id all) (r.4 id) in (
+    let found : cast_signed w64 (slice_index s.words id) ≡ value_after id all =
+    ap (cast_signed w64) (r.5 id inside) ∙ to_z-of_z w64 (value_after id all) (r.4 id) in (
       w,
       keeps,
       tt,
-      loaded_rule count s r id by v w at refl ((λ y. ((h.0 y).0, refl)), same_as all all refl, loads_snoc v.made v.loads all id h.2),
+      loaded_rule count s r id by v w at refl
+          ((λ y. ((h.0 y).0, refl)), same_as all all refl, loads_snoc v.made v.loads all id h.2),
       ((all, refl, found, h.1), refl),
     )
 
 pub learns : (count slots by : ℕ) (v : ValuesView) (carried : List (ℕ × Unit {0})) → v.writes ≡ true
-    → Allows (λ s. ValuesRule count s.words s.views) slots by (v, carried) 0 (λ n. n) (λ n w. Learns v w.0 × (w.1 ≡ carried))
+    → Allows (λ s. ValuesRule count s.words s.views) slots by (v, carried) 0 (λ n. n)
+    (λ n w. Learns v w.0 × (w.1 ≡ carried))
 learns count slots by v carried writes s r homes at small =
     let h = r.6 by v at in
     let most = shares_at s.views by v at in
@@ -116,8 +134,10 @@ learns count slots by v carried writes s r homes at small =
       ((refl, subst (λ l. AreLoads v.made v.loads l) (sym (h.0 writes).1) h.2, omega arith), refl),
     )
 
-pub stores : (count slots by id word : ℕ) (v : ValuesView) (carried : List (ℕ × Unit {0})) → id < count → word < 2 ^ 64 → FitsSigned w64 (cast_signed w64 word) → v.writes ≡ true
-    → Allows (λ s. ValuesRule count s.words s.views) slots by (v, carried) id (λ _. word) (λ _ w. Writes id word v w.0 × (w.1 ≡ carried))
+pub stores : (count slots by id word : ℕ) (v : ValuesView) (carried : List (ℕ × Unit {0})) → id < count → word < 2 ^ 64
+    → FitsSigned w64 (cast_signed w64 word) → v.writes ≡ true
+    → Allows (λ s. ValuesRule count s.words s.views) slots by (v, carried) id (λ _. word)
+    (λ _ w. Writes id word v w.0 × (w.1 ≡ carried))
 stores count slots by id word v carried inside whole signed writes s r homes at small =
     let all = r.1 in
     let h = r.6 by v at in
@@ -136,15 +156,26 @@ stores count slots by id word v carried inside whole signed writes s r homes at 
         more,
         length-set s.words id word ∙ size,
         omega arith,
-        (λ k. subst (FitsSigned w64) (sym (value_after-snoc k all new)) (either_fits (eqb id k) (cast_signed w64 word) (value_after k all) signed (r.4 k))),
+        (λ k. subst (FitsSigned w64) (sym (value_after-snoc k all new))
+            (either_fits (eqb id k) (cast_signed w64 word) (value_after k all) signed (r.4 k))),
         (λ k less.
             index_set s.words id k word (omega arith)
             ∙ (λ i. cond (eqb id k) (sym (of_z-to_z w64 word whole) i) (r.5 k less i))
             ∙ either_word (eqb id k) (cast_signed w64 word) (value_after k all)
             ∙ sym (ap (cast_unsigned w64) (value_after-snoc k all new))),
         fits_set r.0 more s.views by w
-            (λ j u apart e. let f = r.6 j u e in ((λ y. absurd (apart ((f.0 y).0 ∙ sym mine.0))), longer u.seen all new f.1, loads_longer u.made u.loads all new f.2))
-            ((λ _. (mine.0, ap (λ l. l ++ new ∷ []) mine.1)), same_as (v.seen ++ new ∷ []) more (ap (λ l. l ++ new ∷ []) mine.1), loads_longer v.made v.loads all new h.2),
+            (λ j u apart e. let f =
+            r.6 j u e in (
+              (λ y. absurd (apart ((f.0 y).0 ∙ sym mine.0))),
+              longer u.seen all new f.1,
+              loads_longer
+                  u.made u.loads all new f.2,
+            )) (
+              (λ _. (mine.0, ap (λ l. l ++ new ∷ []) mine.1)),
+              same_as (v.seen ++ new ∷ []) more
+                  (ap (λ l. l ++ new ∷ []) mine.1),
+              loads_longer v.made v.loads all new h.2,
+            ),
       ),
       (refl, refl),
     )
@@ -153,12 +184,14 @@ stores count slots by id word v carried inside whole signed writes s r homes at 
     either_fits true x y f g = f
     either_fits false x y f g = g
 
-    either_word : (b : Bool) (x y : ℤ) → cond b (cast_unsigned w64 x) (cast_unsigned w64 y) ≡ cast_unsigned w64 (cond b x y)
+    either_word : (b : Bool) (x y : ℤ) → cond b (cast_unsigned w64 x) (cast_unsigned w64 y)
+        ≡ cast_unsigned w64 (cond b x y)
     either_word true x y = refl
     either_word false x y = refl
 
 pub splits : (count by : ℕ) (v : ValuesView) → 1 < v.shares
-    → Splits (λ (s : State (Unit {0}) ValuesView). ValuesRule count s.words s.views) by v (values_view v.writes (v.shares - 1) v.seen v.made v.loads) (values_view false 1 v.seen v.seen [])
+    → Splits (λ (s : State (Unit {0}) ValuesView). ValuesRule count s.words s.views) by v
+    (values_view v.writes (v.shares - 1) v.seen v.made v.loads) (values_view false 1 v.seen v.seen [])
 splits count by v two s r at =
     let w = values_view v.writes (v.shares - 1) v.seen v.made v.loads in
     let new = values_view false 1 v.seen v.seen [] in
@@ -166,11 +199,21 @@ splits count by v two s r at =
     let p = shares_set s.views by v w at in
     let q = shares_snoc (set s.views by w) new in
     let total : all_shares s.views ≡ 65536 = r.3 in
-    let kept = fits_set r.0 r.1 s.views by w (λ j u _ e. r.6 j u e) h in
-    (r.0, r.1, r.2, omega arith, r.4, r.5, λ j u e. ⊎_elim (λ was. kept j u was) (λ (is : new ≡ u). subst (Fits r.0 r.1 j) is ((λ y. absurd (not_writer y)), h.1, h.1)) (at_snoc (set s.views by w) new u j e))
+    let kept = fits_set r.0 r.1 s.views by w (λ j u _ e. r.6 j u e) h in (
+      r.0,
+      r.1,
+      r.2,
+      omega arith,
+      r.4,
+      r.5,
+      λ j u e. ⊎_elim (λ was. kept j u was)
+          (λ (is : new ≡ u). subst (Fits r.0 r.1 j) is ((λ y. absurd (not_writer y)), h.1, h.1))
+          (at_snoc (set s.views by w) new u j e),
+    )
 
 pub joins : (count by : ℕ) (v : ValuesView) (other : ℕ) (u : ValuesView)
-    → Joins (λ (s : State (Unit {0}) ValuesView). ValuesRule count s.words s.views) by v other u (values_view v.writes (v.shares + u.shares) v.seen u.made u.loads) (values_view false 0 [] [] [])
+    → Joins (λ (s : State (Unit {0}) ValuesView). ValuesRule count s.words s.views) by v other u
+    (values_view v.writes (v.shares + u.shares) v.seen u.made u.loads) (values_view false 0 [] [] [])
 joins count by v other u s r at apart there =
     let w = values_view v.writes (v.shares + u.shares) v.seen u.made u.loads in
     let spent = values_view false 0 [] [] [] in
@@ -181,11 +224,20 @@ joins count by v other u s r at apart there =
     let p = shares_set s.views by v w at in
     let q = shares_set mid other u spent there in
     let total : all_shares s.views ≡ 65536 = r.3 in
-    let kept = fits_set r.0 r.1 s.views by w (λ j x _ e. r.6 j x e) (h.0, h.1, k.2) in
-    (r.0, r.1, r.2, omega arith, r.4, r.5, fits_set r.0 r.1 mid other spent (λ j x _ e. kept j x e) ((λ y. absurd (not_writer y)), from_none r.1, from_none r.1))
+    let kept = fits_set r.0 r.1 s.views by w (λ j x _ e. r.6 j x e) (h.0, h.1, k.2) in (
+      r.0,
+      r.1,
+      r.2,
+      omega arith,
+      r.4,
+      r.5,
+      fits_set r.0 r.1 mid other spent (λ j x _ e. kept j x e)
+          ((λ y. absurd (not_writer y)), from_none r.1, from_none r.1),
+    )
 
 pub begins : (count : ℕ) → ValuesRule count (replicate count 0) (values_view true 65536 [] [] [] ∷ [])
-begins count = (0, [], length-replicate count 0, refl, (λ id. record { sfits = omega arith }), (λ id less. zeros count id), one)
+begins count =
+    (0, [], length-replicate count 0, refl, (λ id. record { sfits = omega arith }), (λ id less. zeros count id), one)
   where
     zeros : (n i : ℕ) → slice_index (replicate n 0) i ≡ 0
     zeros zero i = refl

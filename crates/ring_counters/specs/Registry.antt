@@ -146,7 +146,8 @@ abbrev pub reclaimed_in : Registry → ℕ → ℕ → Registry
 reclaimed_in r now id =
     let c = counter_at r id in
     record r {
-      counters = slice_set r.counters id (record c { metadata = record c.metadata { status = Reclaimed (now + r.reuse_ms) } });
+      counters = slice_set r.counters id
+          (record c { metadata = record c.metadata { status = Reclaimed (now + r.reuse_ms) } });
       freed = r.freed ++ id ∷ [];
     }
 
@@ -165,7 +166,8 @@ live_of r = map (λ id. (id, counter_at r id)) (live_ids r)
 
 -- the counters from this id on that are in use, by rising id
 abbrev pub live_from : Registry → ℕ → List (ℕ × Counter)
-live_from r first = map (λ id. (id, counter_at r id)) (filter (λ id. is_allocated (status_at r id)) (range_with_len first (count_of r - first)))
+live_from r first = map (λ id. (id, counter_at r id))
+    (filter (λ id. is_allocated (status_at r id)) (range_with_len first (count_of r - first)))
 
 abbrev pub is_registered : ℤ → ℕ → Counter → Bool
 is_registered type_id registration c =

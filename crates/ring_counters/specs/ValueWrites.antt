@@ -16,7 +16,8 @@ value_after id writes = value_from (pos 0) id writes
 abbrev pub Begins : List ValueWrite → List ValueWrite → Type 0
 Begins xs ys = (rest : List ValueWrite) × (ys ≡ xs ++ rest)
 
--- each of these loads gave its id's value after some first part of all writes, and no part is shorter than the one before
+-- each of these loads gave its id's value after some first part of all writes, and no part is shorter than the one
+-- before
 abbrev pub AreLoads : List ValueWrite → List ValueLoad → List ValueWrite → Type 0
 AreLoads made [] all = Begins made all
 AreLoads made (l ∷ ls) all = Begins made l.after × (l.value ≡ value_after l.id l.after) × AreLoads l.after ls all

@@ -14,7 +14,8 @@ all_shares (v ∷ vs) = v.shares + all_shares vs
 
 -- the writer has all writes, a reader has seen a first part of them, and its loads are theirs
 abbrev pub Fits : ℕ → List ValueWrite → ℕ → ValuesView → Type 0
-Fits writer all by v = (v.writes ≡ true → (by ≡ writer) × (v.seen ≡ all)) × Begins v.seen all × AreLoads v.made v.loads all
+Fits writer all by v =
+    (v.writes ≡ true → (by ≡ writer) × (v.seen ≡ all)) × Begins v.seen all × AreLoads v.made v.loads all
 
 -- there is one list of writes, each word is its id's value after them, and the shares add up
 abbrev pub ValuesRule : ℕ → List ℕ → List ValuesView → Type 0
@@ -39,4 +40,5 @@ abbrev pub Learns : ValuesView → ValuesView → Type 0
 Learns v w = (w ≡ v) × AreLoads v.made v.loads v.seen × (v.shares ≤ 65536)
 
 abbrev pub Writes : ℕ → ℕ → ValuesView → ValuesView → Type 0
-Writes id word v w = w ≡ values_view v.writes v.shares (v.seen ++ value_write id (cast_signed w64 word) ∷ []) v.made v.loads
+Writes id word v w =
+    w ≡ values_view v.writes v.shares (v.seen ++ value_write id (cast_signed w64 word) ∷ []) v.made v.loads

@@ -11,4 +11,5 @@ abbrev pub value_load : ℕ → ℤ → List ValueWrite → ValueLoad
 value_load id value after = record { id = id; value = value; after = after }
 
 abbrev pub values_view : Bool → ℕ → List ValueWrite → List ValueWrite → List ValueLoad → ValuesView
-values_view writes shares seen made loads = record { writes = writes; shares = shares; seen = seen; made = made; loads = loads }
+values_view writes shares seen made loads =
+    record { writes = writes; shares = shares; seen = seen; made = made; loads = loads }

@@ -146,8 +146,8 @@ fn count_up<R: Wait>(rt: &R, ring: &ManyToOneRing, board: &Board, caller: &mut C
     Some(())
 }
 
-/// Runs a caller to its end. Whatever came of it, its seats come back: a producer or receiver that is let go on a thread
-/// is lost, and the conductor could then never finish.
+/// Runs a caller to its end. Whatever came of it, its seats come back: a producer or receiver that is let go on a
+/// thread is lost, and the conductor could then never finish.
 pub fn run_caller<R: Wait>(
     rt: &R,
     ring: &ManyToOneRing,

@@ -121,12 +121,14 @@ fn main(rt: HostRuntime) -> anyhow::Result<()> {
             rt,
             move || -> (Caller, Caller)
                 requires { IsCallerOf ring.now board.now callers.0 × IsCallerOf ring.now board.now callers.1 }
-                ensures { IsCallerOf ring.entry.now board.entry.now result.0 × IsCallerOf ring.entry.now board.entry.now result.1 }
+                ensures { IsCallerOf ring.entry.now board.entry.now result.0
+                    × IsCallerOf ring.entry.now board.entry.now result.1 }
             { run_callers(rt, ring, board, callers, stop) },
             move || -> (Conductor, Monitor)
                 requires conductor { IsConductorOf IsConsumerOf ring.now board.now values.now conductor }
                 requires monitor { IsReaderOf values.now monitor.reader }
-                ensures conductor { IsConductorOf IsConsumerOf ring.entry.now board.entry.now values.entry.now result.0 }
+                ensures conductor { IsConductorOf IsConsumerOf ring.entry.now board.entry.now values.entry.now
+                    result.0 }
                 ensures monitor { IsReaderOf values.entry.now result.1.reader }
             { run_conductor(rt, ring, board, values, conductor, monitor, stop) },
         )

@@ -29,7 +29,8 @@ lawful_from C h =
 
 pub lawful_test : (C : ℕ) → IsCapacity C → is_capacity C ≡ true
 lawful_test C h =
-    and_from (is_power_of_two C && nat_le 128 C) (nat_le C (2 ^ 24)) (and_from (is_power_of_two C) (nat_le 128 C) h.power (le-leb 128 C h.least)) (le-leb C (2 ^ 24) h.most)
+    and_from (is_power_of_two C && nat_le 128 C) (nat_le C (2 ^ 24))
+    (and_from (is_power_of_two C) (nat_le 128 C) h.power (le-leb 128 C h.least)) (le-leb C (2 ^ 24) h.most)
 
 -- one bit makes a power of two
 pub power_below : (n C : ℕ) → C < 2 ^ n → count_ones C ≡ 1 → IsPowerOfTwo C
@@ -59,4 +60,5 @@ mask_is_mod C p lt h =
     ap (λ n. bit_and p (n - 1)) power.1 ∙ and_mask p power.0 ∙ sym (ap (λ n. p % n) power.1)
 
 pub power_positive : (C : ℕ) → C < 2 ^ 32 → IsTrue (is_power_of_two C) → 0 < C
-power_positive C lt h = let power = power_below 32 C lt (eqb-true (count_ones C) 1 h) in omega (arith, power.1, pow_pos power.0)
+power_positive C lt h =
+    let power = power_below 32 C lt (eqb-true (count_ones C) 1 h) in omega (arith, power.1, pow_pos power.0)

@@ -10,10 +10,13 @@ pattern_below (pos n) f = omega (arith, f.sfits)
 pattern_below (negsuc n) f = omega (arith, f.sfits)
 
 pub len_of-header : (len type_id : ℤ) → FitsSigned w32 len → cast_signed w32 (header len type_id % 2 ^ 32) ≡ len
-len_of-header len type_id f = ap (cast_signed w32) (mod_low (cast_unsigned w32 type_id) 32 (cast_unsigned w32 len) (pattern_below len f)) ∙ to_z-of_z w32 len f
+len_of-header len type_id f = ap (cast_signed w32)
+    (mod_low (cast_unsigned w32 type_id) 32 (cast_unsigned w32 len) (pattern_below len f)) ∙ to_z-of_z w32 len f
 
-pub type_of-header : (len type_id : ℤ) → FitsSigned w32 len → FitsSigned w32 type_id → cast_signed w32 (header len type_id / 2 ^ 32) ≡ type_id
-type_of-header len type_id f g = ap (cast_signed w32) (shr_high (cast_unsigned w32 type_id) 32 (cast_unsigned w32 len) (pattern_below len f)) ∙ to_z-of_z w32 type_id g
+pub type_of-header : (len type_id : ℤ) → FitsSigned w32 len → FitsSigned w32 type_id
+    → cast_signed w32 (header len type_id / 2 ^ 32) ≡ type_id
+type_of-header len type_id f g = ap (cast_signed w32)
+    (shr_high (cast_unsigned w32 type_id) 32 (cast_unsigned w32 len) (pattern_below len f)) ∙ to_z-of_z w32 type_id g
 
 pub fits_pos : (n : ℕ) → n < 2 ^ 31 → FitsSigned w32 (pos n)
 fits_pos n h = record { sfits = omega arith }

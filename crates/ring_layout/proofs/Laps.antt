@@ -41,14 +41,16 @@ same_place c p q pos e le lt =
     ]
 
 -- the index of a word: positions of one window at one index are one
-pub same_index : (c p q : ℕ) → 0 < c → c % 8 ≡ 0 → p % 8 ≡ 0 → q % 8 ≡ 0 → p % c / 8 ≡ q % c / 8 → p ≤ q → q < p + c → p ≡ q
+pub same_index : (c p q : ℕ) → 0 < c → c % 8 ≡ 0 → p % 8 ≡ 0 → q % 8 ≡ 0 → p % c / 8 ≡ q % c / 8 → p ≤ q → q < p + c
+    → p ≡ q
 same_index c p q pos c8 p8 q8 e le lt =
     let pm = mod_aligned c p c8 p8 in
     let qm = mod_aligned c q c8 q8 in
     same_place c p q pos (omega arith) le lt
 
 -- so two positions of a window have two indices
-pub apart : (c base p q : ℕ) → 0 < c → c % 8 ≡ 0 → p % 8 ≡ 0 → q % 8 ≡ 0 → base ≤ p → p < base + c → base ≤ q → q < base + c → p % c / 8 ≡ q % c / 8 → p ≡ q
+pub apart : (c base p q : ℕ) → 0 < c → c % 8 ≡ 0 → p % 8 ≡ 0 → q % 8 ≡ 0 → base ≤ p → p < base + c → base ≤ q
+    → q < base + c → p % c / 8 ≡ q % c / 8 → p ≡ q
 apart c base p q pos c8 p8 q8 bp pb bq qb e =
     elim (cases_lt q p) as (λ _. p ≡ q) [
       | inl h ↦ sym (same_index c q p pos c8 q8 p8 (sym e) (omega arith) (omega arith))
@@ -56,14 +58,16 @@ apart c base p q pos c8 p8 q8 bp pb bq qb e =
     ]
 
 -- the index of a word of a record
-pub index_step : (c place k : ℕ) → c % 8 ≡ 0 → place % 8 ≡ 0 → place % c + 8 * k < c → (place + 8 * k) % c / 8 ≡ place % c / 8 + k
+pub index_step : (c place k : ℕ) → c % 8 ≡ 0 → place % 8 ≡ 0 → place % c + 8 * k < c
+    → (place + 8 * k) % c / 8 ≡ place % c / 8 + k
 index_step c place k c8 p8 h =
     let step = mod_step c place (8 * k) h in
     let m8 = mod_aligned c place c8 p8 in
     omega arith
 
 -- a position outside a record has its index outside the record's
-pub index_outside : (c base place n p : ℕ) → 0 < c → c % 8 ≡ 0 → place % 8 ≡ 0 → p % 8 ≡ 0 → n % 8 ≡ 0 → place % c + n ≤ c → base ≤ place → place + n ≤ base + c → base ≤ p → p < base + c
+pub index_outside : (c base place n p : ℕ) → 0 < c → c % 8 ≡ 0 → place % 8 ≡ 0 → p % 8 ≡ 0 → n % 8 ≡ 0
+    → place % c + n ≤ c → base ≤ place → place + n ≤ base + c → base ≤ p → p < base + c
     → (p < place) ⊎ (place + n ≤ p) → (p % c / 8 < place % c / 8) ⊎ (place % c / 8 + n / 8 ≤ p % c / 8)
 index_outside c base place n p pos c8 l8 p8 n8 within bl lb bp pb out =
     let i : ℕ = p % c / 8 in
@@ -73,8 +77,10 @@ index_outside c base place n p pos c8 l8 p8 n8 within bl lb bp pb out =
       | inr h ↦ elim (cases_lt i (at + n / 8)) as (λ _. (i < at) ⊎ (at + n / 8 ≤ i)) [
         | inl k ↦
             let step = index_step c place (i - at) c8 l8 (omega arith) in
-            let same : p ≡ place + 8 * (i - at) = apart c base p (place + 8 * (i - at)) pos c8 p8 (omega arith) bp pb (omega arith) (omega arith) (omega arith) in
-            elim out as (λ _. (i < at) ⊎ (at + n / 8 ≤ i)) [ inl o ↦ absurd (omega arith) | inr o ↦ absurd (omega arith) ]
+            let same : p ≡ place + 8 * (i - at) = apart c base p (place + 8 * (i - at)) pos c8 p8 (omega arith) bp pb
+            (omega arith) (omega arith) (omega arith) in
+            elim out as (λ _. (i < at) ⊎ (at + n / 8 ≤ i))
+            [ inl o ↦ absurd (omega arith) | inr o ↦ absurd (omega arith) ]
         | inr k ↦ inr k
       ]
     ]

@@ -7,9 +7,11 @@ use Rattle.ring_layout.specs.Places.{room, next_place, end_after, end_of}
 use Rattle.ring_layout.proofs.Laps.{mod_step, mod_room, mod_aligned}
 
 -- a span stays where it fits, and goes to the next_place multiple of the capacity else
-pub next_cases : (c e a : ℕ) → ((a ≤ room c e) × (next_place c e a ≡ e)) ⊎ ((room c e < a) × (next_place c e a ≡ e + room c e))
+pub next_cases : (c e a : ℕ) → ((a ≤ room c e) × (next_place c e a ≡ e))
+    ⊎ ((room c e < a) × (next_place c e a ≡ e + room c e))
 next_cases c e a =
-    elim (cases_lt (room c e) a) as (λ _. ((a ≤ room c e) × (next_place c e a ≡ e)) ⊎ ((room c e < a) × (next_place c e a ≡ e + room c e))) [
+    elim (cases_lt (room c e) a) as (λ _. ((a ≤ room c e) × (next_place c e a ≡ e))
+    ⊎ ((room c e < a) × (next_place c e a ≡ e + room c e))) [
       | inl h ↦ inr (h, cond-false _ e (e + room c e) (lt-leb a (room c e) h))
       | inr h ↦ inl (h, cond-true _ e (e + room c e) (le-leb a (room c e) h))
     ]
@@ -36,7 +38,8 @@ next_aligned c e a pos c8 e8 =
 pub next_fixed : (c e a : ℕ) → 0 < c → a ≤ c → next_place c (next_place c e a) a ≡ next_place c e a
 next_fixed c e a pos le =
     let within = next_within c e a pos le in
-    elim (next_cases c (next_place c e a) a) as (λ _. next_place c (next_place c e a) a ≡ next_place c e a) [ inl h ↦ h.1 | inr h ↦ absurd (omega arith) ]
+    elim (next_cases c (next_place c e a) a) as (λ _. next_place c (next_place c e a) a ≡ next_place c e a)
+    [ inl h ↦ h.1 | inr h ↦ absurd (omega arith) ]
 
 pub span_bounds : (n : ℕ) → (span n % 8 ≡ 0) × (8 + n ≤ span n) × (span n ≤ n + 15)
 span_bounds n = (omega arith, omega arith, omega arith)
@@ -65,7 +68,9 @@ end_after_rises c tail later a pos le =
         | inr far ↦ omega arith
         | inl near ↦
             let whole : tail + (later - tail) ≡ later = omega arith in
-            let lap : later % c ≡ tail % c + (later - tail) = ap (λ n. n % c) (sym whole) ∙ mod_step c tail (later - tail) (omega arith) in
-            elim (next_cases c later a) as (λ _. end_after c tail a ≤ end_after c later a) [ inl k ↦ absurd (omega arith) | inr k ↦ omega arith ]
+            let lap : later % c ≡ tail % c + (later - tail) =
+            ap (λ n. n % c) (sym whole) ∙ mod_step c tail (later - tail) (omega arith) in
+            elim (next_cases c later a) as (λ _. end_after c tail a ≤ end_after c later a)
+            [ inl k ↦ absurd (omega arith) | inr k ↦ omega arith ]
       ]
     ]

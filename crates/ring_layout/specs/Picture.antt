@@ -26,7 +26,8 @@ IsPicture word C head h = (p : ℕ) → p % 8 ≡ 0 → head ≤ p → p < head 
 pub record ShowsClaim (C e : ℕ) (front : List Claim) (c : Claim) (back : List Claim) : Type 0 where
   pub padding_header :
       end_of C e front < place_behind C e front c
-      → word_at C e (front ++ c ∷ back) (end_of C e front) ≡ padding_header (place_behind C e front c - end_of C e front)
+      → word_at C e (front ++ c ∷ back) (end_of C e front)
+      ≡ padding_header (place_behind C e front c - end_of C e front)
   pub padding : (p : ℕ) → end_of C e front < p → p < place_behind C e front c → word_at C e (front ++ c ∷ back) p ≡ 0
   pub record_words : (p : ℕ) → place_behind C e front c ≤ p → p < place_behind C e front c + span_of c
       → word_at C e (front ++ c ∷ back) p ≡ claim_word c (p - place_behind C e front c)

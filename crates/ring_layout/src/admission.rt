@@ -8,8 +8,8 @@ ghost use Rattle.ring_layout.specs.Places.{IsCapacity, max_position, next_place,
 use crate::placement::{max_message, pad_and_span};
 use crate::ring_buffer_descriptor::MAX_POSITION;
 
-/// Where a record goes that comes next behind `tail`: it lies at `place`, behind padding where that is greater, and ends
-/// at `end`. All three are positions, in bytes.
+/// Where a record goes that comes next behind `tail`: it lies at `place`, behind padding where that is greater, and
+/// ends at `end`. All three are positions, in bytes.
 #[derive(Clone, Copy, Debug, PartialEq, Eq)]
 pub struct Admission {
     pub tail: u64,
@@ -33,8 +33,8 @@ pub fn is_length(capacity: u32, len: usize) -> bool
     len <= max_message(capacity) as usize
 }
 
-/// Says where the record of a message with `len` bytes goes that comes next behind a tail. Whether it may end there, and
-/// whether there is room, is still to be tested.
+/// Says where the record of a message with `len` bytes goes that comes next behind a tail. Whether it may end there,
+/// and whether there is room, is still to be tested.
 #[inline]
 pub fn place_record(capacity: u32, tail: u64, len: usize) -> Admission
     requires power { IsTrue (is_power_of_two capacity) }
@@ -61,8 +61,8 @@ pub fn is_position(end: u64) -> bool
     end <= MAX_POSITION
 }
 
-/// Tests whether there is room for a record that ends here: at most the capacity behind the head. A head that was cached
-/// may lie further behind.
+/// Tests whether there is room for a record that ends here: at most the capacity behind the head. A head that was
+/// cached may lie further behind.
 #[inline]
 pub fn has_room(capacity: u32, end: u64, head: u64) -> bool
     requires { head ≤ max_position }
@@ -71,8 +71,8 @@ pub fn has_room(capacity: u32, end: u64, head: u64) -> bool
     end <= head + u64::from(capacity)
 }
 
-/// Tests whether a record with `len` bytes of body fits at this tail and head: its padding and span are at most the room
-/// that is left. Where it does not fit, it does not fit at any later tail either while the head stays.
+/// Tests whether a record with `len` bytes of body fits at this tail and head: its padding and span are at most the
+/// room that is left. Where it does not fit, it does not fit at any later tail either while the head stays.
 pub fn fits(capacity: u32, tail: u64, head: u64, len: usize) -> bool
     requires capacity { IsCapacity capacity }
     requires short { len ≤ capacity / 8 }

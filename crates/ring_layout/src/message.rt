@@ -1,4 +1,5 @@
-//! Messages and claims as contracts speak of them. No value of a message or a claim is made: histories are lists of claims, and a ring has only words.
+//! Messages and claims as contracts speak of them. No value of a message or a claim is made: histories are lists of
+//! claims, and a ring has only words.
 use std::collections::LinkedList;
 
 /// A type id and a body of bytes.

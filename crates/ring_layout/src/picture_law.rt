@@ -6,6 +6,7 @@ ghost use Rattle.ring_layout.specs.Picture.{ShowsClaim, ShowsNothingElse};
 /// States that a word of the picture depends on the one claim, padding or unclaimed room at its position alone. It
 /// computes nothing.
 pub fn word_depends_on_one_claim()
-    ensures claim { (capacity e : ℕ) (front : List Claim) (c : Claim) (back : List Claim) → ShowsClaim capacity e front c back }
+    ensures claim { (capacity e : ℕ) (front : List Claim) (c : Claim) (back : List Claim)
+        → ShowsClaim capacity e front c back }
     ensures room { (capacity e : ℕ) (h : List Claim) → ShowsNothingElse capacity e h }
 {}

@@ -62,7 +62,8 @@ pub fn unpack_header(word: u64) -> (i32, i32)
     ensures len { result.0 ≡ cast_signed w32 (word % 2 ^ 32) }
     ensures type_id { result.1 ≡ cast_signed w32 (word / 2 ^ 32) }
     ensures packed { header result.0 result.1 ≡ word }
-    ensures unpacked { (len type_id : ℤ) → FitsSigned w32 len → FitsSigned w32 type_id → word ≡ header len type_id → (result.0 ≡ len) × (result.1 ≡ type_id) }
+    ensures unpacked { (len type_id : ℤ) → FitsSigned w32 len → FitsSigned w32 type_id → word ≡ header len type_id
+        → (result.0 ≡ len) × (result.1 ≡ type_id) }
 {
     let len = (word & 0xffff_ffff) as u32;
     let type_id = (word >> 32) as u32;

@@ -18,7 +18,8 @@ module _ {A : Type 0} where
       ]
 
   -- what is held in the list with one more is held in the list, or is that one
-  pub in_pushed : (xs : List (Option A)) (t s : A) (i : ℕ) → HasAt (xs ++ Some t ∷ []) i s → HasAt xs i s ⊎ ((i ≡ length xs) × (t ≡ s))
+  pub in_pushed : (xs : List (Option A)) (t s : A) (i : ℕ) → HasAt (xs ++ Some t ∷ []) i s
+      → HasAt xs i s ⊎ ((i ≡ length xs) × (t ≡ s))
   in_pushed xs t s i has =
       elim (cases_lt i (length xs)) as (λ _. HasAt xs i s ⊎ ((i ≡ length xs) × (t ≡ s))) [
         | inl within ↦ inl (sym (get_or_append_left xs (Some t ∷ []) None i within) ∙ has)
@@ -26,7 +27,8 @@ module _ {A : Type 0} where
             elim (cases_lt (length xs) i) as (λ _. HasAt xs i s ⊎ ((i ≡ length xs) × (t ≡ s))) [
               | inl beyond ↦
                   let long : length (xs ++ Some t ∷ []) ≡ length xs + 1 = length-append xs (Some t ∷ []) in
-                  let clash : None ≡ Some s = sym (get_or_past (xs ++ Some t ∷ []) i None (omega (arith, long, beyond))) ∙ has in absurd cc
+                  let clash : None ≡ Some s =
+                  sym (get_or_past (xs ++ Some t ∷ []) i None (omega (arith, long, beyond))) ∙ has in absurd cc
               | inr last ↦
                   let at : length xs ≡ i = omega (arith, past, last) in
                   let same : Some t ≡ Some s = sym (get_or_push xs (Some t) None i at) ∙ has in inr (sym at, cc)
@@ -34,7 +36,8 @@ module _ {A : Type 0} where
       ]
 
   -- what is held after a change at the index k is what was put there, or was held elsewhere
-  pub in_set : (xs : List (Option A)) (k : ℕ) (y : Option A) (s : A) (i : ℕ) → k < length xs → HasAt (set xs k y) i s → (y ≡ Some s) ⊎ ((i ≢ k) × HasAt xs i s)
+  pub in_set : (xs : List (Option A)) (k : ℕ) (y : Option A) (s : A) (i : ℕ) → k < length xs → HasAt (set xs k y) i s
+      → (y ≡ Some s) ⊎ ((i ≢ k) × HasAt xs i s)
   in_set xs k y s i inside has = dite (ℕ_discrete i k)
       (λ here. inl (sym (get_or-set_same xs k y None inside) ∙ subst (λ n. HasAt (set xs k y) n s) here has))
       (λ other. inr (other, sym (get_or-set_other xs k i y None other) ∙ has))
@@ -47,12 +50,15 @@ module _ {A : Type 0} where
   count_pushed xs t = sum_by-append one_if_some xs (Some t ∷ [])
 
   -- what is held at the index k is changed, or taken
-  pub count_set : (xs : List (Option A)) (k : ℕ) (y : Option A) (s : A) → HasAt xs k s → count_by is_some (set xs k y) + 1 ≡ count_by is_some xs + one_if_some y
+  pub count_set : (xs : List (Option A)) (k : ℕ) (y : Option A) (s : A) → HasAt xs k s
+      → count_by is_some (set xs k y) + 1 ≡ count_by is_some xs + one_if_some y
   count_set xs k y s has =
-      ap (λ o. count_by is_some (set xs k y) + one_if_some o) (sym has) ∙ sum_by-set one_if_some xs k y None (held_inside xs k s has)
+      ap (λ o. count_by is_some (set xs k y) + one_if_some o) (sym has)
+      ∙ sum_by-set one_if_some xs k y None (held_inside xs k s has)
 
   -- where nothing is held
-  pub count_none : (xs : List (Option A)) → ((k : ℕ) → k < length xs → slice_index_or xs k None ≡ None) → count_by is_some xs ≡ 0
+  pub count_none : (xs : List (Option A)) → ((k : ℕ) → k < length xs → slice_index_or xs k None ≡ None)
+      → count_by is_some xs ≡ 0
   count_none [] all = refl
   count_none (x ∷ xs) all =
       let first : one_if_some x ≡ 0 = ap one_if_some (all 0 (omega arith)) in
@@ -72,32 +78,40 @@ module _ {A : Type 0} where
   one_more_gone xs i below here k lt =
       elim (cases_lt k i) as (λ _. slice_index_or xs k None ≡ None) [
         | inl before ↦ below k before
-        | inr past ↦ let same : i ≡ k = omega (arith, past, lt) in subst (λ n. slice_index_or xs n None ≡ None) same here
+        | inr past ↦ let same : i ≡ k =
+            omega (arith, past, lt) in subst (λ n. slice_index_or xs n None ≡ None) same here
       ]
 
   set_gone : (xs : List (Option A)) (i : ℕ) → i < length xs → AreGone xs i → AreGone (set xs i None) (i + 1)
   set_gone xs i inside below =
-      one_more_gone (set xs i None) i (λ k lt. get_or-set_other xs i k None None (λ e. omega (arith, lt, e)) ∙ below k lt) (get_or-set_same xs i None None inside)
+      one_more_gone (set xs i None) i (λ k lt. get_or-set_other xs i k None None (λ e. omega (arith, lt, e))
+      ∙ below k lt) (get_or-set_same xs i None None inside)
 
   -- once what is held at the index i is given up, nothing is held up to there
-  pub given_up : {U : Type 0} (r : Option U) (xs ys : List (Option A)) (i : ℕ) (P : Type 0) → IfNone r (ys ≡ xs) → OnSome r P → (P → ys ≡ set xs (i + 1 - 1) None) → IfNone r (IsFree xs (i + 1))
+  pub given_up : {U : Type 0} (r : Option U) (xs ys : List (Option A)) (i : ℕ) (P : Type 0) → IfNone r (ys ≡ xs)
+      → OnSome r P → (P → ys ≡ set xs (i + 1 - 1) None) → IfNone r (IsFree xs (i + 1))
       → i < length xs → AreGone xs i → (length ys ≡ length xs) × AreGone ys (i + 1)
   given_up None xs ys i P same left took free inside below =
       let at : i + 1 - 1 ≡ i = omega arith in
       let here : slice_index_or xs i None ≡ None =
-      none_of (slice_index_or xs i None) (λ x has. free x (record { positive = omega arith; has = subst (λ n. HasAt xs n x) (sym at) has })) in
+      none_of (slice_index_or xs i None) (λ x has. free x
+      (record { positive = omega arith; has = subst (λ n. HasAt xs n x) (sym at) has })) in
       subst (λ l. (length l ≡ length xs) × AreGone l (i + 1)) (sym same) (refl, one_more_gone xs i below here)
   given_up (Some u) xs ys i P same left took free inside below =
       let at : i + 1 - 1 ≡ i = omega arith in
-      subst (λ l. (length l ≡ length xs) × AreGone l (i + 1)) (sym (took left ∙ ap (λ n. set xs n None) at)) (length-set xs i None, set_gone xs i inside below)
+      subst (λ l. (length l ≡ length xs) × AreGone l (i + 1)) (sym (took left ∙ ap (λ n. set xs n None) at))
+      (length-set xs i None, set_gone xs i inside below)
 
   -- a number from which something was taken
-  pub vacated : (x : A) (old : List (Option A)) (number : ℕ) (new : List (Option A)) → Goes x old number new → IsVacant new number
+  pub vacated : (x : A) (old : List (Option A)) (number : ℕ) (new : List (Option A)) → Goes x old number new
+      → IsVacant new number
   vacated x old number new goes =
       let positive = goes.here.positive in
       let inside = held_inside old (number - 1) x goes.here.has in
       let long = ap length goes.given_up ∙ length-set old (number - 1) None in
-      let none : slice_index_or new (number - 1) None ≡ None = ap (λ l. slice_index_or l (number - 1) None) goes.given_up ∙ get_or-set_same old (number - 1) None None inside in
+      let none : slice_index_or new (number - 1) None ≡ None =
+      ap (λ l. slice_index_or l (number - 1) None) goes.given_up
+      ∙ get_or-set_same old (number - 1) None None inside in
       record {
         positive = positive;
         drawn = omega (arith, positive, inside, long);
@@ -105,17 +119,25 @@ module _ {A : Type 0} where
       }
 
   -- what was taken is held again, or another in its place
-  pub stays : (x y : A) (old : List (Option A)) (number : ℕ) (between new : List (Option A)) → Goes x old number between → new ≡ set between (number - 1) (Some y) → Stays x y old number new
+  pub stays : (x y : A) (old : List (Option A)) (number : ℕ) (between new : List (Option A)) → Goes x old number between
+      → new ≡ set between (number - 1) (Some y) → Stays x y old number new
   stays x y old number between new goes back =
-      record { here = goes.here; others = back ∙ ap (λ l. set l (number - 1) (Some y)) goes.given_up ∙ set-set old (number - 1) None (Some y) }
+      record {
+        here = goes.here;
+        others = back ∙ ap (λ l. set l (number - 1) (Some y)) goes.given_up
+            ∙ set-set old (number - 1) None (Some y);
+      }
 
   -- the same was held before
-  pub stays_same : (x y : A) (old : List (Option A)) (number : ℕ) (new : List (Option A)) → Stays x y old number new → y ≡ x → new ≡ old
+  pub stays_same : (x y : A) (old : List (Option A)) (number : ℕ) (new : List (Option A)) → Stays x y old number new
+      → y ≡ x → new ≡ old
   stays_same x y old number new stay same =
-      stay.others ∙ ap (λ z. set old (number - 1) (Some z)) same ∙ ap (λ o. set old (number - 1) o) (sym stay.here.has) ∙ set-get_or old (number - 1) None
+      stay.others ∙ ap (λ z. set old (number - 1) (Some z)) same ∙ ap (λ o. set old (number - 1) o) (sym stay.here.has)
+      ∙ set-get_or old (number - 1) None
 
   -- as many are held then
-  pub count_stays : (x y : A) (old : List (Option A)) (number : ℕ) (new : List (Option A)) → Stays x y old number new → count_by is_some new ≡ count_by is_some old
+  pub count_stays : (x y : A) (old : List (Option A)) (number : ℕ) (new : List (Option A)) → Stays x y old number new
+      → count_by is_some new ≡ count_by is_some old
   count_stays x y old number new stay =
       let same = count_set old (number - 1) (Some y) x stay.here.has in
       let is = ap (count_by is_some) stay.others in
@@ -130,20 +152,28 @@ module _ {A : Type 0} where
     of_none i x has = let clash : None ≡ Some x = sym (get_or_past [] i None (omega arith)) ∙ has in absurd cc
 
     pub of_pushed : (xs : List (Option A)) (t : A) → OfAll xs → P t → OfAll (xs ++ Some t ∷ [])
-    of_pushed xs t all here i x has = elim (in_pushed xs t x i has) as (λ _. P x) [ inl before ↦ all i x before | inr last ↦ subst P last.1 here ]
+    of_pushed xs t all here i x has =
+        elim (in_pushed xs t x i has) as (λ _. P x) [ inl before ↦ all i x before | inr last ↦ subst P last.1 here ]
 
-    pub of_set : (xs : List (Option A)) (k : ℕ) (y : Option A) → OfAll xs → k < length xs → ((x : A) → y ≡ Some x → P x) → OfAll (set xs k y)
-    of_set xs k y all inside here i x has = elim (in_set xs k y x i inside has) as (λ _. P x) [ inl put ↦ here x put | inr other ↦ all i x other.1 ]
+    pub of_set : (xs : List (Option A)) (k : ℕ) (y : Option A) → OfAll xs → k < length xs → ((x : A) → y ≡ Some x → P x)
+        → OfAll (set xs k y)
+    of_set xs k y all inside here i x has =
+        elim (in_set xs k y x i inside has) as (λ _. P x) [ inl put ↦ here x put | inr other ↦ all i x other.1 ]
 
     -- what is held after a number was given up
-    pub of_goes : (x : A) (old : List (Option A)) (number : ℕ) (new : List (Option A)) → OfAll old → Goes x old number new → OfAll new
-    of_goes x old number new all goes = subst OfAll (sym goes.given_up) (of_set old (number - 1) None all (held_inside old (number - 1) x goes.here.has) (λ y e. absurd cc))
+    pub of_goes : (x : A) (old : List (Option A)) (number : ℕ) (new : List (Option A)) → OfAll old
+        → Goes x old number new → OfAll new
+    of_goes x old number new all goes = subst OfAll (sym goes.given_up)
+        (of_set old (number - 1) None all (held_inside old (number - 1) x goes.here.has) (λ y e. absurd cc))
 
     -- what is held where another stands in the place of one
-    pub of_stays : (x y : A) (old : List (Option A)) (number : ℕ) (new : List (Option A)) → OfAll old → Stays x y old number new → P y → OfAll new
+    pub of_stays : (x y : A) (old : List (Option A)) (number : ℕ) (new : List (Option A)) → OfAll old
+        → Stays x y old number new → P y → OfAll new
     of_stays x y old number new all stay is =
-        subst OfAll (sym stay.others) (of_set old (number - 1) (Some y) all (held_inside old (number - 1) x stay.here.has) (λ z e. let same : y ≡ z = cc in subst P same is))
+        subst OfAll (sym stay.others) (of_set old (number - 1) (Some y) all
+        (held_inside old (number - 1) x stay.here.has) (λ z e. let same : y ≡ z = cc in subst P same is))
 
     -- what is held once one more came
-    pub of_comes : (x : A) (old : List (Option A)) (next : ℕ) (new : List (Option A)) → OfAll old → Comes x old next new → P x → OfAll new
+    pub of_comes : (x : A) (old : List (Option A)) (next : ℕ) (new : List (Option A)) → OfAll old → Comes x old next new
+        → P x → OfAll new
     of_comes x old next new all comes is = subst OfAll (sym comes.held) (of_pushed old x all is)

@@ -23,7 +23,8 @@ use Rattle.ring_loose.specs.Loose.{AreSeats, Loose, aborted_view, all_aborted, w
 abbrev pub aborted_from : ℕ → Holder → View
 aborted_from n h = with_claims (all_aborted (drop n h.claims) h.view.producer.claims) h.view
 
-front : (claims : List (Option ClaimAt)) (n : ℕ) (o : Option ClaimAt) → n < length claims → slice_index_or claims n None ≡ o → drop n claims ≡ o ∷ drop (n + 1) claims
+front : (claims : List (Option ClaimAt)) (n : ℕ) (o : Option ClaimAt) → n < length claims
+    → slice_index_or claims n None ≡ o → drop n claims ≡ o ∷ drop (n + 1) claims
 front claims n o inside has =
     let next : suc n ≡ n + 1 = omega arith in
     drop-cons claims n None inside ∙ ap (λ x. x ∷ drop (suc n) claims) has ∙ ap (λ m. o ∷ drop m claims) next
@@ -34,7 +35,8 @@ none_at claims n gone = by_case (slice_index_or claims n None) refl
     by_case : (o : Option ClaimAt) → slice_index_or claims n None ≡ o → slice_index_or claims n None ≡ None
     by_case None e = e
     by_case (Some t) e =
-        let at : n ≡ n + 1 - 1 = omega arith in absurd (gone t (record { positive = omega arith; has = subst (λ i. HasAt claims i t) at e }))
+        let at : n ≡ n + 1 - 1 = omega arith in absurd
+        (gone t (record { positive = omega arith; has = subst (λ i. HasAt claims i t) at e }))
 
 -- of a ring the claims below an index were aborted
 pub record AbortedTo (start : Loose) (count n : ℕ) (now : Loose) : Type 0 where
@@ -48,13 +50,16 @@ module _ (start : Loose) (count n : ℕ) (now : Loose) (so_far : AbortedTo start
     here : n < length now.holder.claims
     here = let counted = so_far.counted in omega (arith, inside, counted)
 
-    on : length next.holder.claims ≡ length now.holder.claims → ((k : ℕ) → k < n → slice_index_or next.holder.claims k None ≡ slice_index_or now.holder.claims k None) → slice_index_or next.holder.claims n None ≡ None
+    on : length next.holder.claims ≡ length now.holder.claims
+        → ((k : ℕ) → k < n → slice_index_or next.holder.claims k None ≡ slice_index_or now.holder.claims k None)
+        → slice_index_or next.holder.claims n None ≡ None
         → aborted_from (n + 1) next.holder ≡ aborted_from n now.holder → AbortedTo start count (n + 1) next
     on long others none view = record {
       counted = long ∙ so_far.counted;
       none = λ k lt. elim (cases_lt k n) as (λ _. slice_index_or next.holder.claims k None ≡ None) [
         | inl before ↦ others k before ∙ so_far.none k before
-        | inr last ↦ let at : n ≡ k = omega (arith, lt, last) in subst (λ m. slice_index_or next.holder.claims m None ≡ None) at none
+        | inr last ↦ let at : n ≡ k =
+            omega (arith, lt, last) in subst (λ m. slice_index_or next.holder.claims m None ≡ None) at none
       ];
       view = view ∙ so_far.view;
       rest = rest ∙ ap (with_holder next.holder) so_far.rest;
@@ -65,9 +70,11 @@ module _ (start : Loose) (count n : ℕ) (now : Loose) (so_far : AbortedTo start
     passes same gone =
         let none : slice_index_or now.holder.claims n None ≡ None = none_at now.holder.claims n gone in
         let held = ap (λ (l : Loose). l.holder.claims) same in
-        on (ap length held) (λ k lt. ap (λ l. slice_index_or l k None) held) (ap (λ l. slice_index_or l n None) held ∙ none)
+        on (ap length held) (λ k lt. ap (λ l. slice_index_or l k None) held)
+        (ap (λ l. slice_index_or l n None) held ∙ none)
         (ap (λ (l : Loose). aborted_from (n + 1) l.holder) same
-        ∙ ap (λ l. with_claims (all_aborted l now.holder.view.producer.claims) now.holder.view) (sym (front now.holder.claims n None here none)))
+        ∙ ap (λ l. with_claims (all_aborted l now.holder.view.producer.claims) now.holder.view)
+        (sym (front now.holder.claims n None here none)))
 
     -- the claim at the index was aborted
     aborts : SettlesAt Aborted now.holder (n + 1) next.holder → AbortedTo start count (n + 1) next
@@ -76,23 +83,41 @@ module _ (start : Loose) (count n : ℕ) (now : Loose) (so_far : AbortedTo start
         let at : n + 1 - 1 ≡ n = omega arith in
         let has : HasAt claims n did.claim = subst (λ i. HasAt claims i did.claim) at did.goes.here.has in
         let held : next.holder.claims ≡ set claims n None = did.goes.given_up ∙ ap (λ i. set claims i None) at in
-        let rest_of : drop (n + 1) next.holder.claims ≡ drop (n + 1) claims = ap (λ l. drop (n + 1) l) held ∙ drop-set-lt (n + 1) claims n None (omega arith) in
+        let rest_of : drop (n + 1) next.holder.claims ≡ drop (n + 1) claims =
+        ap (λ l. drop (n + 1) l) held ∙ drop-set-lt (n + 1) claims n None (omega arith) in
         on (ap length held ∙ length-set claims n None)
-        (λ k lt. ap (λ l. slice_index_or l k None) held ∙ get_or-set_other claims n k None None (λ same. omega (arith, lt, same)))
+        (λ k lt. ap (λ l. slice_index_or l k None) held
+        ∙ get_or-set_other claims n k None None (λ same. omega (arith, lt, same)))
         (ap (λ l. slice_index_or l n None) held ∙ get_or-set_same claims n None None here)
         (ap (λ (v : View). with_claims (all_aborted (drop (n + 1) next.holder.claims) v.producer.claims) v) did.settled
-        ∙ ap (λ l. with_claims (all_aborted (Some did.claim ∷ l) now.holder.view.producer.claims) now.holder.view) rest_of
-        ∙ ap (λ l. with_claims (all_aborted l now.holder.view.producer.claims) now.holder.view) (sym (front claims n (Some did.claim) here has)))
+        ∙ ap (λ l. with_claims (all_aborted (Some did.claim ∷ l) now.holder.view.producer.claims) now.holder.view)
+        rest_of
+        ∙ ap (λ l. with_claims (all_aborted l now.holder.view.producer.claims) now.holder.view)
+        (sym (front claims n (Some did.claim) here has)))
 
-    pub aborted_on : {T : Type 0} (r : Option T) → MatchOption r (next ≡ now) (λ _. SettlesAt Aborted now.holder (n + 1) next.holder) → IfNone r (IsFree now.holder.claims (n + 1)) → AbortedTo start count (n + 1) next
+    pub aborted_on : {T : Type 0} (r : Option T)
+        → MatchOption r (next ≡ now) (λ _. SettlesAt Aborted now.holder (n + 1) next.holder)
+        → IfNone r (IsFree now.holder.claims (n + 1)) → AbortedTo start count (n + 1) next
     aborted_on None same gone = passes same gone
     aborted_on (Some x) did gone = aborts did
 
 -- a producer with all shares that has no open claim is not refused
-pub not_refused : {T E : Type 0} (error : CloseFault → E) (open_claims shares : ℕ) (result : Result T E) → open_claims ≡ 0 → shares ≡ 65536 → IsRefusedAs error (close_refusal_of open_claims shares) result → IsOk result
+pub not_refused : {T E : Type 0} (error : CloseFault → E) (open_claims shares : ℕ) (result : Result T E)
+    → open_claims ≡ 0 → shares ≡ 65536 → IsRefusedAs error (close_refusal_of open_claims shares) result → IsOk result
 not_refused error open_claims shares result none all refused =
-    subst (λ n. IsRefusedAs error (close_refusal_of 0 n) result) all (subst (λ n. IsRefusedAs error (close_refusal_of n shares) result) none refused)
+    subst (λ n. IsRefusedAs error (close_refusal_of 0 n) result) all
+    (subst (λ n. IsRefusedAs error (close_refusal_of n shares) result) none refused)
 
 -- a step of the producer that leaves its shares and claims as they are
-pub same_seats : {K : Type 0} (ring : Ring K) (old new : Producer) (c : Consumer) (claims : List (Option ClaimAt)) → AreSeats ring old c claims → IsProducerOf ring new → Keeps (view_of old) (view_of new) → AreSeats ring new c claims
-same_seats ring old new c claims seats is keeps = record { start = seats.start; producer = is; alone = keeps.shares ∙ seats.alone; consumer = seats.consumer; held = same_open ring old new claims keeps.claims seats.held }
+pub same_seats : {K : Type 0} (ring : Ring K) (old new : Producer) (c : Consumer) (claims : List (Option ClaimAt))
+    → AreSeats ring old c claims → IsProducerOf ring new → Keeps (view_of old) (view_of new)
+    → AreSeats ring new c claims
+same_seats ring old new c claims seats is keeps =
+    record {
+      start = seats.start;
+      producer = is;
+      alone = keeps.shares
+          ∙ seats.alone;
+      consumer = seats.consumer;
+      held = same_open ring old new claims keeps.claims seats.held;
+    }

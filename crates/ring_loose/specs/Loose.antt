@@ -20,8 +20,10 @@ pub record Loose : Type 0 where
   pub holder : Holder
   pub consumer : View
 
--- the ring began at 0, the producer and the consumer are its own, no other producer has a share, and the claims are the producer's open ones
-pub record AreSeats {K : Type 0} (ring : Ring K) (p : Producer) (c : Consumer) (claims : List (Option ClaimAt)) : Type 0 where
+-- the ring began at 0, the producer and the consumer are its own, no other producer has a share, and the claims are the
+-- producer's open ones
+pub record AreSeats {K : Type 0} (ring : Ring K) (p : Producer) (c : Consumer)
+    (claims : List (Option ClaimAt)) : Type 0 where
   pub start : start_of ring ≡ 0
   pub producer : IsProducerOf ring p
   pub alone : shares_of p ≡ 65536

@@ -37,7 +37,8 @@ IsTold Nothing old new = GotNothing old new
 IsTold (Lapped lapped) old new = GotLapped lapped old new
 
 -- the receiver of this number was told this, and no other one changed
-pub record ReceivesAt (told : Received) (old : Numbered CopyReceiver) (number : ℕ) (new : Numbered CopyReceiver) : Type 0 where
+pub record ReceivesAt (told : Received) (old : Numbered CopyReceiver) (number : ℕ)
+    (new : Numbered CopyReceiver) : Type 0 where
   pub before : CopyReceiver
   pub after : CopyReceiver
   pub told_it : IsTold told (receiver_seat before) (receiver_seat after)

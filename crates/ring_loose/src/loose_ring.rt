@@ -268,7 +268,8 @@ impl LooseRing {
 
     /// Loads the head, and then the tail.
     pub fn positions(&mut self) -> Positions
-        ensures loads { LoadsPositions self.old.capacity self.old.holder.view result.head result.tail self.new.holder.view }
+        ensures loads { LoadsPositions self.old.capacity self.old.holder.view result.head result.tail
+            self.new.holder.view }
         ensures rest { self.new ≡ with_view self.new.holder.view self.old }
     {
         self.ring.positions(&mut self.producer)

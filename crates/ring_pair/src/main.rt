@@ -72,7 +72,8 @@ fn read_numbers<R: Wait>(rt: &R, ring: &OneToOneRing, mut consumer: Consumer) ->
         if sum.count >= NUMBERS {
             return (consumer, sum);
         }
-        // No bytes: nothing was settled at the head. A read that only comes to the end of the buffer moves the head too.
+        // No bytes: nothing was settled at the head. A read that only comes to the end of the buffer moves the head
+        // too.
         if ring.read(&mut consumer, u32::MAX, &mut sum).bytes == 0 {
             backoff.snooze();
         } else {

@@ -30,9 +30,11 @@ read_at [] i a e = absurd (some-ne-none a (sym e))
 read_at (x ∷ xs) zero a e = some-injective x a e
 read_at (x ∷ xs) (suc i) a e = read_at xs i a e
 
-placed_lawful : (C e : ℕ) (cs : List StagedClaim) → ArePlaced C e cs → All (λ (c : Claim). IsMessage C c.message) (claims_of cs)
+placed_lawful : (C e : ℕ) (cs : List StagedClaim) → ArePlaced C e cs
+    → All (λ (c : Claim). IsMessage C c.message) (claims_of cs)
 placed_lawful C e [] placed = All-nil (λ (c : Claim). IsMessage C c.message)
-placed_lawful C e (c ∷ cs) placed = All-cons (λ (d : Claim). IsMessage C d.message) _ (claims_of cs) placed.0.message (placed_lawful C (claim_end c) cs placed.1)
+placed_lawful C e (c ∷ cs) placed = All-cons (λ (d : Claim). IsMessage C d.message) _ (claims_of cs) placed.0.message
+    (placed_lawful C (claim_end c) cs placed.1)
 
 -- placed claims rise
 placed_above : (C e p : ℕ) (cs : List StagedClaim) → ArePlaced C e cs → p < e → AreAbove p cs
@@ -49,14 +51,18 @@ placed_rising C e (c ∷ cs) placed =
     (placed_above C (claim_end c) c.place cs placed.1 (omega arith), placed_rising C (claim_end c) cs placed.1)
 
 -- v is the view of the seat that closed the ring, and nothing of a read is cleared beyond the head
-module _ (C start : ℕ) (words : List ℕ) (v : View) (closed : IsClosed C start words v) (leaves : LeavesRest C words v) where
+module _ (C start : ℕ) (words : List ℕ) (v : View) (closed : IsClosed C start words v)
+    (leaves : LeavesRest C words v) where
   rest_has : Has (ring C words) (claims_of leaves.rest)
   rest_has =
       let head = closed.memory.head_is in
       record {
-        lawful = subst (λ (h : List Claim). All (λ (c : Claim). IsMessage C c.message) h) (claims_of-restarted v.consumer.head leaves.rest) (placed_lawful C v.consumer.head (restarted v.consumer.head leaves.rest) leaves.placed);
+        lawful = subst (λ (h : List Claim). All (λ (c : Claim). IsMessage C c.message) h)
+            (claims_of-restarted v.consumer.head leaves.rest)
+            (placed_lawful C v.consumer.head (restarted v.consumer.head leaves.rest) leaves.placed);
         ends = ap (λ (h : ℕ). end_of C h (claims_of leaves.rest)) head ∙ sym leaves.end_is;
-        picture = subst (λ (h : ℕ). IsPicture (λ i. slice_index words i) C h (claims_of leaves.rest)) (sym head) leaves.picture;
+        picture = subst (λ (h : ℕ). IsPicture (λ i. slice_index words i) C h (claims_of leaves.rest))
+            (sym head) leaves.picture;
       }
 
   rest_is_ring : IsRing (ring C words)
@@ -84,7 +90,8 @@ module _ (C start : ℕ) (words : List ℕ) (v : View) (closed : IsClosed C star
     hands_out : HandsOut C start p (at_rest r) (ring C words)
     hands_out =
         let head : v.consumer.head ≡ r.consumer.head = ap (λ (u : View). u.consumer.head) both in
-        let placed : ArePlaced C start p.producer.claims = subst (ArePlaced C start) (ap (λ (u : View). u.producer.claims) both) closed.memory.placed in
+        let placed : ArePlaced C start p.producer.claims =
+        subst (ArePlaced C start) (ap (λ (u : View). u.producer.claims) both) closed.memory.placed in
         record {
           ordered = record { placed = placed; rising = placed_rising C start p.producer.claims placed };
           passed = leaves.taken;
@@ -104,19 +111,27 @@ module _ (C start : ℕ) (words : List ℕ) (v : View) (closed : IsClosed C star
         let consumer = ap (λ (u : View). u.consumer) both in
         record {
           drawn = closed.drawn;
-          once = subst (λ (u : ProducerView). (x : ℕ) → times_drawn x u ≡ once_below x closed.drawn) producer closed.once;
-          served = subst (λ (u : View). AreServed closed.drawn u.consumer.heartbeats (u.producer.service ∷ u.producer.joined)) both closed.served;
+          once =
+              subst (λ (u : ProducerView). (x : ℕ) → times_drawn x u ≡ once_below x closed.drawn) producer closed.once;
+          served = subst (λ (u : View). AreServed closed.drawn u.consumer.heartbeats
+              (u.producer.service ∷ u.producer.joined)) both closed.served;
           correlation = closed.service.correlation;
-          heartbeat = subst (λ (u : ConsumerView). get_elem? (0 ∷ u.heartbeats) (length u.heartbeats) ≡ some (slice_index words (heartbeat_index C))) consumer closed.service.heartbeat;
-          cache = subst (λ (u : ConsumerView). slice_index words (head_cache_index C) ≤ u.head) consumer closed.service.cache;
+          heartbeat = subst (λ (u : ConsumerView). get_elem? (0 ∷ u.heartbeats) (length u.heartbeats)
+              ≡ some (slice_index words (heartbeat_index C))) consumer closed.service.heartbeat;
+          cache = subst (λ (u : ConsumerView). slice_index words (head_cache_index C) ≤ u.head) consumer
+              closed.service.cache;
           unnamed = closed.service.unnamed;
         }
 
--- v is the view of a producer p that the consumer r was joined into, and the items are a copy of the closed table's words
-module _ (K C start : ℕ) (same : K ≡ C) (words items : List ℕ) (copied : items ≡ words) (v p r : View) (both : v ≡ with_consumer_of p r) (closed : IsClosed K start words v)
-    (leaves : open_count v.producer.claims ≡ 0 → v.consumer.cleared ≡ v.consumer.head → LeavesRest K words v) (none_open : open_count p.producer.claims ≡ 0) (none_cleared : r.consumer.cleared ≡ r.consumer.head) where
+-- v is the view of a producer p that the consumer r was joined into, and the items are a copy of the closed table's
+-- words
+module _ (K C start : ℕ) (same : K ≡ C) (words items : List ℕ) (copied : items ≡ words) (v p r : View)
+    (both : v ≡ with_consumer_of p r) (closed : IsClosed K start words v)
+    (leaves : open_count v.producer.claims ≡ 0 → v.consumer.cleared ≡ v.consumer.head → LeavesRest K words v)
+    (none_open : open_count p.producer.claims ≡ 0) (none_cleared : r.consumer.cleared ≡ r.consumer.head) where
   left : LeavesRest K words v
-  left = leaves (ap (λ (u : View). open_count u.producer.claims) both ∙ none_open) (ap (λ (u : View). u.consumer.cleared) both ∙ none_cleared ∙ sym (ap (λ (u : View). u.consumer.head) both))
+  left = leaves (ap (λ (u : View). open_count u.producer.claims) both ∙ none_open)
+      (ap (λ (u : View). u.consumer.cleared) both ∙ none_cleared ∙ sym (ap (λ (u : View). u.consumer.head) both))
 
   carried : (P : ℕ → List ℕ → Type 0) → P K words → P C items
   carried P t = subst (λ (k : ℕ). P k items) same (subst (P K) (sym copied) t)
@@ -125,7 +140,8 @@ module _ (K C start : ℕ) (same : K ≡ C) (words items : List ℕ) (copied : i
   closes_to_ring = carried (λ k l. IsRing (ring k l)) (rest_is_ring K start words v closed left)
 
   pub closes_with_rest : HandsOut C start p (at_rest r) (ring C items)
-  closes_with_rest = carried (λ k l. HandsOut k start p (at_rest r) (ring k l)) (hands_out K start words v closed left p r both)
+  closes_with_rest =
+      carried (λ k l. HandsOut k start p (at_rest r) (ring k l)) (hands_out K start words v closed left p r both)
 
   pub closes_with_service : Serves C p (at_rest r) (ring C items)
   closes_with_service = carried (λ k l. Serves k p (at_rest r) (ring k l)) (serves K start words v closed left p r both)

@@ -16,13 +16,15 @@ use Rattle.ring_table.proofs.LawLemmas.{open_count-changed}
 use Rattle.ring_rings.proofs.RisingLemmas.{rising_kept}
 
 -- an open claim that is settled counts no more
-pub settles_one : (v : View) (place at : ℕ) (type_id : ℤ) (len : ℕ) (s : ClaimState) → HasClaimAt v place (IsOpen type_id len) → at ≡ place → AreRising v.producer.claims → one_if_open s ≡ 0
+pub settles_one : (v : View) (place at : ℕ) (type_id : ℤ) (len : ℕ) (s : ClaimState)
+    → HasClaimAt v place (IsOpen type_id len) → at ≡ place → AreRising v.producer.claims → one_if_open s ≡ 0
     → open_count (changed at (staged (Stored s)) v.producer.claims) + 1 ≡ open_count v.producer.claims
 settles_one v place at type_id len s h same rising settled =
     let f : StagedClaim → StagedClaim = staged (Stored s) in
     let count : ℕ = open_count (changed h.claim.place f v.producer.claims) in
     let old : ℕ = open_count v.producer.claims in
-    let change : count + one_if_open (state_of h.claim.stage) ≡ old + one_if_open s = open_count-changed f v.producer.claims h.nth h.claim rising h.there in
+    let change : count + one_if_open (state_of h.claim.stage) ≡ old + one_if_open s =
+    open_count-changed f v.producer.claims h.nth h.claim rising h.there in
     let was : one_if_open (state_of h.claim.stage) ≡ 1 = ap (λ t. one_if_open (state_of t)) h.holds.stage in
     let done : count + 1 ≡ old = omega arith in
     subst (λ p. open_count (changed p f v.producer.claims) + 1 ≡ old) (h.at_place ∙ sym same) done
@@ -53,18 +55,21 @@ module _ (f : StagedClaim → StagedClaim) (p : ℕ) (keeps : (c : StagedClaim) 
   count_kept [] = refl
   count_kept (c ∷ cs) =
       let deeper = count_kept cs in
-      let here : one_if_open (state_of (changed_at p f c).stage) ≡ one_if_open (state_of c.stage) = ap (λ t. one_if_open (state_of t)) (stage_after c) in
+      let here : one_if_open (state_of (changed_at p f c).stage) ≡ one_if_open (state_of c.stage) =
+      ap (λ t. one_if_open (state_of t)) (stage_after c) in
       omega arith
 
 pub stored_more : (cs : List StagedClaim) (c : StagedClaim) → AreStored cs → IsStored c.stage → AreStored (cs ++ c ∷ [])
 stored_more [] c t s = (s, tt)
 stored_more (d ∷ ds) c t s = (t.0, stored_more ds c t.1 s)
 
-insert_by : (b : Bool) (c d : StagedClaim) (ds more : List StagedClaim) → IsStored c.stage → AreStored (d ∷ ds) → AreStored more → AreStored (cond b (c ∷ d ∷ ds) (d ∷ more))
+insert_by : (b : Bool) (c d : StagedClaim) (ds more : List StagedClaim) → IsStored c.stage → AreStored (d ∷ ds)
+    → AreStored more → AreStored (cond b (c ∷ d ∷ ds) (d ∷ more))
 insert_by true c d ds more s t m = (s, t)
 insert_by false c d ds more s t m = (t.0, m)
 
-stored_insert : (c : StagedClaim) (cs : List StagedClaim) → IsStored c.stage → AreStored cs → AreStored (insert_claim c cs)
+stored_insert : (c : StagedClaim) (cs : List StagedClaim) → IsStored c.stage → AreStored cs
+    → AreStored (insert_claim c cs)
 stored_insert c [] s t = (s, tt)
 stored_insert c (d ∷ ds) s t = insert_by (ltb c.place d.place) c d ds (insert_claim c ds) s t (stored_insert c ds s t.1)
 
@@ -72,8 +77,10 @@ pub stored_interleaved : (xs ys : List StagedClaim) → AreStored xs → AreStor
 stored_interleaved xs [] s t = s
 stored_interleaved xs (y ∷ ys) s t = stored_insert y (interleaved xs ys) t.0 (stored_interleaved xs ys s t.1)
 
-pub open_count-more : (cs : List StagedClaim) (c : StagedClaim) → open_count (cs ++ c ∷ []) ≡ open_count cs + one_if_open (state_of c.stage)
-open_count-more [] c = let one : ℕ = one_if_open (state_of c.stage) in let done : one + 0 ≡ 0 + one = omega arith in done
+pub open_count-more : (cs : List StagedClaim) (c : StagedClaim)
+    → open_count (cs ++ c ∷ []) ≡ open_count cs + one_if_open (state_of c.stage)
+open_count-more [] c =
+    let one : ℕ = one_if_open (state_of c.stage) in let done : one + 0 ≡ 0 + one = omega arith in done
 open_count-more (d ∷ ds) c =
     let here : ℕ = one_if_open (state_of d.stage) in
     let one : ℕ = one_if_open (state_of c.stage) in
@@ -84,8 +91,11 @@ open_count-more (d ∷ ds) c =
     done
 
 -- what a producer keeps after one of its open claims is settled
-pub matches_settled : (v w : View) (shares open_claims own_tail place at : ℕ) (type_id : ℤ) (len : ℕ) (s : ClaimState) → Matches v shares open_claims own_tail → HasClaimAt v place (IsOpen type_id len) → at ≡ place → AreRising v.producer.claims
-    → w ≡ with_claims (changed at (staged (Stored s)) v.producer.claims) v → one_if_open s ≡ 0 → Matches w shares (open_claims - 1) own_tail
+pub matches_settled : (v w : View) (shares open_claims own_tail place at : ℕ) (type_id : ℤ) (len : ℕ) (s : ClaimState)
+    → Matches v shares open_claims own_tail → HasClaimAt v place (IsOpen type_id len) → at ≡ place
+    → AreRising v.producer.claims
+    → w ≡ with_claims (changed at (staged (Stored s)) v.producer.claims) v → one_if_open s ≡ 0
+    → Matches w shares (open_claims - 1) own_tail
 matches_settled v w shares open_claims own_tail place at type_id len s known h same rising is settled =
     let counted = known.counted in
     let one = settles_one v place at type_id len s h same rising settled in

@@ -17,7 +17,8 @@ index_of_body C p k inside =
     omega (arith, on, ap (index C) same)
 
 -- what is left of the block that a read began in
-pub inside_block : (C start head to : ℕ) → 0 < C → start ≤ head → head ≤ to → to ≤ start + room C start → head % C + to ≤ head + C
+pub inside_block : (C start head to : ℕ) → 0 < C → start ≤ head → head ≤ to → to ≤ start + room C start
+    → head % C + to ≤ head + C
 inside_block C start head to some on more within =
     let low = mod_below start C some in
     elim (cases_lt head (start + room C start)) as (λ _. head % C + to ≤ head + C) [

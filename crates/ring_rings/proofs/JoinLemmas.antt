@@ -14,7 +14,8 @@ use Rattle.ring_rings.specs.Matching.{Matches}
 use Rattle.ring_rings.proofs.CountLemmas.{open_few, stored_interleaved}
 
 -- claims that rise and end below a position are not more than that
-few_below : (n : ℕ) (c : StagedClaim) (cs : List StagedClaim) → AreRising (c ∷ cs) → EndBelow n (c ∷ cs) → c.place + length (c ∷ cs) ≤ n
+few_below : (n : ℕ) (c : StagedClaim) (cs : List StagedClaim) → AreRising (c ∷ cs) → EndBelow n (c ∷ cs)
+    → c.place + length (c ∷ cs) ≤ n
 few_below n c [] rising ends = let first : claim_end c ≤ n = ends 0 c refl in omega arith
 few_below n c (d ∷ ds) rising ends =
     let above = rising.0.0 in
@@ -29,12 +30,18 @@ length_below n (c ∷ cs) rising ends = let few = few_below n c cs rising ends i
 module _ (C n : ℕ) (v w u u2 : View) (both : u ≡ with_producer_of v w) (loaded : LoadsTail C u n u2) where
   pub joins : Joins C v w u2
   joins =
-      let tails : u.producer.seen_tail ≡ max v.producer.seen_tail w.producer.seen_tail = ap (λ (z : View). z.producer.seen_tail) both in
+      let tails : u.producer.seen_tail ≡ max v.producer.seen_tail w.producer.seen_tail =
+      ap (λ (z : View). z.producer.seen_tail) both in
       let later = loaded.later in
       record {
         tail = n;
         head = max v.producer.seen_head w.producer.seen_head;
-        view = loaded.view ∙ ap (λ (z : View). record z { log = z.log ++ (tail_index C, n) ∷ []; producer = record z.producer { seen_tail = n } }) both;
+        view = loaded.view
+            ∙ ap (λ (z : View). record z {
+              log = z.log ++ (tail_index C, n) ∷ [];
+              producer =
+                  record z.producer { seen_tail = n };
+            }) both;
         later = omega arith;
         later_too = omega arith;
       }
@@ -45,7 +52,8 @@ module _ (C n : ℕ) (v w u u2 : View) (both : u ≡ with_producer_of v w) (load
   pub joined_claims : u2.producer.claims ≡ interleaved v.producer.claims w.producer.claims
   joined_claims = ap (λ (z : View). z.producer.claims) loaded.view ∙ claims_are
 
-  module _ (shares open_claims own_tail other_shares other_open other_tail : ℕ) (known : Matches v shares open_claims own_tail) (other : Matches w other_shares other_open other_tail) where
+  module _ (shares open_claims own_tail other_shares other_open other_tail : ℕ)
+      (known : Matches v shares open_claims own_tail) (other : Matches w other_shares other_open other_tail) where
     open_are : open_count u.producer.claims ≡ open_claims + other_open
     open_are =
         let a = known.counted in
@@ -66,7 +74,8 @@ module _ (C n : ℕ) (v w u u2 : View) (both : u ≡ with_producer_of v w) (load
         let a = known.shares_are in
         let b = other.shares_are in
         let some = known.some in
-        let shares_of : u.producer.shares ≡ v.producer.shares + w.producer.shares = ap (λ (z : View). z.producer.shares) both in
+        let shares_of : u.producer.shares ≡ v.producer.shares + w.producer.shares =
+        ap (λ (z : View). z.producer.shares) both in
         let same : u2.producer.shares ≡ u.producer.shares = ap (λ (z : View). z.producer.shares) loaded.view in
         let claims : u2.producer.claims ≡ u.producer.claims = ap (λ (z : View). z.producer.claims) loaded.view in
         let most = loaded.shares in
@@ -76,7 +85,8 @@ module _ (C n : ℕ) (v w u u2 : View) (both : u ≡ with_producer_of v w) (load
           most = omega arith;
           counted = ap open_count claims ∙ open_are;
           rising = subst AreRising (sym claims) loaded.rising;
-          stored = subst AreStored (sym (claims ∙ claims_are)) (stored_interleaved v.producer.claims w.producer.claims known.stored other.stored);
+          stored = subst AreStored (sym (claims ∙ claims_are))
+              (stored_interleaved v.producer.claims w.producer.claims known.stored other.stored);
           own = λ all. ap (λ (z : View). z.producer.seen_tail) loaded.view;
           whole = loaded.position.aligned;
           limit = loaded.position.limit;

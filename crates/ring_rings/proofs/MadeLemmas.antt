@@ -22,7 +22,8 @@ use Rattle.ring_rings.proofs.NewestLemmas.{has_last}
 use Rattle.ring_rings.proofs.RisingLemmas.{rising_more}
 
 -- a claim stays where others come behind it
-pub has_more : (v w : View) (c : StagedClaim) (place : ℕ) (P : StagedClaim → Type 0) → w.producer.claims ≡ v.producer.claims ++ c ∷ [] → HasClaimAt v place P → HasClaimAt w place P
+pub has_more : (v w : View) (c : StagedClaim) (place : ℕ) (P : StagedClaim → Type 0)
+    → w.producer.claims ≡ v.producer.claims ++ c ∷ [] → HasClaimAt v place P → HasClaimAt w place P
 has_more v w c place P more h = record {
   nth = h.nth;
   claim = h.claim;
@@ -31,13 +32,16 @@ has_more v w c place P more h = record {
   holds = h.holds;
 }
 
-module _ (C tail : ℕ) (type_id : ℤ) (len : ℕ) (front : List (ℕ × ℕ)) (v : View) (a : Admission) (w : View) (made : Makes C tail type_id len front v a w) where
+module _ (C tail : ℕ) (type_id : ℤ) (len : ℕ) (front : List (ℕ × ℕ)) (v : View) (a : Admission) (w : View)
+    (made : Makes C tail type_id len front v a w) where
   pub made_claims : w.producer.claims ≡ v.producer.claims ++ claim_behind C tail type_id len ∷ []
   made_claims = ap (λ (u : View). u.producer.claims) made.view
 
   -- the claim is open
   pub made_open : HasClaimAt w a.place (IsOpen type_id len)
-  made_open = has_last w v.producer.claims (claim_behind C tail type_id len) made_claims a.place (sym made.admitted.place) (IsOpen type_id len) (record { stage = refl; type_is = refl; len_is = length-replicate len 0 })
+  made_open = has_last w v.producer.claims (claim_behind C tail type_id len) made_claims a.place
+      (sym made.admitted.place) (IsOpen type_id len)
+      (record { stage = refl; type_is = refl; len_is = length-replicate len 0 })
 
   module _ (shares open_claims own_tail : ℕ) (known : Matches v shares open_claims own_tail) where
     pub made_few : open_claims + 1 < 2 ^ 64
@@ -53,7 +57,8 @@ module _ (C tail : ℕ) (type_id : ℤ) (len : ℕ) (front : List (ℕ × ℕ)) 
     pub made_matches : Matches w shares (open_claims + 1) a.end
     made_matches =
         let counted = known.counted in
-        let count : open_count w.producer.claims ≡ open_count v.producer.claims + 1 = ap open_count made_claims ∙ open_count-more v.producer.claims (claim_behind C tail type_id len) in
+        let count : open_count w.producer.claims ≡ open_count v.producer.claims + 1 =
+        ap open_count made_claims ∙ open_count-more v.producer.claims (claim_behind C tail type_id len) in
         let end = made.admitted.end in
         let whole = made.whole in
         let limit = made.admitted.limit in
@@ -62,8 +67,11 @@ module _ (C tail : ℕ) (type_id : ℤ) (len : ℕ) (front : List (ℕ × ℕ)) 
           some = known.some;
           most = known.most;
           counted = omega arith;
-          rising = subst AreRising (sym made_claims) (rising_more tail v.producer.claims (claim_behind C tail type_id len) known.rising made.behind (next_le C tail (span len)));
-          stored = subst AreStored (sym made_claims) (stored_more v.producer.claims (claim_behind C tail type_id len) known.stored tt);
+          rising = subst AreRising (sym made_claims)
+              (rising_more tail v.producer.claims (claim_behind C tail type_id len) known.rising made.behind
+              (next_le C tail (span len)));
+          stored = subst AreStored (sym made_claims)
+              (stored_more v.producer.claims (claim_behind C tail type_id len) known.stored tt);
           own = λ all. ap (λ (u : View). u.producer.seen_tail) made.view ∙ sym end;
           whole = whole;
           limit = rw end limit;
@@ -85,24 +93,29 @@ module _ (C tail : ℕ) (type_id : ℤ) (len : ℕ) (front : List (ℕ × ℕ)) 
   has_just_made = record { tail = tail; others = v.producer.claims; made = just_made }
 
   -- its body is stored, and it is committed
-  module _ (body : List ℕ) (len_is : length body ≡ len) (u : View) (stored : u ≡ with_claims (v.producer.claims ++ record_behind C tail type_id body ∷ []) w) where
+  module _ (body : List ℕ) (len_is : length body ≡ len) (u : View)
+      (stored : u ≡ with_claims (v.producer.claims ++ record_behind C tail type_id body ∷ []) w) where
     pub written_claims : u.producer.claims ≡ v.producer.claims ++ record_behind C tail type_id body ∷ []
     written_claims = ap (λ (z : View). z.producer.claims) stored
 
-    pub written_view : u ≡ with_claim (record_behind C tail type_id body) (end_after C tail (span (length body))) (looked (front ++ made.loads) tail made.head v)
+    pub written_view : u ≡ with_claim (record_behind C tail type_id body) (end_after C tail (span (length body)))
+        (looked (front ++ made.loads) tail made.head v)
     written_view =
         let same = sym len_is in
         stored
         ∙ ap (with_claims (v.producer.claims ++ record_behind C tail type_id body ∷ [])) made.view
-        ∙ ap (λ (n : ℕ). with_claim (record_behind C tail type_id body) (end_after C tail (span n)) (looked (front ++ made.loads) tail made.head v)) same
+        ∙ ap (λ (n : ℕ). with_claim (record_behind C tail type_id body) (end_after C tail (span n))
+        (looked (front ++ made.loads) tail made.head v)) same
 
     pub written_refusal : tail_refusal_of C tail type_id (length body) ≡ None
     written_refusal = subst (λ (n : ℕ). tail_refusal_of C tail type_id n ≡ None) (sym len_is) made.refusal
 
-    pub written_matches : (shares open_claims own_tail : ℕ) → Matches v shares open_claims own_tail → Matches u shares open_claims a.end
+    pub written_matches : (shares open_claims own_tail : ℕ) → Matches v shares open_claims own_tail
+        → Matches u shares open_claims a.end
     written_matches shares open_claims own_tail known =
         let counted = known.counted in
-        let count : open_count u.producer.claims ≡ open_count v.producer.claims + 0 = ap open_count written_claims ∙ open_count-more v.producer.claims (record_behind C tail type_id body) in
+        let count : open_count u.producer.claims ≡ open_count v.producer.claims + 0 =
+        ap open_count written_claims ∙ open_count-more v.producer.claims (record_behind C tail type_id body) in
         let end = made.admitted.end in
         let limit = made.admitted.limit in
         record {
@@ -110,9 +123,14 @@ module _ (C tail : ℕ) (type_id : ℤ) (len : ℕ) (front : List (ℕ × ℕ)) 
           some = known.some;
           most = known.most;
           counted = omega arith;
-          rising = subst AreRising (sym written_claims) (rising_more tail v.producer.claims (record_behind C tail type_id body) known.rising made.behind (next_le C tail (span (length body))));
-          stored = subst AreStored (sym written_claims) (stored_more v.producer.claims (record_behind C tail type_id body) known.stored tt);
-          own = λ all. ap (λ (z : View). z.producer.seen_tail) (stored ∙ ap (with_claims (v.producer.claims ++ record_behind C tail type_id body ∷ [])) made.view) ∙ sym end;
+          rising = subst AreRising (sym written_claims)
+              (rising_more tail v.producer.claims (record_behind C tail type_id body) known.rising made.behind
+              (next_le C tail (span (length body))));
+          stored = subst AreStored (sym written_claims)
+              (stored_more v.producer.claims (record_behind C tail type_id body) known.stored tt);
+          own = λ all. ap (λ (z : View). z.producer.seen_tail)
+              (stored ∙ ap (with_claims (v.producer.claims ++ record_behind C tail type_id body ∷ [])) made.view)
+              ∙ sym end;
           whole = made.whole;
           limit = rw end limit;
         }

@@ -30,11 +30,20 @@ pub record Ends (scan : ℕ) (got : List PlacedMessage) (w x : View) (loads : Li
   pub heartbeats : x.consumer.heartbeats ≡ w.consumer.heartbeats
 
 pub ends_now : (scan : ℕ) (got : List PlacedMessage) (w x : View) → Settles scan got w x → Ends scan got w x []
-ends_now scan got w x p = record { view = loads_quiet w x p.view; head = p.head; cleared = p.cleared; taken = p.taken; heartbeats = p.heartbeats }
+ends_now scan got w x p = record {
+  view = loads_quiet w x p.view;
+  head = p.head;
+  cleared = p.cleared;
+  taken =
+      p.taken;
+  heartbeats = p.heartbeats;
+}
 
-pub ends_more : (scan : ℕ) (got : List PlacedMessage) (w x y : View) (loads : List (ℕ × ℕ)) → LoadsMore w loads x → x.consumer.heartbeats ≡ w.consumer.heartbeats → Settles scan got x y → Ends scan got w y loads
+pub ends_more : (scan : ℕ) (got : List PlacedMessage) (w x y : View) (loads : List (ℕ × ℕ)) → LoadsMore w loads x
+    → x.consumer.heartbeats ≡ w.consumer.heartbeats → Settles scan got x y → Ends scan got w y loads
 ends_more scan got w x y loads p h q = record {
-  view = subst (λ (l : List (ℕ × ℕ)). LoadsMore w l y) (append-nil loads) (loads_more w x y loads [] p (loads_quiet x y q.view));
+  view = subst (λ (l : List (ℕ × ℕ)). LoadsMore w l y) (append-nil loads)
+      (loads_more w x y loads [] p (loads_quiet x y q.view));
   head = q.head;
   cleared = q.cleared;
   taken = q.taken;
@@ -42,20 +51,25 @@ ends_more scan got w x y loads p h q = record {
 }
 
 -- where nothing was found, the read stands where it stood
-pub nothing_stands : (C scan : ℕ) (got : List PlacedMessage) (w x : View) → IsAt scan got w → FindsNothing C scan got w x → IsAt scan got x
+pub nothing_stands : (C scan : ℕ) (got : List PlacedMessage) (w x : View) → IsAt scan got w
+    → FindsNothing C scan got w x → IsAt scan got x
 nothing_stands C scan got w x at f = record {
-  first = λ e. at.first (e ∙ ap (λ (y : View). y.consumer.head) f.view) ∙ sym (ap (λ (y : View). y.consumer.taken) f.view);
+  first =
+      λ e. at.first (e ∙ ap (λ (y : View). y.consumer.head) f.view) ∙ sym (ap (λ (y : View). y.consumer.taken) f.view);
   later = λ _. (ap (λ (y : View). y.consumer.scan) f.view, ap (λ (y : View). y.consumer.got) f.view);
 }
 
-pub ends_nothing : (C scan : ℕ) (got : List PlacedMessage) (w x y : View) (f : FindsNothing C scan got w x) → Settles scan got x y → Ends scan got w y ((index C scan, f.found) ∷ [])
-ends_nothing C scan got w x y f = ends_more scan got w x y ((index C scan, f.found) ∷ []) (loads_by w x _ _ f.view) (ap (λ (z : View). z.consumer.heartbeats) f.view)
+pub ends_nothing : (C scan : ℕ) (got : List PlacedMessage) (w x y : View) (f : FindsNothing C scan got w x)
+    → Settles scan got x y → Ends scan got w y ((index C scan, f.found) ∷ [])
+ends_nothing C scan got w x y f = ends_more scan got w x y ((index C scan, f.found) ∷ []) (loads_by w x _ _ f.view)
+    (ap (λ (z : View). z.consumer.heartbeats) f.view)
 
 -- the head stands where all is taken
 pub settled_stands : {scan : ℕ} {got : List PlacedMessage} {w x : View} → Settles scan got w x → IsAt scan got x
 settled_stands p = record { first = λ _. sym p.taken; later = λ ne. absurd (ne (sym p.head)) }
 
-pub settles_more : {scan : ℕ} {got : List PlacedMessage} {w x y : View} → Settles scan got w x → Settles scan got x y → Settles scan got w y
+pub settles_more : {scan : ℕ} {got : List PlacedMessage} {w x y : View} → Settles scan got w x → Settles scan got x y
+    → Settles scan got w y
 settles_more {y = y} p q = record {
   view = q.view ∙ ap (λ (z : View). record z { consumer = y.consumer }) p.view;
   head = q.head;
@@ -66,19 +80,24 @@ settles_more {y = y} p q = record {
 
 module _ {S : Type 0} (step : S → Message → S → Action → Type 0) where
   -- a message that was shown, before it is passed
-  pub shown_left : (C scan : ℕ) (got : List PlacedMessage) (w x : View) (s t : S) (n : ℕ) (a : Action) → IsAt scan got w → ShowsOne step C scan got w s n a x t → IsLeft scan got x
+  pub shown_left : (C scan : ℕ) (got : List PlacedMessage) (w x : View) (s t : S) (n : ℕ) (a : Action) → IsAt scan got w
+      → ShowsOne step C scan got w s n a x t → IsLeft scan got x
   shown_left C scan got w x s t n a at f = record {
     last = f.message;
     is_last = ap (λ (y : View). y.consumer.got) f.view;
     there = f.place;
     passed = let e = ap (λ (y : View). y.consumer.scan) f.view in omega (arith, e);
-    first = λ e. at.first (e ∙ ap (λ (y : View). y.consumer.head) f.view) ∙ sym (ap (λ (y : View). y.consumer.taken) f.view);
+    first = λ e. at.first (e ∙ ap (λ (y : View). y.consumer.head) f.view)
+        ∙ sym (ap (λ (y : View). y.consumer.taken) f.view);
   }
 
-  pub ends_left : (C scan : ℕ) (got : List PlacedMessage) (w x y : View) (s t : S) (n : ℕ) (a : Action) (f : ShowsOne step C scan got w s n a x t) → Settles scan got x y → Ends scan got w y (record_loads C f.message)
-  ends_left C scan got w x y s t n a f = ends_more scan got w x y (record_loads C f.message) (loads_by w x _ _ f.view) (ap (λ (z : View). z.consumer.heartbeats) f.view)
+  pub ends_left : (C scan : ℕ) (got : List PlacedMessage) (w x y : View) (s t : S) (n : ℕ) (a : Action)
+      (f : ShowsOne step C scan got w s n a x t) → Settles scan got x y → Ends scan got w y (record_loads C f.message)
+  ends_left C scan got w x y s t n a f = ends_more scan got w x y (record_loads C f.message) (loads_by w x _ _ f.view)
+      (ap (λ (z : View). z.consumer.heartbeats) f.view)
 
-  module _ (limit : ℕ) (v w x : View) (s t : S) (scan count : ℕ) (r : Runs step limit v w s t scan count) (loads : List (ℕ × ℕ)) (e : Ends scan (v.consumer.taken ++ r.messages) w x loads) where
+  module _ (limit : ℕ) (v w x : View) (s t : S) (scan count : ℕ) (r : Runs step limit v w s t scan count)
+      (loads : List (ℕ × ℕ)) (e : Ends scan (v.consumer.taken ++ r.messages) w x loads) where
     pub reads_end : Reads step limit (at_rest v) (at_rest x) s t count
     reads_end = record {
       messages = r.messages;
@@ -88,7 +107,8 @@ module _ {S : Type 0} (step : S → Message → S → Action → Type 0) where
       taken = e.taken;
       moves = record {
         loads = r.loads ++ loads;
-        view = ap (λ (y : View). record y { consumer = (at_rest x).consumer }) (loads_more v w x r.loads loads r.view e.view);
+        view = ap (λ (y : View). record y { consumer = (at_rest x).consumer })
+            (loads_more v w x r.loads loads r.view e.view);
         heartbeats = e.heartbeats ∙ r.heartbeats;
         cleared = e.cleared ∙ sym e.head;
         rest = record { scan = refl; got = refl };
@@ -106,27 +126,50 @@ module _ {S : Type 0} (step : S → Message → S → Action → Type 0) where
     same_capacity = ap (λ (y : View). y.capacity) (loads_more v w x r.loads loads r.view e.view)
 
   -- the handler let it go on to the end
-  pub went_on : (limit : ℕ) (v w x : View) (s t : S) (scan count : ℕ) (r : RunsOn step limit v w s t scan count) (loads : List (ℕ × ℕ)) → Ends scan (v.consumer.taken ++ r.0.messages) w x loads
-      → (end : ReadEnd) → end.messages ≡ count → end.stopped ≡ stop_of v.capacity limit count scan end.bytes → WentOn step limit (at_rest v) (at_rest x) s t end
+  pub went_on : (limit : ℕ) (v w x : View) (s t : S) (scan count : ℕ) (r : RunsOn step limit v w s t scan count)
+      (loads : List (ℕ × ℕ)) → Ends scan (v.consumer.taken ++ r.0.messages) w x loads
+      → (end : ReadEnd) → end.messages ≡ count → end.stopped ≡ stop_of v.capacity limit count scan end.bytes
+      → WentOn step limit (at_rest v) (at_rest x) s t end
   unfolding reads_end
   went_on limit v w x s t scan count r loads e end counted stopped =
       let d = reads_end limit v w x s t scan count r.0 loads e in
       let same = same_capacity limit v w x s t scan count r.0 loads e in
       record {
-        reads = record { messages = d.messages; actions = d.actions; handled = d.handled; counted = counted ∙ d.counted; taken = d.taken; moves = d.moves; tight = λ h. d.tight (sym counted ∙ h) };
+        reads = record {
+          messages = d.messages;
+          actions = d.actions;
+          handled = d.handled;
+          counted = counted
+              ∙ d.counted;
+          taken = d.taken;
+          moves = d.moves;
+          tight = λ h. d.tight (sym counted ∙ h);
+        };
         went_on = r.1;
         stopped = stopped ∙ (λ i. stop_of (sym same i) limit (sym counted i) (sym e.head i) end.bytes);
       }
 
   -- it was stopped by Break at the last message
-  pub broke : (limit : ℕ) (v x y : View) (s u : S) (scan count : ℕ) (r : Runs step limit v x s u scan count) (before : List Action) → All GoesOn before → r.actions ≡ before ++ Break ∷ [] → IsTight v.consumer.head r.messages scan
+  pub broke : (limit : ℕ) (v x y : View) (s u : S) (scan count : ℕ) (r : Runs step limit v x s u scan count)
+      (before : List Action) → All GoesOn before → r.actions ≡ before ++ Break ∷ []
+      → IsTight v.consumer.head r.messages scan
       → Settles scan (v.consumer.taken ++ r.messages) x y
-      → (end : ReadEnd) → end.messages ≡ count → end.stopped ≡ Stop.Action → Broke step limit (at_rest v) (at_rest y) s u end
+      → (end : ReadEnd) → end.messages ≡ count → end.stopped ≡ Stop.Action
+      → Broke step limit (at_rest v) (at_rest y) s u end
   unfolding reads_end
   broke limit v x y s u scan count r before goes is tight p end counted stopped =
       let d = reads_end limit v x y s u scan count r [] (ends_now scan (v.consumer.taken ++ r.messages) x y p) in
       record {
-        reads = record { messages = d.messages; actions = d.actions; handled = d.handled; counted = counted ∙ d.counted; taken = d.taken; moves = d.moves; tight = λ h. d.tight (sym counted ∙ h) };
+        reads = record {
+          messages = d.messages;
+          actions = d.actions;
+          handled = d.handled;
+          counted = counted
+              ∙ d.counted;
+          taken = d.taken;
+          moves = d.moves;
+          tight = λ h. d.tight (sym counted ∙ h);
+        };
         before = before;
         went_on = goes;
         broke = is;
@@ -135,10 +178,13 @@ module _ {S : Type 0} (step : S → Message → S → Action → Type 0) where
       }
 
   -- it was stopped by Abort at one message more
-  pub aborts : (limit : ℕ) (v w x y : View) (s t u : S) (scan count n : ℕ) (a : Action) (r : RunsOn step limit v w s t scan count) (below : count < limit)
-      (inside : v.consumer.head < scan → scan % v.capacity ≢ 0) (f : ShowsOne step v.capacity scan (v.consumer.taken ++ r.0.messages) w t n a x u)
+  pub aborts : (limit : ℕ) (v w x y : View) (s t u : S) (scan count n : ℕ) (a : Action)
+      (r : RunsOn step limit v w s t scan count) (below : count < limit)
+      (inside : v.consumer.head < scan → scan % v.capacity ≢ 0)
+      (f : ShowsOne step v.capacity scan (v.consumer.taken ++ r.0.messages) w t n a x u)
       → Settles scan (v.consumer.taken ++ r.0.messages) x y
-      → (end : ReadEnd) → end.messages ≡ count → a ≡ Abort → end.stopped ≡ Stop.Action → Aborts step limit (at_rest v) (at_rest y) s u end
+      → (end : ReadEnd) → end.messages ≡ count → a ≡ Abort → end.stopped ≡ Stop.Action
+      → Aborts step limit (at_rest v) (at_rest y) s u end
   unfolding reads_end
   aborts limit v w x y s t u scan count n a r below inside f p end counted is stopped =
       let m : PlacedMessage = f.message in
@@ -148,7 +194,16 @@ module _ {S : Type 0} (step : S → Message → S → Action → Type 0) where
       let there : m.place ≡ y.consumer.head = f.place ∙ sym e.head in
       record {
         before = t;
-        reads = record { messages = d.messages; actions = d.actions; handled = d.handled; counted = counted ∙ d.counted; taken = d.taken; moves = d.moves; tight = λ h. d.tight (sym counted ∙ h) };
+        reads = record {
+          messages = d.messages;
+          actions = d.actions;
+          handled = d.handled;
+          counted = counted
+              ∙ d.counted;
+          taken = d.taken;
+          moves = d.moves;
+          tight = λ h. d.tight (sym counted ∙ h);
+        };
         went_on = r.1;
         message = m.message;
         aborted = subst (λ (b : Action). step t m.message u b) is f.shown;
@@ -156,16 +211,19 @@ module _ {S : Type 0} (step : S → Message → S → Action → Type 0) where
           before = r.0.loads;
           loads =
               log_ends limit v w y s t scan count r.0 (record_loads v.capacity m) e
-              ∙ (λ i. v.log ++ (r.0.loads ++ record_loads (sym same i) (record { place = there i; message = m.message })));
+              ∙ (λ i. v.log
+              ++ (r.0.loads ++ record_loads (sym same i) (record { place = there i; message = m.message })));
           lawful = subst (λ (C : ℕ). IsMessage C m.message) (sym same) f.lawful;
         };
         before_limit = omega (arith, counted, below);
-        before_end = subst (λ (q : ℕ × ℕ). v.consumer.head < q.0 → q.0 % q.1 ≢ 0) (λ i. (sym e.head i, sym same i)) inside;
+        before_end =
+            subst (λ (q : ℕ × ℕ). v.consumer.head < q.0 → q.0 % q.1 ≢ 0) (λ i. (sym e.head i, sym same i)) inside;
         stopped = stopped;
       }
 
   -- the last load found nothing at the new head
-  pub is_blocked : (limit : ℕ) (v w x y : View) (s t : S) (scan count : ℕ) (r : Runs step limit v w s t scan count) → FindsNothing v.capacity scan (v.consumer.taken ++ r.messages) w x
+  pub is_blocked : (limit : ℕ) (v w x y : View) (s t : S) (scan count : ℕ) (r : Runs step limit v w s t scan count)
+      → FindsNothing v.capacity scan (v.consumer.taken ++ r.messages) w x
       → Settles scan (v.consumer.taken ++ r.messages) x y → IsBlocked (at_rest v) (at_rest y)
   is_blocked limit v w x y s t scan count r f p =
       let e = ends_nothing v.capacity scan (v.consumer.taken ++ r.messages) w x y f p in
@@ -182,16 +240,25 @@ module _ {S : Type 0} (step : S → Message → S → Action → Type 0) where
 -- why a read stops
 module _ (C limit count head bytes : ℕ) where
   pub stops_limit : count ≡ limit → Limit ≡ stop_of C limit count head bytes
-  stops_limit e = sym (ap (λ (b : Bool). if b then Limit else (if (head % C == 0) && nat_lt 0 bytes then Block else Unpublished)) (eq-eqb count limit e))
+  stops_limit e =
+      sym (ap (λ (b : Bool). if b then Limit else (if (head % C == 0) && nat_lt 0 bytes then Block else Unpublished))
+      (eq-eqb count limit e))
 
-  before_limit : count ≢ limit → stop_of C limit count head bytes ≡ (if (head % C == 0) && nat_lt 0 bytes then Block else Unpublished)
-  before_limit ne = ap (λ (b : Bool). if b then Limit else (if (head % C == 0) && nat_lt 0 bytes then Block else Unpublished)) (ne_eqb count limit ne)
+  before_limit : count ≢ limit → stop_of C limit count head bytes
+      ≡ (if (head % C == 0) && nat_lt 0 bytes then Block else Unpublished)
+  before_limit ne =
+      ap (λ (b : Bool). if b then Limit else (if (head % C == 0) && nat_lt 0 bytes then Block else Unpublished))
+      (ne_eqb count limit ne)
 
   pub stops_block : count ≢ limit → head % C ≡ 0 → 0 < bytes → Block ≡ stop_of C limit count head bytes
-  stops_block ne end some = sym (before_limit ne ∙ ap (λ (b : Bool). if b then Block else Unpublished) (and_from (head % C == 0) (nat_lt 0 bytes) (eq-eqb (head % C) 0 end) (lt-ltb 0 bytes some)))
+  stops_block ne end some = sym (before_limit ne
+      ∙ ap (λ (b : Bool). if b then Block else Unpublished)
+      (and_from (head % C == 0) (nat_lt 0 bytes) (eq-eqb (head % C) 0 end) (lt-ltb 0 bytes some)))
 
   pub stops_unpublished : count ≢ limit → (0 < bytes → head % C ≢ 0) → Unpublished ≡ stop_of C limit count head bytes
-  stops_unpublished ne inside = sym (before_limit ne ∙ ap (λ (b : Bool). if b then Block else Unpublished) (elim (cases_lt 0 bytes) as (λ _. ((head % C == 0) && nat_lt 0 bytes) ≡ false) [
-    | inl some ↦ ap (λ (b : Bool). b && nat_lt 0 bytes) (ne_eqb (head % C) 0 (inside some))
-    | inr none ↦ and_right (head % C == 0) (nat_lt 0 bytes) (le-ltb 0 bytes none)
-  ]))
+  stops_unpublished ne inside = sym (before_limit ne
+      ∙ ap (λ (b : Bool). if b then Block else Unpublished)
+      (elim (cases_lt 0 bytes) as (λ _. ((head % C == 0) && nat_lt 0 bytes) ≡ false) [
+        | inl some ↦ ap (λ (b : Bool). b && nat_lt 0 bytes) (ne_eqb (head % C) 0 (inside some))
+        | inr none ↦ and_right (head % C == 0) (nat_lt 0 bytes) (le-ltb 0 bytes none)
+      ]))

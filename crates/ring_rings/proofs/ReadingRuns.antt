@@ -24,8 +24,10 @@ LoadsMore v loads w = w ≡ record v { log = v.log ++ loads; consumer = w.consum
 pub loads_none : (v : View) → LoadsMore v [] v
 loads_none v = ap (λ (l : List (ℕ × ℕ)). record v { log = l }) (sym (append-nil v.log))
 
-pub loads_by : (v w : View) (loads : List (ℕ × ℕ)) (c : ConsumerView) → w ≡ record v { log = v.log ++ loads; consumer = c } → LoadsMore v loads w
-loads_by v w loads c is = is ∙ ap (λ (x : ConsumerView). record v { log = v.log ++ loads; consumer = x }) (sym (ap (λ (x : View). x.consumer) is))
+pub loads_by : (v w : View) (loads : List (ℕ × ℕ)) (c : ConsumerView)
+    → w ≡ record v { log = v.log ++ loads; consumer = c } → LoadsMore v loads w
+loads_by v w loads c is = is ∙ ap (λ (x : ConsumerView). record v { log = v.log ++ loads; consumer = x })
+    (sym (ap (λ (x : View). x.consumer) is))
 
 pub loads_more : (v w x : View) (a b : List (ℕ × ℕ)) → LoadsMore v a w → LoadsMore w b x → LoadsMore v (a ++ b) x
 loads_more v w x a b p q =
@@ -34,10 +36,12 @@ loads_more v w x a b p q =
 
 -- nothing was loaded, but the consumer's part changed
 pub loads_quiet : (v w : View) → w ≡ record v { consumer = w.consumer } → LoadsMore v [] w
-loads_quiet v w is = is ∙ ap (λ (l : List (ℕ × ℕ)). record v { log = l; consumer = w.consumer }) (sym (append-nil v.log))
+loads_quiet v w is =
+    is ∙ ap (λ (l : List (ℕ × ℕ)). record v { log = l; consumer = w.consumer }) (sym (append-nil v.log))
 
 -- n bytes from `scan` on end in the block that the read began in
-pub stays_inside : (C start scan n : ℕ) → 0 < C → start ≤ scan → scan ≤ start + room C start → (start < scan → scan % C ≢ 0) → scan % C + n ≤ C → scan + n ≤ start + room C start
+pub stays_inside : (C start scan n : ℕ) → 0 < C → start ≤ scan → scan ≤ start + room C start
+    → (start < scan → scan % C ≢ 0) → scan % C + n ≤ C → scan + n ≤ start + room C start
 stays_inside C start scan n some on within inside fits =
     let low = mod_below start C some in
     elim (cases_lt start scan) as (λ _. scan + n ≤ start + room C start) [
@@ -56,7 +60,8 @@ stays_inside C start scan n some on within inside fits =
     ]
 
 -- a read that is not at the end of the block is not a whole lap from where it began
-pub stays_near : (C start scan : ℕ) → 0 < C → scan ≤ start + room C start → (start < scan → scan % C ≢ 0) → scan < start + C
+pub stays_near : (C start scan : ℕ) → 0 < C → scan ≤ start + room C start → (start < scan → scan % C ≢ 0)
+    → scan < start + C
 stays_near C start scan some within inside =
     let low = mod_below start C some in
     elim (cases_lt scan (start + room C start)) as (λ _. scan < start + C) [
@@ -66,12 +71,14 @@ stays_near C start scan some within inside =
           absurd (inside (omega arith) (ap (λ k. k % C) at_end ∙ mod_room C start some))
     ]
 
-pub messages_of-push : (ms : List PlacedMessage) (m : PlacedMessage) → messages_of (ms ++ m ∷ []) ≡ messages_of ms ++ m.message ∷ []
+pub messages_of-push : (ms : List PlacedMessage) (m : PlacedMessage)
+    → messages_of (ms ++ m ∷ []) ≡ messages_of ms ++ m.message ∷ []
 messages_of-push [] m = refl
 messages_of-push (x ∷ ms) m = ap (λ l. x.message ∷ l) (messages_of-push ms m)
 
 module _ {S : Type 0} (step : S → Message → S → Action → Type 0) (limit : ℕ) where
-  -- a read that began with the view v and the handler's state s is running: it has come to `scan`, with so many messages
+  -- a read that began with the view v and the handler's state s is running: it has come to `scan`, with so many
+  -- messages
   pub record Runs (v w : View) (s t : S) (scan count : ℕ) : Type 0 where
     pub messages : List PlacedMessage
     pub actions : List Action
@@ -88,7 +95,8 @@ module _ {S : Type 0} (step : S → Message → S → Action → Type 0) (limit 
     pub low : scan ≤ max_position
     pub tight : count ≡ limit → IsTight v.consumer.head messages scan
 
-  pub runs_none : (v : View) (s : S) → 0 < v.capacity → v.consumer.head % 8 ≡ 0 → v.consumer.head ≤ max_position → Runs v v s s v.consumer.head 0
+  pub runs_none : (v : View) (s : S) → 0 < v.capacity → v.consumer.head % 8 ≡ 0 → v.consumer.head ≤ max_position
+      → Runs v v s s v.consumer.head 0
   runs_none v s some whole low = record {
     messages = [];
     actions = [];
@@ -106,9 +114,11 @@ module _ {S : Type 0} (step : S → Message → S → Action → Type 0) (limit 
     tight = λ _. inl (refl, refl);
   }
 
-  module _ (v w : View) (s t : S) (scan count : ℕ) (r : Runs v w s t scan count) (some : 0 < v.capacity) (below : count ≢ limit) (inside : v.consumer.head < scan → scan % v.capacity ≢ 0) where
+  module _ (v w : View) (s t : S) (scan count : ℕ) (r : Runs v w s t scan count) (some : 0 < v.capacity)
+      (below : count ≢ limit) (inside : v.consumer.head < scan → scan % v.capacity ≢ 0) where
     -- padding or an aborted record is passed
-    pub runs_quiet : (n : ℕ) (x : View) → FindsQuiet v.capacity scan (v.consumer.taken ++ r.messages) w n x → Runs v x s t (scan + n) count
+    pub runs_quiet : (n : ℕ) (x : View) → FindsQuiet v.capacity scan (v.consumer.taken ++ r.messages) w n x
+        → Runs v x s t (scan + n) count
     runs_quiet n x f =
         let head : x.consumer.head ≡ w.consumer.head = ap (λ (y : View). y.consumer.head) f.view in
         let p = f.passed in
@@ -120,46 +130,64 @@ module _ {S : Type 0} (step : S → Message → S → Action → Type 0) (limit 
           loads = r.loads ++ (index v.capacity scan, f.found) ∷ [];
           view = loads_more v w x r.loads ((index v.capacity scan, f.found) ∷ []) r.view (loads_by w x _ _ f.view);
           heartbeats = ap (λ (y : View). y.consumer.heartbeats) f.view ∙ r.heartbeats;
-          stands = record { first = λ e. absurd (omega (arith, head, r.to, p.some)); later = λ _. (ap (λ (y : View). y.consumer.scan) f.view, ap (λ (y : View). y.consumer.got) f.view) };
+          stands = record {
+            first = λ e. absurd (omega (arith, head, r.to, p.some));
+            later =
+                λ _. (ap (λ (y : View). y.consumer.scan) f.view, ap (λ (y : View). y.consumer.got) f.view);
+          };
           from = omega (arith, head, r.from);
           to = omega (arith, head, r.to);
           whole = omega (arith, r.whole, p.whole);
-          within = stays_inside v.capacity v.consumer.head scan n some (omega (arith, r.from, r.to)) r.within inside p.inside.within;
+          within = stays_inside v.capacity v.consumer.head scan n some
+              (omega (arith, r.from, r.to)) r.within inside p.inside.within;
           low = p.inside.limit;
           tight = λ e. absurd (below e);
         }
 
     -- a message is shown
-    pub runs_shown : (n : ℕ) (a : Action) (x : View) (u : S) → ShowsOne step v.capacity scan (v.consumer.taken ++ r.messages) w t n a x u → Runs v x s u (scan + n) (count + 1)
+    pub runs_shown : (n : ℕ) (a : Action) (x : View) (u : S)
+        → ShowsOne step v.capacity scan (v.consumer.taken ++ r.messages) w t n a x u
+        → Runs v x s u (scan + n) (count + 1)
     runs_shown n a x u f =
         let m : PlacedMessage = f.message in
         let head : x.consumer.head ≡ w.consumer.head = ap (λ (y : View). y.consumer.head) f.view in
         let p = f.passed in
-        let more : (v.consumer.taken ++ r.messages) ++ m ∷ [] ≡ v.consumer.taken ++ (r.messages ++ m ∷ []) = append_assoc v.consumer.taken r.messages (m ∷ []) in
+        let more : (v.consumer.taken ++ r.messages) ++ m ∷ [] ≡ v.consumer.taken ++ (r.messages ++ m ∷ []) =
+        append_assoc v.consumer.taken r.messages (m ∷ []) in
         record {
           messages = r.messages ++ m ∷ [];
           actions = r.actions ++ a ∷ [];
-          handled = subst (λ (l : List Message). Handles step s l (r.actions ++ a ∷ []) u) (sym (messages_of-push r.messages m)) (Handles-push step s (messages_of r.messages) r.actions t m.message a u r.handled f.shown);
+          handled = subst (λ (l : List Message). Handles step s l (r.actions ++ a ∷ []) u)
+              (sym (messages_of-push r.messages m)) (Handles-push step s
+              (messages_of r.messages) r.actions t m.message a u r.handled f.shown);
           counted = ap (λ k. k + 1) r.counted ∙ sym (length_push r.messages m);
           loads = r.loads ++ record_loads v.capacity m;
           view = loads_more v w x r.loads (record_loads v.capacity m) r.view (loads_by w x _ _ f.view);
           heartbeats = ap (λ (y : View). y.consumer.heartbeats) f.view ∙ r.heartbeats;
-          stands = record { first = λ e. absurd (omega (arith, head, r.to, p.some)); later = λ _. (ap (λ (y : View). y.consumer.scan) f.view, ap (λ (y : View). y.consumer.got) f.view ∙ more) };
+          stands = record {
+            first = λ e. absurd (omega (arith, head, r.to, p.some));
+            later =
+                λ _. (ap (λ (y : View). y.consumer.scan) f.view, ap (λ (y : View). y.consumer.got) f.view ∙ more);
+          };
           from = omega (arith, head, r.from);
           to = omega (arith, head, r.to);
           whole = omega (arith, r.whole, p.whole);
-          within = stays_inside v.capacity v.consumer.head scan n some (omega (arith, r.from, r.to)) r.within inside p.inside.within;
+          within = stays_inside v.capacity v.consumer.head scan n some
+              (omega (arith, r.from, r.to)) r.within inside p.inside.within;
           low = p.inside.limit;
           tight = λ _. inr (r.messages, m, refl, omega (arith, f.place, f.bytes));
         }
 
     -- where the read then stands
-    pub stands_shown : (n : ℕ) (a : Action) (x : View) (u : S) (f : ShowsOne step v.capacity scan (v.consumer.taken ++ r.messages) w t n a x u) → IsAt (scan + n) (v.consumer.taken ++ (r.messages ++ f.message ∷ [])) x
+    pub stands_shown : (n : ℕ) (a : Action) (x : View) (u : S)
+        (f : ShowsOne step v.capacity scan (v.consumer.taken ++ r.messages) w t n a x u)
+        → IsAt (scan + n) (v.consumer.taken ++ (r.messages ++ f.message ∷ [])) x
     unfolding runs_shown
     stands_shown n a x u f = (runs_shown n a x u f).stands
 
   -- the head is stored on the way
-  pub runs_settled : (v w x : View) (s t : S) (scan count : ℕ) (r : Runs v w s t scan count) → Settles scan (v.consumer.taken ++ r.messages) w x → Runs v x s t scan count
+  pub runs_settled : (v w x : View) (s t : S) (scan count : ℕ) (r : Runs v w s t scan count)
+      → Settles scan (v.consumer.taken ++ r.messages) w x → Runs v x s t scan count
   runs_settled v w x s t scan count r p = record {
     messages = r.messages;
     actions = r.actions;
@@ -181,31 +209,53 @@ module _ {S : Type 0} (step : S → Message → S → Action → Type 0) (limit 
   abbrev pub RunsOn : View → View → S → S → ℕ → ℕ → Type 0
   RunsOn v w s t scan count = (r : Runs v w s t scan count) × All GoesOn r.actions
 
-  pub runs_on_none : (v : View) (s : S) → 0 < v.capacity → v.consumer.head % 8 ≡ 0 → v.consumer.head ≤ max_position → RunsOn v v s s v.consumer.head 0
+  pub runs_on_none : (v : View) (s : S) → 0 < v.capacity → v.consumer.head % 8 ≡ 0 → v.consumer.head ≤ max_position
+      → RunsOn v v s s v.consumer.head 0
   unfolding runs_none
   runs_on_none v s some whole low = (runs_none v s some whole low, All-nil GoesOn)
 
-  module _ (v w : View) (s t : S) (scan count : ℕ) (r : RunsOn v w s t scan count) (some : 0 < v.capacity) (below : count ≢ limit) (inside : v.consumer.head < scan → scan % v.capacity ≢ 0) where
-    pub runs_on_quiet : (n : ℕ) (x : View) (u : S) → u ≡ t → FindsQuiet v.capacity scan (v.consumer.taken ++ r.0.messages) w n x → RunsOn v x s u (scan + n) count
+  module _ (v w : View) (s t : S) (scan count : ℕ) (r : RunsOn v w s t scan count) (some : 0 < v.capacity)
+      (below : count ≢ limit) (inside : v.consumer.head < scan → scan % v.capacity ≢ 0) where
+    pub runs_on_quiet : (n : ℕ) (x : View) (u : S) → u ≡ t
+        → FindsQuiet v.capacity scan (v.consumer.taken ++ r.0.messages) w n x → RunsOn v x s u (scan + n) count
     unfolding runs_quiet
-    runs_on_quiet n x u same f = subst (λ (y : S). RunsOn v x s y (scan + n) count) (sym same) (runs_quiet v w s t scan count r.0 some below inside n x f, r.1)
+    runs_on_quiet n x u same f = subst (λ (y : S). RunsOn v x s y (scan + n) count) (sym same)
+        (runs_quiet v w s t scan count r.0 some below inside n x f, r.1)
 
-    pub runs_on_shown : (n : ℕ) (a : Action) (x : View) (u : S) → GoesOn a → ShowsOne step v.capacity scan (v.consumer.taken ++ r.0.messages) w t n a x u → RunsOn v x s u (scan + n) (count + 1)
+    pub runs_on_shown : (n : ℕ) (a : Action) (x : View) (u : S) → GoesOn a
+        → ShowsOne step v.capacity scan (v.consumer.taken ++ r.0.messages) w t n a x u
+        → RunsOn v x s u (scan + n) (count + 1)
     unfolding runs_shown
-    runs_on_shown n a x u goes f = (runs_shown v w s t scan count r.0 some below inside n a x u f, All-push GoesOn r.0.actions a r.1 goes)
+    runs_on_shown n a x u goes f =
+        (runs_shown v w s t scan count r.0 some below inside n a x u f, All-push GoesOn r.0.actions a r.1 goes)
 
-    pub runs_on_broken : (n : ℕ) (a : Action) (x : View) (u : S) (f : ShowsOne step v.capacity scan (v.consumer.taken ++ r.0.messages) w t n a x u)
-        → (d : Runs v x s u (scan + n) (count + 1)) × (d.messages ≡ r.0.messages ++ f.message ∷ []) × (d.actions ≡ r.0.actions ++ a ∷ []) × IsTight v.consumer.head d.messages (scan + n)
+    pub runs_on_broken : (n : ℕ) (a : Action) (x : View) (u : S)
+        (f : ShowsOne step v.capacity scan (v.consumer.taken ++ r.0.messages) w t n a x u)
+        → (d : Runs v x s u (scan + n) (count + 1)) × (d.messages ≡ r.0.messages ++ f.message ∷ [])
+        × (d.actions ≡ r.0.actions ++ a ∷ []) × IsTight v.consumer.head d.messages (scan + n)
     unfolding runs_shown
-    runs_on_broken n a x u f = (runs_shown v w s t scan count r.0 some below inside n a x u f, refl, refl, inr (r.0.messages, f.message, refl, omega (arith, f.place, f.bytes)))
+    runs_on_broken n a x u f = (
+      runs_shown v w s t scan count r.0 some below inside n a x u f,
+      refl,
+      refl,
+      inr
+          (r.0.messages, f.message, refl, omega (arith, f.place, f.bytes)),
+    )
 
     -- and the head is stored
-    pub runs_on_committed : (n : ℕ) (a : Action) (x y : View) (u : S) → GoesOn a → (f : ShowsOne step v.capacity scan (v.consumer.taken ++ r.0.messages) w t n a x u)
-        → Settles (scan + n) (v.consumer.taken ++ (r.0.messages ++ f.message ∷ [])) x y → RunsOn v y s u (scan + n) (count + 1)
+    pub runs_on_committed : (n : ℕ) (a : Action) (x y : View) (u : S) → GoesOn a
+        → (f : ShowsOne step v.capacity scan (v.consumer.taken ++ r.0.messages) w t n a x u)
+        → Settles (scan + n) (v.consumer.taken ++ (r.0.messages ++ f.message ∷ [])) x y
+        → RunsOn v y s u (scan + n) (count + 1)
     unfolding runs_shown runs_settled
-    runs_on_committed n a x y u goes f p =
-        (runs_settled v x y s u (scan + n) (count + 1) (runs_shown v w s t scan count r.0 some below inside n a x u f) p, All-push GoesOn r.0.actions a r.1 goes)
+    runs_on_committed n a x y u goes f p = (
+      runs_settled v x y s u (scan + n) (count + 1)
+          (runs_shown v w s t scan count r.0 some below inside n a x u f) p,
+      All-push GoesOn r.0.actions a r.1 goes,
+    )
 
 -- what the test for the end of the buffer tells
-pub inside_of : (C start scan : ℕ) (v : View) → v.capacity ≡ C → v.consumer.head ≡ start → (nat_lt start scan && (scan % C == 0)) ≡ false → v.consumer.head < scan → scan % v.capacity ≢ 0
-inside_of C start scan v cap head test lt = subst (λ (k : ℕ). scan % k ≢ 0) (sym cap) (inside_from C start scan test (omega (arith, head, lt)))
+pub inside_of : (C start scan : ℕ) (v : View) → v.capacity ≡ C → v.consumer.head ≡ start
+    → (nat_lt start scan && (scan % C == 0)) ≡ false → v.consumer.head < scan → scan % v.capacity ≢ 0
+inside_of C start scan v cap head test lt =
+    subst (λ (k : ℕ). scan % k ≢ 0) (sym cap) (inside_from C start scan test (omega (arith, head, lt)))

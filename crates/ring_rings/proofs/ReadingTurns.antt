@@ -25,30 +25,39 @@ pub record Ended (start scan count : ℕ) (stop : Stop) (end : ReadEnd) : Type 0
   pub stopped : end.stopped ≡ stop
 
 -- a read that may end
-module _ {S : Type 0} {step : S → Message → S → Action → Type 0} {limit start : ℕ} {v w y : View} {s t : S} {scan count : ℕ} {end : ReadEnd} (r : RunsOn step limit v w s t scan count)
+module _ {S : Type 0} {step : S → Message → S → Action → Type 0} {limit start : ℕ} {v w y : View} {s t : S}
+    {scan count : ℕ} {end : ReadEnd} (r : RunsOn step limit v w s t scan count)
     (told : (got : List PlacedMessage) → IsAt scan got w → Settles scan got w y) where
-  pub ends_limit : count ≡ limit → Ended start scan count Limit end → Controls step limit (at_rest v) (at_rest y) s t end
+  pub ends_limit : count ≡ limit → Ended start scan count Limit end
+      → Controls step limit (at_rest v) (at_rest y) s t end
   ends_limit full d =
       let got : List PlacedMessage = v.consumer.taken ++ r.0.messages in
       let e = ends_now scan got w y (told got r.0.stands) in
-      inl (went_on step limit v w y s t scan count r [] e end d.messages (d.stopped ∙ stops_limit v.capacity limit count scan end.bytes full))
+      inl (went_on step limit v w y s t scan count r [] e end d.messages
+      (d.stopped ∙ stops_limit v.capacity limit count scan end.bytes full))
 
-  pub ends_block : {C : ℕ} → v.capacity ≡ C → count ≢ limit → (nat_lt start scan && (scan % C == 0)) ≡ true → Ended start scan count Block end → Controls step limit (at_rest v) (at_rest y) s t end
+  pub ends_block : {C : ℕ} → v.capacity ≡ C → count ≢ limit → (nat_lt start scan && (scan % C == 0)) ≡ true
+      → Ended start scan count Block end → Controls step limit (at_rest v) (at_rest y) s t end
   ends_block {C} cap below is d =
       let got : List PlacedMessage = v.consumer.taken ++ r.0.messages in
       let e = ends_now scan got w y (told got r.0.stands) in
       let test = and_parts (nat_lt start scan) (scan % C == 0) is in
       let on = ltb-true start scan test.0 in
       let at_end : scan % v.capacity ≡ 0 = ap (λ (k : ℕ). scan % k) cap ∙ eqb-true (scan % C) 0 test.1 in
-      inl (went_on step limit v w y s t scan count r [] e end d.messages (d.stopped ∙ stops_block v.capacity limit count scan end.bytes below at_end (omega (arith, on, d.bytes))))
+      inl (went_on step limit v w y s t scan count r [] e end d.messages
+      (d.stopped ∙ stops_block v.capacity limit count scan end.bytes below at_end (omega (arith, on, d.bytes))))
 
 -- what was read so far lies in the block of the head
-pub runs_inside : {S : Type 0} {step : S → Message → S → Action → Type 0} {limit C : ℕ} {v w : View} {s t : S} {scan count : ℕ} → Runs step limit v w s t scan count → v.capacity ≡ C → 0 < v.capacity → w.consumer.head % C + scan ≤ w.consumer.head + C
+pub runs_inside : {S : Type 0} {step : S → Message → S → Action → Type 0} {limit C : ℕ} {v w : View} {s t : S}
+    {scan count : ℕ} → Runs step limit v w s t scan count → v.capacity ≡ C → 0 < v.capacity
+    → w.consumer.head % C + scan ≤ w.consumer.head + C
 runs_inside {S} {step} {limit} {C} {v} {w} {s} {t} {scan} {count} r cap some =
-    subst (λ (k : ℕ). w.consumer.head % k + scan ≤ w.consumer.head + k) cap (inside_block v.capacity v.consumer.head w.consumer.head scan some r.from r.to r.within)
+    subst (λ (k : ℕ). w.consumer.head % k + scan ≤ w.consumer.head + k) cap
+    (inside_block v.capacity v.consumer.head w.consumer.head scan some r.from r.to r.within)
 
 -- a read that goes on: it has come neither to the limit nor to the end of the buffer
-pub record GoesTo {S : Type 0} (step : S → Message → S → Action → Type 0) (limit C start : ℕ) (v w : View) (s t : S) (scan count : ℕ) : Type 0 where
+pub record GoesTo {S : Type 0} (step : S → Message → S → Action → Type 0) (limit C start : ℕ) (v w : View) (s t : S)
+    (scan count : ℕ) : Type 0 where
   pub runs : RunsOn step limit v w s t scan count
   pub capacity : v.capacity ≡ C
   pub head : v.consumer.head ≡ start
@@ -56,8 +65,10 @@ pub record GoesTo {S : Type 0} (step : S → Message → S → Action → Type 0
   pub below : count < limit
   pub inside : v.consumer.head < scan → scan % v.capacity ≢ 0
 
-pub goes_to : {S : Type 0} {step : S → Message → S → Action → Type 0} {limit C start : ℕ} {v w : View} {s t : S} {scan count : ℕ} → RunsOn step limit v w s t scan count → v.capacity ≡ C → v.consumer.head ≡ start → 128 ≤ C
-    → count ≤ limit → count ≢ limit → (nat_lt start scan && (scan % C == 0)) ≡ false → GoesTo step limit C start v w s t scan count
+pub goes_to : {S : Type 0} {step : S → Message → S → Action → Type 0} {limit C start : ℕ} {v w : View} {s t : S}
+    {scan count : ℕ} → RunsOn step limit v w s t scan count → v.capacity ≡ C → v.consumer.head ≡ start → 128 ≤ C
+    → count ≤ limit → count ≢ limit → (nat_lt start scan && (scan % C == 0)) ≡ false
+    → GoesTo step limit C start v w s t scan count
 goes_to {S} {step} {limit} {C} {start} {v} {w} {s} {t} {scan} {count} r cap head least le ne test = record {
   runs = r;
   capacity = cap;
@@ -67,7 +78,8 @@ goes_to {S} {step} {limit} {C} {start} {v} {w} {s} {t} {scan} {count} r cap head
   inside = inside_of C start scan v cap head test;
 }
 
-module _ {S : Type 0} {step : S → Message → S → Action → Type 0} {limit C start : ℕ} {v w : View} {s t : S} {scan count : ℕ} (q : GoesTo step limit C start v w s t scan count) where
+module _ {S : Type 0} {step : S → Message → S → Action → Type 0} {limit C start : ℕ} {v w : View} {s t : S}
+    {scan count : ℕ} (q : GoesTo step limit C start v w s t scan count) where
   r : Runs step limit v w s t scan count
   r = q.runs.0
 
@@ -97,14 +109,17 @@ module _ {S : Type 0} {step : S → Message → S → Action → Type 0} {limit 
     blocked_at = nothing_stands v.capacity scan got w x r.stands finds
 
     pub blocked_inside : x.consumer.head % C + scan ≤ x.consumer.head + C
-    blocked_inside = subst (λ (h : ℕ). h % C + scan ≤ h + C) (sym (ap (λ (z : View). z.consumer.head) told.0.view)) (runs_inside q.runs.0 q.capacity q.some)
+    blocked_inside = subst (λ (h : ℕ). h % C + scan ≤ h + C) (sym (ap (λ (z : View). z.consumer.head) told.0.view))
+        (runs_inside q.runs.0 q.capacity q.some)
 
     module _ {y : View} (p : Settles scan got x y) where
-      pub ends_blocked : {end : ReadEnd} → Ended start scan count Unpublished end → Controls step limit (at_rest v) (at_rest y) s u end
+      pub ends_blocked : {end : ReadEnd} → Ended start scan count Unpublished end
+          → Controls step limit (at_rest v) (at_rest y) s u end
       ends_blocked {end} d =
           let e = ends_nothing v.capacity scan got w x y finds p in
           let still : 0 < end.bytes → scan % v.capacity ≢ 0 = λ lt. q.inside (omega (arith, lt, d.bytes, q.head)) in
-          let done = went_on step limit v w y s t scan count q.runs ((index v.capacity scan, finds.found) ∷ []) e end d.messages
+          let done = went_on step limit v w y s t scan count q.runs
+          ((index v.capacity scan, finds.found) ∷ []) e end d.messages
           (d.stopped ∙ stops_unpublished v.capacity limit count scan end.bytes apart still) in
           inl (subst (λ (z : S). WentOn step limit (at_rest v) (at_rest y) s z end) (sym told.1) done)
 
@@ -120,7 +135,8 @@ module _ {S : Type 0} {step : S → Message → S → Action → Type 0} {limit 
     pub runs_passed : RunsOn step limit v x s u (scan + n) count
     runs_passed = runs_on_quiet step limit v w s t scan count q.runs q.some apart q.inside n x u told.1 passes
 
-    pub less_passed : v.consumer.head + room v.capacity v.consumer.head - (scan + n) < v.consumer.head + room v.capacity v.consumer.head - scan
+    pub less_passed : v.consumer.head + room v.capacity v.consumer.head - (scan + n)
+        < v.consumer.head + room v.capacity v.consumer.head - scan
     less_passed =
         let more = runs_quiet step limit v w s t scan count q.runs.0 q.some apart q.inside n x passes in
         omega (arith, more.within, passes.passed.some)
@@ -141,27 +157,34 @@ module _ {S : Type 0} {step : S → Message → S → Action → Type 0} {limit 
 
     -- and it lies in the block of the head too
     pub shown_inside : x.consumer.head % C + (scan + n) ≤ x.consumer.head + C
-    shown_inside = runs_inside (runs_shown step limit v w s t scan count q.runs.0 q.some apart q.inside n a x u shows) q.capacity q.some
+    shown_inside = runs_inside (runs_shown step limit v w s t scan count q.runs.0 q.some apart q.inside n a x u shows)
+        q.capacity q.some
 
     pub runs_on : GoesOn a → RunsOn step limit v x s u (scan + n) (count + 1)
     runs_on goes = runs_on_shown step limit v w s t scan count q.runs q.some apart q.inside n a x u goes shows
 
-    pub runs_committed : {y : View} → GoesOn a → Settles (scan + n) got_more x y → RunsOn step limit v y s u (scan + n) (count + 1)
+    pub runs_committed : {y : View} → GoesOn a → Settles (scan + n) got_more x y
+        → RunsOn step limit v y s u (scan + n) (count + 1)
     unfolding got_more
-    runs_committed {y} goes p = runs_on_committed step limit v w s t scan count q.runs q.some apart q.inside n a x y u goes shows p
+    runs_committed {y} goes p =
+        runs_on_committed step limit v w s t scan count q.runs q.some apart q.inside n a x y u goes shows p
 
-    pub less_shown : v.consumer.head + room v.capacity v.consumer.head - (scan + n) < v.consumer.head + room v.capacity v.consumer.head - scan
+    pub less_shown : v.consumer.head + room v.capacity v.consumer.head - (scan + n)
+        < v.consumer.head + room v.capacity v.consumer.head - scan
     less_shown =
         let more = runs_shown step limit v w s t scan count q.runs.0 q.some apart q.inside n a x u shows in
         omega (arith, more.within, shows.passed.some)
 
-    pub ends_broken : {y : View} {end : ReadEnd} → a ≡ Break → Settles (scan + n) got_more x y → Ended start (scan + n) (count + 1) Stop.Action end → Controls step limit (at_rest v) (at_rest y) s u end
+    pub ends_broken : {y : View} {end : ReadEnd} → a ≡ Break → Settles (scan + n) got_more x y
+        → Ended start (scan + n) (count + 1) Stop.Action end → Controls step limit (at_rest v) (at_rest y) s u end
     unfolding got_more
     ends_broken {y} {end} is p d =
         let more = runs_on_broken step limit v w s t scan count q.runs q.some apart q.inside n a x u shows in
-        let last : more.0.actions ≡ q.runs.0.actions ++ Break ∷ [] = more.2 ∙ ap (λ (b : Action). q.runs.0.actions ++ b ∷ []) is in
+        let last : more.0.actions ≡ q.runs.0.actions ++ Break ∷ [] =
+        more.2 ∙ ap (λ (b : Action). q.runs.0.actions ++ b ∷ []) is in
         let p' = subst (λ (l : List PlacedMessage). Settles (scan + n) (v.consumer.taken ++ l) x y) (sym more.1) p in
-        inr (inl (broke step limit v x y s u (scan + n) (count + 1) more.0 q.runs.0.actions q.runs.1 last more.3 p' end d.messages d.stopped))
+        inr (inl (broke step limit v x y s u (scan + n)
+        (count + 1) more.0 q.runs.0.actions q.runs.1 last more.3 p' end d.messages d.stopped))
 
     -- it is to be left
     pub left_inside : x.consumer.head % C + scan ≤ x.consumer.head + C
@@ -177,8 +200,11 @@ module _ {S : Type 0} {step : S → Message → S → Action → Type 0} {limit 
       left_near = (omega (arith, p.head, r.from, r.to, q.head), omega (arith, p.head), r.whole, r.low)
 
       pub left_done : z.consumer.head % C + scan ≤ z.consumer.head + C
-      left_done = let low = mod_below z.consumer.head C (omega (arith, q.capacity, q.some)) in omega (arith, low, p.head)
+      left_done =
+          let low = mod_below z.consumer.head C (omega (arith, q.capacity, q.some)) in omega (arith, low, p.head)
 
-      pub ends_aborted : {y : View} {end : ReadEnd} → a ≡ Abort → Settles scan got z y → Ended start scan count Stop.Action end → Controls step limit (at_rest v) (at_rest y) s u end
+      pub ends_aborted : {y : View} {end : ReadEnd} → a ≡ Abort → Settles scan got z y
+          → Ended start scan count Stop.Action end → Controls step limit (at_rest v) (at_rest y) s u end
       ends_aborted {y} {end} is p' d =
-          inr (inr (aborts step limit v w x y s t u scan count n a q.runs q.below q.inside shows (settles_more p p') end d.messages is d.stopped))
+          inr (inr (aborts step limit v w x y s t u scan count n a q.runs q.below q.inside shows
+          (settles_more p p') end d.messages is d.stopped))

@@ -13,7 +13,13 @@ use Rattle.ring_table.specs.declared.claim.Stage.TheVariants.{Stored}
 
 -- the claim with these bytes in its body from the offset on
 abbrev pub put_at : ℕ → List ℕ → StagedClaim → StagedClaim
-put_at offset bytes c = record { from = c.from; place = c.place; message = record { type_id = c.message.type_id; body = overwritten offset bytes c.message.body }; stage = c.stage }
+put_at offset bytes c = record {
+  from = c.from;
+  place = c.place;
+  message =
+      record { type_id = c.message.type_id; body = overwritten offset bytes c.message.body };
+  stage = c.stage;
+}
 
 -- an open claim with room for so many bytes
 pub record HasRoom (len : ℕ) (c : StagedClaim) : Type 0 where
@@ -51,7 +57,10 @@ pub record PutsBytes (place offset : ℕ) (bytes : List ℕ) (v w : View) : Type
   pub loads : List (ℕ × ℕ)
   pub view : w ≡ with_claims (changed place (put_at offset bytes) v.producer.claims) (loaded loads v)
 
--- the word is that of an own open claim's body at this index, with these bytes in place of its own from the byte `at` on
+-- the word is that of an own open claim's body at this index, with these bytes in place of its own from the byte `at`
+-- on
 abbrev pub MergesWord : ℕ → ℕ → List ℕ → View → ℕ → Type 0
-MergesWord i at bytes v word = (nth : ℕ) (c : StagedClaim) (k : ℕ) → HasClaim v nth c → c.stage ≡ Stored Open → index v.capacity (c.place + 8 + 8 * k) ≡ i → 8 * k + at + length bytes ≤ length c.message.body
-    → (word ≡ from_le_bytes w64 (drop (8 * k) (overwritten (8 * k + at) bytes c.message.body))) × ((j : ℕ) → 8 * k ≤ j → j < 8 * k + 8 → slice_index (overwritten (8 * k + at) bytes c.message.body) j < 256)
+MergesWord i at bytes v word = (nth : ℕ) (c : StagedClaim) (k : ℕ) → HasClaim v nth c → c.stage ≡ Stored Open
+    → index v.capacity (c.place + 8 + 8 * k) ≡ i → 8 * k + at + length bytes ≤ length c.message.body
+    → (word ≡ from_le_bytes w64 (drop (8 * k) (overwritten (8 * k + at) bytes c.message.body)))
+    × ((j : ℕ) → 8 * k ≤ j → j < 8 * k + 8 → slice_index (overwritten (8 * k + at) bytes c.message.body) j < 256)

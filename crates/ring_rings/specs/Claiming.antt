@@ -20,7 +20,8 @@ use Rattle.ring_rings.specs.declared.fault.TryFault.TheVariants.{Refused, Conten
 
 -- the view with these loads, the greatest tail and the greatest head seen
 abbrev pub looked : List (ℕ × ℕ) → ℕ → ℕ → View → View
-looked loads tail head v = record v { log = v.log ++ loads; producer = record v.producer { seen_tail = tail; seen_head = head } }
+looked loads tail head v =
+    record v { log = v.log ++ loads; producer = record v.producer { seen_tail = tail; seen_head = head } }
 
 -- the cached head was loaded, and had no room behind it up to `end`; so this head was loaded after it
 pub record LooksTwice (C tail end : ℕ) (loads : List (ℕ × ℕ)) (head : ℕ) : Type 0 where
@@ -48,11 +49,18 @@ claim_behind C tail type_id len = opened type_id len (fresh C tail type_id len)
 
 -- the message that comes next behind a tail, committed
 abbrev pub record_behind : ℕ → ℕ → ℤ → List ℕ → StagedClaim
-record_behind C tail type_id body = record { from = tail; place = next_place C tail (span (length body)); message = record { type_id = type_id; body = body }; stage = Stored Committed }
+record_behind C tail type_id body = record {
+  from = tail;
+  place = next_place C tail (span (length body));
+  message =
+      record { type_id = type_id; body = body };
+  stage = Stored Committed;
+}
 
 -- the claim in the producer's hands
 abbrev pub handle_behind : ℕ → ℕ → ℤ → ℕ → ClaimAt
-handle_behind C tail type_id len = let place = next_place C tail (span len) in record { place = place; index = place % C + 8; type_id = type_id; len = len }
+handle_behind C tail type_id len = let place =
+    next_place C tail (span len) in record { place = place; index = place % C + 8; type_id = type_id; len = len }
 
 -- Refusals ---------------------------------------------------------------------
 
@@ -89,7 +97,8 @@ pub record ClaimsAlone (C : ℕ) (type_id : ℤ) (len : ℕ) (v : View) (t : Cla
   pub loads : List (ℕ × ℕ)
   pub room : SeesRoom C v.producer.seen_tail (end_after C v.producer.seen_tail (span len)) loads
   pub head : ℕ
-  pub view : w ≡ with_claim (claim_behind C v.producer.seen_tail type_id len) (end_after C v.producer.seen_tail (span len)) (looked loads v.producer.seen_tail head v)
+  pub view : w ≡ with_claim (claim_behind C v.producer.seen_tail type_id len)
+      (end_after C v.producer.seen_tail (span len)) (looked loads v.producer.seen_tail head v)
   pub claim : t ≡ handle_behind C v.producer.seen_tail type_id len
 
 -- one committed claim more, behind the producer's own tail
@@ -98,7 +107,8 @@ pub record WritesAlone (C : ℕ) (type_id : ℤ) (body : List ℕ) (v w : View) 
   pub loads : List (ℕ × ℕ)
   pub room : SeesRoom C v.producer.seen_tail (end_after C v.producer.seen_tail (span (length body))) loads
   pub head : ℕ
-  pub view : w ≡ with_claim (record_behind C v.producer.seen_tail type_id body) (end_after C v.producer.seen_tail (span (length body))) (looked loads v.producer.seen_tail head v)
+  pub view : w ≡ with_claim (record_behind C v.producer.seen_tail type_id body)
+      (end_after C v.producer.seen_tail (span (length body))) (looked loads v.producer.seen_tail head v)
 
 -- the only producer's claim was refused, at its own tail
 pub record IsFullAlone (C : ℕ) (type_id : ℤ) (len : ℕ) (v : View) (fault : ClaimFault) (w : View) : Type 0 where
@@ -109,7 +119,8 @@ pub record IsFullAlone (C : ℕ) (type_id : ℤ) (len : ℕ) (v : View) (fault :
   pub full : IsFull C v.producer.seen_tail len loads fault
 
 abbrev pub RefusesAlone : ℕ → ℤ → ℕ → View → ClaimFault → View → Type 0
-RefusesAlone C type_id len v fault w = ((tail_refusal_of C v.producer.seen_tail type_id len ≡ Some fault) × (w ≡ v)) ⊎ IsFullAlone C type_id len v fault w
+RefusesAlone C type_id len v fault w =
+    ((tail_refusal_of C v.producer.seen_tail type_id len ≡ Some fault) × (w ≡ v)) ⊎ IsFullAlone C type_id len v fault w
 
 -- Many producers ---------------------------------------------------------------
 
@@ -121,7 +132,8 @@ pub record Claims (C : ℕ) (type_id : ℤ) (len : ℕ) (v : View) (t : ClaimAt)
   pub room : SeesRoom C tail (end_after C tail (span len)) loads
   pub head : ℕ
   pub later : v.producer.seen_tail ≤ tail
-  pub view : w ≡ with_claim (claim_behind C tail type_id len) (end_after C tail (span len)) (looked ((tail_index C, tail) ∷ loads) tail head v)
+  pub view : w ≡ with_claim (claim_behind C tail type_id len) (end_after C tail (span len))
+      (looked ((tail_index C, tail) ∷ loads) tail head v)
   pub claim : t ≡ handle_behind C tail type_id len
 
 -- one committed claim more, behind a tail that was loaded
@@ -132,7 +144,8 @@ pub record Writes (C : ℕ) (type_id : ℤ) (body : List ℕ) (v w : View) : Typ
   pub room : SeesRoom C tail (end_after C tail (span (length body))) loads
   pub head : ℕ
   pub later : v.producer.seen_tail ≤ tail
-  pub view : w ≡ with_claim (record_behind C tail type_id body) (end_after C tail (span (length body))) (looked ((tail_index C, tail) ∷ loads) tail head v)
+  pub view : w ≡ with_claim (record_behind C tail type_id body) (end_after C tail (span (length body)))
+      (looked ((tail_index C, tail) ∷ loads) tail head v)
 
 -- the record would end too far behind the tail that was loaded
 pub record IsAtLimit (C : ℕ) (type_id : ℤ) (len : ℕ) (v : View) (fault : ClaimFault) (w : View) : Type 0 where
@@ -153,7 +166,8 @@ pub record IsFullBehind (C : ℕ) (type_id : ℤ) (len : ℕ) (v : View) (fault 
   pub full : IsFull C tail len loads fault
 
 abbrev pub Refuses : ℕ → ℤ → ℕ → View → ClaimFault → View → Type 0
-Refuses C type_id len v fault w = ((request_refusal_of C type_id len ≡ Some fault) × (w ≡ v)) ⊎ (IsAtLimit C type_id len v fault w ⊎ IsFullBehind C type_id len v fault w)
+Refuses C type_id len v fault w = ((request_refusal_of C type_id len ≡ Some fault) × (w ≡ v))
+    ⊎ (IsAtLimit C type_id len v fault w ⊎ IsFullBehind C type_id len v fault w)
 
 -- the head that the try goes by is this one, which is beyond the tail that was loaded
 pub record IsBeyond (C tail end seen : ℕ) (loads : List (ℕ × ℕ)) (seen_tail : ℕ) : Type 0 where
@@ -167,7 +181,8 @@ pub record IsOvertaken (C tail end seen : ℕ) (loads : List (ℕ × ℕ)) (seen
   pub loaded : loads ≡ looks ++ (tail_index C, seen) ∷ []
   pub same : seen_tail ≡ seen
 
--- a tail was loaded, and after it a greater position, at once where that is a head: only another producer can have moved the tail
+-- a tail was loaded, and after it a greater position, at once where that is a head: only another producer can have
+-- moved the tail
 pub record Contends (C : ℕ) (type_id : ℤ) (len : ℕ) (v : View) (tail seen : ℕ) (w : View) : Type 0 where
   pub no_other : tail_refusal_of C tail type_id len ≡ None
   pub later : v.producer.seen_tail ≤ tail
@@ -175,7 +190,8 @@ pub record Contends (C : ℕ) (type_id : ℤ) (len : ℕ) (v : View) (tail seen 
   pub seen_tail : ℕ
   pub head : ℕ
   pub view : w ≡ looked ((tail_index C, tail) ∷ loads) seen_tail head v
-  pub found : IsBeyond C tail (end_after C tail (span len)) seen loads seen_tail ⊎ IsOvertaken C tail (end_after C tail (span len)) seen loads seen_tail
+  pub found : IsBeyond C tail (end_after C tail (span len)) seen loads seen_tail
+      ⊎ IsOvertaken C tail (end_after C tail (span len)) seen loads seen_tail
   pub greater : tail < seen
   pub others : v.producer.shares ≢ 65536
 
@@ -186,7 +202,8 @@ RefusesTry C type_id len v (Contended tail seen) w = Contends C type_id len v ta
 -- these tries, one after the other, lead from v to w: each was Contended at its first position, because of its second
 abbrev pub AreContended : ℕ → ℤ → ℕ → List (ℕ × ℕ) → View → View → Type 0
 AreContended C type_id len [] v w = w ≡ v
-AreContended C type_id len (t ∷ ts) v w = (u : View) × Contends C type_id len v t.0 t.1 u × AreContended C type_id len ts u w
+AreContended C type_id len (t ∷ ts) v w =
+    (u : View) × Contends C type_id len v t.0 t.1 u × AreContended C type_id len ts u w
 
 -- some tries were Contended, and P holds of the view after them
 pub record AfterTries (C : ℕ) (type_id : ℤ) (len : ℕ) (v : View) (P : View → Type 0) : Type 0 where

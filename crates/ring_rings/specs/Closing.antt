@@ -26,14 +26,17 @@ close_refusal_of open_claims shares =
 
 -- ring, producer and consumer come back with the reason
 abbrev pub kept_open : {R : Type 0} → R → Producer → Consumer → CloseFault → CloseRefused R
-kept_open ring producer consumer reason = record { reason = reason; ring = ring; producer = producer; consumer = consumer }
+kept_open ring producer consumer reason =
+    record { reason = reason; ring = ring; producer = producer; consumer = consumer }
 
 -- claims lie one behind the other from the start on, so that their places rise and none occurs twice
 pub record AreOrdered (C start : ℕ) (cs : List StagedClaim) : Type 0 where
   pub placed : ArePlaced C start cs
   pub rising : AreRising cs
 
--- The producer p has all claims of the ring, which lie one behind the other from its start on, and r was its consumer. The first claims are settled, and the messages that r took are the committed ones among them, with their places. The others are a history that the rest has, at the same places
+-- The producer p has all claims of the ring, which lie one behind the other from its start on, and r was its consumer.
+-- The first claims are settled, and the messages that r took are the committed ones among them, with their places. The
+-- others are a history that the rest has, at the same places
 pub record HandsOut (C start : ℕ) (p r : View) (rest : Ring) : Type 0 where
   pub ordered : AreOrdered C start p.producer.claims
   pub passed : List StagedClaim
@@ -46,12 +49,14 @@ pub record HandsOut (C start : ℕ) (p r : View) (rest : Ring) : Type 0 where
   pub head : head_of rest ≡ r.consumer.head
   pub has : Has rest (claims_of left)
 
--- The numbers below some number were drawn, each once, and each producer's heartbeats are entries of those stored. The words of both services follow from that, and the trailer's words without a name are 0
+-- The numbers below some number were drawn, each once, and each producer's heartbeats are entries of those stored. The
+-- words of both services follow from that, and the trailer's words without a name are 0
 pub record Serves (C : ℕ) (p r : View) (rest : Ring) : Type 0 where
   pub drawn : ℕ
   pub once : (x : ℕ) → times_drawn x p.producer ≡ once_below x drawn
   pub served : AreServed drawn r.consumer.heartbeats (p.producer.service ∷ p.producer.joined)
   pub correlation : slice_index rest.words (correlation_index C) ≡ drawn % 2 ^ 64
-  pub heartbeat : get_elem? (0 ∷ r.consumer.heartbeats) (length r.consumer.heartbeats) ≡ some (slice_index rest.words (heartbeat_index C))
+  pub heartbeat : get_elem? (0 ∷ r.consumer.heartbeats) (length r.consumer.heartbeats)
+      ≡ some (slice_index rest.words (heartbeat_index C))
   pub cache : slice_index rest.words (head_cache_index C) ≤ r.consumer.head
   pub unnamed : (i : ℕ) → IsUnnamed C i → slice_index rest.words i ≡ 0

@@ -53,20 +53,23 @@ FindsShortage C tail end (Full head) v w = FindsNoRoom C tail end head v w
 FindsShortage C tail end (Passed seen) v w = FindsPassed C tail end seen v w
 
 -- the claim is made behind the tail, after these loads and others
-pub record Makes (C tail : ℕ) (type_id : ℤ) (len : ℕ) (front : List (ℕ × ℕ)) (v : View) (a : Admission) (w : View) : Type 0 where
+pub record Makes (C tail : ℕ) (type_id : ℤ) (len : ℕ) (front : List (ℕ × ℕ)) (v : View) (a : Admission)
+    (w : View) : Type 0 where
   pub refusal : tail_refusal_of C tail type_id len ≡ None
   pub admitted : IsAdmitted C tail type_id len a
   pub whole : a.end % 8 ≡ 0
   pub loads : List (ℕ × ℕ)
   pub room : SeesRoom C tail (end_after C tail (span len)) loads
   pub head : ℕ
-  pub view : w ≡ with_claim (claim_behind C tail type_id len) (end_after C tail (span len)) (looked (front ++ loads) tail head v)
+  pub view : w ≡ with_claim (claim_behind C tail type_id len) (end_after C tail (span len))
+      (looked (front ++ loads) tail head v)
   pub few : length v.producer.claims ≤ a.place
   pub behind : EndBelow tail v.producer.claims
 
 -- it is made behind a tail that was loaded
 abbrev pub MakesBehind : ℕ → ℤ → ℕ → View → Admission → View → Type 0
-MakesBehind C type_id len v a w = Makes C a.tail type_id len ((tail_index C, a.tail) ∷ []) v a w × (v.producer.seen_tail ≤ a.tail)
+MakesBehind C type_id len v a w =
+    Makes C a.tail type_id len ((tail_index C, a.tail) ∷ []) v a w × (v.producer.seen_tail ≤ a.tail)
 
 -- c is the last claim of the view, made from the tail on for len bytes. No header is stored, and the others lie before
 pub record IsNewest (tail place len : ℕ) (cs : List StagedClaim) (c : StagedClaim) (v : View) : Type 0 where

@@ -11,7 +11,8 @@ use Rattle.ring_table.specs.declared.view.View.{View}
 use Rattle.ring_table.specs.Staged.{AreAbove, AreRising, IsStored, AreStored}
 use Rattle.ring_table.specs.OpenClaims.{open_count}
 
--- Of a view with these shares, greatest end seen and claims: so many shares, and so many open claims. The places of the claims rise, and their headers are stored. With all shares the own tail is the ring's
+-- Of a view with these shares, greatest end seen and claims: so many shares, and so many open claims. The places of the
+-- claims rise, and their headers are stored. With all shares the own tail is the ring's
 pub record Tallies (held seen : ℕ) (claims : List StagedClaim) (shares open_claims own_tail : ℕ) : Type 0 where
   pub shares_are : held ≡ shares
   pub some : 0 < shares
@@ -24,7 +25,8 @@ pub record Tallies (held seen : ℕ) (claims : List StagedClaim) (shares open_cl
   pub limit : own_tail ≤ max_position
 
 abbrev pub Matches : View → ℕ → ℕ → ℕ → Type 0
-Matches v shares open_claims own_tail = Tallies v.producer.shares v.producer.seen_tail v.producer.claims shares open_claims own_tail
+Matches v shares open_claims own_tail =
+    Tallies v.producer.shares v.producer.seen_tail v.producer.claims shares open_claims own_tail
 
 -- There is at most one proof of it ---------------------------------------------
 
@@ -45,5 +47,7 @@ are_rising_prop : (cs : List StagedClaim) → IsProp (AreRising cs)
 are_rising_prop [] = hlevel ⊥_prop
 are_rising_prop (c ∷ cs) = hlevel (are_above_prop c.place cs, are_rising_prop cs)
 
-pub matches_prop : (held seen : ℕ) (claims : List StagedClaim) (shares open_claims own_tail : ℕ) → IsProp (Tallies held seen claims shares open_claims own_tail)
-matches_prop held seen claims shares open_claims own_tail = hlevel (are_rising_prop claims, are_stored_prop claims, le_prop, ℕ_set)
+pub matches_prop : (held seen : ℕ) (claims : List StagedClaim) (shares open_claims own_tail : ℕ)
+    → IsProp (Tallies held seen claims shares open_claims own_tail)
+matches_prop held seen claims shares open_claims own_tail =
+    hlevel (are_rising_prop claims, are_stored_prop claims, le_prop, ℕ_set)

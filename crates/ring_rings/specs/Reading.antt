@@ -38,7 +38,9 @@ pub record IsAtRest (v : View) : Type 0 where
   pub scan : v.consumer.scan ≡ v.consumer.head
   pub got : v.consumer.got ≡ v.consumer.taken
 
--- Of the seat only the log, which is longer by these loads, and the consumer's part change. The heartbeats stay, the head does not pass the end of the buffer, and from the new head on no word is cleared and nothing is left of a running read
+-- Of the seat only the log, which is longer by these loads, and the consumer's part change. The heartbeats stay, the
+-- head does not pass the end of the buffer, and from the new head on no word is cleared and nothing is left of a
+-- running read
 pub record MovesHead (v w : View) : Type 0 where
   pub loads : List (ℕ × ℕ)
   pub view : w ≡ record v { log = v.log ++ loads; consumer = w.consumer }
@@ -49,7 +51,8 @@ pub record MovesHead (v w : View) : Type 0 where
   pub within : w.consumer.head ≤ v.consumer.head + room v.capacity v.consumer.head
 
 -- so many messages were taken, and the handler was shown them
-pub record Reads {S : Type 0} (step : S → Message → S → Action → Type 0) (limit : ℕ) (v w : View) (s t : S) (count : ℕ) : Type 0 where
+pub record Reads {S : Type 0} (step : S → Message → S → Action → Type 0) (limit : ℕ) (v w : View) (s t : S)
+    (count : ℕ) : Type 0 where
   pub messages : List PlacedMessage
   pub actions : List Action
   pub handled : Handles step s (messages_of messages) actions t
@@ -59,7 +62,8 @@ pub record Reads {S : Type 0} (step : S → Message → S → Action → Type 0)
   pub tight : count ≡ limit → IsTight v.consumer.head messages w.consumer.head
 
 -- messages were taken, and why the read stopped
-pub record ReadsTo {S : Type 0} (step : S → Message → S → Action → Type 0) (limit : ℕ) (v w : View) (s t : S) (end : ReadEnd) : Type 0 where
+pub record ReadsTo {S : Type 0} (step : S → Message → S → Action → Type 0) (limit : ℕ) (v w : View) (s t : S)
+    (end : ReadEnd) : Type 0 where
   pub reads : Reads step limit v w s t end.messages
   pub bytes : v.consumer.head + end.bytes ≡ w.consumer.head
   pub stopped : end.stopped ≡ stop_of w.capacity limit end.messages w.consumer.head end.bytes
@@ -87,7 +91,8 @@ body_loads C m (suc k) = body_loads C m k ++ (index C (m.place + 8 + 8 * k), bod
 
 -- the loads of a message's record: the header, and then the body's words
 abbrev pub record_loads : ℕ → PlacedMessage → List (ℕ × ℕ)
-record_loads C m = (index C m.place, header (pos (8 + length m.message.body)) m.message.type_id) ∷ body_loads C m ((length m.message.body + 7) / 8)
+record_loads C m = (index C m.place, header (pos (8 + length m.message.body)) m.message.type_id)
+    ∷ body_loads C m ((length m.message.body + 7) / 8)
 
 -- the last loads found the message m at the new head
 pub record IsNext (v w : View) (m : Message) : Type 0 where
@@ -96,13 +101,15 @@ pub record IsNext (v w : View) (m : Message) : Type 0 where
   pub lawful : IsMessage w.capacity m
 
 -- the handler let the read go on after each message
-pub record WentOn {S : Type 0} (step : S → Message → S → Action → Type 0) (limit : ℕ) (v w : View) (s t : S) (end : ReadEnd) : Type 0 where
+pub record WentOn {S : Type 0} (step : S → Message → S → Action → Type 0) (limit : ℕ) (v w : View) (s t : S)
+    (end : ReadEnd) : Type 0 where
   pub reads : Reads step limit v w s t end.messages
   pub went_on : All GoesOn reads.actions
   pub stopped : end.stopped ≡ stop_of w.capacity limit end.messages w.consumer.head end.bytes
 
 -- it stopped the read by Break at the last message, which was taken, and nothing was passed behind it
-pub record Broke {S : Type 0} (step : S → Message → S → Action → Type 0) (limit : ℕ) (v w : View) (s t : S) (end : ReadEnd) : Type 0 where
+pub record Broke {S : Type 0} (step : S → Message → S → Action → Type 0) (limit : ℕ) (v w : View) (s t : S)
+    (end : ReadEnd) : Type 0 where
   pub reads : Reads step limit v w s t end.messages
   pub before : List Action
   pub went_on : All GoesOn before
@@ -111,7 +118,8 @@ pub record Broke {S : Type 0} (step : S → Message → S → Action → Type 0)
   pub stopped : end.stopped ≡ Stop.Action
 
 -- it stopped the read by Abort at one message more, which was left
-pub record Aborts {S : Type 0} (step : S → Message → S → Action → Type 0) (limit : ℕ) (v w : View) (s t : S) (end : ReadEnd) : Type 0 where
+pub record Aborts {S : Type 0} (step : S → Message → S → Action → Type 0) (limit : ℕ) (v w : View) (s t : S)
+    (end : ReadEnd) : Type 0 where
   pub before : S
   pub reads : Reads step limit v w s before end.messages
   pub went_on : All GoesOn reads.actions
@@ -124,4 +132,5 @@ pub record Aborts {S : Type 0} (step : S → Message → S → Action → Type 0
 
 -- a read that the handler controls
 abbrev pub Controls : {S : Type 0} → (S → Message → S → Action → Type 0) → ℕ → View → View → S → S → ReadEnd → Type 0
-Controls step limit v w s t end = WentOn step limit v w s t end ⊎ (Broke step limit v w s t end ⊎ Aborts step limit v w s t end)
+Controls step limit v w s t end =
+    WentOn step limit v w s t end ⊎ (Broke step limit v w s t end ⊎ Aborts step limit v w s t end)

@@ -1,4 +1,5 @@
--- What a running read does: v is the consumer's view before a turn, w the view after it, and `scan` how far the read had come.
+-- What a running read does: v is the consumer's view before a turn, w the view after it, and `scan` how far the read
+-- had come.
 use Rattle.std.specs.Prelude.{◌≡◌, ◌≢◌, ℕ, ◌+◌, ◌/◌, ◌%◌, ◌*◌, ◌≤◌, ◌<◌, List, [], ◌∷◌, ◌++◌, length, slice_index, take, All, ℤ, pos, Bool, true, false}
 use Rattle.ring_words.specs.declared.read.action.Action.{Action}
 use Rattle.ring_words.specs.declared.read.action.Action.TheVariants.{Continue}
@@ -57,7 +58,8 @@ pub record CopiesWords (C : ℕ) (m : PlacedMessage) (k : ℕ) (v : View) (out :
 
 -- where the first k words of the body at a place were copied, there is one more
 abbrev pub CopiesWord : ℕ → ℕ → ℕ → View → List ℕ → View → List ℕ → Type 0
-CopiesWord C place k v out w out' = (m : PlacedMessage) (u : View) → HasGotLast m u → m.place ≡ place → 8 * k < length m.message.body → CopiesWords C m k u out v → CopiesWords C m (k + 1) u out' w
+CopiesWord C place k v out w out' = (m : PlacedMessage) (u : View) → HasGotLast m u → m.place ≡ place
+    → 8 * k < length m.message.body → CopiesWords C m k u out v → CopiesWords C m (k + 1) u out' w
 
 -- of the view only the log changes
 abbrev pub OnlyLoads : View → View → Type 0
@@ -111,17 +113,20 @@ abbrev pub heeded : {S : Type 0} → Bool → (S → Message → S → Action �
 heeded heeds step s m t a = (b : Action) × step s m t b × (a ≡ heard heeds b)
 
 -- a message with a record of n bytes was shown, and the read goes by the action a
-pub record ShowsOne {S : Type 0} (step : S → Message → S → Action → Type 0) (C scan : ℕ) (got : List PlacedMessage) (v : View) (s : S) (n : ℕ) (a : Action) (w : View) (t : S) : Type 0 where
+pub record ShowsOne {S : Type 0} (step : S → Message → S → Action → Type 0) (C scan : ℕ) (got : List PlacedMessage)
+    (v : View) (s : S) (n : ℕ) (a : Action) (w : View) (t : S) : Type 0 where
   pub message : PlacedMessage
   pub place : message.place ≡ scan
   pub shown : step s message.message t a
   pub lawful : IsMessage C message.message
   pub bytes : n ≡ span (length message.message.body)
   pub passed : IsPassed C scan n
-  pub view : w ≡ with_consumer (scanned (scan + n) (got ++ message ∷ []) v.consumer) (record v { log = v.log ++ record_loads C message })
+  pub view : w ≡ with_consumer (scanned (scan + n) (got ++ message ∷ []) v.consumer)
+      (record v { log = v.log ++ record_loads C message })
 
 -- what a turn did
-abbrev pub TurnIs : {S : Type 0} → (S → Message → S → Action → Type 0) → ℕ → ℕ → List PlacedMessage → Turn → View → S → View → S → Type 0
+abbrev pub TurnIs : {S : Type 0} → (S → Message → S → Action → Type 0) → ℕ → ℕ → List PlacedMessage → Turn → View → S
+    → View → S → Type 0
 TurnIs step C scan got Blocked v s w t = FindsNothing C scan got v w × (t ≡ s)
 TurnIs step C scan got (Passed n) v s w t = FindsQuiet C scan got v n w × (t ≡ s)
 TurnIs step C scan got (Shown n a) v s w t = ShowsOne step C scan got v s n a w t

@@ -28,9 +28,9 @@ impl<K> Ring<K> {
         Self::new_at(alloc, capacity, 0)
     }
 
-    /// Makes an empty ring that starts at a multiple of its capacity, in bytes, with a producer that holds all shares. It
-    /// refuses with `BadCapacity` a capacity that is no power of two from 128 to 2^24, then with `BadStart` a start that
-    /// is no multiple of the capacity or above 2^62, and then with `OutOfMemory`.
+    /// Makes an empty ring that starts at a multiple of its capacity, in bytes, with a producer that holds all shares.
+    /// It refuses with `BadCapacity` a capacity that is no power of two from 128 to 2^24, then with `BadStart` a start
+    /// that is no multiple of the capacity or above 2^62, and then with `OutOfMemory`.
     pub fn new_at(
         alloc: Global,
         capacity: u32,

@@ -36,8 +36,8 @@ pub type ManyToOneRing = Ring<ManyToOne>;
 
 /// One who writes into a ring. It is used by one thread at a time, and may move between threads.
 ///
-/// The first producer holds 65,536 shares, and `ManyToOneRing::split` moves one of them to a new producer; `close` wants
-/// all of them back. So a producer that is let go keeps its ring from closing for good.
+/// The first producer holds 65,536 shares, and `ManyToOneRing::split` moves one of them to a new producer; `close`
+/// wants all of them back. So a producer that is let go keeps its ring from closing for good.
 #[derive(Drop)]
 pub struct Producer {
     pub(crate) seat: RingSeat,

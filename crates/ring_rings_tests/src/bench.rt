@@ -24,7 +24,8 @@ pub trait Kind: Sized {
         requires sole { shares_of producer.old ≡ 65536 }
         ensures producer { IsProducerOf ring.now producer.new }
         ensures sole { shares_of producer.new ≡ 65536 }
-        ensures claims { (t : ClaimAt) → IsOpenClaimOf ring.now producer.old t → IsOpenClaimOf ring.now producer.new t };
+        ensures claims { (t : ClaimAt) → IsOpenClaimOf ring.now producer.old t
+            → IsOpenClaimOf ring.now producer.new t };
 
     fn claim(
         ring: &Ring<Self>,
@@ -108,15 +109,18 @@ impl<K: Kind> Bench<K> {
     }
 
     pub fn write(&mut self, type_id: i32, body: &[u8]) -> Result<(), TryFault>
-        ensures claims { (t : ClaimAt) → IsOpenClaimOf self.old.ring self.old.producer t → IsOpenClaimOf self.new.ring self.new.producer t }
+        ensures claims { (t : ClaimAt) → IsOpenClaimOf self.old.ring self.old.producer t
+            → IsOpenClaimOf self.new.ring self.new.producer t }
     {
         K::write(&self.ring, &mut self.producer, type_id, body)
     }
 
     pub fn claim(&mut self, type_id: i32, len: usize) -> Result<Claim, TryFault>
         ensures is_open { IfOk result (IsOpenClaimOf self.new.ring self.new.producer) }
-        ensures claims { (t : ClaimAt) → IsOpenClaimOf self.old.ring self.old.producer t → IsOpenClaimOf self.new.ring self.new.producer t }
-        ensures apart { IfOk result (λ new. (t : ClaimAt) → IsOpenClaimOf self.old.ring self.old.producer t → t.place ≢ new.place) }
+        ensures claims { (t : ClaimAt) → IsOpenClaimOf self.old.ring self.old.producer t
+            → IsOpenClaimOf self.new.ring self.new.producer t }
+        ensures apart { IfOk result (λ new. (t : ClaimAt) → IsOpenClaimOf self.old.ring self.old.producer t
+            → t.place ≢ new.place) }
     {
         K::claim(&self.ring, &mut self.producer, type_id, len)
     }
@@ -130,14 +134,16 @@ impl<K: Kind> Bench<K> {
 
     pub fn commit(&mut self, claim: Claim)
         requires { IsOpenClaimOf self.old.ring self.old.producer claim }
-        ensures others { (t : ClaimAt) → IsOpenClaimOf self.old.ring self.old.producer t → t.place ≢ claim.place → IsOpenClaimOf self.new.ring self.new.producer t }
+        ensures others { (t : ClaimAt) → IsOpenClaimOf self.old.ring self.old.producer t → t.place ≢ claim.place
+            → IsOpenClaimOf self.new.ring self.new.producer t }
     {
         self.ring.commit(&mut self.producer, claim);
     }
 
     pub fn abort(&mut self, claim: Claim)
         requires { IsOpenClaimOf self.old.ring self.old.producer claim }
-        ensures others { (t : ClaimAt) → IsOpenClaimOf self.old.ring self.old.producer t → t.place ≢ claim.place → IsOpenClaimOf self.new.ring self.new.producer t }
+        ensures others { (t : ClaimAt) → IsOpenClaimOf self.old.ring self.old.producer t → t.place ≢ claim.place
+            → IsOpenClaimOf self.new.ring self.new.producer t }
     {
         self.ring.abort(&mut self.producer, claim);
     }

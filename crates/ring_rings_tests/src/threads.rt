@@ -247,18 +247,22 @@ fn run_shares<R: Threads + Sync>(
             requires sync { IsSync R.row }
             requires first { IsProducerOf ring.now first.0 × IsProducerOf ring.now first.1 }
             requires last { IsProducerOf ring.now last.0 × IsProducerOf ring.now last.1 }
-            ensures first { IsProducerOf ring.entry.now result.0.0.producer × IsProducerOf ring.entry.now result.0.1.producer }
-            ensures last { IsProducerOf ring.entry.now result.1.0.producer × IsProducerOf ring.entry.now result.1.1.producer }
+            ensures first { IsProducerOf ring.entry.now result.0.0.producer
+                × IsProducerOf ring.entry.now result.0.1.producer }
+            ensures last { IsProducerOf ring.entry.now result.1.0.producer
+                × IsProducerOf ring.entry.now result.1.1.producer }
         {
             join(
                 rt,
                 move || -> (Written, Written)
                     requires { IsSync R.row × IsProducerOf ring.now first.0 × IsProducerOf ring.now first.1 }
-                    ensures { IsProducerOf ring.entry.now result.0.producer × IsProducerOf ring.entry.now result.1.producer }
+                    ensures { IsProducerOf ring.entry.now result.0.producer
+                        × IsProducerOf ring.entry.now result.1.producer }
                 { write_two(rt, ring, first, 0) },
                 move || -> (Written, Written)
                     requires { IsSync R.row × IsProducerOf ring.now last.0 × IsProducerOf ring.now last.1 }
-                    ensures { IsProducerOf ring.entry.now result.0.producer × IsProducerOf ring.entry.now result.1.producer }
+                    ensures { IsProducerOf ring.entry.now result.0.producer
+                        × IsProducerOf ring.entry.now result.1.producer }
                 { write_two(rt, ring, last, 2) },
             )
         },

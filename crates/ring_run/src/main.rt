@@ -1,4 +1,5 @@
-//! Runs a scenario on a ring of messages and a broadcast buffer: it reads lines on standard input and writes on standard output.
+//! Runs a scenario on a ring of messages and a broadcast buffer: it reads lines on standard input and writes on
+//! standard output.
 #![tactic(auto)]
 
 mod command_line;

@@ -21,9 +21,11 @@ pub record Watches (writes : List ValueWrite) (old : Numbered ValueReader) (next
   pub unread : loads_of reader ≡ []
   pub comes : Comes reader (held_in old) next (held_in new)
 
--- the reader of this number loaded this value of an id once, the one after writes that are no fewer than it had seen, and
+-- the reader of this number loaded this value of an id once, the one after writes that are no fewer than it had seen,
+-- and
 -- no other reader changed
-pub record Peeks (id : ℕ) (value : ℤ) (old : Numbered ValueReader) (number : ℕ) (new : Numbered ValueReader) : Type 0 where
+pub record Peeks (id : ℕ) (value : ℤ) (old : Numbered ValueReader) (number : ℕ)
+    (new : Numbered ValueReader) : Type 0 where
   pub before : ValueReader
   pub after : ValueReader
   pub value_is : value ≡ value_after id (seen_by after)

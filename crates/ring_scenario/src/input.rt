@@ -14,7 +14,8 @@ pub fn read_input<R: Read>(alloc: Global, reader: &mut R) -> Result<Vec<u8>, Run
     ensures whole { IfOk result (λ input. IfSome (R.remaining reader.old) (λ bytes. input.items ≡ bytes)) }
     ensures short { IfOk result (λ input. vec_len input ≤ MAX_INPUT) }
     ensures lawful { result ≢ Err RunFault.BadCapacity × result ≢ Err RunFault.BadCount }
-    ensures long { result ≡ Err RunFault.InputTooLong → IfSome (R.remaining reader.old) (λ bytes. MAX_INPUT < length bytes) }
+    ensures long { result ≡ Err RunFault.InputTooLong
+        → IfSome (R.remaining reader.old) (λ bytes. MAX_INPUT < length bytes) }
 {
     let mut input = Vec::new(alloc);
     let mut chunk = [0; 4096];

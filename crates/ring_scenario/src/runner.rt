@@ -212,7 +212,8 @@ impl Runner {
         }
     }
 
-    /// Aborts the open claims, joins receivers, listeners and watchers, closes all, and counts the messages that are left.
+    /// Aborts the open claims, joins receivers, listeners and watchers, closes all, and counts the messages that are
+    /// left.
     pub fn close(self) -> Ended {
         let Runner {
             loose,

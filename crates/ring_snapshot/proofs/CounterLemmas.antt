@@ -23,11 +23,16 @@ use Rattle.ring_snapshot.specs.CounterRecords.{CounterEntry, state_from, counter
 -- ---- any words
 
 pub entries_here : (metadata values : List ℕ) (count id : ℕ) → id < count
-    → entries metadata values (count - id) id ≡ or_none (entry_of id (drop (64 * id) metadata) (drop (16 * id) values)) (entries metadata values (count - (id + 1)) (id + 1))
-entries_here metadata values count id less = let size : count - id ≡ suc (count - (id + 1)) = omega arith in ap (λ n. entries metadata values n id) size
+    → entries metadata values (count - id) id
+    ≡ or_none (entry_of id (drop (64 * id) metadata) (drop (16 * id) values))
+    (entries metadata values (count - (id + 1)) (id + 1))
+entries_here metadata values count id less =
+    let size : count - id ≡ suc (count - (id + 1)) = omega arith in ap (λ n. entries metadata values n id) size
 
-pub entries_behind : (metadata values : List ℕ) (count id : ℕ) → count ≤ id → entries metadata values (count - id) id ≡ []
-entries_behind metadata values count id more = let none : count - id ≡ 0 = omega arith in ap (λ n. entries metadata values n id) none
+pub entries_behind : (metadata values : List ℕ) (count id : ℕ) → count ≤ id
+    → entries metadata values (count - id) id ≡ []
+entries_behind metadata values count id more =
+    let none : count - id ≡ 0 = omega arith in ap (λ n. entries metadata values n id) none
 
 -- ---- the words of a counter
 
@@ -38,7 +43,8 @@ read_short x n is short = ap (cast_signed w32) is ∙ to_z-of_z w32 (pos n) (fit
 not_bad : (n : ℕ) → n ≤ 380 → (int_lt (pos n) (pos 0) || int_lt (pos 380) (pos n)) ≡ false
 not_bad n short = grind (arith, short)
 
-module _ (id : ℕ) (words values : List ℕ) (c : ring_counters.Counter) (m : IsMetadata words c.metadata) (v : IsValues values c.values) where
+module _ (id : ℕ) (words values : List ℕ) (c : ring_counters.Counter) (m : IsMetadata words c.metadata)
+    (v : IsValues values c.values) where
   abbrev n : ℕ
   n = length c.metadata.label
 
@@ -51,7 +57,8 @@ module _ (id : ℕ) (words values : List ℕ) (c : ring_counters.Counter) (m : I
 
   label_read : bytes_at words 132 n ≡ c.metadata.label
   unfolding metadata_of
-  label_read = sym (ap (bytes_at words 132) (length_decoded words c.metadata m)) ∙ ap (λ (x : Metadata). x.label) (metadata_decoded words c.metadata m)
+  label_read = sym (ap (bytes_at words 132) (length_decoded words c.metadata m))
+      ∙ ap (λ (x : Metadata). x.label) (metadata_decoded words c.metadata m)
 
   abbrev with_told : CounterState → Counter
   with_told told = record {
@@ -79,10 +86,13 @@ module _ (id : ℕ) (words values : List ℕ) (c : ring_counters.Counter) (m : I
     owner = owner_shown values c.values v i;
   }
 
-  label_passes : (told : CounterState) → with_label id words values (length_in (slice_index words 16)) told ≡ Ok (with_told told)
+  label_passes : (told : CounterState) → with_label id words values (length_in (slice_index words 16)) told
+      ≡ Ok (with_told told)
   label_passes told =
-      ap (λ x. with_label id words values x told) (read_short (slice_index words 16) n (length_decoded words c.metadata m) short)
-      ∙ ap (λ b. if b then Err (BadLabelLength id (pos n)) else Ok (counter_in id words values told n)) (not_bad n short)
+      ap (λ x. with_label id words values x told)
+      (read_short (slice_index words 16) n (length_decoded words c.metadata m) short)
+      ∙ ap (λ b. if b then Err (BadLabelLength id (pos n)) else Ok (counter_in id words values told n))
+      (not_bad n short)
       ∙ ap Ok (counter_read told)
 
   abbrev by_state : ℤ → Option CounterEntry
@@ -95,41 +105,57 @@ module _ (id : ℕ) (words values : List ℕ) (c : ring_counters.Counter) (m : I
   entry_told = by c.metadata.status refl
     where
       with_flags : Status → Option CounterEntry
-      with_flags s = if not (is_unused s) then Some (Ok (with_told (if is_allocated s then Allocated else Reclaimed))) else None
+      with_flags s =
+          if not (is_unused s) then Some (Ok (with_told (if is_allocated s then Allocated else Reclaimed))) else None
 
       read : (s : Status) → c.metadata.status ≡ s → entry_of id words values ≡ by_state (ring_counters.state_of s)
       read s is = ap by_state (state_decoded words c.metadata m) ∙ ap (λ x. by_state (ring_counters.state_of x)) is
 
       by : (s : Status) → c.metadata.status ≡ s → entry_of id words values ≡ told_of c
       by ring_counters.Unused is = read ring_counters.Unused is ∙ sym (ap with_flags is)
-      by ring_counters.Allocated is = read ring_counters.Allocated is ∙ ap Some (label_passes Allocated) ∙ sym (ap with_flags is)
-      by (ring_counters.Reclaimed d) is = read (ring_counters.Reclaimed d) is ∙ ap Some (label_passes Reclaimed) ∙ sym (ap with_flags is)
+      by ring_counters.Allocated is =
+          read ring_counters.Allocated is ∙ ap Some (label_passes Allocated) ∙ sym (ap with_flags is)
+      by (ring_counters.Reclaimed d) is =
+          read (ring_counters.Reclaimed d) is ∙ ap Some (label_passes Reclaimed) ∙ sym (ap with_flags is)
 
 -- ---- the words of a registry
 
 module _ (metadata values : List ℕ) (r : Registry) (show : Show metadata values r) where
   entry_shown : (id : ℕ) → id < count_of r
-      → entry_of id (drop (64 * id) metadata) (drop (16 * id) values) ≡ (if not (is_unused (status_at r id)) then Some (Ok (counter_of id (counter_at r id))) else None)
+      → entry_of id (drop (64 * id) metadata) (drop (16 * id) values)
+      ≡ (if not (is_unused (status_at r id)) then Some (Ok (counter_of id (counter_at r id))) else None)
   entry_shown id less = entry_told id (drop (64 * id) metadata) (drop (16 * id) values) (counter_at r id)
-      record { lawful = show.lawful id less; shows = λ k lt. get_or-drop (64 * id) metadata k 0 ∙ show.metadata_words id k less lt }
-      record { value = show.fits id less; shows = λ k lt. get_or-drop (16 * id) values k 0 ∙ show.value_words id k less lt }
+      record {
+        lawful = show.lawful id less;
+        shows = λ k lt. get_or-drop (64 * id) metadata k 0
+            ∙ show.metadata_words id k less lt;
+      }
+      record {
+        value = show.fits id less;
+        shows = λ k lt. get_or-drop (16 * id) values k 0
+            ∙ show.value_words id k less lt;
+      }
 
   entries_given : (n first : ℕ) → (0 < n → first + n ≤ count_of r) → entries metadata values n first ≡ given r n first
   entries_given zero first inside = refl
   entries_given (suc n) first inside =
-      (λ i. or_none (entry_shown first (omega (arith, inside (omega arith))) i) (entries_given n (first + 1) (λ some. omega (arith, inside (omega arith))) i))
+      (λ i. or_none (entry_shown first (omega (arith, inside (omega arith))) i)
+      (entries_given n (first + 1) (λ some. omega (arith, inside (omega arith))) i))
       ∙ step (not (is_unused (status_at r first)))
     where
       told : ℕ → CounterEntry
       told id = Ok (counter_of id (counter_at r id))
 
       step : (b : Bool) → or_none (if b then Some (told first) else None) (given r n (first + 1))
-          ≡ map told (cond b (first ∷ filter (λ id. not (is_unused (status_at r id))) (range_with_len (first + 1) n)) (filter (λ id. not (is_unused (status_at r id))) (range_with_len (first + 1) n)))
+          ≡ map told (cond b (first ∷ filter (λ id. not (is_unused (status_at r id))) (range_with_len (first + 1) n))
+          (filter (λ id. not (is_unused (status_at r id))) (range_with_len (first + 1) n)))
       step true = refl
       step false = refl
 
   -- a snapshot has as many ids as the registry
-  pub entries_exact : (count first : ℕ) → HaveIds metadata values count → entries metadata values (count - first) first ≡ given r (count_of r - first) first
+  pub entries_exact : (count first : ℕ) → HaveIds metadata values count
+      → entries metadata values (count - first) first ≡ given r (count_of r - first) first
   entries_exact count first ids =
       let same : count ≡ count_of r = omega (arith, ids.value_words, show.ids.value_words) in
-      ap (λ n. entries metadata values (n - first) first) same ∙ entries_given (count_of r - first) first (λ some. omega (arith, some))
+      ap (λ n. entries metadata values (n - first) first) same
+      ∙ entries_given (count_of r - first) first (λ some. omega (arith, some))

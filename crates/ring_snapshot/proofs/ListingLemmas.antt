@@ -52,7 +52,8 @@ not_below_one z h = grind (arith, ints)
 
 -- a header with a length is not 0
 module _ (C : ℕ) (words : List ℕ) (tail at : ℕ) (len type_id : ℤ) where
-  entry_decoded : (w : ℕ) → slice_index words (index C at) ≡ w → length_in w ≡ len → type_in w ≡ type_id → (len ≡ pos 0 → ⊥)
+  entry_decoded : (w : ℕ) → slice_index words (index C at) ≡ w → length_in w ≡ len → type_in w ≡ type_id
+      → (len ≡ pos 0 → ⊥)
       → entry_at C words tail at ≡ entry_for C words tail at len type_id
   entry_decoded w is len_is type_is some =
       let some_word : slice_index words (index C at) ≡ 0 → ⊥ = λ z. some (sym len_is ∙ ap length_in (sym is ∙ z)) in
@@ -61,12 +62,16 @@ module _ (C : ℕ) (words : List ℕ) (tail at : ℕ) (len type_id : ℤ) where
       ∙ ap (λ x. entry_for C words tail at x (type_in w)) len_is
       ∙ ap (λ x. entry_for C words tail at len x) type_is
 
-length_fits : (C tail at n : ℕ) → 8 ≤ n → n ≤ 8 + C / 8 → up_to_eight n ≤ room C at → at + up_to_eight n ≤ tail → is_length C tail at n ≡ true
+length_fits : (C tail at n : ℕ) → 8 ≤ n → n ≤ 8 + C / 8 → up_to_eight n ≤ room C at → at + up_to_eight n ≤ tail
+    → is_length C tail at n ≡ true
 length_fits C tail at n a b c d = grind (arith, a, b, c, d)
 
-for_passed : (C : ℕ) (words : List ℕ) (tail at n : ℕ) → 8 ≤ n → is_length C tail at n ≡ true → entry_for C words tail at (pos n) padding_type ≡ Ok (passed_at C at n)
+for_passed : (C : ℕ) (words : List ℕ) (tail at n : ℕ) → 8 ≤ n → is_length C tail at n ≡ true
+    → entry_for C words tail at (pos n) padding_type ≡ Ok (passed_at C at n)
 for_passed C words tail at n some fits =
-    cond-false _ _ _ (ap not fits) ∙ cond-true _ _ _ (let above : int_lt (pos 0) (pos n) ≡ true = grind (arith, some) in ap (λ b. b && is_padding_type padding_type) above)
+    cond-false _ _ _ (ap not fits) ∙ cond-true _ _ _
+    (let above : int_lt (pos 0) (pos n) ≡ true =
+    grind (arith, some) in ap (λ b. b && is_padding_type padding_type) above)
 
 for_committed : (C : ℕ) (words : List ℕ) (tail at n : ℕ) (type_id : ℤ) → pos 1 ≤ℤ type_id → is_length C tail at n ≡ true
     → entry_for C words tail at (pos n) type_id ≡ Ok (message_at C words at (pos n) type_id)
@@ -85,52 +90,64 @@ for_open C words tail at n type_id lawful fits =
 -- ---- a claim as a record
 
 abbrev with_state : ℕ → ℕ → Claim → RecordState → ℕ → List ℕ → Record
-with_state C place c state len body = record { place = place; index = place % C; state = state; type_id = c.message.type_id; length = len; body = body }
+with_state C place c state len body =
+    record { place = place; index = place % C; state = state; type_id = c.message.type_id; length = len; body = body }
 
-state_open : (C place : ℕ) (c : Claim) → c.state ≡ Open → state_of C place c ≡ with_state C place c shown.Open (8 + length c.message.body) c.message.body
+state_open : (C place : ℕ) (c : Claim) → c.state ≡ Open
+    → state_of C place c ≡ with_state C place c shown.Open (8 + length c.message.body) c.message.body
 state_open C place c e = rw e refl
 
-state_committed : (C place : ℕ) (c : Claim) → c.state ≡ Committed → state_of C place c ≡ with_state C place c shown.Committed (8 + length c.message.body) c.message.body
+state_committed : (C place : ℕ) (c : Claim) → c.state ≡ Committed
+    → state_of C place c ≡ with_state C place c shown.Committed (8 + length c.message.body) c.message.body
 state_committed C place c e = rw e refl
 
-state_aborted : (C place : ℕ) (c : Claim) → c.state ≡ Aborted → state_of C place c ≡ passed_at C place (8 + length c.message.body)
+state_aborted : (C place : ℕ) (c : Claim) → c.state ≡ Aborted
+    → state_of C place c ≡ passed_at C place (8 + length c.message.body)
 state_aborted C place c e = rw e refl
 
 length_of_state : (C place : ℕ) (c : Claim) → (state_of C place c).length ≡ 8 + length c.message.body
-length_of_state C place c = elim (state_cases c.state) as (λ _. (state_of C place c).length ≡ 8 + length c.message.body) [
-  | inl e ↦ ap (λ (r : Record). r.length) (state_open C place c e)
-  | inr other ↦ elim other as (λ _. (state_of C place c).length ≡ 8 + length c.message.body) [
-    | inl e ↦ ap (λ (r : Record). r.length) (state_committed C place c e)
-    | inr e ↦ ap (λ (r : Record). r.length) (state_aborted C place c e)
-  ]
-]
+length_of_state C place c =
+    elim (state_cases c.state) as (λ _. (state_of C place c).length ≡ 8 + length c.message.body) [
+      | inl e ↦ ap (λ (r : Record). r.length) (state_open C place c e)
+      | inr other ↦ elim other as (λ _. (state_of C place c).length ≡ 8 + length c.message.body) [
+        | inl e ↦ ap (λ (r : Record). r.length) (state_committed C place c e)
+        | inr e ↦ ap (λ (r : Record). r.length) (state_aborted C place c e)
+      ]
+    ]
 
 not_negative : (k : ℕ) → int_lt (pos k) (pos 0) ≡ false
 not_negative k = grind (arith)
 
-message_committed : (C : ℕ) (words : List ℕ) (place : ℕ) (c : Claim) → bytes_at words (place % C + 8) (length c.message.body) ≡ c.message.body
-    → message_at C words place (pos (8 + length c.message.body)) c.message.type_id ≡ with_state C place c shown.Committed (8 + length c.message.body) c.message.body
+message_committed : (C : ℕ) (words : List ℕ) (place : ℕ) (c : Claim)
+    → bytes_at words (place % C + 8) (length c.message.body) ≡ c.message.body
+    → message_at C words place (pos (8 + length c.message.body)) c.message.type_id
+    ≡ with_state C place c shown.Committed (8 + length c.message.body) c.message.body
 message_committed C words place c body =
     let k : ℕ = length c.message.body in
     let less : 8 + k - 8 ≡ k = omega arith in
-    ap (λ b. with_state C place c (if b then shown.Open else shown.Committed) (8 + k) (bytes_at words (place % C + 8) (8 + k - 8))) (not_negative (8 + k))
+    ap (λ b. with_state C place c (if b then shown.Open else shown.Committed) (8 + k)
+    (bytes_at words (place % C + 8) (8 + k - 8))) (not_negative (8 + k))
     ∙ ap (λ j. with_state C place c shown.Committed (8 + k) (bytes_at words (place % C + 8) j)) less
     ∙ ap (with_state C place c shown.Committed (8 + k)) body
 
-message_open : (C : ℕ) (words : List ℕ) (place : ℕ) (c : Claim) → bytes_at words (place % C + 8) (length c.message.body) ≡ c.message.body
-    → message_at C words place (neg_ℤ (pos (8 + length c.message.body))) c.message.type_id ≡ with_state C place c shown.Open (8 + length c.message.body) c.message.body
+message_open : (C : ℕ) (words : List ℕ) (place : ℕ) (c : Claim)
+    → bytes_at words (place % C + 8) (length c.message.body) ≡ c.message.body
+    → message_at C words place (neg_ℤ (pos (8 + length c.message.body))) c.message.type_id
+    ≡ with_state C place c shown.Open (8 + length c.message.body) c.message.body
 message_open C words place c body =
     let k : ℕ = length c.message.body in
     let less : 8 + k - 8 ≡ k = omega arith in
     let len : ℤ = neg_ℤ (pos (8 + k)) in
-    ap (λ b. with_state C place c (if b then shown.Open else shown.Committed) (nat_abs len) (bytes_at words (place % C + 8) (nat_abs len - 8))) (neg_below (8 + k) (omega arith))
+    ap (λ b. with_state C place c (if b then shown.Open else shown.Committed) (nat_abs len)
+    (bytes_at words (place % C + 8) (nat_abs len - 8))) (neg_below (8 + k) (omega arith))
     ∙ ap (λ a. with_state C place c shown.Open a (bytes_at words (place % C + 8) (a - 8))) (abs_neg (8 + k))
     ∙ ap (λ j. with_state C place c shown.Open (8 + k) (bytes_at words (place % C + 8) j)) less
     ∙ ap (with_state C place c shown.Open (8 + k)) body
 
 -- ---- one claim
 
-module _ (C : ℕ) (words : List ℕ) (tail e : ℕ) (c : Claim) (h : List Claim) (ok : IsCapacity C) (aligned : e % 8 ≡ 0) (lie : Lie C words tail e (c ∷ h)) where
+module _ (C : ℕ) (words : List ℕ) (tail e : ℕ) (c : Claim) (h : List Claim) (ok : IsCapacity C) (aligned : e % 8 ≡ 0)
+    (lie : Lie C words tail e (c ∷ h)) where
   abbrev n : ℕ
   n = length c.message.body
 
@@ -153,7 +170,8 @@ module _ (C : ℕ) (words : List ℕ) (tail e : ℕ) (c : Claim) (h : List Claim
   begins = next_le C e (span_of c)
 
   end_below : place + span n ≤ tail
-  end_below = let far = end_of_le C (place + span n) h in let ends : end_of C (place + span n) h ≡ tail = lie.ends in omega (arith, far, ends)
+  end_below = let far = end_of_le C (place + span n) h in let ends : end_of C (place + span n) h ≡ tail =
+      lie.ends in omega (arith, far, ends)
 
   place_aligned : place % 8 ≡ 0
   place_aligned = next_aligned C e (span_of c) (omega (arith, ok.least)) c8 aligned
@@ -172,9 +190,11 @@ module _ (C : ℕ) (words : List ℕ) (tail e : ℕ) (c : Claim) (h : List Claim
       ∙ ap (claim_word c) (let z : place - place ≡ 0 = omega arith in z)
 
   record_fits : is_length C tail place (8 + n) ≡ true
-  record_fits = length_fits C tail place (8 + n) (omega arith) (omega (arith, lawful.short)) (omega (arith, within)) end_below
+  record_fits =
+      length_fits C tail place (8 + n) (omega arith) (omega (arith, lawful.short)) (omega (arith, within)) end_below
 
-  body_word : (j : ℕ) → 8 * j < n → slice_index words (place % C / 8 + 1 + j) ≡ from_le_bytes w64 (drop (8 * j) c.message.body)
+  body_word : (j : ℕ) → 8 * j < n → slice_index words (place % C / 8 + 1 + j)
+      ≡ from_le_bytes w64 (drop (8 * j) c.message.body)
   body_word j lt =
       let p : ℕ = place + 8 * (j + 1) in
       let step = index_step C place (j + 1) c8 place_aligned (omega (arith, within, bounds)) in
@@ -203,13 +223,16 @@ module _ (C : ℕ) (words : List ℕ) (tail e : ℕ) (c : Claim) (h : List Claim
       ap (λ i. slice_index words i / 2 ^ (8 * ((place % C + 8 + k) % 8)) % 256) quotient
       ∙ ap (λ i. slice_index words (place % C / 8 + 1 + k / 8) / 2 ^ (8 * i) % 256) remainder
       ∙ ap (λ w. w / 2 ^ (8 * (k % 8)) % 256) (body_word (k / 8) (omega arith))
-      ∙ byte_of_word (drop (8 * (k / 8)) c.message.body) (λ j. let e = get_or-drop (8 * (k / 8)) c.message.body j 0 in omega (arith, e, byte_small (8 * (k / 8) + j))) (k % 8) (omega arith)
+      ∙ byte_of_word (drop (8 * (k / 8)) c.message.body)
+      (λ j. let e = get_or-drop (8 * (k / 8)) c.message.body j 0 in omega (arith, e, byte_small (8 * (k / 8) + j)))
+      (k % 8) (omega arith)
       ∙ get_or-drop (8 * (k / 8)) c.message.body (k % 8) 0
       ∙ ap (slice_index c.message.body) (omega arith)
 
   body_is : bytes_at words (place % C + 8) n ≡ c.message.body
   body_is =
-      ext_get_or 0 (bytes_at words (place % C + 8) n) c.message.body (length-map-range_with_len (byte_at words) (place % C + 8) n)
+      ext_get_or 0 (bytes_at words (place % C + 8) n) c.message.body
+      (length-map-range_with_len (byte_at words) (place % C + 8) n)
       (λ k lt. let lt' : k < n = omega (arith, length-map-range_with_len (byte_at words) (place % C + 8) n) in
       get_or-map-range_with_len (byte_at words) (place % C + 8) n k (place % C + 8 + k) 0 lt' refl ∙ body_byte k lt')
 
@@ -219,10 +242,15 @@ module _ (C : ℕ) (words : List ℕ) (tail e : ℕ) (c : Claim) (h : List Claim
 
   committed_entry : c.state ≡ Committed → Told
   committed_entry e =
-      let word : slice_index words (index C place) ≡ header (pos (8 + n)) c.message.type_id = header_word ∙ header_committed c e in
-      let len_is : length_in (header (pos (8 + n)) c.message.type_id) ≡ pos (8 + n) = len_of-header (pos (8 + n)) c.message.type_id (fits_pos (8 + n) small) in
-      let type_is : type_in (header (pos (8 + n)) c.message.type_id) ≡ c.message.type_id = type_of-header (pos (8 + n)) c.message.type_id (fits_pos (8 + n) small) lawful.type_fits in
-      entry_decoded C words tail place (pos (8 + n)) c.message.type_id (header (pos (8 + n)) c.message.type_id) word len_is type_is (λ z. let bad : 8 + n ≡ 0 = ap nat_abs z in omega (arith, bad))
+      let word : slice_index words (index C place) ≡ header (pos (8 + n)) c.message.type_id =
+      header_word ∙ header_committed c e in
+      let len_is : length_in (header (pos (8 + n)) c.message.type_id) ≡ pos (8 + n) =
+      len_of-header (pos (8 + n)) c.message.type_id (fits_pos (8 + n) small) in
+      let type_is : type_in (header (pos (8 + n)) c.message.type_id) ≡ c.message.type_id =
+      type_of-header (pos (8 + n)) c.message.type_id (fits_pos (8 + n) small) lawful.type_fits in
+      entry_decoded C words tail place (pos (8 + n)) c.message.type_id
+      (header (pos (8 + n)) c.message.type_id) word len_is type_is
+      (λ z. let bad : 8 + n ≡ 0 = ap nat_abs z in omega (arith, bad))
       ∙ for_committed C words tail place (8 + n) c.message.type_id lawful.type_id record_fits
       ∙ ap Ok (message_committed C words place c body_is ∙ sym (state_committed C place c e))
 
@@ -230,19 +258,27 @@ module _ (C : ℕ) (words : List ℕ) (tail e : ℕ) (c : Claim) (h : List Claim
   open_entry e =
       let len : ℤ = neg_ℤ (pos (8 + n)) in
       let word : slice_index words (index C place) ≡ header len c.message.type_id = header_word ∙ header_open c e in
-      let len_is : length_in (header len c.message.type_id) ≡ len = len_of-header len c.message.type_id (fits_neg (8 + n) small) in
-      let type_is : type_in (header len c.message.type_id) ≡ c.message.type_id = type_of-header len c.message.type_id (fits_neg (8 + n) small) lawful.type_fits in
+      let len_is : length_in (header len c.message.type_id) ≡ len =
+      len_of-header len c.message.type_id (fits_neg (8 + n) small) in
+      let type_is : type_in (header len c.message.type_id) ≡ c.message.type_id =
+      type_of-header len c.message.type_id (fits_neg (8 + n) small) lawful.type_fits in
       let abs : nat_abs len ≡ 8 + n = abs_neg (8 + n) in
-      entry_decoded C words tail place len c.message.type_id (header len c.message.type_id) word len_is type_is (λ z. let bad : 8 + n ≡ 0 = sym abs ∙ ap nat_abs z in omega (arith, bad))
+      entry_decoded C words tail place len c.message.type_id (header len c.message.type_id) word len_is type_is
+      (λ z. let bad : 8 + n ≡ 0 = sym abs ∙ ap nat_abs z in omega (arith, bad))
       ∙ for_open C words tail place (8 + n) c.message.type_id lawful.type_id record_fits
       ∙ ap Ok (message_open C words place c body_is ∙ sym (state_open C place c e))
 
   aborted_entry : c.state ≡ Aborted → Told
   aborted_entry e =
-      let word : slice_index words (index C place) ≡ header (pos (8 + n)) padding_type = header_word ∙ header_aborted c e in
-      let len_is : length_in (header (pos (8 + n)) padding_type) ≡ pos (8 + n) = len_of-header (pos (8 + n)) padding_type (fits_pos (8 + n) small) in
-      let type_is : type_in (header (pos (8 + n)) padding_type) ≡ padding_type = type_of-header (pos (8 + n)) padding_type (fits_pos (8 + n) small) record { sfits = omega arith } in
-      entry_decoded C words tail place (pos (8 + n)) padding_type (header (pos (8 + n)) padding_type) word len_is type_is (λ z. let bad : 8 + n ≡ 0 = ap nat_abs z in omega (arith, bad))
+      let word : slice_index words (index C place) ≡ header (pos (8 + n)) padding_type =
+      header_word ∙ header_aborted c e in
+      let len_is : length_in (header (pos (8 + n)) padding_type) ≡ pos (8 + n) =
+      len_of-header (pos (8 + n)) padding_type (fits_pos (8 + n) small) in
+      let type_is : type_in (header (pos (8 + n)) padding_type) ≡ padding_type =
+      type_of-header (pos (8 + n)) padding_type (fits_pos (8 + n) small) record { sfits = omega arith } in
+      entry_decoded C words tail place (pos (8 + n)) padding_type
+      (header (pos (8 + n)) padding_type) word len_is type_is
+      (λ z. let bad : 8 + n ≡ 0 = ap nat_abs z in omega (arith, bad))
       ∙ for_passed C words tail place (8 + n) (omega arith) record_fits
       ∙ ap Ok (sym (state_aborted C place c e))
 
@@ -284,14 +320,19 @@ module _ (C : ℕ) (words : List ℕ) (tail e : ℕ) (c : Claim) (h : List Claim
         let whole = pad_whole in
         let r = room_short in
         let is = pad_is_room in
-        length_fits C tail e pad b.0 (omega (arith, b.1, r, is, lawful.short, bounds, capacity_blocks C ok)) (omega (arith, whole, is)) (omega (arith, whole, end_below, before))
+        length_fits C tail e pad b.0 (omega (arith, b.1, r, is, lawful.short, bounds, capacity_blocks C ok))
+        (omega (arith, whole, is)) (omega (arith, whole, end_below, before))
 
     pad_entry : entry_at C words tail e ≡ Ok (passed_at C e pad)
     pad_entry =
         let few : pad < 2 ^ 31 = omega (arith, room_short, pad_is_room, short, ok.most) in
-        let word : slice_index words (index C e) ≡ header (pos pad) padding_type = lie.picture e aligned (omega arith) (omega (arith, before, end_below)) ∙ word_at_padding_header C e c h before in
-        entry_decoded C words tail e (pos pad) padding_type (header (pos pad) padding_type) word (len_of-header (pos pad) padding_type (fits_pos pad few))
-        (type_of-header (pos pad) padding_type (fits_pos pad few) record { sfits = omega arith }) (λ z. let b = pad_bounds in let bad : pad ≡ 0 = ap nat_abs z in omega (arith, b, bad))
+        let word : slice_index words (index C e) ≡ header (pos pad) padding_type =
+        lie.picture e aligned (omega arith) (omega (arith, before, end_below))
+        ∙ word_at_padding_header C e c h before in
+        entry_decoded C words tail e (pos pad) padding_type (header (pos pad) padding_type) word
+        (len_of-header (pos pad) padding_type (fits_pos pad few))
+        (type_of-header (pos pad) padding_type (fits_pos pad few) record { sfits = omega arith })
+        (λ z. let b = pad_bounds in let bad : pad ≡ 0 = ap nat_abs z in omega (arith, b, bad))
         ∙ for_passed C words tail e pad (pad_bounds.0) pad_fits
 
   -- what lies behind it
@@ -309,13 +350,16 @@ some_suc zero lt = absurd (omega arith)
 some_suc (suc k) lt = (k, refl)
 
 -- one step of a listing
-listing_step : (C : ℕ) (words : List ℕ) (tail m at : ℕ) → at < tail → listing C words tail (suc m) at ≡ followed (listing C words tail m) at (entry_at C words tail at)
+listing_step : (C : ℕ) (words : List ℕ) (tail m at : ℕ) → at < tail
+    → listing C words tail (suc m) at ≡ followed (listing C words tail m) at (entry_at C words tail at)
 listing_step C words tail m at lt = cond-false _ _ _ (lt-leb tail at lt)
 
-pub exact : (C : ℕ) (words : List ℕ) (tail : ℕ) → IsCapacity C → (h : List Claim) (m e : ℕ) → e % 8 ≡ 0 → tail ≤ e + 8 * m → Lie C words tail e h
+pub exact : (C : ℕ) (words : List ℕ) (tail : ℕ) → IsCapacity C → (h : List Claim) (m e : ℕ) → e % 8 ≡ 0
+    → tail ≤ e + 8 * m → Lie C words tail e h
     → listing C words tail m e ≡ ok_records (records_of C e h)
 exact C words tail ok [] zero e aligned enough lie = refl
-exact C words tail ok [] (suc m) e aligned enough lie = cond-true _ _ _ (le-leb tail e (let ends : e ≡ tail = lie.ends in omega (arith, ends)))
+exact C words tail ok [] (suc m) e aligned enough lie =
+    cond-true _ _ _ (le-leb tail e (let ends : e ≡ tail = lie.ends in omega (arith, ends)))
 exact C words tail ok (c ∷ h) m e aligned enough lie =
     let place : ℕ = next_place C e (span_of c) in
     let n : ℕ = length c.message.body in
@@ -324,9 +368,12 @@ exact C words tail ok (c ∷ h) m e aligned enough lie =
     let b = span_bounds n in
     let whole : place % 8 ≡ 0 = place_aligned C words tail e c h ok aligned lie in
     let behind : List Entry = ok_records (records_of C (place + span n) h) in
-    let from_claim : (k : ℕ) → tail ≤ place + 8 * k → listing C words tail k place ≡ Ok (state_of C place c) ∷ behind = λ k much.
+    let from_claim : (k : ℕ) → tail ≤ place + 8 * k → listing C words tail k place ≡ Ok (state_of C place c) ∷ behind =
+    λ k much.
     let (less, is) = some_suc k (omega (arith, much, end, b)) in
-    let rest : listing C words tail less (place + span n) ≡ behind = exact C words tail ok h less (place + span n) (omega (arith, whole, b)) (omega (arith, much, is, b)) (rest_lies C words tail e c h ok aligned lie) in
+    let rest : listing C words tail less (place + span n) ≡ behind =
+    exact C words tail ok h less (place + span n) (omega (arith, whole, b)) (omega (arith, much, is, b))
+    (rest_lies C words tail e c h ok aligned lie) in
     ap (λ x. listing C words tail x place) is
     ∙ listing_step C words tail less place (omega (arith, end, b))
     ∙ ap (followed (listing C words tail less) place) (claim_entry C words tail e c h ok aligned lie)
@@ -343,17 +390,20 @@ exact C words tail ok (c ∷ h) m e aligned enough lie =
           ∙ ap (followed (listing C words tail less) e) (pad_entry C words tail e c h ok aligned lie before)
           ∙ ap (λ x. Ok (passed_at C e (place - e)) ∷ listing C words tail less x) pad_end
           ∙ ap (λ xs. Ok (passed_at C e (place - e)) ∷ xs) (from_claim less (omega (arith, enough, is, pb, before)))
-          ∙ sym (ap (λ xs. ok_records (xs ++ state_of C place c ∷ records_of C (place + span n) h)) (cond-true _ (passed_at C e (place - e) ∷ []) [] (lt-ltb e place before)))
+          ∙ sym (ap (λ xs. ok_records (xs ++ state_of C place c ∷ records_of C (place + span n) h))
+          (cond-true _ (passed_at C e (place - e) ∷ []) [] (lt-ltb e place before)))
       | inr from ↦
           let at : e ≡ place = omega (arith, low, from) in
           ap (listing C words tail m) at
           ∙ from_claim m (omega (arith, enough, at))
-          ∙ sym (ap (λ xs. ok_records (xs ++ state_of C place c ∷ records_of C (place + span n) h)) (cond-false _ (passed_at C e (place - e) ∷ []) [] (le-ltb e place from)))
+          ∙ sym (ap (λ xs. ok_records (xs ++ state_of C place c ∷ records_of C (place + span n) h))
+          (cond-false _ (passed_at C e (place - e) ∷ []) [] (le-ltb e place from)))
     ]
 
 -- ---- the iterator's step
 
-pub next_ok : (C : ℕ) (words : List ℕ) (tail m at : ℕ) (x : Entry) (r : Record) → 0 < m → at < tail → x ≡ entry_at C words tail at → x ≡ Ok r
+pub next_ok : (C : ℕ) (words : List ℕ) (tail m at : ℕ) (x : Entry) (r : Record) → 0 < m → at < tail
+    → x ≡ entry_at C words tail at → x ≡ Ok r
     → listing C words tail m at ≡ x ∷ listing C words tail (m - 1) (at + up_to_eight r.length)
 next_ok C words tail zero at x r some lt is ok = absurd (omega (arith, some))
 next_ok C words tail (suc m) at x r some lt is ok =
@@ -362,8 +412,10 @@ next_ok C words tail (suc m) at x r some lt is ok =
     ∙ ap (λ k. Ok r ∷ listing C words tail k (at + up_to_eight r.length)) (let e : m ≡ suc m - 1 = omega arith in e)
     ∙ ap (λ y. y ∷ listing C words tail (suc m - 1) (at + up_to_eight r.length)) (sym ok)
 
-pub next_err : (C : ℕ) (words : List ℕ) (tail m at : ℕ) (x : Entry) (f : RingFinding) → 0 < m → at < tail → x ≡ entry_at C words tail at → x ≡ Err f
+pub next_err : (C : ℕ) (words : List ℕ) (tail m at : ℕ) (x : Entry) (f : RingFinding) → 0 < m → at < tail
+    → x ≡ entry_at C words tail at → x ≡ Err f
     → listing C words tail m at ≡ x ∷ []
 next_err C words tail zero at x f some lt is err = absurd (omega (arith, some))
 next_err C words tail (suc m) at x f some lt is err =
-    listing_step C words tail m at lt ∙ ap (followed (listing C words tail m) at) (sym is ∙ err) ∙ ap (λ y. y ∷ []) (sym err)
+    listing_step C words tail m at lt ∙ ap (followed (listing C words tail m) at) (sym is ∙ err)
+    ∙ ap (λ y. y ∷ []) (sym err)

@@ -1,4 +1,5 @@
--- The records in the words of a board, whatever these are. Positions are running byte counts, and C is the capacity of the buffer.
+-- The records in the words of a board, whatever these are. Positions are running byte counts, and C is the capacity of
+-- the buffer.
 use Rattle.std.specs.Prelude.{ℕ, true, false, zero, suc, ◌+◌, ◌-◌, ◌/◌, ◌%◌, Bool, ◌&&◌, ◌||◌, ◌==◌, not, nat_le, nat_lt, int_lt, if◌then◌else◌, ℤ, pos, nat_abs, List, [], ◌∷◌, slice_index, Result, Ok, Err, Option, Some, None}
 use Rattle.ring_layout.specs.Places.{index, room}
 use Rattle.ring_board.specs.Layout.{intent_index, tail_index, latest_index}
@@ -13,14 +14,24 @@ use Rattle.ring_snapshot.specs.RingRecords.{length_in, type_in, is_padding_type,
 abbrev pub BoardEntry : Type 0
 BoardEntry = Result BoardRecord BoardFinding
 
--- a record of this length may lie at the position: no message is longer, it does not cross the end of the buffer, and the one at `latest` ends at the tail
+-- a record of this length may lie at the position: no message is longer, it does not cross the end of the buffer, and
+-- the one at `latest` ends at the tail
 abbrev pub is_length : ℕ → ℕ → ℕ → ℕ → ℕ → Bool
 is_length C latest tail at n =
     nat_le 8 n && nat_le n (8 + C / 8) && nat_le (up_to_eight n) (room C at)
     && (if nat_lt at latest then nat_le (at + up_to_eight n) latest else (at == latest && at + up_to_eight n == tail))
 
 abbrev pub padding_at : ℕ → ℕ → ℕ → ℕ → ℤ → BoardRecord
-padding_at C intent at n type_id = record { place = at; index = at % C; is_padding = true; is_valid = nat_lt intent (at + C); type_id = type_id; length = n; body = [] }
+padding_at C intent at n type_id = record {
+  place = at;
+  index = at % C;
+  is_padding = true;
+  is_valid =
+      nat_lt intent (at + C);
+  type_id = type_id;
+  length = n;
+  body = [];
+}
 
 abbrev pub message_at : ℕ → List ℕ → ℕ → ℕ → ℕ → ℤ → BoardRecord
 message_at C words intent at n type_id = record {
@@ -33,18 +44,21 @@ message_at C words intent at n type_id = record {
   body = bytes_at words (at % C + 8) (n - 8);
 }
 
--- what a header with this length and type id tells at a position: padding goes up to the end of the buffer, and is not the last record
+-- what a header with this length and type id tells at a position: padding goes up to the end of the buffer, and is not
+-- the last record
 abbrev pub entry_for : ℕ → List ℕ → ℕ → ℕ → ℕ → ℕ → ℤ → ℤ → BoardEntry
 entry_for C words intent latest tail at len type_id =
     let n = nat_abs len in
     if int_lt len (pos 1) || not (is_length C latest tail at n) then Err (BadLength (at % C) len)
-    else (if is_padding_type type_id then (if nat_le latest at || not (at % C + n == C) then Err (BadLength (at % C) len) else Ok (padding_at C intent at n type_id))
+    else (if is_padding_type type_id then (if nat_le latest at
+    || not (at % C + n == C) then Err (BadLength (at % C) len) else Ok (padding_at C intent at n type_id))
     else (if int_lt type_id (pos 1) then Err (BadType (at % C) type_id)
     else Ok (message_at C words intent at n type_id)))
 
 -- what the words hold at a position
 abbrev pub entry_at : ℕ → List ℕ → ℕ → ℕ → ℕ → ℕ → BoardEntry
-entry_at C words intent latest tail at = let w = slice_index words (index C at) in entry_for C words intent latest tail at (length_in w) (type_in w)
+entry_at C words intent latest tail at =
+    let w = slice_index words (index C at) in entry_for C words intent latest tail at (length_in w) (type_in w)
 
 -- an entry, and the rest from where it ends; nothing behind a finding
 abbrev pub followed : (ℕ → List BoardEntry) → ℕ → BoardEntry → List BoardEntry
@@ -55,7 +69,8 @@ followed rest at (Ok r) = Ok r ∷ rest (at + up_to_eight r.length)
 abbrev pub listing : ℕ → List ℕ → ℕ → ℕ → ℕ → ℕ → ℕ → List BoardEntry
 listing C words intent latest tail zero at = []
 listing C words intent latest tail (suc n) at =
-    if nat_le tail at then [] else followed (listing C words intent latest tail n) at (entry_at C words intent latest tail at)
+    if nat_le tail at then [] else followed (listing C words intent latest tail n) at
+    (entry_at C words intent latest tail at)
 
 -- what is still to come
 abbrev pub records_left : BoardRecords → List BoardEntry
@@ -73,7 +88,8 @@ latest_in b = slice_index b.words.now (latest_index b.capacity)
 
 -- what lies on a board from a position up to its tail
 abbrev pub listed_from : BoardSnapshot → ℕ → List BoardEntry
-listed_from b position = listing b.capacity b.words.now (intent_in b) (latest_in b) (tail_in b) ((tail_in b - position) / 8) position
+listed_from b position =
+    listing b.capacity b.words.now (intent_in b) (latest_in b) (tail_in b) ((tail_in b - position) / 8) position
 
 -- the begin of the running lap, or the last record where the intent is more than the buffer beyond that
 abbrev pub first_whole : ℕ → ℕ → ℕ → ℕ
@@ -82,7 +98,8 @@ first_whole C intent latest = let lap = latest - latest % C in if nat_le intent 
 -- what is wrong with the positions, in the order of the tests
 abbrev pub positions_finding : ℕ → ℕ → ℕ → ℕ → Option BoardFinding
 positions_finding C intent tail latest =
-    if not (intent % 8 == 0) || not (tail % 8 == 0) || not (latest % 8 == 0) then Some (UnalignedPosition intent tail latest)
+    if not (intent % 8 == 0) || not (tail % 8 == 0)
+    || not (latest % 8 == 0) then Some (UnalignedPosition intent tail latest)
     else (if nat_lt tail latest then Some (TailBeforeLatest tail latest)
     else (if nat_lt intent tail then Some (IntentBeforeTail intent tail)
     else (if nat_lt (latest + room C latest) tail then Some (TailTooFar tail latest)
@@ -96,4 +113,5 @@ or_else None other = other
 -- why nothing is listed from a position
 abbrev pub from_finding : ℕ → ℕ → ℕ → ℕ → ℕ → Option BoardFinding
 from_finding C intent tail latest position = or_else (positions_finding C intent tail latest)
-    (if not (position % 8 == 0) || not (nat_le position latest || position == tail) || nat_lt (position + C) intent then Some (OutsideOfRecords position) else None)
+    (if not (position % 8 == 0) || not (nat_le position latest || position == tail)
+    || nat_lt (position + C) intent then Some (OutsideOfRecords position) else None)

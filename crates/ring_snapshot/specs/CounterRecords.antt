@@ -23,7 +23,8 @@ CounterEntry = Result Counter CountersFinding
 -- Any words ----------------------------------------------------------------
 
 abbrev pub state_from : ℤ → Option CounterState
-state_from state = if int_eq state (pos 1) then Some Allocated else (if int_eq state (negsuc 0) then Some Reclaimed else None)
+state_from state =
+    if int_eq state (pos 1) then Some Allocated else (if int_eq state (negsuc 0) then Some Reclaimed else None)
 
 -- what a metadata record and a value record say, where the state and the length of the label are lawful
 abbrev pub counter_in : ℕ → List ℕ → List ℕ → CounterState → ℕ → Counter
@@ -46,7 +47,8 @@ with_label id metadata values len state =
 
 abbrev pub with_state : ℕ → List ℕ → List ℕ → ℤ → Option CounterState → CounterEntry
 with_state id metadata values state None = Err (BadState id state)
-with_state id metadata values state (Some told) = with_label id metadata values (length_in (slice_index metadata 16)) told
+with_state id metadata values state (Some told) =
+    with_label id metadata values (length_in (slice_index metadata 16)) told
 
 -- what lies in the two records of an id, which begin with these words: nothing where it was never given
 abbrev pub entry_of : ℕ → List ℕ → List ℕ → Option CounterEntry
@@ -61,7 +63,8 @@ or_none (Some entry) rest = entry ∷ rest
 -- what lies in the records of n ids from this one on
 abbrev pub entries : List ℕ → List ℕ → ℕ → ℕ → List CounterEntry
 entries metadata values zero id = []
-entries metadata values (suc n) id = or_none (entry_of id (drop (64 * id) metadata) (drop (16 * id) values)) (entries metadata values n (id + 1))
+entries metadata values (suc n) id =
+    or_none (entry_of id (drop (64 * id) metadata) (drop (16 * id) values)) (entries metadata values n (id + 1))
 
 -- what lies in a snapshot from an id on
 abbrev pub counters_in : CountersSnapshot → ℕ → List CounterEntry
@@ -78,8 +81,10 @@ pub record Show (metadata values : List ℕ) (r : Registry) : Type 0 where
   pub ids : HaveIds metadata values (count_of r)
   pub lawful : (id : ℕ) → id < count_of r → IsLawful (counter_at r id).metadata
   pub fits : (id : ℕ) → id < count_of r → FitsSigned w64 (counter_at r id).values.value
-  pub metadata_words : (id k : ℕ) → id < count_of r → k < 64 → slice_index metadata (64 * id + k) ≡ metadata_word (counter_at r id).metadata k
-  pub value_words : (id k : ℕ) → id < count_of r → k < 16 → slice_index values (16 * id + k) ≡ value_word (counter_at r id).values k
+  pub metadata_words : (id k : ℕ) → id < count_of r → k < 64
+      → slice_index metadata (64 * id + k) ≡ metadata_word (counter_at r id).metadata k
+  pub value_words : (id k : ℕ) → id < count_of r → k < 16
+      → slice_index values (16 * id + k) ≡ value_word (counter_at r id).values k
 
 -- a counter of a registry, as it is listed
 abbrev pub counter_of : ℕ → ring_counters.Counter → Counter
@@ -97,7 +102,8 @@ counter_of id c = record {
 
 -- the counters of the n ids from this one on that were ever given, in use or freed, by rising id
 abbrev pub given : Registry → ℕ → ℕ → List CounterEntry
-given r n first = map (λ id. Ok (counter_of id (counter_at r id))) (filter (λ id. not (is_unused (status_at r id))) (range_with_len first n))
+given r n first = map (λ id. Ok (counter_of id (counter_at r id)))
+    (filter (λ id. not (is_unused (status_at r id))) (range_with_len first n))
 
 -- the counters from an id on that were ever given
 abbrev pub counters_of : Registry → ℕ → List CounterEntry

@@ -1,4 +1,5 @@
--- The records in the words of a ring, whatever these are, and those of a history. Positions are running byte counts, and C is the capacity of the buffer.
+-- The records in the words of a ring, whatever these are, and those of a history. Positions are running byte counts,
+-- and C is the capacity of the buffer.
 use Rattle.std.specs.Prelude.{◌≡◌, ℕ, zero, suc, ◌+◌, ◌-◌, ◌*◌, ◌/◌, ◌%◌, ◌^◌, ◌<◌, ◌≤◌, Bool, ◌&&◌, ◌==◌, not, nat_le, nat_lt, int_lt, int_le, if◌then◌else◌, ℤ, pos, nat_abs, List, [], ◌∷◌, ◌++◌, All, length, slice_index, Result, Ok, Err, Option, Some, None, ◌||◌}
 use Rattle.std.specs.Int.{cast_signed, w32}
 use Rattle.ring_layout.specs.declared.message.Claim.{Claim}
@@ -36,9 +37,11 @@ is_padding_type type_id = int_le type_id padding_type && int_le padding_type typ
 abbrev pub up_to_eight : ℕ → ℕ
 up_to_eight n = (n + 7) / 8 * 8
 
--- a record of this length may lie at the position: no message is longer, and it crosses neither the end of the buffer nor the tail
+-- a record of this length may lie at the position: no message is longer, and it crosses neither the end of the buffer
+-- nor the tail
 abbrev pub is_length : ℕ → ℕ → ℕ → ℕ → Bool
-is_length C tail at n = nat_le 8 n && nat_le n (8 + C / 8) && nat_le (up_to_eight n) (room C at) && nat_le (at + up_to_eight n) tail
+is_length C tail at n =
+    nat_le 8 n && nat_le n (8 + C / 8) && nat_le (up_to_eight n) (room C at) && nat_le (at + up_to_eight n) tail
 
 -- a passed record: where it ends with the buffer it may be padding
 abbrev pub passed_at : ℕ → ℕ → ℕ → Record
@@ -52,7 +55,8 @@ passed_at C at n = record {
 }
 
 abbrev pub unstored_at : ℕ → ℕ → ℕ → Record
-unstored_at C tail at = record { place = at; index = at % C; state = Unstored; type_id = pos 0; length = tail - at; body = [] }
+unstored_at C tail at =
+    record { place = at; index = at % C; state = Unstored; type_id = pos 0; length = tail - at; body = [] }
 
 abbrev pub message_at : ℕ → List ℕ → ℕ → ℤ → ℤ → Record
 message_at C words at len type_id = record {
@@ -86,7 +90,8 @@ followed rest at (Ok r) = Ok r ∷ rest (at + up_to_eight r.length)
 -- the first n of what lies from a position on: one behind the other, up to the tail or a finding
 abbrev pub listing : ℕ → List ℕ → ℕ → ℕ → ℕ → List Entry
 listing C words tail zero at = []
-listing C words tail (suc n) at = if nat_le tail at then [] else followed (listing C words tail n) at (entry_at C words tail at)
+listing C words tail (suc n) at =
+    if nat_le tail at then [] else followed (listing C words tail n) at (entry_at C words tail at)
 
 -- what is still to come
 abbrev pub records_left : Records → List Entry
@@ -118,7 +123,8 @@ or_else None other = other
 -- why nothing is listed from a position
 abbrev pub from_finding : ℕ → ℕ → ℕ → ℕ → Option RingFinding
 from_finding C head tail position = or_else (positions_finding C head tail)
-    (if not (position % 8 == 0) || nat_lt position head || nat_lt tail position then Some (OutsideOfRecords position) else None)
+    (if not (position % 8 == 0) || nat_lt position head
+    || nat_lt tail position then Some (OutsideOfRecords position) else None)
 
 -- Words of a history -------------------------------------------------------
 
@@ -126,8 +132,24 @@ abbrev pub state_of : ℕ → ℕ → Claim → Record
 state_of C place c = by_state c.state
   where
     by_state : ClaimState → Record
-    by_state claimed.Open = record { place = place; index = place % C; state = Open; type_id = c.message.type_id; length = 8 + length c.message.body; body = c.message.body }
-    by_state claimed.Committed = record { place = place; index = place % C; state = Committed; type_id = c.message.type_id; length = 8 + length c.message.body; body = c.message.body }
+    by_state claimed.Open = record {
+      place = place;
+      index = place % C;
+      state = Open;
+      type_id =
+          c.message.type_id;
+      length = 8 + length c.message.body;
+      body = c.message.body;
+    }
+    by_state claimed.Committed = record {
+      place = place;
+      index = place % C;
+      state = Committed;
+      type_id =
+          c.message.type_id;
+      length = 8 + length c.message.body;
+      body = c.message.body;
+    }
     by_state claimed.Aborted = passed_at C place (8 + length c.message.body)
 
 -- the records of claims that come after e, each with its place: the padding before a claim, and the claim
@@ -135,7 +157,8 @@ abbrev pub records_of : ℕ → ℕ → List Claim → List Record
 records_of C e [] = []
 records_of C e (c ∷ h) =
     let place = next_place C e (span_of c) in
-    (if nat_lt e place then passed_at C e (place - e) ∷ [] else []) ++ state_of C place c ∷ records_of C (place + span_of c) h
+    (if nat_lt e place then passed_at C e (place - e) ∷ [] else []) ++ state_of C place c
+    ∷ records_of C (place + span_of c) h
 
 abbrev pub ok_records : List Record → List Entry
 ok_records [] = []

@@ -44,8 +44,10 @@ impl<'a> BoardSnapshot<'a> {
 
     /// Takes the words of a board. `BadSize` where no board has so many.
     pub fn new(words: &'a [u64]) -> Result<Self, BoardFinding>
-        ensures board { IfOk result (λ b. (b.words.now ≡ words.now) × IsBoardCapacity b.capacity × (length words.now ≡ board_words b.capacity)) }
-        ensures refused { IfErr result (λ f. (f ≡ BadSize (length words.now)) × ((C : ℕ) → IsBoardCapacity C → length words.now ≢ board_words C)) }
+        ensures board { IfOk result (λ b. (b.words.now ≡ words.now) × IsBoardCapacity b.capacity
+            × (length words.now ≡ board_words b.capacity)) }
+        ensures refused { IfErr result (λ f. (f ≡ BadSize (length words.now))
+            × ((C : ℕ) → IsBoardCapacity C → length words.now ≢ board_words C)) }
     {
         let refused = BoardFinding::BadSize { words: words.len() };
         if words.len() < TRAILER_WORDS || words.len() - TRAILER_WORDS > MAX_CAPACITY as usize / 8 {
@@ -87,15 +89,17 @@ impl<'a> BoardSnapshot<'a> {
         self.words[self.capacity as usize / 8 + LATEST_COUNTER_WORD]
     }
 
-    /// The records of the running lap; the last one alone, where the intent has begun to overwrite the first of them. It
-    /// refuses positions that make no sense, in this order: `UnalignedPosition`, `TailBeforeLatest`, `IntentBeforeTail`,
-    /// `TailTooFar`, `IntentTooFar`.
+    /// The records of the running lap; the last one alone, where the intent has begun to overwrite the first of them.
+    /// It refuses positions that make no sense, in this order: `UnalignedPosition`, `TailBeforeLatest`,
+    /// `IntentBeforeTail`, `TailTooFar`, `IntentTooFar`.
     ///
     /// It does not go back into the lap before: memory does not tell where the first of its records that is still whole
     /// begins, and a message may look like a header. `records_from` lists them where a begin is known.
     pub fn records(&self) -> Result<BoardRecords<'a>, BoardFinding>
-        ensures refused { IsRefusedBy (positions_finding self.now.capacity (intent_in self.now) (tail_in self.now) (latest_in self.now)) result }
-        ensures listed { IfOk result (λ r. records_left r ≡ listed_from self.now (first_whole self.now.capacity (intent_in self.now) (latest_in self.now))) }
+        ensures refused { IsRefusedBy (positions_finding self.now.capacity (intent_in self.now) (tail_in self.now)
+            (latest_in self.now)) result }
+        ensures listed { IfOk result (λ r. records_left r
+            ≡ listed_from self.now (first_whole self.now.capacity (intent_in self.now) (latest_in self.now))) }
     {
         let (intent, tail, latest) = (self.intent(), self.tail(), self.latest());
         self.check_positions(intent, tail, latest)?;
@@ -105,10 +109,12 @@ impl<'a> BoardSnapshot<'a> {
         Ok(self.listing(intent, tail, latest, first))
     }
 
-    /// The records from a position on, which has to be the begin of one, as of that at which a receiver stands. It refuses as
-    /// `records` does, and with `OutsideOfRecords` a position where no record begins or what lay there is overwritten.
+    /// The records from a position on, which has to be the begin of one, as of that at which a receiver stands. It
+    /// refuses as `records` does, and with `OutsideOfRecords` a position where no record begins or what lay there is
+    /// overwritten.
     pub fn records_from(&self, position: u64) -> Result<BoardRecords<'a>, BoardFinding>
-        ensures refused { IsRefusedBy (from_finding self.now.capacity (intent_in self.now) (tail_in self.now) (latest_in self.now) position) result }
+        ensures refused { IsRefusedBy (from_finding self.now.capacity (intent_in self.now) (tail_in self.now)
+            (latest_in self.now) position) result }
         ensures listed { IfOk result (λ r. records_left r ≡ listed_from self.now position) }
     {
         let (intent, tail, latest) = (self.intent(), self.tail(), self.latest());
@@ -124,7 +130,8 @@ impl<'a> BoardSnapshot<'a> {
     fn listing(&self, intent: u64, tail: u64, latest: u64, first: u64) -> BoardRecords<'a>
         requires aligned { (first % 8 ≡ 0) × (tail % 8 ≡ 0) }
         requires order { (first ≤ tail) × (latest ≤ tail) × (tail ≤ intent) }
-        ensures { records_left result ≡ listing self.now.capacity self.now.words.now intent latest tail ((tail - first) / 8) first }
+        ensures { records_left result ≡ listing self.now.capacity self.now.words.now intent latest tail
+            ((tail - first) / 8) first }
     {
         BoardRecords {
             board: *self,
@@ -191,7 +198,8 @@ impl<'a> BoardRecords<'a> {
     /// What lies at the position, which is before the tail.
     fn entry_at(&self) -> Result<BoardRecord<'a>, BoardFinding>
         requires { self.now.at < self.now.tail }
-        ensures entry { result ≡ entry_at self.now.board.capacity self.now.board.words.now self.now.intent self.now.latest self.now.tail self.now.at }
+        ensures entry { result ≡ entry_at self.now.board.capacity self.now.board.words.now self.now.intent
+            self.now.latest self.now.tail self.now.at }
         ensures inside { IfOk result (λ r. (8 ≤ r.length) × (self.now.at + up_to_eight r.length ≤ self.now.tail)) }
     {
         let capacity = self.board.capacity;

@@ -41,8 +41,10 @@ impl<'a> CountersSnapshot<'a> {
 
     /// Takes the words of counters. `BadSize` where no counters have so many.
     pub fn new(metadata: &'a [u64], values: &'a [u64]) -> Result<Self, CountersFinding>
-        ensures counters { IfOk result (λ c. (c.metadata.now ≡ metadata.now) × (c.values.now ≡ values.now) × HaveIds metadata.now values.now c.ids) }
-        ensures refused { IfErr result (λ f. (f ≡ BadSize (length metadata.now) (length values.now)) × ((n : ℕ) → HaveIds metadata.now values.now n → ⊥)) }
+        ensures counters { IfOk result (λ c. (c.metadata.now ≡ metadata.now) × (c.values.now ≡ values.now)
+            × HaveIds metadata.now values.now c.ids) }
+        ensures refused { IfErr result (λ f. (f ≡ BadSize (length metadata.now) (length values.now))
+            × ((n : ℕ) → HaveIds metadata.now values.now n → ⊥)) }
     {
         let count = values.len() / COUNTER_WORDS;
         if count == 0
@@ -71,11 +73,12 @@ impl<'a> CountersSnapshot<'a> {
 
     /// The counters in use and those that were freed, by rising id.
     ///
-    /// Of the words of a counters manager it gives exactly its counters. Of any words it gives one entry for each id that
-    /// is not unused: the counter, or what is wrong with it.
+    /// Of the words of a counters manager it gives exactly its counters. Of any words it gives one entry for each id
+    /// that is not unused: the counter, or what is wrong with it.
     pub fn counters(&self) -> Counters<'a>
         ensures listed { counters_left result ≡ counters_in self.now 0 }
-        ensures exact { (r : Registry) → Show self.now.metadata.now self.now.values.now r → counters_left result ≡ counters_of r 0 }
+        ensures exact { (r : Registry) → Show self.now.metadata.now self.now.values.now r
+            → counters_left result ≡ counters_of r 0 }
     {
         self.counters_from(0)
     }
@@ -83,7 +86,8 @@ impl<'a> CountersSnapshot<'a> {
     /// The counters from an id on.
     pub fn counters_from(&self, first: u32) -> Counters<'a>
         ensures listed { counters_left result ≡ counters_in self.now first }
-        ensures exact { (r : Registry) → Show self.now.metadata.now self.now.values.now r → counters_left result ≡ counters_of r first }
+        ensures exact { (r : Registry) → Show self.now.metadata.now self.now.values.now r
+            → counters_left result ≡ counters_of r first }
     {
         Counters {
             counters: *self,

@@ -27,8 +27,8 @@ pub struct Record<'a> {
     pub state: RecordState,
     /// Its type id: -1 of one that was aborted and of padding, 0 where the header is not yet stored.
     pub type_id: i32,
-    /// The bytes of its header and its message. Of padding they go up to the end of the buffer, and where the header is not
-    /// yet stored up to the tail.
+    /// The bytes of its header and its message. Of padding they go up to the end of the buffer, and where the header is
+    /// not yet stored up to the tail.
     pub length: u32,
     /// Its message, of an open and of a committed one; else no bytes.
     pub body: Body<'a>,

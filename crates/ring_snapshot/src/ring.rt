@@ -46,8 +46,10 @@ impl<'a> RingSnapshot<'a> {
 
     /// Takes the words of a ring. `BadSize` where no ring has so many.
     pub fn new(words: &'a [u64]) -> Result<Self, RingFinding>
-        ensures ring { IfOk result (λ r. (r.words.now ≡ words.now) × IsCapacity r.capacity × (length words.now ≡ ring_words r.capacity)) }
-        ensures refused { IfErr result (λ f. (f ≡ BadSize (length words.now)) × ((C : ℕ) → IsCapacity C → length words.now ≢ ring_words C)) }
+        ensures ring { IfOk result (λ r. (r.words.now ≡ words.now) × IsCapacity r.capacity
+            × (length words.now ≡ ring_words r.capacity)) }
+        ensures refused { IfErr result (λ f. (f ≡ BadSize (length words.now))
+            × ((C : ℕ) → IsCapacity C → length words.now ≢ ring_words C)) }
     {
         let refused = RingFinding::BadSize { words: words.len() };
         if words.len() < TRAILER_WORDS || words.len() - TRAILER_WORDS > MAX_CAPACITY as usize / 8 {
@@ -106,12 +108,14 @@ impl<'a> RingSnapshot<'a> {
     /// The records from the head on. It refuses positions that make no sense, in this order: `UnalignedPosition`,
     /// `TailBeforeHead`, `TailTooFar`.
     ///
-    /// Of the words of a ring that has a history it gives exactly the claims of that, in order, each with its place and the
-    /// padding before it. Of any words it gives one record behind the other, up to the tail or a finding.
+    /// Of the words of a ring that has a history it gives exactly the claims of that, in order, each with its place and
+    /// the padding before it. Of any words it gives one record behind the other, up to the tail or a finding.
     pub fn records(&self) -> Result<Records<'a>, RingFinding>
-        ensures refused { IsRefusedBy (positions_finding self.now.capacity (head_in self.now) (tail_in self.now)) result }
+        ensures refused { IsRefusedBy (positions_finding self.now.capacity (head_in self.now) (tail_in self.now))
+            result }
         ensures listed { IfOk result (λ r. records_left r ≡ listed_from self.now (head_in self.now)) }
-        ensures exact { (h : List Claim) → Lie self.now.capacity self.now.words.now (tail_in self.now) (head_in self.now) h
+        ensures exact { (h : List Claim) → Lie self.now.capacity self.now.words.now (tail_in self.now)
+            (head_in self.now) h
             → IfOk result (λ r. records_left r ≡ ok_records (records_of self.now.capacity (head_in self.now) h)) }
     {
         self.records_from(self.head())
@@ -120,7 +124,8 @@ impl<'a> RingSnapshot<'a> {
     /// The records from a position on, which has to be the begin of one. It refuses as `records` does, and with
     /// `OutsideOfRecords` a position that does not lie between head and tail or is no multiple of 8.
     pub fn records_from(&self, position: u64) -> Result<Records<'a>, RingFinding>
-        ensures refused { IsRefusedBy (from_finding self.now.capacity (head_in self.now) (tail_in self.now) position) result }
+        ensures refused { IsRefusedBy (from_finding self.now.capacity (head_in self.now) (tail_in self.now) position)
+            result }
         ensures listed { IfOk result (λ r. records_left r ≡ listed_from self.now position) }
         ensures exact { (h : List Claim) → Lie self.now.capacity self.now.words.now (tail_in self.now) position h
             → IfOk result (λ r. records_left r ≡ ok_records (records_of self.now.capacity position h)) }
@@ -170,7 +175,8 @@ impl<'a> RingSnapshot<'a> {
     /// The state of a passed record: where it ends with the buffer it may be padding.
     fn passed_state(&self, at: u64, length: u32) -> RecordState
         requires { length ≤ 2 ^ 25 }
-        ensures { result ≡ (if at % self.now.capacity + length == self.now.capacity then AbortedOrPadding else Aborted) }
+        ensures { result
+            ≡ (if at % self.now.capacity + length == self.now.capacity then AbortedOrPadding else Aborted) }
     {
         if byte_index(self.capacity, at) + u64::from(length) == u64::from(self.capacity) {
             RecordState::AbortedOrPadding
@@ -181,7 +187,15 @@ impl<'a> RingSnapshot<'a> {
 
     /// A record whose message is not shown.
     fn without_body(&self, at: u64, state: RecordState, type_id: i32, length: u32) -> Record<'a>
-        ensures { result ≡ record { place = at; index = at % self.now.capacity; state = state; type_id = type_id; length = length; body = [] } }
+        ensures { result ≡ record {
+          place = at;
+          index = at % self.now.capacity;
+          state = state;
+          type_id =
+              type_id;
+          length = length;
+          body = [];
+        } }
     {
         Record {
             place: at,

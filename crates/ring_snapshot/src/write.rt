@@ -71,8 +71,8 @@ impl<'a> Words for CounterValueWords<'a> {
     }
 }
 
-/// Writes words, each as 8 bytes, little-endian. A short write goes on with the rest. It ends with the first error of the
-/// writer; some of the words are then written.
+/// Writes words, each as 8 bytes, little-endian. A short write goes on with the rest. It ends with the first error of
+/// the writer; some of the words are then written.
 pub fn write_words<S: Words, W: Write>(source: &S, out: &mut W) -> io::Result<()>
     ensures { OnOk result (Appends (W.contents out.old) (W.contents out.new) (bytes_of (S.words source.now))) }
 {

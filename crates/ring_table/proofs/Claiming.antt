@@ -26,7 +26,9 @@ use Rattle.ring_table.proofs.Loading.{Ok, May, sees, end_below}
 
 module _ (C start : ℕ) where
   -- a claim of n bytes joins the history at its end, where the tail is
-  appends : (words : List ℕ) (views : List View) (r : Kept C start words views) (id : ℕ) (v : View) → get_elem? views id ≡ some v → (type_id : ℤ) (n old new : ℕ) → old ≡ staged_end start (all_of r.hist) → 0 < v.producer.shares → IsClaimable C old new type_id n v.producer.seen_head
+  appends : (words : List ℕ) (views : List View) (r : Kept C start words views) (id : ℕ) (v : View)
+      → get_elem? views id ≡ some v → (type_id : ℤ) (n old new : ℕ) → old ≡ staged_end start (all_of r.hist)
+      → 0 < v.producer.shares → IsClaimable C old new type_id n v.producer.seen_head
       → Kept C start (set words (tail_index C) new) (set views id (with_claim (fresh C old type_id n) new v))
   appends words views r id v at type_id n old new old_is rich claimable =
       let h : OwnedHistory = r.hist in
@@ -51,10 +53,18 @@ module _ (C start : ℕ) where
         consumer = r.consumer;
         drawn = r.drawn;
         memory = memory_appended C start r.lawful words r.consumer h r.memory x new
-            (record { from = old_is; place = ap (λ z. next_place C old (span z)) (sym long) ∙ ap (λ e. next_place C e (span (length c.message.body))) old_is; message = claimable.message })
+            (record {
+              from = old_is;
+              place = ap (λ z. next_place C old (span z)) (sym long)
+                  ∙ ap (λ e. next_place C e (span (length c.message.body))) old_is;
+              message = claimable.message;
+            })
             new_is limit (omega arith) (λ p p8. staged_word-fresh C old type_id n p);
-        service = service_elsewhere C start r.lawful words r.consumer r.drawn r.service (tail_index C) new (λ e. omega arith) (λ e. omega arith) (λ e. omega arith) (λ j un. un.not_tail) r.consumer (omega arith) refl;
-        seated = reseated top h r.reader r.consumer r.drawn views r.seated id v at (staged_end start (all_of (h ++ x ∷ []))) (h ++ x ∷ []) r.consumer r.drawn w
+        service = service_elsewhere C start r.lawful words r.consumer r.drawn r.service (tail_index C) new
+            (λ e. omega arith) (λ e. omega arith) (λ e. omega arith) (λ j un. un.not_tail) r.consumer
+            (omega arith) refl;
+        seated = reseated top h r.reader r.consumer r.drawn views r.seated id v at
+            (staged_end start (all_of (h ++ x ∷ []))) (h ++ x ∷ []) r.consumer r.drawn w
             (record {
               claims = ap (λ l. l ++ c ∷ []) k.claims ∙ sym (owned_by-append id h c);
               tail_seen = subst (λ z. new ≤ z) (sym tops) (omega arith);
@@ -65,7 +75,8 @@ module _ (C start : ℕ) where
             })
             (λ j u ne f. record {
               claims = f.claims ∙ sym (owned_by-append_other j id h c ne);
-              tail_seen = (let seen : u.producer.seen_tail ≤ top = f.tail_seen in subst (λ z. u.producer.seen_tail ≤ z) (sym tops) (omega arith));
+              tail_seen = (let seen : u.producer.seen_tail ≤ top =
+                  f.tail_seen in subst (λ z. u.producer.seen_tail ≤ z) (sym tops) (omega arith));
               head_seen = f.head_seen;
               idle = f.idle;
               served = f.served;
@@ -73,12 +84,22 @@ module _ (C start : ℕ) where
             })
             refl
             (λ j ne. owned_by-append_other j id h c ne)
-            (record { seat = id; view = w; there = set_here views id w (at_below views id v at); rich = rich; sees = sym tops })
+            (record {
+              seat = id;
+              view = w;
+              there = set_here views id w (at_below views id v at);
+              rich = rich;
+              sees =
+                  sym tops;
+            })
             (λ x. refl);
       }
 
-  pub moves_tail : (slots id : ℕ) (me : Mine) → me.0.capacity ≡ C → (old new : ℕ) (wanted : Wanted) → 0 < me.0.producer.shares → IsClaimable C old new wanted.type_id wanted.len me.0.producer.seen_head
-      → Allows (Ok C start) slots id me (tail_index C) (λ n. either (eqb n old) new n) (λ n me'. (me'.1 ≡ me.1) × ((said : Wanted) → some wanted ≡ some said → MovesTail me.0.capacity old new said me.0 n me'.0) × (n ≢ old → Logs (tail_index C) n me.0 me'.0))
+  pub moves_tail : (slots id : ℕ) (me : Mine) → me.0.capacity ≡ C → (old new : ℕ) (wanted : Wanted)
+      → 0 < me.0.producer.shares → IsClaimable C old new wanted.type_id wanted.len me.0.producer.seen_head
+      → Allows (Ok C start) slots id me (tail_index C) (λ n. either (eqb n old) new n)
+      (λ n me'. (me'.1 ≡ me.1) × ((said : Wanted) → some wanted ≡ some said
+      → MovesTail me.0.capacity old new said me.0 n me'.0) × (n ≢ old → Logs (tail_index C) n me.0 me'.0))
   moves_tail slots id me cap old new wanted rich claimable s r wide at small =
       let v : View = me.0 in
       let n : ℕ = slice_index s.words (tail_index C) in
@@ -88,9 +109,13 @@ module _ (C start : ℕ) where
       let tail_seen = k.tail_seen in
       let limit = r.memory.limit in
       let least = r.lawful.capacity.least in
-      let aligned : top % 8 ≡ 0 = end_aligned C start (all_of r.hist) (omega arith) (capacity_aligned C r.lawful.capacity) (start_aligned C start r.lawful) r.memory.placed in
-      let told : Mine → Type 0 = λ me'. (me'.1 ≡ me.1) × ((said : Wanted) → some wanted ≡ some said → MovesTail me.0.capacity old new said me.0 n me'.0) × (n ≢ old → Logs (tail_index C) n me.0 me'.0) in
-      let at_sole = λ (all : v.producer.shares ≡ 65536). is ∙ sym (sole_sees_top s.views id v top r.seated.shares r.seated.latest at all) in
+      let aligned : top % 8 ≡ 0 = end_aligned C start (all_of r.hist) (omega arith)
+      (capacity_aligned C r.lawful.capacity) (start_aligned C start r.lawful) r.memory.placed in
+      let told : Mine → Type 0 = λ me'. (me'.1 ≡ me.1)
+      × ((said : Wanted) → some wanted ≡ some said → MovesTail me.0.capacity old new said me.0 n me'.0)
+      × (n ≢ old → Logs (tail_index C) n me.0 me'.0) in
+      let at_sole = λ (all : v.producer.shares ≡ 65536). is
+      ∙ sym (sole_sees_top s.views id v top r.seated.shares r.seated.latest at all) in
       exchanged n old new (May C start s (tail_index C) id me told)
       (λ hit. (
         with_claim (fresh C old wanted.type_id wanted.len) new v,
@@ -114,7 +139,8 @@ module _ (C start : ℕ) where
         logged (tail_index C) n (with_producer (with_tail n v.producer) v),
         keeps,
         tt,
-        sees C start s.words s.views r id (tail_index C) v at n v.producer.seen_head _ (omega arith) (omega arith) k.head_seen,
+        sees C start s.words s.views r id (tail_index C) v at n v.producer.seen_head _ (omega arith)
+            (omega arith) k.head_seen,
         (
           refl,
           λ said same. record {
@@ -130,12 +156,15 @@ module _ (C start : ℕ) where
       ))
 
   -- a sole producer knows the tail, so it may store it
-  pub moves_own_tail : (slots id : ℕ) (me : Mine) → me.0.capacity ≡ C → (new : ℕ) (type_id : ℤ) (n : ℕ) → me.0.producer.shares ≡ 65536 → IsClaimable C me.0.producer.seen_tail new type_id n me.0.producer.seen_head
-      → Allows (Ok C start) slots id me (tail_index C) (λ _. new) (λ _ me'. (me'.1 ≡ me.1) × MovesOwnTail me.0.capacity new me.0 me'.0)
+  pub moves_own_tail : (slots id : ℕ) (me : Mine) → me.0.capacity ≡ C → (new : ℕ) (type_id : ℤ) (n : ℕ)
+      → me.0.producer.shares ≡ 65536 → IsClaimable C me.0.producer.seen_tail new type_id n me.0.producer.seen_head
+      → Allows (Ok C start) slots id me (tail_index C) (λ _. new)
+      (λ _ me'. (me'.1 ≡ me.1) × MovesOwnTail me.0.capacity new me.0 me'.0)
   moves_own_tail slots id me cap new type_id n all claimable s r wide at small =
       let v : View = me.0 in
       let old : ℕ = v.producer.seen_tail in
-      let old_is = sole_sees_top s.views id v (staged_end start (all_of r.hist)) r.seated.shares r.seated.latest at all in (
+      let old_is =
+      sole_sees_top s.views id v (staged_end start (all_of r.hist)) r.seated.shares r.seated.latest at all in (
         with_claim (fresh C old type_id n) new v,
         keeps,
         tt,

@@ -15,25 +15,33 @@ use Rattle.ring_table.proofs.RestLemmas.{end_of-claims_of, staged_word_at-claims
 use Rattle.ring_table.proofs.Sums.{there_or_past, total-sole}
 use Rattle.ring_table.proofs.Seating.{others_poor, sole_sees_top}
 
-pub closes : (C start : ℕ) (words : List ℕ) (views : List View) → Kept C start words views → (id : ℕ) (v : View) → get_elem? views id ≡ some v → v.producer.shares ≡ 65536 → v.consumes ≡ true → IsClosed C start words v
+pub closes : (C start : ℕ) (words : List ℕ) (views : List View) → Kept C start words views → (id : ℕ) (v : View)
+    → get_elem? views id ≡ some v → v.producer.shares ≡ 65536 → v.consumes ≡ true → IsClosed C start words v
 closes C start words views r id v at all consumes =
     let own = r.seated.each id v at in
     let mine = (own.consumes consumes).1 in
-    let idle = λ (j : ℕ) (u : View) (ne : j ≢ id) (there : get_elem? views j ≡ some u). (r.seated.each j u there).idle (others_poor views id j v u r.seated.shares at all ne there) in
+    let idle = λ (j : ℕ) (u : View) (ne : j ≢ id) (there : get_elem? views j ≡ some u). (r.seated.each j u there).idle
+    (others_poor views id j v u r.seated.shares at all ne there) in
     let whole : v.producer.claims ≡ all_of r.hist = own.claims ∙ owned_by-sole id r.hist (λ j ne. ⊎_elim
-    (λ (t : (u : View) × (get_elem? views j ≡ some u)). sym (r.seated.each j t.0 t.1).claims ∙ (idle j t.0 ne t.1).claims)
+    (λ (t : (u : View) × (get_elem? views j ≡ some u)). sym (r.seated.each j t.0 t.1).claims
+    ∙ (idle j t.0 ne t.1).claims)
     (λ (past : length views ≤ j). r.seated.nobody j past) (there_or_past views j)) in
     record {
       lawful = r.lawful;
       drawn = r.drawn;
-      memory = subst (λ (z : List StagedClaim × ConsumerView). IsMemory C start words z.0 z.1) (λ i. (sym whole i, sym mine i)) r.memory;
+      memory = subst (λ (z : List StagedClaim × ConsumerView). IsMemory C start words z.0 z.1)
+          (λ i. (sym whole i, sym mine i)) r.memory;
       service = subst (λ (z : ConsumerView). IsService C words z r.drawn) (sym mine) r.service;
-      once = λ x. sym (total-sole (λ (z : View). times_drawn x z.producer) views id v at (λ j u ne there. (idle j u ne there).draws x)) ∙ r.seated.once x;
-      served = subst (λ (z : ConsumerView). AreServed r.drawn z.heartbeats (v.producer.service ∷ v.producer.joined)) (sym mine) own.served;
-      sees_tail = sole_sees_top views id v (staged_end start (all_of r.hist)) r.seated.shares r.seated.latest at all ∙ ap (staged_end start) (sym whole);
+      once = λ x. sym (total-sole (λ (z : View). times_drawn x z.producer) views id v at
+          (λ j u ne there. (idle j u ne there).draws x)) ∙ r.seated.once x;
+      served = subst (λ (z : ConsumerView). AreServed r.drawn z.heartbeats (v.producer.service ∷ v.producer.joined))
+          (sym mine) own.served;
+      sees_tail = sole_sees_top views id v (staged_end start (all_of r.hist)) r.seated.shares r.seated.latest at all
+          ∙ ap (staged_end start) (sym whole);
     }
 
-pub leaves_rest : (C start : ℕ) (words : List ℕ) (v : View) → IsClosed C start words v → AreStored v.producer.claims → v.consumer.cleared ≡ v.consumer.head → LeavesRest C words v
+pub leaves_rest : (C start : ℕ) (words : List ℕ) (v : View) → IsClosed C start words v → AreStored v.producer.claims
+    → v.consumer.cleared ≡ v.consumer.head → LeavesRest C words v
 leaves_rest C start words v closed stored none_cleared =
     let m = closed.memory in
     let head : ℕ = v.consumer.head in
@@ -50,6 +58,8 @@ leaves_rest C start words v closed stored none_cleared =
       placed = t.placed;
       end_is = m.tail_is ∙ sym t.ends ∙ sym (end_of-claims_of C head left t.placed) ∙ ap (end_of C head) same;
       picture = λ p p8 p0 p1.
-          m.shows p p8 p0 p1 ∙ ap (λ b. cond b 0 (staged_word_at v.producer.claims p)) (le-ltb p v.consumer.cleared (omega arith))
-          ∙ t.words p p0 ∙ staged_word_at-claims_of C head left p t.placed left_stored ∙ ap (λ l. word_at C head l p) same;
+          m.shows p p8 p0 p1 ∙ ap (λ b. cond b 0 (staged_word_at v.producer.claims p))
+          (le-ltb p v.consumer.cleared (omega arith))
+          ∙ t.words p p0 ∙ staged_word_at-claims_of C head left p t.placed left_stored
+          ∙ ap (λ l. word_at C head l p) same;
     }

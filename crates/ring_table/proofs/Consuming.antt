@@ -53,7 +53,11 @@ last_is d [] m = refl
 last_is d (x ∷ xs) m = last_is x xs m
 
 one_end : (g g' : List PlacedMessage) (m m' : PlacedMessage) → g ++ m ∷ [] ≡ g' ++ m' ∷ [] → (g ≡ g') × (m ≡ m')
-one_end g g' m m' e = (sym (front_is g m) ∙ (ap drop_last e ∙ front_is g' m'), sym (last_is m g m) ∙ (ap (last_or m) e ∙ last_is m g' m'))
+one_end g g' m m' e = (
+  sym (front_is g m) ∙ (ap drop_last e ∙ front_is g' m'),
+  sym (last_is m g m)
+      ∙ (ap (last_or m) e ∙ last_is m g' m'),
+)
 
 -- ---- headers
 
@@ -64,14 +68,18 @@ one_type_id : (a b : ℤ) → FitsSigned w32 a → FitsSigned w32 b → cast_uns
 one_type_id a b fits_a fits_b e = sym (to_z-of_z w32 a fits_a) ∙ ap (cast_signed w32) e ∙ to_z-of_z w32 b fits_b
 
 -- a length of 0 or less as bits
-not_positive : (len : ℤ) → FitsSigned w32 len → len ≤ℤ pos 0 → ¬ ((0 < cast_unsigned w32 len) × (cast_unsigned w32 len < 2 ^ 31))
+not_positive : (len : ℤ) → FitsSigned w32 len → len ≤ℤ pos 0
+    → ¬ ((0 < cast_unsigned w32 len) × (cast_unsigned w32 len < 2 ^ 31))
 not_positive (pos n) fits le t = let low = t.0 in omega (arith, ints)
 not_positive (negsuc n) fits le t = let high = t.1 in omega (arith, fits.sfits)
 
 module _ (C start : ℕ) where
   -- the consumer steps: one word changes, and it is where `now` says
-  consumed : (words : List ℕ) (views : List View) (r : Kept C start words views) (id : ℕ) (v : View) → get_elem? views id ≡ some v → v.consumes ≡ true → (i value : ℕ) (now : ConsumerView) (log : List (ℕ × ℕ))
-      → IsMemory C start (set words i value) (all_of r.hist) now → r.consumer.head ≤ now.head → now.heartbeats ≡ r.consumer.heartbeats → i ≢ head_cache_index C → i ≢ correlation_index C → i ≢ heartbeat_index C → ((j : ℕ) → IsUnnamed C j → j ≢ i)
+  consumed : (words : List ℕ) (views : List View) (r : Kept C start words views) (id : ℕ) (v : View)
+      → get_elem? views id ≡ some v → v.consumes ≡ true → (i value : ℕ) (now : ConsumerView) (log : List (ℕ × ℕ))
+      → IsMemory C start (set words i value) (all_of r.hist) now → r.consumer.head ≤ now.head
+      → now.heartbeats ≡ r.consumer.heartbeats → i ≢ head_cache_index C → i ≢ correlation_index C
+      → i ≢ heartbeat_index C → ((j : ℕ) → IsUnnamed C j → j ≢ i)
       → Kept C start (set words i value) (set views id (record v { consumer = now; log = log }))
   consumed words views r id v at consumes i value now log m rises beats not_cache not_correlation not_heartbeat named =
       let top : ℕ = staged_end start (all_of r.hist) in
@@ -84,8 +92,10 @@ module _ (C start : ℕ) where
         consumer = now;
         drawn = r.drawn;
         memory = m;
-        service = service_elsewhere C start r.lawful words r.consumer r.drawn r.service i value not_cache not_correlation not_heartbeat named now rises beats;
-        seated = reseated top r.hist r.reader r.consumer r.drawn views r.seated id v at top r.hist now r.drawn (record v { consumer = now; log = log })
+        service = service_elsewhere C start r.lawful words r.consumer r.drawn r.service i value not_cache
+            not_correlation not_heartbeat named now rises beats;
+        seated = reseated top r.hist r.reader r.consumer r.drawn views r.seated id v at top r.hist now r.drawn
+            (record v { consumer = now; log = log })
             (record {
               claims = own.claims;
               tail_seen = own.tail_seen;
@@ -104,19 +114,24 @@ module _ (C start : ℕ) where
             })
             refl
             (λ j ne. refl)
-            (sees_top_after views id v (record v { consumer = now; log = log }) top top at refl refl (λ e. e) r.seated.latest)
+            (sees_top_after views id v (record v { consumer = now; log = log }) top top at refl refl
+            (λ e. e) r.seated.latest)
             (λ x. refl);
       }
 
   -- the read comes to q
-  scans : (s : State Wanted View) (r : Ok C start s) (id : ℕ) (v : View) → get_elem? s.views id ≡ some v → v.consumes ≡ true → (q : ℕ) (got : List PlacedMessage) → Reaches q start (all_of r.hist) got → r.consumer.cleared ≤ q → (p n : ℕ)
-      → Kept C start (set s.words (index C p) (slice_index s.words (index C p))) (set s.views id (with_scan (index C p) n q got v))
+  scans : (s : State Wanted View) (r : Ok C start s) (id : ℕ) (v : View) → get_elem? s.views id ≡ some v
+      → v.consumes ≡ true → (q : ℕ) (got : List PlacedMessage) → Reaches q start (all_of r.hist) got
+      → r.consumer.cleared ≤ q → (p n : ℕ)
+      → Kept C start (set s.words (index C p) (slice_index s.words (index C p)))
+      (set s.views id (with_scan (index C p) n q got v))
   scans s r id v at consumes q got reaches le p n =
       let m = r.memory in
       let mine = ((r.seated.each id v at).consumes consumes).1 in
       let inside = index_inside C start r.lawful p in
       let now : ConsumerView = scanned q got r.consumer in
-      subst (λ (c : ConsumerView). Kept C start (set s.words (index C p) (slice_index s.words (index C p))) (set s.views id (with_consumer c (logged (index C p) n v)))) (ap (scanned q got) (sym mine))
+      subst (λ (c : ConsumerView). Kept C start (set s.words (index C p) (slice_index s.words (index C p)))
+      (set s.views id (with_consumer c (logged (index C p) n v)))) (ap (scanned q got) (sym mine))
       (consumed s.words s.views r id v at consumes (index C p) (slice_index s.words (index C p)) now _
       (subst (λ l. IsMemory C start l (all_of r.hist) now) (sym (set_own s.words (index C p))) (record {
         wide = m.wide;
@@ -131,11 +146,16 @@ module _ (C start : ℕ) where
         clears_to = le;
         clears_words = m.clears_words;
         shows = m.shows;
-      })) (omega arith) refl (λ e. omega arith) (λ e. omega arith) (λ e. omega arith) (λ j un. not_inside C start r.lawful p j un.behind))
+      })) (omega arith) refl (λ e. omega arith) (λ e. omega arith) (λ e. omega arith)
+      (λ j un. not_inside C start r.lawful p j un.behind))
 
   -- a load of a header at the position q, which the head or the read has reached with the messages got
-  loads_header : (q : ℕ) (got : List PlacedMessage) (slots id : ℕ) (me : Mine) → me.0.capacity ≡ C → me.0.consumes ≡ true → (s : State Wanted View) (r : Ok C start s) → get_elem? s.views id ≡ some me.0 → Reaches q start (all_of r.hist) got → r.consumer.cleared ≤ q → q < r.consumer.head + C
-      → May C start s (index C q) id me (λ me'. (me'.1 ≡ me.1) × LoadsHeader me.0.capacity q got me.0 (slice_index s.words (index C q)) me'.0 × Logs (index C q) (slice_index s.words (index C q)) me.0 me'.0) (slice_index s.words (index C q))
+  loads_header : (q : ℕ) (got : List PlacedMessage) (slots id : ℕ) (me : Mine) → me.0.capacity ≡ C
+      → me.0.consumes ≡ true → (s : State Wanted View) (r : Ok C start s) → get_elem? s.views id ≡ some me.0
+      → Reaches q start (all_of r.hist) got → r.consumer.cleared ≤ q → q < r.consumer.head + C
+      → May C start s (index C q) id me (λ me'. (me'.1 ≡ me.1)
+      × LoadsHeader me.0.capacity q got me.0 (slice_index s.words (index C q)) me'.0
+      × Logs (index C q) (slice_index s.words (index C q)) me.0 me'.0) (slice_index s.words (index C q))
   loads_header q got slots id me cap consumes s r at reaches le near =
       let v : View = me.0 in
       let n : ℕ = slice_index s.words (index C q) in
@@ -148,23 +168,35 @@ module _ (C start : ℕ) where
       let from = m.clears_from in
       let limit = m.limit in
       let start8 = start_aligned C start law in
-      let q8 : q % 8 ≡ 0 = reach_aligned C q start (all_of h) got (omega arith) (capacity_aligned C law.capacity) start8 m.placed reaches in
-      let is : staged_word_at (all_of h) q ≡ n = sym (m.shows q q8 (omega arith) near ∙ ap (λ b. cond b 0 (staged_word_at (all_of h) q)) (le-ltb q r.consumer.cleared le)) in
+      let q8 : q % 8 ≡ 0 = reach_aligned C q start (all_of h) got (omega arith)
+      (capacity_aligned C law.capacity) start8 m.placed reaches in
+      let is : staged_word_at (all_of h) q ≡ n =
+      sym (m.shows q q8 (omega arith) near ∙ ap (λ b. cond b 0 (staged_word_at (all_of h) q))
+      (le-ltb q r.consumer.cleared le)) in
       let now = λ (to : ℕ) (g : List PlacedMessage). with_scan (index C q) n to g v in
       let Told : View → Type 0 = LoadsHeader me.0.capacity q got v n in
       -- the halves of a header that is n
       let halves = λ (len : ℕ) (type_id : ℤ) (small : len < 2 ^ 31) (e : n ≡ header (pos len) type_id).
-      let t : (low ≡ len) × (high ≡ cast_unsigned w32 type_id) = (ap (λ k. k % 2 ^ 32) e ∙ low_half (pos len) type_id (fits_pos len small), ap (λ k. k / 2 ^ 32) e ∙ high_half (pos len) type_id (fits_pos len small)) in t in
+      let t : (low ≡ len) × (high ≡ cast_unsigned w32 type_id) = (
+        ap (λ k. k % 2 ^ 32) e ∙ low_half (pos len) type_id (fits_pos len small),
+        ap (λ k. k / 2 ^ 32) e
+            ∙ high_half (pos len) type_id (fits_pos len small),
+      ) in t in
       let no_length = λ (none : ¬ ((0 < low) × (low < 2 ^ 31))).
       let told : Told (now q got) = record {
         capacity = refl;
-        padding = λ len some small e. let t = halves len padding_type small e in let len_is = t.0 in absurd (none (omega arith, omega arith));
-        message = λ len type_id some small fits other e. let t = halves len type_id small e in let len_is = t.0 in absurd (none (omega arith, omega arith));
+        padding = λ len some small e. let t = halves len padding_type small e in let len_is =
+            t.0 in absurd (none (omega arith, omega arith));
+        message = λ len type_id some small fits other e. let t = halves len type_id small e in let len_is =
+            t.0 in absurd (none (omega arith, omega arith));
         unpublished = λ len type_id _ _ _ _. ap (λ c. with_scan (index c q) n q got v) (sym cap);
       } in
-      let step : May C start s (index C q) id me (λ me'. (me'.1 ≡ me.1) × Told me'.0 × Logs (index C q) n me.0 me'.0) n = (now q got, keeps, tt, scans s r id v at consumes q got reaches le q n, (refl, told, refl)) in step in
+      let step : May C start s (index C q) id me
+      (λ me'. (me'.1 ≡ me.1) × Told me'.0 × Logs (index C q) n me.0 me'.0) n =
+      (now q got, keeps, tt, scans s r id v at consumes q got reaches le q n, (refl, told, refl)) in step in
       ⊎_elim (λ (lo : 0 < low). ⊎_elim (λ (hi : low < 2 ^ 31).
-      let t : Leads C q start (all_of h) got n = leads C q start (all_of h) got n law.capacity start8 m.placed reaches is lo hi in
+      let t : Leads C q start (all_of h) got n =
+      leads C q start (all_of h) got n law.capacity start8 m.placed reaches is lo hi in
       let far : ℕ = q + rounded low in
       let positive = λ (len type_id : ℤ) (fits : FitsSigned w32 len) (le : len ≤ℤ pos 0) (e : n ≡ header len type_id).
       let bits : low ≡ cast_unsigned w32 len = ap (λ k. k % 2 ^ 32) e ∙ low_half len type_id fits in
@@ -181,9 +213,11 @@ module _ (C start : ℕ) where
             let halves_are = halves len padding_type small e in
             record {
               view = λ i. with_scan (index (sym cap i) q) n (q + rounded (halves_are.0 i)) got v;
-              inside = subst (λ (z : ℕ × ℕ). IsInside z.0 q (rounded z.1)) (λ i. (sym cap i, halves_are.0 i)) (record { limit = omega arith; within = t.within });
+              inside = subst (λ (z : ℕ × ℕ). IsInside z.0 q (rounded z.1)) (λ i. (sym cap i, halves_are.0 i))
+                  (record { limit = omega arith; within = t.within });
             };
-        message = λ len type_id some small fits other e. let halves_are = halves len type_id small e in absurd (other (padding_bits type_id fits (sym halves_are.1 ∙ pad)));
+        message = λ len type_id some small fits other e. let halves_are =
+            halves len type_id small e in absurd (other (padding_bits type_id fits (sym halves_are.1 ∙ pad)));
         unpublished = λ len type_id fits _ le e. absurd (positive len type_id fits le e);
       } in
       (now far got, keeps, tt, scans s r id v at consumes far got on (omega arith) q n, (refl, told, refl)))
@@ -197,13 +231,18 @@ module _ (C start : ℕ) where
         padding = λ len some small e. let halves_are = halves len padding_type small e in absurd (other halves_are.1);
         message = λ len type_id some small fits not_pad e.
             let halves_are = halves len type_id small e in
-            let types : found.message.type_id ≡ type_id = one_type_id found.message.type_id type_id found.lawful.type_fits fits (found.type_is ∙ halves_are.1) in
+            let types : found.message.type_id ≡ type_id =
+            one_type_id found.message.type_id type_id found.lawful.type_fits fits (found.type_is ∙ halves_are.1) in
             record {
               body = found.message.body;
               len_is = found.len_is ∙ halves_are.0;
-              message = subst (λ (z : ℕ × ℤ). IsMessage z.0 (record { type_id = z.1; body = found.message.body })) (λ i. (sym cap i, types i)) found.lawful;
-              view = λ i. with_scan (index (sym cap i) q) n (q + rounded (halves_are.0 i)) (got ++ (record { place = q; message = record { type_id = types i; body = found.message.body } }) ∷ []) v;
-              inside = subst (λ (z : ℕ × ℕ). IsInside z.0 q (rounded z.1)) (λ i. (sym cap i, halves_are.0 i)) (record { limit = omega arith; within = t.within });
+              message = subst (λ (z : ℕ × ℤ). IsMessage z.0 (record { type_id = z.1; body = found.message.body }))
+                  (λ i. (sym cap i, types i)) found.lawful;
+              view = λ i. with_scan (index (sym cap i) q) n (q + rounded (halves_are.0 i))
+                  (got ++ (record { place = q; message = record { type_id = types i; body = found.message.body } })
+                  ∷ []) v;
+              inside = subst (λ (z : ℕ × ℕ). IsInside z.0 q (rounded z.1)) (λ i. (sym cap i, halves_are.0 i))
+                  (record { limit = omega arith; within = t.within });
             };
         unpublished = λ len type_id fits _ le e. absurd (positive len type_id fits le e);
       } in
@@ -211,25 +250,37 @@ module _ (C start : ℕ) where
       (λ (hi : 2 ^ 31 ≤ low). no_length (λ t. let above = t.1 in omega arith)) (cases_lt low (2 ^ 31)))
       (λ (lo : low ≤ 0). no_length (λ t. let above = t.0 in omega arith)) (cases_lt 0 low)
 
-  pub loads_first : (slots id : ℕ) (me : Mine) → me.0.capacity ≡ C → me.0.consumes ≡ true → me.0.consumer.cleared ≡ me.0.consumer.head
-      → Allows (Ok C start) slots id me (index C me.0.consumer.head) (λ n. n) (λ n me'. (me'.1 ≡ me.1) × LoadsHeader me.0.capacity me.0.consumer.head me.0.consumer.taken me.0 n me'.0 × Logs (index C me.0.consumer.head) n me.0 me'.0)
+  pub loads_first : (slots id : ℕ) (me : Mine) → me.0.capacity ≡ C → me.0.consumes ≡ true
+      → me.0.consumer.cleared ≡ me.0.consumer.head
+      → Allows (Ok C start) slots id me (index C me.0.consumer.head) (λ n. n)
+      (λ n me'. (me'.1 ≡ me.1) × LoadsHeader me.0.capacity me.0.consumer.head me.0.consumer.taken me.0 n me'.0
+      × Logs (index C me.0.consumer.head) n me.0 me'.0)
   loads_first slots id me cap consumes none_cleared s r wide at small =
       let mine = ((r.seated.each id me.0 at).consumes consumes).1 in
       let heads : me.0.consumer.head ≡ r.consumer.head = ap (λ (z : ConsumerView). z.head) mine in
       let cleared : me.0.consumer.cleared ≡ r.consumer.cleared = ap (λ (z : ConsumerView). z.cleared) mine in
       let least = r.lawful.capacity.least in
-      loads_header me.0.consumer.head me.0.consumer.taken slots id me cap consumes s r at (subst (λ (z : ConsumerView). Reaches z.head start (all_of r.hist) z.taken) (sym mine) r.memory.took) (omega arith) (omega arith)
+      loads_header me.0.consumer.head me.0.consumer.taken slots id me cap consumes s r at
+      (subst (λ (z : ConsumerView). Reaches z.head start (all_of r.hist) z.taken) (sym mine) r.memory.took)
+      (omega arith) (omega arith)
 
-  pub loads_next : (slots id : ℕ) (me : Mine) → me.0.capacity ≡ C → me.0.consumes ≡ true → me.0.consumer.scan < me.0.consumer.head + C
-      → Allows (Ok C start) slots id me (index C me.0.consumer.scan) (λ n. n) (λ n me'. (me'.1 ≡ me.1) × LoadsHeader me.0.capacity me.0.consumer.scan me.0.consumer.got me.0 n me'.0 × Logs (index C me.0.consumer.scan) n me.0 me'.0)
+  pub loads_next : (slots id : ℕ) (me : Mine) → me.0.capacity ≡ C → me.0.consumes ≡ true
+      → me.0.consumer.scan < me.0.consumer.head + C
+      → Allows (Ok C start) slots id me (index C me.0.consumer.scan) (λ n. n)
+      (λ n me'. (me'.1 ≡ me.1) × LoadsHeader me.0.capacity me.0.consumer.scan me.0.consumer.got me.0 n me'.0
+      × Logs (index C me.0.consumer.scan) n me.0 me'.0)
   loads_next slots id me cap consumes near s r wide at small =
       let mine = ((r.seated.each id me.0 at).consumes consumes).1 in
       let heads : me.0.consumer.head ≡ r.consumer.head = ap (λ (z : ConsumerView). z.head) mine in
       let scan : me.0.consumer.scan ≡ r.consumer.scan = ap (λ (z : ConsumerView). z.scan) mine in
       let to = r.memory.clears_to in
-      loads_header me.0.consumer.scan me.0.consumer.got slots id me cap consumes s r at (subst (λ (z : ConsumerView). Reaches z.scan start (all_of r.hist) z.got) (sym mine) r.memory.passed) (omega arith) (omega arith)
+      loads_header me.0.consumer.scan me.0.consumer.got slots id me cap consumes s r at
+      (subst (λ (z : ConsumerView). Reaches z.scan start (all_of r.hist) z.got) (sym mine) r.memory.passed)
+      (omega arith) (omega arith)
 
-  pub loads_body : (slots id i : ℕ) (me : Mine) → me.0.capacity ≡ C → me.0.consumes ≡ true → Allows (Ok C start) slots id me i (λ n. n) (λ n me'. (me'.1 ≡ me.1) × (me'.0 ≡ logged i n me.0) × LoadsBody i me.0 n)
+  pub loads_body : (slots id i : ℕ) (me : Mine) → me.0.capacity ≡ C → me.0.consumes ≡ true
+      → Allows (Ok C start) slots id me i (λ n. n)
+      (λ n me'. (me'.1 ≡ me.1) × (me'.0 ≡ logged i n me.0) × LoadsBody i me.0 n)
   loads_body slots id i me cap consumes s r wide at small =
       let v : View = me.0 in
       let n : ℕ = slice_index s.words i in
@@ -248,13 +299,15 @@ module _ (C start : ℕ) where
         logged i n v,
         keeps,
         tt,
-        sees C start s.words s.views r id i v at v.producer.seen_tail v.producer.seen_head _ (omega arith) own.tail_seen own.head_seen,
+        sees C start s.words s.views r id i v at v.producer.seen_tail v.producer.seen_head _
+            (omega arith) own.tail_seen own.head_seen,
         (
           refl,
           refl,
           λ k msg o has le o8 lt same.
               let p : ℕ = msg.place + 8 + o in
-              let b = shows_body C v.consumer.scan start (all_of h) v.consumer.got k msg o (omega arith) (capacity_aligned C law.capacity) (start_aligned C start law) m.placed reaches has lt in
+              let b = shows_body C v.consumer.scan start (all_of h) v.consumer.got k msg o (omega arith)
+              (capacity_aligned C law.capacity) (start_aligned C start law) m.placed reaches has lt in
               let below = b.below in
               let place8 = b.aligned in
               ap (λ z. get_or s.words z 0) (sym same ∙ ap (λ z. index z p) cap)
@@ -264,14 +317,19 @@ module _ (C start : ℕ) where
         ),
       )
 
-  same_shown : (p cleared x : ℕ) → (p < cleared + 8 → p < cleared) → cond (ltb p cleared) 0 x ≡ cond (ltb p (cleared + 8)) 0 x
+  same_shown : (p cleared x : ℕ) → (p < cleared + 8 → p < cleared)
+      → cond (ltb p cleared) 0 x ≡ cond (ltb p (cleared + 8)) 0 x
   same_shown p cleared x back = ⊎_elim
       (λ (a : p < cleared). ap (λ b. cond b 0 x) (lt-ltb p cleared a ∙ sym (lt-ltb p (cleared + 8) (omega arith))))
-      (λ (a : cleared ≤ p). ap (λ b. cond b 0 x) (le-ltb p cleared a ∙ sym (le-ltb p (cleared + 8) (let far : ¬ (p < cleared + 8) = λ z. let y = back z in omega arith in omega arith))))
+      (λ (a : cleared ≤ p). ap (λ b. cond b 0 x)
+      (le-ltb p cleared a
+      ∙ sym (le-ltb p (cleared + 8) (let far : ¬ (p < cleared + 8) = λ z. let y =
+      back z in omega arith in omega arith))))
       (cases_lt p cleared)
 
   pub clears_word : (slots id : ℕ) (me : Mine) → me.0.consumes ≡ true → me.0.consumer.cleared < me.0.consumer.scan
-      → Allows (Ok C start) slots id me (index C me.0.consumer.cleared) (λ _. 0) (λ _ me'. (me'.1 ≡ me.1) × ClearsWord me.0 me'.0)
+      → Allows (Ok C start) slots id me (index C me.0.consumer.cleared) (λ _. 0)
+      (λ _ me'. (me'.1 ≡ me.1) × ClearsWord me.0 me'.0)
   clears_word slots id me consumes more s r wide at small =
       let v : View = me.0 in
       let mine = ((r.seated.each id v at).consumes consumes).1 in
@@ -288,7 +346,8 @@ module _ (C start : ℕ) where
       let room = m.room in
       let bounds = reach_bounds C r.consumer.scan start (all_of h) r.consumer.got m.placed m.passed in
       let below_top = bounds.1 in
-      let scan8 = reach_aligned C r.consumer.scan start (all_of h) r.consumer.got (omega arith) (capacity_aligned C law.capacity) (start_aligned C start law) m.placed m.passed in
+      let scan8 = reach_aligned C r.consumer.scan start (all_of h) r.consumer.got (omega arith)
+      (capacity_aligned C law.capacity) (start_aligned C start law) m.placed m.passed in
       let inside = index_inside C start law q in
       let wide = m.wide in
       let now : ConsumerView = cleared_to (r.consumer.cleared + 8) r.consumer in
@@ -296,31 +355,40 @@ module _ (C start : ℕ) where
         with_consumer (next v.consumer) v,
         keeps,
         tt,
-        subst (λ (c : ConsumerView). Kept C start (set s.words (index C q) 0) (set s.views id (with_consumer c v))) (ap next (sym mine))
+        subst (λ (c : ConsumerView). Kept C start (set s.words (index C q) 0) (set s.views id (with_consumer c v)))
+            (ap next (sym mine))
             (consumed s.words s.views r id v at consumes (index C q) 0 now v.log
             (record {
               wide = length-set s.words (index C q) 0 ∙ m.wide;
               placed = m.placed;
-              tail_is = get_or-set_other s.words (index C q) (tail_index C) 0 0 (not_inside C start law q (tail_index C) (omega arith)) ∙ m.tail_is;
+              tail_is = get_or-set_other s.words (index C q) (tail_index C) 0 0
+                  (not_inside C start law q (tail_index C) (omega arith)) ∙ m.tail_is;
               limit = m.limit;
               room = m.room;
-              head_is = get_or-set_other s.words (index C q) (head_index C) 0 0 (not_inside C start law q (head_index C) (omega arith)) ∙ m.head_is;
+              head_is = get_or-set_other s.words (index C q) (head_index C) 0 0
+                  (not_inside C start law q (head_index C) (omega arith)) ∙ m.head_is;
               took = m.took;
               passed = m.passed;
               clears_from = omega arith;
               clears_to = omega arith;
               clears_words = omega arith;
               shows = λ p p8 p0 p1. dite (ℕ_discrete p q)
-                  (λ e. ap (λ k. get_or (set s.words (index C q) 0) (index C k) 0) e ∙ get_or-set_same s.words (index C q) 0 0 (omega arith)
-                  ∙ sym (ap (λ b. cond b 0 (staged_word_at (all_of h) p)) (lt-ltb p (r.consumer.cleared + 8) (omega arith))))
-                  (λ ne. get_or-set_other s.words (index C q) (index C p) 0 0 (λ e. ne (one_position C start law head p q p8 (omega arith) p0 p1 (omega arith) (omega arith) e))
-                  ∙ m.shows p p8 p0 p1 ∙ same_shown p r.consumer.cleared (staged_word_at (all_of h) p) (λ x. omega arith));
-            }) (omega arith) refl (λ e. omega arith) (λ e. omega arith) (λ e. omega arith) (λ j un. not_inside C start law q j un.behind)),
+                  (λ e. ap (λ k. get_or (set s.words (index C q) 0) (index C k) 0) e
+                  ∙ get_or-set_same s.words (index C q) 0 0 (omega arith)
+                  ∙ sym (ap (λ b. cond b 0 (staged_word_at (all_of h) p))
+                  (lt-ltb p (r.consumer.cleared + 8) (omega arith))))
+                  (λ ne. get_or-set_other s.words (index C q) (index C p) 0 0
+                  (λ e. ne (one_position C start law head p q p8 (omega arith) p0 p1 (omega arith) (omega arith) e))
+                  ∙ m.shows p p8 p0 p1 ∙ same_shown p r.consumer.cleared (staged_word_at (all_of h) p)
+                  (λ x. omega arith));
+            }) (omega arith) refl (λ e. omega arith) (λ e. omega arith) (λ e. omega arith)
+            (λ j un. not_inside C start law q j un.behind)),
         (refl, refl),
       )
 
   -- the head goes to q, which was reached with the messages got and up to which the words are cleared
-  stores_head_at : (q : ℕ) (got : List PlacedMessage) (s : State Wanted View) (r : Ok C start s) (id : ℕ) (v : View) → get_elem? s.views id ≡ some v → v.consumes ≡ true → Reaches q start (all_of r.hist) got → r.consumer.cleared ≡ q
+  stores_head_at : (q : ℕ) (got : List PlacedMessage) (s : State Wanted View) (r : Ok C start s) (id : ℕ) (v : View)
+      → get_elem? s.views id ≡ some v → v.consumes ≡ true → Reaches q start (all_of r.hist) got → r.consumer.cleared ≡ q
       → Kept C start (set s.words (head_index C) q) (set s.views id (with_consumer (stands_at q got v.consumer) v))
   stores_head_at q got s r id v at consumes reaches all =
       let h : OwnedHistory = r.hist in
@@ -338,7 +406,8 @@ module _ (C start : ℕ) where
       let bounds = reach_bounds C q start (all_of h) got m.placed reaches in
       let below_top = bounds.1 in
       let now : ConsumerView = stands_at q got r.consumer in
-      subst (λ (c : ConsumerView). Kept C start (set s.words i q) (set s.views id (with_consumer c v))) (ap (stands_at q got) (sym mine))
+      subst (λ (c : ConsumerView). Kept C start (set s.words i q) (set s.views id (with_consumer c v)))
+      (ap (stands_at q got) (sym mine))
       (consumed s.words s.views r id v at consumes i q now v.log
       (record {
         wide = length-set s.words i q ∙ m.wide;
@@ -352,22 +421,28 @@ module _ (C start : ℕ) where
         clears_from = omega arith;
         clears_to = omega arith;
         clears_words = omega arith;
-        shows = λ p p8 p0 p1. get_or-set_other s.words i (index C p) q 0 (λ e. not_inside C start law p i (omega arith) (sym e))
+        shows = λ p p8 p0 p1. get_or-set_other s.words i (index C p) q 0
+            (λ e. not_inside C start law p i (omega arith) (sym e))
             ∙ ⊎_elim
-            (λ (near : p < head + C). m.shows p p8 (omega arith) near ∙ ap (λ b. cond b 0 (staged_word_at (all_of h) p)) (le-ltb p r.consumer.cleared (omega arith)))
+            (λ (near : p < head + C). m.shows p p8 (omega arith) near
+            ∙ ap (λ b. cond b 0 (staged_word_at (all_of h) p)) (le-ltb p r.consumer.cleared (omega arith)))
             -- one lap on from words that were cleared
             (λ (far : head + C ≤ p).
             let back : ℕ = p - C in
             let lap : back + C ≡ p = omega arith in
             let c8 = capacity_aligned C law.capacity in
-            ap (λ z. get_or s.words (index C z) 0) (sym lap) ∙ ap (λ (z : ℕ). get_or s.words (z / 8) 0) (add-mod_right back C)
-            ∙ m.shows back (omega arith) (omega arith) (omega arith) ∙ ap (λ z. cond z 0 (staged_word_at (all_of h) back)) (lt-ltb back r.consumer.cleared (omega arith))
+            ap (λ z. get_or s.words (index C z) 0) (sym lap)
+            ∙ ap (λ (z : ℕ). get_or s.words (z / 8) 0) (add-mod_right back C)
+            ∙ m.shows back (omega arith) (omega arith) (omega arith)
+            ∙ ap (λ z. cond z 0 (staged_word_at (all_of h) back)) (lt-ltb back r.consumer.cleared (omega arith))
             ∙ sym (nothing_behind C start (all_of h) p m.placed (omega arith)))
             (cases_lt p (head + C))
             ∙ sym (ap (λ b. cond b 0 (staged_word_at (all_of h) p)) (le-ltb p q p0));
       }) (omega arith) refl (λ e. omega arith) (λ e. omega arith) (λ e. omega arith) (λ j un. un.not_head))
 
-  pub stores_head : (slots id : ℕ) (me : Mine) → me.0.consumes ≡ true → me.0.consumer.cleared ≡ me.0.consumer.scan → Allows (Ok C start) slots id me (head_index C) (λ _. me.0.consumer.scan) (λ _ me'. (me'.1 ≡ me.1) × StoresHead me.0 me'.0)
+  pub stores_head : (slots id : ℕ) (me : Mine) → me.0.consumes ≡ true → me.0.consumer.cleared ≡ me.0.consumer.scan
+      → Allows (Ok C start) slots id me (head_index C) (λ _. me.0.consumer.scan)
+      (λ _ me'. (me'.1 ≡ me.1) × StoresHead me.0 me'.0)
   stores_head slots id me consumes all s r wide at small =
       let v : View = me.0 in
       let mine = ((r.seated.each id v at).consumes consumes).1 in
@@ -375,20 +450,31 @@ module _ (C start : ℕ) where
         with_consumer (stands_at v.consumer.scan v.consumer.got v.consumer) v,
         keeps,
         tt,
-        stores_head_at v.consumer.scan v.consumer.got s r id v at consumes (subst (λ (z : ConsumerView). Reaches z.scan start (all_of r.hist) z.got) (sym mine) r.memory.passed) (sym cleared ∙ all),
+        stores_head_at v.consumer.scan v.consumer.got s r id v at consumes
+            (subst (λ (z : ConsumerView). Reaches z.scan start (all_of r.hist) z.got) (sym mine) r.memory.passed)
+            (sym cleared ∙ all),
         (refl, refl),
       )
 
-  pub stores_head_before : (slots id : ℕ) (me : Mine) (front : List PlacedMessage) (last : PlacedMessage) → me.0.consumes ≡ true → me.0.consumer.got ≡ front ++ last ∷ [] → me.0.consumer.cleared ≡ last.place
-      → Allows (Ok C start) slots id me (head_index C) (λ _. last.place) (λ _ me'. (me'.1 ≡ me.1) × StoresHeadBefore me.0 me'.0)
+  pub stores_head_before : (slots id : ℕ) (me : Mine) (front : List PlacedMessage) (last : PlacedMessage)
+      → me.0.consumes ≡ true → me.0.consumer.got ≡ front ++ last ∷ [] → me.0.consumer.cleared ≡ last.place
+      → Allows (Ok C start) slots id me (head_index C) (λ _. last.place)
+      (λ _ me'. (me'.1 ≡ me.1) × StoresHeadBefore me.0 me'.0)
   stores_head_before slots id me front last consumes got all s r wide at small =
       let v : View = me.0 in
       let mine = ((r.seated.each id v at).consumes consumes).1 in
       let cleared : v.consumer.cleared ≡ r.consumer.cleared = ap (λ (z : ConsumerView). z.cleared) mine in
-      let reaches = subst (λ (z : ConsumerView). Reaches z.scan start (all_of r.hist) z.got) (sym mine) r.memory.passed in (
+      let reaches =
+      subst (λ (z : ConsumerView). Reaches z.scan start (all_of r.hist) z.got) (sym mine) r.memory.passed in (
         with_consumer (stands_at last.place front v.consumer) v,
         keeps,
         tt,
-        stores_head_at last.place front s r id v at consumes (back_before_last v.consumer.scan start (all_of r.hist) front last (subst (Reaches v.consumer.scan start (all_of r.hist)) got reaches)) (sym cleared ∙ all),
-        (refl, λ front' last' got'. let same = one_end front front' last last' (sym got ∙ got') in λ i. with_consumer (stands_at (same.1 i).place (same.0 i) v.consumer) v),
+        stores_head_at last.place front s r id v at consumes
+            (back_before_last v.consumer.scan start (all_of r.hist) front last
+            (subst (Reaches v.consumer.scan start (all_of r.hist)) got reaches)) (sym cleared ∙ all),
+        (
+          refl,
+          λ front' last' got'. let same = one_end front front' last last' (sym got ∙ got') in λ i. with_consumer
+              (stands_at (same.1 i).place (same.0 i) v.consumer) v,
+        ),
       )

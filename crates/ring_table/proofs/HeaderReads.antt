@@ -53,14 +53,18 @@ at_end e [] = (refl, refl)
 at_end e (c ∷ cs) = inl (refl, refl)
 
 -- the header at the place of the claim
-at_header : (C s e : ℕ) (c : StagedClaim) (cs : List StagedClaim) (t : Stage) (w : ℕ) → C ≤ 2 ^ 24 → IsMessage C c.message → s % C + staged_span c ≤ C → s ≡ c.place → c.stage ≡ t
-    → w ≡ masked_record t (header_of (claim_of (record { from = c.from; place = c.place; message = c.message; stage = t }))) → 0 < w % 2 ^ 32 → w % 2 ^ 32 < 2 ^ 31 → Leads C s e (c ∷ cs) [] w
+at_header : (C s e : ℕ) (c : StagedClaim) (cs : List StagedClaim) (t : Stage) (w : ℕ) → C ≤ 2 ^ 24
+    → IsMessage C c.message → s % C + staged_span c ≤ C → s ≡ c.place → c.stage ≡ t
+    → w ≡ masked_record t
+    (header_of (claim_of (record { from = c.from; place = c.place; message = c.message; stage = t })))
+    → 0 < w % 2 ^ 32 → w % 2 ^ 32 < 2 ^ 31 → Leads C s e (c ∷ cs) [] w
 at_header C s e c cs Moved w big m inner at is eq lo hi = absurd (omega arith)
 at_header C s e c cs Padded w big m inner at is eq lo hi = absurd (omega arith)
 at_header C s e c cs (Stored Open) w big m inner at is eq lo hi =
     let n : ℕ = length c.message.body in
     let short : n ≤ C / 8 = m.short in
-    let low : w % 2 ^ 32 ≡ cast_unsigned w32 (neg_ℤ (pos (8 + n))) = ap (λ k. k % 2 ^ 32) eq ∙ low_half (neg_ℤ (pos (8 + n))) c.message.type_id (fits_neg (8 + n) (omega arith)) in
+    let low : w % 2 ^ 32 ≡ cast_unsigned w32 (neg_ℤ (pos (8 + n))) =
+    ap (λ k. k % 2 ^ 32) eq ∙ low_half (neg_ℤ (pos (8 + n))) c.message.type_id (fits_neg (8 + n) (omega arith)) in
     let far = negated_above (8 + n) (omega arith) (omega arith) in
     absurd (omega arith)
 at_header C s e c cs (Stored Committed) w big m inner at is eq lo hi =
@@ -68,7 +72,8 @@ at_header C s e c cs (Stored Committed) w big m inner at is eq lo hi =
     let short : n ≤ C / 8 = m.short in
     let fits = fits_pos (8 + n) (omega arith) in
     let len : w % 2 ^ 32 ≡ 8 + n = ap (λ k. k % 2 ^ 32) eq ∙ low_half (pos (8 + n)) c.message.type_id fits in
-    let bits : w / 2 ^ 32 ≡ cast_unsigned w32 c.message.type_id = ap (λ k. k / 2 ^ 32) eq ∙ high_half (pos (8 + n)) c.message.type_id fits in
+    let bits : w / 2 ^ 32 ≡ cast_unsigned w32 c.message.type_id =
+    ap (λ k. k / 2 ^ 32) eq ∙ high_half (pos (8 + n)) c.message.type_id fits in
     let type_bits = type_below c.message.type_id m.type_id m.type_fits in
     let goes : s + rounded (w % 2 ^ 32) ≡ claim_end c = omega arith in
     record {
@@ -79,7 +84,17 @@ at_header C s e c cs (Stored Committed) w big m inner at is eq lo hi =
         type_is = sym bits;
         lawful = m;
         reaches = subst (λ k. Reaches k e (c ∷ cs) ((record { place = s; message = c.message }) ∷ [])) (sym goes)
-            (inr (inr (subst IsSettled (sym is) tt, ([], subst (λ t'. (record { place = s; message = c.message }) ∷ [] ≡ shown_at t' (placed_message c) ++ []) (sym is) (λ i. (record { place = at i; message = c.message }) ∷ []), at_end (claim_end c) cs))));
+            (inr (inr (
+              subst IsSettled (sym is) tt,
+              (
+                [],
+                subst
+                    (λ t'. (record { place = s; message = c.message }) ∷ [] ≡ shown_at t' (placed_message c) ++ [])
+                    (sym is)
+                    (λ i. (record { place = at i; message = c.message }) ∷ []),
+                at_end (claim_end c) cs,
+              ),
+            )));
       };
       within = omega arith;
     }
@@ -91,14 +106,25 @@ at_header C s e c cs (Stored Aborted) w big m inner at is eq lo hi =
     let bits : w / 2 ^ 32 ≡ 2 ^ 32 - 1 = ap (λ k. k / 2 ^ 32) eq ∙ high_half (pos (8 + n)) padding_type fits in
     let goes : s + rounded (w % 2 ^ 32) ≡ claim_end c = omega arith in
     record {
-      padding = λ _. subst (λ k. Reaches k e (c ∷ cs) []) (sym goes) (inr (inr (subst IsSettled (sym is) tt, ([], subst (λ t'. [] ≡ shown_at t' (placed_message c) ++ []) (sym is) refl, at_end (claim_end c) cs))));
+      padding = λ _. subst (λ k. Reaches k e (c ∷ cs) []) (sym goes)
+          (inr (inr (
+            subst IsSettled (sym is) tt,
+            (
+              [],
+              subst (λ t'. [] ≡ shown_at t' (placed_message c) ++ [])
+                  (sym is) refl,
+              at_end (claim_end c) cs,
+            ),
+          )));
       message = λ other. absurd (other bits);
       within = omega arith;
     }
 
 -- the padding's header before the claim
-at_padding : (C s e : ℕ) (c : StagedClaim) (cs : List StagedClaim) (w : ℕ) → C ≤ 2 ^ 24 → s ≡ c.from → s < c.place → c.place ≤ s + C → (c.place - s) % 8 ≡ 0 → s % C + (c.place - s) ≤ C
-    → w ≡ masked_padding c.stage (padding_header (c.place - c.from)) → 0 < w % 2 ^ 32 → w % 2 ^ 32 < 2 ^ 31 → Leads C s e (c ∷ cs) [] w
+at_padding : (C s e : ℕ) (c : StagedClaim) (cs : List StagedClaim) (w : ℕ) → C ≤ 2 ^ 24 → s ≡ c.from → s < c.place
+    → c.place ≤ s + C → (c.place - s) % 8 ≡ 0 → s % C + (c.place - s) ≤ C
+    → w ≡ masked_padding c.stage (padding_header (c.place - c.from)) → 0 < w % 2 ^ 32 → w % 2 ^ 32 < 2 ^ 31
+    → Leads C s e (c ∷ cs) [] w
 at_padding C s e c cs w big at lt near eight inner eq lo hi = by_stage c.stage refl eq
   where
     stored : w ≡ padding_header (c.place - c.from) → c.stage ≢ Moved → Leads C s e (c ∷ cs) [] w
@@ -108,9 +134,15 @@ at_padding C s e c cs w big at lt near eight inner eq lo hi = by_stage c.stage r
         let len : w % 2 ^ 32 ≡ n = ap (λ k. k % 2 ^ 32) is ∙ low_half (pos n) padding_type fits in
         let bits : w / 2 ^ 32 ≡ 2 ^ 32 - 1 = ap (λ k. k / 2 ^ 32) is ∙ high_half (pos n) padding_type fits in
         let goes : s + rounded (w % 2 ^ 32) ≡ c.place = omega arith in
-        record { padding = λ _. inr (inl (goes, moved, refl)); message = λ other. absurd (other bits); within = omega arith }
+        record {
+          padding = λ _. inr (inl (goes, moved, refl));
+          message = λ other. absurd (other bits);
+          within =
+              omega arith;
+        }
 
-    by_stage : (t : Stage) → c.stage ≡ t → w ≡ masked_padding t (padding_header (c.place - c.from)) → Leads C s e (c ∷ cs) [] w
+    by_stage : (t : Stage) → c.stage ≡ t → w ≡ masked_padding t (padding_header (c.place - c.from))
+        → Leads C s e (c ∷ cs) [] w
     by_stage Moved is eq' = absurd (omega arith)
     by_stage Padded is eq' = stored eq' (λ moved. cc)
     by_stage (Stored t) is eq' = stored eq' (λ moved. cc)
@@ -118,7 +150,8 @@ at_padding C s e c cs w big at lt near eight inner eq lo hi = by_stage c.stage r
 here : (c : StagedClaim) (cs : List StagedClaim) (p : ℕ) → p < claim_end c → staged_word_at (c ∷ cs) p ≡ staged_word c p
 here c cs p lt = ap (λ b. cond b (staged_word c p) (staged_word_at cs p)) (lt-ltb p (claim_end c) lt)
 
-pub leads : (C s e : ℕ) (cs : List StagedClaim) (got : List PlacedMessage) (w : ℕ) → IsCapacity C → e % 8 ≡ 0 → ArePlaced C e cs → Reaches s e cs got → staged_word_at cs s ≡ w
+pub leads : (C s e : ℕ) (cs : List StagedClaim) (got : List PlacedMessage) (w : ℕ) → IsCapacity C → e % 8 ≡ 0
+    → ArePlaced C e cs → Reaches s e cs got → staged_word_at cs s ≡ w
     → 0 < w % 2 ^ 32 → w % 2 ^ 32 < 2 ^ 31 → Leads C s e cs got w
 leads C s e [] got w cap e8 h r is lo hi = absurd (let none : 0 ≡ w = is in omega arith)
 leads C s e (c ∷ cs) got w cap e8 h r is lo hi =
@@ -136,7 +169,8 @@ leads C s e (c ∷ cs) got w cap e8 h r is lo hi =
     let e_low = mod_below e C (omega arith) in
     let e_mod = mod_aligned C e c8 e8 in
     let now_at_place = λ (at : s ≡ place).
-    at_header C s e c cs c.stage w most h.0.message (subst (λ k. k % C + a ≤ C) (sym (at ∙ place_is)) (next_within C e a (omega arith) (omega arith))) at refl
+    at_header C s e c cs c.stage w most h.0.message
+    (subst (λ k. k % C + a ≤ C) (sym (at ∙ place_is)) (next_within C e a (omega arith) (omega arith))) at refl
     (sym is ∙ here c cs s (omega arith) ∙ staged_word-header c s at) lo hi in
     ⊎_elim (λ alt.
     let at_e : s ≡ e = alt.0 in
@@ -154,7 +188,8 @@ leads C s e (c ∷ cs) got w cap e8 h r is lo hi =
     let later : List PlacedMessage = alt.1.0 in
     let bounds = reach_bounds C s (claim_end c) cs later h.1 alt.1.2 in
     let above = bounds.0 in
-    let t = leads C s (claim_end c) cs later w cap aligned.1 h.1 alt.1.2 (sym (ap (λ b. cond b (staged_word c s) (staged_word_at cs s)) (le-ltb s (claim_end c) above)) ∙ is) lo hi in
+    let t = leads C s (claim_end c) cs later w cap aligned.1 h.1 alt.1.2
+    (sym (ap (λ b. cond b (staged_word c s) (staged_word_at cs s)) (le-ltb s (claim_end c) above)) ∙ is) lo hi in
     record {
       padding = λ pad. inr (inr (alt.0, (later, alt.1.1, t.padding pad)));
       message = λ other.
@@ -165,7 +200,16 @@ leads C s e (c ∷ cs) got w cap e8 h r is lo hi =
             len_is = found.len_is;
             type_is = found.type_is;
             lawful = found.lawful;
-            reaches = inr (inr (alt.0, (later ++ m ∷ [], ap (λ l. l ++ m ∷ []) alt.1.1 ∙ append_assoc (shown_at c.stage (placed_message c)) later (m ∷ []), found.reaches)));
+            reaches = inr
+                (inr (
+                  alt.0,
+                  (
+                    later ++ m ∷ [],
+                    ap (λ l. l ++ m ∷ []) alt.1.1
+                        ∙ append_assoc (shown_at c.stage (placed_message c)) later (m ∷ []),
+                    found.reaches,
+                  ),
+                ));
           };
       within = t.within;
     })) r

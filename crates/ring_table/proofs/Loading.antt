@@ -27,11 +27,15 @@ module _ (C start : ℕ) where
 
   -- what a step may do with the number found there
   abbrev pub May : State Wanted View → ℕ → ℕ → Mine → (Mine → Type 0) → ℕ → Type 0
-  May s i id me then value = (w : View) × (a : Act Wanted) × Valid s.homes me.1 a × Ok (stepped s i value id me.1 w a) × then (w, carried_after me.1 a)
+  May s i id me then value = (w : View) × (a : Act Wanted) × Valid s.homes me.1 a × Ok (stepped s i value id me.1 w a)
+      × then (w, carried_after me.1 a)
 
   -- the words stay, and one view changes
-  pub looked : (words : List ℕ) (views : List View) (r : Kept C start words views) (id i : ℕ) (v w : View) → get_elem? views id ≡ some v
-      → Knows (staged_end start (all_of r.hist)) r.hist r.reader r.consumer r.drawn id w → w.producer.shares ≡ v.producer.shares → v.producer.seen_tail ≤ w.producer.seen_tail → ((x : ℕ) → times_drawn x w.producer ≡ times_drawn x v.producer)
+  pub looked : (words : List ℕ) (views : List View) (r : Kept C start words views) (id i : ℕ) (v w : View)
+      → get_elem? views id ≡ some v
+      → Knows (staged_end start (all_of r.hist)) r.hist r.reader r.consumer r.drawn id w
+      → w.producer.shares ≡ v.producer.shares → v.producer.seen_tail ≤ w.producer.seen_tail
+      → ((x : ℕ) → times_drawn x w.producer ≡ times_drawn x v.producer)
       → Kept C start (set words i (slice_index words i)) (set views id w)
   looked words views r id i v w at knows rich later drawn =
       let top : ℕ = staged_end start (all_of r.hist) in
@@ -44,25 +48,35 @@ module _ (C start : ℕ) where
         drawn = r.drawn;
         memory = r.memory;
         service = r.service;
-        seated = reseated top r.hist r.reader r.consumer r.drawn views r.seated id v at top r.hist r.consumer r.drawn w knows (λ j u ne k. k) rich (λ j ne. refl)
+        seated = reseated top r.hist r.reader r.consumer r.drawn views r.seated id v at top r.hist r.consumer r.drawn w
+            knows (λ j u ne k. k) rich (λ j ne. refl)
             (sees_top_after views id v w top top at rich refl (λ e. omega arith) r.seated.latest)
             (λ x. ap (λ (k : ℕ). k + once_below x r.drawn) (drawn x));
       }
 
   -- a seat loads, and sees a later tail or head
-  pub sees : (words : List ℕ) (views : List View) (r : Kept C start words views) (id i : ℕ) (v : View) → get_elem? views id ≡ some v → (tail head : ℕ) (log : List (ℕ × ℕ)) → v.producer.seen_tail ≤ tail → tail ≤ staged_end start (all_of r.hist) → head ≤ r.consumer.head
-      → Kept C start (set words i (slice_index words i)) (set views id (record v { producer = record v.producer { seen_tail = tail; seen_head = head }; log = log }))
+  pub sees : (words : List ℕ) (views : List View) (r : Kept C start words views) (id i : ℕ) (v : View)
+      → get_elem? views id ≡ some v → (tail head : ℕ) (log : List (ℕ × ℕ)) → v.producer.seen_tail ≤ tail
+      → tail ≤ staged_end start (all_of r.hist) → head ≤ r.consumer.head
+      → Kept C start (set words i (slice_index words i))
+      (set views id (record v { producer = record v.producer { seen_tail = tail; seen_head = head }; log = log }))
   sees words views r id i v at tail head log later t h =
-      looked words views r id i v _ at (knows_seeing (staged_end start (all_of r.hist)) r.hist r.reader r.consumer r.drawn id v (r.seated.each id v at) tail head log t h) refl later (λ x. refl)
+      looked words views r id i v _ at (knows_seeing
+      (staged_end start (all_of r.hist)) r.hist r.reader r.consumer r.drawn id v
+      (r.seated.each id v at) tail head log t h) refl later (λ x. refl)
 
   -- the claims of a view end at or below the tail
-  pub end_below : (words : List ℕ) (views : List View) (r : Kept C start words views) (id : ℕ) (v : View) → get_elem? views id ≡ some v → (old : ℕ) → old ≡ staged_end start (all_of r.hist) → EndBelow old v.producer.claims
+  pub end_below : (words : List ℕ) (views : List View) (r : Kept C start words views) (id : ℕ) (v : View)
+      → get_elem? views id ≡ some v → (old : ℕ) → old ≡ staged_end start (all_of r.hist)
+      → EndBelow old v.producer.claims
   end_below words views r id v at old old_is k c has =
       let own = owned_at id r.hist k c (subst (λ l. get_elem? l k ≡ some c) (r.seated.each id v at).claims has) in
       let below = (lies_in C start r.hist own.0 (id, c) r.memory.placed own.1).below in
       omega arith
 
-  pub loads_tail : (slots id : ℕ) (me : Mine) → me.0.capacity ≡ C → Allows Ok slots id me (tail_index C) (λ n. n) (λ n me'. (me'.1 ≡ me.1) × LoadsTail me.0.capacity me.0 n me'.0 × Logs (tail_index C) n me.0 me'.0)
+  pub loads_tail : (slots id : ℕ) (me : Mine) → me.0.capacity ≡ C
+      → Allows Ok slots id me (tail_index C) (λ n. n)
+      (λ n me'. (me'.1 ≡ me.1) × LoadsTail me.0.capacity me.0 n me'.0 × Logs (tail_index C) n me.0 me'.0)
   loads_tail slots id me cap s r wide at small =
       let v : View = me.0 in
       let n : ℕ = slice_index s.words (tail_index C) in
@@ -75,7 +89,8 @@ module _ (C start : ℕ) where
       let head_below = bounds.1 in
       let limit = r.memory.limit in
       let least = r.lawful.capacity.least in
-      let aligned : top % 8 ≡ 0 = end_aligned C start (all_of r.hist) (omega arith) (capacity_aligned C r.lawful.capacity) (start_aligned C start r.lawful) r.memory.placed in (
+      let aligned : top % 8 ≡ 0 = end_aligned C start (all_of r.hist) (omega arith)
+      (capacity_aligned C r.lawful.capacity) (start_aligned C start r.lawful) r.memory.placed in (
         logged (tail_index C) n (with_producer (with_tail n v.producer) v),
         keeps,
         tt,
@@ -96,7 +111,9 @@ module _ (C start : ℕ) where
         ),
       )
 
-  pub loads_head : (slots id : ℕ) (me : Mine) → me.0.capacity ≡ C → Allows Ok slots id me (head_index C) (λ n. n) (λ n me'. (me'.1 ≡ me.1) × LoadsHead me.0.capacity me.0 n me'.0 × Logs (head_index C) n me.0 me'.0)
+  pub loads_head : (slots id : ℕ) (me : Mine) → me.0.capacity ≡ C
+      → Allows Ok slots id me (head_index C) (λ n. n)
+      (λ n me'. (me'.1 ≡ me.1) × LoadsHead me.0.capacity me.0 n me'.0 × Logs (head_index C) n me.0 me'.0)
   loads_head slots id me cap s r wide at small =
       let v : View = me.0 in
       let n : ℕ = slice_index s.words (head_index C) in
@@ -129,7 +146,8 @@ module _ (C start : ℕ) where
       )
 
   -- where a claim of a view lies that is not settled
-  pub record Stands (words : List ℕ) (views : List View) (r : Kept C start words views) (id : ℕ) (c : StagedClaim) : Type 0 where
+  pub record Stands (words : List ℕ) (views : List View) (r : Kept C start words views) (id : ℕ)
+      (c : StagedClaim) : Type 0 where
     pub nth : ℕ
     pub there : get_elem? r.hist nth ≡ some (id, c)
     pub lies : LiesIn C start (all_of r.hist) c
@@ -138,12 +156,16 @@ module _ (C start : ℕ) where
     pub from_aligned : c.from % 8 ≡ 0
     pub place_aligned : c.place % 8 ≡ 0
 
-  pub stands : (words : List ℕ) (views : List View) (r : Kept C start words views) (id : ℕ) (v : View) → get_elem? views id ≡ some v → (k : ℕ) (c : StagedClaim) → HasClaim v k c → (IsSettled c.stage → ⊥) → Stands words views r id c
+  pub stands : (words : List ℕ) (views : List View) (r : Kept C start words views) (id : ℕ) (v : View)
+      → get_elem? views id ≡ some v → (k : ℕ) (c : StagedClaim) → HasClaim v k c → (IsSettled c.stage → ⊥)
+      → Stands words views r id c
   stands words views r id v at k c has un =
       let least = r.lawful.capacity.least in
       let own = owned_at id r.hist k c (subst (λ l. get_elem? l k ≡ some c) (r.seated.each id v at).claims has) in
-      let behind = not_passed C r.consumer.scan start r.hist r.consumer.got own.0 (id, c) r.memory.placed r.memory.passed own.1 un in
-      let aligned = places_aligned C start r.hist own.0 (id, c) (omega arith) (capacity_aligned C r.lawful.capacity) (start_aligned C start r.lawful) r.memory.placed own.1 in
+      let behind = not_passed C r.consumer.scan start r.hist r.consumer.got own.0
+      (id, c) r.memory.placed r.memory.passed own.1 un in
+      let aligned = places_aligned C start r.hist own.0 (id, c) (omega arith) (capacity_aligned C r.lawful.capacity)
+      (start_aligned C start r.lawful) r.memory.placed own.1 in
       record {
         nth = own.0;
         there = own.1;
@@ -154,7 +176,9 @@ module _ (C start : ℕ) where
         place_aligned = aligned.1;
       }
 
-  pub loads_own : (slots id i : ℕ) (me : Mine) → me.0.capacity ≡ C → Allows Ok slots id me i (λ n. n) (λ n me'. (me'.1 ≡ me.1) × (me'.0 ≡ logged i n me.0) × LoadsOwn i me.0 n × AreRising me.0.producer.claims)
+  pub loads_own : (slots id i : ℕ) (me : Mine) → me.0.capacity ≡ C
+      → Allows Ok slots id me i (λ n. n) (λ n me'. (me'.1 ≡ me.1) × (me'.0 ≡ logged i n me.0) × LoadsOwn i me.0 n
+      × AreRising me.0.producer.claims)
   loads_own slots id i me cap s r wide at small =
       let v : View = me.0 in
       let n : ℕ = slice_index s.words i in
@@ -164,7 +188,8 @@ module _ (C start : ℕ) where
         logged i n v,
         keeps,
         tt,
-        sees s.words s.views r id i v at v.producer.seen_tail v.producer.seen_head _ (omega arith) k.tail_seen k.head_seen,
+        sees s.words s.views r id i v at v.producer.seen_tail v.producer.seen_head _
+            (omega arith) k.tail_seen k.head_seen,
         (
           refl,
           refl,

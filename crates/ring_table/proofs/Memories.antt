@@ -28,7 +28,8 @@ module _ (C start : ℕ) (law : IsLawful C start) where
   pub not_inside : (p i : ℕ) → C / 8 ≤ i → i ≢ index C p
   not_inside p i far same = let near = index_inside p in omega arith
 
-  pub one_position : (head p q : ℕ) → p % 8 ≡ 0 → q % 8 ≡ 0 → head ≤ p → p < head + C → head ≤ q → q < head + C → index C p ≡ index C q → p ≡ q
+  pub one_position : (head p q : ℕ) → p % 8 ≡ 0 → q % 8 ≡ 0 → head ≤ p → p < head + C → head ≤ q → q < head + C
+      → index C p ≡ index C q → p ≡ q
   one_position head p q p8 q8 p0 p1 q0 q1 same =
       let least = law.capacity.least in
       let c8 = capacity_aligned C law.capacity in
@@ -36,14 +37,21 @@ module _ (C start : ℕ) (law : IsLawful C start) where
 
   module _ (words : List ℕ) (consumer : ConsumerView) where
     -- where the head lies
-    pub head_bounds : (cs : List StagedClaim) → IsMemory C start words cs consumer → (start ≤ consumer.head) × (consumer.head ≤ staged_end start cs) × (consumer.head % 8 ≡ 0)
+    pub head_bounds : (cs : List StagedClaim) → IsMemory C start words cs consumer
+        → (start ≤ consumer.head) × (consumer.head ≤ staged_end start cs) × (consumer.head % 8 ≡ 0)
     head_bounds cs m =
         let least = law.capacity.least in
-        let bounds = reach_bounds C consumer.head start cs consumer.taken m.placed m.took in
-        (bounds.0, bounds.1, reach_aligned C consumer.head start cs consumer.taken (omega arith) (capacity_aligned C law.capacity) (start_aligned C start law) m.placed m.took)
+        let bounds = reach_bounds C consumer.head start cs consumer.taken m.placed m.took in (
+          bounds.0,
+          bounds.1,
+          reach_aligned C consumer.head start cs consumer.taken (omega arith)
+              (capacity_aligned C law.capacity) (start_aligned C start law) m.placed m.took,
+        )
 
     -- a word that is neither a record's nor the tail nor the head
-    pub memory_elsewhere : (cs : List StagedClaim) → IsMemory C start words cs consumer → (i value : ℕ) → C / 8 ≤ i → i ≢ tail_index C → i ≢ head_index C → (beats : List ℕ) → IsMemory C start (set words i value) cs (record consumer { heartbeats = beats })
+    pub memory_elsewhere : (cs : List StagedClaim) → IsMemory C start words cs consumer → (i value : ℕ) → C / 8 ≤ i
+        → i ≢ tail_index C → i ≢ head_index C → (beats : List ℕ)
+        → IsMemory C start (set words i value) cs (record consumer { heartbeats = beats })
     memory_elsewhere cs m i value far not_tail not_head beats = record {
       wide = length-set words i value ∙ m.wide;
       placed = m.placed;
@@ -56,25 +64,35 @@ module _ (C start : ℕ) (law : IsLawful C start) where
       clears_from = m.clears_from;
       clears_to = m.clears_to;
       clears_words = m.clears_words;
-      shows = λ p p8 p0 p1. get_or-set_other words i (index C p) value 0 (λ e. not_inside p i far (sym e)) ∙ m.shows p p8 p0 p1;
+      shows = λ p p8 p0 p1. get_or-set_other words i (index C p) value 0 (λ e. not_inside p i far (sym e))
+          ∙ m.shows p p8 p0 p1;
     }
 
     -- a word that is neither the cache nor the correlation counter nor the heartbeat, while the head does not fall
-    pub service_elsewhere : (n : ℕ) → IsService C words consumer n → (i value : ℕ) → i ≢ head_cache_index C → i ≢ correlation_index C → i ≢ heartbeat_index C → ((j : ℕ) → IsUnnamed C j → j ≢ i) → (consumer' : ConsumerView) → consumer.head ≤ consumer'.head → consumer'.heartbeats ≡ consumer.heartbeats → IsService C (set words i value) consumer' n
+    pub service_elsewhere : (n : ℕ) → IsService C words consumer n → (i value : ℕ) → i ≢ head_cache_index C
+        → i ≢ correlation_index C → i ≢ heartbeat_index C → ((j : ℕ) → IsUnnamed C j → j ≢ i)
+        → (consumer' : ConsumerView) → consumer.head ≤ consumer'.head → consumer'.heartbeats ≡ consumer.heartbeats
+        → IsService C (set words i value) consumer' n
     service_elsewhere n s i value not_cache not_correlation not_heartbeat named consumer' rises same =
-        let cached : get_or (set words i value) (head_cache_index C) 0 ≡ get_or words (head_cache_index C) 0 = get_or-set_other words i (head_cache_index C) value 0 (λ e. not_cache (sym e)) in
+        let cached : get_or (set words i value) (head_cache_index C) 0 ≡ get_or words (head_cache_index C) 0 =
+        get_or-set_other words i (head_cache_index C) value 0 (λ e. not_cache (sym e)) in
         let was = s.cache in
         record {
           cache = omega arith;
-          correlation = get_or-set_other words i (correlation_index C) value 0 (λ e. not_correlation (sym e)) ∙ s.correlation;
-          heartbeat = ap (λ l. get_elem? (0 ∷ l) (length l)) same ∙ s.heartbeat ∙ ap some (sym (get_or-set_other words i (heartbeat_index C) value 0 (λ e. not_heartbeat (sym e))));
+          correlation =
+              get_or-set_other words i (correlation_index C) value 0 (λ e. not_correlation (sym e)) ∙ s.correlation;
+          heartbeat = ap (λ l. get_elem? (0 ∷ l) (length l)) same ∙ s.heartbeat
+              ∙ ap some (sym (get_or-set_other words i (heartbeat_index C) value 0 (λ e. not_heartbeat (sym e))));
           unnamed = λ j un. get_or-set_other words i j value 0 (named j un) ∙ s.unnamed j un;
         }
 
     -- a store into the claims at the place p, which are not settled, at the position q of their words
-    pub memory_edited : (h : OwnedHistory) → IsMemory C start words (all_of h) consumer → (id p : ℕ) (f : StagedClaim → StagedClaim) → MayReplaceAt C p f h → Unsettled p f h
-        → (q value : ℕ) → q % 8 ≡ 0 → consumer.scan ≤ q → q < consumer.head + C → staged_word_at (all_of (edited id p f h)) q ≡ value
-        → ((i : ℕ) (x : ℕ × StagedClaim) → get_elem? h i ≡ some x → x.1.place ≡ p → (r : ℕ) → r % 8 ≡ 0 → r ≢ q → staged_word (f x.1) r ≡ staged_word x.1 r)
+    pub memory_edited : (h : OwnedHistory) → IsMemory C start words (all_of h) consumer
+        → (id p : ℕ) (f : StagedClaim → StagedClaim) → MayReplaceAt C p f h → Unsettled p f h
+        → (q value : ℕ) → q % 8 ≡ 0 → consumer.scan ≤ q → q < consumer.head + C
+        → staged_word_at (all_of (edited id p f h)) q ≡ value
+        → ((i : ℕ) (x : ℕ × StagedClaim) → get_elem? h i ≡ some x → x.1.place ≡ p → (r : ℕ) → r % 8 ≡ 0 → r ≢ q
+        → staged_word (f x.1) r ≡ staged_word x.1 r)
         → IsMemory C start (set words (index C q) value) (all_of (edited id p f h)) consumer
     memory_edited h m id p f may un q value q8 low near word others =
         let h' : OwnedHistory = edited id p f h in
@@ -88,27 +106,35 @@ module _ (C start : ℕ) (law : IsLawful C start) where
         record {
           wide = length-set words (index C q) value ∙ m.wide;
           placed = placed_edited id p f C start h may m.placed;
-          tail_is = get_or-set_other words (index C q) (tail_index C) value 0 (not_inside q (tail_index C) (omega arith)) ∙ m.tail_is ∙ sym tops;
+          tail_is = get_or-set_other words (index C q) (tail_index C) value 0
+              (not_inside q (tail_index C) (omega arith)) ∙ m.tail_is ∙ sym tops;
           limit = subst (λ n. n ≤ max_position) (sym tops) m.limit;
           room = subst (λ n. n ≤ head + C) (sym tops) m.room;
-          head_is = get_or-set_other words (index C q) (head_index C) value 0 (not_inside q (head_index C) (omega arith)) ∙ m.head_is;
+          head_is = get_or-set_other words (index C q) (head_index C) value 0
+              (not_inside q (head_index C) (omega arith)) ∙ m.head_is;
           took = reach_edited C id p f head start h consumer.taken may un m.took;
           passed = reach_edited C id p f consumer.scan start h consumer.got may un m.passed;
           clears_from = m.clears_from;
           clears_to = m.clears_to;
           clears_words = m.clears_words;
           shows = λ r r8 r0 r1. dite (ℕ_discrete r q)
-              (λ e. ap (λ k. get_or (set words (index C q) value) (index C k) 0) e ∙ get_or-set_same words (index C q) value 0 (omega arith)
-              ∙ sym (ap (λ b. cond b 0 (staged_word_at (all_of h') r)) (le-ltb r consumer.cleared (omega arith)) ∙ ap (staged_word_at (all_of h')) e ∙ word))
-              (λ ne. get_or-set_other words (index C q) (index C r) value 0 (λ e. ne (one_position head r q r8 q8 r0 r1 (omega arith) near e)) ∙ m.shows r r8 r0 r1
-              ∙ sym (ap (λ k. shown_word_of k r) (staged_word_at-edited id p f C r h may (λ i x at e. others i x at e r r8 ne))));
+              (λ e. ap (λ k. get_or (set words (index C q) value) (index C k) 0) e
+              ∙ get_or-set_same words (index C q) value 0 (omega arith)
+              ∙ sym (ap (λ b. cond b 0 (staged_word_at (all_of h') r)) (le-ltb r consumer.cleared (omega arith))
+              ∙ ap (staged_word_at (all_of h')) e ∙ word))
+              (λ ne. get_or-set_other words (index C q) (index C r) value 0
+              (λ e. ne (one_position head r q r8 q8 r0 r1 (omega arith) near e)) ∙ m.shows r r8 r0 r1
+              ∙ sym (ap (λ k. shown_word_of k r) (staged_word_at-edited id p f C r h may
+              (λ i x at e. others i x at e r r8 ne))));
         }
       where
         shown_word_of : ℕ → ℕ → ℕ
         shown_word_of word p = cond (ltb p consumer.cleared) 0 word
 
     -- the tail moves, and a claim that shows nothing yet joins the history
-    pub memory_appended : (h : OwnedHistory) → IsMemory C start words (all_of h) consumer → (x : ℕ × StagedClaim) (new : ℕ) → LiesAfter C (staged_end start (all_of h)) x.1 → new ≡ claim_end x.1 → new ≤ max_position → new ≤ consumer.head + C
+    pub memory_appended : (h : OwnedHistory) → IsMemory C start words (all_of h) consumer
+        → (x : ℕ × StagedClaim) (new : ℕ) → LiesAfter C (staged_end start (all_of h)) x.1 → new ≡ claim_end x.1
+        → new ≤ max_position → new ≤ consumer.head + C
         → ((p : ℕ) → p % 8 ≡ 0 → staged_word x.1 p ≡ 0)
         → IsMemory C start (set words (tail_index C) new) (all_of (h ++ x ∷ [])) consumer
     memory_appended h m x new lies new_is limit room silent =
@@ -127,6 +153,7 @@ module _ (C start : ℕ) (law : IsLawful C start) where
           clears_from = m.clears_from;
           clears_to = m.clears_to;
           clears_words = m.clears_words;
-          shows = λ p p8 p0 p1. get_or-set_other words (tail_index C) (index C p) new 0 (λ e. not_inside p (tail_index C) (omega arith) (sym e)) ∙ m.shows p p8 p0 p1
+          shows = λ p p8 p0 p1. get_or-set_other words (tail_index C) (index C p) new 0
+              (λ e. not_inside p (tail_index C) (omega arith) (sym e)) ∙ m.shows p p8 p0 p1
               ∙ ap (λ k. cond (ltb p consumer.cleared) 0 k) (sym (staged_word_at-append h x p (silent p p8)));
         }

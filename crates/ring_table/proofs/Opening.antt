@@ -10,7 +10,8 @@ use Rattle.ring_table.specs.Closed.{IsFresh}
 use Rattle.ring_table.proofs.StagedPlaces.{start_aligned}
 use Rattle.ring_table.proofs.Memories.{index_inside}
 
-pub fresh_keeps : (C start : ℕ) (words : List ℕ) → IsLawful C start → start ≤ max_position → IsFresh C start words → Kept C start words (first_view (record { capacity = C; start = start }) ∷ [])
+pub fresh_keeps : (C start : ℕ) (words : List ℕ) → IsLawful C start → start ≤ max_position → IsFresh C start words
+    → Kept C start words (first_view (record { capacity = C; start = start }) ∷ [])
 fresh_keeps C start words law limit is_fresh =
     let v : View = first_view (record { capacity = C; start = start }) in
     let cache = is_fresh.cache in
@@ -34,7 +35,13 @@ fresh_keeps C start words law limit is_fresh =
         clears_words = start_aligned C start law;
         shows = λ p p8 p0 p1. is_fresh.records (index C p) (index_inside C start law p) ∙ sym (nothing (ltb p start));
       };
-      service = record { cache = omega arith; correlation = is_fresh.correlation; heartbeat = ap some (sym is_fresh.heartbeat); unnamed = is_fresh.unnamed };
+      service = record {
+        cache = omega arith;
+        correlation = is_fresh.correlation;
+        heartbeat =
+            ap some (sym is_fresh.heartbeat);
+        unnamed = is_fresh.unnamed;
+      };
       seated = record {
         each = one v (record {
           claims = refl;
@@ -58,6 +65,7 @@ fresh_keeps C start words law limit is_fresh =
     none_below : (x : ℕ) → once_below x 0 ≡ 0
     none_below x = ap (λ (b : Bool). let n : ℕ = cond b 1 0 in n) (le-ltb x 0 (omega arith))
 
-    one : (v : View) → Knows start [] 0 (consumer_from start) 0 0 v → (j : ℕ) (u : View) → get_elem? (v ∷ []) j ≡ some u → Knows start [] 0 (consumer_from start) 0 j u
+    one : (v : View) → Knows start [] 0 (consumer_from start) 0 0 v → (j : ℕ) (u : View) → get_elem? (v ∷ []) j ≡ some u
+        → Knows start [] 0 (consumer_from start) 0 j u
     one v f zero u e = subst (Knows start [] 0 (consumer_from start) 0 0) (some-injective v u e) f
     one v f (suc j) u e = absurd (some-ne-none u (sym e))

@@ -15,9 +15,11 @@ use Rattle.ring_table.proofs.StagedWords.{staged_word-padding, staged_word-paddi
 use Rattle.ring_table.proofs.ReachLemmas.{reach_bounds}
 
 -- without their places the claims end where they ended
-pub end_of-claims_of : (C e : ℕ) (cs : List StagedClaim) → ArePlaced C e cs → end_of C e (claims_of cs) ≡ staged_end e cs
+pub end_of-claims_of : (C e : ℕ) (cs : List StagedClaim) → ArePlaced C e cs
+    → end_of C e (claims_of cs) ≡ staged_end e cs
 end_of-claims_of C e [] placed = refl
-end_of-claims_of C e (c ∷ cs) placed = ap (λ k. end_of C (k + staged_span c) (claims_of cs)) (sym placed.0.place) ∙ end_of-claims_of C (claim_end c) cs placed.1
+end_of-claims_of C e (c ∷ cs) placed = ap (λ k. end_of C (k + staged_span c) (claims_of cs)) (sym placed.0.place)
+    ∙ end_of-claims_of C (claim_end c) cs placed.1
 
 stored_padding : (t : Stage) (word : ℕ) → IsStored t → masked_padding t word ≡ word
 stored_padding Moved word stored = absurd stored
@@ -33,7 +35,8 @@ here : (c : StagedClaim) (cs : List StagedClaim) (p : ℕ) → p < claim_end c �
 here c cs p lt = ap (λ b. cond b (staged_word c p) (staged_word_at cs p)) (lt-ltb p (claim_end c) lt)
 
 -- where all headers are stored, the two pictures are one
-pub staged_word_at-claims_of : (C e : ℕ) (cs : List StagedClaim) (p : ℕ) → ArePlaced C e cs → AreStored cs → staged_word_at cs p ≡ word_at C e (claims_of cs) p
+pub staged_word_at-claims_of : (C e : ℕ) (cs : List StagedClaim) (p : ℕ) → ArePlaced C e cs → AreStored cs
+    → staged_word_at cs p ≡ word_at C e (claims_of cs) p
 unfolding word_at
 staged_word_at-claims_of C e [] p placed stored = refl
 staged_word_at-claims_of C e (c ∷ cs) p placed stored =
@@ -47,19 +50,25 @@ staged_word_at-claims_of C e (c ∷ cs) p placed stored =
           let there : p ≡ e = same ∙ from_is in
           staged_word-padding c p same in_padding ∙ stored_padding c.stage (padding_header (c.place - c.from)) stored.0
           ∙ (λ i. padding_header (place_is i - from_is i))
-          ∙ sym (ap (word_at C e (claim_of c ∷ claims_of cs)) there ∙ word_at_padding_header C e (claim_of c) (claims_of cs) (omega arith)))
-          (λ other. staged_word-padding_behind c p other in_padding ∙ sym (word_at_padding C e p (claim_of c) (claims_of cs) (omega arith) (λ same. other (same ∙ sym from_is))))
-      | inr behind_padding ↦ elim (cases_lt p (claim_end c)) as (λ _. staged_word_at (c ∷ cs) p ≡ word_at C e (claim_of c ∷ claims_of cs) p) [
-        | inl in_record ↦
-            here c cs p in_record ∙ staged_word-record c p behind_padding ∙ stored_record c.stage (claim_word (claim_of c) (p - c.place)) stored.0
-            ∙ ap (λ k. claim_word (claim_of c) (p - k)) place_is
-            ∙ sym (word_at_record C e p (claim_of c) (claims_of cs) (omega arith) (omega arith))
-        | inr behind ↦
-            ap (λ b. cond b (staged_word c p) (staged_word_at cs p)) (le-ltb p (claim_end c) behind)
-            ∙ staged_word_at-claims_of C (claim_end c) cs p placed.1 stored.1
-            ∙ ap (λ k. word_at C (k + staged_span c) (claims_of cs) p) place_is
-            ∙ sym (word_at_rest C e p (claim_of c) (claims_of cs) (omega arith))
-      ]
+          ∙ sym (ap (word_at C e (claim_of c ∷ claims_of cs)) there
+          ∙ word_at_padding_header C e (claim_of c) (claims_of cs) (omega arith)))
+          (λ other. staged_word-padding_behind c p other in_padding
+          ∙ sym (word_at_padding C e p (claim_of c) (claims_of cs) (omega arith)
+          (λ same. other (same ∙ sym from_is))))
+      | inr behind_padding ↦
+          elim (cases_lt p (claim_end c)) as (λ _. staged_word_at (c ∷ cs) p
+          ≡ word_at C e (claim_of c ∷ claims_of cs) p) [
+            | inl in_record ↦
+                here c cs p in_record ∙ staged_word-record c p behind_padding
+                ∙ stored_record c.stage (claim_word (claim_of c) (p - c.place)) stored.0
+                ∙ ap (λ k. claim_word (claim_of c) (p - k)) place_is
+                ∙ sym (word_at_record C e p (claim_of c) (claims_of cs) (omega arith) (omega arith))
+            | inr behind ↦
+                ap (λ b. cond b (staged_word c p) (staged_word_at cs p)) (le-ltb p (claim_end c) behind)
+                ∙ staged_word_at-claims_of C (claim_end c) cs p placed.1 stored.1
+                ∙ ap (λ k. word_at C (k + staged_span c) (claims_of cs) p) place_is
+                ∙ sym (word_at_rest C e p (claim_of c) (claims_of cs) (omega arith))
+          ]
     ]
 
 -- ---- what was passed, and what is left
@@ -74,26 +83,47 @@ pub record Splits (C s e : ℕ) (cs : List StagedClaim) (got : List PlacedMessag
   pub ends : staged_end s (restarted s rest) ≡ staged_end e cs
   pub words : (p : ℕ) → s ≤ p → staged_word_at cs p ≡ staged_word_at (restarted s rest) p
 
-pub splits : (C s e : ℕ) (cs : List StagedClaim) (got : List PlacedMessage) → 128 ≤ C → ArePlaced C e cs → Reaches s e cs got → Splits C s e cs got
-splits C s e [] got big placed r = record { taken = []; rest = []; whole = refl; settled = tt; messages = r.1; placed = tt; ends = r.0; words = λ _ _. refl }
+pub splits : (C s e : ℕ) (cs : List StagedClaim) (got : List PlacedMessage) → 128 ≤ C → ArePlaced C e cs
+    → Reaches s e cs got → Splits C s e cs got
+splits C s e [] got big placed r = record {
+  taken = [];
+  rest = [];
+  whole = refl;
+  settled = tt;
+  messages = r.1;
+  placed =
+      tt;
+  ends = r.0;
+  words = λ _ _. refl;
+}
 splits C s e (c ∷ cs) got big placed r =
     let lies = placed.0 in
     let a : ℕ = staged_span c in
     let short = lies.message.short in
     let n : ℕ = length c.message.body in
     let d : StagedClaim = record { from = s; place = c.place; message = c.message; stage = c.stage } in
-    let stays = λ (no_padding : (p : ℕ) → s ≤ p → staged_word c p ≡ staged_word d p) (p : ℕ) (le : s ≤ p). ap (λ k. cond (ltb p (claim_end c)) k (staged_word_at cs p)) (no_padding p le) in
+    let stays = λ (no_padding : (p : ℕ) → s ≤ p → staged_word c p ≡ staged_word d p) (p : ℕ)
+    (le : s ≤ p). ap (λ k. cond (ltb p (claim_end c)) k (staged_word_at cs p)) (no_padding p le) in
     ⊎_elim
     (λ alt.
     let at : s ≡ e = alt.0 in
-    let same : c ≡ d = λ i. record { from = (lies.from ∙ sym at) i; place = c.place; message = c.message; stage = c.stage } in
+    let same : c ≡ d =
+    λ i. record { from = (lies.from ∙ sym at) i; place = c.place; message = c.message; stage = c.stage } in
     record {
       taken = [];
       rest = c ∷ cs;
       whole = refl;
       settled = tt;
       messages = alt.1;
-      placed = (record { from = refl; place = lies.place ∙ ap (λ k. next_place C k a) (sym at); message = lies.message }, placed.1);
+      placed = (
+        record {
+          from = refl;
+          place = lies.place
+              ∙ ap (λ k. next_place C k a) (sym at);
+          message = lies.message;
+        },
+        placed.1,
+      );
       ends = refl;
       words = stays (λ p le. ap (λ (x : StagedClaim). staged_word x p) same);
     })
@@ -106,7 +136,15 @@ splits C s e (c ∷ cs) got big placed r =
       whole = refl;
       settled = tt;
       messages = alt.2;
-      placed = (record { from = refl; place = lies.place ∙ sym (next_fixed C e a (omega arith) (omega arith)) ∙ ap (λ k. next_place C k a) (sym (at ∙ lies.place)); message = lies.message }, placed.1);
+      placed = (
+        record {
+          from = refl;
+          place = lies.place ∙ sym (next_fixed C e a (omega arith) (omega arith))
+              ∙ ap (λ k. next_place C k a) (sym (at ∙ lies.place));
+          message = lies.message;
+        },
+        placed.1,
+      );
       ends = refl;
       words = stays (λ p le. staged_word-record c p (omega arith) ∙ sym (staged_word-record d p (omega arith)));
     })
@@ -123,7 +161,8 @@ splits C s e (c ∷ cs) got big placed r =
       messages = alt.1.1 ∙ ap (λ l. shown_at c.stage (placed_message c) ++ l) t.messages;
       placed = t.placed;
       ends = t.ends;
-      words = λ p le. ap (λ b. cond b (staged_word c p) (staged_word_at cs p)) (le-ltb p (claim_end c) (omega arith)) ∙ t.words p le;
+      words = λ p le. ap (λ b. cond b (staged_word c p) (staged_word_at cs p)) (le-ltb p (claim_end c) (omega arith))
+          ∙ t.words p le;
     })) r
 
 pub stored_rest : (s : ℕ) (taken rest : List StagedClaim) → AreStored (taken ++ rest) → AreStored (restarted s rest)

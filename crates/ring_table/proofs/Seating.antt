@@ -12,11 +12,14 @@ use Rattle.ring_table.specs.Rule.{Knows, SeesTop, IsSeated, shares_of}
 use Rattle.ring_table.proofs.Sums.{at_below, each_after_set, total-set, total-zero}
 
 -- what an entry that is known is, by two reports of it
-pub one_view : (views : List View) (i j : ℕ) (u v : View) → get_elem? views i ≡ some u → get_elem? views j ≡ some v → i ≡ j → u ≡ v
+pub one_view : (views : List View) (i j : ℕ) (u v : View) → get_elem? views i ≡ some u → get_elem? views j ≡ some v
+    → i ≡ j → u ≡ v
 one_view views i j u v at_i at_j same = some-injective u v (sym at_i ∙ ap (get_elem? views) same ∙ at_j)
 
 -- a producer that has all shares leaves none to others
-pub others_poor : (views : List View) (id j : ℕ) (v u : View) → total shares_of views ≡ 65536 → get_elem? views id ≡ some v → v.producer.shares ≡ 65536 → j ≢ id → get_elem? views j ≡ some u → u.producer.shares ≡ 0
+pub others_poor : (views : List View) (id j : ℕ) (v u : View) → total shares_of views ≡ 65536
+    → get_elem? views id ≡ some v → v.producer.shares ≡ 65536 → j ≢ id → get_elem? views j ≡ some u
+    → u.producer.shares ≡ 0
 others_poor views id j v u sum at all ne there =
     let left : ℕ = total shares_of (set views id spent) in
     let whole : ℕ = total shares_of views in
@@ -26,16 +29,21 @@ others_poor views id j v u sum at all ne there =
     total-zero shares_of (set views id spent) j u none (set_else views id j spent ne ∙ there)
 
 -- and has seen the tail as it is
-pub sole_sees_top : (views : List View) (id : ℕ) (v : View) (top : ℕ) → total shares_of views ≡ 65536 → SeesTop views top → get_elem? views id ≡ some v → v.producer.shares ≡ 65536 → v.producer.seen_tail ≡ top
+pub sole_sees_top : (views : List View) (id : ℕ) (v : View) (top : ℕ) → total shares_of views ≡ 65536
+    → SeesTop views top → get_elem? views id ≡ some v → v.producer.shares ≡ 65536 → v.producer.seen_tail ≡ top
 sole_sees_top views id v top sum latest at all = dite (ℕ_discrete latest.seat id)
-    (λ same. ap (λ (z : View). z.producer.seen_tail) (sym (one_view views latest.seat id latest.view v latest.there at same)) ∙ latest.sees)
+    (λ same. ap (λ (z : View). z.producer.seen_tail)
+    (sym (one_view views latest.seat id latest.view v latest.there at same)) ∙ latest.sees)
     (λ other.
-    let poor : latest.view.producer.shares ≡ 0 = others_poor views id latest.seat v latest.view sum at all other latest.there in
+    let poor : latest.view.producer.shares ≡ 0 =
+    others_poor views id latest.seat v latest.view sum at all other latest.there in
     let rich = latest.rich in
     absurd (omega arith))
 
 -- somebody sees the new top where who saw the old one does
-pub sees_top_after : (views : List View) (id : ℕ) (v w : View) (top top' : ℕ) → get_elem? views id ≡ some v → w.producer.shares ≡ v.producer.shares → top' ≡ top → (v.producer.seen_tail ≡ top → w.producer.seen_tail ≡ top') → SeesTop views top → SeesTop (set views id w) top'
+pub sees_top_after : (views : List View) (id : ℕ) (v w : View) (top top' : ℕ) → get_elem? views id ≡ some v
+    → w.producer.shares ≡ v.producer.shares → top' ≡ top → (v.producer.seen_tail ≡ top → w.producer.seen_tail ≡ top')
+    → SeesTop views top → SeesTop (set views id w) top'
 sees_top_after views id v w top top' at same tops sees latest = dite (ℕ_discrete latest.seat id)
     (λ e.
     let is : latest.view ≡ v = one_view views latest.seat id latest.view v latest.there at e in
@@ -46,12 +54,21 @@ sees_top_after views id v w top top' at same tops sees latest = dite (ℕ_discre
       rich = subst (λ n. 0 < n) (ap (λ (z : View). z.producer.shares) is ∙ sym same) latest.rich;
       sees = sees (ap (λ (z : View). z.producer.seen_tail) (sym is) ∙ latest.sees);
     })
-    (λ ne. record { seat = latest.seat; view = latest.view; there = set_else views id latest.seat w ne ∙ latest.there; rich = latest.rich; sees = latest.sees ∙ sym tops })
+    (λ ne. record {
+      seat = latest.seat;
+      view = latest.view;
+      there = set_else views id latest.seat w ne
+          ∙ latest.there;
+      rich = latest.rich;
+      sees = latest.sees ∙ sym tops;
+    })
 
 module _ (top : ℕ) (hist : OwnedHistory) (reader : ℕ) (consumer : ConsumerView) (n : ℕ) where
   -- a seat knows the same after it has seen a later tail or head
-  pub knows_seeing : (id : ℕ) (v : View) → Knows top hist reader consumer n id v → (tail head : ℕ) (log : List (ℕ × ℕ)) → tail ≤ top → head ≤ consumer.head
-      → Knows top hist reader consumer n id (record v { producer = record v.producer { seen_tail = tail; seen_head = head }; log = log })
+  pub knows_seeing : (id : ℕ) (v : View) → Knows top hist reader consumer n id v → (tail head : ℕ) (log : List (ℕ × ℕ))
+      → tail ≤ top → head ≤ consumer.head
+      → Knows top hist reader consumer n id
+      (record v { producer = record v.producer { seen_tail = tail; seen_head = head }; log = log })
   knows_seeing id v k tail head log t h = record {
     claims = k.claims;
     tail_seen = t;
@@ -62,7 +79,8 @@ module _ (top : ℕ) (hist : OwnedHistory) (reader : ℕ) (consumer : ConsumerVi
   }
 
   -- one seat steps, and the history, the consumer and the draws go on
-  pub reseated : (views : List View) → IsSeated top hist reader consumer n views → (id : ℕ) (v : View) → get_elem? views id ≡ some v
+  pub reseated : (views : List View) → IsSeated top hist reader consumer n views → (id : ℕ) (v : View)
+      → get_elem? views id ≡ some v
       → (top' : ℕ) (hist' : OwnedHistory) (consumer' : ConsumerView) (n' : ℕ) (w : View)
       → Knows top' hist' reader consumer' n' id w
       → ((j : ℕ) (u : View) → j ≢ id → Knows top hist reader consumer n j u → Knows top' hist' reader consumer' n' j u)
@@ -72,7 +90,8 @@ module _ (top : ℕ) (hist : OwnedHistory) (reader : ℕ) (consumer : ConsumerVi
       → ((x : ℕ) → times_drawn x w.producer + once_below x n ≡ times_drawn x v.producer + once_below x n')
       → IsSeated top' hist' reader consumer' n' (set views id w)
   reseated views s id v at top' hist' consumer' n' w own others rich outside latest drawn = record {
-    each = each_after_set (Knows top hist reader consumer n) (Knows top' hist' reader consumer' n') views id w own others s.each;
+    each = each_after_set (Knows top hist reader consumer n)
+        (Knows top' hist' reader consumer' n') views id w own others s.each;
     nobody = λ j past.
         let past' : length views ≤ j = subst (λ m. m ≤ j) (length-set views id w) past in
         let here = at_below views id v at in

@@ -19,129 +19,211 @@ use Rattle.ring_table.proofs.Seating.{one_view}
 
 module _ (top : ℕ) (hist : OwnedHistory) (reader : ℕ) (consumer : ConsumerView) (n : ℕ) where
   -- one seat becomes two, which share what it had
-  parted : (views : List View) → IsSeated top hist reader consumer n views → (id : ℕ) (v left right : View) (reader' : ℕ) → get_elem? views id ≡ some v
-      → left.producer.shares + right.producer.shares ≡ v.producer.shares → (0 < v.producer.shares → 0 < left.producer.shares) → left.producer.seen_tail ≡ v.producer.seen_tail
-      → ((x : ℕ) → times_drawn x left.producer ≡ times_drawn x v.producer) → ((x : ℕ) → times_drawn x right.producer ≡ 0)
+  parted : (views : List View) → IsSeated top hist reader consumer n views
+      → (id : ℕ) (v left right : View) (reader' : ℕ) → get_elem? views id ≡ some v
+      → left.producer.shares + right.producer.shares ≡ v.producer.shares
+      → (0 < v.producer.shares → 0 < left.producer.shares) → left.producer.seen_tail ≡ v.producer.seen_tail
+      → ((x : ℕ) → times_drawn x left.producer ≡ times_drawn x v.producer)
+      → ((x : ℕ) → times_drawn x right.producer ≡ 0)
       → Knows top hist reader' consumer n id left → Knows top hist reader' consumer n (length views) right
       → ((j : ℕ) (u : View) → j ≢ id → Knows top hist reader consumer n j u → Knows top hist reader' consumer n j u)
       → IsSeated top hist reader' consumer n (set views id left ++ right ∷ [])
-  parted views s id v left right reader' at sum some_left seen drawn_left drawn_right knows_left knows_right others = record {
-    each = λ j u e. ⊎_elim
-        (λ was. each_after_set (Knows top hist reader consumer n) (Knows top hist reader' consumer n) views id left knows_left others s.each j u was)
-        (λ (t : (j ≡ length (set views id left)) × (right ≡ u)). subst (λ (z : ℕ × View). Knows top hist reader' consumer n z.0 z.1) (λ i. (sym (t.0 ∙ length-set views id left) i, t.1 i)) knows_right)
-        (at_more (set views id left) right u j e);
-    nobody = λ j past. let a = length-append (set views id left) (right ∷ []) in let b = length-set views id left in s.nobody j (omega arith);
-    shares =
-        (let before : ℕ = total shares_of views in
-        let cut : ℕ = total shares_of (set views id left) in
-        let all : total shares_of (set views id left ++ right ∷ []) ≡ cut + (right.producer.shares + 0) = total-append shares_of (set views id left) (right ∷ []) in
-        let exchange : cut + v.producer.shares ≡ before + left.producer.shares = total-set shares_of views id v left at in
-        let whole : before ≡ 65536 = s.shares in
-        let enough : cut + (right.producer.shares + 0) ≡ 65536 = omega arith in
-        all ∙ enough);
-    latest =
-        (let l = s.latest in
-        dite (ℕ_discrete l.seat id)
-        (λ e.
-        let is : l.view ≡ v = one_view views l.seat id l.view v l.there at e in
-        record {
-          seat = id;
-          view = left;
-          there = at_longer (set views id left) (right ∷ []) id left (set_here views id left (at_below views id v at));
-          rich = some_left (subst (λ (z : View). 0 < z.producer.shares) is l.rich);
-          sees = seen ∙ ap (λ (z : View). z.producer.seen_tail) (sym is) ∙ l.sees;
-        })
-        (λ ne. record { seat = l.seat; view = l.view; there = at_longer (set views id left) (right ∷ []) l.seat l.view (set_else views id l.seat left ne ∙ l.there); rich = l.rich; sees = l.sees }));
-    once = λ x.
-        let f = λ (z : View). times_drawn x z.producer in
-        let before : ℕ = total f views in
-        let cut : ℕ = total f (set views id left) in
-        let l : ℕ = times_drawn x left.producer in
-        let r : ℕ = times_drawn x right.producer in
-        let w : ℕ = times_drawn x v.producer in
-        let is : ℕ = once_below x n in
-        let all : total f (set views id left ++ right ∷ []) ≡ cut + (r + 0) = total-append f (set views id left) (right ∷ []) in
-        let exchange : cut + w ≡ before + l = total-set f views id v left at in
-        let same : l ≡ w = drawn_left x in
-        let none : r ≡ 0 = drawn_right x in
-        let whole : before ≡ is = s.once x in
-        let enough : cut + (r + 0) ≡ is = omega arith in
-        all ∙ enough;
-  }
+  parted views s id v left right reader' at sum some_left seen drawn_left drawn_right knows_left knows_right others =
+      record {
+        each = λ j u e. ⊎_elim
+            (λ was. each_after_set (Knows top hist reader consumer n)
+            (Knows top hist reader' consumer n) views id left knows_left others s.each j u was)
+            (λ (t : (j ≡ length (set views id left)) × (right ≡ u)). subst
+            (λ (z : ℕ × View). Knows top hist reader' consumer n z.0 z.1)
+            (λ i. (sym (t.0 ∙ length-set views id left) i, t.1 i)) knows_right)
+            (at_more (set views id left) right u j e);
+        nobody = λ j past. let a = length-append (set views id left) (right ∷ []) in let b =
+            length-set views id left in s.nobody j (omega arith);
+        shares =
+            (let before : ℕ = total shares_of views in
+            let cut : ℕ = total shares_of (set views id left) in
+            let all : total shares_of (set views id left ++ right ∷ []) ≡ cut + (right.producer.shares + 0) =
+            total-append shares_of (set views id left) (right ∷ []) in
+            let exchange : cut + v.producer.shares ≡ before + left.producer.shares =
+            total-set shares_of views id v left at in
+            let whole : before ≡ 65536 = s.shares in
+            let enough : cut + (right.producer.shares + 0) ≡ 65536 = omega arith in
+            all ∙ enough);
+        latest =
+            (let l = s.latest in
+            dite (ℕ_discrete l.seat id)
+            (λ e.
+            let is : l.view ≡ v = one_view views l.seat id l.view v l.there at e in
+            record {
+              seat = id;
+              view = left;
+              there =
+                  at_longer (set views id left) (right ∷ []) id left (set_here views id left (at_below views id v at));
+              rich = some_left (subst (λ (z : View). 0 < z.producer.shares) is l.rich);
+              sees = seen ∙ ap (λ (z : View). z.producer.seen_tail) (sym is) ∙ l.sees;
+            })
+            (λ ne. record {
+              seat = l.seat;
+              view = l.view;
+              there =
+                  at_longer (set views id left) (right ∷ []) l.seat l.view
+                  (set_else views id l.seat left ne ∙ l.there);
+              rich = l.rich;
+              sees = l.sees;
+            }));
+        once = λ x.
+            let f = λ (z : View). times_drawn x z.producer in
+            let before : ℕ = total f views in
+            let cut : ℕ = total f (set views id left) in
+            let l : ℕ = times_drawn x left.producer in
+            let r : ℕ = times_drawn x right.producer in
+            let w : ℕ = times_drawn x v.producer in
+            let is : ℕ = once_below x n in
+            let all : total f (set views id left ++ right ∷ []) ≡ cut + (r + 0) =
+            total-append f (set views id left) (right ∷ []) in
+            let exchange : cut + w ≡ before + l = total-set f views id v left at in
+            let same : l ≡ w = drawn_left x in
+            let none : r ≡ 0 = drawn_right x in
+            let whole : before ≡ is = s.once x in
+            let enough : cut + (r + 0) ≡ is = omega arith in
+            all ∙ enough;
+      }
 
   -- the other seat, as it was
-  other_was : (views : List View) (id other : ℕ) (both w : View) → other ≢ id → get_elem? (set views id both) other ≡ some w → get_elem? views other ≡ some w
-  other_was views id other both w ne there = ⊎_elim (λ (t : (other ≡ id) × (both ≡ w)). absurd (ne t.0)) (λ (t : (other ≢ id) × (get_elem? views other ≡ some w)). t.1) (at_set views id other both w there)
+  other_was : (views : List View) (id other : ℕ) (both w : View) → other ≢ id
+      → get_elem? (set views id both) other ≡ some w → get_elem? views other ≡ some w
+  other_was views id other both w ne there =
+      ⊎_elim (λ (t : (other ≡ id) × (both ≡ w)). absurd (ne t.0))
+      (λ (t : (other ≢ id) × (get_elem? views other ≡ some w)). t.1) (at_set views id other both w there)
 
   -- two seats become one, and the history goes on as hist'
-  met : (views : List View) → IsSeated top hist reader consumer n views → (id other : ℕ) (v w both : View) (top' : ℕ) (hist' : OwnedHistory) (reader' : ℕ) → get_elem? views id ≡ some v → other ≢ id → get_elem? (set views id both) other ≡ some w
-      → both.producer.shares ≡ v.producer.shares + w.producer.shares → ((x : ℕ) → times_drawn x both.producer ≡ times_drawn x v.producer + times_drawn x w.producer) → top' ≡ top
-      → (v.producer.seen_tail ≡ top → both.producer.seen_tail ≡ top) → (0 < w.producer.shares → w.producer.seen_tail ≡ top → both.producer.seen_tail ≡ top)
+  met : (views : List View) → IsSeated top hist reader consumer n views
+      → (id other : ℕ) (v w both : View) (top' : ℕ) (hist' : OwnedHistory) (reader' : ℕ) → get_elem? views id ≡ some v
+      → other ≢ id → get_elem? (set views id both) other ≡ some w
+      → both.producer.shares ≡ v.producer.shares + w.producer.shares
+      → ((x : ℕ) → times_drawn x both.producer ≡ times_drawn x v.producer + times_drawn x w.producer) → top' ≡ top
+      → (v.producer.seen_tail ≡ top → both.producer.seen_tail ≡ top)
+      → (0 < w.producer.shares → w.producer.seen_tail ≡ top → both.producer.seen_tail ≡ top)
       → Knows top' hist' reader' consumer n id both → Knows top' hist' reader' consumer n other spent
-      → ((j : ℕ) (u : View) → j ≢ id → j ≢ other → Knows top hist reader consumer n j u → Knows top' hist' reader' consumer n j u)
+      → ((j : ℕ) (u : View) → j ≢ id → j ≢ other → Knows top hist reader consumer n j u
+      → Knows top' hist' reader' consumer n j u)
       → ((j : ℕ) → length views ≤ j → owned_by j hist' ≡ owned_by j hist)
       → IsSeated top' hist' reader' consumer n (set (set views id both) other spent)
-  met views s id other v w both top' hist' reader' at ne there sum drawn tops seen_v seen_w knows_both knows_spent others outside = record {
-    each = λ j u e. ⊎_elim
-        (λ (t : (j ≡ other) × (spent ≡ u)). subst (λ (z : ℕ × View). Knows top' hist' reader' consumer n z.0 z.1) (λ i. (sym t.0 i, t.1 i)) knows_spent)
-        (λ (t : (j ≢ other) × (get_elem? (set views id both) j ≡ some u)). ⊎_elim
-        (λ (t' : (j ≡ id) × (both ≡ u)). subst (λ (z : ℕ × View). Knows top' hist' reader' consumer n z.0 z.1) (λ i. (sym t'.0 i, t'.1 i)) knows_both)
-        (λ (t' : (j ≢ id) × (get_elem? views j ≡ some u)). others j u t'.0 t.0 (s.each j u t'.1))
-        (at_set views id j both u t.1))
-        (at_set (set views id both) other j spent u e);
-    nobody = λ j past. let a = length-set (set views id both) other spent in let b = length-set views id both in let past' : length views ≤ j = omega arith in outside j past' ∙ s.nobody j past';
-    shares =
-        (let before : ℕ = total shares_of views in
-        let one : ℕ = total shares_of (set views id both) in
-        let two : ℕ = total shares_of (set (set views id both) other spent) in
-        let first : one + v.producer.shares ≡ before + both.producer.shares = total-set shares_of views id v both at in
-        let second : two + w.producer.shares ≡ one + 0 = total-set shares_of (set views id both) other w spent there in
-        let whole : before ≡ 65536 = s.shares in
-        let done : two ≡ 65536 = omega arith in
-        done);
-    latest =
-        (let l = s.latest in
-        let at_id = set_else (set views id both) other id spent (λ e. ne (sym e)) ∙ set_here views id both (at_below views id v at) in
-        dite (ℕ_discrete l.seat id)
-        (λ e.
-        let is : l.view ≡ v = one_view views l.seat id l.view v l.there at e in
-        let rich = subst (λ (z : View). 0 < z.producer.shares) is l.rich in
-        record { seat = id; view = both; there = at_id; rich = omega arith; sees = seen_v (ap (λ (z : View). z.producer.seen_tail) (sym is) ∙ l.sees) ∙ sym tops })
-        (λ not_id. dite (ℕ_discrete l.seat other)
-        (λ e.
-        let is : l.view ≡ w = one_view views l.seat other l.view w l.there (other_was views id other both w ne there) e in
-        let rich = subst (λ (z : View). 0 < z.producer.shares) is l.rich in
-        record { seat = id; view = both; there = at_id; rich = omega arith; sees = seen_w rich (ap (λ (z : View). z.producer.seen_tail) (sym is) ∙ l.sees) ∙ sym tops })
-        (λ not_other. record { seat = l.seat; view = l.view; there = set_else (set views id both) other l.seat spent not_other ∙ set_else views id l.seat both not_id ∙ l.there; rich = l.rich; sees = l.sees ∙ sym tops })));
-    once = λ x.
-        let f = λ (z : View). times_drawn x z.producer in
-        let before : ℕ = total f views in
-        let one : ℕ = total f (set views id both) in
-        let two : ℕ = total f (set (set views id both) other spent) in
-        let a : ℕ = times_drawn x v.producer in
-        let b : ℕ = times_drawn x w.producer in
-        let c : ℕ = times_drawn x both.producer in
-        let is : ℕ = once_below x n in
-        let first : one + a ≡ before + c = total-set f views id v both at in
-        let second : two + b ≡ one + 0 = total-set f (set views id both) other w spent there in
-        let joined : c ≡ a + b = drawn x in
-        let whole : before ≡ is = s.once x in
-        let done : two ≡ is = omega arith in
-        done;
-  }
+  met views s id other v w both top' hist' reader' at ne there sum drawn tops seen_v seen_w knows_both knows_spent
+      others outside = record {
+        each = λ j u e. ⊎_elim
+            (λ (t : (j ≡ other) × (spent ≡ u)). subst (λ (z : ℕ × View). Knows top' hist' reader' consumer n z.0 z.1)
+            (λ i. (sym t.0 i, t.1 i)) knows_spent)
+            (λ (t : (j ≢ other) × (get_elem? (set views id both) j ≡ some u)). ⊎_elim
+            (λ (t' : (j ≡ id) × (both ≡ u)). subst (λ (z : ℕ × View). Knows top' hist' reader' consumer n z.0 z.1)
+            (λ i. (sym t'.0 i, t'.1 i)) knows_both)
+            (λ (t' : (j ≢ id) × (get_elem? views j ≡ some u)). others j u t'.0 t.0 (s.each j u t'.1))
+            (at_set views id j both u t.1))
+            (at_set (set views id both) other j spent u e);
+        nobody = λ j past. let a = length-set (set views id both) other spent in let b =
+            length-set views id both in let past' : length views ≤ j =
+            omega arith in outside j past' ∙ s.nobody j past';
+        shares =
+            (let before : ℕ = total shares_of views in
+            let one : ℕ = total shares_of (set views id both) in
+            let two : ℕ = total shares_of (set (set views id both) other spent) in
+            let first : one + v.producer.shares ≡ before + both.producer.shares =
+            total-set shares_of views id v both at in
+            let second : two + w.producer.shares ≡ one + 0 =
+            total-set shares_of (set views id both) other w spent there in
+            let whole : before ≡ 65536 = s.shares in
+            let done : two ≡ 65536 = omega arith in
+            done);
+        latest =
+            (let l = s.latest in
+            let at_id = set_else (set views id both) other id spent (λ e. ne (sym e))
+            ∙ set_here views id both (at_below views id v at) in
+            dite (ℕ_discrete l.seat id)
+            (λ e.
+            let is : l.view ≡ v = one_view views l.seat id l.view v l.there at e in
+            let rich = subst (λ (z : View). 0 < z.producer.shares) is l.rich in
+            record {
+              seat = id;
+              view = both;
+              there = at_id;
+              rich = omega arith;
+              sees =
+                  seen_v (ap (λ (z : View). z.producer.seen_tail) (sym is) ∙ l.sees) ∙ sym tops;
+            })
+            (λ not_id. dite (ℕ_discrete l.seat other)
+            (λ e.
+            let is : l.view ≡ w =
+            one_view views l.seat other l.view w l.there (other_was views id other both w ne there) e in
+            let rich = subst (λ (z : View). 0 < z.producer.shares) is l.rich in
+            record {
+              seat = id;
+              view = both;
+              there = at_id;
+              rich = omega arith;
+              sees =
+                  seen_w rich (ap (λ (z : View). z.producer.seen_tail) (sym is) ∙ l.sees) ∙ sym tops;
+            })
+            (λ not_other. record {
+              seat = l.seat;
+              view = l.view;
+              there =
+                  set_else (set views id both) other l.seat spent not_other ∙ set_else views id l.seat both not_id
+                  ∙ l.there;
+              rich = l.rich;
+              sees = l.sees ∙ sym tops;
+            })));
+        once = λ x.
+            let f = λ (z : View). times_drawn x z.producer in
+            let before : ℕ = total f views in
+            let one : ℕ = total f (set views id both) in
+            let two : ℕ = total f (set (set views id both) other spent) in
+            let a : ℕ = times_drawn x v.producer in
+            let b : ℕ = times_drawn x w.producer in
+            let c : ℕ = times_drawn x both.producer in
+            let is : ℕ = once_below x n in
+            let first : one + a ≡ before + c = total-set f views id v both at in
+            let second : two + b ≡ one + 0 = total-set f (set views id both) other w spent there in
+            let joined : c ≡ a + b = drawn x in
+            let whole : before ≡ is = s.once x in
+            let done : two ≡ is = omega arith in
+            done;
+      }
 
 module _ (C start : ℕ) where
-  reseat : (words : List ℕ) (views views' : List View) (r : Kept C start words views) (reader : ℕ) → IsSeated (staged_end start (all_of r.hist)) r.hist reader r.consumer r.drawn views' → Kept C start words views'
-  reseat words views views' r reader seated = record { lawful = r.lawful; hist = r.hist; reader = reader; consumer = r.consumer; drawn = r.drawn; memory = r.memory; service = r.service; seated = seated }
+  reseat : (words : List ℕ) (views views' : List View) (r : Kept C start words views) (reader : ℕ)
+      → IsSeated (staged_end start (all_of r.hist)) r.hist reader r.consumer r.drawn views' → Kept C start words views'
+  reseat words views views' r reader seated =
+      record {
+        lawful = r.lawful;
+        hist = r.hist;
+        reader = reader;
+        consumer = r.consumer;
+        drawn = r.drawn;
+        memory =
+            r.memory;
+        service = r.service;
+        seated = seated;
+      }
 
-  pub splits_consumer : (id : ℕ) (v : View) → v.consumes ≡ true → Splits (λ (s : State Wanted View). Kept C start s.words s.views) id v (without_consumer v) (consumer_alone v)
+  pub splits_consumer : (id : ℕ) (v : View) → v.consumes ≡ true
+      → Splits (λ (s : State Wanted View). Kept C start s.words s.views) id v (without_consumer v) (consumer_alone v)
   splits_consumer id v consumes s r at =
       let own = r.seated.each id v at in
       let mine = own.consumes consumes in
       let shares : ℕ = v.producer.shares in
       let sum : shares + 0 ≡ shares = omega arith in
-      reseat s.words s.views _ r (length s.views) (parted (staged_end start (all_of r.hist)) r.hist r.reader r.consumer r.drawn s.views r.seated id v (without_consumer v) (consumer_alone v) (length s.views) at sum (λ rich. rich) refl (λ x. refl) (λ x. refl)
-      (record { claims = own.claims; tail_seen = own.tail_seen; head_seen = own.head_seen; idle = own.idle; served = own.served; consumes = λ e. absurd (false≢true e) })
+      reseat s.words s.views _ r (length s.views)
+      (parted (staged_end start (all_of r.hist)) r.hist r.reader r.consumer r.drawn s.views r.seated id v
+      (without_consumer v) (consumer_alone v) (length s.views) at sum (λ rich. rich) refl (λ x. refl) (λ x. refl)
+      (record {
+        claims = own.claims;
+        tail_seen = own.tail_seen;
+        head_seen = own.head_seen;
+        idle = own.idle;
+        served =
+            own.served;
+        consumes = λ e. absurd (false≢true e);
+      })
       (record {
         claims = sym (r.seated.nobody (length s.views) (omega arith));
         tail_seen = own.tail_seen;
@@ -150,16 +232,35 @@ module _ (C start : ℕ) where
         served = (record { draws = omega arith; heartbeats = omega arith }, tt);
         consumes = λ _. (refl, mine.1);
       })
-      (λ j u ne f. record { claims = f.claims; tail_seen = f.tail_seen; head_seen = f.head_seen; idle = f.idle; served = f.served; consumes = λ e. absurd (ne ((f.consumes e).0 ∙ sym mine.0)) }))
+      (λ j u ne f. record {
+        claims = f.claims;
+        tail_seen = f.tail_seen;
+        head_seen = f.head_seen;
+        idle = f.idle;
+        served =
+            f.served;
+        consumes = λ e. absurd (ne ((f.consumes e).0 ∙ sym mine.0));
+      }))
 
-  pub splits_producer : (id : ℕ) (v : View) → 1 < v.producer.shares → Splits (λ (s : State Wanted View). Kept C start s.words s.views) id v (without_share v) (producer_alone v)
+  pub splits_producer : (id : ℕ) (v : View) → 1 < v.producer.shares
+      → Splits (λ (s : State Wanted View). Kept C start s.words s.views) id v (without_share v) (producer_alone v)
   splits_producer id v rich s r at =
       let own = r.seated.each id v at in
       let shares : ℕ = v.producer.shares in
       let sum : shares - 1 + 1 ≡ shares = omega arith in
       let left : 0 < shares - 1 = omega arith in
-      reseat s.words s.views _ r r.reader (parted (staged_end start (all_of r.hist)) r.hist r.reader r.consumer r.drawn s.views r.seated id v (without_share v) (producer_alone v) r.reader at sum (λ _. left) refl (λ x. refl) (λ x. refl)
-      (record { claims = own.claims; tail_seen = own.tail_seen; head_seen = own.head_seen; idle = λ none. absurd (omega arith); served = own.served; consumes = own.consumes })
+      reseat s.words s.views _ r r.reader (parted
+      (staged_end start (all_of r.hist)) r.hist r.reader r.consumer r.drawn s.views r.seated id v (without_share v)
+      (producer_alone v) r.reader at sum (λ _. left) refl (λ x. refl) (λ x. refl)
+      (record {
+        claims = own.claims;
+        tail_seen = own.tail_seen;
+        head_seen = own.head_seen;
+        idle =
+            λ none. absurd (omega arith);
+        served = own.served;
+        consumes = own.consumes;
+      })
       (record {
         claims = sym (r.seated.nobody (length s.views) (omega arith));
         tail_seen = own.tail_seen;
@@ -170,7 +271,8 @@ module _ (C start : ℕ) where
       })
       (λ j u ne f. f))
 
-  knows_spent : (top : ℕ) (hist : OwnedHistory) (reader : ℕ) (consumer : ConsumerView) (n id : ℕ) → [] ≡ owned_by id hist → Knows top hist reader consumer n id spent
+  knows_spent : (top : ℕ) (hist : OwnedHistory) (reader : ℕ) (consumer : ConsumerView) (n id : ℕ)
+      → [] ≡ owned_by id hist → Knows top hist reader consumer n id spent
   knows_spent top hist reader consumer n id none = record {
     claims = none;
     tail_seen = omega arith;
@@ -180,22 +282,43 @@ module _ (C start : ℕ) where
     consumes = λ e. absurd (false≢true e);
   }
 
-  pub joins_consumer : (id : ℕ) (v : View) (other : ℕ) (w : View) → w.consumes ≡ true → w.producer.shares ≡ 0 → Joins (λ (s : State Wanted View). Kept C start s.words s.views) id v other w (with_consumer_of v w) spent
+  pub joins_consumer : (id : ℕ) (v : View) (other : ℕ) (w : View) → w.consumes ≡ true → w.producer.shares ≡ 0
+      → Joins (λ (s : State Wanted View). Kept C start s.words s.views) id v other w (with_consumer_of v w) spent
   joins_consumer id v other w consumes poor s r at ne there =
       let top : ℕ = staged_end start (all_of r.hist) in
       let own = r.seated.each id v at in
-      let its = r.seated.each other w (other_was top r.hist r.reader r.consumer r.drawn s.views id other (with_consumer_of v w) w ne there) in
+      let its = r.seated.each other w (other_was top r.hist r.reader r.consumer r.drawn s.views id other
+      (with_consumer_of v w) w ne there) in
       let mine = its.consumes consumes in
       let idle = its.idle poor in
-      reseat s.words s.views _ r id (met top r.hist r.reader r.consumer r.drawn s.views r.seated id other v w (with_consumer_of v w) top r.hist id at ne there (omega arith)
-      (λ x. let a : ℕ = times_drawn x v.producer in let b : ℕ = times_drawn x w.producer in let none : b ≡ 0 = idle.draws x in let done : a ≡ a + b = omega arith in done)
+      reseat s.words s.views _ r id (met top r.hist r.reader r.consumer r.drawn s.views r.seated id other v w
+      (with_consumer_of v w) top r.hist id at ne there (omega arith)
+      (λ x. let a : ℕ = times_drawn x v.producer in let b : ℕ = times_drawn x w.producer in let none : b ≡ 0 =
+      idle.draws x in let done : a ≡ a + b = omega arith in done)
       refl (λ e. e) (λ rich e. absurd (omega arith))
-      (record { claims = own.claims; tail_seen = own.tail_seen; head_seen = own.head_seen; idle = own.idle; served = own.served; consumes = λ _. (refl, mine.1) })
+      (record {
+        claims = own.claims;
+        tail_seen = own.tail_seen;
+        head_seen = own.head_seen;
+        idle = own.idle;
+        served =
+            own.served;
+        consumes = λ _. (refl, mine.1);
+      })
       (knows_spent top r.hist id r.consumer r.drawn other (sym idle.claims ∙ its.claims))
-      (λ j u a b f. record { claims = f.claims; tail_seen = f.tail_seen; head_seen = f.head_seen; idle = f.idle; served = f.served; consumes = λ e. absurd (b ((f.consumes e).0 ∙ sym mine.0)) })
+      (λ j u a b f. record {
+        claims = f.claims;
+        tail_seen = f.tail_seen;
+        head_seen = f.head_seen;
+        idle =
+            f.idle;
+        served = f.served;
+        consumes = λ e. absurd (b ((f.consumes e).0 ∙ sym mine.0));
+      })
       (λ j past. refl))
 
-  pub joins_producer : (id : ℕ) (v : View) (other : ℕ) (w : View) → w.consumes ≡ false → 0 < w.producer.shares → Joins (λ (s : State Wanted View). Kept C start s.words s.views) id v other w (with_producer_of v w) spent
+  pub joins_producer : (id : ℕ) (v : View) (other : ℕ) (w : View) → w.consumes ≡ false → 0 < w.producer.shares
+      → Joins (λ (s : State Wanted View). Kept C start s.words s.views) id v other w (with_producer_of v w) spent
   joins_producer id v other w consumes rich s r at ne there =
       let h : OwnedHistory = r.hist in
       let h' : OwnedHistory = handed_over other id h in
@@ -217,23 +340,30 @@ module _ (C start : ℕ) where
         drawn = r.drawn;
         memory = subst (λ l. IsMemory C start s.words l r.consumer) (sym same) r.memory;
         service = r.service;
-        seated = met top h r.reader r.consumer r.drawn s.views r.seated id other v w (with_producer_of v w) (staged_end start (all_of h')) h' r.reader at ne there refl
+        seated = met top h r.reader r.consumer r.drawn s.views r.seated id other v w (with_producer_of v w)
+            (staged_end start (all_of h')) h' r.reader at ne there refl
             (λ x.
             let f = λ (z : Service). times x z.draws in
             let a : ℕ = total f (v.producer.service ∷ v.producer.joined) in
             let b : ℕ = total f (w.producer.service ∷ w.producer.joined) in
-            let done : total f ((v.producer.service ∷ v.producer.joined) ++ w.producer.service ∷ w.producer.joined) ≡ a + b = total-append f (v.producer.service ∷ v.producer.joined) (w.producer.service ∷ w.producer.joined) in
+            let done : total f ((v.producer.service ∷ v.producer.joined) ++ w.producer.service ∷ w.producer.joined)
+            ≡ a + b = total-append f (v.producer.service ∷ v.producer.joined)
+            (w.producer.service ∷ w.producer.joined) in
             done)
             tops (λ e. omega arith) (λ _ e. omega arith)
             (record {
-              claims = (λ i. interleaved (own.claims i) (its.claims i)) ∙ sym (owned_by-handed_over C start other id h ne r.memory.placed);
-              tail_seen = subst (λ k. max v.producer.seen_tail w.producer.seen_tail ≤ k) (sym tops) (let both : max v.producer.seen_tail w.producer.seen_tail ≤ top = omega arith in both);
+              claims = (λ i. interleaved (own.claims i) (its.claims i))
+                  ∙ sym (owned_by-handed_over C start other id h ne r.memory.placed);
+              tail_seen = subst (λ k. max v.producer.seen_tail w.producer.seen_tail ≤ k) (sym tops)
+                  (let both : max v.producer.seen_tail w.producer.seen_tail ≤ top = omega arith in both);
               head_seen = omega arith;
               idle = λ none. absurd (let sum : v.producer.shares + w.producer.shares ≡ 0 = none in omega arith);
-              served = served_append r.drawn r.consumer.heartbeats (v.producer.service ∷ v.producer.joined) (w.producer.service ∷ w.producer.joined) own.served its.served;
+              served = served_append r.drawn r.consumer.heartbeats (v.producer.service ∷ v.producer.joined)
+                  (w.producer.service ∷ w.producer.joined) own.served its.served;
               consumes = own.consumes;
             })
-            (knows_spent (staged_end start (all_of h')) h' r.reader r.consumer r.drawn other (sym (owned_by-handed_away other id h ne)))
+            (knows_spent (staged_end start (all_of h')) h' r.reader r.consumer r.drawn other
+            (sym (owned_by-handed_away other id h ne)))
             (λ j u a b f. record {
               claims = f.claims ∙ sym (owned_by-handed_over_other j other id h b a);
               tail_seen = subst (λ k. u.producer.seen_tail ≤ k) (sym tops) f.tail_seen;
@@ -242,5 +372,7 @@ module _ (C start : ℕ) where
               served = f.served;
               consumes = f.consumes;
             })
-            (λ j past. owned_by-handed_over_other j other id h (λ e. let b = at_below s.views other w was in omega arith) (λ e. let b = at_below s.views id v at in omega arith));
+            (λ j past. owned_by-handed_over_other j other id h
+            (λ e. let b = at_below s.views other w was in omega arith)
+            (λ e. let b = at_below s.views id v at in omega arith));
       }

@@ -47,7 +47,8 @@ once_below-more x n =
           omega arith
     ])
 
-pub times_drawn-more : (x n : ℕ) (p : ProducerView) → times_drawn x (with_draw n p) + once_below x n ≡ times_drawn x p + once_below x (n + 1)
+pub times_drawn-more : (x n : ℕ) (p : ProducerView)
+    → times_drawn x (with_draw n p) + once_below x n ≡ times_drawn x p + once_below x (n + 1)
 times_drawn-more x n p =
     let rest : ℕ = total (λ (s : Service). times x s.draws) p.joined in
     let old : ℕ = times x p.service.draws in
@@ -62,31 +63,45 @@ times_drawn-more x n p =
 
 -- ---- heartbeats
 
-pub heartbeats_bounded : (low : ℕ) (stored : List ℕ) (xs : List (ℕ × ℕ)) → NeverGoBack low stored xs → low ≤ length stored
+pub heartbeats_bounded : (low : ℕ) (stored : List ℕ) (xs : List (ℕ × ℕ)) → NeverGoBack low stored xs
+    → low ≤ length stored
 heartbeats_bounded low stored [] h = h
 heartbeats_bounded low stored (x ∷ xs) h =
     let low_le = h.0 in
     let below = at_below (0 ∷ stored) x.0 x.1 h.1 in
     omega arith
 
-pub heartbeats_append : (low : ℕ) (stored : List ℕ) (xs : List (ℕ × ℕ)) (value : ℕ) → get_elem? (0 ∷ stored) (length stored) ≡ some value → NeverGoBack low stored xs → NeverGoBack low stored (xs ++ (length stored, value) ∷ [])
+pub heartbeats_append : (low : ℕ) (stored : List ℕ) (xs : List (ℕ × ℕ)) (value : ℕ)
+    → get_elem? (0 ∷ stored) (length stored) ≡ some value → NeverGoBack low stored xs
+    → NeverGoBack low stored (xs ++ (length stored, value) ∷ [])
 heartbeats_append low stored [] value last h = (h, last, omega arith)
 heartbeats_append low stored (x ∷ xs) value last h = (h.0, h.1, heartbeats_append x.0 stored xs value last h.2)
 
-pub heartbeats_more : (low : ℕ) (stored : List ℕ) (value : ℕ) (xs : List (ℕ × ℕ)) → NeverGoBack low stored xs → NeverGoBack low (stored ++ value ∷ []) xs
+pub heartbeats_more : (low : ℕ) (stored : List ℕ) (value : ℕ) (xs : List (ℕ × ℕ)) → NeverGoBack low stored xs
+    → NeverGoBack low (stored ++ value ∷ []) xs
 heartbeats_more low stored value [] h = omega (arith, length-append {A = ℕ} stored (value ∷ []))
-heartbeats_more low stored value (x ∷ xs) h = (h.0, at_longer (0 ∷ stored) (value ∷ []) x.0 x.1 h.1, heartbeats_more x.0 stored value xs h.2)
+heartbeats_more low stored value (x ∷ xs) h =
+    (h.0, at_longer (0 ∷ stored) (value ∷ []) x.0 x.1 h.1, heartbeats_more x.0 stored value xs h.2)
 
 -- ---- both
 
-pub served_draw_more : (n : ℕ) (stored : List ℕ) (ss : List Service) → AreServed n stored ss → AreServed (n + 1) stored ss
+pub served_draw_more : (n : ℕ) (stored : List ℕ) (ss : List Service) → AreServed n stored ss
+    → AreServed (n + 1) stored ss
 served_draw_more n stored [] h = tt
-served_draw_more n stored (s ∷ ss) h = (record { draws = rising_more 0 n (n + 1) s.draws (omega arith) h.0.draws; heartbeats = h.0.heartbeats }, served_draw_more n stored ss h.1)
+served_draw_more n stored (s ∷ ss) h = (
+  record { draws = rising_more 0 n (n + 1) s.draws (omega arith) h.0.draws; heartbeats = h.0.heartbeats },
+  served_draw_more n stored ss h.1,
+)
 
-pub served_heartbeat_more : (n : ℕ) (stored : List ℕ) (value : ℕ) (ss : List Service) → AreServed n stored ss → AreServed n (stored ++ value ∷ []) ss
+pub served_heartbeat_more : (n : ℕ) (stored : List ℕ) (value : ℕ) (ss : List Service) → AreServed n stored ss
+    → AreServed n (stored ++ value ∷ []) ss
 served_heartbeat_more n stored value [] h = tt
-served_heartbeat_more n stored value (s ∷ ss) h = (record { draws = h.0.draws; heartbeats = heartbeats_more 0 stored value s.heartbeats h.0.heartbeats }, served_heartbeat_more n stored value ss h.1)
+served_heartbeat_more n stored value (s ∷ ss) h = (
+  record { draws = h.0.draws; heartbeats = heartbeats_more 0 stored value s.heartbeats h.0.heartbeats },
+  served_heartbeat_more n stored value ss h.1,
+)
 
-pub served_append : (n : ℕ) (stored : List ℕ) (ss ts : List Service) → AreServed n stored ss → AreServed n stored ts → AreServed n stored (ss ++ ts)
+pub served_append : (n : ℕ) (stored : List ℕ) (ss ts : List Service) → AreServed n stored ss → AreServed n stored ts
+    → AreServed n stored (ss ++ ts)
 served_append n stored [] ts h g = g
 served_append n stored (s ∷ ss) ts h g = (h.0, served_append n stored ss ts h.1 g)

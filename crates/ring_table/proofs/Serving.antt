@@ -16,7 +16,9 @@ use Rattle.ring_table.proofs.ServiceLemmas.{rising_append, times_drawn-more, hea
 use Rattle.ring_table.proofs.Loading.{Ok, looked, sees}
 
 module _ (C start : ℕ) where
-  pub loads_cache : (slots id : ℕ) (me : Mine) → me.0.capacity ≡ C → Allows (Ok C start) slots id me (head_cache_index C) (λ n. n) (λ n me'. (me'.1 ≡ me.1) × LoadsCache me.0.capacity me.0 n me'.0 × Logs (head_cache_index C) n me.0 me'.0)
+  pub loads_cache : (slots id : ℕ) (me : Mine) → me.0.capacity ≡ C
+      → Allows (Ok C start) slots id me (head_cache_index C) (λ n. n)
+      (λ n me'. (me'.1 ≡ me.1) × LoadsCache me.0.capacity me.0 n me'.0 × Logs (head_cache_index C) n me.0 me'.0)
   loads_cache slots id me cap s r wide at small =
       let v : View = me.0 in
       let n : ℕ = slice_index s.words (head_cache_index C) in
@@ -29,19 +31,23 @@ module _ (C start : ℕ) where
         logged (head_cache_index C) n (with_producer (with_head (max v.producer.seen_head n) v.producer) v),
         keeps,
         tt,
-        sees C start s.words s.views r id (head_cache_index C) v at v.producer.seen_tail (max v.producer.seen_head n) _ (omega arith) k.tail_seen (omega arith),
+        sees C start s.words s.views r id (head_cache_index C) v at v.producer.seen_tail (max v.producer.seen_head n) _
+            (omega arith) k.tail_seen (omega arith),
         (
           refl,
           record {
-            view = ap (λ c. logged (head_cache_index c) n (with_producer (with_head (max v.producer.seen_head n) v.producer) v)) (sym cap);
+            view = ap (λ c. logged (head_cache_index c) n
+                (with_producer (with_head (max v.producer.seen_head n) v.producer) v)) (sym cap);
             limit = omega arith;
-            sole = λ all. let e = sole_sees_top s.views id v (staged_end start (all_of r.hist)) r.seated.shares r.seated.latest at all in omega arith;
+            sole = λ all. let e = sole_sees_top s.views id v
+                (staged_end start (all_of r.hist)) r.seated.shares r.seated.latest at all in omega arith;
           },
           refl,
         ),
       )
 
-  pub stores_cache : (slots id value : ℕ) (me : Mine) → value ≤ me.0.producer.seen_head → Allows (Ok C start) slots id me (head_cache_index C) (λ _. value) (λ _ me'. (me'.1 ≡ me.1) × (me'.0 ≡ me.0))
+  pub stores_cache : (slots id value : ℕ) (me : Mine) → value ≤ me.0.producer.seen_head
+      → Allows (Ok C start) slots id me (head_cache_index C) (λ _. value) (λ _ me'. (me'.1 ≡ me.1) × (me'.0 ≡ me.0))
   stores_cache slots id value me le s r wide at small =
       let v : View = me.0 in
       let i : ℕ = head_cache_index C in
@@ -57,19 +63,24 @@ module _ (C start : ℕ) where
           reader = r.reader;
           consumer = r.consumer;
           drawn = r.drawn;
-          memory = memory_elsewhere C start r.lawful s.words r.consumer (all_of r.hist) r.memory i value (omega arith) (λ e. omega arith) (λ e. omega arith) r.consumer.heartbeats;
+          memory = memory_elsewhere C start r.lawful s.words r.consumer (all_of r.hist) r.memory i value (omega arith)
+              (λ e. omega arith) (λ e. omega arith) r.consumer.heartbeats;
           service = record {
             cache = omega arith;
-            correlation = get_or-set_other s.words i (correlation_index C) value 0 (omega arith) ∙ r.service.correlation;
+            correlation =
+                get_or-set_other s.words i (correlation_index C) value 0 (omega arith) ∙ r.service.correlation;
             unnamed = λ j un. get_or-set_other s.words i j value 0 un.not_cache ∙ r.service.unnamed j un;
-            heartbeat = r.service.heartbeat ∙ ap some (sym (get_or-set_other s.words i (heartbeat_index C) value 0 (omega arith)));
+            heartbeat = r.service.heartbeat ∙ ap some
+                (sym (get_or-set_other s.words i (heartbeat_index C) value 0 (omega arith)));
           };
           seated = r.seated;
         }),
         (refl, refl),
       )
 
-  pub draws_id : (slots id : ℕ) (me : Mine) → 0 < me.0.producer.shares → Allows (Ok C start) slots id me (correlation_index C) (λ n. (n + 1) % 2 ^ 64) (λ n me'. (me'.1 ≡ me.1) × DrawsId me.0 n me'.0)
+  pub draws_id : (slots id : ℕ) (me : Mine) → 0 < me.0.producer.shares
+      → Allows (Ok C start) slots id me (correlation_index C) (λ n. (n + 1) % 2 ^ 64)
+      (λ n me'. (me'.1 ≡ me.1) × DrawsId me.0 n me'.0)
   draws_id slots id me rich s r wide at small =
       let v : View = me.0 in
       let i : ℕ = correlation_index C in
@@ -81,7 +92,8 @@ module _ (C start : ℕ) where
       let top : ℕ = staged_end start (all_of r.hist) in
       let w : View = with_producer (with_draw k v.producer) v in
       let words_wide = r.memory.wide in
-      let cached : get_or (set s.words i value) (head_cache_index C) 0 ≡ get_or s.words (head_cache_index C) 0 = get_or-set_other s.words i (head_cache_index C) value 0 (omega arith) in
+      let cached : get_or (set s.words i value) (head_cache_index C) 0 ≡ get_or s.words (head_cache_index C) 0 =
+      get_or-set_other s.words i (head_cache_index C) value 0 (omega arith) in
       let cache = r.service.cache in
       let next : value ≡ (k + 1) % 2 ^ 64 = omega arith in (
         w,
@@ -93,12 +105,14 @@ module _ (C start : ℕ) where
           reader = r.reader;
           consumer = r.consumer;
           drawn = k + 1;
-          memory = memory_elsewhere C start r.lawful s.words r.consumer (all_of r.hist) r.memory i value (omega arith) (λ e. omega arith) (λ e. omega arith) r.consumer.heartbeats;
+          memory = memory_elsewhere C start r.lawful s.words r.consumer (all_of r.hist) r.memory i value (omega arith)
+              (λ e. omega arith) (λ e. omega arith) r.consumer.heartbeats;
           service = record {
             cache = omega arith;
             correlation = get_or-set_same s.words i value 0 (omega arith) ∙ next;
             unnamed = λ j un. get_or-set_other s.words i j value 0 un.not_correlation ∙ r.service.unnamed j un;
-            heartbeat = r.service.heartbeat ∙ ap some (sym (get_or-set_other s.words i (heartbeat_index C) value 0 (omega arith)));
+            heartbeat = r.service.heartbeat ∙ ap some
+                (sym (get_or-set_other s.words i (heartbeat_index C) value 0 (omega arith)));
           };
           seated = reseated top r.hist r.reader r.consumer k s.views r.seated id v at top r.hist r.consumer (k + 1) w
               (record {
@@ -107,11 +121,27 @@ module _ (C start : ℕ) where
                 head_seen = own.head_seen;
                 idle = λ none. absurd (omega arith);
                 served =
-                    (let all = served_draw_more k r.consumer.heartbeats (v.producer.service ∷ v.producer.joined) own.served in
-                    (record { draws = rising_append 0 k v.producer.service.draws own.served.0.draws; heartbeats = all.0.heartbeats }, all.1));
+                    (let all = served_draw_more k r.consumer.heartbeats
+                    (v.producer.service ∷ v.producer.joined) own.served in (
+                      record {
+                        draws = rising_append 0 k v.producer.service.draws own.served.0.draws;
+                        heartbeats =
+                            all.0.heartbeats;
+                      },
+                      all.1,
+                    ));
                 consumes = own.consumes;
               })
-              (λ j u ne f. record { claims = f.claims; tail_seen = f.tail_seen; head_seen = f.head_seen; idle = f.idle; served = served_draw_more k r.consumer.heartbeats (u.producer.service ∷ u.producer.joined) f.served; consumes = f.consumes })
+              (λ j u ne f. record {
+                claims = f.claims;
+                tail_seen = f.tail_seen;
+                head_seen = f.head_seen;
+                idle =
+                    f.idle;
+                served = served_draw_more k r.consumer.heartbeats
+                    (u.producer.service ∷ u.producer.joined) f.served;
+                consumes = f.consumes;
+              })
               refl
               (λ j ne. refl)
               (sees_top_after s.views id v w top top at refl refl (λ e. e) r.seated.latest)
@@ -120,7 +150,9 @@ module _ (C start : ℕ) where
         (refl, record { number = k; id = is; view = refl; rising = own.served.0.draws }),
       )
 
-  pub loads_heartbeat : (slots id : ℕ) (me : Mine) → me.0.capacity ≡ C → 0 < me.0.producer.shares → Allows (Ok C start) slots id me (heartbeat_index C) (λ n. n) (λ n me'. (me'.1 ≡ me.1) × LoadsHeartbeat me.0.capacity me.0 n me'.0 × Logs (heartbeat_index C) n me.0 me'.0)
+  pub loads_heartbeat : (slots id : ℕ) (me : Mine) → me.0.capacity ≡ C → 0 < me.0.producer.shares
+      → Allows (Ok C start) slots id me (heartbeat_index C) (λ n. n)
+      (λ n me'. (me'.1 ≡ me.1) × LoadsHeartbeat me.0.capacity me.0 n me'.0 × Logs (heartbeat_index C) n me.0 me'.0)
   loads_heartbeat slots id me cap rich s r wide at small =
       let v : View = me.0 in
       let i : ℕ = heartbeat_index C in
@@ -137,13 +169,31 @@ module _ (C start : ℕ) where
               tail_seen = own.tail_seen;
               head_seen = own.head_seen;
               idle = λ none. absurd (omega arith);
-              served = (record { draws = own.served.0.draws; heartbeats = heartbeats_append 0 r.consumer.heartbeats v.producer.service.heartbeats n r.service.heartbeat own.served.0.heartbeats }, own.served.1);
+              served = (
+                record {
+                  draws = own.served.0.draws;
+                  heartbeats =
+                      heartbeats_append 0 r.consumer.heartbeats v.producer.service.heartbeats n r.service.heartbeat
+                      own.served.0.heartbeats;
+                },
+                own.served.1,
+              );
               consumes = own.consumes;
             }) refl (omega arith) (λ x. refl),
-        (refl, record { nth = nth; view = ap (λ c. logged (heartbeat_index c) n (with_producer (with_heartbeat nth n v.producer) v)) (sym cap) }, refl),
+        (
+          refl,
+          record {
+            nth = nth;
+            view =
+                ap (λ c. logged (heartbeat_index c) n (with_producer (with_heartbeat nth n v.producer) v)) (sym cap);
+          },
+          refl,
+        ),
       )
 
-  pub stores_heartbeat : (slots id value : ℕ) (me : Mine) → me.0.consumes ≡ true → Allows (Ok C start) slots id me (heartbeat_index C) (λ _. value) (λ _ me'. (me'.1 ≡ me.1) × (me'.0 ≡ with_consumer (beaten value me.0.consumer) me.0))
+  pub stores_heartbeat : (slots id value : ℕ) (me : Mine) → me.0.consumes ≡ true
+      → Allows (Ok C start) slots id me (heartbeat_index C) (λ _. value)
+      (λ _ me'. (me'.1 ≡ me.1) × (me'.0 ≡ with_consumer (beaten value me.0.consumer) me.0))
   stores_heartbeat slots id value me consumes s r wide at small =
       let v : View = me.0 in
       let i : ℕ = heartbeat_index C in
@@ -154,7 +204,8 @@ module _ (C start : ℕ) where
       let w : View = with_consumer (beaten value v.consumer) v in
       let top : ℕ = staged_end start (all_of r.hist) in
       let words_wide = r.memory.wide in
-      let cached : get_or (set s.words i value) (head_cache_index C) 0 ≡ get_or s.words (head_cache_index C) 0 = get_or-set_other s.words i (head_cache_index C) value 0 (omega arith) in
+      let cached : get_or (set s.words i value) (head_cache_index C) 0 ≡ get_or s.words (head_cache_index C) 0 =
+      get_or-set_other s.words i (head_cache_index C) value 0 (omega arith) in
       let cache = r.service.cache in (
         w,
         keeps,
@@ -165,12 +216,16 @@ module _ (C start : ℕ) where
           reader = r.reader;
           consumer = now;
           drawn = r.drawn;
-          memory = memory_elsewhere C start r.lawful s.words r.consumer (all_of r.hist) r.memory i value (omega arith) (λ e. omega arith) (λ e. omega arith) (old ++ value ∷ []);
+          memory = memory_elsewhere C start r.lawful s.words r.consumer (all_of r.hist) r.memory i value (omega arith)
+              (λ e. omega arith) (λ e. omega arith) (old ++ value ∷ []);
           service = record {
             cache = omega arith;
-            correlation = get_or-set_other s.words i (correlation_index C) value 0 (omega arith) ∙ r.service.correlation;
+            correlation =
+                get_or-set_other s.words i (correlation_index C) value 0 (omega arith) ∙ r.service.correlation;
             unnamed = λ j un. get_or-set_other s.words i j value 0 un.not_heartbeat ∙ r.service.unnamed j un;
-            heartbeat = at_last (0 ∷ old) value (length (old ++ value ∷ [])) (omega (arith, length-append {A = ℕ} old (value ∷ []))) ∙ ap some (sym (get_or-set_same s.words i value 0 (omega arith)));
+            heartbeat = at_last (0 ∷ old) value (length (old ++ value ∷ []))
+                (omega (arith, length-append {A = ℕ} old (value ∷ [])))
+                ∙ ap some (sym (get_or-set_same s.words i value 0 (omega arith)));
           };
           seated = reseated top r.hist r.reader r.consumer r.drawn s.views r.seated id v at top r.hist now r.drawn w
               (record {

@@ -36,7 +36,8 @@ pub record LiesIn (C e : ℕ) (cs : List StagedClaim) (c : StagedClaim) : Type 0
   pub place : c.place ≡ next_place C c.from (staged_span c)
   pub message : IsMessage C c.message
 
-pub lies_in : (C e : ℕ) (h : OwnedHistory) (i : ℕ) (x : ℕ × StagedClaim) → ArePlaced C e (all_of h) → get_elem? h i ≡ some x → LiesIn C e (all_of h) x.1
+pub lies_in : (C e : ℕ) (h : OwnedHistory) (i : ℕ) (x : ℕ × StagedClaim) → ArePlaced C e (all_of h)
+    → get_elem? h i ≡ some x → LiesIn C e (all_of h) x.1
 lies_in C e [] i x h at = absurd (some-ne-none x (sym at))
 lies_in C e (y ∷ ys) zero x h at =
     let here = h.0 in
@@ -56,29 +57,43 @@ lies_in C e (y ∷ ys) (suc i) x h at =
     let on = next_le C e (staged_span y.1) in
     let place : y.1.place ≡ next_place C e (staged_span y.1) = h.0.place in
     let far : claim_end y.1 ≤ x.1.from = there.above in
-    record { above = omega arith; padded = there.padded; below = there.below; place = there.place; message = there.message }
+    record {
+      above = omega arith;
+      padded = there.padded;
+      below = there.below;
+      place = there.place;
+      message =
+          there.message;
+    }
 
 -- behind the claims there is 0
-pub nothing_behind : (C e : ℕ) (cs : List StagedClaim) (p : ℕ) → ArePlaced C e cs → staged_end e cs ≤ p → staged_word_at cs p ≡ 0
+pub nothing_behind : (C e : ℕ) (cs : List StagedClaim) (p : ℕ) → ArePlaced C e cs → staged_end e cs ≤ p
+    → staged_word_at cs p ≡ 0
 nothing_behind C e [] p h le = refl
 nothing_behind C e (c ∷ cs) p h le =
     let far = end_le C (claim_end c) cs h.1 in
-    ap (λ b. cond b (staged_word c p) (staged_word_at cs p)) (le-ltb p (claim_end c) (omega arith)) ∙ nothing_behind C (claim_end c) cs p h.1 le
+    ap (λ b. cond b (staged_word c p) (staged_word_at cs p)) (le-ltb p (claim_end c) (omega arith))
+    ∙ nothing_behind C (claim_end c) cs p h.1 le
 
 -- a word inside a claim is that claim's
-pub word_of_claim : (C e : ℕ) (h : OwnedHistory) (i : ℕ) (x : ℕ × StagedClaim) (p : ℕ) → ArePlaced C e (all_of h) → get_elem? h i ≡ some x → x.1.from ≤ p → p < claim_end x.1 → staged_word_at (all_of h) p ≡ staged_word x.1 p
+pub word_of_claim : (C e : ℕ) (h : OwnedHistory) (i : ℕ) (x : ℕ × StagedClaim) (p : ℕ) → ArePlaced C e (all_of h)
+    → get_elem? h i ≡ some x → x.1.from ≤ p → p < claim_end x.1 → staged_word_at (all_of h) p ≡ staged_word x.1 p
 word_of_claim C e [] i x p h at lo hi = absurd (some-ne-none x (sym at))
 word_of_claim C e (y ∷ ys) zero x p h at lo hi =
     let same : y ≡ x = some-injective y x at in
     let near : p < claim_end y.1 = subst (λ (z : ℕ × StagedClaim). p < claim_end z.1) (sym same) hi in
-    ap (λ b. cond b (staged_word y.1 p) (staged_word_at (all_of ys) p)) (lt-ltb p (claim_end y.1) near) ∙ ap (λ (z : ℕ × StagedClaim). staged_word z.1 p) same
+    ap (λ b. cond b (staged_word y.1 p) (staged_word_at (all_of ys) p)) (lt-ltb p (claim_end y.1) near)
+    ∙ ap (λ (z : ℕ × StagedClaim). staged_word z.1 p) same
 word_of_claim C e (y ∷ ys) (suc i) x p h at lo hi =
     let there = lies_in C (claim_end y.1) ys i x h.1 at in
     let above = there.above in
-    ap (λ b. cond b (staged_word y.1 p) (staged_word_at (all_of ys) p)) (le-ltb p (claim_end y.1) (omega arith)) ∙ word_of_claim C (claim_end y.1) ys i x p h.1 at lo hi
+    ap (λ b. cond b (staged_word y.1 p) (staged_word_at (all_of ys) p)) (le-ltb p (claim_end y.1) (omega arith))
+    ∙ word_of_claim C (claim_end y.1) ys i x p h.1 at lo hi
 
 -- claims share no position
-pub one_at_position : (C e : ℕ) (h : OwnedHistory) (i j p : ℕ) (x y : ℕ × StagedClaim) → ArePlaced C e (all_of h) → get_elem? h i ≡ some x → get_elem? h j ≡ some y → x.1.from ≤ p → p < claim_end x.1 → y.1.from ≤ p → p < claim_end y.1 → x ≡ y
+pub one_at_position : (C e : ℕ) (h : OwnedHistory) (i j p : ℕ) (x y : ℕ × StagedClaim) → ArePlaced C e (all_of h)
+    → get_elem? h i ≡ some x → get_elem? h j ≡ some y → x.1.from ≤ p → p < claim_end x.1 → y.1.from ≤ p
+    → p < claim_end y.1 → x ≡ y
 one_at_position C e [] i j p x y h a b x0 x1 y0 y1 = absurd (some-ne-none x (sym a))
 one_at_position C e (z ∷ zs) zero zero p x y h a b x0 x1 y0 y1 = sym (some-injective z x a) ∙ some-injective z y b
 one_at_position C e (z ∷ zs) zero (suc j) p x y h a b x0 x1 y0 y1 =
@@ -91,10 +106,12 @@ one_at_position C e (z ∷ zs) (suc i) zero p x y h a b x0 x1 y0 y1 =
     let above = there.above in
     let same : claim_end z.1 ≡ claim_end y.1 = ap (λ (k : ℕ × StagedClaim). claim_end k.1) (some-injective z y b) in
     absurd (omega arith)
-one_at_position C e (z ∷ zs) (suc i) (suc j) p x y h a b x0 x1 y0 y1 = one_at_position C (claim_end z.1) zs i j p x y h.1 a b x0 x1 y0 y1
+one_at_position C e (z ∷ zs) (suc i) (suc j) p x y h a b x0 x1 y0 y1 =
+    one_at_position C (claim_end z.1) zs i j p x y h.1 a b x0 x1 y0 y1
 
 -- so they share no place
-pub one_at_place : (C e : ℕ) (h : OwnedHistory) (i j : ℕ) (x y : ℕ × StagedClaim) → ArePlaced C e (all_of h) → get_elem? h i ≡ some x → get_elem? h j ≡ some y → x.1.place ≡ y.1.place → x ≡ y
+pub one_at_place : (C e : ℕ) (h : OwnedHistory) (i j : ℕ) (x y : ℕ × StagedClaim) → ArePlaced C e (all_of h)
+    → get_elem? h i ≡ some x → get_elem? h j ≡ some y → x.1.place ≡ y.1.place → x ≡ y
 one_at_place C e h i j x y placed a b same =
     let x_pad = (lies_in C e h i x placed a).padded in
     let y_pad = (lies_in C e h j y placed b).padded in
@@ -102,19 +119,25 @@ one_at_place C e h i j x y placed a b same =
 
 -- ---- multiples of 8
 
-pub claim_aligned : (C e : ℕ) (c : StagedClaim) → 0 < C → C % 8 ≡ 0 → e % 8 ≡ 0 → c.place ≡ next_place C e (staged_span c) → (c.place % 8 ≡ 0) × (claim_end c % 8 ≡ 0)
+pub claim_aligned : (C e : ℕ) (c : StagedClaim) → 0 < C → C % 8 ≡ 0 → e % 8 ≡ 0
+    → c.place ≡ next_place C e (staged_span c) → (c.place % 8 ≡ 0) × (claim_end c % 8 ≡ 0)
 claim_aligned C e c pos c8 e8 is =
     let place : ℕ = c.place in
     let aligned : place % 8 ≡ 0 = ap (λ k. k % 8) is ∙ next_aligned C e (staged_span c) pos c8 e8 in
     let n : ℕ = length c.message.body in
     (aligned, omega arith)
 
-pub end_aligned : (C e : ℕ) (cs : List StagedClaim) → 0 < C → C % 8 ≡ 0 → e % 8 ≡ 0 → ArePlaced C e cs → staged_end e cs % 8 ≡ 0
+pub end_aligned : (C e : ℕ) (cs : List StagedClaim) → 0 < C → C % 8 ≡ 0 → e % 8 ≡ 0 → ArePlaced C e cs
+    → staged_end e cs % 8 ≡ 0
 end_aligned C e [] pos c8 e8 h = e8
-end_aligned C e (c ∷ cs) pos c8 e8 h = end_aligned C (claim_end c) cs pos c8 (claim_aligned C e c pos c8 e8 h.0.place).1 h.1
+end_aligned C e (c ∷ cs) pos c8 e8 h =
+    end_aligned C (claim_end c) cs pos c8 (claim_aligned C e c pos c8 e8 h.0.place).1 h.1
 
-pub places_aligned : (C e : ℕ) (h : OwnedHistory) (i : ℕ) (x : ℕ × StagedClaim) → 0 < C → C % 8 ≡ 0 → e % 8 ≡ 0 → ArePlaced C e (all_of h) → get_elem? h i ≡ some x → (x.1.from % 8 ≡ 0) × (x.1.place % 8 ≡ 0)
+pub places_aligned : (C e : ℕ) (h : OwnedHistory) (i : ℕ) (x : ℕ × StagedClaim) → 0 < C → C % 8 ≡ 0 → e % 8 ≡ 0
+    → ArePlaced C e (all_of h) → get_elem? h i ≡ some x → (x.1.from % 8 ≡ 0) × (x.1.place % 8 ≡ 0)
 places_aligned C e [] i x pos c8 e8 h at = absurd (some-ne-none x (sym at))
 places_aligned C e (y ∷ ys) zero x pos c8 e8 h at =
-    subst (λ (z : ℕ × StagedClaim). (z.1.from % 8 ≡ 0) × (z.1.place % 8 ≡ 0)) (some-injective y x at) (ap (λ k. k % 8) h.0.from ∙ e8, (claim_aligned C e y.1 pos c8 e8 h.0.place).0)
-places_aligned C e (y ∷ ys) (suc i) x pos c8 e8 h at = places_aligned C (claim_end y.1) ys i x pos c8 (claim_aligned C e y.1 pos c8 e8 h.0.place).1 h.1 at
+    subst (λ (z : ℕ × StagedClaim). (z.1.from % 8 ≡ 0) × (z.1.place % 8 ≡ 0)) (some-injective y x at)
+    (ap (λ k. k % 8) h.0.from ∙ e8, (claim_aligned C e y.1 pos c8 e8 h.0.place).0)
+places_aligned C e (y ∷ ys) (suc i) x pos c8 e8 h at =
+    places_aligned C (claim_end y.1) ys i x pos c8 (claim_aligned C e y.1 pos c8 e8 h.0.place).1 h.1 at

@@ -15,13 +15,16 @@ use Rattle.ring_table.specs.Staged.{StagedClaim, Stage, Moved, Padded, Stored, c
 use Rattle.ring_table.specs.Changes.{fresh, fresh_stage, staged, opened, written, with_word}
 use Rattle.ring_table.proofs.BodyWords.{length-with_word, body_word-with_word_other, body_word-zeros}
 
-pub staged_word-header : (c : StagedClaim) (p : ℕ) → p ≡ c.place → staged_word c p ≡ masked_record c.stage (header_of (claim_of c))
+pub staged_word-header : (c : StagedClaim) (p : ℕ) → p ≡ c.place
+    → staged_word c p ≡ masked_record c.stage (header_of (claim_of c))
 unfolding staged_word
 staged_word-header c p e =
     let none : p - c.place ≡ 0 = omega arith in
-    cond-false _ _ _ (le-ltb p c.place (omega arith)) ∙ ap (masked_record c.stage) (cond-true _ _ _ (eq-eqb (p - c.place) 0 none))
+    cond-false _ _ _ (le-ltb p c.place (omega arith))
+    ∙ ap (masked_record c.stage) (cond-true _ _ _ (eq-eqb (p - c.place) 0 none))
 
-pub staged_word-padding : (c : StagedClaim) (p : ℕ) → p ≡ c.from → p < c.place → staged_word c p ≡ masked_padding c.stage (padding_header (c.place - c.from))
+pub staged_word-padding : (c : StagedClaim) (p : ℕ) → p ≡ c.from → p < c.place
+    → staged_word c p ≡ masked_padding c.stage (padding_header (c.place - c.from))
 unfolding staged_word
 staged_word-padding c p e lt = cond-true _ _ _ (lt-ltb p c.place lt) ∙ cond-true _ _ _ (eq-eqb p c.from e)
 
@@ -29,21 +32,25 @@ pub staged_word-padding_behind : (c : StagedClaim) (p : ℕ) → p ≢ c.from �
 unfolding staged_word
 staged_word-padding_behind c p ne lt = cond-true _ _ _ (lt-ltb p c.place lt) ∙ cond-false _ _ _ (ne_eqb p c.from ne)
 
-pub staged_word-body : (c : StagedClaim) (p at : ℕ) → p ≡ c.place + 8 + at → staged_word c p ≡ masked_record c.stage (body_word c.message.body at)
+pub staged_word-body : (c : StagedClaim) (p at : ℕ) → p ≡ c.place + 8 + at
+    → staged_word c p ≡ masked_record c.stage (body_word c.message.body at)
 unfolding staged_word body_word
 staged_word-body c p at e =
     let offset : ℕ = p - c.place in
     let some : offset ≢ 0 = λ none. omega arith in
     let there : offset - 8 ≡ at = omega arith in
     cond-false _ _ _ (le-ltb p c.place (omega arith))
-    ∙ ap (masked_record c.stage) (cond-false _ _ _ (ne_eqb offset 0 some) ∙ ap (λ k. from_le_bytes w64 (drop k c.message.body)) there)
+    ∙ ap (masked_record c.stage) (cond-false _ _ _ (ne_eqb offset 0 some)
+    ∙ ap (λ k. from_le_bytes w64 (drop k c.message.body)) there)
 
-pub staged_word-record : (c : StagedClaim) (p : ℕ) → c.place ≤ p → staged_word c p ≡ masked_record c.stage (claim_word (claim_of c) (p - c.place))
+pub staged_word-record : (c : StagedClaim) (p : ℕ) → c.place ≤ p
+    → staged_word c p ≡ masked_record c.stage (claim_word (claim_of c) (p - c.place))
 unfolding staged_word
 staged_word-record c p le = cond-false _ _ _ (le-ltb p c.place le)
 
 -- the same once the header is stored
-pub staged_word-stored : (c : StagedClaim) (p at : ℕ) → IsStored c.stage → p ≡ c.place + 8 + at → staged_word c p ≡ body_word c.message.body at
+pub staged_word-stored : (c : StagedClaim) (p at : ℕ) → IsStored c.stage → p ≡ c.place + 8 + at
+    → staged_word c p ≡ body_word c.message.body at
 staged_word-stored c p at stored e = staged_word-body c p at e ∙ unmasked c.stage (body_word c.message.body at) stored
   where
     unmasked : (t : Stage) (word : ℕ) → IsStored t → masked_record t word ≡ word
@@ -59,9 +66,11 @@ staged_word-fresh C e type_id n p =
     let c : StagedClaim = fresh C e type_id n in
     elim (cases_lt p place) as (λ _. staged_word c p ≡ 0) [
       | inl in_padding ↦ dite (ℕ_discrete p e)
-          (λ at_it. staged_word-padding c p at_it in_padding ∙ no_padding (eqb e place) (padding_header (place - e)) (ne_eqb e place (λ none. omega arith)))
+          (λ at_it. staged_word-padding c p at_it in_padding
+          ∙ no_padding (eqb e place) (padding_header (place - e)) (ne_eqb e place (λ none. omega arith)))
           (λ behind. staged_word-padding_behind c p behind in_padding)
-      | inr in_record ↦ cond-false _ _ _ (le-ltb p place in_record) ∙ no_record (eqb e place) (claim_word (claim_of c) (p - place))
+      | inr in_record ↦ cond-false _ _ _ (le-ltb p place in_record)
+          ∙ no_record (eqb e place) (claim_word (claim_of c) (p - place))
     ]
   where
     no_padding : (b : Bool) (word : ℕ) → b ≡ false → masked_padding (fresh_stage b) word ≡ 0
@@ -73,28 +82,41 @@ staged_word-fresh C e type_id n p =
     no_record false word = refl
 
 -- what two claims at one place show at a position that is neither the header's nor the padding's
-same_padding : (c d : StagedClaim) (p : ℕ) → d.from ≡ c.from → d.place ≡ c.place → p < c.place → (p ≡ c.from → masked_padding d.stage (padding_header (c.place - c.from)) ≡ masked_padding c.stage (padding_header (c.place - c.from))) → staged_word d p ≡ staged_word c p
+same_padding : (c d : StagedClaim) (p : ℕ) → d.from ≡ c.from → d.place ≡ c.place → p < c.place
+    → (p ≡ c.from → masked_padding d.stage (padding_header (c.place - c.from))
+    ≡ masked_padding c.stage (padding_header (c.place - c.from))) → staged_word d p ≡ staged_word c p
 same_padding c d p from place lt same = dite (ℕ_discrete p c.from)
-    (λ at_it. staged_word-padding d p (at_it ∙ sym from) (omega arith) ∙ (λ i. masked_padding d.stage (padding_header (place i - from i))) ∙ same at_it ∙ sym (staged_word-padding c p at_it lt))
-    (λ else_at. staged_word-padding_behind d p (λ is. else_at (is ∙ from)) (omega arith) ∙ sym (staged_word-padding_behind c p else_at lt))
+    (λ at_it. staged_word-padding d p (at_it ∙ sym from) (omega arith)
+    ∙ (λ i. masked_padding d.stage (padding_header (place i - from i))) ∙ same at_it
+    ∙ sym (staged_word-padding c p at_it lt))
+    (λ else_at. staged_word-padding_behind d p (λ is. else_at (is ∙ from)) (omega arith)
+    ∙ sym (staged_word-padding_behind c p else_at lt))
 
 -- another stage shows the same in the body, and in the padding where the padding's header is as before
-pub staged_word-staged : (c : StagedClaim) (t : Stage) (p : ℕ) → p % 8 ≡ 0 → c.place % 8 ≡ 0 → p ≢ c.place → ((word : ℕ) → masked_record t word ≡ masked_record c.stage word)
-    → (p ≡ c.from → masked_padding t (padding_header (c.place - c.from)) ≡ masked_padding c.stage (padding_header (c.place - c.from))) → staged_word (staged t c) p ≡ staged_word c p
-staged_word-staged c t p p8 place8 ne masks pads = elim (cases_lt p c.place) as (λ _. staged_word (staged t c) p ≡ staged_word c p) [
-  | inl in_padding ↦ same_padding c (staged t c) p refl refl in_padding pads
-  | inr in_record ↦ staged_word-body (staged t c) p (p - c.place - 8) (omega arith) ∙ masks (body_word c.message.body (p - c.place - 8)) ∙ sym (staged_word-body c p (p - c.place - 8) (omega arith))
-]
+pub staged_word-staged : (c : StagedClaim) (t : Stage) (p : ℕ) → p % 8 ≡ 0 → c.place % 8 ≡ 0 → p ≢ c.place
+    → ((word : ℕ) → masked_record t word ≡ masked_record c.stage word)
+    → (p ≡ c.from → masked_padding t (padding_header (c.place - c.from))
+    ≡ masked_padding c.stage (padding_header (c.place - c.from))) → staged_word (staged t c) p ≡ staged_word c p
+staged_word-staged c t p p8 place8 ne masks pads =
+    elim (cases_lt p c.place) as (λ _. staged_word (staged t c) p ≡ staged_word c p) [
+      | inl in_padding ↦ same_padding c (staged t c) p refl refl in_padding pads
+      | inr in_record ↦ staged_word-body (staged t c) p (p - c.place - 8) (omega arith)
+          ∙ masks (body_word c.message.body (p - c.place - 8))
+          ∙ sym (staged_word-body c p (p - c.place - 8) (omega arith))
+    ]
 
 -- a claim whose header is stored at last shows zeros in its body, and elsewhere the same
-pub staged_word-opened : (c : StagedClaim) (type_id : ℤ) (n p : ℕ) → p % 8 ≡ 0 → c.place % 8 ≡ 0 → p ≢ c.place → c.stage ≡ Padded → staged_word (opened type_id n c) p ≡ staged_word c p
-staged_word-opened c type_id n p p8 place8 ne is = elim (cases_lt p c.place) as (λ _. staged_word (opened type_id n c) p ≡ staged_word c p) [
-  | inl in_padding ↦ same_padding c (opened type_id n c) p refl refl in_padding (λ _. ap (λ t. masked_padding t (padding_header (c.place - c.from))) (sym is))
-  | inr in_record ↦
-      let at : ℕ = p - c.place - 8 in
-      staged_word-body (opened type_id n c) p at (omega arith) ∙ body_word-zeros n at
-      ∙ sym (staged_word-body c p at (omega arith) ∙ ap (λ t. masked_record t (body_word c.message.body at)) is)
-]
+pub staged_word-opened : (c : StagedClaim) (type_id : ℤ) (n p : ℕ) → p % 8 ≡ 0 → c.place % 8 ≡ 0 → p ≢ c.place
+    → c.stage ≡ Padded → staged_word (opened type_id n c) p ≡ staged_word c p
+staged_word-opened c type_id n p p8 place8 ne is =
+    elim (cases_lt p c.place) as (λ _. staged_word (opened type_id n c) p ≡ staged_word c p) [
+      | inl in_padding ↦ same_padding c (opened type_id n c) p refl refl in_padding
+          (λ _. ap (λ t. masked_padding t (padding_header (c.place - c.from))) (sym is))
+      | inr in_record ↦
+          let at : ℕ = p - c.place - 8 in
+          staged_word-body (opened type_id n c) p at (omega arith) ∙ body_word-zeros n at
+          ∙ sym (staged_word-body c p at (omega arith) ∙ ap (λ t. masked_record t (body_word c.message.body at)) is)
+    ]
 
 -- the header depends on the body's length alone
 header_by : ClaimState → ℤ → ℕ → ℕ
@@ -102,30 +124,36 @@ header_by Open type_id n = header (neg_ℤ (pos (8 + n))) type_id
 header_by Committed type_id n = header (pos (8 + n)) type_id
 header_by Aborted type_id n = header (pos (8 + n)) padding_type
 
-header_of_length : (s : ClaimState) (type_id : ℤ) (body : List ℕ) → header_of (record { message = record { type_id = type_id; body = body }; state = s }) ≡ header_by s type_id (length body)
+header_of_length : (s : ClaimState) (type_id : ℤ) (body : List ℕ)
+    → header_of (record { message = record { type_id = type_id; body = body }; state = s })
+    ≡ header_by s type_id (length body)
 unfolding header_by
 header_of_length Open type_id body = refl
 header_of_length Committed type_id body = refl
 header_of_length Aborted type_id body = refl
 
-pub header_of-written : (c : StagedClaim) (at word : ℕ) → at ≤ length c.message.body → header_of (claim_of (written at word c)) ≡ header_of (claim_of c)
+pub header_of-written : (c : StagedClaim) (at word : ℕ) → at ≤ length c.message.body
+    → header_of (claim_of (written at word c)) ≡ header_of (claim_of c)
 header_of-written c at word le =
     header_of_length (state_of c.stage) c.message.type_id (with_word at word c.message.body)
     ∙ ap (header_by (state_of c.stage) c.message.type_id) (length-with_word at word c.message.body le)
     ∙ sym (header_of_length (state_of c.stage) c.message.type_id c.message.body)
 
 -- a word of the body that is stored leaves the other words
-pub staged_word-written : (c : StagedClaim) (at word p : ℕ) → at ≤ length c.message.body → c.place % 8 ≡ 0 → at % 8 ≡ 0 → p % 8 ≡ 0 → p ≢ c.place + 8 + at → staged_word (written at word c) p ≡ staged_word c p
+pub staged_word-written : (c : StagedClaim) (at word p : ℕ) → at ≤ length c.message.body → c.place % 8 ≡ 0 → at % 8 ≡ 0
+    → p % 8 ≡ 0 → p ≢ c.place + 8 + at → staged_word (written at word c) p ≡ staged_word c p
 staged_word-written c at word p le place8 a8 p8 ne =
     let d : StagedClaim = written at word c in
     elim (cases_lt p c.place) as (λ _. staged_word d p ≡ staged_word c p) [
       | inl in_padding ↦ same_padding c d p refl refl in_padding (λ _. refl)
       | inr in_record ↦ dite (ℕ_discrete p c.place)
-          (λ same. staged_word-header d p same ∙ ap (masked_record c.stage) (header_of-written c at word le) ∙ sym (staged_word-header c p same))
+          (λ same. staged_word-header d p same ∙ ap (masked_record c.stage) (header_of-written c at word le)
+          ∙ sym (staged_word-header c p same))
           (λ other.
           let o : ℕ = p - c.place - 8 in
           let there : p ≡ c.place + 8 + o = omega arith in
           staged_word-body d p o there
-          ∙ ap (masked_record c.stage) (body_word-with_word_other c.message.body at o word le a8 (omega arith) (λ same. ne (omega arith)))
+          ∙ ap (masked_record c.stage) (body_word-with_word_other c.message.body at o word le a8 (omega arith)
+          (λ same. ne (omega arith)))
           ∙ sym (staged_word-body c p o there))
     ]

@@ -38,20 +38,28 @@ one_negated (suc m) zero e = absurd (omega (arith, ints))
 one_negated (suc m) (suc n) e = omega (arith, ints)
 
 -- a claimed header tells type id and length
-one_length : (type_id : ℤ) (n : ℕ) (type_id' : ℤ) (n' : ℕ) → 8 + n < 2 ^ 31 → 8 + n' < 2 ^ 31 → open_header type_id n ≡ open_header type_id' n' → n ≡ n'
+one_length : (type_id : ℤ) (n : ℕ) (type_id' : ℤ) (n' : ℕ) → 8 + n < 2 ^ 31 → 8 + n' < 2 ^ 31
+    → open_header type_id n ≡ open_header type_id' n' → n ≡ n'
 one_length type_id n type_id' n' small small' same =
-    let e = one_negated (8 + n) (8 + n') (sym (len_of-header (neg_ℤ (pos (8 + n))) type_id (fits_neg (8 + n) small)) ∙ ap (λ w. cast_signed w32 (w % 2 ^ 32)) same ∙ len_of-header (neg_ℤ (pos (8 + n'))) type_id' (fits_neg (8 + n') small')) in
+    let e = one_negated (8 + n) (8 + n') (sym (len_of-header (neg_ℤ (pos (8 + n))) type_id (fits_neg (8 + n) small))
+    ∙ ap (λ w. cast_signed w32 (w % 2 ^ 32)) same
+    ∙ len_of-header (neg_ℤ (pos (8 + n'))) type_id' (fits_neg (8 + n') small')) in
     omega arith
 
-one_type : (type_id : ℤ) (n : ℕ) (type_id' : ℤ) (n' : ℕ) → FitsSigned w32 type_id → 8 + n < 2 ^ 31 → FitsSigned w32 type_id' → 8 + n' < 2 ^ 31 → open_header type_id n ≡ open_header type_id' n' → type_id ≡ type_id'
+one_type : (type_id : ℤ) (n : ℕ) (type_id' : ℤ) (n' : ℕ) → FitsSigned w32 type_id → 8 + n < 2 ^ 31
+    → FitsSigned w32 type_id' → 8 + n' < 2 ^ 31 → open_header type_id n ≡ open_header type_id' n' → type_id ≡ type_id'
 one_type type_id n type_id' n' fits small fits' small' same =
-    sym (type_of-header (neg_ℤ (pos (8 + n))) type_id (fits_neg (8 + n) small) fits) ∙ ap (λ w. cast_signed w32 (w / 2 ^ 32)) same ∙ type_of-header (neg_ℤ (pos (8 + n'))) type_id' (fits_neg (8 + n') small') fits'
+    sym (type_of-header (neg_ℤ (pos (8 + n))) type_id (fits_neg (8 + n) small) fits)
+    ∙ ap (λ w. cast_signed w32 (w / 2 ^ 32)) same
+    ∙ type_of-header (neg_ℤ (pos (8 + n'))) type_id' (fits_neg (8 + n') small') fits'
 
 module _ (C start : ℕ) where
   -- a word of an own claim that is not settled is stored
-  edits : (words : List ℕ) (views : List View) (r : Kept C start words views) (id : ℕ) (v : View) → get_elem? views id ≡ some v → (k : ℕ) (c : StagedClaim) → HasClaim v k c → (IsSettled c.stage → ⊥)
+  edits : (words : List ℕ) (views : List View) (r : Kept C start words views) (id : ℕ) (v : View)
+      → get_elem? views id ≡ some v → (k : ℕ) (c : StagedClaim) → HasClaim v k c → (IsSettled c.stage → ⊥)
       → (f : StagedClaim → StagedClaim) → MayReplace C c (f c) → (c.stage ≢ Moved → (f c).stage ≢ Moved)
-      → (q value : ℕ) → q % 8 ≡ 0 → c.from ≤ q → q < claim_end c → (c.place ≤ q) ⊎ (c.stage ≡ Moved) → staged_word (f c) q ≡ value → ((p : ℕ) → p % 8 ≡ 0 → p ≢ q → staged_word (f c) p ≡ staged_word c p)
+      → (q value : ℕ) → q % 8 ≡ 0 → c.from ≤ q → q < claim_end c → (c.place ≤ q) ⊎ (c.stage ≡ Moved)
+      → staged_word (f c) q ≡ value → ((p : ℕ) → p % 8 ≡ 0 → p ≢ q → staged_word (f c) p ≡ staged_word c p)
       → Kept C start (set words (index C q) value) (set views id (with_claims (changed c.place f v.producer.claims) v))
   edits words views r id v at k c has un f may goes q value q8 lo hi late word others =
       let h : OwnedHistory = r.hist in
@@ -67,17 +75,23 @@ module _ (C start : ℕ) where
       let room = m.room in
       let top : ℕ = staged_end start (all_of h) in
       -- c is the only claim at its place
-      let only = λ (P : StagedClaim → Type 0) (own : P c) (j : ℕ) (x : ℕ × StagedClaim) (there : get_elem? h j ≡ some x) (e : x.1.place ≡ p). subst (λ (z : ℕ × StagedClaim). P z.1) (sym (one_at_place C start h j st.nth x (id, c) m.placed there st.there e)) own in
+      let only = λ (P : StagedClaim → Type 0) (own : P c) (j : ℕ) (x : ℕ × StagedClaim) (there : get_elem? h j ≡ some x)
+      (e : x.1.place ≡ p). subst (λ (z : ℕ × StagedClaim). P z.1)
+      (sym (one_at_place C start h j st.nth x (id, c) m.placed there st.there e)) own in
       let may_all : MayReplaceAt C p f h = only (λ d. MayReplace C d (f d)) may in
-      let un_all : Unsettled p f h = only (λ d. (IsSettled d.stage → ⊥) × (d.stage ≢ Moved → (f d).stage ≢ Moved)) (un, goes) in
-      let low : r.consumer.scan ≤ q = ⊎_elim (λ (a : p ≤ q). omega arith) (λ (a : c.stage ≡ Moved). let padding = st.padding_behind a in omega arith) late in
+      let un_all : Unsettled p f h =
+      only (λ d. (IsSettled d.stage → ⊥) × (d.stage ≢ Moved → (f d).stage ≢ Moved)) (un, goes) in
+      let low : r.consumer.scan ≤ q = ⊎_elim (λ (a : p ≤ q). omega arith)
+      (λ (a : c.stage ≡ Moved). let padding = st.padding_behind a in omega arith) late in
       let tops : staged_end start (all_of h') ≡ top = staged_end-edited id p f C start h may_all in
       let placed' = placed_edited id p f C start h may_all m.placed in
       let is_here = edited_one_here id p f c refl in
       let word_now : staged_word_at (all_of h') q ≡ value =
-      word_of_claim C start h' st.nth (edited_one id p f (id, c)) q placed' (get-edited id p f h st.nth (id, c) st.there)
+      word_of_claim C start h' st.nth (edited_one id p f (id, c)) q placed'
+      (get-edited id p f h st.nth (id, c) st.there)
       (subst (λ (z : StagedClaim). z.from ≤ q) (sym is_here) (let same = may.from in omega arith))
-      (subst (λ (z : StagedClaim). q < claim_end z) (sym is_here) (let place = may.place in let long = may.same_span in omega arith))
+      (subst (λ (z : StagedClaim). q < claim_end z) (sym is_here)
+      (let place = may.place in let long = may.same_span in omega arith))
       ∙ ap (λ (z : StagedClaim). staged_word z q) is_here ∙ word in
       let inside = index_inside C start r.lawful q in
       record {
@@ -86,10 +100,14 @@ module _ (C start : ℕ) where
         reader = r.reader;
         consumer = r.consumer;
         drawn = r.drawn;
-        memory = memory_edited C start r.lawful words r.consumer h m id p f may_all un_all q value q8 low (omega arith) word_now
+        memory = memory_edited C start r.lawful words r.consumer h m id p f may_all un_all q value q8 low
+            (omega arith) word_now
             (only (λ d. (i : ℕ) → i % 8 ≡ 0 → i ≢ q → staged_word (f d) i ≡ staged_word d i) others);
-        service = service_elsewhere C start r.lawful words r.consumer r.drawn r.service (index C q) value (λ e. omega arith) (λ e. omega arith) (λ e. omega arith) (λ j un e. let far = un.behind in omega arith) r.consumer (omega arith) refl;
-        seated = reseated top h r.reader r.consumer r.drawn views r.seated id v at (staged_end start (all_of h')) h' r.consumer r.drawn w
+        service = service_elsewhere C start r.lawful words r.consumer r.drawn r.service (index C q) value
+            (λ e. omega arith) (λ e. omega arith) (λ e. omega arith)
+            (λ j un e. let far = un.behind in omega arith) r.consumer (omega arith) refl;
+        seated = reseated top h r.reader r.consumer r.drawn views r.seated id v at
+            (staged_end start (all_of h')) h' r.consumer r.drawn w
             (let own = r.seated.each id v at in
             record {
               claims = ap (changed p f) own.claims ∙ sym (owned_by-edited id p f h);
@@ -109,16 +127,22 @@ module _ (C start : ℕ) where
             })
             refl
             (λ j ne. owned_by-edited_other id p f j h ne)
-            (sees_top_after views id v w top (staged_end start (all_of h')) at refl tops (λ e. e ∙ sym tops) r.seated.latest)
+            (sees_top_after views id v w top (staged_end start (all_of h')) at refl tops
+            (λ e. e ∙ sym tops) r.seated.latest)
             (λ x. refl);
       }
 
-  rising : (words : List ℕ) (views : List View) (r : Kept C start words views) (id : ℕ) (v : View) → get_elem? views id ≡ some v → AreRising v.producer.claims
-  rising words views r id v at = subst AreRising (sym (r.seated.each id v at).claims) (rising_owned_by C start id r.hist r.memory.placed)
+  rising : (words : List ℕ) (views : List View) (r : Kept C start words views) (id : ℕ) (v : View)
+      → get_elem? views id ≡ some v → AreRising v.producer.claims
+  rising words views r id v at =
+      subst AreRising (sym (r.seated.each id v at).claims) (rising_owned_by C start id r.hist r.memory.placed)
 
   -- two claims of a view that are not settled and have a word with one index at positions of theirs are at one place
-  same_place : (words : List ℕ) (views : List View) (r : Kept C start words views) (id : ℕ) (v : View) → v.capacity ≡ C → get_elem? views id ≡ some v → (k k' : ℕ) (c c' : StagedClaim) → HasClaim v k c → HasClaim v k' c' → (IsSettled c.stage → ⊥) → (IsSettled c'.stage → ⊥)
-      → (q q' : ℕ) → q % 8 ≡ 0 → q' % 8 ≡ 0 → c.from ≤ q → q < claim_end c → (c.place ≤ q) ⊎ (c.stage ≡ Moved) → c'.from ≤ q' → q' < claim_end c' → (c'.place ≤ q') ⊎ (c'.stage ≡ Moved) → index v.capacity q' ≡ index C q
+  same_place : (words : List ℕ) (views : List View) (r : Kept C start words views) (id : ℕ) (v : View) → v.capacity ≡ C
+      → get_elem? views id ≡ some v → (k k' : ℕ) (c c' : StagedClaim) → HasClaim v k c → HasClaim v k' c'
+      → (IsSettled c.stage → ⊥) → (IsSettled c'.stage → ⊥)
+      → (q q' : ℕ) → q % 8 ≡ 0 → q' % 8 ≡ 0 → c.from ≤ q → q < claim_end c → (c.place ≤ q) ⊎ (c.stage ≡ Moved)
+      → c'.from ≤ q' → q' < claim_end c' → (c'.place ≤ q') ⊎ (c'.stage ≡ Moved) → index v.capacity q' ≡ index C q
       → (c'.place ≡ c.place) × (q' ≡ q)
   same_place words views r id v cap at k k' c c' has has' un un' q q' q8 q8' lo hi late lo' hi' late' same =
       let st = stands C start words views r id v at k c has un in
@@ -131,15 +155,26 @@ module _ (C start : ℕ) where
       let below' = st'.lies.below in
       let behind = st.behind_scan in
       let behind' = st'.behind_scan in
-      let low : r.consumer.scan ≤ q = ⊎_elim (λ (a : c.place ≤ q). omega arith) (λ (a : c.stage ≡ Moved). let padding = st.padding_behind a in omega arith) late in
-      let low' : r.consumer.scan ≤ q' = ⊎_elim (λ (a : c'.place ≤ q'). omega arith) (λ (a : c'.stage ≡ Moved). let padding = st'.padding_behind a in omega arith) late' in
-      let one : q' ≡ q = one_position C start r.lawful r.consumer.head q' q q8' q8 (omega arith) (omega arith) (omega arith) (omega arith) (ap (λ z. index z q') (sym cap) ∙ same) in
-      (ap (λ (z : ℕ × StagedClaim). z.1.place) (one_at_position C start r.hist st'.nth st.nth q (id, c') (id, c) m.placed st'.there st.there (omega arith) (omega arith) lo hi), one)
+      let low : r.consumer.scan ≤ q = ⊎_elim (λ (a : c.place ≤ q). omega arith)
+      (λ (a : c.stage ≡ Moved). let padding = st.padding_behind a in omega arith) late in
+      let low' : r.consumer.scan ≤ q' = ⊎_elim (λ (a : c'.place ≤ q'). omega arith)
+      (λ (a : c'.stage ≡ Moved). let padding = st'.padding_behind a in omega arith) late' in
+      let one : q' ≡ q = one_position C start r.lawful r.consumer.head q' q q8' q8 (omega arith) (omega arith)
+      (omega arith) (omega arith) (ap (λ z. index z q') (sym cap) ∙ same) in (
+        ap (λ (z : ℕ × StagedClaim). z.1.place)
+            (one_at_position C start r.hist st'.nth st.nth q (id, c') (id, c) m.placed st'.there st.there (omega arith)
+            (omega arith) lo hi),
+        one,
+      )
 
   -- the header of a claim at the stage t is stored, and it is f of the claim from then on
-  header_step : (t : Stage) → (IsSettled t → ⊥) → (f : StagedClaim → StagedClaim) → (slots id : ℕ) (me : Mine) → me.0.capacity ≡ C → (k : ℕ) (c : StagedClaim) (value : ℕ) → HasClaim me.0 k c → c.stage ≡ t
-      → MayReplace C c (f c) → (f c).stage ≢ Moved → staged_word (f c) c.place ≡ value → ((p : ℕ) → p % 8 ≡ 0 → c.place % 8 ≡ 0 → p ≢ c.place → staged_word (f c) p ≡ staged_word c p)
-      → Allows (Ok C start) slots id me (index C c.place) (λ _. value) (λ _ me'. (me'.1 ≡ me.1) × Changes t (λ d. d.place) f (index C c.place) me.0 me'.0 × AreRising me.0.producer.claims)
+  header_step : (t : Stage) → (IsSettled t → ⊥) → (f : StagedClaim → StagedClaim) → (slots id : ℕ) (me : Mine)
+      → me.0.capacity ≡ C → (k : ℕ) (c : StagedClaim) (value : ℕ) → HasClaim me.0 k c → c.stage ≡ t
+      → MayReplace C c (f c) → (f c).stage ≢ Moved → staged_word (f c) c.place ≡ value
+      → ((p : ℕ) → p % 8 ≡ 0 → c.place % 8 ≡ 0 → p ≢ c.place → staged_word (f c) p ≡ staged_word c p)
+      → Allows (Ok C start) slots id me (index C c.place) (λ _. value)
+      (λ _ me'. (me'.1 ≡ me.1) × Changes t (λ d. d.place) f (index C c.place) me.0 me'.0
+      × AreRising me.0.producer.claims)
   header_step t un f slots id me cap k c value has is may stays word others s r wide at small =
       let v : View = me.0 in
       let un_c : IsSettled c.stage → ⊥ = λ z. un (subst IsSettled is z) in
@@ -149,31 +184,50 @@ module _ (C start : ℕ) where
         with_claims (changed c.place f v.producer.claims) v,
         keeps,
         tt,
-        edits s.words s.views r id v at k c has un_c f may (λ _. stays) c.place value place8 padded (omega arith) (inl (omega arith)) word (λ p p8 ne. others p p8 place8 ne),
+        edits s.words s.views r id v at k c has un_c f may (λ _. stays) c.place value place8 padded (omega arith)
+            (inl (omega arith)) word (λ p p8 ne. others p p8 place8 ne),
         (
           refl,
           (λ k' c' has' is' same.
               let un_c' : IsSettled c'.stage → ⊥ = λ z. un (subst IsSettled is' z) in
               let st' = stands C start s.words s.views r id v at k' c' has' un_c' in
               let padded' = st'.lies.padded in
-              ap (λ p. with_claims (changed p f v.producer.claims) v) (sym (same_place s.words s.views r id v cap at k k' c c' has has' un_c un_c' c.place c'.place place8 st'.place_aligned padded (omega arith) (inl (omega arith)) padded' (omega arith) (inl (omega arith)) same).0)),
+              ap (λ p. with_claims (changed p f v.producer.claims) v)
+              (sym (same_place s.words s.views r id v cap at k k' c c' has has' un_c un_c' c.place c'.place place8
+              st'.place_aligned padded (omega arith) (inl (omega arith)) padded' (omega arith)
+              (inl (omega arith)) same).0)),
           rising s.words s.views r id v at,
         ),
       )
 
   -- the stage alone changes
-  stage_step : (t u : Stage) → (IsSettled t → ⊥) → u ≢ Moved → ((word : ℕ) → masked_padding u word ≡ masked_padding t word) → ((word : ℕ) → masked_record u word ≡ masked_record t word) → (slots id : ℕ) (me : Mine) → me.0.capacity ≡ C → (k : ℕ) (c : StagedClaim) (value : ℕ) → HasClaim me.0 k c → c.stage ≡ t → value ≡ masked_record u (header_of (claim_of (staged u c)))
-      → Allows (Ok C start) slots id me (index C c.place) (λ _. value) (λ _ me'. (me'.1 ≡ me.1) × Changes t (λ d. d.place) (staged u) (index C c.place) me.0 me'.0 × AreRising me.0.producer.claims)
+  stage_step : (t u : Stage) → (IsSettled t → ⊥) → u ≢ Moved
+      → ((word : ℕ) → masked_padding u word ≡ masked_padding t word)
+      → ((word : ℕ) → masked_record u word ≡ masked_record t word) → (slots id : ℕ) (me : Mine) → me.0.capacity ≡ C
+      → (k : ℕ) (c : StagedClaim) (value : ℕ) → HasClaim me.0 k c → c.stage ≡ t
+      → value ≡ masked_record u (header_of (claim_of (staged u c)))
+      → Allows (Ok C start) slots id me (index C c.place) (λ _. value)
+      (λ _ me'. (me'.1 ≡ me.1) × Changes t (λ d. d.place) (staged u) (index C c.place) me.0 me'.0
+      × AreRising me.0.producer.claims)
   stage_step t u un stays pads masks slots id me cap k c value has is value_is =
-      header_step t un (staged u) slots id me cap k c value has is (record { from = refl; place = refl; same_span = refl; message = λ m. m }) stays (staged_word-header (staged u c) c.place refl ∙ sym value_is)
-      (λ p p8 place8 ne. staged_word-staged c u p p8 place8 ne (λ word. masks word ∙ ap (λ z. masked_record z word) (sym is)) (λ _. pads (padding_header (c.place - c.from)) ∙ ap (λ z. masked_padding z (padding_header (c.place - c.from))) (sym is)))
+      header_step t un (staged u) slots id me cap k c value has is
+      (record { from = refl; place = refl; same_span = refl; message = λ m. m }) stays
+      (staged_word-header (staged u c) c.place refl ∙ sym value_is)
+      (λ p p8 place8 ne. staged_word-staged c u p p8 place8 ne
+      (λ word. masks word ∙ ap (λ z. masked_record z word) (sym is))
+      (λ _. pads (padding_header (c.place - c.from))
+      ∙ ap (λ z. masked_padding z (padding_header (c.place - c.from))) (sym is)))
 
-  pub settles : (u : ClaimState) (slots id : ℕ) (me : Mine) → me.0.capacity ≡ C → (k : ℕ) (c : StagedClaim) (value : ℕ) → HasClaim me.0 k c → c.stage ≡ Stored Open → value ≡ header_of (record { message = c.message; state = u })
-      → Allows (Ok C start) slots id me (index C c.place) (λ _. value) (λ _ me'. (me'.1 ≡ me.1) × StoresSettled u (index C c.place) me.0 me'.0 × AreRising me.0.producer.claims)
+  pub settles : (u : ClaimState) (slots id : ℕ) (me : Mine) → me.0.capacity ≡ C → (k : ℕ) (c : StagedClaim) (value : ℕ)
+      → HasClaim me.0 k c → c.stage ≡ Stored Open → value ≡ header_of (record { message = c.message; state = u })
+      → Allows (Ok C start) slots id me (index C c.place) (λ _. value)
+      (λ _ me'. (me'.1 ≡ me.1) × StoresSettled u (index C c.place) me.0 me'.0 × AreRising me.0.producer.claims)
   settles u = stage_step (Stored Open) (Stored u) (λ z. z) (λ e. cc) (λ _. refl) (λ _. refl)
 
-  pub pads : (slots id : ℕ) (me : Mine) → me.0.capacity ≡ C → (k : ℕ) (c : StagedClaim) (value : ℕ) → HasClaim me.0 k c → c.stage ≡ Moved → c.from < c.place → value ≡ padding_header (c.place - c.from)
-      → Allows (Ok C start) slots id me (index C c.from) (λ _. value) (λ _ me'. (me'.1 ≡ me.1) × StoresPadding (index C c.from) me.0 me'.0 × AreRising me.0.producer.claims)
+  pub pads : (slots id : ℕ) (me : Mine) → me.0.capacity ≡ C → (k : ℕ) (c : StagedClaim) (value : ℕ) → HasClaim me.0 k c
+      → c.stage ≡ Moved → c.from < c.place → value ≡ padding_header (c.place - c.from)
+      → Allows (Ok C start) slots id me (index C c.from) (λ _. value)
+      (λ _ me'. (me'.1 ≡ me.1) × StoresPadding (index C c.from) me.0 me'.0 × AreRising me.0.producer.claims)
   pads slots id me cap k c value has is wraps value_is s r wide at small =
       let v : View = me.0 in
       let un : IsSettled c.stage → ⊥ = λ z. subst IsSettled is z in
@@ -182,25 +236,35 @@ module _ (C start : ℕ) where
         with_claims (changed c.place (staged Padded) v.producer.claims) v,
         keeps,
         tt,
-        edits s.words s.views r id v at k c has un (staged Padded) (record { from = refl; place = refl; same_span = refl; message = λ m. m }) (λ _ e. cc) c.from value st.from_aligned (omega arith) (omega arith) (inr is)
+        edits s.words s.views r id v at k c has un (staged Padded)
+            (record { from = refl; place = refl; same_span = refl; message = λ m. m })
+            (λ _ e. cc) c.from value st.from_aligned (omega arith) (omega arith) (inr is)
             (staged_word-padding (staged Padded c) c.from refl wraps ∙ sym value_is)
             (λ p p8 ne. dite (ℕ_discrete p c.place)
-            (λ e. staged_word-header (staged Padded c) p e ∙ sym (staged_word-header c p e ∙ ap (λ z. masked_record z (header_of (claim_of c))) is))
-            (λ other. staged_word-staged c Padded p p8 place8 other (λ word. ap (λ z. masked_record z word) (sym is)) (λ e. absurd (ne e)))),
+            (λ e. staged_word-header (staged Padded c) p e
+            ∙ sym (staged_word-header c p e ∙ ap (λ z. masked_record z (header_of (claim_of c))) is))
+            (λ other. staged_word-staged c Padded p p8 place8 other (λ word. ap (λ z. masked_record z word) (sym is))
+            (λ e. absurd (ne e)))),
         (
           refl,
           (λ k' c' has' is' same.
               let un' : IsSettled c'.stage → ⊥ = λ z. subst IsSettled is' z in
               let st' = stands C start s.words s.views r id v at k' c' has' un' in
               let padded' = st'.lies.padded in
-              ap (λ p. with_claims (changed p (staged Padded) v.producer.claims) v) (sym (same_place s.words s.views r id v cap at k k' c c' has has' un un' c.from c'.from st.from_aligned st'.from_aligned (omega arith) (omega arith) (inr is) (omega arith) (omega arith) (inr is') same).0)),
+              ap (λ p. with_claims (changed p (staged Padded) v.producer.claims) v)
+              (sym (same_place s.words s.views r id v cap at k k' c c' has has' un un' c.from c'.from
+              st.from_aligned st'.from_aligned (omega arith) (omega arith) (inr is) (omega arith) (omega arith)
+              (inr is') same).0)),
           rising s.words s.views r id v at,
         ),
       )
 
   -- the claimed header fixes type id and length
-  pub opens : (slots id : ℕ) (me : Mine) → me.0.capacity ≡ C → (k : ℕ) (c : StagedClaim) (type_id : ℤ) (n value : ℕ) → value ≡ open_header type_id n → C ≤ 2 ^ 24 → HasClaim me.0 k c → c.stage ≡ Padded → span n ≡ staged_span c → IsMessage C (blank type_id n)
-      → Allows (Ok C start) slots id me (index C c.place) (λ _. value) (λ _ me'. (me'.1 ≡ me.1) × StoresClaimed (index C c.place) value me.0 me'.0 × AreRising me.0.producer.claims)
+  pub opens : (slots id : ℕ) (me : Mine) → me.0.capacity ≡ C → (k : ℕ) (c : StagedClaim) (type_id : ℤ) (n value : ℕ)
+      → value ≡ open_header type_id n → C ≤ 2 ^ 24 → HasClaim me.0 k c → c.stage ≡ Padded → span n ≡ staged_span c
+      → IsMessage C (blank type_id n)
+      → Allows (Ok C start) slots id me (index C c.place) (λ _. value)
+      (λ _ me'. (me'.1 ≡ me.1) × StoresClaimed (index C c.place) value me.0 me'.0 × AreRising me.0.producer.claims)
   opens slots id me cap k c type_id n value value_is big has is long lawful s r wide at small =
       let zeros : length (blank type_id n).body ≡ n = length-replicate n 0 in
       let short : n ≤ C / 8 = omega (arith, lawful.short) in
@@ -219,13 +283,17 @@ module _ (C start : ℕ) where
               let same' = sym value_is ∙ same in
               let types = one_type type_id n type_id' n' lawful.type_fits (omega arith) fits' small' same' in
               let lengths = one_length type_id n type_id' n' (omega arith) small' same' in
-              subst (λ (z : ℤ × ℕ). Changes Padded (λ d. d.place) (opened z.0 z.1) (index C c.place) me.0 t.0) (λ i. (types i, lengths i)) t.4.1),
+              subst (λ (z : ℤ × ℕ). Changes Padded (λ d. d.place) (opened z.0 z.1) (index C c.place) me.0 t.0)
+              (λ i. (types i, lengths i)) t.4.1),
           t.4.2,
         ),
       )
 
-  pub puts : (slots id : ℕ) (me : Mine) → me.0.capacity ≡ C → (k : ℕ) (c : StagedClaim) (o value : ℕ) → HasClaim me.0 k c → TakesWord o value c → value < 2 ^ 64
-      → Allows (Ok C start) slots id me (index C (c.place + 8 + o)) (λ _. value) (λ _ me'. (me'.1 ≡ me.1) × StoresBody (index C (c.place + 8 + o)) value me.0 me'.0 × AreRising me.0.producer.claims)
+  pub puts : (slots id : ℕ) (me : Mine) → me.0.capacity ≡ C → (k : ℕ) (c : StagedClaim) (o value : ℕ)
+      → HasClaim me.0 k c → TakesWord o value c → value < 2 ^ 64
+      → Allows (Ok C start) slots id me (index C (c.place + 8 + o)) (λ _. value)
+      (λ _ me'. (me'.1 ≡ me.1) × StoresBody (index C (c.place + 8 + o)) value me.0 me'.0
+      × AreRising me.0.producer.claims)
   puts slots id me cap k c o value has takes below_64 s r wide at small =
       let v : View = me.0 in
       let un : IsSettled c.stage → ⊥ = λ z. subst IsSettled takes.stage z in
@@ -245,10 +313,17 @@ module _ (C start : ℕ) where
               from = refl;
               place = refl;
               same_span = ap span long;
-              message = λ m. record { type_id = m.type_id; type_fits = m.type_fits; short = (let short = m.short in omega arith); bytes = bytes_of-with_word c.message.body o value m.bytes };
+              message = λ m. record {
+                type_id = m.type_id;
+                type_fits = m.type_fits;
+                short =
+                    (let short = m.short in omega arith);
+                bytes = bytes_of-with_word c.message.body o value m.bytes;
+              };
             })
             (λ stays. stays) q value (omega arith) (omega arith) (omega arith) (inl (omega arith))
-            (staged_word-stored (written o value c) q o (subst IsStored (sym takes.stage) tt) refl ∙ body_word-with_word c.message.body o value lt below_64 takes.zeros)
+            (staged_word-stored (written o value c) q o (subst IsStored (sym takes.stage) tt) refl
+            ∙ body_word-with_word c.message.body o value lt below_64 takes.zeros)
             (λ p p8 ne. staged_word-written c o value p (omega arith) place8 o8 p8 ne),
         (
           refl,
@@ -259,7 +334,9 @@ module _ (C start : ℕ) where
               let place8' = st'.place_aligned in
               let n' : ℕ = length c'.message.body in
               let q' : ℕ = c'.place + 8 + o' in
-              let one = same_place s.words s.views r id v cap at k k' c c' has has' un un' q q' (omega arith) (omega arith) (omega arith) (omega arith) (inl (omega arith)) (omega arith) (omega arith) (inl (omega arith)) same in
+              let one = same_place s.words s.views r id v cap at k k' c c' has has' un un' q q' (omega arith)
+              (omega arith) (omega arith) (omega arith) (inl (omega arith)) (omega arith) (omega arith)
+              (inl (omega arith)) same in
               let places : c'.place ≡ c.place = one.0 in
               let positions : q' ≡ q = one.1 in
               let offsets : o ≡ o' = omega arith in

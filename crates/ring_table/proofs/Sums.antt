@@ -22,19 +22,25 @@ module _ {A : Type 0} where
   there_or_past (x ∷ xs) (suc j) = ⊎_elim (λ t. inl t) (λ (le : length xs ≤ j). inr (omega arith)) (there_or_past xs j)
 
   -- an entry of a list that got one more
-  pub at_more : (l : List A) (a b : A) (j : ℕ) → get_elem? (l ++ a ∷ []) j ≡ some b → (get_elem? l j ≡ some b) ⊎ ((j ≡ length l) × (a ≡ b))
+  pub at_more : (l : List A) (a b : A) (j : ℕ) → get_elem? (l ++ a ∷ []) j ≡ some b
+      → (get_elem? l j ≡ some b) ⊎ ((j ≡ length l) × (a ≡ b))
   at_more [] a b zero e = inr (refl, some-injective a b e)
   at_more [] a b (suc j) e = absurd (some-ne-none b (sym e))
   at_more (x ∷ xs) a b zero e = inl e
-  at_more (x ∷ xs) a b (suc j) e = ⊎_elim (λ t. inl t) (λ (t : (j ≡ length xs) × (a ≡ b)). inr (ap suc t.0, t.1)) (at_more xs a b j e)
+  at_more (x ∷ xs) a b (suc j) e =
+      ⊎_elim (λ t. inl t) (λ (t : (j ≡ length xs) × (a ≡ b)). inr (ap suc t.0, t.1)) (at_more xs a b j e)
 
   -- what holds of each entry after one was set
-  pub each_after_set : (P Q : ℕ → A → Type 0) (l : List A) (id : ℕ) (w : A) → Q id w → ((j : ℕ) (a : A) → j ≢ id → P j a → Q j a) → ((j : ℕ) (a : A) → get_elem? l j ≡ some a → P j a) → (j : ℕ) (a : A) → get_elem? (set l id w) j ≡ some a → Q j a
+  pub each_after_set : (P Q : ℕ → A → Type 0) (l : List A) (id : ℕ) (w : A) → Q id w
+      → ((j : ℕ) (a : A) → j ≢ id → P j a → Q j a) → ((j : ℕ) (a : A) → get_elem? l j ≡ some a → P j a)
+      → (j : ℕ) (a : A) → get_elem? (set l id w) j ≡ some a → Q j a
   each_after_set P Q l id w own others was j a e =
-      ⊎_elim (λ (t : (j ≡ id) × (w ≡ a)). subst (λ (z : ℕ × A). Q z.0 z.1) (λ i. (sym t.0 i, t.1 i)) own) (λ (t : (j ≢ id) × (get_elem? l j ≡ some a)). others j a t.0 (was j a t.1)) (at_set l id j w a e)
+      ⊎_elim (λ (t : (j ≡ id) × (w ≡ a)). subst (λ (z : ℕ × A). Q z.0 z.1) (λ i. (sym t.0 i, t.1 i)) own)
+      (λ (t : (j ≢ id) × (get_elem? l j ≡ some a)). others j a t.0 (was j a t.1)) (at_set l id j w a e)
 
   module _ (f : A → ℕ) where
-    pub total-set : (l : List A) (id : ℕ) (v w : A) → get_elem? l id ≡ some v → total f (set l id w) + f v ≡ total f l + f w
+    pub total-set : (l : List A) (id : ℕ) (v w : A) → get_elem? l id ≡ some v
+        → total f (set l id w) + f v ≡ total f l + f w
     total-set [] id v w at = absurd (some-ne-none v (sym at))
     total-set (x ∷ xs) zero v w at =
         let same : f x ≡ f v = ap f (some-injective x v at) in
@@ -82,7 +88,8 @@ module _ {A : Type 0} where
         total-zero xs j a zero_there at
 
     -- where no other entry counts, the sum is that of one
-    pub total-sole : (l : List A) (id : ℕ) (v : A) → get_elem? l id ≡ some v → ((j : ℕ) (a : A) → j ≢ id → get_elem? l j ≡ some a → f a ≡ 0) → total f l ≡ f v
+    pub total-sole : (l : List A) (id : ℕ) (v : A) → get_elem? l id ≡ some v
+        → ((j : ℕ) (a : A) → j ≢ id → get_elem? l j ≡ some a → f a ≡ 0) → total f l ≡ f v
     total-sole [] id v at none = absurd (some-ne-none v (sym at))
     total-sole (x ∷ xs) zero v at none =
         let rest : ℕ = total f xs in
@@ -101,7 +108,8 @@ module _ {A : Type 0} where
             done
     total-sole (x ∷ xs) (suc id) v at none =
         let rest : ℕ = total f xs in
-        let deeper : rest ≡ f v = total-sole xs id v at (λ j a ne there. none (suc j) a (λ e. ne (omega arith)) there) in
+        let deeper : rest ≡ f v =
+        total-sole xs id v at (λ j a ne there. none (suc j) a (λ e. ne (omega arith)) there) in
         let nothing_here : f x ≡ 0 = none 0 x (λ e. omega arith) refl in
         let done : f x + rest ≡ f v = omega arith in
         done

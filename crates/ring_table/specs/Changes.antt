@@ -18,7 +18,8 @@ fresh_stage false = Moved
 
 -- the claim of n bytes that a move of the tail from e makes
 abbrev pub fresh : ℕ → ℕ → ℤ → ℕ → StagedClaim
-fresh C e type_id n = let place = next_place C e (span n) in record { from = e; place = place; message = blank type_id n; stage = fresh_stage (e == place) }
+fresh C e type_id n = let place = next_place C e
+    (span n) in record { from = e; place = place; message = blank type_id n; stage = fresh_stage (e == place) }
 
 abbrev pub staged : Stage → StagedClaim → StagedClaim
 staged t c = record { from = c.from; place = c.place; message = c.message; stage = t }
@@ -32,7 +33,13 @@ abbrev pub with_word : ℕ → ℕ → List ℕ → List ℕ
 with_word at word body = overwritten at (take (length body - at) (to_le_bytes w64 word)) body
 
 abbrev pub written : ℕ → ℕ → StagedClaim → StagedClaim
-written at word c = record { from = c.from; place = c.place; message = record { type_id = c.message.type_id; body = with_word at word c.message.body }; stage = c.stage }
+written at word c = record {
+  from = c.from;
+  place = c.place;
+  message =
+      record { type_id = c.message.type_id; body = with_word at word c.message.body };
+  stage = c.stage;
+}
 
 abbrev pub changed_at : ℕ → (StagedClaim → StagedClaim) → StagedClaim → StagedClaim
 changed_at p f c = if c.place == p then f c else c

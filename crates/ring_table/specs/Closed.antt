@@ -19,7 +19,8 @@ pub record IsFresh (C start : ℕ) (words : List ℕ) : Type 0 where
   pub records : (i : ℕ) → i < C / 8 → slice_index words i ≡ 0
   pub unnamed : (i : ℕ) → IsUnnamed C i → slice_index words i ≡ 0
 
--- The words of a ring whose producers and consumer were joined into one seat, and that seat's view. It has all claims and all draws
+-- The words of a ring whose producers and consumer were joined into one seat, and that seat's view. It has all claims
+-- and all draws
 pub record IsClosed (C start : ℕ) (words : List ℕ) (v : View) : Type 0 where
   pub lawful : IsLawful C start
   pub drawn : ℕ
@@ -34,7 +35,8 @@ abbrev pub restarted : ℕ → List StagedClaim → List StagedClaim
 restarted head [] = []
 restarted head (c ∷ cs) = record { from = head; place = c.place; message = c.message; stage = c.stage } ∷ cs
 
--- What a reader leaves: the first claims are settled, and the messages taken are their committed ones. The others lie where they lay, from the head on, and the words are their picture
+-- What a reader leaves: the first claims are settled, and the messages taken are their committed ones. The others lie
+-- where they lay, from the head on, and the words are their picture
 pub record LeavesRest (C : ℕ) (words : List ℕ) (v : View) : Type 0 where
   pub taken : List StagedClaim
   pub rest : List StagedClaim

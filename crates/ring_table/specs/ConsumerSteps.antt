@@ -28,23 +28,30 @@ pub record PassesPadding (C scan : ℕ) (got : List PlacedMessage) (v : View) (n
   pub inside : IsInside C scan (rounded len)
 
 -- the record at `scan` is a message that is committed
-pub record FindsMessage (C scan : ℕ) (got : List PlacedMessage) (v : View) (n len : ℕ) (type_id : ℤ) (w : View) : Type 0 where
+pub record FindsMessage (C scan : ℕ) (got : List PlacedMessage) (v : View) (n len : ℕ) (type_id : ℤ)
+    (w : View) : Type 0 where
   pub body : List ℕ
   pub len_is : 8 + length body ≡ len
   pub message : IsMessage C (record { type_id = type_id; body = body })
-  pub view : w ≡ with_scan (index C scan) n (scan + rounded len) (got ++ (record { place = scan; message = record { type_id = type_id; body = body } }) ∷ []) v
+  pub view : w ≡ with_scan (index C scan) n (scan + rounded len)
+      (got ++ (record { place = scan; message = record { type_id = type_id; body = body } }) ∷ []) v
   pub inside : IsInside C scan (rounded len)
 
 -- what a header at the position `scan` tells a read that has come there and got these messages
 pub record LoadsHeader (C scan : ℕ) (got : List PlacedMessage) (v : View) (n : ℕ) (w : View) : Type 0 where
   pub capacity : w.capacity ≡ v.capacity
-  pub padding : (len : ℕ) → 0 < len → len < 2 ^ 31 → n ≡ header (pos len) padding_type → PassesPadding C scan got v n len w
-  pub message : (len : ℕ) (type_id : ℤ) → 0 < len → len < 2 ^ 31 → FitsSigned w32 type_id → type_id ≢ padding_type → n ≡ header (pos len) type_id → FindsMessage C scan got v n len type_id w
-  pub unpublished : (len type_id : ℤ) → FitsSigned w32 len → FitsSigned w32 type_id → len ≤ℤ pos 0 → n ≡ header len type_id → w ≡ with_scan (index C scan) n scan got v
+  pub padding : (len : ℕ) → 0 < len → len < 2 ^ 31 → n ≡ header (pos len) padding_type
+      → PassesPadding C scan got v n len w
+  pub message : (len : ℕ) (type_id : ℤ) → 0 < len → len < 2 ^ 31 → FitsSigned w32 type_id → type_id ≢ padding_type
+      → n ≡ header (pos len) type_id → FindsMessage C scan got v n len type_id w
+  pub unpublished : (len type_id : ℤ) → FitsSigned w32 len → FitsSigned w32 type_id → len ≤ℤ pos 0
+      → n ≡ header len type_id → w ≡ with_scan (index C scan) n scan got v
 
 -- the number loaded is the word of the body of a message that the read has got
 abbrev pub LoadsBody : ℕ → View → ℕ → Type 0
-LoadsBody word v n = (k : ℕ) (m : PlacedMessage) (at : ℕ) → get_elem? v.consumer.got k ≡ some m → v.consumer.cleared ≤ m.place → at % 8 ≡ 0 → at < length m.message.body → index v.capacity (m.place + 8 + at) ≡ word → n ≡ body_word m.message.body at
+LoadsBody word v n = (k : ℕ) (m : PlacedMessage) (at : ℕ) → get_elem? v.consumer.got k ≡ some m
+    → v.consumer.cleared ≤ m.place → at % 8 ≡ 0 → at < length m.message.body
+    → index v.capacity (m.place + 8 + at) ≡ word → n ≡ body_word m.message.body at
 
 abbrev pub ClearsWord : View → View → Type 0
 ClearsWord v w = w ≡ with_consumer (cleared_to (v.consumer.cleared + 8) v.consumer) v
@@ -54,7 +61,8 @@ StoresHead v w = w ≡ with_consumer (stands_at v.consumer.scan v.consumer.got v
 
 -- the head goes to the last message that the read has got, which stays in the ring
 abbrev pub StoresHeadBefore : View → View → Type 0
-StoresHeadBefore v w = (got : List PlacedMessage) (m : PlacedMessage) → v.consumer.got ≡ got ++ m ∷ [] → w ≡ with_consumer (stands_at m.place got v.consumer) v
+StoresHeadBefore v w = (got : List PlacedMessage) (m : PlacedMessage) → v.consumer.got ≡ got ++ m ∷ []
+    → w ≡ with_consumer (stands_at m.place got v.consumer) v
 
 -- m is the last message that the read has got, and all words before it are cleared
 pub record StandsBefore (head : ℕ) (v : View) : Type 0 where

@@ -89,24 +89,30 @@ pub record HasClaimAt (v : View) (place : ℕ) (P : StagedClaim → Type 0) : Ty
 
 -- the view's own claim whose word `at` is this one, at the stage t, becomes f of itself
 abbrev pub Changes : Stage → (StagedClaim → ℕ) → (StagedClaim → StagedClaim) → ℕ → View → View → Type 0
-Changes t at f word v w = (k : ℕ) (c : StagedClaim) → HasClaim v k c → c.stage ≡ t → index v.capacity (at c) ≡ word → w ≡ with_claims (changed c.place f v.producer.claims) v
+Changes t at f word v w = (k : ℕ) (c : StagedClaim) → HasClaim v k c → c.stage ≡ t → index v.capacity (at c) ≡ word
+    → w ≡ with_claims (changed c.place f v.producer.claims) v
 
 abbrev pub StoresPadding : ℕ → View → View → Type 0
 StoresPadding word v w = Changes Moved (λ c. c.from) (staged Padded) word v w
 
 -- the header that is stored fixes type id and length
 abbrev pub StoresClaimed : ℕ → ℕ → View → View → Type 0
-StoresClaimed word value v w = (type_id : ℤ) (n : ℕ) → FitsSigned w32 type_id → 8 + n < 2 ^ 31 → value ≡ open_header type_id n → Changes Padded (λ c. c.place) (opened type_id n) word v w
+StoresClaimed word value v w = (type_id : ℤ) (n : ℕ) → FitsSigned w32 type_id → 8 + n < 2 ^ 31
+    → value ≡ open_header type_id n → Changes Padded (λ c. c.place) (opened type_id n) word v w
 
 abbrev pub StoresSettled : ClaimState → ℕ → View → View → Type 0
 StoresSettled s word v w = Changes (Stored Open) (λ c. c.place) (staged (Stored s)) word v w
 
 abbrev pub StoresBody : ℕ → ℕ → View → View → Type 0
-StoresBody word value v w = (k : ℕ) (c : StagedClaim) (at : ℕ) → HasClaim v k c → c.stage ≡ Stored Open → at % 8 ≡ 0 → at < length c.message.body → index v.capacity (c.place + 8 + at) ≡ word → w ≡ with_claims (changed c.place (written at value) v.producer.claims) v
+StoresBody word value v w = (k : ℕ) (c : StagedClaim) (at : ℕ) → HasClaim v k c → c.stage ≡ Stored Open → at % 8 ≡ 0
+    → at < length c.message.body → index v.capacity (c.place + 8 + at) ≡ word
+    → w ≡ with_claims (changed c.place (written at value) v.producer.claims) v
 
 -- the number loaded is the word of an own open claim's body, which has bytes
 abbrev pub LoadsOwn : ℕ → View → ℕ → Type 0
-LoadsOwn word v n = (k : ℕ) (c : StagedClaim) (at : ℕ) → HasClaim v k c → c.stage ≡ Stored Open → at % 8 ≡ 0 → at < length c.message.body → index v.capacity (c.place + 8 + at) ≡ word → (n ≡ body_word c.message.body at) × All (λ b. b < 256) c.message.body
+LoadsOwn word v n = (k : ℕ) (c : StagedClaim) (at : ℕ) → HasClaim v k c → c.stage ≡ Stored Open → at % 8 ≡ 0
+    → at < length c.message.body → index v.capacity (c.place + 8 + at) ≡ word
+    → (n ≡ body_word c.message.body at) × All (λ b. b < 256) c.message.body
 
 -- ---- what a step asks of the claim
 

@@ -32,13 +32,16 @@ pub record IsMemory (C start : ℕ) (words : List ℕ) (claims : List StagedClai
   pub clears_from : consumer.head ≤ consumer.cleared
   pub clears_to : consumer.cleared ≤ consumer.scan
   pub clears_words : consumer.cleared % 8 ≡ 0
-  pub shows : (p : ℕ) → p % 8 ≡ 0 → consumer.head ≤ p → p < consumer.head + C → slice_index words (index C p) ≡ shown_word consumer.cleared claims p
+  pub shows : (p : ℕ) → p % 8 ≡ 0 → consumer.head ≤ p → p < consumer.head + C
+      → slice_index words (index C p) ≡ shown_word consumer.cleared claims p
 
--- the head cache, the correlation counter, which n ids were drawn from, and the heartbeat. The trailer's other words are 0
+-- the head cache, the correlation counter, which n ids were drawn from, and the heartbeat. The trailer's other words
+-- are 0
 pub record IsService (C : ℕ) (words : List ℕ) (consumer : ConsumerView) (n : ℕ) : Type 0 where
   pub cache : slice_index words (head_cache_index C) ≤ consumer.head
   pub correlation : slice_index words (correlation_index C) ≡ n % 2 ^ 64
-  pub heartbeat : get_elem? (0 ∷ consumer.heartbeats) (length consumer.heartbeats) ≡ some (slice_index words (heartbeat_index C))
+  pub heartbeat : get_elem? (0 ∷ consumer.heartbeats) (length consumer.heartbeats)
+      ≡ some (slice_index words (heartbeat_index C))
   pub unnamed : (i : ℕ) → IsUnnamed C i → slice_index words i ≡ 0
 
 -- a producer with no share has claimed and drawn nothing
@@ -47,7 +50,8 @@ pub record IsIdle (p : ProducerView) : Type 0 where
   pub draws : (x : ℕ) → times_drawn x p ≡ 0
 
 -- what the seat id knows of the history, which ends at `top`, of the consumer, whose seat is `reader`, and of n draws
-pub record Knows (top : ℕ) (hist : OwnedHistory) (reader : ℕ) (consumer : ConsumerView) (n id : ℕ) (v : View) : Type 0 where
+pub record Knows (top : ℕ) (hist : OwnedHistory) (reader : ℕ) (consumer : ConsumerView) (n id : ℕ)
+    (v : View) : Type 0 where
   pub claims : v.producer.claims ≡ owned_by id hist
   pub tail_seen : v.producer.seen_tail ≤ top
   pub head_seen : v.producer.seen_head ≤ consumer.head
@@ -67,14 +71,16 @@ abbrev pub shares_of : View → ℕ
 shares_of v = v.producer.shares
 
 -- the views of all seats: each knows its part, the shares are 65,536 in all, and each number below n was drawn once
-pub record IsSeated (top : ℕ) (hist : OwnedHistory) (reader : ℕ) (consumer : ConsumerView) (n : ℕ) (views : List View) : Type 0 where
+pub record IsSeated (top : ℕ) (hist : OwnedHistory) (reader : ℕ) (consumer : ConsumerView) (n : ℕ)
+    (views : List View) : Type 0 where
   pub each : (id : ℕ) (v : View) → get_elem? views id ≡ some v → Knows top hist reader consumer n id v
   pub nobody : (id : ℕ) → length views ≤ id → owned_by id hist ≡ []
   pub shares : total shares_of views ≡ 65536
   pub latest : SeesTop views top
   pub once : (x : ℕ) → total (λ (v : View). times_drawn x v.producer) views ≡ once_below x n
 
--- There is one history of claims with their owners, one consumer and a number of draws: the words show them, and each view is its seat's part
+-- There is one history of claims with their owners, one consumer and a number of draws: the words show them, and each
+-- view is its seat's part
 pub record Kept (C start : ℕ) (words : List ℕ) (views : List View) : Type 0 where
   pub lawful : IsLawful C start
   pub hist : OwnedHistory

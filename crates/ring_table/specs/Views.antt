@@ -16,11 +16,27 @@ abbrev pub consumer_from : ℕ → ConsumerView
 consumer_from start = record { head = start; cleared = start; scan = start; taken = []; got = []; heartbeats = [] }
 
 abbrev pub new_producer : ℕ → ℕ → ℕ → ProducerView
-new_producer shares seen_tail seen_head = record { shares = shares; claims = []; seen_tail = seen_tail; seen_head = seen_head; service = no_service; joined = [] }
+new_producer shares seen_tail seen_head =
+    record {
+      shares = shares;
+      claims = [];
+      seen_tail = seen_tail;
+      seen_head = seen_head;
+      service = no_service;
+      joined =
+          [];
+    }
 
 -- the first seat is the only producer, and the consumer
 abbrev pub first_view : Key → View
-first_view k = record { capacity = k.capacity; log = []; producer = new_producer 65536 k.start k.start; consumes = true; consumer = consumer_from k.start }
+first_view k = record {
+  capacity = k.capacity;
+  log = [];
+  producer = new_producer 65536 k.start k.start;
+  consumes =
+      true;
+  consumer = consumer_from k.start;
+}
 
 -- ---- loads
 
@@ -70,7 +86,8 @@ abbrev pub with_draw : ℕ → ProducerView → ProducerView
 with_draw k p = record p { service = record p.service { draws = p.service.draws ++ k ∷ [] } }
 
 abbrev pub with_heartbeat : ℕ → ℕ → ProducerView → ProducerView
-with_heartbeat i value p = record p { service = record p.service { heartbeats = p.service.heartbeats ++ (i, value) ∷ [] } }
+with_heartbeat i value p =
+    record p { service = record p.service { heartbeats = p.service.heartbeats ++ (i, value) ∷ [] } }
 
 abbrev pub beaten : ℕ → ConsumerView → ConsumerView
 beaten value c = record c { heartbeats = c.heartbeats ++ value ∷ [] }
@@ -89,7 +106,14 @@ abbrev pub without_consumer : View → View
 without_consumer v = record v { consumes = false; consumer = no_consumer }
 
 abbrev pub consumer_alone : View → View
-consumer_alone v = record { capacity = v.capacity; log = []; producer = new_producer 0 v.producer.seen_tail v.producer.seen_head; consumes = v.consumes; consumer = v.consumer }
+consumer_alone v = record {
+  capacity = v.capacity;
+  log = [];
+  producer =
+      new_producer 0 v.producer.seen_tail v.producer.seen_head;
+  consumes = v.consumes;
+  consumer = v.consumer;
+}
 
 -- a producer takes the consumer's part in
 abbrev pub with_consumer_of : View → View → View
@@ -100,7 +124,14 @@ abbrev pub without_share : View → View
 without_share v = with_producer (record v.producer { shares = v.producer.shares - 1 }) v
 
 abbrev pub producer_alone : View → View
-producer_alone v = record { capacity = v.capacity; log = []; producer = new_producer 1 v.producer.seen_tail v.producer.seen_head; consumes = false; consumer = no_consumer }
+producer_alone v = record {
+  capacity = v.capacity;
+  log = [];
+  producer =
+      new_producer 1 v.producer.seen_tail v.producer.seen_head;
+  consumes = false;
+  consumer = no_consumer;
+}
 
 -- what one producer has that took another in
 abbrev pub both_producers : ProducerView → ProducerView → ProducerView

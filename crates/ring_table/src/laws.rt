@@ -12,8 +12,8 @@ ghost use Rattle.ring_table.specs.Passing.{AreSettled};
 ghost use Rattle.ring_table.specs.ProducerSteps.{EndBelow};
 ghost use Rattle.ring_table.specs.OpenClaims.{AreBelow, one_if_open, open_count};
 
-/// Where the header of each claim is stored, the words of the claims with their places are those of the claims alone, and
-/// both end at one position.
+/// Where the header of each claim is stored, the words of the claims with their places are those of the claims alone,
+/// and both end at one position.
 pub fn stored_claims_show_one_picture()
     ensures word { (capacity e : ℕ) (cs : List StagedClaim) (p : ℕ) → ArePlaced capacity e cs → AreStored cs
         → staged_word_at cs p ≡ word_at capacity e (claims_of cs) p }
@@ -21,8 +21,8 @@ pub fn stored_claims_show_one_picture()
         → staged_end e cs ≡ end_of capacity e (claims_of cs) }
 {}
 
-/// A claim behind all others that one of two producers gets stands at the end of their claims put together, and changes no
-/// other place.
+/// A claim behind all others that one of two producers gets stands at the end of their claims put together, and changes
+/// no other place.
 pub fn last_claim_stands_last()
     ensures left { (c : StagedClaim) (xs ys : List StagedClaim) → AreBelow c.place ys
         → interleaved (xs ++ c ∷ []) ys ≡ interleaved xs ys ++ c ∷ [] }

@@ -31,8 +31,17 @@ pub lawful_128 : IsLawful 128 0
 lawful_128 = record { capacity = capacity_128; start_is = refl }
 
 -- a seat stays one of its ring
-pub stays_seat : (id : TableId) (key : Key) (capacity : ℕ) (old new : Seat Wanted View) → IsSeatOf id key capacity old → IsSameSeat old new → IsSeatOf id key capacity new
-stays_seat id key capacity old new s same = record { table_is = same.table ∙ s.table_is; words_are = s.words_are; key_is = s.key_is; view_is = same.capacity ∙ s.view_is; lawful = s.lawful }
+pub stays_seat : (id : TableId) (key : Key) (capacity : ℕ) (old new : Seat Wanted View) → IsSeatOf id key capacity old
+    → IsSameSeat old new → IsSeatOf id key capacity new
+stays_seat id key capacity old new s same =
+    record {
+      table_is = same.table ∙ s.table_is;
+      words_are = s.words_are;
+      key_is = s.key_is;
+      view_is = same.capacity
+          ∙ s.view_is;
+      lawful = s.lawful;
+    }
 
 -- five bytes as a word have three zeros behind them
 pub behind_five : (i : ℕ) → i < 8 → 5 ≤ 0 + i → slice_index (to_le_bytes w64 21542142465) i ≡ 0
@@ -52,24 +61,54 @@ last_of : (cs : List StagedClaim) (c : StagedClaim) → get_elem? (cs ++ c ∷ [
 last_of [] c = refl
 last_of (d ∷ ds) c = last_of ds c
 
-changed_at_nth : (p : ℕ) (f : StagedClaim → StagedClaim) (cs : List StagedClaim) (k : ℕ) (c : StagedClaim) → get_elem? cs k ≡ some c → c.place ≡ p → get_elem? (changed p f cs) k ≡ some (f c)
+changed_at_nth : (p : ℕ) (f : StagedClaim → StagedClaim) (cs : List StagedClaim) (k : ℕ) (c : StagedClaim)
+    → get_elem? cs k ≡ some c → c.place ≡ p → get_elem? (changed p f cs) k ≡ some (f c)
 changed_at_nth p f [] k c there at = absurd (some-ne-none c (sym there))
-changed_at_nth p f (d ∷ ds) zero c there at = ap some (ap (changed_at p f) (some-injective d c there) ∙ changed_at_place p f c at)
+changed_at_nth p f (d ∷ ds) zero c there at =
+    ap some (ap (changed_at p f) (some-injective d c there) ∙ changed_at_place p f c at)
 changed_at_nth p f (d ∷ ds) (suc k) c there at = changed_at_nth p f ds k c there at
 
 -- what holds of a claim as it is made
-pub claim_made : (v w : View) (c : StagedClaim) (tail place : ℕ) (P : StagedClaim → Type 0) → w ≡ with_claim c tail v → c.place ≡ place → P c → HasClaimAt w place P
-claim_made v w c tail place P is at holds = record { nth = length v.producer.claims; claim = c; there = ap (λ (u : View). get_elem? u.producer.claims (length v.producer.claims)) is ∙ last_of v.producer.claims c; at_place = at; holds = holds }
+pub claim_made : (v w : View) (c : StagedClaim) (tail place : ℕ) (P : StagedClaim → Type 0) → w ≡ with_claim c tail v
+    → c.place ≡ place → P c → HasClaimAt w place P
+claim_made v w c tail place P is at holds =
+    record {
+      nth = length v.producer.claims;
+      claim = c;
+      there =
+          ap (λ (u : View). get_elem? u.producer.claims (length v.producer.claims)) is
+          ∙ last_of v.producer.claims c;
+      at_place = at;
+      holds = holds;
+    }
 
 -- what holds of a claim after it is changed
-pub claim_changed : (v w : View) (place : ℕ) (f : StagedClaim → StagedClaim) (P Q : StagedClaim → Type 0) → HasClaimAt v place P → w ≡ with_claims (changed place f v.producer.claims) v → ((c : StagedClaim) → P c → ((f c).place ≡ c.place) × Q (f c)) → HasClaimAt w place Q
+pub claim_changed : (v w : View) (place : ℕ) (f : StagedClaim → StagedClaim) (P Q : StagedClaim → Type 0)
+    → HasClaimAt v place P → w ≡ with_claims (changed place f v.producer.claims) v
+    → ((c : StagedClaim) → P c → ((f c).place ≡ c.place) × Q (f c)) → HasClaimAt w place Q
 claim_changed v w place f P Q h is goes =
     let t = goes h.claim h.holds in
-    record { nth = h.nth; claim = f h.claim; there = ap (λ (u : View). get_elem? u.producer.claims h.nth) is ∙ changed_at_nth place f v.producer.claims h.nth h.claim h.there h.at_place; at_place = t.0 ∙ h.at_place; holds = t.1 }
+    record {
+      nth = h.nth;
+      claim = f h.claim;
+      there = ap (λ (u : View). get_elem? u.producer.claims h.nth) is
+          ∙ changed_at_nth place f v.producer.claims h.nth h.claim h.there h.at_place;
+      at_place = t.0
+          ∙ h.at_place;
+      holds = t.1;
+    }
 
 -- where no claim is changed
-pub claim_kept : (v w : View) (place : ℕ) (P : StagedClaim → Type 0) → w.producer.claims ≡ v.producer.claims → HasClaimAt v place P → HasClaimAt w place P
-claim_kept v w place P is h = record { nth = h.nth; claim = h.claim; there = ap (λ (l : List StagedClaim). get_elem? l h.nth) is ∙ h.there; at_place = h.at_place; holds = h.holds }
+pub claim_kept : (v w : View) (place : ℕ) (P : StagedClaim → Type 0) → w.producer.claims ≡ v.producer.claims
+    → HasClaimAt v place P → HasClaimAt w place P
+claim_kept v w place P is h = record {
+  nth = h.nth;
+  claim = h.claim;
+  there =
+      ap (λ (l : List StagedClaim). get_elem? l h.nth) is ∙ h.there;
+  at_place = h.at_place;
+  holds = h.holds;
+}
 
 -- a span with the end of one of 24 is one of 24
 pub same_end : (e a : ℕ) → a ≤ 24 → end_after 128 e a ≡ end_after 128 e 24 → a ≡ 24
@@ -81,9 +120,14 @@ same_end e a le same = elim (next_cases 128 e a) as (λ _. a ≡ 24) [
 -- ---- reading
 
 -- the header of 16 bytes of type 1
-pub finds_message : (C scan : ℕ) (got : List PlacedMessage) (v : View) (n : ℕ) (w : View) → LoadsHeader C scan got v n w → n ≡ header (pos 24) (pos 1) → FindsMessage C scan got v (header (pos 24) (pos 1)) 24 (pos 1) w
-finds_message C scan got v n w told is = subst (λ m. FindsMessage C scan got v m 24 (pos 1) w) is (told.message 24 (pos 1) (omega arith) (omega arith) (search rules) (λ e. absurd (omega (arith, ints))) is)
+pub finds_message : (C scan : ℕ) (got : List PlacedMessage) (v : View) (n : ℕ) (w : View) → LoadsHeader C scan got v n w
+    → n ≡ header (pos 24) (pos 1) → FindsMessage C scan got v (header (pos 24) (pos 1)) 24 (pos 1) w
+finds_message C scan got v n w told is =
+    subst (λ m. FindsMessage C scan got v m 24 (pos 1) w) is
+    (told.message 24 (pos 1) (omega arith) (omega arith) (search rules) (λ e. absurd (omega (arith, ints))) is)
 
 -- the header of an aborted record of 24 bytes
-pub finds_aborted : (C scan : ℕ) (got : List PlacedMessage) (v : View) (n : ℕ) (w : View) → LoadsHeader C scan got v n w → n ≡ header (pos 24) padding_type → PassesPadding C scan got v (header (pos 24) padding_type) 24 w
-finds_aborted C scan got v n w told is = subst (λ m. PassesPadding C scan got v m 24 w) is (told.padding 24 (omega arith) (omega arith) is)
+pub finds_aborted : (C scan : ℕ) (got : List PlacedMessage) (v : View) (n : ℕ) (w : View) → LoadsHeader C scan got v n w
+    → n ≡ header (pos 24) padding_type → PassesPadding C scan got v (header (pos 24) padding_type) 24 w
+finds_aborted C scan got v n w told is =
+    subst (λ m. PassesPadding C scan got v m 24 w) is (told.padding 24 (omega arith) (omega arith) is)

@@ -81,7 +81,8 @@ fn find_first(rt: &impl Abort, ring: &SharedRing, seat: &mut RingSeat, head: u64
     requires head { seat.old.me.0.consumer.head ≡ head }
     requires nothing_cleared { seat.old.me.0.consumer.cleared ≡ head }
     ensures seat { IsSameSeat seat.old seat.new }
-    ensures found { FindsMessage 128 head seat.old.me.0.consumer.taken seat.old.me.0 (header (pos 24) (pos 1)) 24 (pos 1) seat.new.me.0 }
+    ensures found { FindsMessage 128 head seat.old.me.0.consumer.taken seat.old.me.0 (header (pos 24) (pos 1)) 24
+        (pos 1) seat.new.me.0 }
 {
     let header = load_first_header(ring, seat, 128, head);
     assert!(rt; header == 0x0000_0001_0000_0018);
@@ -94,7 +95,8 @@ fn find_aborted(rt: &impl Abort, ring: &SharedRing, seat: &mut RingSeat, head: u
     requires head { seat.old.me.0.consumer.head ≡ head }
     requires nothing_cleared { seat.old.me.0.consumer.cleared ≡ head }
     ensures seat { IsSameSeat seat.old seat.new }
-    ensures passed { PassesPadding 128 head seat.old.me.0.consumer.taken seat.old.me.0 (header (pos 24) padding_type) 24 seat.new.me.0 }
+    ensures passed { PassesPadding 128 head seat.old.me.0.consumer.taken seat.old.me.0
+        (header (pos 24) padding_type) 24 seat.new.me.0 }
 {
     let header = load_first_header(ring, seat, 128, head);
     assert!(rt; header == 0xffff_ffff_0000_0018);
@@ -107,7 +109,8 @@ fn find_next(rt: &impl Abort, ring: &SharedRing, seat: &mut RingSeat, scan: u64)
     requires scan { seat.old.me.0.consumer.scan ≡ scan }
     requires near { scan < seat.old.me.0.consumer.head + 128 }
     ensures seat { IsSameSeat seat.old seat.new }
-    ensures found { FindsMessage 128 scan seat.old.me.0.consumer.got seat.old.me.0 (header (pos 24) (pos 1)) 24 (pos 1) seat.new.me.0 }
+    ensures found { FindsMessage 128 scan seat.old.me.0.consumer.got seat.old.me.0 (header (pos 24) (pos 1)) 24
+        (pos 1) seat.new.me.0 }
 {
     let header = load_next_header(ring, seat, 128, scan);
     assert!(rt; header == 0x0000_0001_0000_0018);
@@ -147,7 +150,8 @@ impl Owner {
 
     /// Finds room for a body of 16 bytes behind the tail.
     fn find_room(&mut self) -> Option<Room>
-        ensures room { IfSome result (λ r. IsClaimable 128 r.from (r.place + 24) (pos 1) 16 self.new.seat.me.0.producer.seen_head) }
+        ensures room { IfSome result (λ r. IsClaimable 128 r.from (r.place + 24)
+            (pos 1) 16 self.new.seat.me.0.producer.seen_head) }
         ensures tail { IfSome result (λ r. self.new.seat.me.0.producer.seen_tail ≡ r.from) }
     {
         let table = &self.table;
@@ -163,7 +167,8 @@ impl Owner {
 
     /// Claims a record by a compare-exchange of the tail.
     fn claim_by_exchange(&mut self) -> Option<Room>
-        ensures { IfSome result (λ r. HasClaimAt self.new.seat.me.0 r.place (λ c. (c.from ≡ r.from) × (c.stage ≡ fresh_stage (r.from == r.place)) × (staged_span c ≡ 24))) }
+        ensures { IfSome result (λ r. HasClaimAt self.new.seat.me.0 r.place
+            (λ c. (c.from ≡ r.from) × (c.stage ≡ fresh_stage (r.from == r.place)) × (staged_span c ≡ 24))) }
     {
         let room = self.find_room()?;
         let (old, new) = (room.from, room.place + 24);
@@ -174,7 +179,8 @@ impl Owner {
 
     /// Claims a record by a store of the tail.
     fn claim_by_store(&mut self) -> Option<Room>
-        ensures { IfSome result (λ r. HasClaimAt self.new.seat.me.0 r.place (λ c. (c.from ≡ r.from) × (c.stage ≡ fresh_stage (r.from == r.place)) × (staged_span c ≡ 24))) }
+        ensures { IfSome result (λ r. HasClaimAt self.new.seat.me.0 r.place
+            (λ c. (c.from ≡ r.from) × (c.stage ≡ fresh_stage (r.from == r.place)) × (staged_span c ≡ 24))) }
     {
         let room = self.find_room()?;
         let table = &self.table;
@@ -184,7 +190,8 @@ impl Owner {
 
     /// Stores the padding's header where there is padding.
     fn pad(&mut self, room: Room)
-        requires { HasClaimAt self.old.seat.me.0 room.place (λ c. (c.from ≡ room.from) × (c.stage ≡ fresh_stage (room.from == room.place)) × (staged_span c ≡ 24)) }
+        requires { HasClaimAt self.old.seat.me.0 room.place
+            (λ c. (c.from ≡ room.from) × (c.stage ≡ fresh_stage (room.from == room.place)) × (staged_span c ≡ 24)) }
         ensures { HasClaimAt self.new.seat.me.0 room.place (NeedsHeader 16) }
     {
         if room.from < room.place {
@@ -239,7 +246,8 @@ impl Owner {
 
     /// Stores all of a claimed record but its tail.
     fn fill(&mut self, rt: &impl Abort, room: Room, words: [u64; 2])
-        requires { HasClaimAt self.old.seat.me.0 room.place (λ c. (c.from ≡ room.from) × (c.stage ≡ fresh_stage (room.from == room.place)) × (staged_span c ≡ 24)) }
+        requires { HasClaimAt self.old.seat.me.0 room.place
+            (λ c. (c.from ≡ room.from) × (c.stage ≡ fresh_stage (room.from == room.place)) × (staged_span c ≡ 24)) }
     {
         self.pad(room);
         self.open(room.place);

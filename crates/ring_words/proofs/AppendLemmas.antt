@@ -23,7 +23,9 @@ use Rattle.ring_words.proofs.StoreLemmas.{stores}
 
 pub length-padded : (C tail place : ℕ) (ws : List ℕ) → length (padded C tail place ws) ≡ length ws
 length-padded C tail place ws =
-    elim (nat_lt tail place) as (λ b. length (if b then slice_set ws (index C tail) (padding_header (place - tail)) else ws) ≡ length ws) [ true ↦ length-set ws _ _ | false ↦ refl ]
+    elim (nat_lt tail place) as (λ b. length
+    (if b then slice_set ws (index C tail) (padding_header (place - tail)) else ws) ≡ length ws)
+    [ true ↦ length-set ws _ _ | false ↦ refl ]
 
 -- a body of zeros is words of zero
 pub zero_words : (n k : ℕ) → from_le_bytes w64 (drop k (replicate n 0)) ≡ 0
@@ -32,10 +34,12 @@ zero_words n k =
     get_or-drop k (replicate n 0) i 0
     ∙ elim (cases_lt (k + i) n) as (λ _. slice_index (replicate n 0) (k + i) ≡ 0) [
       | inl h ↦ get_or-replicate n (k + i) 0 0 h
-      | inr h ↦ get_or_past (replicate n 0) (k + i) 0 (let zeros : List ℕ = replicate n 0 in let l : length zeros ≡ n = length-replicate n 0 in omega arith)
+      | inr h ↦ get_or_past (replicate n 0) (k + i) 0
+          (let zeros : List ℕ = replicate n 0 in let l : length zeros ≡ n = length-replicate n 0 in omega arith)
     ])
 
-module _ (r : Ring) (c : Claim) (place end : ℕ) (ok : IsRing r) (lawful : IsMessage r.capacity c.message) (admitted : IsAdmitted r (length c.message.body) place end) where
+module _ (r : Ring) (c : Claim) (place end : ℕ) (ok : IsRing r) (lawful : IsMessage r.capacity c.message)
+    (admitted : IsAdmitted r (length c.message.body) place end) where
   blocks : r.capacity % 8 ≡ 0
   blocks = omega (arith, capacity_blocks r.capacity ok.capacity)
 
@@ -48,7 +52,8 @@ module _ (r : Ring) (c : Claim) (place end : ℕ) (ok : IsRing r) (lawful : IsMe
   unfoldable pub headed : List ℕ
   headed = slice_set (padded r.capacity (tail_of r) place r.words) (index r.capacity place) (header_of c)
 
-  is_padded : tail_of r < place → padded r.capacity (tail_of r) place r.words ≡ slice_set r.words (index r.capacity (tail_of r)) (padding_header (place - tail_of r))
+  is_padded : tail_of r < place → padded r.capacity (tail_of r) place r.words
+      ≡ slice_set r.words (index r.capacity (tail_of r)) (padding_header (place - tail_of r))
   is_padded lt = cond-true _ _ _ (lt-ltb (tail_of r) place lt)
 
   is_plain : place ≤ tail_of r → padded r.capacity (tail_of r) place r.words ≡ r.words
@@ -59,10 +64,13 @@ module _ (r : Ring) (c : Claim) (place end : ℕ) (ok : IsRing r) (lawful : IsMe
 
   -- what the body's words are is all that is left to know
   pub appended_with : (w : List ℕ) → length w ≡ length headed
-      → ((k : ℕ) → 8 * k < length c.message.body → slice_index w (index r.capacity place + 1 + k) ≡ from_le_bytes w64 (drop (8 * k) c.message.body))
+      → ((k : ℕ) → 8 * k < length c.message.body
+      → slice_index w (index r.capacity place + 1 + k) ≡ from_le_bytes w64 (drop (8 * k) c.message.body))
       → ((i : ℕ) → i < index r.capacity place + 1 → slice_index w i ≡ slice_index headed i)
-      → ((i : ℕ) → index r.capacity place + 1 + (length c.message.body + 7) / 8 ≤ i → slice_index w i ≡ slice_index headed i)
-      → AppendsClaim r c (ring r.capacity (slice_set w (tail_index r.capacity) end)) × IsRing (ring r.capacity (slice_set w (tail_index r.capacity) end))
+      → ((i : ℕ) → index r.capacity place + 1 + (length c.message.body + 7) / 8 ≤ i
+      → slice_index w i ≡ slice_index headed i)
+      → AppendsClaim r c (ring r.capacity (slice_set w (tail_index r.capacity) end))
+      × IsRing (ring r.capacity (slice_set w (tail_index r.capacity) end))
   unfolding headed
   appended_with w len body below above =
       appended r c w place end ok lawful admitted (
@@ -85,7 +93,8 @@ module _ (r : Ring) (c : Claim) (place end : ℕ) (ok : IsRing r) (lawful : IsMe
       })
 
   -- the headers that were stored
-  pub headed_is : (tail word : ℕ) → tail ≡ tail_of r → word ≡ header_of c → slice_set (padded r.capacity tail place r.words) (index r.capacity place) word ≡ headed
+  pub headed_is : (tail word : ℕ) → tail ≡ tail_of r → word ≡ header_of c
+      → slice_set (padded r.capacity tail place r.words) (index r.capacity place) word ≡ headed
   unfolding headed
   headed_is tail word p q = λ i. slice_set (padded r.capacity (p i) place r.words) (index r.capacity place) (q i)
 
@@ -97,12 +106,14 @@ module _ (r : Ring) (c : Claim) (place end : ℕ) (ok : IsRing r) (lawful : IsMe
   pub inside : index r.capacity place + span_of c / 8 ≤ r.capacity / 8
   inside =
       let within = next_within r.capacity (tail_of r) (span_of c) nonzero short in
-      let lap : place % r.capacity ≡ next_place r.capacity (tail_of r) (span_of c) % r.capacity = ap (λ n. n % r.capacity) admitted.is_place in
+      let lap : place % r.capacity ≡ next_place r.capacity (tail_of r) (span_of c) % r.capacity =
+      ap (λ n. n % r.capacity) admitted.is_place in
       omega (arith, lap, within, blocks, span_bounds (length c.message.body))
 
   -- a claim whose body is zeros needs no store but the headers
   pub appended_empty : ((k : ℕ) → from_le_bytes w64 (drop k c.message.body) ≡ 0)
-      → AppendsClaim r c (ring r.capacity (slice_set headed (tail_index r.capacity) end)) × IsRing (ring r.capacity (slice_set headed (tail_index r.capacity) end))
+      → AppendsClaim r c (ring r.capacity (slice_set headed (tail_index r.capacity) end))
+      × IsRing (ring r.capacity (slice_set headed (tail_index r.capacity) end))
   unfolding headed
   appended_empty zeros =
       appended_with headed refl (λ k lt.
@@ -111,25 +122,31 @@ module _ (r : Ring) (c : Claim) (place end : ℕ) (ok : IsRing r) (lawful : IsMe
       let within = next_within C (tail_of r) (span_of c) nonzero short in
       let bounds = span_bounds (length c.message.body) in
       let is_place = admitted.is_place in
-      let l8 : place % 8 ≡ 0 = ap (λ n. n % 8) is_place ∙ next_aligned C (tail_of r) (span_of c) nonzero blocks (tail_aligned r ok) in
+      let l8 : place % 8 ≡ 0 =
+      ap (λ n. n % 8) is_place ∙ next_aligned C (tail_of r) (span_of c) nonzero blocks (tail_aligned r ok) in
       let lap : place % C ≡ next_place C (tail_of r) (span_of c) % C = ap (λ n. n % C) is_place in
       let inside : place % C + span_of c ≤ C = omega (arith, lap, within) in
       let p : ℕ = place + 8 * (k + 1) in
       let p8 : p % 8 ≡ 0 = omega arith in
       let on' : tail_of r ≤ place = omega (arith, admitted.is_place, on) in
       let reach : p < place + span_of c = omega (arith, bounds) in
-      let is : index C p ≡ index C place + 1 + k = index_step C place (k + 1) blocks l8 (omega (arith, inside, reach)) ∙ omega arith in
+      let is : index C p ≡ index C place + 1 + k =
+      index_step C place (k + 1) blocks l8 (omega (arith, inside, reach)) ∙ omega arith in
       let near : p < tail_of r + C = omega (arith, admitted.is_end, admitted.fits, ok.order, reach) in
       let low = mod_below (tail_of r) C nonzero in
       let other : index C p ≢ index C (tail_of r) =
-      λ e. let same = apart C (tail_of r) p (tail_of r) nonzero blocks p8 (tail_aligned r ok) (omega (arith, on')) near (omega arith) (omega (arith, nonzero)) e in omega (arith, on', same) in
+      λ e. let same = apart C (tail_of r) p (tail_of r) nonzero blocks p8 (tail_aligned r ok) (omega (arith, on')) near
+      (omega arith) (omega (arith, nonzero)) e in omega (arith, on', same) in
       let kept : slice_index (padded C (tail_of r) place r.words) (index C p) ≡ slice_index r.words (index C p) =
-      elim (cases_lt (tail_of r) place) as (λ _. slice_index (padded C (tail_of r) place r.words) (index C p) ≡ slice_index r.words (index C p)) [
-        | inl h ↦ ap (λ ws. slice_index ws (index C p)) (is_padded h) ∙ get_or-set_other r.words (index C (tail_of r)) (index C p) _ 0 other
+      elim (cases_lt (tail_of r) place) as (λ _. slice_index (padded C (tail_of r) place r.words) (index C p)
+      ≡ slice_index r.words (index C p)) [
+        | inl h ↦ ap (λ ws. slice_index ws (index C p)) (is_padded h)
+            ∙ get_or-set_other r.words (index C (tail_of r)) (index C p) _ 0 other
         | inr h ↦ ap (λ ws. slice_index ws (index C p)) (is_plain h)
       ] in
       ap (slice_index headed) (sym is)
-      ∙ get_or-set_other (padded C (tail_of r) place r.words) (index C place) (index C p) (header_of c) 0 (λ e. omega (arith, is, e))
+      ∙ get_or-set_other (padded C (tail_of r) place r.words) (index C place) (index C p) (header_of c) 0
+      (λ e. omega (arith, is, e))
       ∙ kept ∙ free p p8 (omega (arith, on')) reach ∙ sym (zeros (8 * k)))
       (λ i h. refl) (λ i h. refl)
 
@@ -137,7 +154,8 @@ module _ (r : Ring) (c : Claim) (place end : ℕ) (ok : IsRing r) (lawful : IsMe
 pub length-opened : (type_id : ℤ) (len : ℕ) → length (opened type_id len).message.body ≡ len
 length-opened type_id len = length-replicate len 0
 
-pub opened_lawful : (C : ℕ) (type_id : ℤ) (len : ℕ) → pos 1 ≤ℤ type_id → FitsSigned w32 type_id → len ≤ C / 8 → IsMessage C (opened type_id len).message
+pub opened_lawful : (C : ℕ) (type_id : ℤ) (len : ℕ) → pos 1 ≤ℤ type_id → FitsSigned w32 type_id → len ≤ C / 8
+    → IsMessage C (opened type_id len).message
 opened_lawful C type_id len low fits most = record {
   type_id = low;
   type_fits = fits;
@@ -152,10 +170,12 @@ opened_lawful C type_id len low fits most = record {
 pub opened_header : (type_id : ℤ) (len : ℕ) → FitsSigned w32 type_id
     → open_header (to_z w32 (of_z w32 type_id)) len ≡ header_of (opened type_id len)
 opened_header type_id len fits =
-    ap (λ t. open_header t len) (to_z-of_z w32 type_id fits) ∙ ap (open_header type_id) (sym (length-opened type_id len))
+    ap (λ t. open_header t len) (to_z-of_z w32 type_id fits)
+    ∙ ap (open_header type_id) (sym (length-opened type_id len))
 
 -- a written message
-pub written_lawful : (C : ℕ) (type_id : ℤ) (body : List ℕ) → pos 1 ≤ℤ type_id → FitsSigned w32 type_id → length body ≤ C / 8 → ((i : ℕ) → slice_index body i < 2 ^ 8)
+pub written_lawful : (C : ℕ) (type_id : ℤ) (body : List ℕ) → pos 1 ≤ℤ type_id → FitsSigned w32 type_id
+    → length body ≤ C / 8 → ((i : ℕ) → slice_index body i < 2 ^ 8)
     → IsMessage C (written type_id body).message
 written_lawful C type_id body low fits most small = record {
   type_id = low;

@@ -19,16 +19,19 @@ use Rattle.ring_layout.proofs.WordBytes.{byte_of_bytes, byte_of_word, length-ove
 
 -- the first n bytes are those of the words from `at` on
 abbrev pub CopiesWords : List ℕ → ℕ → ℕ → List ℕ → Type 0
-CopiesWords words at n bytes = (j : ℕ) → j < n → j < length bytes → slice_index bytes j ≡ slice_index words (at + j / 8) / 2 ^ (8 * (j % 8)) % 256
+CopiesWords words at n bytes =
+    (j : ℕ) → j < n → j < length bytes → slice_index bytes j ≡ slice_index words (at + j / 8) / 2 ^ (8 * (j % 8)) % 256
 
 -- the next bytes come from one word
-pub more_copied : (words old new part : List ℕ) (at k : ℕ) → 8 * k + length part ≤ length old → length part ≤ 8 → new ≡ overwritten (8 * k) part old
+pub more_copied : (words old new part : List ℕ) (at k : ℕ) → 8 * k + length part ≤ length old → length part ≤ 8
+    → new ≡ overwritten (8 * k) part old
     → ((i : ℕ) → i < length part → slice_index part i ≡ slice_index words (at + k) / 2 ^ (8 * i) % 256)
     → CopiesWords words at (8 * k) old → (length new ≡ length old) × CopiesWords words at (8 * k + length part) new
 more_copied words old new part at k room few is told before = (
   ap length is ∙ length-overwritten (8 * k) part old room,
   λ j below inside. ap (λ l. slice_index l j) is
-      ∙ elim (cases_lt j (8 * k)) as (λ _. slice_index (overwritten (8 * k) part old) j ≡ slice_index words (at + j / 8) / 2 ^ (8 * (j % 8)) % 256) [
+      ∙ elim (cases_lt j (8 * k)) as (λ _. slice_index (overwritten (8 * k) part old) j
+      ≡ slice_index words (at + j / 8) / 2 ^ (8 * (j % 8)) % 256) [
         | inl early ↦ overwritten_before (8 * k) part old j room early ∙ before j early (omega arith)
         | inr late ↦
             let quotient : j / 8 ≡ k = omega arith in
@@ -40,10 +43,12 @@ more_copied words old new part at k room few is told before = (
       ],
 )
 
-pub word_copied : (words old new : List ℕ) (at k : ℕ) → 8 * k + 8 ≤ length old → new ≡ overwritten (8 * k) (to_le_bytes w64 (slice_index words (at + k))) old
+pub word_copied : (words old new : List ℕ) (at k : ℕ) → 8 * k + 8 ≤ length old
+    → new ≡ overwritten (8 * k) (to_le_bytes w64 (slice_index words (at + k))) old
     → CopiesWords words at (8 * k) old → (length new ≡ length old) × CopiesWords words at (8 * k + 8) new
 word_copied words old new at k room is before =
-    more_copied words old new (to_le_bytes w64 (slice_index words (at + k))) at k room (omega arith) is (byte_of_bytes (slice_index words (at + k))) before
+    more_copied words old new (to_le_bytes w64 (slice_index words (at + k))) at k room (omega arith) is
+    (byte_of_bytes (slice_index words (at + k))) before
 
 pub rest_copied : (words old new : List ℕ) (at k : ℕ) → 8 * k < length old → length old < 8 * k + 8
     → new ≡ overwritten (8 * k) (take (length old - 8 * k) (to_le_bytes w64 (slice_index words (at + k)))) old
@@ -51,9 +56,11 @@ pub rest_copied : (words old new : List ℕ) (at k : ℕ) → 8 * k < length old
 rest_copied words old new at k some few is before =
     let word : ℕ = slice_index words (at + k) in
     let part : List ℕ = take (length old - 8 * k) (to_le_bytes w64 word) in
-    let len : length part ≡ length old - 8 * k = length-take-le (length old - 8 * k) (to_le_bytes w64 word) (omega arith) in
+    let len : length part ≡ length old - 8 * k =
+    length-take-le (length old - 8 * k) (to_le_bytes w64 word) (omega arith) in
     let more = more_copied words old new part at k (omega arith) (omega arith) is
-    (λ i lt. get_or-take (length old - 8 * k) (to_le_bytes w64 word) i 0 (omega arith) ∙ byte_of_bytes word i (omega arith)) before in
+    (λ i lt. get_or-take (length old - 8 * k) (to_le_bytes w64 word) i 0 (omega arith)
+    ∙ byte_of_bytes word i (omega arith)) before in
     (more.0, λ j lt. more.1 j (omega arith))
 
 module _ (r : Ring) (c : Claim) (rest : List Claim) (ok : IsRing r) (has : Has r (c ∷ rest)) (at : IsAtHead r c) where
@@ -64,7 +71,8 @@ module _ (r : Ring) (c : Claim) (rest : List Claim) (ok : IsRing r) (has : Has r
   short = omega (arith, lawful.short, span_bounds (length c.message.body), ok.capacity.least)
 
   within : head_of r % r.capacity + span_of c ≤ r.capacity
-  within = let w = next_within r.capacity (head_of r) (span_of c) (omega (arith, ok.capacity.least)) short in let e = at in rw e at w
+  within = let w = next_within r.capacity (head_of r) (span_of c) (omega (arith, ok.capacity.least)) short in let e =
+      at in rw e at w
 
   byte_small : (j : ℕ) → slice_index c.message.body j < 256
   byte_small j =
@@ -74,7 +82,8 @@ module _ (r : Ring) (c : Claim) (rest : List Claim) (ok : IsRing r) (has : Has r
       ]
 
   -- the words behind the header
-  body_word : (j : ℕ) → 8 * j < length c.message.body → slice_index r.words (head_of r % r.capacity / 8 + 1 + j) ≡ from_le_bytes w64 (drop (8 * j) c.message.body)
+  body_word : (j : ℕ) → 8 * j < length c.message.body
+      → slice_index r.words (head_of r % r.capacity / 8 + 1 + j) ≡ from_le_bytes w64 (drop (8 * j) c.message.body)
   body_word j lt =
       let C : ℕ = r.capacity in
       let p : ℕ = head_of r + 8 * (j + 1) in
@@ -93,14 +102,19 @@ module _ (r : Ring) (c : Claim) (rest : List Claim) (ok : IsRing r) (has : Has r
       ∙ ap (λ n. from_le_bytes w64 (drop n c.message.body)) back
 
   pub body_is : (bs : List ℕ) → length c.message.body ≡ length bs
-      → ((k : ℕ) → k < length bs → slice_index bs k ≡ slice_index r.words (head_of r % r.capacity / 8 + 1 + k / 8) / 2 ^ (8 * (k % 8)) % 256) → bs ≡ c.message.body
+      → ((k : ℕ) → k < length bs → slice_index bs k
+      ≡ slice_index r.words (head_of r % r.capacity / 8 + 1 + k / 8) / 2 ^ (8 * (k % 8)) % 256)
+      → bs ≡ c.message.body
   body_is bs len each =
       ext_get_or 0 bs c.message.body (sym len) (λ k lt.
       each k lt
       ∙ ap (λ w. w / 2 ^ (8 * (k % 8)) % 256) (body_word (k / 8) (omega arith))
-      ∙ byte_of_word (drop (8 * (k / 8)) c.message.body) (λ j. let e = get_or-drop (8 * (k / 8)) c.message.body j 0 in omega (arith, e, byte_small (8 * (k / 8) + j))) (k % 8) (omega arith)
+      ∙ byte_of_word (drop (8 * (k / 8)) c.message.body)
+      (λ j. let e = get_or-drop (8 * (k / 8)) c.message.body j 0 in omega (arith, e, byte_small (8 * (k / 8) + j)))
+      (k % 8) (omega arith)
       ∙ get_or-drop (8 * (k / 8)) c.message.body (k % 8) 0
       ∙ ap (slice_index c.message.body) (omega arith))
 
-pub message_ext : (m : Message) (type_id : ℤ) (body : List ℕ) → type_id ≡ m.type_id → body ≡ m.body → m ≡ record { type_id = type_id; body = body }
+pub message_ext : (m : Message) (type_id : ℤ) (body : List ℕ) → type_id ≡ m.type_id → body ≡ m.body
+    → m ≡ record { type_id = type_id; body = body }
 message_ext m type_id body p q = sym (λ i. record { type_id = p i; body = q i })

@@ -19,8 +19,10 @@ use Rattle.ring_layout.proofs.PlaceLemmas.{next_le, end_of-append, end_of_aligne
 use Rattle.ring_layout.proofs.PictureLemmas.{word_at_past, word_at-append_before, word_at-append_after}
 
 -- the words below C / 8 of a ring behind its tail are 0
-pub free_behind : (r : Ring) (h : List Claim) → Has r h → (p : ℕ) → p % 8 ≡ 0 → head_of r ≤ p → tail_of r ≤ p → p < head_of r + r.capacity → slice_index r.words (p % r.capacity / 8) ≡ 0
-free_behind r h has p p8 hp tp lt = has.picture p p8 hp lt ∙ word_at_past r.capacity (head_of r) p h (omega (arith, has.ends))
+pub free_behind : (r : Ring) (h : List Claim) → Has r h → (p : ℕ) → p % 8 ≡ 0 → head_of r ≤ p → tail_of r ≤ p
+    → p < head_of r + r.capacity → slice_index r.words (p % r.capacity / 8) ≡ 0
+free_behind r h has p p8 hp tp lt =
+    has.picture p p8 hp lt ∙ word_at_past r.capacity (head_of r) p h (omega (arith, has.ends))
 
 module _ (r : Ring) (c : Claim) (w : List ℕ) (ok : IsRing r) (m : IsMessage r.capacity c.message)
     (fits : end_after r.capacity (tail_of r) (span_of c) ≤ head_of r + r.capacity)
@@ -33,7 +35,11 @@ module _ (r : Ring) (c : Claim) (w : List ℕ) (ok : IsRing r) (m : IsMessage r.
   end = end_after r.capacity (tail_of r) (span_of c)
 
   unfoldable pub claimed : Ring
-  claimed = record { capacity = r.capacity; words = slice_set w (tail_index r.capacity) (end_after r.capacity (tail_of r) (span_of c)) }
+  claimed = record {
+    capacity = r.capacity;
+    words =
+        slice_set w (tail_index r.capacity) (end_after r.capacity (tail_of r) (span_of c));
+  }
 
   c8 : r.capacity % 8 ≡ 0
   c8 = omega (arith, capacity_blocks r.capacity ok.capacity)
@@ -45,7 +51,9 @@ module _ (r : Ring) (c : Claim) (w : List ℕ) (ok : IsRing r) (m : IsMessage r.
   tail_le = omega (arith, next_le r.capacity (tail_of r) (span_of c))
 
   -- the trailer keeps its words but the tail's
-  others : (i : ℕ) → r.capacity / 8 ≤ i → i ≢ tail_index r.capacity → slice_index (slice_set w (tail_index r.capacity) (end_after r.capacity (tail_of r) (span_of c))) i ≡ slice_index r.words i
+  others : (i : ℕ) → r.capacity / 8 ≤ i → i ≢ tail_index r.capacity
+      → slice_index (slice_set w (tail_index r.capacity) (end_after r.capacity (tail_of r) (span_of c))) i
+      ≡ slice_index r.words i
   others i le ne =
       get_or-set_other w (tail_index r.capacity) i _ 0 ne
       ∙ s.outside i (λ b. let low = mod_below b.0 r.capacity nonzero in let e = b.4 in omega (arith, c8))
@@ -59,26 +67,37 @@ module _ (r : Ring) (c : Claim) (w : List ℕ) (ok : IsRing r) (m : IsMessage r.
   tail_is = get_or-set_same w (tail_index r.capacity) _ 0 (omega (arith, s.length, ok.length))
 
   -- the picture, from the old head
-  picture : (h : List Claim) → Has r h → IsPicture (slice_index (slice_set w (tail_index r.capacity) (end_after r.capacity (tail_of r) (span_of c)))) r.capacity (head_of r) (h ++ c ∷ [])
+  picture : (h : List Claim) → Has r h → IsPicture
+      (slice_index (slice_set w (tail_index r.capacity) (end_after r.capacity (tail_of r) (span_of c)))) r.capacity
+      (head_of r) (h ++ c ∷ [])
   picture h has p p8 hp lt =
       let low = mod_below p r.capacity nonzero in
       let ne : p % r.capacity / 8 ≢ tail_index r.capacity = λ e. omega (arith, c8) in
-      let stored = get_or-set_other w (tail_index r.capacity) (p % r.capacity / 8) (end_after r.capacity (tail_of r) (span_of c)) 0 ne in
+      let stored = get_or-set_other w (tail_index r.capacity) (p % r.capacity / 8)
+      (end_after r.capacity (tail_of r) (span_of c)) 0 ne in
       let order = ok.order in
       -- outside the record the word is the old one
-      let kept : ((q : ℕ) → tail_of r ≤ q → q < end_after r.capacity (tail_of r) (span_of c) → p ≡ q → ⊥) → slice_index w (p % r.capacity / 8) ≡ word_at r.capacity (head_of r) h p =
-      λ out. s.outside (p % r.capacity / 8) (λ b. out b.0 b.2 b.3 (apart r.capacity (head_of r) p b.0 nonzero c8 p8 b.1 hp lt (omega (arith, b.2)) (omega (arith, b.3, fits)) (sym b.4))) ∙ has.picture p p8 hp lt in
-      let Goal : Type 0 = slice_index (slice_set w (tail_index r.capacity) (end_after r.capacity (tail_of r) (span_of c))) (p % r.capacity / 8) ≡ word_at r.capacity (head_of r) (h ++ c ∷ []) p in
+      let kept : ((q : ℕ) → tail_of r ≤ q → q < end_after r.capacity (tail_of r) (span_of c) → p ≡ q → ⊥)
+      → slice_index w (p % r.capacity / 8) ≡ word_at r.capacity (head_of r) h p =
+      λ out. s.outside (p % r.capacity / 8) (λ b. out b.0 b.2 b.3
+      (apart r.capacity (head_of r) p b.0 nonzero c8 p8 b.1 hp lt (omega (arith, b.2)) (omega (arith, b.3, fits))
+      (sym b.4))) ∙ has.picture p p8 hp lt in
+      let Goal : Type 0 =
+      slice_index (slice_set w (tail_index r.capacity) (end_after r.capacity (tail_of r) (span_of c)))
+      (p % r.capacity / 8) ≡ word_at r.capacity (head_of r) (h ++ c ∷ []) p in
       elim (cases_lt p (tail_of r)) as (λ _. Goal) [
         | inl before ↦
-            stored ∙ kept (λ q tq qe e. omega arith) ∙ sym (word_at-append_before r.capacity (head_of r) p h (c ∷ []) (omega (arith, has.ends)))
+            stored ∙ kept (λ q tq qe e. omega arith)
+            ∙ sym (word_at-append_before r.capacity (head_of r) p h (c ∷ []) (omega (arith, has.ends)))
         | inr from ↦
             let moved : word_at r.capacity (head_of r) (h ++ c ∷ []) p ≡ word_at r.capacity (tail_of r) (c ∷ []) p =
-            word_at-append_after r.capacity (head_of r) p h (c ∷ []) (omega (arith, has.ends)) ∙ ap (λ e. word_at r.capacity e (c ∷ []) p) has.ends in
+            word_at-append_after r.capacity (head_of r) p h (c ∷ []) (omega (arith, has.ends))
+            ∙ ap (λ e. word_at r.capacity e (c ∷ []) p) has.ends in
             elim (cases_lt p (end_after r.capacity (tail_of r) (span_of c))) as (λ _. Goal) [
               | inl in_record ↦ stored ∙ s.inside p p8 from in_record ∙ sym moved
               | inr behind ↦
-                  stored ∙ kept (λ q tq qe e. omega arith) ∙ word_at_past r.capacity (head_of r) p h (omega (arith, has.ends))
+                  stored ∙ kept (λ q tq qe e. omega arith)
+                  ∙ word_at_past r.capacity (head_of r) p h (omega (arith, has.ends))
                   ∙ sym (word_at_past r.capacity (tail_of r) p (c ∷ []) behind) ∙ sym moved
             ]
       ]
@@ -90,7 +109,10 @@ module _ (r : Ring) (c : Claim) (w : List ℕ) (ok : IsRing r) (m : IsMessage r.
     ends =
         ap (λ e. end_of r.capacity e (h ++ c ∷ [])) head_same ∙ end_of-append r.capacity (head_of r) h (c ∷ [])
         ∙ ap (λ e. end_after r.capacity e (span_of c)) has.ends ∙ sym tail_is;
-    picture = subst (λ (e : ℕ). IsPicture (slice_index (slice_set w (tail_index r.capacity) (end_after r.capacity (tail_of r) (span_of c)))) r.capacity e (h ++ c ∷ [])) (sym head_same) (picture h has);
+    picture = subst
+        (λ (e : ℕ). IsPicture
+        (slice_index (slice_set w (tail_index r.capacity) (end_after r.capacity (tail_of r) (span_of c)))) r.capacity e
+        (h ++ c ∷ [])) (sym head_same) (picture h has);
   }
 
   pub claims : AppendsClaim r c claimed
@@ -120,22 +142,27 @@ module _ (r : Ring) (c : Claim) (w : List ℕ) (ok : IsRing r) (m : IsMessage r.
 pub tail_aligned : (r : Ring) → IsRing r → tail_of r % 8 ≡ 0
 tail_aligned r ok =
     let has = ok.history.1 in
-    let aligned = end_of_aligned r.capacity (head_of r) ok.history.0 (omega (arith, ok.capacity.least)) (omega (arith, capacity_blocks r.capacity ok.capacity)) ok.aligned in
+    let aligned = end_of_aligned r.capacity (head_of r) ok.history.0 (omega (arith, ok.capacity.least))
+    (omega (arith, capacity_blocks r.capacity ok.capacity)) ok.aligned in
     omega (arith, aligned, has.ends)
 
 -- the words behind the tail are 0
-pub free_of : (r : Ring) → IsRing r → (p : ℕ) → p % 8 ≡ 0 → tail_of r ≤ p → p < head_of r + r.capacity → slice_index r.words (p % r.capacity / 8) ≡ 0
+pub free_of : (r : Ring) → IsRing r → (p : ℕ) → p % 8 ≡ 0 → tail_of r ≤ p → p < head_of r + r.capacity
+    → slice_index r.words (p % r.capacity / 8) ≡ 0
 free_of r ok p p8 tp lt = free_behind r ok.history.0 ok.history.1 p p8 (omega (arith, ok.order)) tp lt
 
 -- what storing an admitted claim and then the tail does
-pub appended : (r : Ring) (c : Claim) (w : List ℕ) (place end : ℕ) → IsRing r → IsMessage r.capacity c.message → IsAdmitted r (length c.message.body) place end
+pub appended : (r : Ring) (c : Claim) (w : List ℕ) (place end : ℕ) → IsRing r → IsMessage r.capacity c.message
+    → IsAdmitted r (length c.message.body) place end
     → Stores r.capacity (tail_of r) c r.words w
-    → AppendsClaim r c (ring r.capacity (slice_set w (tail_index r.capacity) end)) × IsRing (ring r.capacity (slice_set w (tail_index r.capacity) end))
+    → AppendsClaim r c (ring r.capacity (slice_set w (tail_index r.capacity) end))
+    × IsRing (ring r.capacity (slice_set w (tail_index r.capacity) end))
 unfolding claimed
 appended r c w place end ok m a s =
     let is : end ≡ end_after r.capacity (tail_of r) (span_of c) = omega (arith, a.is_place, a.is_end) in
     let fits : end_after r.capacity (tail_of r) (span_of c) ≤ head_of r + r.capacity = rw (sym is) a.fits in
     let limit : end_after r.capacity (tail_of r) (span_of c) ≤ max_position = rw (sym is) a.limit in
-    subst (λ (e : ℕ). AppendsClaim r c (ring r.capacity (slice_set w (tail_index r.capacity) e)) × IsRing (ring r.capacity (slice_set w (tail_index r.capacity) e)))
+    subst (λ (e : ℕ). AppendsClaim r c (ring r.capacity (slice_set w (tail_index r.capacity) e))
+    × IsRing (ring r.capacity (slice_set w (tail_index r.capacity) e)))
     (sym is)
     (claims r c w ok m fits limit s, is_ring_claimed r c w ok m fits limit s)

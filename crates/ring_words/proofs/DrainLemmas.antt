@@ -41,20 +41,29 @@ committed_few (c ∷ h) = omega (arith, length-append (shown c) (committed_of h)
 end_counts : (C e : ℕ) (h : List Claim) → e + 8 * length h ≤ end_of C e h
 end_counts C e [] = omega arith
 end_counts C e (c ∷ h) =
-    omega (arith, next_le C e (span_of c), span_bounds (length c.message.body), end_counts C (end_after C e (span_of c)) h)
+    omega (
+      arith,
+      next_le C e (span_of c),
+      span_bounds (length c.message.body),
+      end_counts C
+          (end_after C e (span_of c)) h,
+    )
 
 shows_few : (r : Ring) (h : List Claim) → IsRing r → Has r h → length (committed_of h) ≤ 2 ^ 21
-shows_few r h ok has = omega (arith, committed_few h, end_counts r.capacity (head_of r) h, has.ends, ok.room, ok.capacity.most)
+shows_few r h ok has =
+    omega (arith, committed_few h, end_counts r.capacity (head_of r) h, has.ends, ok.room, ok.capacity.most)
 
 -- Where a read stops -----------------------------------------------------------
 
 -- below its limit it stops at the end of the buffer, or where no settled record lies
-stops_below : (C limit messages head bytes : ℕ) (stopped : Stop) → stopped ≡ stop_of C limit messages head bytes → messages < limit
+stops_below : (C limit messages head bytes : ℕ) (stopped : Stop) → stopped ≡ stop_of C limit messages head bytes
+    → messages < limit
     → ((stopped ≡ Block) × (head % C ≡ 0) × (0 < bytes)) ⊎ (stopped ≡ Unpublished)
 stops_below C limit messages head bytes stopped is lt =
     let at_end = (head % C == 0) && nat_lt 0 bytes in
     let rest : Stop = if at_end then Block else Unpublished in
-    let below : stopped ≡ rest = is ∙ cond-false (messages == limit) Limit rest (ne_eqb messages limit (λ e. omega arith)) in
+    let below : stopped ≡ rest =
+    is ∙ cond-false (messages == limit) Limit rest (ne_eqb messages limit (λ e. omega arith)) in
     elim (cases_Bool at_end) as (λ _. ((stopped ≡ Block) × (head % C ≡ 0) × (0 < bytes)) ⊎ (stopped ≡ Unpublished)) [
       | inl e ↦
           let both = and_parts (head % C == 0) (nat_lt 0 bytes) e in
@@ -82,14 +91,16 @@ moved_tail old new moves =
 -- Draining ---------------------------------------------------------------------
 
 -- a history is as long as its parts
-parts : (h xs ys : List Claim) → h ≡ xs ++ ys → length (committed_of h) ≡ length (committed_of xs) + length (committed_of ys)
+parts : (h xs ys : List Claim) → h ≡ xs ++ ys
+    → length (committed_of h) ≡ length (committed_of xs) + length (committed_of ys)
 parts h xs ys is =
     ap (λ (x : List Claim). length (committed_of x)) is
     ∙ ap (λ (ms : List Message). length ms) (committed_of-append xs ys)
     ∙ length-append (committed_of xs) (committed_of ys)
 
 module _ {S : Type 0} (step : S → Message → S → Action → Type 0) (limit : ℕ) (old new : Ring) (s t : S) (end : ReadEnd)
-    (far : 2 ^ 21 < limit) (ok : IsRing old) (blocked : end.stopped ≡ Unpublished → (h : List Claim) → Has new h → IsBlocked new h)
+    (far : 2 ^ 21 < limit) (ok : IsRing old)
+    (blocked : end.stopped ≡ Unpublished → (h : List Claim) → Has new h → IsBlocked new h)
     (h : List Claim) (has : Has old h) where
   few : length (committed_of h) ≤ 2 ^ 21
   few = shows_few old h ok has
@@ -101,11 +112,21 @@ module _ {S : Type 0} (step : S → Message → S → Action → Type 0) (limit 
       o.reads.reads.counted ∙ ap (λ (ms : List Message). length ms) (sym p.shown) in
       let low : end.messages < limit = omega (arith, far, few, counted, parts h p.passed p.rest p.whole) in
       let stops : end.stopped ≡ Unpublished =
-      elim (stops_below new.capacity limit end.messages (head_of new) end.bytes end.stopped o.reads.stopped low) as (λ _. end.stopped ≡ Unpublished) [
+      elim (stops_below new.capacity limit end.messages
+      (head_of new) end.bytes end.stopped o.reads.stopped low) as (λ _. end.stopped ≡ Unpublished) [
         | inl b ↦ absurd (o.stopped b.0)
         | inr u ↦ u
       ] in
-      record { passed = p.passed; rest = p.rest; whole = p.whole; settled = p.settled; counted = counted; left = p.left; blocked = blocked stops p.rest p.left }
+      record {
+        passed = p.passed;
+        rest = p.rest;
+        whole = p.whole;
+        settled = p.settled;
+        counted = counted;
+        left =
+            p.left;
+        blocked = blocked stops p.rest p.left;
+      }
 
   twice : ReadsTwice (ReadsTo step) limit old new s t end → Drains h end.messages new
   twice w =
@@ -119,21 +140,25 @@ module _ {S : Type 0} (step : S → Message → S → Action → Type 0) (limit 
       let more = parts p.rest q.passed q.rest q.whole in
       let low : w.first.messages < limit = omega (arith, far, few, one, sum) in
       let at_end : (head_of w.between % w.between.capacity ≡ 0) × (0 < w.first.bytes) =
-      elim (stops_below w.between.capacity limit w.first.messages (head_of w.between) w.first.bytes w.first.stopped w.to_end.stopped low)
+      elim (stops_below w.between.capacity limit w.first.messages
+      (head_of w.between) w.first.bytes w.first.stopped w.to_end.stopped low)
       as (λ _. (head_of w.between % w.between.capacity ≡ 0) × (0 < w.first.bytes)) [
         | inl b ↦ (b.1, b.2)
         | inr u ↦ let bad : Block ≡ Unpublished = sym w.at_end ∙ u in absurd cc
       ] in
       let lower : w.second.messages < limit - w.first.messages = omega (arith, far, few, one, two, sum, more) in
       let stops : w.second.stopped ≡ Unpublished =
-      elim (stops_below new.capacity (limit - w.first.messages) w.second.messages (head_of new) w.second.bytes w.second.stopped w.behind.stopped lower)
+      elim (stops_below new.capacity (limit - w.first.messages) w.second.messages
+      (head_of new) w.second.bytes w.second.stopped w.behind.stopped lower)
       as (λ _. w.second.stopped ≡ Unpublished) [
         | inl b ↦
             let same = w.behind.reads.moves.capacity in
             let first = w.to_end.reads.moves.capacity in
             let on : head_of w.between < head_of new = omega (arith, w.behind.bytes, b.2) in
-            let apart = ends_apart w.between.capacity (head_of w.between) (head_of new) at_end.0 (ap (λ C. head_of new % C) (sym same) ∙ b.1) on in
-            let tail : tail_of new ≡ tail_of old = moved_tail w.between new w.behind.reads.moves ∙ moved_tail old w.between w.to_end.reads.moves in
+            let apart = ends_apart w.between.capacity (head_of w.between) (head_of new) at_end.0
+            (ap (λ C. head_of new % C) (sym same) ∙ b.1) on in
+            let tail : tail_of new ≡ tail_of old =
+            moved_tail w.between new w.behind.reads.moves ∙ moved_tail old w.between w.to_end.reads.moves in
             let reach = end_of_le new.capacity (head_of new) q.rest in
             absurd (omega (arith, apart, tail, reach, q.left.ends, ok.room, w.to_end.bytes, at_end.1, first))
         | inr u ↦ u
@@ -161,10 +186,15 @@ pub drained_whole : (h : List Claim) (count : ℕ) (new : Ring) → AllSettled h
 drained_whole h count new settled d =
     elim d.blocked as (λ _. (count ≡ length (committed_of h)) × Has new []) [
       | inl none ↦
-          let all : d.passed ≡ h = sym (append-nil d.passed) ∙ ap (λ (r : List Claim). d.passed ++ r) (sym none) ∙ sym d.whole in
-          (d.counted ∙ ap (λ (x : List Claim). length (committed_of x)) all, subst (λ (r : List Claim). Has new r) none d.left)
+          let all : d.passed ≡ h =
+          sym (append-nil d.passed) ∙ ap (λ (r : List Claim). d.passed ++ r) (sym none) ∙ sym d.whole in (
+            d.counted ∙ ap (λ (x : List Claim). length (committed_of x)) all,
+            subst
+                (λ (r : List Claim). Has new r) none d.left,
+          )
       | inr b ↦
           let behind = settled_rest d.passed d.rest (subst (λ (x : List Claim). AllSettled x) d.whole settled) in
-          let here = All-head (λ (c : Claim). c.state ≢ Open) b.0 b.1 (subst (λ (x : List Claim). AllSettled x) b.2 behind) in
+          let here =
+          All-head (λ (c : Claim). c.state ≢ Open) b.0 b.1 (subst (λ (x : List Claim). AllSettled x) b.2 behind) in
           absurd (here b.3)
     ]

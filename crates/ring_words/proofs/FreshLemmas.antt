@@ -27,7 +27,8 @@ module _ (C start : ℕ) (lawful : IsCapacity C) (lap : start % C ≡ 0) (limit 
   len1 : length {A = ℕ} (slice_set (replicate (C / 8 + 96) 0) (tail_index C) start) ≡ C / 8 + 96
   len1 = length-set _ _ _ ∙ len0
 
-  len2 : length {A = ℕ} (slice_set (slice_set (replicate (C / 8 + 96) 0) (tail_index C) start) (head_cache_index C) start) ≡ C / 8 + 96
+  len2 : length {A = ℕ} (slice_set (slice_set (replicate (C / 8 + 96) 0) (tail_index C) start)
+      (head_cache_index C) start) ≡ C / 8 + 96
   len2 = length-set _ _ _ ∙ len1
 
   tail_is : tail_of (fresh C start) ≡ start
@@ -58,7 +59,8 @@ module _ (C start : ℕ) (lawful : IsCapacity C) (lap : start % C ≡ 0) (limit 
       record {
         lawful = All-nil (λ (x : Claim). IsMessage C x.message);
         ends = head_is ∙ sym tail_is;
-        picture = λ p p8 le lt. zero_below (p % C / 8) (omega (arith, mod_below p C pos)) ∙ sym (word_at_none C (head_of (fresh C start)) p);
+        picture = λ p p8 le lt. zero_below (p % C / 8) (omega (arith, mod_below p C pos))
+            ∙ sym (word_at_none C (head_of (fresh C start)) p);
       }
 
   pub is_ring_fresh : IsRing (fresh C start)

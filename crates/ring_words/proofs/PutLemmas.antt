@@ -8,7 +8,8 @@ use Rattle.ring_layout.specs.History.{overwritten}
 use Rattle.ring_layout.proofs.WordBytes.{length-overwritten, overwritten_before, overwritten_inside, overwritten_behind, overwritten_word, overwritten_word_apart, overwritten_more}
 use Rattle.ring_words.specs.Storing.{HoldsBody}
 
-pub overwritten_small : (at : ℕ) (bs xs : List ℕ) → at + length bs ≤ length xs → All (λ b. b < 256) xs → All (λ b. b < 256) bs → All (λ b. b < 256) (overwritten at bs xs)
+pub overwritten_small : (at : ℕ) (bs xs : List ℕ) → at + length bs ≤ length xs → All (λ b. b < 256) xs
+    → All (λ b. b < 256) bs → All (λ b. b < 256) (overwritten at bs xs)
 overwritten_small at bs xs le old new =
     let P : ℕ → Type 0 = λ b. b < 256 in
     let size = length-overwritten at bs xs le in
@@ -28,10 +29,12 @@ small_at bs small j =
       | inr h ↦ omega (arith, get_or_past bs j 0 h)
     ]
 
-small_front : (n : ℕ) (bs : List ℕ) → n ≤ length bs → ((j : ℕ) → slice_index bs j < 256) → All (λ b. b < 256) (take n bs)
+small_front : (n : ℕ) (bs : List ℕ) → n ≤ length bs → ((j : ℕ) → slice_index bs j < 256)
+    → All (λ b. b < 256) (take n bs)
 small_front n bs le small =
     let size = length-take-le n bs le in
-    All-from_get_or (λ (b : ℕ). b < 256) (take n bs) 0 (λ i lt. let e = get_or-take n bs i 0 (omega arith) in omega (arith, e, small i))
+    All-from_get_or (λ (b : ℕ). b < 256) (take n bs) 0
+    (λ i lt. let e = get_or-take n bs i 0 (omega arith) in omega (arith, e, small i))
 
 -- no byte is put
 pub overwritten_none : (at : ℕ) (bs xs : List ℕ) → at ≤ length xs → length bs ≡ 0 → overwritten at bs xs ≡ xs
@@ -44,10 +47,13 @@ overwritten_none at bs xs le none =
     ])
 
 -- n bytes more are put, into one word
-pub holds_more : (at offset done n word : ℕ) (bytes chunk words body : List ℕ) → All (λ b. b < 256) body → ((j : ℕ) → slice_index bytes j < 256)
-    → offset + length bytes ≤ length body → done + n ≤ length bytes → length chunk ≡ n → chunk ≡ take n (drop done bytes) → (offset + done) % 8 + n ≤ 8
+pub holds_more : (at offset done n word : ℕ) (bytes chunk words body : List ℕ) → All (λ b. b < 256) body
+    → ((j : ℕ) → slice_index bytes j < 256)
+    → offset + length bytes ≤ length body → done + n ≤ length bytes → length chunk ≡ n
+    → chunk ≡ take n (drop done bytes) → (offset + done) % 8 + n ≤ 8
     → at + (offset + done) / 8 < length words
-    → word ≡ from_le_bytes w64 (overwritten ((offset + done) % 8) chunk (to_le_bytes w64 (slice_index words (at + (offset + done) / 8))))
+    → word ≡ from_le_bytes w64 (overwritten ((offset + done) % 8) chunk
+    (to_le_bytes w64 (slice_index words (at + (offset + done) / 8))))
     → (0 < n) → HoldsBody words at (overwritten offset (take done bytes) body)
     → HoldsBody (slice_set words (at + (offset + done) / 8) word) at (overwritten offset (take (done + n) bytes) body)
 holds_more at offset done n word bytes chunk words body small small' fits more size is in_word room stored some held =
@@ -59,12 +65,17 @@ holds_more at offset done n word bytes chunk words body small small' fits more s
     let size_mid : length mid ≡ length body = length-overwritten offset (take done bytes) body (omega arith) in
     let is' : chunk ≡ take (length chunk) (drop done bytes) = is ∙ ap (λ m. take m (drop done bytes)) (sym size) in
     let whole : overwritten (8 * k + b) chunk mid ≡ overwritten offset (take (done + n) bytes) body =
-    ap (λ p. overwritten p chunk mid) there ∙ overwritten_more offset done chunk bytes body fits (omega arith) is' ∙ ap (λ m. overwritten offset (take (done + m) bytes) body) size in
+    ap (λ p. overwritten p chunk mid) there ∙ overwritten_more offset done chunk bytes body fits (omega arith) is'
+    ∙ ap (λ m. overwritten offset (take (done + m) bytes) body) size in
     let in_mid : 8 * k + b + length chunk ≤ length mid = omega arith in
-    let small_mid = small_at mid (overwritten_small offset (take done bytes) body (omega arith) small (small_front done bytes (omega arith) small')) in
+    let small_mid =
+    small_at mid (overwritten_small offset (take done bytes) body (omega arith) small
+    (small_front done bytes (omega arith) small')) in
     subst (λ (l : List ℕ). HoldsBody (slice_set words (at + k) word) at l) whole (λ j lt.
-    let size_new : length (overwritten (8 * k + b) chunk mid) ≡ length mid = length-overwritten (8 * k + b) chunk mid in_mid in
-    elim (cases_eq j k) as (λ _. slice_index (slice_set words (at + k) word) (at + j) ≡ from_le_bytes w64 (drop (8 * j) (overwritten (8 * k + b) chunk mid))) [
+    let size_new : length (overwritten (8 * k + b) chunk mid) ≡ length mid =
+    length-overwritten (8 * k + b) chunk mid in_mid in
+    elim (cases_eq j k) as (λ _. slice_index (slice_set words (at + k) word) (at + j)
+    ≡ from_le_bytes w64 (drop (8 * j) (overwritten (8 * k + b) chunk mid))) [
       | inl here ↦
           ap (λ m. slice_index (slice_set words (at + k) word) (at + m)) here
           ∙ get_or-set_same words (at + k) word 0 room ∙ stored
@@ -74,5 +85,7 @@ holds_more at offset done n word bytes chunk words body small small' fits more s
       | inr other ↦
           get_or-set_other words (at + k) (at + j) word 0 (λ e. other (omega arith))
           ∙ held j (omega arith)
-          ∙ sym (overwritten_word_apart mid j (8 * k + b) chunk in_mid (elim (cases_lt j k) as (λ _. (8 * j + 8 ≤ 8 * k + b) ⊎ (8 * k + b + length chunk ≤ 8 * j)) [ inl l ↦ inl (omega arith) | inr l ↦ inr (omega arith) ]))
+          ∙ sym (overwritten_word_apart mid j (8 * k + b) chunk in_mid
+          (elim (cases_lt j k) as (λ _. (8 * j + 8 ≤ 8 * k + b) ⊎ (8 * k + b + length chunk ≤ 8 * j))
+          [ inl l ↦ inl (omega arith) | inr l ↦ inr (omega arith) ]))
     ])

@@ -26,7 +26,8 @@ use Rattle.ring_words.proofs.OpenLemmas.{open_after}
 use Rattle.ring_layout.proofs.Laps.{mod_step, mod_room}
 use Rattle.ring_layout.proofs.PlaceLemmas.{next_fixed, span_bounds, end_of-append}
 
-pub Handles-push : {S : Type 0} (step : S → Message → S → Action → Type 0) (s : S) (ms : List Message) (as' : List Action) (u : S) (m : Message) (a : Action) (v : S)
+pub Handles-push : {S : Type 0} (step : S → Message → S → Action → Type 0) (s : S) (ms : List Message)
+    (as' : List Action) (u : S) (m : Message) (a : Action) (v : S)
     → Handles step s ms as' u → step u m v a → Handles step s (ms ++ m ∷ []) (as' ++ a ∷ []) v
 Handles-push {S} step s [] [] u m a v h k = (v, subst (λ (w : S). step w m v a) (sym h) k, refl)
 Handles-push step s [] (b ∷ as') u m a v h k = absurd h
@@ -35,7 +36,8 @@ Handles-push step s (x ∷ ms) (b ∷ as') u m a v h k = (h.0, h.1, Handles-push
 
 pub committed_of-append : (xs ys : List Claim) → committed_of (xs ++ ys) ≡ committed_of xs ++ committed_of ys
 committed_of-append [] ys = refl
-committed_of-append (x ∷ xs) ys = ap (λ l. shown x ++ l) (committed_of-append xs ys) ∙ sym (append_assoc (shown x) (committed_of xs) (committed_of ys))
+committed_of-append (x ∷ xs) ys = ap (λ l. shown x ++ l) (committed_of-append xs ys)
+    ∙ sym (append_assoc (shown x) (committed_of xs) (committed_of ys))
 
 shown_none : (c : Claim) → c.state ≡ Aborted → shown c ≡ []
 shown_none c e = rw e refl
@@ -44,7 +46,8 @@ shown_one : (c : Claim) → c.state ≡ Committed → shown c ≡ c.message ∷ 
 shown_one c e = rw e refl
 
 -- the next claim lies where the head is
-head_at : (C e h : ℕ) (passed rest : List Claim) (c : Claim) (others : List Claim) → 0 < C → span_of c ≤ C → rest ≡ c ∷ others → IsHeadAfter C e passed rest h
+head_at : (C e h : ℕ) (passed rest : List Claim) (c : Claim) (others : List Claim) → 0 < C → span_of c ≤ C
+    → rest ≡ c ∷ others → IsHeadAfter C e passed rest h
     → next_place C h (span_of c) ≡ next_place C (end_of C e passed) (span_of c)
 head_at C e h passed rest c others some short is at =
     elim at as (λ _. next_place C h (span_of c) ≡ next_place C (end_of C e passed) (span_of c)) [
@@ -52,12 +55,14 @@ head_at C e h passed rest c others some short is at =
       | inr placed ↦
           let one : c ∷ others ≡ placed.0 ∷ placed.1 = sym is ∙ placed.2 in
           let claim : c ≡ placed.0 = cc in
-          let there : h ≡ next_place C (end_of C e passed) (span_of c) = placed.3 ∙ ap (λ k. next_place C (end_of C e passed) (span_of k)) (sym claim) in
+          let there : h ≡ next_place C (end_of C e passed) (span_of c) =
+          placed.3 ∙ ap (λ k. next_place C (end_of C e passed) (span_of k)) (sym claim) in
           ap (λ k. next_place C k (span_of c)) there ∙ next_fixed C (end_of C e passed) (span_of c) some short
     ]
 
 -- one turn of a read: at mid, after the messages so far, padding or a claim is passed
-module _ (limit : ℕ) (old mid new : Ring) (h : List Claim) (messages : List Message) (s : Settled) (ok : IsRing mid) (same : mid.capacity ≡ old.capacity)
+module _ (limit : ℕ) (old mid new : Ring) (h : List Claim) (messages : List Message) (s : Settled) (ok : IsRing mid)
+    (same : mid.capacity ≡ old.capacity)
     (p : Passes limit old h mid messages) (l : Leaves mid p.rest s new) where
   c : Claim
   c = l.0
@@ -74,17 +79,21 @@ module _ (limit : ℕ) (old mid new : Ring) (h : List Claim) (messages : List Me
   short : span_of l.0 ≤ old.capacity
   short = omega (arith, lawful.short, span_bounds (length l.0.message.body), ok.capacity.least, same)
 
-  place : next_place old.capacity (head_of mid) (span_of l.0) ≡ next_place old.capacity (end_of old.capacity (head_of old) p.passed) (span_of l.0)
+  place : next_place old.capacity (head_of mid) (span_of l.0)
+      ≡ next_place old.capacity (end_of old.capacity (head_of old) p.passed) (span_of l.0)
   place = head_at old.capacity (head_of old) (head_of mid) p.passed p.rest l.0 l.1 some short l.2 p.head
 
   -- the passed claims with c are the history's front
   whole_more : h ≡ (p.passed ++ l.0 ∷ []) ++ l.1
   whole_more = p.whole ∙ ap (λ r. p.passed ++ r) l.2 ∙ sym (append_assoc p.passed (l.0 ∷ []) l.1)
 
-  head_more : IsAtHead mid l.0 → head_of new ≡ head_of mid + span_of l.0 → head_of new ≡ end_of old.capacity (head_of old) (p.passed ++ l.0 ∷ [])
+  head_more : IsAtHead mid l.0 → head_of new ≡ head_of mid + span_of l.0
+      → head_of new ≡ end_of old.capacity (head_of old) (p.passed ++ l.0 ∷ [])
   head_more at moved =
-      let at' : next_place old.capacity (head_of mid) (span_of l.0) ≡ head_of mid = ap (λ k. next_place k (head_of mid) (span_of l.0)) (sym same) ∙ at in
-      let end : end_after old.capacity (end_of old.capacity (head_of old) p.passed) (span_of l.0) ≡ head_of mid + span_of l.0 = omega (arith, at', place) in
+      let at' : next_place old.capacity (head_of mid) (span_of l.0) ≡ head_of mid =
+      ap (λ k. next_place k (head_of mid) (span_of l.0)) (sym same) ∙ at in
+      let end : end_after old.capacity (end_of old.capacity (head_of old) p.passed) (span_of l.0)
+      ≡ head_of mid + span_of l.0 = omega (arith, at', place) in
       moved ∙ sym end ∙ sym (end_of-append old.capacity (head_of old) p.passed (l.0 ∷ []))
 
   -- padding or an aborted claim
@@ -107,36 +116,46 @@ module _ (limit : ℕ) (old mid new : Ring) (h : List Claim) (messages : List Me
                 passed = p.passed ++ l.0 ∷ [];
                 rest = l.1;
                 whole = whole_more;
-                settled = All-push (λ (x : Claim). x.state ≢ Open) p.passed l.0 p.settled (λ e. let bad : Open ≡ Aborted = sym e ∙ aborted.aborted in cc);
-                shown = committed_of-append p.passed (l.0 ∷ []) ∙ ap (λ x. committed_of p.passed ++ (x ++ [])) (shown_none l.0 aborted.aborted) ∙ append-nil (committed_of p.passed) ∙ p.shown;
+                settled = All-push (λ (x : Claim). x.state ≢ Open) p.passed l.0 p.settled
+                    (λ e. let bad : Open ≡ Aborted = sym e ∙ aborted.aborted in cc);
+                shown = committed_of-append p.passed (l.0 ∷ [])
+                    ∙ ap (λ x. committed_of p.passed ++ (x ++ [])) (shown_none l.0 aborted.aborted)
+                    ∙ append-nil (committed_of p.passed) ∙ p.shown;
                 left = claim.1;
                 head = inl (head_more aborted.at_head claim.2);
                 tight = λ e. absurd (below e);
               }
               | inr message ↦
                   let low = lawful.type_id in
-                  let bad : pos 1 ≤ℤ padding_type = rw (sym message.type_id ∙ quiet) at low in absurd (omega (arith, ints, bad))
+                  let bad : pos 1 ≤ℤ padding_type =
+                  rw (sym message.type_id ∙ quiet) at low in absurd (omega (arith, ints, bad))
             ]
       ]
 
   -- a committed claim, whose message m was shown, and nothing behind it
-  pub passes_last : (m : Message) → (s.type_id ≡ padding_type → ⊥) → ((x : Claim) (r : List Claim) → Has mid (x ∷ r) → SeesCommitted mid x s → x.message ≡ m)
+  pub passes_last : (m : Message) → (s.type_id ≡ padding_type → ⊥)
+      → ((x : Claim) (r : List Claim) → Has mid (x ∷ r) → SeesCommitted mid x s → x.message ≡ m)
       → (q : Passes limit old h new (messages ++ m ∷ [])) × IsTight old.capacity (head_of old) q.passed (head_of new)
   passes_last m loud shows =
-      elim l.3 as (λ _. (q : Passes limit old h new (messages ++ m ∷ [])) × IsTight old.capacity (head_of old) q.passed (head_of new)) [
+      elim l.3 as (λ _. (q : Passes limit old h new (messages ++ m ∷ []))
+      × IsTight old.capacity (head_of old) q.passed (head_of new)) [
         | inl pad ↦ absurd (loud pad.0.type_id)
         | inr claim ↦
-            elim claim.0 as (λ _. (q : Passes limit old h new (messages ++ m ∷ [])) × IsTight old.capacity (head_of old) q.passed (head_of new)) [
+            elim claim.0 as (λ _. (q : Passes limit old h new (messages ++ m ∷ []))
+            × IsTight old.capacity (head_of old) q.passed (head_of new)) [
               | inl aborted ↦ absurd (loud aborted.type_id)
               | inr message ↦ (
                 record {
                   passed = p.passed ++ l.0 ∷ [];
                   rest = l.1;
                   whole = whole_more;
-                  settled = All-push (λ (x : Claim). x.state ≢ Open) p.passed l.0 p.settled (λ e. let bad : Open ≡ Committed = sym e ∙ message.committed in cc);
+                  settled = All-push (λ (x : Claim). x.state ≢ Open) p.passed l.0 p.settled
+                      (λ e. let bad : Open ≡ Committed = sym e ∙ message.committed in cc);
                   shown =
-                      committed_of-append p.passed (l.0 ∷ []) ∙ ap (λ x. committed_of p.passed ++ (x ++ [])) (shown_one l.0 message.committed)
-                      ∙ ap (λ x. x ++ l.0.message ∷ []) p.shown ∙ ap (λ x. messages ++ x ∷ []) (shows l.0 l.1 has_mid message);
+                      committed_of-append p.passed (l.0 ∷ []) ∙ ap (λ x. committed_of p.passed ++ (x ++ []))
+                      (shown_one l.0 message.committed)
+                      ∙ ap (λ x. x ++ l.0.message ∷ []) p.shown
+                      ∙ ap (λ x. messages ++ x ∷ []) (shows l.0 l.1 has_mid message);
                   left = claim.1;
                   head = inl (head_more message.at_head claim.2);
                   tight = λ e. inr (p.passed, l.0, refl, message.committed, head_more message.at_head claim.2);
@@ -147,14 +166,17 @@ module _ (limit : ℕ) (old mid new : Ring) (h : List Claim) (messages : List Me
       ]
 
 pub moves_none : (r : Ring) → MovesHead r r
-moves_none r = record { capacity = refl; length = refl; trailer = λ i le ne. refl; on = omega arith; within = omega arith }
+moves_none r =
+    record { capacity = refl; length = refl; trailer = λ i le ne. refl; on = omega arith; within = omega arith }
 
 -- two moves of the head, where the first did not reach the end of the buffer
-pub moves_more : (old mid new : Ring) → 0 < old.capacity → MovesHead old mid → MovesHead mid new → (head_of old < head_of mid → head_of mid % old.capacity ≢ 0) → MovesHead old new
+pub moves_more : (old mid new : Ring) → 0 < old.capacity → MovesHead old mid → MovesHead mid new
+    → (head_of old < head_of mid → head_of mid % old.capacity ≢ 0) → MovesHead old new
 moves_more old mid new some a b inside =
     let C : ℕ = old.capacity in
     let low = mod_below (head_of old) C some in
-    let reach : head_of new ≤ head_of mid + (C - head_of mid % C) = subst (λ (k : ℕ). head_of new ≤ head_of mid + (k - head_of mid % k)) a.capacity b.within in
+    let reach : head_of new ≤ head_of mid + (C - head_of mid % C) =
+    subst (λ (k : ℕ). head_of new ≤ head_of mid + (k - head_of mid % k)) a.capacity b.within in
     record {
       capacity = b.capacity ∙ a.capacity;
       length = b.length ∙ a.length;
@@ -164,14 +186,16 @@ moves_more old mid new some a b inside =
           elim (cases_lt (head_of old) (head_of mid)) as (λ _. head_of new ≤ head_of old + room C (head_of old)) [
             | inr none ↦ let same : head_of mid ≡ head_of old = omega (arith, a.on) in rw same at reach
             | inl some_way ↦
-                elim (cases_lt (head_of mid) (head_of old + (C - head_of old % C))) as (λ _. head_of new ≤ head_of old + room C (head_of old)) [
+                elim (cases_lt (head_of mid) (head_of old + (C - head_of old % C))) as (λ _. head_of new
+                ≤ head_of old + room C (head_of old)) [
                   | inr end ↦
                       let at_end : head_of mid ≡ head_of old + (C - head_of old % C) = omega (arith, a.within) in
                       absurd (inside some_way (ap (λ k. k % C) at_end ∙ mod_room C (head_of old) some))
                   | inl within ↦
                       let step = mod_step C (head_of old) (head_of mid - head_of old) (omega arith) in
                       let there : head_of old + (head_of mid - head_of old) ≡ head_of mid = omega arith in
-                      let lap : head_of mid % C ≡ head_of old % C + (head_of mid - head_of old) = ap (λ k. k % C) (sym there) ∙ step in
+                      let lap : head_of mid % C ≡ head_of old % C + (head_of mid - head_of old) =
+                      ap (λ k. k % C) (sym there) ∙ step in
                       omega (arith, reach, lap)
                 ]
           ];
@@ -197,8 +221,10 @@ module _ {S : Type 0} (step : S → Message → S → Action → Type 0) (limit 
     };
   }
 
-  module _ (old mid new : Ring) (s t : S) (count : ℕ) (settled : Settled) (ok : IsRing mid) (reads : Reads step limit old mid s t count) (below : count ≢ limit)
-      (inside : head_of old < head_of mid → head_of mid % old.capacity ≢ 0) (moved : MovesHead mid new) (left : (h : List Claim) → Has mid h → Leaves mid h settled new) where
+  module _ (old mid new : Ring) (s t : S) (count : ℕ) (settled : Settled) (ok : IsRing mid)
+      (reads : Reads step limit old mid s t count) (below : count ≢ limit)
+      (inside : head_of old < head_of mid → head_of mid % old.capacity ≢ 0) (moved : MovesHead mid new)
+      (left : (h : List Claim) → Has mid h → Leaves mid h settled new) where
     same : mid.capacity ≡ old.capacity
     same = reads.moves.capacity
 
@@ -211,11 +237,13 @@ module _ {S : Type 0} (step : S → Message → S → Action → Type 0) (limit 
       moves = moves_more old mid new (omega (arith, same, ok.capacity.least)) reads.moves moved inside;
       passes = λ h has.
           let p = reads.passes h has in
-          passes_quiet limit old mid new h reads.messages settled ok same p (left p.rest p.left) quiet (λ e. below (reads.counted ∙ e));
+          passes_quiet limit old mid new h reads.messages settled ok same p (left p.rest p.left) quiet
+          (λ e. below (reads.counted ∙ e));
     }
 
     pub reads_message : (m : Message) (a : Action) (u : S) → settled.type_id ≢ padding_type → step t m u a
-        → ((x : Claim) (r : List Claim) → Has mid (x ∷ r) → SeesCommitted mid x settled → x.message ≡ m) → Reads step limit old new s u (count + 1)
+        → ((x : Claim) (r : List Claim) → Has mid (x ∷ r) → SeesCommitted mid x settled → x.message ≡ m)
+        → Reads step limit old new s u (count + 1)
     reads_message m a u loud stepped shows = record {
       messages = reads.messages ++ m ∷ [];
       actions = reads.actions ++ a ∷ [];
@@ -236,62 +264,97 @@ module _ {S : Type 0} (step : S → Message → S → Action → Type 0) (limit 
   unfolding reads_none
   reads_on_none old s = (reads_none step limit old s, All-nil GoesOn)
 
-  module _ (old mid new : Ring) (s t : S) (count : ℕ) (settled : Settled) (ok : IsRing mid) (reads : ReadsOn old mid s t count) (below : count ≢ limit)
-      (inside : head_of old < head_of mid → head_of mid % old.capacity ≢ 0) (moved : MovesHead mid new) (left : (h : List Claim) → Has mid h → Leaves mid h settled new) where
+  module _ (old mid new : Ring) (s t : S) (count : ℕ) (settled : Settled) (ok : IsRing mid)
+      (reads : ReadsOn old mid s t count) (below : count ≢ limit)
+      (inside : head_of old < head_of mid → head_of mid % old.capacity ≢ 0) (moved : MovesHead mid new)
+      (left : (h : List Claim) → Has mid h → Leaves mid h settled new) where
     pub reads_on_quiet : settled.type_id ≡ padding_type → ReadsOn old new s t count
     unfolding reads_quiet
-    reads_on_quiet quiet = (reads_quiet step limit old mid new s t count settled ok reads.0 below inside moved left quiet, reads.1)
+    reads_on_quiet quiet =
+        (reads_quiet step limit old mid new s t count settled ok reads.0 below inside moved left quiet, reads.1)
 
     module _ (m : Message) (a : Action) (u : S) (loud : settled.type_id ≢ padding_type) (stepped : step t m u a)
         (shows : (x : Claim) (r : List Claim) → Has mid (x ∷ r) → SeesCommitted mid x settled → x.message ≡ m) where
       pub reads_on_message : GoesOn a → ReadsOn old new s u (count + 1)
       unfolding reads_message
-      reads_on_message goes = (reads_message step limit old mid new s t count settled ok reads.0 below inside moved left m a u loud stepped shows, All-push GoesOn reads.0.actions a reads.1 goes)
+      reads_on_message goes = (
+        reads_message step limit old mid new s t count settled ok reads.0 below inside moved left m a u loud stepped
+            shows,
+        All-push GoesOn reads.0.actions a reads.1 goes,
+      )
 
       -- the message was the last
-      pub broke : (end : ReadEnd) → a ≡ Break → end.messages ≡ count + 1 → end.stopped ≡ Stop.Action → Broke step limit old new s u end
+      pub broke : (end : ReadEnd) → a ≡ Break → end.messages ≡ count + 1 → end.stopped ≡ Stop.Action
+          → Broke step limit old new s u end
       unfolding reads_message
       broke end is n stop =
-          let r = reads_message step limit old mid new s t count settled ok reads.0 below inside moved left m a u loud stepped shows in
+          let r = reads_message step limit old mid new s t count settled ok reads.0 below inside moved left m a u loud
+          stepped shows in
           record {
-            reads = record { messages = r.messages; actions = r.actions; handled = r.handled; counted = n ∙ r.counted; moves = r.moves; passes = r.passes };
+            reads = record {
+              messages = r.messages;
+              actions = r.actions;
+              handled = r.handled;
+              counted = n
+                  ∙ r.counted;
+              moves = r.moves;
+              passes = r.passes;
+            };
             before = reads.0.actions;
             went_on = reads.1;
             broke = ap (λ x. reads.0.actions ++ x ∷ []) is;
             tight = λ h has.
                 let p = reads.0.passes h has in
-                (passes_last limit old mid new h reads.0.messages settled ok (same step limit old mid new s t count settled ok reads.0 below inside moved left) p (left p.rest p.left) m loud shows).1;
+                (passes_last limit old mid new h reads.0.messages settled ok
+                (same step limit old mid new s t count settled ok reads.0 below inside moved left) p
+                (left p.rest p.left) m loud shows).1;
             stopped = stop;
           }
 
 -- a message at the head is the next
-pub next_is : (r : Ring) (m : Message) (s : Settled) → (s.type_id ≡ padding_type → ⊥) → ((h : List Claim) → Has r h → Sees r h (Some s))
+pub next_is : (r : Ring) (m : Message) (s : Settled) → (s.type_id ≡ padding_type → ⊥)
+    → ((h : List Claim) → Has r h → Sees r h (Some s))
     → ((x : Claim) (rest : List Claim) → Has r (x ∷ rest) → SeesCommitted r x s → x.message ≡ m) → IsNext r m
 next_is r m s loud sees shows = λ h has.
     let seen = sees h has in
-    elim seen.3 as (λ _. (c : Claim) × (rest : List Claim) × (h ≡ c ∷ rest) × (c.state ≡ Committed) × (c.message ≡ m) × IsAtHead r c) [
+    elim seen.3 as (λ _. (c : Claim) × (rest : List Claim) × (h ≡ c ∷ rest) × (c.state ≡ Committed) × (c.message ≡ m)
+    × IsAtHead r c) [
       | inl pad ↦ absurd (loud pad.type_id)
-      | inr claim ↦ elim claim as (λ _. (c : Claim) × (rest : List Claim) × (h ≡ c ∷ rest) × (c.state ≡ Committed) × (c.message ≡ m) × IsAtHead r c) [
-        | inl aborted ↦ absurd (loud aborted.type_id)
-        | inr message ↦ (seen.0, seen.1, seen.2, message.committed, shows seen.0 seen.1 (subst (λ (l : List Claim). Has r l) seen.2 has) message, message.at_head)
-      ]
+      | inr claim ↦ elim claim as (λ _. (c : Claim) × (rest : List Claim) × (h ≡ c ∷ rest) × (c.state ≡ Committed)
+          × (c.message ≡ m) × IsAtHead r c) [
+            | inl aborted ↦ absurd (loud aborted.type_id)
+            | inr message ↦ (
+              seen.0,
+              seen.1,
+              seen.2,
+              message.committed,
+              shows seen.0 seen.1
+                  (subst (λ (l : List Claim). Has r l) seen.2 has) message,
+              message.at_head,
+            )
+          ]
     ]
 
-short_all : (C : ℕ) (h : List Claim) → 128 ≤ C → All (λ (x : Claim). IsMessage C x.message) h → All (λ (x : Claim). span_of x ≤ C) h
+short_all : (C : ℕ) (h : List Claim) → 128 ≤ C → All (λ (x : Claim). IsMessage C x.message) h
+    → All (λ (x : Claim). span_of x ≤ C) h
 short_all C [] low lawful = All-nil (λ (x : Claim). span_of x ≤ C)
 short_all C (c ∷ h) low lawful =
     let m = All-head (λ (x : Claim). IsMessage C x.message) c h lawful in
-    All-cons (λ (x : Claim). span_of x ≤ C) c h (omega (arith, m.short, span_bounds (length c.message.body))) (short_all C h low (All-tail (λ (x : Claim). IsMessage C x.message) c h lawful))
+    All-cons (λ (x : Claim). span_of x ≤ C) c h (omega (arith, m.short, span_bounds (length c.message.body)))
+    (short_all C h low (All-tail (λ (x : Claim). IsMessage C x.message) c h lawful))
 
 -- open claims stay
-pub reads_keeps : {S : Type 0} (step : S → Message → S → Action → Type 0) (limit : ℕ) (old new : Ring) (s u : S) (count : ℕ) → IsRing old → Reads step limit old new s u count → (t : ClaimAt) → IsOpen old t → IsOpen new t
+pub reads_keeps : {S : Type 0} (step : S → Message → S → Action → Type 0) (limit : ℕ) (old new : Ring) (s u : S)
+    (count : ℕ) → IsRing old → Reads step limit old new s u count → (t : ClaimAt) → IsOpen old t → IsOpen new t
 reads_keeps step limit old new s u count ok reads t o =
     let p = reads.passes o.history o.has in
     let C : ℕ = old.capacity in
     let same : new.capacity ≡ old.capacity = reads.moves.capacity in
-    let lawful : All (λ (x : Claim). IsMessage C x.message) p.rest = subst (λ (k : ℕ). All (λ (x : Claim). IsMessage k x.message) p.rest) same p.left.lawful in
+    let lawful : All (λ (x : Claim). IsMessage C x.message) p.rest =
+    subst (λ (k : ℕ). All (λ (x : Claim). IsMessage k x.message) p.rest) same p.left.lawful in
     let at = subst (λ (l : List Claim). IsOpenIn C (head_of old) l t) p.whole o.is_open in
-    let left = open_after C (head_of old) (head_of new) p.passed p.rest t (omega (arith, ok.capacity.least)) (short_all C p.rest ok.capacity.least lawful) p.settled p.head at in
+    let left = open_after C (head_of old) (head_of new) p.passed p.rest t (omega (arith, ok.capacity.least))
+    (short_all C p.rest ok.capacity.least lawful) p.settled p.head at in
     record {
       index = o.index ∙ ap (λ n. t.place % n + 8) (sym same);
       history = p.rest;
@@ -307,24 +370,43 @@ goes_on Commit na nb = tt
 goes_on Continue na nb = tt
 
 -- the handler let each message go
-pub went_on : {S : Type 0} (step : S → Message → S → Action → Type 0) (limit : ℕ) (old new : Ring) (s u : S) (n : ℕ) (end : ReadEnd) → ReadsOn step limit old new s u n → end.messages ≡ n
+pub went_on : {S : Type 0} (step : S → Message → S → Action → Type 0) (limit : ℕ) (old new : Ring) (s u : S) (n : ℕ)
+    (end : ReadEnd) → ReadsOn step limit old new s u n → end.messages ≡ n
     → end.stopped ≡ stop_of new.capacity limit end.messages (head_of new) end.bytes → WentOn step limit old new s u end
 went_on step limit old new s u n end on is stop =
     let r = on.0 in
     record {
-      reads = record { messages = r.messages; actions = r.actions; handled = r.handled; counted = is ∙ r.counted; moves = r.moves; passes = r.passes };
+      reads = record {
+        messages = r.messages;
+        actions = r.actions;
+        handled = r.handled;
+        counted = is
+            ∙ r.counted;
+        moves = r.moves;
+        passes = r.passes;
+      };
       went_on = on.1;
       stopped = stop;
     }
 
 -- or it left one more
-pub aborts : {S : Type 0} (step : S → Message → S → Action → Type 0) (limit : ℕ) (old new : Ring) (s u v : S) (n : ℕ) (m : Message) (a : Action) (end : ReadEnd) → ReadsOn step limit old new s u n → end.messages ≡ n
-    → a ≡ Abort → step u m v a → IsNext new m → n < limit → (head_of old < head_of new → head_of new % new.capacity ≢ 0) → end.stopped ≡ Stop.Action → Aborts step limit old new s v end
+pub aborts : {S : Type 0} (step : S → Message → S → Action → Type 0) (limit : ℕ) (old new : Ring) (s u v : S) (n : ℕ)
+    (m : Message) (a : Action) (end : ReadEnd) → ReadsOn step limit old new s u n → end.messages ≡ n
+    → a ≡ Abort → step u m v a → IsNext new m → n < limit → (head_of old < head_of new → head_of new % new.capacity ≢ 0)
+    → end.stopped ≡ Stop.Action → Aborts step limit old new s v end
 aborts step limit old new s u v n m a end on is abort stepped next below inside stop =
     let r = on.0 in
     record {
       before = u;
-      reads = record { messages = r.messages; actions = r.actions; handled = r.handled; counted = is ∙ r.counted; moves = r.moves; passes = r.passes };
+      reads = record {
+        messages = r.messages;
+        actions = r.actions;
+        handled = r.handled;
+        counted = is
+            ∙ r.counted;
+        moves = r.moves;
+        passes = r.passes;
+      };
       went_on = on.1;
       message = m;
       aborted = subst (λ (x : Action). step u m v x) abort stepped;

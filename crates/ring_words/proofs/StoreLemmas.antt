@@ -17,7 +17,8 @@ use Rattle.ring_layout.proofs.PictureLemmas.{word_at_padding, word_at_padding_he
 -- the words of one record, from its header and its body
 pub record_inside : (C place : ℕ) (c : Claim) (w : List ℕ) → C % 8 ≡ 0 → place % 8 ≡ 0 → place % C + span_of c ≤ C
     → slice_index w (place % C / 8) ≡ header_of c
-    → ((k : ℕ) → 8 * k < length c.message.body → slice_index w (place % C / 8 + 1 + k) ≡ from_le_bytes w64 (drop (8 * k) c.message.body))
+    → ((k : ℕ) → 8 * k < length c.message.body
+    → slice_index w (place % C / 8 + 1 + k) ≡ from_le_bytes w64 (drop (8 * k) c.message.body))
     → (p : ℕ) → p % 8 ≡ 0 → place ≤ p → p < place + span_of c → slice_index w (p % C / 8) ≡ claim_word c (p - place)
 record_inside C place c w c8 l8 within head body p p8 le lt =
     elim (cases_eq (p - place) 0) as (λ _. slice_index w (p % C / 8) ≡ claim_word c (p - place)) [
@@ -30,7 +31,8 @@ record_inside C place c w c8 l8 within head body p p8 le lt =
           let step = index_step C place (k + 1) c8 l8 (omega arith) in
           let index : p % C / 8 ≡ place % C / 8 + 1 + k = ap (λ q. q % C / 8) same ∙ step ∙ omega arith in
           let offset : 8 * k ≡ p - place - 8 = omega arith in
-          ap (slice_index w) index ∙ body k (omega arith) ∙ ap (λ j. from_le_bytes w64 (drop j c.message.body)) offset ∙ sym (cond-false _ _ _ (ne_eqb (p - place) 0 n))
+          ap (slice_index w) index ∙ body k (omega arith) ∙ ap (λ j. from_le_bytes w64 (drop j c.message.body)) offset
+          ∙ sym (cond-false _ _ _ (ne_eqb (p - place) 0 n))
     ]
 
 -- what the code stores: the padding's header where there is padding, then the record's header, then the body
@@ -46,7 +48,8 @@ pub record Steps (C tail place : ℕ) (c : Claim) (w0 w1 w2 w3 : List ℕ) : Typ
   pub padded : tail < place → w1 ≡ slice_set w0 (tail % C / 8) (header (pos (place - tail)) padding_type)
   pub plain : place ≤ tail → w1 ≡ w0
   pub headed : w2 ≡ slice_set w1 (place % C / 8) (header_of c)
-  pub body : (k : ℕ) → 8 * k < length c.message.body → slice_index w3 (place % C / 8 + 1 + k) ≡ from_le_bytes w64 (drop (8 * k) c.message.body)
+  pub body : (k : ℕ) → 8 * k < length c.message.body
+      → slice_index w3 (place % C / 8 + 1 + k) ≡ from_le_bytes w64 (drop (8 * k) c.message.body)
   pub below : (i : ℕ) → i < place % C / 8 + 1 → slice_index w3 i ≡ slice_index w2 i
   pub above : (i : ℕ) → place % C / 8 + 1 + (length c.message.body + 7) / 8 ≤ i → slice_index w3 i ≡ slice_index w2 i
   pub length : length w3 ≡ length w2
@@ -67,9 +70,12 @@ module _ (C tail place : ℕ) (c : Claim) (w0 w1 w2 w3 : List ℕ) (s : Steps C 
   -- an index outside the record keeps what it had after the padding was stored
   kept : (i : ℕ) → (i < place % C / 8) ⊎ (place % C / 8 + span_of c / 8 ≤ i) → slice_index w3 i ≡ slice_index w1 i
   kept i out =
-      let ne : i ≢ place % C / 8 = elim out as (λ _. i ≢ place % C / 8) [ inl h ↦ λ e. omega arith | inr h ↦ λ e. omega (arith, span_bounds (length c.message.body)) ] in
-      let last : slice_index w2 i ≡ slice_index w1 i = ap (λ w. slice_index w i) s.headed ∙ get_or-set_other w1 (place % C / 8) i (header_of c) 0 ne in
-      elim out as (λ _. slice_index w3 i ≡ slice_index w1 i) [ inl h ↦ s.below i (omega arith) ∙ last | inr h ↦ s.above i (omega arith) ∙ last ]
+      let ne : i ≢ place % C / 8 = elim out as (λ _. i ≢ place % C / 8)
+      [ inl h ↦ λ e. omega arith | inr h ↦ λ e. omega (arith, span_bounds (length c.message.body)) ] in
+      let last : slice_index w2 i ≡ slice_index w1 i =
+      ap (λ w. slice_index w i) s.headed ∙ get_or-set_other w1 (place % C / 8) i (header_of c) 0 ne in
+      elim out as (λ _. slice_index w3 i ≡ slice_index w1 i)
+      [ inl h ↦ s.below i (omega arith) ∙ last | inr h ↦ s.above i (omega arith) ∙ last ]
 
   -- an index other than the padding header's keeps what it had before
   unpadded : (i : ℕ) → (tail < place → i ≢ tail % C / 8) → slice_index w1 i ≡ slice_index w0 i
@@ -81,7 +87,8 @@ module _ (C tail place : ℕ) (c : Claim) (w0 w1 w2 w3 : List ℕ) (s : Steps C 
 
   w1_length : length w1 ≡ length w0
   w1_length =
-      elim (cases_lt tail place) as (λ _. length w1 ≡ length w0) [ inl h ↦ ap length (s.padded h) ∙ length-set w0 _ _ | inr h ↦ ap length (s.plain h) ]
+      elim (cases_lt tail place) as (λ _. length w1 ≡ length w0)
+      [ inl h ↦ ap length (s.padded h) ∙ length-set w0 _ _ | inr h ↦ ap length (s.plain h) ]
 
   index_below : (p : ℕ) → p % C / 8 < length w0
   index_below p = let low = mod_below p C s.nonzero in omega (arith, s.room, s.blocks)
@@ -89,10 +96,13 @@ module _ (C tail place : ℕ) (c : Claim) (w0 w1 w2 w3 : List ℕ) (s : Steps C 
   head_there : slice_index w3 (place % C / 8) ≡ header_of c
   head_there =
       let fits : place % C / 8 < length w1 = omega (arith, index_below place, w1_length) in
-      s.below (place % C / 8) (omega arith) ∙ ap (λ w. slice_index w (place % C / 8)) s.headed ∙ get_or-set_same w1 (place % C / 8) (header_of c) 0 fits
+      s.below (place % C / 8) (omega arith) ∙ ap (λ w. slice_index w (place % C / 8)) s.headed
+      ∙ get_or-set_same w1 (place % C / 8) (header_of c) 0 fits
 
-  out_of : (p : ℕ) → p % 8 ≡ 0 → tail ≤ p → p < tail + C → (p < place) ⊎ (place + span_of c ≤ p) → (p % C / 8 < place % C / 8) ⊎ (place % C / 8 + span_of c / 8 ≤ p % C / 8)
-  out_of p p8 le lt out = index_outside C tail place (span_of c) p s.nonzero s.blocks l8 p8 n8 within behind s.fits le lt out
+  out_of : (p : ℕ) → p % 8 ≡ 0 → tail ≤ p → p < tail + C → (p < place) ⊎ (place + span_of c ≤ p)
+      → (p % C / 8 < place % C / 8) ⊎ (place % C / 8 + span_of c / 8 ≤ p % C / 8)
+  out_of p p8 le lt out =
+      index_outside C tail place (span_of c) p s.nonzero s.blocks l8 p8 n8 within behind s.fits le lt out
 
   in_padding : (p : ℕ) → p % 8 ≡ 0 → tail ≤ p → p < place → slice_index w3 (p % C / 8) ≡ word_at C tail (c ∷ []) p
   in_padding p p8 le lt =
@@ -103,12 +113,17 @@ module _ (C tail place : ℕ) (c : Claim) (w0 w1 w2 w3 : List ℕ) (s : Steps C 
       elim (cases_eq p tail) as (λ _. slice_index w3 (p % C / 8) ≡ word_at C tail (c ∷ []) p) [
         | inl is ↦
             let index : p % C / 8 ≡ tail % C / 8 = ap (λ q. q % C / 8) is in
-            let pad = ap (λ w. slice_index w (tail % C / 8)) (s.padded padded) ∙ get_or-set_same w0 (tail % C / 8) _ 0 (index_below tail) in
+            let pad = ap (λ w. slice_index w (tail % C / 8)) (s.padded padded)
+            ∙ get_or-set_same w0 (tail % C / 8) _ 0 (index_below tail) in
             there ∙ ap (slice_index w1) index ∙ pad ∙ ap (λ q. header (pos (q - tail)) padding_type) s.is_place
-            ∙ sym (word_at_padding_header C tail c [] (omega (arith, s.is_place))) ∙ ap (λ q. word_at C tail (c ∷ []) q) (sym is)
+            ∙ sym (word_at_padding_header C tail c [] (omega (arith, s.is_place)))
+            ∙ ap (λ q. word_at C tail (c ∷ []) q) (sym is)
         | inr is_not ↦
-            let ne : tail < place → p % C / 8 ≢ tail % C / 8 = λ _ e. is_not (apart C tail p tail s.nonzero s.blocks p8 s.aligned le in_window (omega arith) (omega (arith, s.nonzero)) e) in
-            there ∙ unpadded (p % C / 8) ne ∙ s.free p p8 le in_window (omega arith) ∙ sym (word_at_padding C tail p c [] before is_not)
+            let ne : tail < place → p % C / 8 ≢ tail % C / 8 =
+            λ _ e. is_not (apart C tail p tail s.nonzero s.blocks p8 s.aligned le in_window (omega arith)
+            (omega (arith, s.nonzero)) e) in
+            there ∙ unpadded (p % C / 8) ne ∙ s.free p p8 le in_window (omega arith)
+            ∙ sym (word_at_padding C tail p c [] before is_not)
       ]
 
   pub stores : Stores C tail c w0 w3
@@ -126,14 +141,22 @@ module _ (C tail place : ℕ) (c : Claim) (w0 w1 w2 w3 : List ℕ) (s : Steps C 
             ];
         outside = λ i out.
             let at : ℕ = place % C / 8 in
-            let ne : tail < place → i ≢ tail % C / 8 = λ h e. out (tail, s.aligned, omega arith, omega (arith, is), sym e) in
+            let ne : tail < place → i ≢ tail % C / 8 =
+            λ h e. out (tail, s.aligned, omega arith, omega (arith, is), sym e) in
             let far : (i < at) ⊎ (at + span_of c / 8 ≤ i) =
             elim (cases_lt i at) as (λ _. (i < at) ⊎ (at + span_of c / 8 ≤ i)) [
               | inl h ↦ inl h
               | inr h ↦ elim (cases_lt i (at + span_of c / 8)) as (λ _. (i < at) ⊎ (at + span_of c / 8 ≤ i)) [
                 | inl k ↦
                     let step = index_step C place (i - at) s.blocks l8 (omega (arith, within, n8)) in
-                    absurd (out (place + 8 * (i - at), omega (arith, l8), omega (arith, behind), omega (arith, is, n8), omega arith))
+                    absurd (out (
+                      place + 8 * (i - at),
+                      omega (arith, l8),
+                      omega (arith, behind),
+                      omega
+                          (arith, is, n8),
+                      omega arith,
+                    ))
                 | inr k ↦ inr k
               ]
             ] in

@@ -33,17 +33,22 @@ byte_small bs small j =
       | inr h ↦ omega (arith, get_or_past bs j 0 h)
     ]
 
-byte_from_word : (bs : List ℕ) → All (λ b. b < 256) bs → (k : ℕ) → from_le_bytes w64 (drop (8 * (k / 8)) bs) / 2 ^ (8 * (k % 8)) % 256 ≡ slice_index bs k
+byte_from_word : (bs : List ℕ) → All (λ b. b < 256) bs → (k : ℕ)
+    → from_le_bytes w64 (drop (8 * (k / 8)) bs) / 2 ^ (8 * (k % 8)) % 256 ≡ slice_index bs k
 byte_from_word bs small k =
-    byte_of_word (drop (8 * (k / 8)) bs) (λ j. let e = get_or-drop (8 * (k / 8)) bs j 0 in omega (arith, e, byte_small bs small (8 * (k / 8) + j))) (k % 8) (omega arith)
+    byte_of_word (drop (8 * (k / 8)) bs) (λ j. let e =
+    get_or-drop (8 * (k / 8)) bs j 0 in omega (arith, e, byte_small bs small (8 * (k / 8) + j))) (k % 8)
+    (omega arith)
     ∙ get_or-drop (8 * (k / 8)) bs (k % 8) 0
     ∙ ap (slice_index bs) (omega arith)
 
 same_body : (xs ys : List ℕ) → All (λ b. b < 256) xs → All (λ b. b < 256) ys → length xs ≡ length ys
-    → ((j : ℕ) → 8 * j < length xs → from_le_bytes w64 (drop (8 * j) xs) ≡ from_le_bytes w64 (drop (8 * j) ys)) → xs ≡ ys
+    → ((j : ℕ) → 8 * j < length xs → from_le_bytes w64 (drop (8 * j) xs) ≡ from_le_bytes w64 (drop (8 * j) ys))
+    → xs ≡ ys
 same_body xs ys small small' len words =
     ext_get_or 0 xs ys len (λ k lt.
-    sym (byte_from_word xs small k) ∙ ap (λ w. w / 2 ^ (8 * (k % 8)) % 256) (words (k / 8) (omega arith)) ∙ byte_from_word ys small' k)
+    sym (byte_from_word xs small k) ∙ ap (λ w. w / 2 ^ (8 * (k % 8)) % 256) (words (k / 8) (omega arith))
+    ∙ byte_from_word ys small' k)
 
 message_same : (m n : Message) → m.type_id ≡ n.type_id → m.body ≡ n.body → m ≡ n
 message_same m n p q = λ i. record { type_id = p i; body = q i }
@@ -64,7 +69,8 @@ abs_neg (suc k) = refl
 
 -- what a header word tells of its claim
 Told : Claim → ℕ → Type 0
-Told c w = ((c.state ≡ Open) × (len_word w ≡ neg_ℤ (pos (8 + length c.message.body))) × (type_word w ≡ c.message.type_id))
+Told c w =
+    ((c.state ≡ Open) × (len_word w ≡ neg_ℤ (pos (8 + length c.message.body))) × (type_word w ≡ c.message.type_id))
     ⊎ (((c.state ≡ Committed) × (len_word w ≡ pos (8 + length c.message.body)) × (type_word w ≡ c.message.type_id))
     ⊎ ((c.state ≡ Aborted) × (len_word w ≡ pos (8 + length c.message.body)) × (type_word w ≡ padding_type)))
 
@@ -96,19 +102,31 @@ module _ (C : ℕ) (cap : IsCapacity C) where
       elim (state_cases c.state) as (λ _. Told c w) [
         | inl s ↦ inl (
           s,
-          ap (λ n. cast_signed w32 (n % 2 ^ 32)) (e ∙ header_open c s) ∙ len_of-header (neg_ℤ (pos (8 + length c.message.body))) c.message.type_id (fits_neg (8 + length c.message.body) small),
-          ap (λ n. cast_signed w32 (n / 2 ^ 32)) (e ∙ header_open c s) ∙ type_of-header (neg_ℤ (pos (8 + length c.message.body))) c.message.type_id (fits_neg (8 + length c.message.body) small) m.type_fits,
+          ap (λ n. cast_signed w32 (n % 2 ^ 32)) (e ∙ header_open c s)
+              ∙ len_of-header (neg_ℤ (pos (8 + length c.message.body))) c.message.type_id
+              (fits_neg (8 + length c.message.body) small),
+          ap (λ n. cast_signed w32 (n / 2 ^ 32)) (e ∙ header_open c s)
+              ∙ type_of-header (neg_ℤ (pos (8 + length c.message.body))) c.message.type_id
+              (fits_neg (8 + length c.message.body) small) m.type_fits,
         )
         | inr o ↦ elim o as (λ _. Told c w) [
           | inl s ↦ inr (inl (
             s,
-            ap (λ n. cast_signed w32 (n % 2 ^ 32)) (e ∙ header_committed c s) ∙ len_of-header (pos (8 + length c.message.body)) c.message.type_id (fits_pos (8 + length c.message.body) small),
-            ap (λ n. cast_signed w32 (n / 2 ^ 32)) (e ∙ header_committed c s) ∙ type_of-header (pos (8 + length c.message.body)) c.message.type_id (fits_pos (8 + length c.message.body) small) m.type_fits,
+            ap (λ n. cast_signed w32 (n % 2 ^ 32)) (e ∙ header_committed c s)
+                ∙ len_of-header (pos (8 + length c.message.body)) c.message.type_id
+                (fits_pos (8 + length c.message.body) small),
+            ap (λ n. cast_signed w32 (n / 2 ^ 32)) (e ∙ header_committed c s)
+                ∙ type_of-header (pos (8 + length c.message.body)) c.message.type_id
+                (fits_pos (8 + length c.message.body) small) m.type_fits,
           ))
           | inr s ↦ inr (inr (
             s,
-            ap (λ n. cast_signed w32 (n % 2 ^ 32)) (e ∙ header_aborted c s) ∙ len_of-header (pos (8 + length c.message.body)) padding_type (fits_pos (8 + length c.message.body) small),
-            ap (λ n. cast_signed w32 (n / 2 ^ 32)) (e ∙ header_aborted c s) ∙ type_of-header (pos (8 + length c.message.body)) padding_type (fits_pos (8 + length c.message.body) small) record { sfits = omega arith },
+            ap (λ n. cast_signed w32 (n % 2 ^ 32)) (e ∙ header_aborted c s)
+                ∙ len_of-header (pos (8 + length c.message.body)) padding_type
+                (fits_pos (8 + length c.message.body) small),
+            ap (λ n. cast_signed w32 (n / 2 ^ 32)) (e ∙ header_aborted c s)
+                ∙ type_of-header (pos (8 + length c.message.body)) padding_type
+                (fits_pos (8 + length c.message.body) small) record { sfits = omega arith },
           ))
         ]
       ]
@@ -117,19 +135,30 @@ module _ (C : ℕ) (cap : IsCapacity C) where
   shown_at c s e = rw e refl
 
   no_padding_type : (m : Message) → IsMessage C m → m.type_id ≡ padding_type → ⊥
-  no_padding_type m l e = let low = l.type_id in let bad : pos 1 ≤ℤ padding_type = rw e at low in omega (arith, ints, bad)
+  no_padding_type m l e =
+      let low = l.type_id in let bad : pos 1 ≤ℤ padding_type = rw e at low in omega (arith, ints, bad)
 
   -- two claims with one header have one length, and show the same if their bodies' words are the same
-  same_len : (c d : Claim) (w : ℕ) → IsMessage C c.message → IsMessage C d.message → Told c w → Told d w → length c.message.body ≡ length d.message.body
+  same_len : (c d : Claim) (w : ℕ) → IsMessage C c.message → IsMessage C d.message → Told c w → Told d w
+      → length c.message.body ≡ length d.message.body
   unfolding Told
   same_len c d w m l p q =
       let absc : ℕ = 8 + length c.message.body in
       let absd : ℕ = 8 + length d.message.body in
-      let lc : nat_abs (len_word w) ≡ absc = elim p as (λ _. nat_abs (len_word w) ≡ absc) [ inl h ↦ ap nat_abs h.1 ∙ abs_neg absc | inr h ↦ elim h as (λ _. nat_abs (len_word w) ≡ absc) [ inl k ↦ ap nat_abs k.1 | inr k ↦ ap nat_abs k.1 ] ] in
-      let ld : nat_abs (len_word w) ≡ absd = elim q as (λ _. nat_abs (len_word w) ≡ absd) [ inl h ↦ ap nat_abs h.1 ∙ abs_neg absd | inr h ↦ elim h as (λ _. nat_abs (len_word w) ≡ absd) [ inl k ↦ ap nat_abs k.1 | inr k ↦ ap nat_abs k.1 ] ] in
+      let lc : nat_abs (len_word w) ≡ absc = elim p as (λ _. nat_abs (len_word w) ≡ absc) [
+        | inl h ↦ ap nat_abs h.1 ∙ abs_neg absc
+        | inr h ↦
+            elim h as (λ _. nat_abs (len_word w) ≡ absc) [ inl k ↦ ap nat_abs k.1 | inr k ↦ ap nat_abs k.1 ]
+      ] in
+      let ld : nat_abs (len_word w) ≡ absd = elim q as (λ _. nat_abs (len_word w) ≡ absd) [
+        | inl h ↦ ap nat_abs h.1 ∙ abs_neg absd
+        | inr h ↦
+            elim h as (λ _. nat_abs (len_word w) ≡ absd) [ inl k ↦ ap nat_abs k.1 | inr k ↦ ap nat_abs k.1 ]
+      ] in
       omega (arith, lc, ld)
 
-  same_shown : (c d : Claim) (w : ℕ) → IsMessage C c.message → IsMessage C d.message → Told c w → Told d w → c.message.body ≡ d.message.body → shown c ≡ shown d
+  same_shown : (c d : Claim) (w : ℕ) → IsMessage C c.message → IsMessage C d.message → Told c w → Told d w
+      → c.message.body ≡ d.message.body → shown c ≡ shown d
   unfolding Told
   same_shown c d w m l p q body =
       elim p as (λ _. shown c ≡ shown d) [
@@ -144,7 +173,8 @@ module _ (C : ℕ) (cap : IsCapacity C) where
           | inl i ↦ elim q as (λ _. shown c ≡ shown d) [
             | inl k ↦ absurd (neg_ne _ _ (sym k.1 ∙ i.1) (omega arith))
             | inr k ↦ elim k as (λ _. shown c ≡ shown d) [
-              | inl j ↦ shown_at c Committed i.0 ∙ ap (λ x. x ∷ []) (message_same c.message d.message (sym i.2 ∙ j.2) body) ∙ sym (shown_at d Committed j.0)
+              | inl j ↦ shown_at c Committed i.0 ∙ ap (λ x. x ∷ [])
+                  (message_same c.message d.message (sym i.2 ∙ j.2) body) ∙ sym (shown_at d Committed j.0)
               | inr j ↦ absurd (no_padding_type c.message m (sym i.2 ∙ j.2))
             ]
           ]
@@ -159,12 +189,19 @@ module _ (C : ℕ) (cap : IsCapacity C) where
       ]
 
   -- an open one of them is the other too
-  same_open : (e : ℕ) (c d : Claim) (t : ClaimAt) (w : ℕ) → next_place C e (span_of c) ≡ next_place C e (span_of d) → length c.message.body ≡ length d.message.body → Told c w → Told d w → IsOpenClaim C e c t → IsOpenClaim C e d t
+  same_open : (e : ℕ) (c d : Claim) (t : ClaimAt) (w : ℕ) → next_place C e (span_of c) ≡ next_place C e (span_of d)
+      → length c.message.body ≡ length d.message.body → Told c w → Told d w → IsOpenClaim C e c t → IsOpenClaim C e d t
   unfolding Told
   same_open e c d t w place len p q here =
       elim p as (λ _. IsOpenClaim C e d t) [
         | inl k ↦ elim q as (λ _. IsOpenClaim C e d t) [
-          | inl j ↦ record { at_place = sym place ∙ here.at_place; is_open = j.0; type_id = sym j.2 ∙ k.2 ∙ here.type_id; len = sym len ∙ here.len }
+          | inl j ↦ record {
+            at_place = sym place ∙ here.at_place;
+            is_open = j.0;
+            type_id = sym j.2 ∙ k.2
+                ∙ here.type_id;
+            len = sym len ∙ here.len;
+          }
           | inr j ↦ elim j as (λ _. IsOpenClaim C e d t) [
             | inl i ↦ absurd (neg_ne _ _ (sym k.1 ∙ i.1) (omega arith))
             | inr i ↦ absurd (neg_ne _ _ (sym k.1 ∙ i.1) (omega arith))
@@ -180,12 +217,14 @@ module _ (C : ℕ) (cap : IsCapacity C) where
   abbrev Same : ℕ → List Claim → List Claim → Type 0
   Same e h g = (end_of C e h ≡ end_of C e g) × ((p : ℕ) → p % 8 ≡ 0 → e ≤ p → word_at C e h p ≡ word_at C e g p)
 
-  head_here : (e q : ℕ) (c : Claim) (h : List Claim) → next_place C e (span_of c) ≡ q → word_at C e (c ∷ h) q ≡ header_of c
+  head_here : (e q : ℕ) (c : Claim) (h : List Claim) → next_place C e (span_of c) ≡ q
+      → word_at C e (c ∷ h) q ≡ header_of c
   head_here e q c h at =
       word_at_record C e q c h (omega (arith, at)) (omega (arith, at, span_bounds (length c.message.body)))
       ∙ ap (claim_word c) (let z : q - next_place C e (span_of c) ≡ 0 = omega (arith, at) in z)
 
-  body_here : (e q : ℕ) (c : Claim) (h : List Claim) → next_place C e (span_of c) ≡ q → (j : ℕ) → 8 * j < length c.message.body
+  body_here : (e q : ℕ) (c : Claim) (h : List Claim) → next_place C e (span_of c) ≡ q → (j : ℕ)
+      → 8 * j < length c.message.body
       → word_at C e (c ∷ h) (q + 8 * (j + 1)) ≡ from_le_bytes w64 (drop (8 * j) c.message.body)
   body_here e q c h at j lt =
       let bounds = span_bounds (length c.message.body) in
@@ -205,14 +244,17 @@ module _ (C : ℕ) (cap : IsCapacity C) where
       let p = told c w m (head_here e q c h at) in
       let p' = told d w l (same.1 q q8 le ∙ head_here e q d g at') in
       let len = same_len c d w m l p p' in
-      let body = same_body c.message.body d.message.body m.bytes l.bytes len (λ j lt. sym (body_here e q c h at j lt) ∙ same.1 (q + 8 * (j + 1)) (omega arith) (omega arith) ∙ body_here e q d g at' j (omega (arith, len))) in
+      let body = same_body c.message.body d.message.body m.bytes l.bytes len
+      (λ j lt. sym (body_here e q c h at j lt) ∙ same.1 (q + 8 * (j + 1)) (omega arith) (omega arith)
+      ∙ body_here e q d g at' j (omega (arith, len))) in
       let bounds = span_bounds (length c.message.body) in
       let end : end_after C e (span_of c) ≡ q + span_of c = omega (arith, at) in
       let end' : end_after C e (span_of d) ≡ q + span_of c = omega (arith, at', len) in
       let left : Same (q + span_of c) h g = (
         ap (λ k. end_of C k h) (sym end) ∙ same.0 ∙ ap (λ k. end_of C k g) end',
         λ r r8 far.
-            ap (λ k. word_at C k h r) (sym end) ∙ sym (word_at_rest C e r c h (omega (arith, end))) ∙ same.1 r r8 (omega arith)
+            ap (λ k. word_at C k h r) (sym end) ∙ sym (word_at_rest C e r c h (omega (arith, end)))
+            ∙ same.1 r r8 (omega arith)
             ∙ word_at_rest C e r d g (omega (arith, end')) ∙ ap (λ k. word_at C k g r) end',
       ) in
       let more = rest (q + span_of c) (omega (arith, bounds)) left in
@@ -222,26 +264,34 @@ module _ (C : ℕ) (cap : IsCapacity C) where
         claims = λ t. (
           λ o. elim o as (λ _. IsOpenIn C e (d ∷ g) t) [
             | inl here ↦ inl (same_open e c d t w place len p p' here)
-            | inr there ↦ inr (subst (λ (k : ℕ). IsOpenIn C k g t) (sym end') ((more.claims t).0 (subst (λ (k : ℕ). IsOpenIn C k h t) end there)))
+            | inr there ↦
+                inr (subst (λ (k : ℕ). IsOpenIn C k g t) (sym end')
+                ((more.claims t).0 (subst (λ (k : ℕ). IsOpenIn C k h t) end there)))
           ],
           λ o. elim o as (λ _. IsOpenIn C e (c ∷ h) t) [
             | inl here ↦ inl (same_open e d c t w (sym place) (sym len) p' p here)
-            | inr there ↦ inr (subst (λ (k : ℕ). IsOpenIn C k h t) (sym end) ((more.claims t).1 (subst (λ (k : ℕ). IsOpenIn C k g t) end' there)))
+            | inr there ↦
+                inr (subst (λ (k : ℕ). IsOpenIn C k h t) (sym end)
+                ((more.claims t).1 (subst (λ (k : ℕ). IsOpenIn C k g t) end' there)))
           ],
         );
       }
 
   -- the words behind padding, as seen from the padding's end
-  skip : (e q : ℕ) (c : Claim) (h : List Claim) → IsMessage C c.message → next_place C e (span_of c) ≡ q → (end_of C q (c ∷ h) ≡ end_of C e (c ∷ h)) × ((p : ℕ) → q ≤ p → word_at C q (c ∷ h) p ≡ word_at C e (c ∷ h) p)
+  skip : (e q : ℕ) (c : Claim) (h : List Claim) → IsMessage C c.message → next_place C e (span_of c) ≡ q
+      → (end_of C q (c ∷ h) ≡ end_of C e (c ∷ h)) × ((p : ℕ) → q ≤ p → word_at C q (c ∷ h) p ≡ word_at C e (c ∷ h) p)
   skip e q c h m at =
-      let place : next_place C q (span_of c) ≡ q = ap (λ k. next_place C k (span_of c)) (sym at) ∙ next_fixed C e (span_of c) nonzero (short c m) ∙ at in
+      let place : next_place C q (span_of c) ≡ q =
+      ap (λ k. next_place C k (span_of c)) (sym at) ∙ next_fixed C e (span_of c) nonzero (short c m) ∙ at in
       let end : end_after C q (span_of c) ≡ end_after C e (span_of c) = omega (arith, place, at) in (
         ap (λ k. end_of C k h) end,
         λ p le. elim (cases_lt p (end_after C e (span_of c))) as (λ _. word_at C q (c ∷ h) p ≡ word_at C e (c ∷ h) p) [
           | inl lt ↦
-              word_at_record C q p c h (omega (arith, place)) (omega (arith, end)) ∙ ap (λ k. claim_word c (p - k)) (place ∙ sym at)
+              word_at_record C q p c h (omega (arith, place)) (omega (arith, end))
+              ∙ ap (λ k. claim_word c (p - k)) (place ∙ sym at)
               ∙ sym (word_at_record C e p c h (omega (arith, at)) lt)
-          | inr far ↦ word_at_rest C q p c h (omega (arith, end)) ∙ ap (λ k. word_at C k h p) end ∙ sym (word_at_rest C e p c h far)
+          | inr far ↦ word_at_rest C q p c h (omega (arith, end)) ∙ ap (λ k. word_at C k h p) end
+              ∙ sym (word_at_rest C e p c h far)
         ],
       )
 
@@ -254,12 +304,16 @@ module _ (C : ℕ) (cap : IsCapacity C) where
       let q8 : q % 8 ≡ 0 = let a = next_aligned C e (span_of c) nonzero c8 e8 in omega (arith, a, at) in
       let pad : ℕ = q - e in
       let low = mod_below e C nonzero in
-      let small : pad < 2 ^ 31 = elim (next_cases C e (span_of c)) as (λ _. pad < 2 ^ 31) [ inl k ↦ omega (arith, cap.most) | inr k ↦ omega (arith, cap.most) ] in
+      let small : pad < 2 ^ 31 = elim (next_cases C e (span_of c)) as (λ _. pad < 2 ^ 31)
+      [ inl k ↦ omega (arith, cap.most) | inr k ↦ omega (arith, cap.most) ] in
       let w : ℕ = word_at C e (d ∷ g) e in
       let here : w ≡ header (pos pad) padding_type =
-      sym (same.1 e e8 (omega arith)) ∙ word_at_padding_header C e c h (omega (arith, at)) ∙ ap (λ k. header (pos (k - e)) padding_type) at in
-      let len : cast_signed w32 (w % 2 ^ 32) ≡ pos pad = ap (λ n. cast_signed w32 (n % 2 ^ 32)) here ∙ len_of-header (pos pad) padding_type (fits_pos pad small) in
-      let type_id : cast_signed w32 (w / 2 ^ 32) ≡ padding_type = ap (λ n. cast_signed w32 (n / 2 ^ 32)) here ∙ type_of-header (pos pad) padding_type (fits_pos pad small) record { sfits = omega arith } in
+      sym (same.1 e e8 (omega arith)) ∙ word_at_padding_header C e c h (omega (arith, at))
+      ∙ ap (λ k. header (pos (k - e)) padding_type) at in
+      let len : cast_signed w32 (w % 2 ^ 32) ≡ pos pad =
+      ap (λ n. cast_signed w32 (n % 2 ^ 32)) here ∙ len_of-header (pos pad) padding_type (fits_pos pad small) in
+      let type_id : cast_signed w32 (w / 2 ^ 32) ≡ padding_type = ap (λ n. cast_signed w32 (n / 2 ^ 32)) here
+      ∙ type_of-header (pos pad) padding_type (fits_pos pad small) record { sfits = omega arith } in
       elim (told d w l (head_here e e d g at')) as (λ _. Alike C e (c ∷ h) (d ∷ g)) [
         | inl k ↦ absurd (neg_ne _ _ (sym k.1 ∙ len) (omega arith))
         | inr o ↦ elim o as (λ _. Alike C e (c ∷ h) (d ∷ g)) [
@@ -270,18 +324,22 @@ module _ (C : ℕ) (cap : IsCapacity C) where
               let skipped = skip e q c h m at in
               let left : Same q (c ∷ h) g = (
                 skipped.0 ∙ same.0 ∙ ap (λ r. end_of C r g) end,
-                λ p p8 le. skipped.1 p le ∙ same.1 p p8 (omega arith) ∙ word_at_rest C e p d g (omega (arith, end)) ∙ ap (λ r. word_at C r g p) end,
+                λ p p8 le. skipped.1 p le ∙ same.1 p p8 (omega arith) ∙ word_at_rest C e p d g (omega (arith, end))
+                    ∙ ap (λ r. word_at C r g p) end,
               ) in
               let more = rest q q8 left in
               record {
                 messages = more.messages ∙ sym (ap (λ x. x ++ committed_of g) (shown_at d Aborted k.0));
                 claims = λ t. (
-                  λ o. inr (subst (λ (r : ℕ). IsOpenIn C r g t) (sym end) ((more.claims t).0 (subst (λ (r : ℕ). IsOpenIn C r (c ∷ h) t) at (open_past_padding C e c h t nonzero (short c m) o)))),
+                  λ o. inr (subst (λ (r : ℕ). IsOpenIn C r g t) (sym end)
+                      ((more.claims t).0 (subst (λ (r : ℕ). IsOpenIn C r (c ∷ h) t) at
+                      (open_past_padding C e c h t nonzero (short c m) o)))),
                   λ o. elim o as (λ _. IsOpenIn C e (c ∷ h) t) [
                     | inl here ↦ let bad : Open ≡ Aborted = sym here.is_open ∙ k.0 in absurd cc
                     | inr there ↦
                         open_before_padding C e c h t nonzero (short c m)
-                        (subst (λ (r : ℕ). IsOpenIn C r (c ∷ h) t) (sym at) ((more.claims t).1 (subst (λ (r : ℕ). IsOpenIn C r g t) end there)))
+                        (subst (λ (r : ℕ). IsOpenIn C r (c ∷ h) t) (sym at)
+                        ((more.claims t).1 (subst (λ (r : ℕ). IsOpenIn C r g t) end there)))
                   ],
                 );
               }
@@ -291,10 +349,27 @@ module _ (C : ℕ) (cap : IsCapacity C) where
   flip : (e : ℕ) (h g : List Claim) → Same e h g → Same e g h
   flip e h g s = (sym s.0, λ p p8 le. sym (s.1 p p8 le))
 
-  pub unique : (n e : ℕ) (h g : List Claim) → length h + length g ≤ n → e % 8 ≡ 0 → Lawful C h → Lawful C g → Same e h g → Alike C e h g
+  pub unique : (n e : ℕ) (h g : List Claim) → length h + length g ≤ n → e % 8 ≡ 0 → Lawful C h → Lawful C g → Same e h g
+      → Alike C e h g
   unique n e [] [] le e8 lh lg same = record { messages = refl; claims = λ t. ((λ o. o), (λ o. o)) }
-  unique n e [] (d ∷ g) le e8 lh lg same = absurd (omega (arith, same.0, next_le C e (span_of d), span_bounds (length d.message.body), end_of_le C (end_after C e (span_of d)) g))
-  unique n e (c ∷ h) [] le e8 lh lg same = absurd (omega (arith, same.0, next_le C e (span_of c), span_bounds (length c.message.body), end_of_le C (end_after C e (span_of c)) h))
+  unique n e [] (d ∷ g) le e8 lh lg same =
+      absurd (omega (
+        arith,
+        same.0,
+        next_le C e (span_of d),
+        span_bounds (length d.message.body),
+        end_of_le C
+            (end_after C e (span_of d)) g,
+      ))
+  unique n e (c ∷ h) [] le e8 lh lg same =
+      absurd (omega (
+        arith,
+        same.0,
+        next_le C e (span_of c),
+        span_bounds (length c.message.body),
+        end_of_le C
+            (end_after C e (span_of c)) h,
+      ))
   unique zero e (c ∷ h) (d ∷ g) le e8 lh lg same = absurd (omega arith)
   unique (suc n) e (c ∷ h) (d ∷ g) le e8 lh lg same =
       let P : Claim → Type 0 = λ x. IsMessage C x.message in
@@ -305,17 +380,24 @@ module _ (C : ℕ) (cap : IsCapacity C) where
       elim (cases_lt e (next_place C e (span_of c))) as (λ _. Alike C e (c ∷ h) (d ∷ g)) [
         | inl pc ↦ elim (cases_lt e (next_place C e (span_of d))) as (λ _. Alike C e (c ∷ h) (d ∷ g)) [
           | inl pd ↦
-              let one : next_place C e (span_of d) ≡ next_place C e (span_of c) = omega (arith, next_cases C e (span_of c), next_cases C e (span_of d)) in
-              both e (next_place C e (span_of c)) c d h g (next_aligned C e (span_of c) nonzero c8 e8) ce m l refl one same (λ r r8 s. unique n r h g (omega arith) r8 (All-tail P c h lh) (All-tail P d g lg) s)
+              let one : next_place C e (span_of d) ≡ next_place C e (span_of c) =
+              omega (arith, next_cases C e (span_of c), next_cases C e (span_of d)) in
+              both e (next_place C e (span_of c)) c d h g
+              (next_aligned C e (span_of c) nonzero c8 e8) ce m l refl one same
+              (λ r r8 s. unique n r h g (omega arith) r8 (All-tail P c h lh) (All-tail P d g lg) s)
           | inr pd ↦
-              padded e (next_place C e (span_of c)) c d h g e8 m l refl pc (omega arith) same (λ r r8 s. unique n r (c ∷ h) g (omega arith) r8 lh (All-tail P d g lg) s)
+              padded e (next_place C e (span_of c)) c d h g e8 m l refl pc (omega arith) same
+              (λ r r8 s. unique n r (c ∷ h) g (omega arith) r8 lh (All-tail P d g lg) s)
         ]
         | inr pc ↦ elim (cases_lt e (next_place C e (span_of d))) as (λ _. Alike C e (c ∷ h) (d ∷ g)) [
           | inl pd ↦
-              turned C e (d ∷ g) (c ∷ h) (padded e (next_place C e (span_of d)) d c g h e8 l m refl pd (omega arith) (flip e (c ∷ h) (d ∷ g) same)
-              (λ r r8 s. turned C r h (d ∷ g) (unique n r h (d ∷ g) (omega arith) r8 (All-tail P c h lh) lg (flip r (d ∷ g) h s))))
+              turned C e (d ∷ g) (c ∷ h) (padded e (next_place C e (span_of d)) d c g h e8 l m refl pd (omega arith)
+              (flip e (c ∷ h) (d ∷ g) same)
+              (λ r r8 s. turned C r h (d ∷ g) (unique n r h (d ∷ g) (omega arith) r8 (All-tail P c h lh) lg
+              (flip r (d ∷ g) h s))))
           | inr pd ↦
-              both e e c d h g e8 (omega arith) m l (omega arith) (omega arith) same (λ r r8 s. unique n r h g (omega arith) r8 (All-tail P c h lh) (All-tail P d g lg) s)
+              both e e c d h g e8 (omega arith) m l (omega arith) (omega arith) same
+              (λ r r8 s. unique n r h g (omega arith) r8 (All-tail P c h lh) (All-tail P d g lg) s)
         ]
       ]
 
@@ -324,13 +406,16 @@ pub alike : (r : Ring) (h g : List Claim) → IsRing r → Has r h → Has r g �
 alike r h g ok a b =
     unique r.capacity ok.capacity (length h + length g) (head_of r) h g (omega arith) ok.aligned a.lawful b.lawful (
       a.ends ∙ sym b.ends,
-      λ p p8 le. elim (cases_lt p (head_of r + r.capacity)) as (λ _. word_at r.capacity (head_of r) h p ≡ word_at r.capacity (head_of r) g p) [
-        | inl near ↦ sym (a.picture p p8 le near) ∙ b.picture p p8 le near
-        | inr far ↦
-            word_at_past r.capacity (head_of r) p h (omega (arith, a.ends, ok.room)) ∙ sym (word_at_past r.capacity (head_of r) p g (omega (arith, b.ends, ok.room)))
-      ],
+      λ p p8 le. elim (cases_lt p (head_of r + r.capacity)) as (λ _. word_at r.capacity (head_of r) h p
+          ≡ word_at r.capacity (head_of r) g p) [
+            | inl near ↦ sym (a.picture p p8 le near) ∙ b.picture p p8 le near
+            | inr far ↦
+                word_at_past r.capacity (head_of r) p h (omega (arith, a.ends, ok.room))
+                ∙ sym (word_at_past r.capacity (head_of r) p g (omega (arith, b.ends, ok.room)))
+          ],
     )
 
 -- a claim that is open in one history is open in each
-pub open_in_each : (r : Ring) (t : ClaimAt) (h : List Claim) → IsRing r → IsOpen r t → Has r h → IsOpenIn r.capacity (head_of r) h t
+pub open_in_each : (r : Ring) (t : ClaimAt) (h : List Claim) → IsRing r → IsOpen r t → Has r h
+    → IsOpenIn r.capacity (head_of r) h t
 open_in_each r t h ok o has = ((alike r o.history h ok o.has has).claims t).0 o.is_open

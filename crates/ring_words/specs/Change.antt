@@ -22,13 +22,18 @@ settled_as state c = record { message = c.message; state = state }
 
 -- the claim with these bytes in its body from the offset on
 abbrev pub put_into : ℕ → List ℕ → Claim → Claim
-put_into offset bytes c = record { message = record { type_id = c.message.type_id; body = overwritten offset bytes c.message.body }; state = c.state }
+put_into offset bytes c = record {
+  message =
+      record { type_id = c.message.type_id; body = overwritten offset bytes c.message.body };
+  state = c.state;
+}
 
 -- of claims that come after e the one at this place is changed
 abbrev pub changed_at : ℕ → ℕ → ℕ → (Claim → Claim) → List Claim → List Claim
 changed_at C e place change [] = []
 changed_at C e place change (c ∷ h) =
-    (if next_place C e (span_of c) == place then change c else c) ∷ changed_at C (end_after C e (span_of c)) place change h
+    (if next_place C e (span_of c) == place then change c else c)
+    ∷ changed_at C (end_after C e (span_of c)) place change h
 
 -- the claim comes to the end of each history that the ring has; of the trailer only the tail changes
 pub record AppendsClaim (old : Ring) (c : Claim) (new : Ring) : Type 0 where
@@ -36,7 +41,8 @@ pub record AppendsClaim (old : Ring) (c : Claim) (new : Ring) : Type 0 where
   pub length : length new.words ≡ length old.words
   pub head : head_of new ≡ head_of old
   pub tail : tail_of new ≡ end_after old.capacity (tail_of old) (span_of c)
-  pub trailer : (i : ℕ) → old.capacity / 8 ≤ i → i ≢ tail_index old.capacity → slice_index new.words i ≡ slice_index old.words i
+  pub trailer : (i : ℕ) → old.capacity / 8 ≤ i → i ≢ tail_index old.capacity
+      → slice_index new.words i ≡ slice_index old.words i
   pub history : (h : List Claim) → Has old h → Has new (h ++ c ∷ [])
 
 -- the claim at this place is changed in each history that the ring has; the trailer stays, and with it head and tail

@@ -9,7 +9,9 @@ use Rattle.ring_layout.specs.Refusals.{IsRefusedOr}
 
 -- tail, head cache and head at the start, 0 in every other word
 abbrev pub fresh : ℕ → ℕ → Ring
-fresh C start = ring C (slice_set (slice_set (slice_set (replicate (ring_words C) 0) (tail_index C) start) (head_cache_index C) start) (head_index C) start)
+fresh C start =
+    ring C (slice_set (slice_set (slice_set (replicate (ring_words C) 0) (tail_index C) start)
+    (head_cache_index C) start) (head_index C) start)
 
 -- why a ring cannot be made, in the order of the tests
 abbrev pub make_refusal_of : ℕ → ℕ → Option MakeFault

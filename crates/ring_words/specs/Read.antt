@@ -17,12 +17,14 @@ use Rattle.ring_words.specs.Reading.{IsAtHead, MovesHead}
 -- the head is the end of the claims passed or, where padding follows, the place of the next claim
 abbrev pub IsHeadAfter : ℕ → ℕ → List Claim → List Claim → ℕ → Type 0
 IsHeadAfter C e passed rest head = (head ≡ end_of C e passed)
-    ⊎ ((c : Claim) × (others : List Claim) × (rest ≡ c ∷ others) × (head ≡ next_place C (end_of C e passed) (span_of c)))
+    ⊎ ((c : Claim) × (others : List Claim) × (rest ≡ c ∷ others)
+    × (head ≡ next_place C (end_of C e passed) (span_of c)))
 
 -- nothing was passed behind the last message
 abbrev pub IsTight : ℕ → ℕ → List Claim → ℕ → Type 0
 IsTight C e passed head = ((passed ≡ []) × (head ≡ e))
-    ⊎ ((front : List Claim) × (c : Claim) × (passed ≡ front ++ c ∷ []) × (c.state ≡ Committed) × (head ≡ end_of C e passed))
+    ⊎ ((front : List Claim) × (c : Claim) × (passed ≡ front ++ c ∷ []) × (c.state ≡ Committed)
+    × (head ≡ end_of C e passed))
 
 -- from the history h settled claims were passed whose committed ones are these messages, and the others are left
 pub record Passes (limit : ℕ) (old : Ring) (h : List Claim) (new : Ring) (messages : List Message) : Type 0 where
@@ -36,7 +38,8 @@ pub record Passes (limit : ℕ) (old : Ring) (h : List Claim) (new : Ring) (mess
   pub tight : length messages ≡ limit → IsTight old.capacity (head_of old) passed (head_of new)
 
 -- messages were read: the handler was shown them, and of each history that the ring had they were passed
-pub record Reads {S : Type 0} (step : S → Message → S → Action → Type 0) (limit : ℕ) (old new : Ring) (s t : S) (count : ℕ) : Type 0 where
+pub record Reads {S : Type 0} (step : S → Message → S → Action → Type 0) (limit : ℕ) (old new : Ring) (s t : S)
+    (count : ℕ) : Type 0 where
   pub messages : List Message
   pub actions : List Action
   pub handled : Handles step s messages actions t
@@ -52,7 +55,8 @@ stop_of C limit messages head bytes =
     else Unpublished)
 
 -- messages were read, and why the read stopped
-pub record ReadsTo {S : Type 0} (step : S → Message → S → Action → Type 0) (limit : ℕ) (old new : Ring) (s t : S) (end : ReadEnd) : Type 0 where
+pub record ReadsTo {S : Type 0} (step : S → Message → S → Action → Type 0) (limit : ℕ) (old new : Ring) (s t : S)
+    (end : ReadEnd) : Type 0 where
   pub reads : Reads step limit old new s t end.messages
   pub bytes : head_of old + end.bytes ≡ head_of new
   pub stopped : end.stopped ≡ stop_of new.capacity limit end.messages (head_of new) end.bytes
@@ -66,25 +70,30 @@ GoesOn Continue = Unit {0}
 
 -- the message m lies at the head of each history that the ring has
 abbrev pub IsNext : Ring → Message → Type 0
-IsNext r m = (h : List Claim) → Has r h → (c : Claim) × (rest : List Claim) × (h ≡ c ∷ rest) × (c.state ≡ Committed) × (c.message ≡ m) × IsAtHead r c
+IsNext r m = (h : List Claim) → Has r h → (c : Claim) × (rest : List Claim) × (h ≡ c ∷ rest) × (c.state ≡ Committed)
+    × (c.message ≡ m) × IsAtHead r c
 
 -- the handler let the read go on after each message
-pub record WentOn {S : Type 0} (step : S → Message → S → Action → Type 0) (limit : ℕ) (old new : Ring) (s t : S) (end : ReadEnd) : Type 0 where
+pub record WentOn {S : Type 0} (step : S → Message → S → Action → Type 0) (limit : ℕ) (old new : Ring) (s t : S)
+    (end : ReadEnd) : Type 0 where
   pub reads : Reads step limit old new s t end.messages
   pub went_on : All GoesOn reads.actions
   pub stopped : end.stopped ≡ stop_of new.capacity limit end.messages (head_of new) end.bytes
 
 -- it stopped the read by Break at the last message, which was taken, and nothing was passed behind it
-pub record Broke {S : Type 0} (step : S → Message → S → Action → Type 0) (limit : ℕ) (old new : Ring) (s t : S) (end : ReadEnd) : Type 0 where
+pub record Broke {S : Type 0} (step : S → Message → S → Action → Type 0) (limit : ℕ) (old new : Ring) (s t : S)
+    (end : ReadEnd) : Type 0 where
   pub reads : Reads step limit old new s t end.messages
   pub before : List Action
   pub went_on : All GoesOn before
   pub broke : reads.actions ≡ before ++ Break ∷ []
-  pub tight : (h : List Claim) (has : Has old h) → IsTight old.capacity (head_of old) (reads.passes h has).passed (head_of new)
+  pub tight : (h : List Claim) (has : Has old h)
+      → IsTight old.capacity (head_of old) (reads.passes h has).passed (head_of new)
   pub stopped : end.stopped ≡ Stop.Action
 
 -- it stopped the read by Abort at one message more, which was left
-pub record Aborts {S : Type 0} (step : S → Message → S → Action → Type 0) (limit : ℕ) (old new : Ring) (s t : S) (end : ReadEnd) : Type 0 where
+pub record Aborts {S : Type 0} (step : S → Message → S → Action → Type 0) (limit : ℕ) (old new : Ring) (s t : S)
+    (end : ReadEnd) : Type 0 where
   pub before : S
   pub reads : Reads step limit old new s before end.messages
   pub went_on : All GoesOn reads.actions
@@ -97,4 +106,5 @@ pub record Aborts {S : Type 0} (step : S → Message → S → Action → Type 0
 
 -- a read that the handler controls
 abbrev pub Controls : {S : Type 0} → (S → Message → S → Action → Type 0) → ℕ → Ring → Ring → S → S → ReadEnd → Type 0
-Controls step limit old new s t end = WentOn step limit old new s t end ⊎ (Broke step limit old new s t end ⊎ Aborts step limit old new s t end)
+Controls step limit old new s t end =
+    WentOn step limit old new s t end ⊎ (Broke step limit old new s t end ⊎ Aborts step limit old new s t end)

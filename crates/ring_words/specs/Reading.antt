@@ -40,7 +40,8 @@ pub record SeesCommitted (r : Ring) (c : Claim) (s : Settled) : Type 0 where
 -- what the header at the head tells of a history
 abbrev pub Sees : Ring → List Claim → Option Settled → Type 0
 Sees r h None = IsBlocked r h
-Sees r h (Some s) = (c : Claim) × (rest : List Claim) × (h ≡ c ∷ rest) × (SeesPadding r c s ⊎ (SeesAborted r c s ⊎ SeesCommitted r c s))
+Sees r h (Some s) = (c : Claim) × (rest : List Claim) × (h ≡ c ∷ rest)
+    × (SeesPadding r c s ⊎ (SeesAborted r c s ⊎ SeesCommitted r c s))
 
 -- padding at the head was passed up to the place of c, or c was
 abbrev pub Leaves : Ring → List Claim → Settled → Ring → Type 0
@@ -52,6 +53,7 @@ Leaves old h s new = (c : Claim) × (rest : List Claim) × (h ≡ c ∷ rest)
 pub record MovesHead (old new : Ring) : Type 0 where
   pub capacity : new.capacity ≡ old.capacity
   pub length : length new.words ≡ length old.words
-  pub trailer : (i : ℕ) → old.capacity / 8 ≤ i → i ≢ head_index old.capacity → slice_index new.words i ≡ slice_index old.words i
+  pub trailer : (i : ℕ) → old.capacity / 8 ≤ i → i ≢ head_index old.capacity
+      → slice_index new.words i ≡ slice_index old.words i
   pub on : head_of old ≤ head_of new
   pub within : head_of new ≤ head_of old + room old.capacity (head_of old)

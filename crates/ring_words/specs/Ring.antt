@@ -19,7 +19,8 @@ tail_of r = slice_index r.words (tail_index r.capacity)
 abbrev pub head_of : Ring → ℕ
 head_of r = slice_index r.words (head_index r.capacity)
 
--- the ring has the untaken history h: placed from the head it ends at the tail, and the words below C / 8 are its picture
+-- the ring has the untaken history h: placed from the head it ends at the tail, and the words below C / 8 are its
+-- picture
 pub record Has (r : Ring) (h : List Claim) : Type 0 where
   pub lawful : All (λ c. IsMessage r.capacity c.message) h
   pub ends : end_of r.capacity (head_of r) h ≡ tail_of r

@@ -18,11 +18,13 @@ pub record IsAdmitted (r : Ring) (len place end : ℕ) : Type 0 where
 
 -- the words with the header of the padding from the tail to the place, if there is any
 abbrev pub padded : ℕ → ℕ → ℕ → List ℕ → List ℕ
-padded C tail place words = if nat_lt tail place then slice_set words (index C tail) (padding_header (place - tail)) else words
+padded C tail place words =
+    if nat_lt tail place then slice_set words (index C tail) (padding_header (place - tail)) else words
 
 -- a body stands in the words from `at` on, with zeros to the end of its last word
 abbrev pub HoldsBody : List ℕ → ℕ → List ℕ → Type 0
-HoldsBody words at body = (k : ℕ) → 8 * k < length body → slice_index words (at + k) ≡ from_le_bytes w64 (drop (8 * k) body)
+HoldsBody words at body =
+    (k : ℕ) → 8 * k < length body → slice_index words (at + k) ≡ from_le_bytes w64 (drop (8 * k) body)
 
 -- an index of a position from `from` on and before `to`
 abbrev pub IsBetween : ℕ → ℕ → ℕ → ℕ → Type 0
@@ -31,5 +33,7 @@ IsBetween C from to i = (p : ℕ) × (p % 8 ≡ 0) × (from ≤ p) × (p < to) �
 -- new has the words of a claim that comes after the tail, and the other words of old
 pub record Stores (C tail : ℕ) (c : Claim) (old new : List ℕ) : Type 0 where
   pub length : length new ≡ length old
-  pub inside : (p : ℕ) → p % 8 ≡ 0 → tail ≤ p → p < end_after C tail (span_of c) → slice_index new (index C p) ≡ word_at C tail (c ∷ []) p
-  pub outside : (i : ℕ) → (IsBetween C tail (end_after C tail (span_of c)) i → ⊥) → slice_index new i ≡ slice_index old i
+  pub inside : (p : ℕ) → p % 8 ≡ 0 → tail ≤ p → p < end_after C tail (span_of c)
+      → slice_index new (index C p) ≡ word_at C tail (c ∷ []) p
+  pub outside : (i : ℕ) → (IsBetween C tail (end_after C tail (span_of c)) i → ⊥)
+      → slice_index new i ≡ slice_index old i

@@ -13,8 +13,8 @@ pub struct Positions {
 }
 
 impl Positions {
-    /// The bytes from the head to the tail, padding counted: what is claimed and not taken yet. In a shared ring the tail is
-    /// loaded after the head, so it may be more than there was at any moment.
+    /// The bytes from the head to the tail, padding counted: what is claimed and not taken yet. In a shared ring the
+    /// tail is loaded after the head, so it may be more than there was at any moment.
     pub fn used(&self) -> u64
         ensures { result ≡ self.now.tail - self.now.head }
     {
@@ -27,16 +27,16 @@ impl Positions {
 pub enum Standing {
     /// Nothing is claimed behind the head.
     Empty,
-    /// A claim was made at this head before the read, and it was not settled when the read looked. Whether its producer is
-    /// slow or lost is for the caller to judge, by time.
+    /// A claim was made at this head before the read, and it was not settled when the read looked. Whether its producer
+    /// is slow or lost is for the caller to judge, by time.
     Blocked { head: u64 },
     /// The read passed something, or it may find something when it is repeated.
     Moving,
 }
 
 impl ReadEnd {
-    /// What a read shows together with the positions that were asked for before it and after it. It is exact for what was
-    /// loaded, where nobody else reads the ring; it computes only.
+    /// What a read shows together with the positions that were asked for before it and after it. It is exact for what
+    /// was loaded, where nobody else reads the ring; it computes only.
     pub fn standing(&self, before: Positions, after: Positions) -> Standing
         ensures empty { result ≡ Empty ↔ IsEmpty before self.now after }
         ensures blocked { (head : ℕ) → result ≡ Blocked head ↔ IsBlockedAt before self.now after head }

@@ -44,8 +44,8 @@ impl SoloRing {
         Self::new_at(alloc, capacity, 0)
     }
 
-    /// Makes an empty ring that starts at a multiple of its capacity. It refuses with `BadCapacity`, then with `BadStart` a
-    /// start that is no multiple of the capacity or above 2^62, and then with `OutOfMemory`.
+    /// Makes an empty ring that starts at a multiple of its capacity. It refuses with `BadCapacity`, then with
+    /// `BadStart` a start that is no multiple of the capacity or above 2^62, and then with `OutOfMemory`.
     pub fn new_at(alloc: Global, capacity: u32, start: u64) -> Result<Self, MakeFault>
         ensures refused { IsMadeUnless (make_refusal_of capacity start) result }
         ensures fresh { IfOk result (λ ring. ring ≡ fresh capacity start) }
@@ -71,8 +71,8 @@ impl SoloRing {
         })
     }
 
-    /// Makes a ring of words that are one already: the picture of a history, and its trailer. The scratch has room for the
-    /// longest message. What the words show is for the caller to prove.
+    /// Makes a ring of words that are one already: the picture of a history, and its trailer. The scratch has room for
+    /// the longest message. What the words show is for the caller to prove.
     pub fn from_words(capacity: u32, words: Vec<u64>, scratch: Vec<u8>) -> Self
         requires ring { IsRing (ring capacity words.items) }
         requires scratch { vec_len scratch ≡ capacity / 8 }
@@ -124,7 +124,8 @@ impl SoloRing {
     pub fn history_law(&self)
         ensures some { (h : List Claim) × Has self.now h }
         ensures one { (h g : List Claim) → Has self.now h → Has self.now g → committed_of h ≡ committed_of g }
-        ensures claims { (t : ClaimAt) → IsOpen self.now t → (h : List Claim) → Has self.now h → IsOpenIn self.now.capacity (head_of self.now) h t }
+        ensures claims { (t : ClaimAt) → IsOpen self.now t → (h : List Claim) → Has self.now h
+            → IsOpenIn self.now.capacity (head_of self.now) h t }
     {
         let _ = &self.words;
     }

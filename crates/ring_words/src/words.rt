@@ -28,7 +28,8 @@ pub(crate) fn overwrite_body(words: &mut [u64], at: usize, offset: usize, bytes:
     ensures inside { (body : List ℕ) → All (λ b. b < 256) body → offset + length bytes.now ≤ length body
         → HoldsBody words.old at body → HoldsBody words.new at (overwritten offset bytes.now body) }
     ensures below { (i : ℕ) → i < at → slice_index words.new i ≡ slice_index words.old i }
-    ensures above { (i : ℕ) → at + (offset + length bytes.now + 7) / 8 ≤ i → slice_index words.new i ≡ slice_index words.old i }
+    ensures above { (i : ℕ) → at + (offset + length bytes.now + 7) / 8 ≤ i
+        → slice_index words.new i ≡ slice_index words.old i }
 {
     let mut done = 0;
     while done < bytes.len() {
@@ -42,7 +43,8 @@ pub(crate) fn overwrite_body(words: &mut [u64], at: usize, offset: usize, bytes:
 /// Copies a body out of the words from `at` on.
 pub(crate) fn load_body(words: &[u64], at: usize, body: &mut [u8])
     requires { at + (length body.old + 7) / 8 ≤ length words.now }
-    ensures { (k : ℕ) → k < length body.new → slice_index body.new k ≡ slice_index words.now (at + k / 8) / 2 ^ (8 * (k % 8)) % 256 }
+    ensures { (k : ℕ) → k < length body.new → slice_index body.new k
+        ≡ slice_index words.now (at + k / 8) / 2 ^ (8 * (k % 8)) % 256 }
 {
     let whole = body.len() / 8;
     for k in 0..whole {
@@ -65,8 +67,8 @@ fn fill_zeros(words: &mut [u64], at: usize, count: usize)
 
 /// Sets `count` words from `at` on to 0.
 ///
-/// Fewer than 8 are covered from both ends by fills of a fixed length, which are plain stores. One fill of a length that is
-/// not known beforehand is a call, and the next load behind so short a store may have to wait for it.
+/// Fewer than 8 are covered from both ends by fills of a fixed length, which are plain stores. One fill of a length
+/// that is not known beforehand is a call, and the next load behind so short a store may have to wait for it.
 pub(crate) fn clear(words: &mut [u64], at: usize, count: usize)
     requires { at + count ≤ length words.old }
     ensures inside { (i : ℕ) → at ≤ i → i < at + count → slice_index words.new i ≡ 0 }

@@ -94,7 +94,8 @@ impl Board {
         requires seat { IsSeatOf self.now seat.old }
         requires stage { RestsAt self.now.capacity place seat.old.me }
         ensures same { IsSameSeat seat.old seat.new }
-        ensures got { MatchResult result (λ o. MatchOption o (GotNothing seat.old.me seat.new.me) (λ r. GotRecord r seat.old.me seat.new.me × IsInside seat.old.me.0.capacity r))
+        ensures got { MatchResult result (λ o. MatchOption o (GotNothing seat.old.me seat.new.me)
+            (λ r. GotRecord r seat.old.me seat.new.me × IsInside seat.old.me.0.capacity r))
             (λ m. GotMiss m.place m.intent seat.old.me seat.new.me) }
     {
         match self.approach(seat, place) {
@@ -117,11 +118,13 @@ impl Board {
     /// Copies the words of the body behind a validated header to the front of the scratch.
     fn copy_body(&self, seat: &mut BoardSeat, place: u64, words: usize, scratch: &mut [u8])
         requires seat { IsSeatOf self.now seat.old }
-        requires stage { (w : ℕ) × (seat.old.me.0.stage ≡ Reading w []) × (words ≡ word_count (body_len w)) × (seat.old.me.0.at ≡ place) }
+        requires stage { (w : ℕ) × (seat.old.me.0.stage ≡ Reading w []) × (words ≡ word_count (body_len w))
+            × (seat.old.me.0.at ≡ place) }
         requires inside { (place % 8 ≡ 0) × (place % self.now.capacity + 8 + 8 * words ≤ self.now.capacity) }
         requires room { 8 * words ≤ length scratch.old }
         ensures same { IsSameSeat seat.old seat.new }
-        ensures copied { (w : ℕ) → seat.old.me.0.stage ≡ Reading w [] → CopiedWords w words scratch.new seat.old.me seat.new.me }
+        ensures copied { (w : ℕ) → seat.old.me.0.stage ≡ Reading w []
+            → CopiedWords w words scratch.new seat.old.me seat.new.me }
     {
         let first = self.index(place) + 1;
         for k in 0..words {
@@ -140,11 +143,13 @@ impl Board {
         scratch: &mut [u8],
     ) -> Result<usize, u64>
         requires seat { IsSeatOf self.now seat.old }
-        requires stage { (seat.old.me.0.stage ≡ Reading header []) × (seat.old.me.0.at ≡ place) × (seat.old.me.0.capacity ≡ self.now.capacity) }
+        requires stage { (seat.old.me.0.stage ≡ Reading header []) × (seat.old.me.0.at ≡ place)
+            × (seat.old.me.0.capacity ≡ self.now.capacity) }
         requires sound { IsSound self.now.capacity place header }
         requires room { length scratch.old ≡ self.now.capacity / 8 }
         ensures same { IsSameSeat seat.old seat.new }
-        ensures took { MatchResult result (λ len. TookAll header len scratch.new seat.old.me seat.new.me × (len ≡ body_len header)) (λ x. TookNone x seat.old.me seat.new.me) }
+        ensures took { MatchResult result (λ len. TookAll header len scratch.new seat.old.me seat.new.me
+            × (len ≡ body_len header)) (λ x. TookNone x seat.old.me seat.new.me) }
     {
         let len = announced(header) as usize - HEADER_LENGTH;
         self.copy_body(seat, place, len.div_ceil(8), scratch);
@@ -156,8 +161,8 @@ impl Board {
         }
     }
 
-    /// Copies the next message to the front of the scratch, if there is one. Or else gives the place and the intent of a
-    /// failed validation.
+    /// Copies the next message to the front of the scratch, if there is one. Or else gives the place and the intent of
+    /// a failed validation.
     pub(crate) fn attempt(
         &self,
         seat: &mut BoardSeat,
@@ -168,9 +173,11 @@ impl Board {
         requires stage { RestsAt self.now.capacity place seat.old.me }
         requires room { length scratch.old ≡ self.now.capacity / 8 }
         ensures same { IsSameSeat seat.old seat.new }
-        ensures got { MatchResult result (λ o. MatchOption o (GotNothing seat.old.me seat.new.me) (λ f. GotCopy f.place f.type_id (take f.len scratch.new) seat.old.me seat.new.me))
+        ensures got { MatchResult result (λ o. MatchOption o (GotNothing seat.old.me seat.new.me)
+            (λ f. GotCopy f.place f.type_id (take f.len scratch.new) seat.old.me seat.new.me))
             (λ m. GotMiss m.place m.intent seat.old.me seat.new.me) }
-        ensures bound { MatchResult result (λ o. MatchOption o (Unit {0}) (λ f. (f.place + span f.len ≤ max_position) × (f.len ≤ length scratch.new))) (λ m. Unit {0}) }
+        ensures bound { MatchResult result (λ o. MatchOption o (Unit {0})
+            (λ f. (f.place + span f.len ≤ max_position) × (f.len ≤ length scratch.new))) (λ m. Unit {0}) }
     {
         match self.find(seat, place) {
             Found::Nothing(_) => Ok(None),

@@ -12,8 +12,8 @@ impl Board {
     ghost use Rattle.ring_board.specs.Refusals.{subscribe_refusal_of, IsSubscribedUnless};
     ghost use Rattle.ring_board.specs.Seats.{view_of, shares_of, transmitted, IsTransmitterOf, IsReceiverOf, receiver_view, subscribed_at, copies_of};
 
-    /// Makes a copying receiver, which starts with the record at latest, with one share of the transmitter's. `NoShares`
-    /// where the transmitter has one share, then `OutOfMemory`; the transmitter is then as before.
+    /// Makes a copying receiver, which starts with the record at latest, with one share of the transmitter's.
+    /// `NoShares` where the transmitter has one share, then `OutOfMemory`; the transmitter is then as before.
     pub fn subscribe(
         &self,
         alloc: Global,
@@ -23,7 +23,8 @@ impl Board {
         ensures board { IsTransmitterOf self.now transmitter.new }
         ensures refused { IsSubscribedUnless (subscribe_refusal_of (shares_of transmitter.old)) result }
         ensures same { OnErr result (transmitter.new ≡ transmitter.old) }
-        ensures receiver { IfOk result (λ r. IsReceiverOf self.now r × (receiver_view r ≡ newcomer (view_of transmitter.old))) }
+        ensures receiver { IfOk result (λ r. IsReceiverOf self.now r
+            × (receiver_view r ≡ newcomer (view_of transmitter.old))) }
         ensures transmitter { IfOk result (λ _. view_of transmitter.new ≡ fewer (view_of transmitter.old)) }
     {
         if transmitter.shares <= 1 {
@@ -67,8 +68,8 @@ impl CopyReceiver {
     ghost use Rattle.ring_board.specs.Seats.{IsReceiverOf, receiver_seat, stands_at, lapped_count_of, Received};
     ghost use Rattle.ring_board.specs.Lending.{Rests};
 
-    /// Where it stands, as a position in bytes: the next call looks for a record there. After `Lapped` the bytes that it
-    /// passed over are this less `Lapped.place`; they are never 0.
+    /// Where it stands, as a position in bytes: the next call looks for a record there. After `Lapped` the bytes that
+    /// it passed over are this less `Lapped.place`; they are never 0.
     pub fn place(&self) -> u64
         ensures { result ≡ stands_at self.now }
     {
@@ -86,9 +87,13 @@ impl CopyReceiver {
     fn copy_next(&mut self, board: &Board) -> Result<Option<Front>, Lapped>
         requires { IsReceiverOf board.now self.old }
         ensures board { IsReceiverOf board.now self.new }
-        ensures got { MatchResult result (λ o. MatchOption o (GotNothing (receiver_seat self.old) (receiver_seat self.new)) (λ f. GotCopy f.place f.type_id (take f.len self.new.scratch.items) (receiver_seat self.old) (receiver_seat self.new)))
+        ensures got { MatchResult result (λ o. MatchOption o
+            (GotNothing (receiver_seat self.old) (receiver_seat self.new))
+            (λ f. GotCopy f.place f.type_id (take f.len self.new.scratch.items) (receiver_seat self.old)
+            (receiver_seat self.new)))
             (λ l. GotLapped l (receiver_seat self.old) (receiver_seat self.new)) }
-        ensures len { MatchResult result (λ o. MatchOption o (Unit {0}) (λ f. f.len ≤ vec_len self.new.scratch)) (λ l. Unit {0}) }
+        ensures len { MatchResult result (λ o. MatchOption o (Unit {0}) (λ f. f.len ≤ vec_len self.new.scratch))
+            (λ l. Unit {0}) }
     {
         match board.attempt(&mut self.seat, self.place, self.scratch.as_mut_slice()) {
             Ok(None) => Ok(None),
@@ -111,7 +116,8 @@ impl CopyReceiver {
     /// The copy at the front of the scratch.
     fn front(&self, front: Front) -> Copied<'_>
         requires { front.len ≤ vec_len self.now.scratch }
-        ensures { (result.place ≡ front.place) × (result.type_id ≡ front.type_id) × (result.body.now ≡ take front.len self.now.scratch.items) }
+        ensures { (result.place ≡ front.place) × (result.type_id ≡ front.type_id)
+            × (result.body.now ≡ take front.len self.now.scratch.items) }
     {
         Copied {
             place: front.place,

@@ -56,8 +56,8 @@ impl Receiver {
     ghost use Rattle.ring_board.specs.Bodies.{GaveBody, IsRight, Validated};
     ghost use Rattle.ring_board.specs.Seats.{IsRawOf, IsAnswered, raw_seat, raw_view, raw_stands_at, raw_lapped_count_of, ReceivedNext, StaysAnswered, place_of, len_of};
 
-    /// Where it stands, as a position in bytes: the next call looks for a record there. After `Lapped` the bytes that it
-    /// passed over are this less `Lapped.place`; they are never 0.
+    /// Where it stands, as a position in bytes: the next call looks for a record there. After `Lapped` the bytes that
+    /// it passed over are this less `Lapped.place`; they are never 0.
     pub fn place(&self) -> u64
         ensures { result ≡ raw_stands_at self.now }
     {
@@ -104,7 +104,8 @@ impl Receiver {
         requires raw { IsAnswered (raw_view self.old) raw.now }
         requires room { len_of raw.now ≤ length out.old }
         ensures board { IsRawOf board.now self.new }
-        ensures gave { GaveBody (place_of raw.now) (take (len_of raw.now) out.new) (raw_seat self.old) (raw_seat self.new) }
+        ensures gave { GaveBody (place_of raw.now) (take (len_of raw.now) out.new) (raw_seat self.old)
+            (raw_seat self.new) }
         ensures rest { drop (len_of raw.now) out.new ≡ drop (len_of raw.now) out.old }
         ensures kept { StaysAnswered self.old self.new }
     {

@@ -45,7 +45,9 @@ impl Board {
     /// Loads the next word of a body.
     pub(crate) fn load_word(&self, seat: &mut BoardSeat, at: usize) -> u64
         requires seat { IsSeatOf self.now seat.old }
-        requires stage { (w : ℕ) × (ws : List ℕ) × (seat.old.me.0.stage ≡ Reading w ws) × (length ws < word_count (body_len w)) × (at ≡ index self.now.capacity (seat.old.me.0.at + 8 + 8 * length ws)) }
+        requires stage { (w : ℕ) × (ws : List ℕ) × (seat.old.me.0.stage ≡ Reading w ws)
+            × (length ws < word_count (body_len w))
+            × (at ≡ index self.now.capacity (seat.old.me.0.at + 8 + 8 * length ws)) }
         ensures same { IsSameSeat seat.old seat.new }
         ensures read { LoadsWord at seat.old.me result seat.new.me }
     {

@@ -1,5 +1,5 @@
-//! What each step tells. A load of a counter tells that the step was one of that counter's word. These types are for the
-//! proofs alone.
+//! What each step tells. A load of a counter tells that the step was one of that counter's word. These types are for
+//! the proofs alone.
 ghost use Rattle.std.specs.Prelude.{◌≡◌};
 ghost use Rattle.ring_board.specs.Layout.{intent_index, tail_index, latest_index};
 ghost use Rattle.ring_board.specs.Steps.{StoresIntent, StoresPadding, StoresWord, StoresHeader, StoresLatest, StoresTail, LoadsTail, LoadsHeader, LoadsWord, LoadsIntent, AnswersEntry, LoadsLatest, Learns, fewer, newcomer, joined, spent};

@@ -42,7 +42,8 @@ impl Board {
         requires seat { IsSeatOf self.now seat.old }
         requires idle { seat.old.me.0.stage ≡ Idle }
         requires limit { end ≤ max_position }
-        requires fits { Lies self.now.capacity seat.old.me.0.at seat.old.me.0.at (place_before self.now.capacity seat.old.me.0.at end) end }
+        requires fits { Lies self.now.capacity seat.old.me.0.at seat.old.me.0.at
+            (place_before self.now.capacity seat.old.me.0.at end) end }
         ensures same { IsSameSeat seat.old seat.new }
         ensures begun { StoresIntent seat.old.me end seat.new.me }
     {
@@ -54,7 +55,8 @@ impl Board {
     /// Stores the padding header before a record.
     pub(crate) fn store_padding(&self, seat: &mut BoardSeat, before: u64, word: u64)
         requires seat { IsSeatOf self.now seat.old }
-        requires stage { (d : Draft) × (seat.old.me.0.stage ≡ Begun d) × (before ≡ d.before) × (word ≡ padding_header (d.place - d.before)) }
+        requires stage { (d : Draft) × (seat.old.me.0.stage ≡ Begun d) × (before ≡ d.before)
+            × (word ≡ padding_header (d.place - d.before)) }
         ensures same { IsSameSeat seat.old seat.new }
         ensures padded { StoresPadding seat.old.me word seat.new.me }
     {
@@ -66,7 +68,9 @@ impl Board {
     /// Stores the next word of a body.
     pub(crate) fn store_word(&self, seat: &mut BoardSeat, at: usize, word: u64)
         requires seat { IsSeatOf self.now seat.old }
-        requires stage { (d : Draft) × (seat.old.me.0.stage ≡ Storing d) × (at ≡ index self.now.capacity (d.place + 8 + 8 * length d.words)) × (d.place + 8 + 8 * length d.words < d.end) }
+        requires stage { (d : Draft) × (seat.old.me.0.stage ≡ Storing d)
+            × (at ≡ index self.now.capacity (d.place + 8 + 8 * length d.words))
+            × (d.place + 8 + 8 * length d.words < d.end) }
         ensures same { IsSameSeat seat.old seat.new }
         ensures put { StoresWord seat.old.me word seat.new.me }
     {
@@ -76,7 +80,9 @@ impl Board {
     /// Stores the header of a record whose body is stored.
     pub(crate) fn store_header(&self, seat: &mut BoardSeat, place: u64, word: u64)
         requires seat { IsSeatOf self.now seat.old }
-        requires stage { (d : Draft) × (m : Message) × (seat.old.me.0.stage ≡ Storing d) × (place ≡ d.place) × IsMessage self.now.capacity m × (words_of m.body ≡ d.words) × (d.place + span (length m.body) ≡ d.end) × (word ≡ header_of m) }
+        requires stage { (d : Draft) × (m : Message) × (seat.old.me.0.stage ≡ Storing d) × (place ≡ d.place)
+            × IsMessage self.now.capacity m × (words_of m.body ≡ d.words) × (d.place + span (length m.body) ≡ d.end)
+            × (word ≡ header_of m) }
         ensures same { IsSameSeat seat.old seat.new }
         ensures written { StoresHeader seat.old.me word seat.new.me }
     {
@@ -112,11 +118,13 @@ impl Board {
     /// Stores a body behind the place of its record.
     pub(crate) fn store_body(&self, seat: &mut BoardSeat, place: u64, body: &[u8])
         requires seat { IsSeatOf self.now seat.old }
-        requires stage { (d : Draft) × (seat.old.me.0.stage ≡ Storing d) × (d.words ≡ []) × (d.place ≡ place) × (place + span (length body.now) ≡ d.end) }
+        requires stage { (d : Draft) × (seat.old.me.0.stage ≡ Storing d) × (d.words ≡ []) × (d.place ≡ place)
+            × (place + span (length body.now) ≡ d.end) }
         requires place { (place % 8 ≡ 0) × (place ≤ max_position) }
         requires inside { place % self.now.capacity + span (length body.now) ≤ self.now.capacity }
         ensures same { IsSameSeat seat.old seat.new }
-        ensures put { seat.new.me ≡ (staged seat.old.me.0 (after_words seat.old.me.0.stage (words_of body.now)), seat.old.me.1) }
+        ensures put { seat.new.me
+            ≡ (staged seat.old.me.0 (after_words seat.old.me.0.stage (words_of body.now)), seat.old.me.1) }
     {
         let first = self.index(place) + 1;
         for k in 0..body.len().div_ceil(8) {

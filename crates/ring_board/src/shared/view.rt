@@ -71,9 +71,9 @@ pub enum Stage {
     Behind,
 }
 
-/// What a seat knows. The transmitter has the list `sent`, and the receivers `heard` that were joined into it. A receiver
-/// subscribed at `from`, is at `at`, where the entry `next` of that list comes next, was lapped `count` times, and has
-/// its copies. Each has a log of its loads.
+/// What a seat knows. The transmitter has the list `sent`, and the receivers `heard` that were joined into it. A
+/// receiver subscribed at `from`, is at `at`, where the entry `next` of that list comes next, was lapped `count` times,
+/// and has its copies. Each has a log of its loads.
 pub struct View {
     pub stage: Stage,
     pub shares: u64,

@@ -16,7 +16,8 @@ pub extern "C" fn felter_read(
     len: &mut usize,
     buffer: &mut [u8],
 ) -> i32
-    ensures { Uses a_consumer (ReadOne (out type_id.old len.old buffer.old) (out type_id.new len.new buffer.new)) consumer.old.held consumer.new.held result }
+    ensures { Uses a_consumer (ReadOne (out type_id.old len.old buffer.old) (out type_id.new len.new buffer.new))
+        consumer.old.held consumer.new.held result }
 {
     let Some(mut held) = consumer.take(alloc) else {
         return NO_HANDLE;

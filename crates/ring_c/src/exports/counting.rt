@@ -21,7 +21,8 @@ pub extern "C" fn felter_counter_allocate(
     registration: u64,
     id: &mut u32,
 ) -> i32
-    ensures { Uses some_counters (WasAllocated now type_id key.now label.now registration 0 id.old id.new) counters.old.held counters.new.held result }
+    ensures { Uses some_counters (WasAllocated now type_id key.now label.now registration 0 id.old id.new)
+        counters.old.held counters.new.held result }
 {
     let Some(mut held) = counters.take(alloc) else {
         return NO_HANDLE;
@@ -57,7 +58,8 @@ pub extern "C" fn felter_counter_allocate_owned(
     owner: u64,
     id: &mut u32,
 ) -> i32
-    ensures { Uses some_counters (WasAllocated now type_id key.now label.now registration owner id.old id.new) counters.old.held counters.new.held result }
+    ensures { Uses some_counters (WasAllocated now type_id key.now label.now registration owner id.old id.new)
+        counters.old.held counters.new.held result }
 {
     let Some(mut held) = counters.take(alloc) else {
         return NO_HANDLE;
@@ -153,7 +155,8 @@ pub extern "C" fn felter_counters_close_owner(
     owner: u64,
     freed: &mut u32,
 ) -> i32
-    ensures { Uses some_counters (OwnerClosed now owner freed.old freed.new) counters.old.held counters.new.held result }
+    ensures { Uses some_counters (OwnerClosed now owner freed.old freed.new) counters.old.held counters.new.held
+        result }
 {
     let Some(mut held) = counters.take(alloc) else {
         return NO_HANDLE;
@@ -175,7 +178,8 @@ pub extern "C" fn felter_counter_find(
     registration: u64,
     id: &mut u32,
 ) -> i32
-    ensures { Uses some_counters (WasFound type_id registration id.old id.new) counters.old.held counters.new.held result }
+    ensures { Uses some_counters (WasFound type_id registration id.old id.new) counters.old.held counters.new.held
+        result }
 {
     let Some(mut held) = counters.take(alloc) else {
         return NO_HANDLE;
@@ -216,7 +220,8 @@ pub extern "C" fn felter_counter_value(
     id: u32,
     value: &mut i64,
 ) -> i32
-    ensures { Uses some_counters (Asked (λ r. (counter_at r id).values.value) id value.old value.new) counters.old.held counters.new.held result }
+    ensures { Uses some_counters (Asked (λ r. (counter_at r id).values.value) id value.old value.new) counters.old.held
+        counters.new.held result }
 {
     let Some(mut held) = counters.take(alloc) else {
         return NO_HANDLE;
@@ -237,7 +242,8 @@ pub extern "C" fn felter_counter_type_id(
     id: u32,
     type_id: &mut i32,
 ) -> i32
-    ensures { Uses some_counters (Asked (λ r. (counter_at r id).metadata.type_id) id type_id.old type_id.new) counters.old.held counters.new.held result }
+    ensures { Uses some_counters (Asked (λ r. (counter_at r id).metadata.type_id) id type_id.old type_id.new)
+        counters.old.held counters.new.held result }
 {
     let Some(mut held) = counters.take(alloc) else {
         return NO_HANDLE;
@@ -258,7 +264,9 @@ pub extern "C" fn felter_counter_registration(
     id: u32,
     registration: &mut u64,
 ) -> i32
-    ensures { Uses some_counters (Asked (λ r. (counter_at r id).values.registration) id registration.old registration.new) counters.old.held counters.new.held result }
+    ensures { Uses some_counters
+        (Asked (λ r. (counter_at r id).values.registration) id registration.old registration.new) counters.old.held
+        counters.new.held result }
 {
     let Some(mut held) = counters.take(alloc) else {
         return NO_HANDLE;
@@ -279,7 +287,8 @@ pub extern "C" fn felter_counter_owner(
     id: u32,
     owner: &mut u64,
 ) -> i32
-    ensures { Uses some_counters (Asked (λ r. (counter_at r id).values.owner) id owner.old owner.new) counters.old.held counters.new.held result }
+    ensures { Uses some_counters (Asked (λ r. (counter_at r id).values.owner) id owner.old owner.new) counters.old.held
+        counters.new.held result }
 {
     let Some(mut held) = counters.take(alloc) else {
         return NO_HANDLE;

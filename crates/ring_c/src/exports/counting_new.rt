@@ -25,7 +25,8 @@ fn code_of_make(fault: MakeFault) -> i32
 /// Makes counters.
 fn make_counters(alloc: Global, count: u32, reuse_ms: u32) -> Result<Box<Held>, i32>
     ensures made { IfOk result (λ made. HoldFreshCounters count reuse_ms (Some made.value)) }
-    ensures code { MatchResult result (λ _. IsCountersCode count (pos 0)) (λ code. IsCountersCode count code × (code ≢ pos 0)) }
+    ensures code { MatchResult result (λ _. IsCountersCode count (pos 0))
+        (λ code. IsCountersCode count code × (code ≢ pos 0)) }
 {
     let (values, manager) = match CountersManager::new(alloc, count, reuse_ms) {
         Ok(made) => made,

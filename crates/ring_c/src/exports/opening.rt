@@ -26,10 +26,12 @@ fn box_both(
     producer: Producer,
     consumer: Consumer,
 ) -> Result<Pair, i32>
-    requires same { (is_many same ≡ is_many ring) × (table_in same ≡ table_in ring) × (capacity_in same ≡ capacity_in ring) }
+    requires same { (is_many same ≡ is_many ring) × (table_in same ≡ table_in ring)
+        × (capacity_in same ≡ capacity_in ring) }
     requires producer { IsProducerIn ring producer }
     requires consumer { IsConsumerIn same consumer }
-    ensures made { IfOk result (λ made. HoldPair (is_many ring) (capacity_in ring) (view_of producer) (consumer_view consumer) (Some made.0.value) (Some made.1.value)) }
+    ensures made { IfOk result (λ made. HoldPair (is_many ring) (capacity_in ring) (view_of producer)
+        (consumer_view consumer) (Some made.0.value) (Some made.1.value)) }
     ensures refused { IfErr result (λ code. code ≡ pos 3) }
 {
     let one = Held::Producer(ProducerSide {
@@ -53,7 +55,8 @@ fn box_both(
 /// Makes a ring of many producers.
 fn make_many(alloc: Global, capacity: u32, start: u64) -> Result<Pair, i32>
     ensures made { IfOk result (λ made. HoldFresh true capacity start (Some made.0.value) (Some made.1.value)) }
-    ensures code { MatchResult result (λ _. IsMakeCode capacity start (pos 0)) (λ code. IsMakeCode capacity start code × (code ≢ pos 0)) }
+    ensures code { MatchResult result (λ _. IsMakeCode capacity start (pos 0))
+        (λ code. IsMakeCode capacity start code × (code ≢ pos 0)) }
 {
     let (ring, producer, consumer) = match ManyToOneRing::new_at(alloc, capacity, start) {
         Ok(made) => made,
@@ -72,7 +75,8 @@ fn make_many(alloc: Global, capacity: u32, start: u64) -> Result<Pair, i32>
 /// Makes a ring of one producer.
 fn make_one(alloc: Global, capacity: u32, start: u64) -> Result<Pair, i32>
     ensures made { IfOk result (λ made. HoldFresh false capacity start (Some made.0.value) (Some made.1.value)) }
-    ensures code { MatchResult result (λ _. IsMakeCode capacity start (pos 0)) (λ code. IsMakeCode capacity start code × (code ≢ pos 0)) }
+    ensures code { MatchResult result (λ _. IsMakeCode capacity start (pos 0))
+        (λ code. IsMakeCode capacity start code × (code ≢ pos 0)) }
 {
     let (ring, producer, consumer) = match OneToOneRing::new_at(alloc, capacity, start) {
         Ok(made) => made,
@@ -144,7 +148,8 @@ pub extern "C" fn felter_one_to_one_new_at(
     producer: &mut Handle,
     consumer: &mut Handle,
 ) -> i32
-    ensures { Opens false capacity start producer.old.held consumer.old.held producer.new.held consumer.new.held result }
+    ensures { Opens false capacity start producer.old.held consumer.old.held producer.new.held consumer.new.held
+        result }
 {
     if !producer.is_empty(alloc) || !consumer.is_empty(alloc) {
         return HANDLE_IN_USE;

@@ -10,10 +10,8 @@ ghost use Rattle.ring_conductor.specs.Asking.{client_seat, client_view, producer
 
 use crate::client::request::Request;
 use crate::client::{Client, Polled, SendFault};
-use crate::protocol::command::LONGEST_COMMAND;
-use crate::protocol::command::encode::encode_command;
-use crate::protocol::reply::decode::decode_reply;
 use ring_board::{Board, CopyReceiver};
+use ring_protocol::{LONGEST_COMMAND, decode_reply, encode_command};
 use ring_rings::{ManyToOneRing, Producer};
 
 impl Client {

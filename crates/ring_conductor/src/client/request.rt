@@ -1,10 +1,10 @@
 //! What is asked of the conductor, before a correlation id is drawn.
 
 ghost use Rattle.std.specs.Prelude.{◌≡◌};
-ghost use Rattle.ring_conductor.specs.Command.{content_of};
+ghost use Rattle.ring_protocol.specs.Command.{content_of};
 ghost use Rattle.ring_conductor.specs.Asking.{asked};
 
-use crate::protocol::command::Command;
+use ring_protocol::Command;
 
 /// What is asked of the conductor: a command without its correlation id.
 #[derive(Clone, Copy, Debug, PartialEq, Eq)]

@@ -2,15 +2,12 @@
 
 ghost use Rattle.std.specs.Prelude.{◌≡◌, ◌^◌, ◌≤◌};
 ghost use Rattle.ring_counters.specs.Manager.{registry_of, IsManagerOf};
-ghost use Rattle.ring_conductor.specs.Command.{content_of, Free as FreeOf, Set as SetOf, Close as CloseOf};
+ghost use Rattle.ring_protocol.specs.Command.{content_of, Free as FreeOf, Set as SetOf, Close as CloseOf};
 ghost use Rattle.ring_conductor.specs.Applied.{applied, obeyed};
 ghost use Rattle.ring_conductor.specs.Applying.{Applies, allocates};
 
-use crate::protocol::codes::RefusalCode;
-use crate::protocol::command::Command;
-use crate::protocol::command::decode::decode_command;
-use crate::protocol::reply::Reply;
 use ring_counters::{CounterValues, CountersManager};
+use ring_protocol::{Command, RefusalCode, Reply, decode_command};
 
 /// A counter that a command asks for.
 #[derive(Clone, Copy)]

@@ -9,9 +9,8 @@ ghost use Rattle.ring_conductor.specs.Serving.{ActsOn, IsReady};
 
 use crate::conductor::apply::apply;
 use crate::conductor::serve::Serving;
-use crate::protocol::reply::encode::encode_reply;
-use crate::protocol::reply::{LONGEST_REPLY, Reply, type_ids};
 use ring_board::{Board, Transmitter};
+use ring_protocol::{LONGEST_REPLY, Reply, encode_reply, reply_type_ids as type_ids};
 use ring_words::{Action, Handler};
 
 /// Transmits a reply.

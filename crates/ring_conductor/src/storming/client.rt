@@ -9,11 +9,11 @@ ghost use Rattle.ring_conductor.specs.Turns.{claims_by, copies_by, label_of, num
 
 use crate::client::request::Request;
 use crate::client::{Client, Polled};
-use crate::protocol::reply::Reply;
 use crate::storming::gate::Gate;
 use crate::storming::seats::StormClient;
 use crate::storming::shared::Shared;
 use crossbeam_utils::Backoff;
+use ring_protocol::Reply;
 use ring_rings::ManyToOneRing;
 
 /// The type of the clients' counters.

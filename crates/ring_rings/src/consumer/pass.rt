@@ -39,7 +39,8 @@ fn clear_up(ring: &SharedRing, seat: &mut RingSeat, capacity: u32, head: u64, to
 }
 
 impl<K> Ring<K> {
-    /// Clears all that the read has passed, up to `scan`, and stores the head there. Where the head stands there, does nothing.
+    /// Clears all that the read has passed, up to `scan`, and stores the head there. Where the head stands there, does
+    /// nothing.
     pub(super) fn move_head(&self, consumer: &mut Consumer, scan: u64)
         requires consumer { IsConsumerOf self.now consumer.old }
         requires from { (head_of consumer.old ≤ scan) × (scan % 8 ≡ 0) × (scan ≤ max_position) }

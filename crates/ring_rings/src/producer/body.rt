@@ -96,8 +96,8 @@ pub(crate) fn store_message(
     store_committed_header(words, seat, capacity, place, wanted);
 }
 
-/// The word of an open claim's body with these bytes in place of its own from the byte `at` on. The word is loaded where
-/// the bytes are not all of it.
+/// The word of an open claim's body with these bytes in place of its own from the byte `at` on. The word is loaded
+/// where the bytes are not all of it.
 fn merged_word(
     words: &SharedRing,
     seat: &mut RingSeat,

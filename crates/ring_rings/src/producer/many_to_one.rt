@@ -15,8 +15,8 @@ use crate::ring::{ManyToOne, Producer, Ring};
 use ring_table::{Wanted, join_producer, load_tail, split_producer};
 
 impl Ring<ManyToOne> {
-    /// Makes one try to claim room for a message of `len` bytes, which are 0 until they are `put`. Several claims may be
-    /// open at once.
+    /// Makes one try to claim room for a message of `len` bytes, which are 0 until they are `put`. Several claims may
+    /// be open at once.
     ///
     /// It refuses, in this order, with `BadType` a type id below 1, with `TooLong` a body of more than an eighth of the
     /// capacity, with `PositionLimit` a record that would end above 2^62, with `InsufficientCapacity` one that does not

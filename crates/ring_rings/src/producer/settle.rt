@@ -15,8 +15,8 @@ use ring_table::{Wanted, store_aborted_header, store_committed_header};
 use ring_words::PutRange;
 
 impl<K> Ring<K> {
-    /// Puts bytes into an open claim, from the byte `offset` of its body on. It refuses bytes that do not lie inside the
-    /// body, and then nothing is changed.
+    /// Puts bytes into an open claim, from the byte `offset` of its body on. It refuses bytes that do not lie inside
+    /// the body, and then nothing is changed.
     pub fn put(
         &self,
         producer: &mut Producer,

@@ -35,8 +35,8 @@ fn write_message<R: Wait>(
     ring.write(rt, producer, type_id, body)
 }
 
-/// Draws a correlation id and writes the command that has it; `None` where the command has no room. An id that was drawn
-/// stays drawn.
+/// Draws a correlation id and writes the command that has it; `None` where the command has no room. An id that was
+/// drawn stays drawn.
 fn send_request<R: Wait>(
     rt: &R,
     ring: &ManyToOneRing,
@@ -79,8 +79,8 @@ impl CommandService {
         write_message(rt, &self.ring, &mut self.producer, type_id, body)
     }
 
-    /// Draws a correlation id and writes the command that has it into the ring; the id is given. An id that was drawn stays
-    /// drawn, also where the ring refuses the command as `ManyToOneRing::write` does.
+    /// Draws a correlation id and writes the command that has it into the ring; the id is given. An id that was drawn
+    /// stays drawn, also where the ring refuses the command as `ManyToOneRing::write` does.
     ///
     /// `None` where the command takes more than 4,096 bytes; all is then as before.
     pub fn request<R: Wait>(&mut self, rt: &R, request: &Request) -> Option<Result<u64, ClaimFault>>

@@ -99,8 +99,8 @@ impl CommandService {
         make_watcher(&self.values, &mut self.conductor, &mut self.watchers)
     }
 
-    /// Loads the value of an id for the watcher of this number; `None` where it is not here. `BadId` where the id is not
-    /// below the number of counters.
+    /// Loads the value of an id for the watcher of this number; `None` where it is not here. `BadId` where the id is
+    /// not below the number of counters.
     pub fn peek(&mut self, number: usize, id: u32) -> Option<Result<i64, BadId>>
         ensures in_range { IfSome result (λ loaded. IsOk loaded ↔ (id < values_count self.old.values)) }
         ensures loaded { IfSome result (λ loaded. IfOk loaded (λ value.

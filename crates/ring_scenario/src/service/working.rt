@@ -14,7 +14,8 @@ use std::alloc::Global;
 impl CommandService {
     /// Lets the conductor take at most `limit` commands at a moment, as `Conductor::do_work` says.
     pub fn work(&mut self, now: Moment, limit: u32) -> Work
-        ensures works { Works now.ms limit (ring_view self.old.conductor) (ring_view self.new.conductor) (ledger_of self.old.conductor) (ledger_of self.new.conductor) result }
+        ensures works { Works now.ms limit (ring_view self.old.conductor) (ring_view self.new.conductor)
+            (ledger_of self.old.conductor) (ledger_of self.new.conductor) result }
         ensures producer { self.new.producer ≡ self.old.producer }
     {
         self.conductor
@@ -28,10 +29,11 @@ impl CommandService {
         self.conductor.counters().live(alloc)
     }
 
-    /// The owner of a counter in use, 0 for none. `BadId` where the id is not below the number of counters, `NotAllocated`
-    /// where no counter in use has it.
+    /// The owner of a counter in use, 0 for none. `BadId` where the id is not below the number of counters,
+    /// `NotAllocated` where no counter in use has it.
     pub fn owner(&self, id: u32) -> Result<u64, IdFault>
-        ensures { result ≡ answer (id_refusal_of (registry_of (counters_of self.now.conductor)) id) (counter_at (registry_of (counters_of self.now.conductor)) id).values.owner }
+        ensures { result ≡ answer (id_refusal_of (registry_of (counters_of self.now.conductor)) id)
+            (counter_at (registry_of (counters_of self.now.conductor)) id).values.owner }
     {
         self.conductor.counters().owner(id)
     }

@@ -152,7 +152,8 @@ pub fn store_aborted_header(
     ring.store::<StoreAborted>(producer, word_index(capacity, place), header);
 }
 
-/// Stores the word of an open claim's body at the byte offset `at`, a multiple of 8. Its index in the buffer is `target`.
+/// Stores the word of an open claim's body at the byte offset `at`, a multiple of 8. Its index in the buffer is
+/// `target`.
 pub fn store_body_word(
     ring: &SharedRing,
     producer: &mut RingSeat,

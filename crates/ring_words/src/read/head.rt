@@ -43,7 +43,8 @@ pub(crate) fn load_at_head(words: &[u64], capacity: u32, head: u64, body: &mut [
     requires ring { IsRing (ring capacity words.now) }
     requires head { head ≡ head_of (ring capacity words.now) }
     requires within { head_of (ring capacity words.now) % capacity + span (length body.old) ≤ capacity }
-    ensures { (c : Claim) (rest : List Claim) → Has (ring capacity words.now) (c ∷ rest) → IsAtHead (ring capacity words.now) c
+    ensures { (c : Claim) (rest : List Claim) → Has (ring capacity words.now) (c ∷ rest)
+        → IsAtHead (ring capacity words.now) c
         → length c.message.body ≡ length body.new → body.new ≡ c.message.body }
 {
     load_body(words, word_index(capacity, head) + 1, body);
@@ -61,12 +62,14 @@ pub(crate) fn show_at_head<H: Handler>(
     requires ring { IsRing (ring capacity words.now) }
     requires head { head ≡ head_of (ring capacity words.now) }
     requires room { length scratch.old ≡ capacity / 8 }
-    requires seen { (h : List Claim) → Has (ring capacity words.now) h → Sees (ring capacity words.now) h (Some settled) }
+    requires seen { (h : List Claim) → Has (ring capacity words.now) h
+        → Sees (ring capacity words.now) h (Some settled) }
     requires message { settled.type_id ≢ padding_type }
     requires ready { H.ready handler.old }
     ensures ready { H.ready handler.new }
     ensures shown { (m : Message) × H.step handler.old m handler.new result
-        × ((c : Claim) (rest : List Claim) → Has (ring capacity words.now) (c ∷ rest) → SeesCommitted (ring capacity words.now) c settled → c.message ≡ m) }
+        × ((c : Claim) (rest : List Claim) → Has (ring capacity words.now) (c ∷ rest)
+        → SeesCommitted (ring capacity words.now) c settled → c.message ≡ m) }
 {
     let len = settled.len as usize - HEADER_LENGTH;
     let body = &mut scratch[..len];
@@ -78,12 +81,14 @@ pub(crate) fn show_at_head<H: Handler>(
 pub(crate) fn take_at_head(words: &mut [u64], capacity: u32, head: u64, settled: Settled) -> u64
     requires ring { IsRing (ring capacity words.old) }
     requires head { head ≡ head_of (ring capacity words.old) }
-    requires seen { (h : List Claim) → Has (ring capacity words.old) h → Sees (ring capacity words.old) h (Some settled) }
+    requires seen { (h : List Claim) → Has (ring capacity words.old) h
+        → Sees (ring capacity words.old) h (Some settled) }
     ensures next { result ≡ head_of (ring capacity words.new) }
     ensures ring { IsRing (ring capacity words.new) }
     ensures moves { MovesHead (ring capacity words.old) (ring capacity words.new) }
     ensures on { head_of (ring capacity words.old) < head_of (ring capacity words.new) }
-    ensures leaves { (h : List Claim) → Has (ring capacity words.old) h → Leaves (ring capacity words.old) h settled (ring capacity words.new) }
+    ensures leaves { (h : List Claim) → Has (ring capacity words.old) h
+        → Leaves (ring capacity words.old) h settled (ring capacity words.new) }
 {
     let span = settled.len.next_multiple_of(8);
     clear(words, word_index(capacity, head), span as usize / 8);

@@ -36,7 +36,8 @@ impl SoloRing {
         ensures same { self.new ≡ self.old }
         ensures ready { H.ready handler.new }
         ensures shown { (m : Message) × H.step handler.old m handler.new result
-            × ((c : Claim) (rest : List Claim) → Has self.old (c ∷ rest) → SeesCommitted self.old c settled → c.message ≡ m) }
+            × ((c : Claim) (rest : List Claim) → Has self.old (c ∷ rest) → SeesCommitted self.old c settled
+            → c.message ≡ m) }
     {
         show_at_head(
             &self.words,
@@ -86,15 +87,17 @@ impl SoloRing {
     /// Reads at most `limit` messages, and takes every action of the handler as `Continue`. The handler is shown each
     /// message in a copy.
     ///
-    /// It stops with `Limit` where `limit` messages were read, else with `Block` where it came to the end of the buffer, else
-    /// with `Unpublished` where no settled record lies at the head. What it passes is set to 0, and then the head moves.
+    /// It stops with `Limit` where `limit` messages were read, else with `Block` where it came to the end of the
+    /// buffer, else with `Unpublished` where no settled record lies at the head. What it passes is set to 0, and then
+    /// the head moves.
     pub fn read<H: Handler>(&mut self, limit: u32, handler: &mut H) -> ReadEnd
         requires { H.ready handler.old }
         ensures ready { H.ready handler.new }
         ensures reads { Reads H.step limit self.old self.new handler.old handler.new result.messages }
         ensures within { result.messages ≤ limit }
         ensures bytes { head_of self.old + result.bytes ≡ head_of self.new }
-        ensures stopped { result.stopped ≡ stop_of self.new.capacity limit result.messages (head_of self.new) result.bytes }
+        ensures stopped { result.stopped ≡ stop_of self.new.capacity limit result.messages
+            (head_of self.new) result.bytes }
         ensures blocked { result.stopped ≡ Stop.Unpublished → (h : List Claim) → Has self.new h → IsBlocked self.new h }
         ensures claims { (t : ClaimAt) → IsOpen self.old t → IsOpen self.new t }
     {
@@ -119,9 +122,9 @@ impl SoloRing {
         }
     }
 
-    /// Reads as `read` does, and goes on behind the end of the buffer: where the first read stops with `Block`, a second one
-    /// follows, and no third. So `Unpublished` tells that no settled record lies at the head, and it stops with `Block` only
-    /// where it went from one end of the buffer to the next.
+    /// Reads as `read` does, and goes on behind the end of the buffer: where the first read stops with `Block`, a
+    /// second one follows, and no third. So `Unpublished` tells that no settled record lies at the head, and it stops
+    /// with `Block` only where it went from one end of the buffer to the next.
     pub fn read_across<H: Handler>(&mut self, limit: u32, handler: &mut H) -> ReadEnd
         requires { H.ready handler.old }
         ensures ready { H.ready handler.new }
@@ -141,9 +144,9 @@ impl SoloRing {
         self.read_end(start, head, messages, second.stopped)
     }
 
-    /// Reads as `read` does, and heeds the handler's actions: `Abort` leaves the message and stops, `Break` takes it and
-    /// stops, both with `Action`; `Commit` and `Continue` go on. Padding and aborted records that were passed before a
-    /// message is left stay passed.
+    /// Reads as `read` does, and heeds the handler's actions: `Abort` leaves the message and stops, `Break` takes it
+    /// and stops, both with `Action`; `Commit` and `Continue` go on. Padding and aborted records that were passed
+    /// before a message is left stay passed.
     pub fn controlled_read<H: Handler>(&mut self, limit: u32, handler: &mut H) -> ReadEnd
         requires { H.ready handler.old }
         ensures ready { H.ready handler.new }

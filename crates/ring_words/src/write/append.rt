@@ -16,7 +16,8 @@ fn store_headers(words: &mut [u64], capacity: u32, admission: Admission, header:
     requires order { admission.tail ≤ admission.place }
     requires near { admission.place ≤ admission.tail + capacity }
     requires room { capacity / 8 ≤ length words.old }
-    ensures { words.new ≡ slice_set (padded capacity admission.tail admission.place words.old) (index capacity admission.place) header }
+    ensures { words.new ≡ slice_set (padded capacity admission.tail admission.place words.old)
+        (index capacity admission.place) header }
 {
     let Admission { tail, place, .. } = admission;
     if place > tail {

@@ -23,7 +23,13 @@ use ring_layout::{
 /// The claim of a record that was admitted.
 fn new_claim(capacity: u32, admission: Admission, type_id: i32, len: usize) -> SoloClaim
     requires { IsCapacity capacity }
-    ensures { result ≡ record { place = admission.place; index = admission.place % capacity + 8; type_id = type_id; len = len } }
+    ensures { result ≡ record {
+      place = admission.place;
+      index = admission.place % capacity + 8;
+      type_id =
+          type_id;
+      len = len;
+    } }
 {
     let index = byte_index(capacity, admission.place) as u32 + HEADER_LENGTH as u32;
     SoloClaim::new(admission.place, index, type_id, len)

@@ -15,7 +15,8 @@ use ring_layout::{ClaimState, aborted_header, committed_header};
 fn settled_header(claim: &SoloClaim, state: ClaimState) -> u64
     requires short { claim.now.len ≤ 2 ^ 24 }
     requires settled { state ≢ Open }
-    ensures { (c : Claim) → c.message.type_id ≡ claim.now.type_id → length c.message.body ≡ claim.now.len → result ≡ header_of (settled_as state c) }
+    ensures { (c : Claim) → c.message.type_id ≡ claim.now.type_id → length c.message.body ≡ claim.now.len
+        → result ≡ header_of (settled_as state c) }
 {
     match state {
         ClaimState::Aborted => aborted_header(claim.len()),
@@ -30,7 +31,8 @@ pub(crate) fn settle(words: &mut [u64], capacity: u32, claim: &SoloClaim, state:
     requires settled { state ≢ Open }
     ensures settled { Settles (ring capacity words.old) claim.now.place state (ring capacity words.new) }
     ensures ring { IsRing (ring capacity words.new) }
-    ensures others { (t : ClaimAt) → IsOpen (ring capacity words.old) t → t.place ≢ claim.now.place → IsOpen (ring capacity words.new) t }
+    ensures others { (t : ClaimAt) → IsOpen (ring capacity words.old) t → t.place ≢ claim.now.place
+        → IsOpen (ring capacity words.new) t }
 {
     let header = settled_header(claim, state);
     words[(claim.index() / 8) as usize - 1] = header;

@@ -7,4 +7,5 @@ pub loaded-requires-2-clause-raw : goal.loaded-requires-2-clause-raw
 loaded-requires-2-clause-raw g c = c.loaded.ensures.kept _ c.in_ok-second.ensures.answered
 
 pub validate-requires-clause-raw : goal.validate-requires-clause-raw
-validate-requires-clause-raw g c = c.loaded-2.ensures.kept _ (c.loaded.ensures.kept _ (c.next-2.ensures.kept _ c.in_ok-first.ensures.answered))
+validate-requires-clause-raw g c =
+    c.loaded-2.ensures.kept _ (c.loaded.ensures.kept _ (c.next-2.ensures.kept _ c.in_ok-first.ensures.answered))

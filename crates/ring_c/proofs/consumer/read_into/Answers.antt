@@ -11,5 +11,7 @@ returns-clause-took g c =
     let same : to_z w32 (of_z w32 n) ≡ n = search rules in
     let old = consumer_view c.args.consumer.now in
     let new = consumer_view c.take_one-stopped.new.consumer in
-    told_as old new (out n c.args.len.now c.args.buffer.now) t (to_z w32 (of_z w32 t.type_id)) t.len _ (to_z w32 (of_z w32 t.code)) (search rules) (search rules) (search rules) (search rules)
-    (subst (λ (x : ℤ). TookOne old new (out x c.args.len.now c.args.buffer.now) (out t.type_id t.len t.buffer.now) t.code) same c.take_one-stopped.ensures.took)
+    told_as old new (out n c.args.len.now c.args.buffer.now) t (to_z w32 (of_z w32 t.type_id)) t.len _
+    (to_z w32 (of_z w32 t.code)) (search rules) (search rules) (search rules) (search rules)
+    (subst (λ (x : ℤ). TookOne old new (out x c.args.len.now c.args.buffer.now)
+    (out t.type_id t.len t.buffer.now) t.code) same c.take_one-stopped.ensures.took)

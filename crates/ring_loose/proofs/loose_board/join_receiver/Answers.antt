@@ -4,7 +4,9 @@ use Rattle.ring_loose.proofs.HeldLemmas.{of_goes}
 use Rattle.ring_loose.proofs.loose_board.join_receiver.Goals as goal
 
 pub join-requires-clause-receiver : goal.join-requires-clause-receiver
-join-requires-clause-receiver c = c.requires.receivers (c.args.number - 1) c.in_ok-receiver.receiver c.in_ok-receiver.ensures.taken.here.has
+join-requires-clause-receiver c =
+    c.requires.receivers (c.args.number - 1) c.in_ok-receiver.receiver c.in_ok-receiver.ensures.taken.here.has
 
 pub returns-clause-receivers : goal.returns-clause-receivers
-returns-clause-receivers c = of_goes (IsReceiverOf c.args.board.now) _ _ _ _ c.requires.receivers c.in_ok-receiver.ensures.taken
+returns-clause-receivers c =
+    of_goes (IsReceiverOf c.args.board.now) _ _ _ _ c.requires.receivers c.in_ok-receiver.ensures.taken

@@ -6,11 +6,13 @@ use Rattle.ring_loose.proofs.loose_board.make_receiver.Goals as goal
 
 pub returns-clause-receivers : goal.returns-clause-receivers
 returns-clause-receivers c =
-    let comes = subst (λ l. Comes c.in-Ok.receiver l c.hold.result (held_in c.hold.new.self)) c.reserve.ensures.same c.hold.ensures in
+    let comes = subst (λ l. Comes c.in-Ok.receiver l c.hold.result (held_in c.hold.new.self)) c.reserve.ensures.same
+    c.hold.ensures in
     of_comes (IsReceiverOf c.args.board.now) _ _ _ _ c.requires.receivers comes c.in-Ok.ensures.receiver.0
 
 pub returns-clause-made : goal.returns-clause-made
 returns-clause-made c =
     let made = c.in-Ok.ensures in
-    let comes = subst (λ l. Comes c.in-Ok.receiver l c.hold.result (held_in c.hold.new.self)) c.reserve.ensures.same c.hold.ensures in
+    let comes = subst (λ l. Comes c.in-Ok.receiver l c.hold.result (held_in c.hold.new.self)) c.reserve.ensures.same
+    c.hold.ensures in
     record { receiver = c.in-Ok.receiver; knows = made.receiver.1; share = made.transmitter; comes = comes }

@@ -12,11 +12,14 @@ pub returns-in-Err-clause-claims : goal.returns-in-Err-clause-claims
 returns-in-Err-clause-claims g c =
     let kept = keeps_after _ _ _ _ _ _ c.in-Err.ensures.refused in
     subst (AreOpen c.args.ring.now c.claim.new.producer) (sym c.reserve.ensures.same)
-    (same_open c.args.ring.now c.args.producer.now c.claim.new.producer (held_in c.args.claims.now) kept.claims c.requires.claims)
+    (same_open c.args.ring.now c.args.producer.now c.claim.new.producer
+    (held_in c.args.claims.now) kept.claims c.requires.claims)
 
 pub returns-in-Err-clause-tried : goal.returns-in-Err-clause-tried
 returns-in-Err-clause-tried g c = record {
-  refused = subst (λ n. RefusesAfter (capacity_of c.args.ring.now) n c.args.len (view_of c.args.producer.now) c.in-Err.fault (view_of c.claim.new.producer)) (to_z-of_z w32 c.args.type_id c.ranges.type_id) c.in-Err.ensures.refused;
+  refused = subst (λ n. RefusesAfter (capacity_of c.args.ring.now) n c.args.len
+      (view_of c.args.producer.now) c.in-Err.fault (view_of c.claim.new.producer))
+      (to_z-of_z w32 c.args.type_id c.ranges.type_id) c.in-Err.ensures.refused;
   same = c.reserve.ensures.same;
 }
 
@@ -24,8 +27,10 @@ pub returns-clause-claims : goal.returns-clause-claims
 returns-clause-claims g c =
     let gained = gains_claim _ _ _ c.in-Ok.claim _ _ c.in-Ok.ensures.claimed in
     subst (AreOpen c.args.ring.now c.claim.new.producer) (sym c.hold-number.ensures.held)
-    (subst (λ l. AreOpen c.args.ring.now c.claim.new.producer (l ++ Some c.in-Ok.claim ∷ [])) (sym c.reserve.ensures.same)
-    (one_more_open c.args.ring.now c.args.producer.now c.claim.new.producer (held_in c.args.claims.now) c.in-Ok.claim gained.0 c.requires.claims c.claim.ensures.claims
+    (subst (λ l. AreOpen c.args.ring.now c.claim.new.producer (l ++ Some c.in-Ok.claim ∷ []))
+    (sym c.reserve.ensures.same)
+    (one_more_open c.args.ring.now c.args.producer.now c.claim.new.producer
+    (held_in c.args.claims.now) c.in-Ok.claim gained.0 c.requires.claims c.claim.ensures.claims
     c.in-Ok.ensures.is_open c.in-Ok.ensures.apart gained.1 gained.2.claims))
 
 pub returns-in-Err-clause-shares : goal.returns-in-Err-clause-shares

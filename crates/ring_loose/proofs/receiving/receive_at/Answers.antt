@@ -6,7 +6,8 @@ use Rattle.ring_loose.proofs.HeldLemmas.{count_stays, of_stays, stays, vacated}
 use Rattle.ring_loose.proofs.receiving.receive_at.Goals as goal
 
 pub of-received-requires : goal.of-received-requires
-of-received-requires c = c.requires (c.args.number - 1) c.in_ok-receiver.receiver c.in_ok-receiver.ensures.taken.here.has
+of-received-requires c =
+    c.requires (c.args.number - 1) c.in_ok-receiver.receiver c.in_ok-receiver.ensures.taken.here.has
 
 pub put_back-requires : goal.put_back-requires
 put_back-requires c = vacated _ _ _ _ c.in_ok-receiver.ensures.taken
@@ -19,7 +20,14 @@ returns-clause-receivers c =
 pub returns-clause-told : goal.returns-clause-told
 returns-clause-told c =
     let held = stays _ _ _ _ _ _ c.in_ok-receiver.ensures.taken c.put_back.ensures in
-    IfOk-weaker c.of-received.result _ _ (λ told h. record { before = c.in_ok-receiver.receiver; after = c.of-received.new.receiver; told_it = h; stays = held }) c.of-received.ensures.told
+    IfOk-weaker c.of-received.result _ _
+    (λ told h. record {
+      before = c.in_ok-receiver.receiver;
+      after = c.of-received.new.receiver;
+      told_it = h;
+      stays =
+          held;
+    }) c.of-received.ensures.told
 
 pub returns-clause-count : goal.returns-clause-count
 returns-clause-count c = count_stays _ _ _ _ _ (stays _ _ _ _ _ _ c.in_ok-receiver.ensures.taken c.put_back.ensures)

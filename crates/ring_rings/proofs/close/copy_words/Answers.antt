@@ -11,6 +11,8 @@ loop-i-preserved c =
     record {
       len = c.loop-i.invariant.len;
       copied = below_more _ _
-          (λ k h. let ne : k ≢ c.loop-i.i = omega arith in get_or-set_other c.loop-i.words.items c.loop-i.i k c.word.result 0 ne ∙ c.loop-i.invariant.copied k h)
-          (get_or-set_same c.loop-i.words.items c.loop-i.i c.word.result 0 (omega arith) ∙ sym (read_at _ c.loop-i.i c.word.result c.word.ensures));
+          (λ k h. let ne : k ≢ c.loop-i.i = omega arith in get_or-set_other c.loop-i.words.items c.loop-i.i k
+          c.word.result 0 ne ∙ c.loop-i.invariant.copied k h)
+          (get_or-set_same c.loop-i.words.items c.loop-i.i c.word.result 0 (omega arith)
+          ∙ sym (read_at _ c.loop-i.i c.word.result c.word.ensures));
     }

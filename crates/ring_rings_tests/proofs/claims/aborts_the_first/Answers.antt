@@ -3,4 +3,5 @@ use Rattle.ring_rings_tests.proofs.claims.aborts_the_first.Goals as goal
 
 pub commit-requires : goal.commit-requires
 commit-requires g c =
-    c.abort.ensures.others c.in_ok-second.second c.in_ok-second.ensures.is_open (λ e. c.in_ok-second.ensures.apart c.in_ok-first.first c.in_ok-first.ensures.is_open (sym e))
+    c.abort.ensures.others c.in_ok-second.second c.in_ok-second.ensures.is_open
+    (λ e. c.in_ok-second.ensures.apart c.in_ok-first.first c.in_ok-first.ensures.is_open (sym e))

@@ -8,4 +8,5 @@ abort-requires-clause-claim g c =
     let first = c.in_ok-first.first in
     let second = c.in_ok-second.second in
     let mine = c.in_ok-first.ensures.is_open in
-    c.commit.ensures.others first (c.join.ensures.claims.first first mine) (c.join.ensures.claims.apart first second mine c.in_ok-second.ensures.is_open)
+    c.commit.ensures.others first (c.join.ensures.claims.first first mine)
+    (c.join.ensures.claims.apart first second mine c.in_ok-second.ensures.is_open)

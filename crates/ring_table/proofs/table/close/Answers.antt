@@ -9,8 +9,10 @@ returns-clause-closed c =
     let final = c.close_with.ensures.values.2 in
     let C : ℕ = c.args.table.shared.key.capacity in
     let start : ℕ = c.args.table.shared.key.start in
-    subst (λ (ws : List ℕ). IsClosed C start ws c.args.seat.me.0) final.2 (closes C start final.0.words final.0.views final.1.0 _ _ final.1.1 c.requires.shares c.requires.consumes)
+    subst (λ (ws : List ℕ). IsClosed C start ws c.args.seat.me.0) final.2
+    (closes C start final.0.words final.0.views final.1.0 _ _ final.1.1 c.requires.shares c.requires.consumes)
 
 pub returns-clause-rest : goal.returns-clause-rest
 returns-clause-rest c = λ none_left none_cleared.
-    leaves_rest c.args.table.shared.key.capacity c.args.table.shared.key.start _ _ (returns-clause-closed c) (none_open c.args.seat.me.0.producer.claims none_left).1 none_cleared
+    leaves_rest c.args.table.shared.key.capacity c.args.table.shared.key.start _ _ (returns-clause-closed c)
+    (none_open c.args.seat.me.0.producer.claims none_left).1 none_cleared

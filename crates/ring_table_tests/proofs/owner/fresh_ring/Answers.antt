@@ -10,4 +10,11 @@ open-requires-clause-lawful c = lawful_128
 pub returns-clause-seat : goal.returns-clause-seat
 returns-clause-seat c =
     let t = c.in_ok-table.ensures in
-    record { table_is = t.seat; words_are = t.words; key_is = ap (λ (k : Key). k.capacity) t.key; view_is = ap (λ (m : Mine). m.0.capacity) t.view; lawful = capacity_128 }
+    record {
+      table_is = t.seat;
+      words_are = t.words;
+      key_is = ap (λ (k : Key). k.capacity) t.key;
+      view_is =
+          ap (λ (m : Mine). m.0.capacity) t.view;
+      lawful = capacity_128;
+    }

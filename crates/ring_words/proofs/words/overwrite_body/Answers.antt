@@ -9,7 +9,8 @@ use Rattle.ring_words.proofs.words.overwrite_body.Goals as goal
 pub loop-done-init : goal.loop-done-init
 loop-done-init c = record {
   most = omega arith;
-  inside = λ body small le held. subst (λ (l : List ℕ). HoldsBody c.args.words.now c.args.at l) (sym (overwritten_none c.args.offset (take 0 c.args.bytes.now) body (omega arith) refl)) held;
+  inside = λ body small le held. subst (λ (l : List ℕ). HoldsBody c.args.words.now c.args.at l)
+      (sym (overwritten_none c.args.offset (take 0 c.args.bytes.now) body (omega arith) refl)) held;
   below = λ i lt. refl;
   above = λ i le. refl;
 }
@@ -24,19 +25,29 @@ loop-done-preserved c =
     let left : length rest ≡ length c.args.bytes.now - done = length-drop done c.args.bytes.now in
     let count : done + n - done ≡ n = omega arith in
     let is : take (done + n - done) rest ≡ take n rest = ap (λ m. take m rest) count in
-    let size : length (take (done + n - done) rest) ≡ n = ap length is ∙ length-take-le n rest (omega (arith, left, c.min-count.ensures)) in
-    let room : at < length c.loop-done.words = omega (arith, c.requires, c.loop-done.auto.words, c.loop-done-test.true) in
+    let size : length (take (done + n - done) rest) ≡ n =
+    ap length is ∙ length-take-le n rest (omega (arith, left, c.min-count.ensures)) in
+    let room : at < length c.loop-done.words =
+    omega (arith, c.requires, c.loop-done.auto.words, c.loop-done-test.true) in
     record {
       most = omega (arith, c.min-count.ensures);
       inside = λ body small le held.
-          holds_more c.args.at c.args.offset done n c.put_bytes_word.result c.args.bytes.now _ c.loop-done.words body small (λ j. omega (arith, c.type_inv.bytes j)) le
-          (omega (arith, c.min-count.ensures)) size is (omega (arith, c.min-count.ensures)) room c.put_bytes_word.ensures (omega (arith, c.min-count.ensures, c.loop-done-test.true)) (inv.inside body small le held);
-      below = λ i lt. get_or-set_other c.loop-done.words at i c.put_bytes_word.result 0 (λ e. omega (arith, e)) ∙ inv.below i lt;
-      above = λ i le. get_or-set_other c.loop-done.words at i c.put_bytes_word.result 0 (λ e. omega (arith, e, c.loop-done-test.true)) ∙ inv.above i le;
+          holds_more c.args.at c.args.offset done n c.put_bytes_word.result c.args.bytes.now _ c.loop-done.words body
+          small (λ j. omega (arith, c.type_inv.bytes j)) le
+          (omega (arith, c.min-count.ensures)) size is
+          (omega (arith, c.min-count.ensures)) room c.put_bytes_word.ensures
+          (omega (arith, c.min-count.ensures, c.loop-done-test.true)) (inv.inside body small le held);
+      below = λ i lt. get_or-set_other c.loop-done.words at i c.put_bytes_word.result 0 (λ e. omega (arith, e))
+          ∙ inv.below i lt;
+      above = λ i le. get_or-set_other c.loop-done.words at i c.put_bytes_word.result 0
+          (λ e. omega (arith, e, c.loop-done-test.true)) ∙ inv.above i le;
     }
 
 pub returns-clause-inside : goal.returns-clause-inside
 returns-clause-inside c = λ body small le held.
-    let done : c.loop-done.done ≡ length c.args.bytes.now = omega (arith, c.loop-done.invariant.most, c.loop-done-test.false) in
-    let whole : take c.loop-done.done c.args.bytes.now ≡ c.args.bytes.now = ap (λ n. take n c.args.bytes.now) done ∙ take-length c.args.bytes.now in
-    subst (λ (l : List ℕ). HoldsBody c.loop-done.words c.args.at (overwritten c.args.offset l body)) whole (c.loop-done.invariant.inside body small le held)
+    let done : c.loop-done.done ≡ length c.args.bytes.now =
+    omega (arith, c.loop-done.invariant.most, c.loop-done-test.false) in
+    let whole : take c.loop-done.done c.args.bytes.now ≡ c.args.bytes.now =
+    ap (λ n. take n c.args.bytes.now) done ∙ take-length c.args.bytes.now in
+    subst (λ (l : List ℕ). HoldsBody c.loop-done.words c.args.at (overwritten c.args.offset l body)) whole
+    (c.loop-done.invariant.inside body small le held)

@@ -7,5 +7,9 @@ abbrev pub invariant-loop-k : goal.invariant-loop-k
 invariant-loop-k l = record {
   table : l.seat.table_id ≡ l.initial.seat.table_id;
   id : l.seat.id ≡ l.initial.seat.id;
-  me : l.seat.me ≡ (staged l.initial.seat.me.0 (after_words l.initial.seat.me.0.stage (first_words l.k l.body)), l.initial.seat.me.1);
+  me : l.seat.me
+      ≡ (
+        staged l.initial.seat.me.0 (after_words l.initial.seat.me.0.stage (first_words l.k l.body)),
+        l.initial.seat.me.1,
+      );
 }

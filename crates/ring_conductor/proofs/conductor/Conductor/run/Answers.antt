@@ -10,7 +10,8 @@ loop-cycle-preserved g c =
     let e = c.do_work-work.ensures in
     record {
       conductor = e.conductor;
-      leads = leads_next c.args.cycles.now (ring_view c.args.self.now) (ledger_of c.args.self.now) on.cycle-index on.stopped
+      leads = leads_next c.args.cycles.now (ring_view c.args.self.now)
+          (ledger_of c.args.self.now) on.cycle-index on.stopped
           on.messages (ring_view on.self) (ledger_of on.self) on.invariant.leads c.loop-cycle-test.true
           (ring_view c.do_work-work.new.self) (ledger_of c.do_work-work.new.self) c.do_work-work.result e.works
           c.in_default.not-BoardEnd;

@@ -28,4 +28,5 @@ returns-clause-sum c =
     let items = c.deref-info-items.result.now in
     let end = c.loop-info-test.false in
     let out = ap (fold with_info (to_z w64 c.loop-info.sum-bits)) (drop_all c.loop-info.info-index items end) in
-    sym out ∙ (c.loop-info.invariant.sum ∙ (ap (fold with_info (pos 0)) c.deref-info-items.ensures.value ∙ infos_sum (pos 0) _ _ c.in-Ok.ensures))
+    sym out ∙ (c.loop-info.invariant.sum ∙ (ap (fold with_info (pos 0)) c.deref-info-items.ensures.value
+    ∙ infos_sum (pos 0) _ _ c.in-Ok.ensures))

@@ -8,14 +8,17 @@ union_ascii : (a b : ℕ) → nat_lt (bit_or a b) 128 ≡ (nat_lt a 128 && nat_l
 union_ascii a b =
     elim (cases_lt a 128) as (λ _. nat_lt (bit_or a b) 128 ≡ (nat_lt a 128 && nat_lt b 128)) [
       | inl low ↦ rest low
-      | inr high ↦ le-ltb (bit_or a b) 128 (omega (arith, le_or_l a b)) ∙ sym (ap (λ x. x && nat_lt b 128) (le-ltb a 128 high))
+      | inr high ↦ le-ltb (bit_or a b) 128 (omega (arith, le_or_l a b))
+          ∙ sym (ap (λ x. x && nat_lt b 128) (le-ltb a 128 high))
     ]
   where
     rest : a < 128 → nat_lt (bit_or a b) 128 ≡ (nat_lt a 128 && nat_lt b 128)
     rest low =
         elim (cases_lt b 128) as (λ _. nat_lt (bit_or a b) 128 ≡ (nat_lt a 128 && nat_lt b 128)) [
-          | inl less ↦ lt-ltb (bit_or a b) 128 (or_lt 7 a b low less) ∙ sym ((λ i. lt-ltb a 128 low i && lt-ltb b 128 less i))
-          | inr high ↦ le-ltb (bit_or a b) 128 (omega (arith, le_or_r a b)) ∙ sym ((λ i. lt-ltb a 128 low i && le-ltb b 128 high i))
+          | inl less ↦ lt-ltb (bit_or a b) 128 (or_lt 7 a b low less)
+              ∙ sym ((λ i. lt-ltb a 128 low i && lt-ltb b 128 less i))
+          | inr high ↦ le-ltb (bit_or a b) 128 (omega (arith, le_or_r a b))
+              ∙ sym ((λ i. lt-ltb a 128 low i && le-ltb b 128 high i))
         ]
 
 pub loop-byte-preserved : goal.loop-byte-preserved

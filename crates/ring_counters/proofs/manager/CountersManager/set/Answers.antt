@@ -10,10 +10,13 @@ pub invariant_of-self : goal.invariant_of-self
 invariant_of-self c =
     let old = c.args.self.now in
     let was = counter_at old.records c.args.id in
-    let is : Counter = record was { values = record was.values { value = cast_signed w64 (cast_unsigned w64 c.args.value) } } in
+    let is : Counter =
+    record was { values = record was.values { value = cast_signed w64 (cast_unsigned w64 c.args.value) } } in
     let stored = ap (λ (r : Registry). r.counters) c.set.ensures in
     record {
-      agree = agree_stored old.records c.set.new.self c.args.id is stored old.writer.seat.me.0.seen c.store.new.writer.seat.me.0.seen _ old.agree
+      agree = agree_stored old.records c.set.new.self c.args.id is stored old.writer.seat.me.0.seen
+          c.store.new.writer.seat.me.0.seen _ old.agree
           (accepted_inside old.records c.args.id c.in_ok-check_allocated.ensures) refl c.store.ensures.writes;
-      counts = ap (λ (t : TableId). t.words) (c.store.ensures.writer ∙ sym c.requires) ∙ old.counts ∙ sym (count_stored old.records c.set.new.self c.args.id is stored);
+      counts = ap (λ (t : TableId). t.words) (c.store.ensures.writer ∙ sym c.requires) ∙ old.counts
+          ∙ sym (count_stored old.records c.set.new.self c.args.id is stored);
     }

@@ -8,11 +8,15 @@ use Rattle.ring_counters.proofs.records.Records.is_live.Goals as goal
 
 pub index-requires : goal.index-requires
 index-requires c =
-    let s : Shows c.args.self.now _ _ _ _ _ _ _ = record { view = c.self.view_is; same = c.self.invariant.0; kept = c.self.invariant.1 } in
+    let s : Shows c.args.self.now _ _ _ _ _ _ _ =
+    record { view = c.self.view_is; same = c.self.invariant.0; kept = c.self.invariant.1 } in
     omega (arith, shown_size _ _ _ _ _ _ _ _ s, flags_size _ _ c.self.invariant.2, c.self.inside.live.ok.0, c.requires)
 
 pub returns : goal.returns
 returns c =
-    let s : Shows c.args.self.now _ _ _ _ _ _ _ = record { view = c.self.view_is; same = c.self.invariant.0; kept = c.self.invariant.1 } in
-    let less : c.args.id < length c.self.inside.live.items = omega (arith, shown_size _ _ _ _ _ _ _ _ s, flags_size _ _ c.self.invariant.2, c.requires) in
-    c.index.ensures ∙ get_or_default _ _ _ false less ∙ flag_at _ _ c.self.invariant.2 c.args.id ∙ ap (λ (x : Counter). is_allocated x.metadata.status) (shown_at _ _ _ _ _ _ _ _ s c.args.id)
+    let s : Shows c.args.self.now _ _ _ _ _ _ _ =
+    record { view = c.self.view_is; same = c.self.invariant.0; kept = c.self.invariant.1 } in
+    let less : c.args.id < length c.self.inside.live.items =
+    omega (arith, shown_size _ _ _ _ _ _ _ _ s, flags_size _ _ c.self.invariant.2, c.requires) in
+    c.index.ensures ∙ get_or_default _ _ _ false less ∙ flag_at _ _ c.self.invariant.2 c.args.id
+    ∙ ap (λ (x : Counter). is_allocated x.metadata.status) (shown_at _ _ _ _ _ _ _ _ s c.args.id)

@@ -10,7 +10,8 @@ pub returns-clause-inside : goal.returns-clause-inside
 unfolding AreSmall
 returns-clause-inside c = shown
   where
-    shown : (k : ℕ) → 8 * k < length c.args.label.now + 4 → slice_index c.store_bytes.new.words (c.args.at + k) ≡ word_of_bytes (label_text c.args.label.now) k
+    shown : (k : ℕ) → 8 * k < length c.args.label.now + 4
+        → slice_index c.store_bytes.new.words (c.args.at + k) ≡ word_of_bytes (label_text c.args.label.now) k
     shown zero h =
         let n : ℕ = length c.args.label.now in
         let high : ℕ = c.first_word.result % 2 ^ 32 in
@@ -20,7 +21,8 @@ returns-clause-inside c = shown
         ∙ c.store_bytes.ensures.below c.args.at (omega arith)
         ∙ get_or-set_same c.args.words.now c.args.at _ 0 (omega arith)
         ∙ ap (λ w. bit_or w n) shifted ∙ whole
-        ∙ (let sum : high * 2 ^ 32 + n ≡ from_le_bytes w64 c.args.label.now * 2 ^ 32 % 2 ^ 64 + n = omega (arith, c.first_word.ensures) in sum)
+        ∙ (let sum : high * 2 ^ 32 + n ≡ from_le_bytes w64 c.args.label.now * 2 ^ 32 % 2 ^ 64 + n =
+        omega (arith, c.first_word.ensures) in sum)
         ∙ first_of_text c.args.label.now c.requires.short (λ i. (c.type_inv.label i).fits)
     shown (suc k) h =
         (let at : c.args.at + suc k ≡ c.args.at + 1 + k = omega arith in ap (slice_index c.store_bytes.new.words) at)

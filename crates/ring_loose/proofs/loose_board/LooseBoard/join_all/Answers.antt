@@ -7,5 +7,6 @@ pub returns : goal.returns
 returns c =
     let board = c.loop-index.self in
     let left = c.loop-index.invariant in
-    let gone : held_count (held_in board.receivers) ≡ 0 = count_none (held_in board.receivers) (λ k lt. left.1 k (omega (arith, left.0, c.loop-index-test.false))) in
+    let gone : held_count (held_in board.receivers) ≡ 0 =
+    count_none (held_in board.receivers) (λ k lt. left.1 k (omega (arith, left.0, c.loop-index-test.false))) in
     let shares = board.shares in omega arith

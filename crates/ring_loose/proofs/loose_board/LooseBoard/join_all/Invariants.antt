@@ -4,4 +4,5 @@ use Rattle.ring_loose.proofs.loose_board.LooseBoard.join_all.Given as goal
 
 -- the first receivers have left
 abbrev pub invariant-loop-index : goal.invariant-loop-index
-invariant-loop-index l = (length (held_in l.self.receivers) ≡ l.index-end) × ((k : ℕ) → k < l.index → slice_index_or (held_in l.self.receivers) k None ≡ None)
+invariant-loop-index l = (length (held_in l.self.receivers) ≡ l.index-end)
+    × ((k : ℕ) → k < l.index → slice_index_or (held_in l.self.receivers) k None ≡ None)

@@ -10,7 +10,9 @@ use Rattle.ring_loose.proofs.loose_ring.LooseRing.close.Goals as goal
 pub unreachable-requires : goal.unreachable-requires
 unreachable-requires c =
     let inside = c.self.inside in
-    let held : held_in inside.claims ≡ c.abort_all.new.self.holder.claims = ap (λ (l : Loose). l.holder.claims) c.self.view_is in
-    let none = none_counted (claims_of inside.producer) (held_in inside.claims) (subst HoldsNothing (sym held) c.abort_all.ensures.none) c.self.invariant.held.all in
+    let held : held_in inside.claims ≡ c.abort_all.new.self.holder.claims =
+    ap (λ (l : Loose). l.holder.claims) c.self.view_is in
+    let none = none_counted (claims_of inside.producer) (held_in inside.claims)
+    (subst HoldsNothing (sym held) c.abort_all.ensures.none) c.self.invariant.held.all in
     let ok = not_refused _ _ _ c.close.result none c.self.invariant.alone c.close.ensures.refused in
     let clash : false ≡ true = subst IsOk c.in-Err.is ok in absurd cc

@@ -13,12 +13,24 @@ pub invariant_of-self : goal.invariant_of-self
 invariant_of-self g c =
     let seats = c.self.invariant in
     let done = wrote c.write.result _ _ _ _ _ c.write.ensures.written c.write.ensures.refused in
-    record { start = seats.start; producer = c.write.ensures.producer; alone = done.0 ∙ seats.alone; consumer = seats.consumer; held = still_open _ _ _ _ seats.held c.write.ensures.claims (done.1 _ seats.held.all) }
+    record {
+      start = seats.start;
+      producer = c.write.ensures.producer;
+      alone = done.0
+          ∙ seats.alone;
+      consumer = seats.consumer;
+      held =
+          still_open _ _ _ _ seats.held c.write.ensures.claims (done.1 _ seats.held.all);
+    }
 
 pub returns-clause-refused : goal.returns-clause-refused
 returns-clause-refused g c =
     let inside = c.self.inside in
     let new = holder (view_of c.write.new.producer) (held_in inside.claims) in
-    let faults = declines c.write.result _ _ _ (holder (view_of inside.producer) (held_in inside.claims)) new refl c.write.ensures.refused in
-    subst (λ (l : Loose). IfErr c.write.result (λ fault. Declines l.capacity l.holder c.args.type_id (length c.args.body.now) fault new)) c.self.view_is
-    (subst (λ n. IfErr c.write.result (λ fault. Declines (capacity_of inside.ring) (holder (view_of inside.producer) (held_in inside.claims)) n (length c.args.body.now) fault new)) (to_z-of_z w32 c.args.type_id c.ranges.type_id) faults)
+    let faults = declines c.write.result _ _ _
+    (holder (view_of inside.producer) (held_in inside.claims)) new refl c.write.ensures.refused in
+    subst (λ (l : Loose). IfErr c.write.result
+    (λ fault. Declines l.capacity l.holder c.args.type_id (length c.args.body.now) fault new)) c.self.view_is
+    (subst (λ n. IfErr c.write.result (λ fault. Declines (capacity_of inside.ring)
+    (holder (view_of inside.producer) (held_in inside.claims)) n (length c.args.body.now) fault new))
+    (to_z-of_z w32 c.args.type_id c.ranges.type_id) faults)

@@ -10,7 +10,9 @@ invariant-loop-done l = record {
   most : l.done ≤ length l.bytes;
   seat : IsSameSeat l.initial.seat l.seat;
   loads : List (ℕ × ℕ);
-  view : l.seat.me.0 ≡ with_claims (changed l.place (put_at l.offset (take l.done l.bytes)) l.initial.seat.me.0.producer.claims) (loaded loads l.initial.seat.me.0);
+  view : l.seat.me.0
+      ≡ with_claims (changed l.place (put_at l.offset (take l.done l.bytes)) l.initial.seat.me.0.producer.claims)
+      (loaded loads l.initial.seat.me.0);
 }
 
 abbrev pub decreases-loop-done : goal.decreases-loop-done

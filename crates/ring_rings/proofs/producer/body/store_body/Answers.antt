@@ -16,12 +16,14 @@ loop-k-init c = record {
 }
 
 -- zeros as long as the body
-as_long : (place : ℕ) (body : List ℕ) (cs : List StagedClaim) (d : StagedClaim) (v : View) → IsFresh place (length body) cs d v → length body ≡ length d.message.body
+as_long : (place : ℕ) (body : List ℕ) (cs : List StagedClaim) (d : StagedClaim) (v : View)
+    → IsFresh place (length body) cs d v → length body ≡ length d.message.body
 as_long place body cs d v f = sym (ap length f.blank.zeros ∙ length-replicate (length body) 0)
 
 pub store_fresh_word-requires-clause-target : goal.store_fresh_word-requires-clause-target
 store_fresh_word-requires-clause-target c =
-    ap (λ (n : ℕ). n + 1 + c.loop-k.k) c.word_index-first.ensures ∙ index_of_body c.args.capacity c.args.place c.loop-k.k (omega (arith, c.loop-k-test.true, c.requires.inside))
+    ap (λ (n : ℕ). n + 1 + c.loop-k.k) c.word_index-first.ensures
+    ∙ index_of_body c.args.capacity c.args.place c.loop-k.k (omega (arith, c.loop-k-test.true, c.requires.inside))
 
 pub store_fresh_word-requires-clause-fresh : goal.store_fresh_word-requires-clause-fresh
 store_fresh_word-requires-clause-fresh c =
@@ -34,8 +36,14 @@ store_fresh_word-requires-clause-fresh c =
     let v : View = c.loop-k.seat.me.0 in
     let inside : 8 * k < length body = omega (arith, c.loop-k-test.true) in
     let same = as_long c.args.place body cs d v0 f in
-    let is = c.first_word-word.ensures ∙ whole_word_there k body d.message.body same (omega (arith, inside, same)) (8 * k + 8 - 8 * k) (omega arith) in
-    (cs, put_at 0 (take (8 * k) body) d, fresh_takes v0 v c.args.place body (λ j. omega (arith, c.type_inv.body j)) cs d f k inside c.first_word-word.result is (c.loop-k.invariant.stored cs d f))
+    let is = c.first_word-word.ensures ∙ whole_word_there k body d.message.body same (omega (arith, inside, same))
+    (8 * k + 8 - 8 * k) (omega arith) in (
+      cs,
+      put_at 0 (take (8 * k) body) d,
+      fresh_takes v0 v c.args.place body
+          (λ j. omega (arith, c.type_inv.body j)) cs d f k inside c.first_word-word.result is
+          (c.loop-k.invariant.stored cs d f),
+    )
 
 pub loop-k-preserved : goal.loop-k-preserved
 loop-k-preserved c = record {
@@ -47,14 +55,19 @@ loop-k-preserved c = record {
       let v : View = c.loop-k.seat.me.0 in
       let inside : 8 * k < length body = omega (arith, c.loop-k-test.true) in
       let same = as_long c.args.place body cs d v0 f in
-      let is = c.first_word-word.ensures ∙ whole_word_there k body d.message.body same (omega (arith, inside, same)) (8 * k + 8 - 8 * k) (omega arith) in
-      fresh_stores v0 v c.args.place body (λ j. omega (arith, c.type_inv.body j)) cs d f k inside c.first_word-word.result is (c.loop-k.invariant.stored cs d f) c.store_fresh_word.new.seat.me.0 c.store_fresh_word.ensures.stored;
+      let is = c.first_word-word.ensures ∙ whole_word_there k body d.message.body same (omega (arith, inside, same))
+      (8 * k + 8 - 8 * k) (omega arith) in
+      fresh_stores v0 v c.args.place body (λ j. omega (arith, c.type_inv.body j)) cs d f k inside
+      c.first_word-word.result is (c.loop-k.invariant.stored cs d f) c.store_fresh_word.new.seat.me.0
+      c.store_fresh_word.ensures.stored;
 }
 
-pub store_fresh_word-requires-then-whole-body-clause-target : goal.store_fresh_word-requires-then-whole-body-clause-target
+pub store_fresh_word-requires-then-whole-body-clause-target :
+    goal.store_fresh_word-requires-then-whole-body-clause-target
 store_fresh_word-requires-then-whole-body-clause-target c =
     let k : ℕ = length c.args.body.now / 8 in
-    ap (λ (n : ℕ). n + 1 + k) c.word_index-first.ensures ∙ index_of_body c.args.capacity c.args.place k (omega (arith, c.if-whole-body.true, c.requires.inside))
+    ap (λ (n : ℕ). n + 1 + k) c.word_index-first.ensures
+    ∙ index_of_body c.args.capacity c.args.place k (omega (arith, c.if-whole-body.true, c.requires.inside))
 
 pub store_fresh_word-requires-then-whole-body-clause-fresh : goal.store_fresh_word-requires-then-whole-body-clause-fresh
 store_fresh_word-requires-then-whole-body-clause-fresh c =
@@ -67,10 +80,16 @@ store_fresh_word-requires-then-whole-body-clause-fresh c =
     let v : View = c.loop-k.seat.me.0 in
     let same = as_long c.args.place body cs d v0 f in
     let inside : 8 * k < length body = c.if-whole-body.true in
-    let is = c.first_word-word-then-whole-body.ensures ∙ body_word_there k body d.message.body same (omega (arith, inside, same)) in
+    let is = c.first_word-word-then-whole-body.ensures
+    ∙ body_word_there k body d.message.body same (omega (arith, inside, same)) in
     let all : c.loop-k.k ≡ k = omega (arith, c.loop-k-test.false, c.loop-k.auto.k-end) in
-    let before = subst (λ (n : ℕ). v ≡ with_claims (cs ++ put_at 0 (take (8 * n) body) d ∷ []) v0) all (c.loop-k.invariant.stored cs d f) in
-    (cs, put_at 0 (take (8 * k) body) d, fresh_takes v0 v c.args.place body (λ j. omega (arith, c.type_inv.body j)) cs d f k inside c.first_word-word-then-whole-body.result is before)
+    let before = subst (λ (n : ℕ). v ≡ with_claims (cs ++ put_at 0 (take (8 * n) body) d ∷ []) v0) all
+    (c.loop-k.invariant.stored cs d f) in (
+      cs,
+      put_at 0 (take (8 * k) body) d,
+      fresh_takes v0 v c.args.place body
+          (λ j. omega (arith, c.type_inv.body j)) cs d f k inside c.first_word-word-then-whole-body.result is before,
+    )
 
 pub returns-then-whole-body-clause-stored : goal.returns-then-whole-body-clause-stored
 returns-then-whole-body-clause-stored c = λ cs d f.
@@ -80,13 +99,18 @@ returns-then-whole-body-clause-stored c = λ cs d f.
     let v : View = c.loop-k.seat.me.0 in
     let same = as_long c.args.place body cs d v0 f in
     let inside : 8 * k < length body = c.if-whole-body.true in
-    let is = c.first_word-word-then-whole-body.ensures ∙ body_word_there k body d.message.body same (omega (arith, inside, same)) in
+    let is = c.first_word-word-then-whole-body.ensures
+    ∙ body_word_there k body d.message.body same (omega (arith, inside, same)) in
     let all : c.loop-k.k ≡ k = omega (arith, c.loop-k-test.false, c.loop-k.auto.k-end) in
-    let before = subst (λ (n : ℕ). v ≡ with_claims (cs ++ put_at 0 (take (8 * n) body) d ∷ []) v0) all (c.loop-k.invariant.stored cs d f) in
-    fresh_stores v0 v c.args.place body (λ j. omega (arith, c.type_inv.body j)) cs d f k inside c.first_word-word-then-whole-body.result is before c.store_fresh_word-then-whole-body.new.seat.me.0 c.store_fresh_word-then-whole-body.ensures.stored
+    let before = subst (λ (n : ℕ). v ≡ with_claims (cs ++ put_at 0 (take (8 * n) body) d ∷ []) v0) all
+    (c.loop-k.invariant.stored cs d f) in
+    fresh_stores v0 v c.args.place body (λ j. omega (arith, c.type_inv.body j)) cs d f k inside
+    c.first_word-word-then-whole-body.result is before c.store_fresh_word-then-whole-body.new.seat.me.0
+    c.store_fresh_word-then-whole-body.ensures.stored
     ∙ ap (λ (l : List ℕ). with_claims (cs ++ put_at 0 l d ∷ []) v0) (take_all (8 * (k + 1)) body (omega arith))
 
 pub returns-else-whole-body-clause-stored : goal.returns-else-whole-body-clause-stored
 returns-else-whole-body-clause-stored c = λ cs d f.
     c.loop-k.invariant.stored cs d f
-    ∙ ap (λ (l : List ℕ). with_claims (cs ++ put_at 0 l d ∷ []) c.args.seat.now.me.0) (take_all (8 * c.loop-k.k) c.args.body.now (omega (arith, c.loop-k-test.false, c.if-whole-body.false)))
+    ∙ ap (λ (l : List ℕ). with_claims (cs ++ put_at 0 l d ∷ []) c.args.seat.now.me.0)
+    (take_all (8 * c.loop-k.k) c.args.body.now (omega (arith, c.loop-k-test.false, c.if-whole-body.false)))

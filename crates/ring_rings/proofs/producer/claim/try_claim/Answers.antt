@@ -32,20 +32,28 @@ returns-in-Err-Full-clause-told c =
     let a = c.in_ok-admission.admission in
     let before : View = c.load_tail-tail.new.producer.me.0 in
     let after : View = c.find_room.new.seat.me.0 in
-    let found = subst (λ s. FindsShortage c.args.capacity a.tail a.end s before after) c.in-Err-Full.field-0-is c.in-Err-Full.ensures.found in
+    let found = subst (λ s. FindsShortage c.args.capacity a.tail a.end s before after) c.in-Err-Full.field-0-is
+    c.in-Err-Full.ensures.found in
     let admitted = c.in_ok-admission.ensures.admitted in
-    rw c.in-Err-Full.head-is (inr (inr (full_behind c.args.capacity c.args.wanted.type_id c.args.wanted.len c.load_tail-tail.result c.args.seat.now.me.0 before after
-    (search rules) c.load_tail-tail.ensures.told a.end c.in-Err-Full.head admitted.end (subst (λ t. FindsNoRoom c.args.capacity t a.end c.in-Err-Full.head before after) admitted.tail_is found))))
+    rw c.in-Err-Full.head-is
+    (inr (inr (full_behind c.args.capacity c.args.wanted.type_id c.args.wanted.len c.load_tail-tail.result
+    c.args.seat.now.me.0 before after
+    (search rules) c.load_tail-tail.ensures.told a.end c.in-Err-Full.head admitted.end
+    (subst (λ t. FindsNoRoom c.args.capacity t a.end c.in-Err-Full.head before after) admitted.tail_is found))))
 
 pub returns-in-Err-Passed-clause-told : goal.returns-in-Err-Passed-clause-told
 returns-in-Err-Passed-clause-told c =
     let a = c.in_ok-admission.admission in
     let before : View = c.load_tail-tail.new.producer.me.0 in
     let after : View = c.find_room.new.seat.me.0 in
-    let found = subst (λ s. FindsShortage c.args.capacity a.tail a.end s before after) c.in-Err-Passed.field-0-is c.in-Err-Passed.ensures.found in
+    let found = subst (λ s. FindsShortage c.args.capacity a.tail a.end s before after) c.in-Err-Passed.field-0-is
+    c.in-Err-Passed.ensures.found in
     let admitted = c.in_ok-admission.ensures.admitted in
-    rw c.in-Err-Passed.seen-is (beyond_tail c.args.capacity c.args.wanted.type_id c.args.wanted.len c.load_tail-tail.result c.args.seat.now.me.0 before after
-    (search rules) c.load_tail-tail.ensures.told a.end c.in-Err-Passed.seen admitted.end (subst (λ t. FindsPassed c.args.capacity t a.end c.in-Err-Passed.seen before after) admitted.tail_is found))
+    rw c.in-Err-Passed.seen-is
+    (beyond_tail c.args.capacity c.args.wanted.type_id c.args.wanted.len c.load_tail-tail.result
+    c.args.seat.now.me.0 before after
+    (search rules) c.load_tail-tail.ensures.told a.end c.in-Err-Passed.seen admitted.end
+    (subst (λ t. FindsPassed c.args.capacity t a.end c.in-Err-Passed.seen before after) admitted.tail_is found))
 
 pub returns-then-seen-tail-clause-told : goal.returns-then-seen-tail-clause-told
 returns-then-seen-tail-clause-told c =
@@ -53,6 +61,9 @@ returns-then-seen-tail-clause-told c =
     let before : View = c.load_tail-tail.new.producer.me.0 in
     let after : View = c.find_room.new.seat.me.0 in
     let admitted = c.in_ok-admission.ensures.admitted in
-    contended c.args.capacity c.args.wanted.type_id c.args.wanted.len c.load_tail-tail.result c.args.seat.now.me.0 before after
-    (search rules) c.load_tail-tail.ensures.told a.end a.end c.move_tail-seen.result c.args.wanted c.move_tail-seen.new.producer.me.0
-    admitted.end (subst (λ t. FindsRoom c.args.capacity t a.end before after) admitted.tail_is c.in-Ok.ensures.found) c.move_tail-seen.ensures.told c.if-seen-tail.true
+    contended c.args.capacity c.args.wanted.type_id c.args.wanted.len c.load_tail-tail.result c.args.seat.now.me.0
+    before after
+    (search rules) c.load_tail-tail.ensures.told a.end a.end c.move_tail-seen.result c.args.wanted
+    c.move_tail-seen.new.producer.me.0
+    admitted.end (subst (λ t. FindsRoom c.args.capacity t a.end before after) admitted.tail_is c.in-Ok.ensures.found)
+    c.move_tail-seen.ensures.told c.if-seen-tail.true

@@ -14,7 +14,8 @@ store_claimed_header-requires-clause-claim c =
     let h = c.requires.newest in
     let n = h.newest in
     let padded = c.store_padding.ensures.padded c.args.wanted.len h.others h.claim n in
-    has_last c.store_padding.new.seat.me.0 h.others (staged Padded h.claim) (ap (λ (v : View). v.producer.claims) padded) c.args.admission.place n.place_is (NeedsHeader c.args.wanted.len)
+    has_last c.store_padding.new.seat.me.0 h.others (staged Padded h.claim)
+    (ap (λ (v : View). v.producer.claims) padded) c.args.admission.place n.place_is (NeedsHeader c.args.wanted.len)
     (record { stage = refl; same_span = n.span_is })
 
 pub returns-clause-opened : goal.returns-clause-opened
@@ -24,12 +25,15 @@ returns-clause-opened c cs d n =
     let v : View = c.store_padding.new.seat.me.0 in
     let padded = c.store_padding.ensures.padded c.args.wanted.len cs d n in
     c.store_claimed_header.ensures.view
-    ∙ ap (λ l. with_claims l v) (changes_last v cs (staged Padded d) (ap (λ (w : View). w.producer.claims) padded) c.args.admission.place n.place_is c.args.admission.tail n.behind (omega arith) f)
+    ∙ ap (λ l. with_claims l v) (changes_last v cs (staged Padded d)
+    (ap (λ (w : View). w.producer.claims) padded) c.args.admission.place n.place_is c.args.admission.tail n.behind
+    (omega arith) f)
     ∙ ap (with_claims (cs ++ f d ∷ [])) padded
 
 pub returns-clause-few : goal.returns-clause-few
 returns-clause-few c cs d n =
     let padded = c.store_padding.ensures.padded c.args.wanted.len cs d n in
     let at = n.place_is in
-    let few = rising_few cs (staged Padded d) (subst (λ (v : View). AreRising v.producer.claims) padded c.store_claimed_header.ensures.rising) in
+    let few = rising_few cs (staged Padded d)
+    (subst (λ (v : View). AreRising v.producer.claims) padded c.store_claimed_header.ensures.rising) in
     omega arith

@@ -35,8 +35,15 @@ returns-then-head-admission-clause-found c =
       view = c.store_cache.ensures.view
           ∙ told.view
           ∙ ap (λ (u : View). looked ((head_index C, head) ∷ []) u.producer.seen_tail head u) first
-          ∙ looked_twice v ((head_cache_index C, cached) ∷ []) ((head_index C, head) ∷ []) v.producer.seen_tail (max v.producer.seen_head cached) v.producer.seen_tail head;
-      goes = inr (record { cached = cached; loaded = refl; order = (let le = c.if-cached-admission.false in omega arith); full = search rules });
+          ∙ looked_twice v ((head_cache_index C, cached) ∷ []) ((head_index C, head) ∷ []) v.producer.seen_tail
+          (max v.producer.seen_head cached) v.producer.seen_tail head;
+      goes = inr (record {
+        cached = cached;
+        loaded = refl;
+        order =
+            (let le = c.if-cached-admission.false in omega arith);
+        full = search rules;
+      });
       greater = lt;
       others = λ all.
           let same = ap (λ (u : View). u.producer.shares) first in

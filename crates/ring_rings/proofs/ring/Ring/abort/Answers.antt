@@ -12,7 +12,8 @@ pub overflow_sub-producer : goal.overflow_sub-producer
 overflow_sub-producer g c =
     let p = c.args.producer.now in
     let counted = p.known.counted in
-    let settled = settles_one p.seat.me.0 c.args.claim.place c.place.result c.args.claim.type_id c.args.claim.len Aborted c.requires.claim.claim c.place.ensures c.store_aborted_header.ensures.rising refl in
+    let settled = settles_one p.seat.me.0 c.args.claim.place c.place.result c.args.claim.type_id c.args.claim.len
+    Aborted c.requires.claim.claim c.place.ensures c.store_aborted_header.ensures.rising refl in
     omega arith
 
 pub invariant_of-producer : goal.invariant_of-producer
@@ -20,7 +21,9 @@ invariant_of-producer g c =
     let p = c.args.producer.now in
     let e = c.store_aborted_header.ensures in
     record {
-      known = matches_settled p.seat.me.0 _ p.shares p.open_claims p.own_tail c.args.claim.place c.place.result c.args.claim.type_id c.args.claim.len Aborted p.known c.requires.claim.claim c.place.ensures e.rising e.view refl;
+      known = matches_settled p.seat.me.0 _ p.shares p.open_claims p.own_tail c.args.claim.place c.place.result
+          c.args.claim.type_id c.args.claim.len Aborted p.known c.requires.claim.claim c.place.ensures e.rising e.view
+          refl;
       produces = (ap (λ (v : View). v.consumes) e.view ∙ p.produces.0, e.seat.slots ∙ p.produces.1);
     }
 
@@ -31,5 +34,7 @@ returns-clause-others g c t h other =
       index = h.index;
       message = h.message;
       limit = h.limit;
-      claim = has_other c.args.producer.now.seat.me.0 c.store_aborted_header.new.producer.me.0 c.place.result t.place (staged (Stored Aborted)) (IsOpen t.type_id t.len) (ap (λ (v : View). v.producer.claims) e.view) h.claim (λ here. other (here ∙ c.place.ensures));
+      claim = has_other c.args.producer.now.seat.me.0 c.store_aborted_header.new.producer.me.0 c.place.result t.place
+          (staged (Stored Aborted)) (IsOpen t.type_id t.len) (ap (λ (v : View). v.producer.claims) e.view) h.claim
+          (λ here. other (here ∙ c.place.ensures));
     }

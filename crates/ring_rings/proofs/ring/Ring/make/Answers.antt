@@ -18,7 +18,8 @@ invariant_of-producer g c =
         rising = tt;
         stored = tt;
         own = λ all. refl;
-        whole = start_aligned c.args.capacity c.args.start (record { capacity = c.requires.capacity; start_is = start.0 });
+        whole =
+            start_aligned c.args.capacity c.args.start (record { capacity = c.requires.capacity; start_is = start.0 });
         limit = start.1;
       });
       produces = (ap (λ (v : View). v.consumes) e.left, e.seat.slots ∙ ap (λ (m : Mine). m.1) view);

@@ -25,9 +25,12 @@ invariant_of-producer g c =
         shares_are = ap (λ (v : View). v.producer.shares) put.view ∙ p.known.shares_are;
         some = p.known.some;
         most = p.known.most;
-        counted = ap open_count claims ∙ count_kept f c.place.result (λ d. refl) p.seat.me.0.producer.claims ∙ p.known.counted;
-        rising = subst AreRising (sym claims) (rising_kept f c.place.result (λ d. refl) p.seat.me.0.producer.claims p.known.rising);
-        stored = subst AreStored (sym claims) (stored_kept f c.place.result (λ d. refl) p.seat.me.0.producer.claims p.known.stored);
+        counted = ap open_count claims ∙ count_kept f c.place.result (λ d. refl) p.seat.me.0.producer.claims
+            ∙ p.known.counted;
+        rising = subst AreRising (sym claims) (rising_kept f c.place.result
+            (λ d. refl) p.seat.me.0.producer.claims p.known.rising);
+        stored = subst AreStored (sym claims) (stored_kept f c.place.result
+            (λ d. refl) p.seat.me.0.producer.claims p.known.stored);
         own = λ all. ap (λ (v : View). v.producer.seen_tail) put.view ∙ p.known.own all;
         whole = p.known.whole;
         limit = p.known.limit;
@@ -47,8 +50,22 @@ returns-clause-is_open g c =
       message = h.message;
       limit = h.limit;
       claim = subst (λ (u : View). HasClaimAt u t.place (IsOpen t.type_id t.len)) (sym put.view)
-          (rw c.place.ensures (has_changed t.place f (λ d. refl) (loaded put.loads v) (IsOpen t.type_id t.len) (IsOpen t.type_id t.len) (record { nth = h.claim.nth; claim = h.claim.claim; there = h.claim.there; at_place = h.claim.at_place; holds = h.claim.holds })
-          (λ d is. let n = is.len_is in record { stage = is.stage; type_is = is.type_is; len_is = length-overwritten c.args.offset c.args.bytes.now d.message.body (omega arith) ∙ is.len_is })));
+          (rw c.place.ensures (has_changed t.place f (λ d. refl) (loaded put.loads v) (IsOpen t.type_id t.len)
+          (IsOpen t.type_id t.len)
+          (record {
+            nth = h.claim.nth;
+            claim = h.claim.claim;
+            there = h.claim.there;
+            at_place =
+                h.claim.at_place;
+            holds = h.claim.holds;
+          })
+          (λ d is. let n = is.len_is in record {
+            stage = is.stage;
+            type_is = is.type_is;
+            len_is =
+                length-overwritten c.args.offset c.args.bytes.now d.message.body (omega arith) ∙ is.len_is;
+          })));
     }
 
 pub returns-clause-others : goal.returns-clause-others
@@ -58,5 +75,7 @@ returns-clause-others g c t h other =
       index = h.index;
       message = h.message;
       limit = h.limit;
-      claim = has_other c.args.producer.now.seat.me.0 c.put_bytes.new.seat.me.0 c.place.result t.place (put_at c.args.offset c.args.bytes.now) (IsOpen t.type_id t.len) (ap (λ (v : View). v.producer.claims) put.view) h.claim (λ here. other (here ∙ c.place.ensures));
+      claim = has_other c.args.producer.now.seat.me.0 c.put_bytes.new.seat.me.0 c.place.result t.place
+          (put_at c.args.offset c.args.bytes.now) (IsOpen t.type_id t.len)
+          (ap (λ (v : View). v.producer.claims) put.view) h.claim (λ here. other (here ∙ c.place.ensures));
     }

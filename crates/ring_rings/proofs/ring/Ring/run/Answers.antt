@@ -11,11 +11,13 @@ use Rattle.ring_rings.proofs.ring.Ring.run.Goals.{After-is_block_end}
 use Rattle.ring_rings.proofs.ring.Ring.run.Goals as goal
 
 -- where neither limit nor end of the buffer is reached, the read goes on
-goes : (g : Over) (c : After-is_block_end g) → c.is_block_end.result ≡ false → GoesTo (heeded c.args.heeds g.H.Handler.step) c.args.limit
+goes : (g : Over) (c : After-is_block_end g) → c.is_block_end.result ≡ false
+    → GoesTo (heeded c.args.heeds g.H.Handler.step) c.args.limit
     c.args.self.now.capacity c.args.consumer.now.head (seat_view c.args.consumer.now) (seat_view c.turns.consumer)
     c.args.handler.now c.turns.handler c.turns.scan c.turns.messages
 goes g c on =
-    goes_to c.turns.invariant.runs c.requires.consumer.capacity c.args.consumer.now.stands.0 c.args.self.now.lawful.least
+    goes_to c.turns.invariant.runs c.requires.consumer.capacity c.args.consumer.now.stands.0
+    c.args.self.now.lawful.least
     c.turns.invariant.below c.if-messages-limit.false (sym c.is_block_end.ensures ∙ on)
 
 pub turns-init : goal.turns-init
@@ -30,17 +32,32 @@ turns-init g c =
       ready = c.requires.ready;
       start = sym head;
       below = omega arith;
-      runs = subst (λ (n : ℕ). RunsOn (heeded c.args.heeds g.H.Handler.step) c.args.limit (seat_view old) (seat_view old) c.args.handler.now c.args.handler.now n 0) head
-          (runs_on_none (heeded c.args.heeds g.H.Handler.step) c.args.limit (seat_view old) c.args.handler.now (omega (arith, cap, least)) (omega (arith, head, old.whole.0)) (omega (arith, head, old.whole.1)));
+      runs = subst (λ (n : ℕ). RunsOn (heeded c.args.heeds g.H.Handler.step) c.args.limit (seat_view old)
+          (seat_view old) c.args.handler.now c.args.handler.now n 0) head
+          (runs_on_none (heeded c.args.heeds g.H.Handler.step) c.args.limit (seat_view old) c.args.handler.now
+          (omega (arith, cap, least)) (omega (arith, head, old.whole.0)) (omega (arith, head, old.whole.1)));
     }
 
 pub returns-then-messages-limit-clause-controls : goal.returns-then-messages-limit-clause-controls
 returns-then-messages-limit-clause-controls g c =
-    ends_limit c.turns.invariant.runs c.finish.ensures.settles c.if-messages-limit.true (record { messages = c.finish.ensures.messages; bytes = c.finish.ensures.bytes; stopped = c.finish.ensures.stopped })
+    ends_limit c.turns.invariant.runs c.finish.ensures.settles c.if-messages-limit.true
+    (record {
+      messages = c.finish.ensures.messages;
+      bytes = c.finish.ensures.bytes;
+      stopped =
+          c.finish.ensures.stopped;
+    })
 
 pub returns-then-is_block_end-clause-controls : goal.returns-then-is_block_end-clause-controls
 returns-then-is_block_end-clause-controls g c =
-    ends_block c.turns.invariant.runs c.finish-then-is_block_end.ensures.settles c.requires.consumer.capacity c.if-messages-limit.false (sym c.is_block_end.ensures ∙ c.if-is_block_end.true) (record { messages = c.finish-then-is_block_end.ensures.messages; bytes = c.finish-then-is_block_end.ensures.bytes; stopped = c.finish-then-is_block_end.ensures.stopped })
+    ends_block c.turns.invariant.runs c.finish-then-is_block_end.ensures.settles c.requires.consumer.capacity
+    c.if-messages-limit.false (sym c.is_block_end.ensures ∙ c.if-is_block_end.true)
+    (record {
+      messages = c.finish-then-is_block_end.ensures.messages;
+      bytes =
+          c.finish-then-is_block_end.ensures.bytes;
+      stopped = c.finish-then-is_block_end.ensures.stopped;
+    })
 
 pub turn-requires-clause-near : goal.turn-requires-clause-near
 turn-requires-clause-near g c =
@@ -58,7 +75,13 @@ returns-in-Blocked-clause-controls g c =
     let q = goes g (goal.at.returns-in-Blocked-clause-controls g c).After-is_block_end c.if-is_block_end.false in
     let told = c.in-Blocked.ensures.turn (got q) (stands q) in
     let p = c.finish-in-Blocked.ensures.settles (got q) (blocked_at q told) in
-    ends_blocked q told p (record { messages = c.finish-in-Blocked.ensures.messages; bytes = c.finish-in-Blocked.ensures.bytes; stopped = c.finish-in-Blocked.ensures.stopped })
+    ends_blocked q told p
+    (record {
+      messages = c.finish-in-Blocked.ensures.messages;
+      bytes = c.finish-in-Blocked.ensures.bytes;
+      stopped =
+          c.finish-in-Blocked.ensures.stopped;
+    })
 
 pub returns-in-Blocked-clause-bytes : goal.returns-in-Blocked-clause-bytes
 returns-in-Blocked-clause-bytes g c =
@@ -113,7 +136,13 @@ returns-in-Abort-clause-controls g c =
     let told = c.in-Shown.ensures.turn (got q) (stands q) in
     let p = c.move_head_before.ensures.settles (got q) (left_at q told) in
     let p' = c.finish-in-Abort.ensures.settles (got q) (settled_stands p) in
-    ends_aborted q told p c.in-Abort.is p' (record { messages = c.finish-in-Abort.ensures.messages; bytes = c.finish-in-Abort.ensures.bytes; stopped = c.finish-in-Abort.ensures.stopped })
+    ends_aborted q told p c.in-Abort.is p'
+    (record {
+      messages = c.finish-in-Abort.ensures.messages;
+      bytes = c.finish-in-Abort.ensures.bytes;
+      stopped =
+          c.finish-in-Abort.ensures.stopped;
+    })
 
 pub returns-in-Abort-clause-bytes : goal.returns-in-Abort-clause-bytes
 returns-in-Abort-clause-bytes g c =
@@ -134,7 +163,13 @@ returns-in-Break-clause-controls g c =
     let q = goes g (goal.at.returns-in-Break-clause-controls g c).After-is_block_end c.if-is_block_end.false in
     let told = c.in-Shown.ensures.turn (got q) (stands q) in
     let p = c.finish-in-Break.ensures.settles (got_more q told) (shown_at q told) in
-    ends_broken q told c.in-Break.is p (record { messages = c.finish-in-Break.ensures.messages; bytes = c.finish-in-Break.ensures.bytes; stopped = c.finish-in-Break.ensures.stopped })
+    ends_broken q told c.in-Break.is p
+    (record {
+      messages = c.finish-in-Break.ensures.messages;
+      bytes = c.finish-in-Break.ensures.bytes;
+      stopped =
+          c.finish-in-Break.ensures.stopped;
+    })
 
 pub returns-in-Break-clause-bytes : goal.returns-in-Break-clause-bytes
 returns-in-Break-clause-bytes g c =
@@ -192,11 +227,13 @@ turns-smaller g c =
 
 pub finish-requires-clause-inside : goal.finish-requires-clause-inside
 finish-requires-clause-inside g c =
-    runs_inside c.turns.invariant.runs.0 c.requires.consumer.capacity (omega (arith, c.requires.consumer.capacity, c.args.self.now.lawful.least))
+    runs_inside c.turns.invariant.runs.0 c.requires.consumer.capacity
+    (omega (arith, c.requires.consumer.capacity, c.args.self.now.lawful.least))
 
 pub finish-requires-then-is_block_end-clause-inside : goal.finish-requires-then-is_block_end-clause-inside
 finish-requires-then-is_block_end-clause-inside g c =
-    runs_inside c.turns.invariant.runs.0 c.requires.consumer.capacity (omega (arith, c.requires.consumer.capacity, c.args.self.now.lawful.least))
+    runs_inside c.turns.invariant.runs.0 c.requires.consumer.capacity
+    (omega (arith, c.requires.consumer.capacity, c.args.self.now.lawful.least))
 
 pub finish-requires-in-Blocked-clause-inside : goal.finish-requires-in-Blocked-clause-inside
 finish-requires-in-Blocked-clause-inside g c =

@@ -14,9 +14,11 @@ invariant-turns g l = record {
   ready : g.H.Handler.ready l.handler;
   start : l.start ≡ head_of l.initial.consumer;
   below : l.messages ≤ l.limit;
-  runs : RunsOn (heeded l.heeds g.H.Handler.step) l.limit (seat_view l.initial.consumer) (seat_view l.consumer) l.initial.handler l.handler l.scan l.messages;
+  runs : RunsOn (heeded l.heeds g.H.Handler.step) l.limit (seat_view l.initial.consumer)
+      (seat_view l.consumer) l.initial.handler l.handler l.scan l.messages;
 }
 
 -- the bytes to the end of the buffer
 abbrev pub decreases-turns : goal.decreases-turns
-decreases-turns g l = head_of l.initial.consumer + room (seat_view l.initial.consumer).capacity (head_of l.initial.consumer) - l.scan
+decreases-turns g l =
+    head_of l.initial.consumer + room (seat_view l.initial.consumer).capacity (head_of l.initial.consumer) - l.scan

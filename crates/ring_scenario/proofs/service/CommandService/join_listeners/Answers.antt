@@ -12,13 +12,23 @@ loop-index-preserved c =
     let ys = held_in c.dismiss.new.self.listeners in
     let i : ℕ = c.loop-index.index in
     let inside : i < length xs = omega (arith, was.0, c.loop-index-test.true) in
-    let step = given_up c.dismiss.result xs ys i (Leaves (crowd (transmitter_of c.loop-index.self.conductor) c.loop-index.self.listeners) (i + 1) (crowd (transmitter_of c.dismiss.new.self.conductor) c.dismiss.new.self.listeners))
-    c.dismiss.ensures.same c.dismiss.ensures.left (λ left. left.goes.given_up) c.dismiss.ensures.free inside was.1 in
-    (step.0 ∙ was.0, step.1, record { consumer = c.dismiss.ensures.others.consumer ∙ was.2.consumer; counters = c.dismiss.ensures.others.counters ∙ was.2.counters })
+    let step = given_up c.dismiss.result xs ys i
+    (Leaves (crowd (transmitter_of c.loop-index.self.conductor) c.loop-index.self.listeners) (i + 1)
+    (crowd (transmitter_of c.dismiss.new.self.conductor) c.dismiss.new.self.listeners))
+    c.dismiss.ensures.same c.dismiss.ensures.left (λ left. left.goes.given_up) c.dismiss.ensures.free inside was.1 in (
+      step.0 ∙ was.0,
+      step.1,
+      record {
+        consumer = c.dismiss.ensures.others.consumer
+            ∙ was.2.consumer;
+        counters = c.dismiss.ensures.others.counters ∙ was.2.counters;
+      },
+    )
 
 pub returns-clause-shares : goal.returns-clause-shares
 returns-clause-shares c =
     let service = c.loop-index.self in
     let left = c.loop-index.invariant in
-    let gone : held_count (held_in service.listeners) ≡ 0 = count_none (held_in service.listeners) (λ k lt. left.1 k (omega (arith, left.0, c.loop-index-test.false))) in
+    let gone : held_count (held_in service.listeners) ≡ 0 =
+    count_none (held_in service.listeners) (λ k lt. left.1 k (omega (arith, left.0, c.loop-index-test.false))) in
     let shares = service.shares in omega arith

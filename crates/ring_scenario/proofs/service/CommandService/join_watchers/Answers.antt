@@ -11,13 +11,24 @@ loop-index-preserved c =
     let ys = held_in c.unwatch.new.self.watchers in
     let i : ℕ = c.loop-index.index in
     let inside : i < length xs = omega (arith, was.0, c.loop-index-test.true) in
-    let step = given_up c.unwatch.result xs ys i (Unwatches c.loop-index.self.watchers (i + 1) c.unwatch.new.self.watchers)
-    c.unwatch.ensures.same c.unwatch.ensures.left (λ left. left.goes.given_up) c.unwatch.ensures.free inside was.1 in
-    (step.0 ∙ was.0, step.1, c.unwatch.ensures.registry ∙ was.2, record { consumer = c.unwatch.ensures.others.consumer ∙ was.3.consumer; transmitter = c.unwatch.ensures.others.transmitter ∙ was.3.transmitter })
+    let step =
+    given_up c.unwatch.result xs ys i (Unwatches c.loop-index.self.watchers (i + 1) c.unwatch.new.self.watchers)
+    c.unwatch.ensures.same c.unwatch.ensures.left (λ left. left.goes.given_up) c.unwatch.ensures.free inside was.1 in (
+      step.0 ∙ was.0,
+      step.1,
+      c.unwatch.ensures.registry
+          ∙ was.2,
+      record {
+        consumer = c.unwatch.ensures.others.consumer
+            ∙ was.3.consumer;
+        transmitter = c.unwatch.ensures.others.transmitter ∙ was.3.transmitter;
+      },
+    )
 
 pub returns-clause-shares : goal.returns-clause-shares
 returns-clause-shares c =
     let service = c.loop-index.self in
     let left = c.loop-index.invariant in
-    let gone : held_count (held_in service.watchers) ≡ 0 = count_none (held_in service.watchers) (λ k lt. left.1 k (omega (arith, left.0, c.loop-index-test.false))) in
+    let gone : held_count (held_in service.watchers) ≡ 0 =
+    count_none (held_in service.watchers) (λ k lt. left.1 k (omega (arith, left.0, c.loop-index-test.false))) in
     let shares = service.value_shares in omega arith

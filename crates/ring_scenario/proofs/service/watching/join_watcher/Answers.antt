@@ -4,7 +4,9 @@ use Rattle.ring_loose.proofs.HeldLemmas.{of_goes}
 use Rattle.ring_scenario.proofs.service.watching.join_watcher.Goals as goal
 
 pub join_value_reader-requires-clause-reader : goal.join_value_reader-requires-clause-reader
-join_value_reader-requires-clause-reader c = c.requires.watchers (c.args.number - 1) c.in_ok-watcher.watcher c.in_ok-watcher.ensures.taken.here.has
+join_value_reader-requires-clause-reader c =
+    c.requires.watchers (c.args.number - 1) c.in_ok-watcher.watcher c.in_ok-watcher.ensures.taken.here.has
 
 pub returns-clause-watchers : goal.returns-clause-watchers
-returns-clause-watchers c = of_goes (IsReaderOf c.args.values.now) _ _ _ _ c.requires.watchers c.in_ok-watcher.ensures.taken
+returns-clause-watchers c =
+    of_goes (IsReaderOf c.args.values.now) _ _ _ _ c.requires.watchers c.in_ok-watcher.ensures.taken

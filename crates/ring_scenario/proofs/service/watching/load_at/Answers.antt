@@ -18,7 +18,8 @@ returns-clause-watchers c =
 pub returns-clause-loaded : goal.returns-clause-loaded
 returns-clause-loaded c =
     let held = stays _ _ _ _ _ _ c.in_ok-watcher.ensures.taken c.put_back.ensures in
-    let load = c.load-loaded.ensures in peeks c.load-loaded.result _ _ _ c.in_ok-watcher.watcher c.load-loaded.new.reader _ held load.value load.loaded load.later
+    let load = c.load-loaded.ensures in peeks c.load-loaded.result _ _ _ c.in_ok-watcher.watcher
+    c.load-loaded.new.reader _ held load.value load.loaded load.later
 
 pub returns-clause-refused : goal.returns-clause-refused
 returns-clause-refused c =

@@ -14,7 +14,8 @@ returns-then-not-is_power_of_two-clause-refused c = (
       let same : (length c.args.words.now - 16) * 8 ≡ C = omega (arith, e, capacity_blocks C lawful) in
       elim c.then-not-is_power_of_two.branch as (λ _. ⊥) [
         | then-not-is_power_of_two-via-then-not-is_power_of_two w ↦
-            let yes : c.is_power_of_two.result ≡ true = c.is_power_of_two.ensures ∙ ap is_power_of_two same ∙ ok.power in
+            let yes : c.is_power_of_two.result ≡ true =
+            c.is_power_of_two.ensures ∙ ap is_power_of_two same ∙ ok.power in
             let clash : false ≡ true = sym w.if-not-is_power_of_two.true ∙ yes in absurd cc
         | then-not-is_power_of_two-via-else-not-is_power_of_two+then-capacity-lt-MIN_CAPACITY w ↦
             absurd (omega (arith, same, ok.least, w.if-capacity-lt-MIN_CAPACITY.true))

@@ -10,7 +10,8 @@ listing-requires-clause-aligned c =
     let board = c.args.self.now in
     let C = board.capacity in
     let latest = c.latest-latest.result in
-    let lawful : IsCapacity C = record { power = board.lawful.power; least = omega (arith, board.lawful.least); most = board.lawful.most } in
+    let lawful : IsCapacity C =
+    record { power = board.lawful.power; least = omega (arith, board.lawful.least); most = board.lawful.most } in
     let tail8 : c.tail-tail.result % 8 ≡ 0 = search rules in
     let latest8 : latest % 8 ≡ 0 = search rules in
     let rest8 : latest % C % 8 ≡ 0 = mod_aligned C latest (omega (arith, capacity_blocks C lawful)) latest8 in

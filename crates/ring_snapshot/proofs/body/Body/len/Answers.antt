@@ -4,4 +4,5 @@ use Rattle.ring_counters.specs.Records.{byte_at}
 use Rattle.ring_snapshot.proofs.body.Body.len.Goals as goal
 
 pub returns : goal.returns
-returns c = sym (length-map-range_with_len (byte_at c.self.inside.words.now) c.self.inside.from c.self.inside.left) ∙ ap length c.self.view_is
+returns c = sym (length-map-range_with_len (byte_at c.self.inside.words.now) c.self.inside.from c.self.inside.left)
+    ∙ ap length c.self.view_is

@@ -24,5 +24,6 @@ loop-self-preserved c =
     let words = it.counters.metadata.now in
     let values = it.counters.values.now in
     let rest = entries words values (it.counters.ids - (it.next + 1)) (it.next + 1) in
-    sym (entries_here words values it.counters.ids it.next (omega (arith, c.loop-self-test.true)) ∙ ap (λ e. or_none e rest) (sym c.entry.ensures ∙ c.in_default.is))
+    sym (entries_here words values it.counters.ids it.next (omega (arith, c.loop-self-test.true))
+    ∙ ap (λ e. or_none e rest) (sym c.entry.ensures ∙ c.in_default.is))
     ∙ c.loop-self.invariant

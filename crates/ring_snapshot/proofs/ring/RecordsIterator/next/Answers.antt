@@ -12,16 +12,20 @@ returns-clause-steps c =
     let before : old.at < old.tail = search rules in
     elim c.match-entry.branch [
       | in-Ok w ↦
-          let span : up_to_eight w.in-Ok.record.length ≡ w.align8.result = sym (w.align8.ensures ∙ ap up_to_eight w.from.ensures) in
-          next_ok old.ring.capacity old.ring.words.now old.tail old.most old.at x w.in-Ok.record some before c.entry_at-entry.ensures.entry w.in-Ok.is
+          let span : up_to_eight w.in-Ok.record.length ≡ w.align8.result =
+          sym (w.align8.ensures ∙ ap up_to_eight w.from.ensures) in
+          next_ok old.ring.capacity old.ring.words.now old.tail old.most old.at x w.in-Ok.record some before
+          c.entry_at-entry.ensures.entry w.in-Ok.is
           ∙ ap (λ k. x ∷ listing old.ring.capacity old.ring.words.now old.tail (old.most - 1) (old.at + k)) span
           ∙ ap (λ s. x ∷ records_left s) (sym w.self-is)
       | in-Err w ↦
-          next_err old.ring.capacity old.ring.words.now old.tail old.most old.at x w.in-Err._finding some before c.entry_at-entry.ensures.entry w.in-Err.is
+          next_err old.ring.capacity old.ring.words.now old.tail old.most old.at x w.in-Err._finding some before
+          c.entry_at-entry.ensures.entry w.in-Err.is
           ∙ ap (λ s. x ∷ records_left s) (sym w.self-is)
     ]
 
 pub returns-clause-goes : goal.returns-clause-goes
 returns-clause-goes c =
-    let less : length (records_left c.match-entry.self) < length (records_left c.args.self.now) = omega (arith, ap length (returns-clause-steps c)) in
+    let less : length (records_left c.match-entry.self) < length (records_left c.args.self.now) =
+    omega (arith, ap length (returns-clause-steps c)) in
     search (rules, less)

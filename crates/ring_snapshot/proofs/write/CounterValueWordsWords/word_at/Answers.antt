@@ -9,10 +9,12 @@ use Rattle.ring_snapshot.proofs.write.CounterValueWordsWords.word_at.Goals as go
 pub returns-then-id-count : goal.returns-then-id-count
 returns-then-id-count c =
     let r = registry_of c.args.self.now.0.now in
-    sym (past_index (λ i. value_word (counter_at r (i / 16)).values (i % 16)) (16 * count_of r) c.args.index (omega (arith, c.count.ensures, c.if-id-count.true)))
+    sym (past_index (λ i. value_word (counter_at r (i / 16)).values (i % 16)) (16 * count_of r) c.args.index
+    (omega (arith, c.count.ensures, c.if-id-count.true)))
 
 pub returns : goal.returns
 returns c =
     let r = registry_of c.args.self.now.0.now in
     ap Some c.value_word.ensures
-    ∙ sym (at_index (λ i. value_word (counter_at r (i / 16)).values (i % 16)) (16 * count_of r) c.args.index (omega (arith, c.count.ensures, c.if-id-count.false)))
+    ∙ sym (at_index (λ i. value_word (counter_at r (i / 16)).values (i % 16)) (16 * count_of r) c.args.index
+    (omega (arith, c.count.ensures, c.if-id-count.false)))

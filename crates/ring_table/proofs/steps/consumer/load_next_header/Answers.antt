@@ -13,14 +13,25 @@ load-requires c =
     let me : Mine = c.args.consumer.now.me in (
       s.table_is,
       in_records _ c.args.capacity _ (c.args.scan) s.words_are s.lawful c.word_index.ensures,
-      at_word c.args.ring.now.key c.args.capacity _ _ _ s.key_is _ _ (c.word_index.ensures ∙ ap (index c.args.capacity) (sym c.requires.scan)) (λ n. n) (λ k n me'. (me'.1 ≡ me.1) × LoadsHeader me.0.capacity me.0.consumer.scan me.0.consumer.got me.0 n me'.0 × Logs k n me.0 me'.0)
-          (loads_next c.args.capacity c.args.ring.now.key.start _ _ me s.view_is c.requires.consumes (let at = c.requires.scan in let near = c.requires.near in omega arith)),
+      at_word c.args.ring.now.key c.args.capacity _ _ _ s.key_is _ _
+          (c.word_index.ensures ∙ ap (index c.args.capacity) (sym c.requires.scan)) (λ n. n)
+          (λ k n me'. (me'.1 ≡ me.1) × LoadsHeader me.0.capacity me.0.consumer.scan me.0.consumer.got me.0 n me'.0
+          × Logs k n me.0 me'.0)
+          (loads_next c.args.capacity c.args.ring.now.key.start _ _ me s.view_is c.requires.consumes
+          (let at = c.requires.scan in let near = c.requires.near in omega arith)),
     )
 
 pub returns-clause-told : goal.returns-clause-told
 returns-clause-told c =
     let me : Mine = c.args.consumer.now.me in
-    subst (λ (z : ℕ × ℕ). LoadsHeader z.0 z.1 me.0.consumer.got me.0 c.load.result c.load.new.seat.me.0) (λ i. (c.requires.seat.view_is i, c.requires.scan i)) c.load.ensures.2.1
+    subst (λ (z : ℕ × ℕ). LoadsHeader z.0 z.1 me.0.consumer.got me.0 c.load.result c.load.new.seat.me.0)
+    (λ i. (c.requires.seat.view_is i, c.requires.scan i)) c.load.ensures.2.1
 
 pub returns-clause-seat : goal.returns-clause-seat
-returns-clause-seat c = record { table = c.load.ensures.0; id = c.load.ensures.1; slots = c.load.ensures.2.0; capacity = c.load.ensures.2.1.capacity }
+returns-clause-seat c = record {
+  table = c.load.ensures.0;
+  id = c.load.ensures.1;
+  slots = c.load.ensures.2.0;
+  capacity =
+      c.load.ensures.2.1.capacity;
+}

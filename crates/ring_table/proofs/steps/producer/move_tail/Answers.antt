@@ -17,19 +17,30 @@ compare_exchange_with-requires c =
     let new : ℕ = c.args.new in (
       s.table_is,
       in_trailer _ c.args.capacity _ 16 s.words_are (omega arith) c.trailer_word-tail.ensures,
-      at_word c.args.ring.now.key c.args.capacity _ _ _ s.key_is _ _ c.trailer_word-tail.ensures (λ n. either (eqb n old) new n)
-          (λ k n me'. (me'.1 ≡ me.1) × ((said : Wanted) → some c.args.wanted ≡ some said → MovesTail me.0.capacity old new said me.0 n me'.0) × (n ≢ old → Logs k n me.0 me'.0))
-          (moves_tail c.args.capacity c.args.ring.now.key.start _ _ me s.view_is old new c.args.wanted c.requires.share c.requires.room),
+      at_word c.args.ring.now.key c.args.capacity _ _ _ s.key_is _ _ c.trailer_word-tail.ensures
+          (λ n. either (eqb n old) new n)
+          (λ k n me'. (me'.1 ≡ me.1) × ((said : Wanted) → some c.args.wanted ≡ some said
+          → MovesTail me.0.capacity old new said me.0 n me'.0) × (n ≢ old → Logs k n me.0 me'.0))
+          (moves_tail c.args.capacity c.args.ring.now.key.start _ _ me s.view_is old new c.args.wanted c.requires.share
+          c.requires.room),
     )
 
 pub returns-clause-told : goal.returns-clause-told
 returns-clause-told c =
     let told = c.compare_exchange_with.ensures.2.1 c.args.wanted (λ _. some c.args.wanted) in
-    subst (λ (k : ℕ). MovesTail k c.args.old c.args.new c.args.wanted c.args.producer.now.me.0 c.compare_exchange_with.result c.compare_exchange_with.new.seat.me.0) c.requires.seat.view_is told
+    subst (λ (k : ℕ). MovesTail k c.args.old c.args.new c.args.wanted c.args.producer.now.me.0
+    c.compare_exchange_with.result c.compare_exchange_with.new.seat.me.0) c.requires.seat.view_is told
 
 pub returns-clause-seat : goal.returns-clause-seat
 returns-clause-seat c =
     let h = c.compare_exchange_with.ensures in
     let told = h.2.1 c.args.wanted (λ _. some c.args.wanted) in
     let capacity_of = λ (v : View). v.capacity in
-    record { table = h.0; id = h.1; slots = h.2.0; capacity = dite (ℕ_discrete c.compare_exchange_with.result c.args.old) (λ hit. ap capacity_of (told.hit hit)) (λ missed. ap capacity_of (told.miss missed)) }
+    record {
+      table = h.0;
+      id = h.1;
+      slots = h.2.0;
+      capacity =
+          dite (ℕ_discrete c.compare_exchange_with.result c.args.old) (λ hit. ap capacity_of (told.hit hit))
+          (λ missed. ap capacity_of (told.miss missed));
+    }

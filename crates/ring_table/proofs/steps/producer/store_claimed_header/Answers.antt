@@ -20,12 +20,16 @@ store-requires c =
     let short = c.requires.message.short in
     let zeros = length-replicate {A = ℕ} c.args.wanted.len 0 in
     let small : 8 + c.args.wanted.len < 2 ^ 31 = omega arith in
-    let value_is = packs_open value c.args.wanted.len c.args.wanted.type_id c.requires.message.type_fits c.open_header-header.ensures in (
+    let value_is = packs_open value c.args.wanted.len c.args.wanted.type_id c.requires.message.type_fits
+    c.open_header-header.ensures in (
       s.table_is,
       in_records _ c.args.capacity _ (c.args.place) s.words_are s.lawful c.word_index.ensures,
-      at_word c.args.ring.now.key c.args.capacity _ _ _ s.key_is _ _ (c.word_index.ensures ∙ ap (index c.args.capacity) (sym h.at_place)) (λ _. value)
+      at_word c.args.ring.now.key c.args.capacity _ _ _ s.key_is _ _
+          (c.word_index.ensures ∙ ap (index c.args.capacity) (sym h.at_place)) (λ _. value)
           (λ i _ me'. (me'.1 ≡ me.1) × StoresClaimed i value me.0 me'.0 × AreRising me.0.producer.claims)
-          (opens c.args.capacity c.args.ring.now.key.start _ _ me s.view_is h.nth h.claim c.args.wanted.type_id c.args.wanted.len value value_is s.lawful.most h.there h.holds.stage h.holds.same_span c.requires.message),
+          (opens c.args.capacity c.args.ring.now.key.start _ _ me s.view_is h.nth h.claim c.args.wanted.type_id
+          c.args.wanted.len value value_is s.lawful.most h.there h.holds.stage h.holds.same_span
+          c.requires.message),
     )
 
 pub returns-clause-view : goal.returns-clause-view
@@ -36,8 +40,18 @@ returns-clause-view c =
     let short = c.requires.message.short in
     let zeros = length-replicate {A = ℕ} c.args.wanted.len 0 in
     let small : 8 + c.args.wanted.len < 2 ^ 31 = omega arith in
-    after_change Padded (λ c. c.place) (opened c.args.wanted.type_id c.args.wanted.len) c.args.capacity _ c.args.place c.args.producer.now.me.0 _ _ h s.view_is h.holds.stage (c.word_index.ensures ∙ ap (index c.args.capacity) (sym h.at_place))
-    (c.store.ensures.2.1 c.args.wanted.type_id c.args.wanted.len c.requires.message.type_fits small (packs_open c.open_header-header.result c.args.wanted.len c.args.wanted.type_id c.requires.message.type_fits c.open_header-header.ensures))
+    after_change Padded (λ c. c.place) (opened c.args.wanted.type_id c.args.wanted.len) c.args.capacity _ c.args.place
+    c.args.producer.now.me.0 _ _ h s.view_is h.holds.stage
+    (c.word_index.ensures ∙ ap (index c.args.capacity) (sym h.at_place))
+    (c.store.ensures.2.1 c.args.wanted.type_id c.args.wanted.len c.requires.message.type_fits small
+    (packs_open c.open_header-header.result c.args.wanted.len c.args.wanted.type_id c.requires.message.type_fits
+    c.open_header-header.ensures))
 
 pub returns-clause-seat : goal.returns-clause-seat
-returns-clause-seat c = record { table = c.store.ensures.0; id = c.store.ensures.1; slots = c.store.ensures.2.0; capacity = ap (λ (v : View). v.capacity) (returns-clause-view c) }
+returns-clause-seat c = record {
+  table = c.store.ensures.0;
+  id = c.store.ensures.1;
+  slots =
+      c.store.ensures.2.0;
+  capacity = ap (λ (v : View). v.capacity) (returns-clause-view c);
+}

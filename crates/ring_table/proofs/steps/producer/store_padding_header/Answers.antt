@@ -20,15 +20,26 @@ store-requires c =
     let value_is = c.padding_header-header.ensures in (
       s.table_is,
       in_records _ c.args.capacity _ (c.args.from) s.words_are s.lawful c.word_index.ensures,
-      at_word c.args.ring.now.key c.args.capacity _ _ _ s.key_is _ _ (c.word_index.ensures ∙ ap (index c.args.capacity) (sym h.holds.from_is)) (λ _. value)
+      at_word c.args.ring.now.key c.args.capacity _ _ _ s.key_is _ _
+          (c.word_index.ensures ∙ ap (index c.args.capacity) (sym h.holds.from_is)) (λ _. value)
           (λ i _ me'. (me'.1 ≡ me.1) × StoresPadding i me.0 me'.0 × AreRising me.0.producer.claims)
-          (pads c.args.capacity c.args.ring.now.key.start _ _ me s.view_is h.nth h.claim value h.there h.holds.stage (subst (λ (z : ℕ × ℕ). z.0 < z.1) (λ i. (sym h.holds.from_is i, h.claim.place)) h.holds.some_padding) (value_is ∙ λ i. padding_header (sym h.at_place i - sym h.holds.from_is i))),
+          (pads c.args.capacity c.args.ring.now.key.start _ _ me s.view_is h.nth h.claim value h.there h.holds.stage
+          (subst (λ (z : ℕ × ℕ). z.0 < z.1) (λ i. (sym h.holds.from_is i, h.claim.place)) h.holds.some_padding)
+          (value_is ∙ λ i. padding_header (sym h.at_place i - sym h.holds.from_is i))),
     )
 
 pub returns-clause-view : goal.returns-clause-view
 returns-clause-view c =
     let h = c.requires.claim in
-    after_change Moved (λ c. c.from) (staged Padded) c.args.capacity _ c.args.place c.args.producer.now.me.0 _ _ h c.requires.seat.view_is h.holds.stage (c.word_index.ensures ∙ ap (index c.args.capacity) (sym h.holds.from_is)) c.store.ensures.2.1
+    after_change Moved (λ c. c.from) (staged Padded) c.args.capacity _ c.args.place c.args.producer.now.me.0 _ _ h
+    c.requires.seat.view_is h.holds.stage (c.word_index.ensures ∙ ap (index c.args.capacity) (sym h.holds.from_is))
+    c.store.ensures.2.1
 
 pub returns-clause-seat : goal.returns-clause-seat
-returns-clause-seat c = record { table = c.store.ensures.0; id = c.store.ensures.1; slots = c.store.ensures.2.0; capacity = ap (λ (v : View). v.capacity) (returns-clause-view c) }
+returns-clause-seat c = record {
+  table = c.store.ensures.0;
+  id = c.store.ensures.1;
+  slots =
+      c.store.ensures.2.0;
+  capacity = ap (λ (v : View). v.capacity) (returns-clause-view c);
+}

@@ -4,7 +4,20 @@ use Rattle.ring_table.proofs.Seats.{joins_producer}
 use Rattle.ring_table.proofs.steps.seats.join_producer.Goals as goal
 
 pub join_seat-requires : goal.join_seat-requires
-join_seat-requires c = (c.requires.table.0, c.requires.table.1, c.requires.slots, c.requires.words, joins_producer c.args.ring.now.key.capacity c.args.ring.now.key.start _ _ _ _ c.requires.produces c.requires.share)
+join_seat-requires c = (
+  c.requires.table.0,
+  c.requires.table.1,
+  c.requires.slots,
+  c.requires.words,
+  joins_producer
+      c.args.ring.now.key.capacity c.args.ring.now.key.start _ _ _ _ c.requires.produces c.requires.share,
+)
 
 pub returns-clause-seat : goal.returns-clause-seat
-returns-clause-seat c = let h = c.join_seat.ensures in record { table = h.0; id = h.1; slots = ap (λ (m : Mine). m.1) h.2; capacity = ap (λ (m : Mine). m.0.capacity) h.2 }
+returns-clause-seat c = let h = c.join_seat.ensures in record {
+  table = h.0;
+  id = h.1;
+  slots =
+      ap (λ (m : Mine). m.1) h.2;
+  capacity = ap (λ (m : Mine). m.0.capacity) h.2;
+}

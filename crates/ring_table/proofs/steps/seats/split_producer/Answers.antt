@@ -4,7 +4,18 @@ use Rattle.ring_table.proofs.Seats.{splits_producer}
 use Rattle.ring_table.proofs.steps.seats.split_producer.Goals as goal
 
 pub split_seat-requires : goal.split_seat-requires
-split_seat-requires c = (c.requires.table, c.requires.words, splits_producer c.args.ring.now.key.capacity c.args.ring.now.key.start _ _ c.requires.shares)
+split_seat-requires c = (
+  c.requires.table,
+  c.requires.words,
+  splits_producer c.args.ring.now.key.capacity c.args.ring.now.key.start _ _
+      c.requires.shares,
+)
 
 pub returns-clause-seat : goal.returns-clause-seat
-returns-clause-seat c = let h = c.split_seat.ensures in record { table = h.0; id = h.1; slots = ap (λ (m : Mine). m.1) h.2; capacity = ap (λ (m : Mine). m.0.capacity) h.2 }
+returns-clause-seat c = let h = c.split_seat.ensures in record {
+  table = h.0;
+  id = h.1;
+  slots =
+      ap (λ (m : Mine). m.1) h.2;
+  capacity = ap (λ (m : Mine). m.0.capacity) h.2;
+}

@@ -13,9 +13,16 @@ load-requires c =
     let me : Mine = c.args.producer.now.me in (
       s.table_is,
       in_trailer _ c.args.capacity _ 32 s.words_are (omega arith) c.trailer_word.ensures,
-      at_word c.args.ring.now.key c.args.capacity _ _ _ s.key_is _ _ c.trailer_word.ensures (λ n. n) (λ k n me'. (me'.1 ≡ me.1) × LoadsCache me.0.capacity me.0 n me'.0 × Logs k n me.0 me'.0)
+      at_word c.args.ring.now.key c.args.capacity _ _ _ s.key_is _ _ c.trailer_word.ensures (λ n. n)
+          (λ k n me'. (me'.1 ≡ me.1) × LoadsCache me.0.capacity me.0 n me'.0 × Logs k n me.0 me'.0)
           (loads_cache c.args.capacity c.args.ring.now.key.start _ _ me s.view_is),
     )
 
 pub returns-clause-seat : goal.returns-clause-seat
-returns-clause-seat c = record { table = c.load.ensures.0; id = c.load.ensures.1; slots = c.load.ensures.2.0; capacity = ap (λ (v : View). v.capacity) (c.load.ensures.2.1.view) }
+returns-clause-seat c = record {
+  table = c.load.ensures.0;
+  id = c.load.ensures.1;
+  slots = c.load.ensures.2.0;
+  capacity =
+      ap (λ (v : View). v.capacity) (c.load.ensures.2.1.view);
+}

@@ -12,9 +12,16 @@ store-requires c =
     let me : Mine = c.args.producer.now.me in (
       s.table_is,
       in_trailer _ c.args.capacity _ 32 s.words_are (omega arith) c.trailer_word.ensures,
-      at_index c.args.ring.now.key c.args.capacity _ _ _ s.key_is _ _ c.trailer_word.ensures (λ _. c.args.head) (λ n me'. (me'.1 ≡ me.1) × (me'.0 ≡ me.0))
+      at_index c.args.ring.now.key c.args.capacity _ _ _ s.key_is _ _ c.trailer_word.ensures (λ _. c.args.head)
+          (λ n me'. (me'.1 ≡ me.1) × (me'.0 ≡ me.0))
           (stores_cache c.args.capacity c.args.ring.now.key.start _ _ c.args.head me c.requires.seen),
     )
 
 pub returns-clause-seat : goal.returns-clause-seat
-returns-clause-seat c = record { table = c.store.ensures.0; id = c.store.ensures.1; slots = c.store.ensures.2.0; capacity = ap (λ (v : View). v.capacity) (c.store.ensures.2.1) }
+returns-clause-seat c = record {
+  table = c.store.ensures.0;
+  id = c.store.ensures.1;
+  slots =
+      c.store.ensures.2.0;
+  capacity = ap (λ (v : View). v.capacity) (c.store.ensures.2.1);
+}

@@ -13,9 +13,16 @@ store-requires c =
     let me : Mine = c.args.consumer.now.me in (
       s.table_is,
       in_trailer _ c.args.capacity _ 80 s.words_are (omega arith) c.trailer_word.ensures,
-      at_index c.args.ring.now.key c.args.capacity _ _ _ s.key_is _ _ c.trailer_word.ensures (λ _. c.args.value) (λ n me'. (me'.1 ≡ me.1) × (me'.0 ≡ with_consumer (beaten c.args.value me.0.consumer) me.0))
+      at_index c.args.ring.now.key c.args.capacity _ _ _ s.key_is _ _ c.trailer_word.ensures (λ _. c.args.value)
+          (λ n me'. (me'.1 ≡ me.1) × (me'.0 ≡ with_consumer (beaten c.args.value me.0.consumer) me.0))
           (stores_heartbeat c.args.capacity c.args.ring.now.key.start _ _ c.args.value me c.requires.consumes),
     )
 
 pub returns-clause-seat : goal.returns-clause-seat
-returns-clause-seat c = record { table = c.store.ensures.0; id = c.store.ensures.1; slots = c.store.ensures.2.0; capacity = ap (λ (v : View). v.capacity) (c.store.ensures.2.1) }
+returns-clause-seat c = record {
+  table = c.store.ensures.0;
+  id = c.store.ensures.1;
+  slots =
+      c.store.ensures.2.0;
+  capacity = ap (λ (v : View). v.capacity) (c.store.ensures.2.1);
+}

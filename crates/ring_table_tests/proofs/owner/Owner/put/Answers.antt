@@ -11,5 +11,15 @@ returns c =
     let at = c.args.at in
     let inside = c.requires.inside in
     claim_kept _ _ _ _ (ap (λ (v : View). v.producer.claims) c.load_own_word.ensures.view)
-    (claim_changed _ _ c.args.place (written at c.args.word) _ (IsOpen (pos 1) 16) c.requires.open c.store_body_word.ensures.view
-    (λ d h. let long = h.len_is in (refl, record { stage = h.stage; type_is = h.type_is; len_is = length-with_word at c.args.word d.message.body (omega arith) ∙ long })))
+    (claim_changed _ _ c.args.place (written at c.args.word) _
+    (IsOpen (pos 1) 16) c.requires.open c.store_body_word.ensures.view
+    (λ d h. let long =
+    h.len_is in (
+      refl,
+      record {
+        stage = h.stage;
+        type_is = h.type_is;
+        len_is =
+            length-with_word at c.args.word d.message.body (omega arith) ∙ long;
+      },
+    )))

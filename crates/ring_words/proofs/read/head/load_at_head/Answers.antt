@@ -3,4 +3,6 @@ use Rattle.ring_words.proofs.BodyLemmas.{body_is}
 use Rattle.ring_words.proofs.read.head.load_at_head.Goals as goal
 
 pub returns : goal.returns
-returns c = λ claim rest has at len. body_is (ring c.args.capacity c.args.words.now) claim rest c.requires.ring has at c.load_body.new.body len (rw (c.word_index.ensures, c.requires.head) at c.load_body.ensures)
+returns c = λ claim rest has at len. body_is
+    (ring c.args.capacity c.args.words.now) claim rest c.requires.ring has at c.load_body.new.body len
+    (rw (c.word_index.ensures, c.requires.head) at c.load_body.ensures)

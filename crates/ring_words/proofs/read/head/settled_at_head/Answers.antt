@@ -10,8 +10,12 @@ returns-then-len-gt0 c = λ h has.
     let r : Ring = ring c.args.capacity c.args.words.now in
     let fits : FitsSigned w32 c.unpack_header-len.result.0 = search rules in
     let type_fits : FitsSigned w32 c.unpack_header-len.result.1 = search rules in
-    let len : to_z w32 (of_z w32 c.unpack_header-len.result.0) ≡ len_at r = to_z-of_z w32 c.unpack_header-len.result.0 fits ∙ rw (c.word_index.ensures, c.requires.head) at c.unpack_header-len.ensures.len in
-    let type_id : to_z w32 (of_z w32 c.unpack_header-len.result.1) ≡ type_at r = to_z-of_z w32 c.unpack_header-len.result.1 type_fits ∙ rw (c.word_index.ensures, c.requires.head) at c.unpack_header-len.ensures.type_id in
+    let len : to_z w32 (of_z w32 c.unpack_header-len.result.0) ≡ len_at r =
+    to_z-of_z w32 c.unpack_header-len.result.0 fits
+    ∙ rw (c.word_index.ensures, c.requires.head) at c.unpack_header-len.ensures.len in
+    let type_id : to_z w32 (of_z w32 c.unpack_header-len.result.1) ≡ type_at r =
+    to_z-of_z w32 c.unpack_header-len.result.1 type_fits
+    ∙ rw (c.word_index.ensures, c.requires.head) at c.unpack_header-len.ensures.type_id in
     let above = signed_above (pos 0) (len_at r) (rw len at c.if-len-gt0.true) in
     rw (len, type_id) (sees_some r h c.requires.ring has above)
 
@@ -19,5 +23,7 @@ pub returns-else-len-gt0 : goal.returns-else-len-gt0
 returns-else-len-gt0 c = λ h has.
     let r : Ring = ring c.args.capacity c.args.words.now in
     let fits : FitsSigned w32 c.unpack_header-len.result.0 = search rules in
-    let len : to_z w32 (of_z w32 c.unpack_header-len.result.0) ≡ len_at r = to_z-of_z w32 c.unpack_header-len.result.0 fits ∙ rw (c.word_index.ensures, c.requires.head) at c.unpack_header-len.ensures.len in
+    let len : to_z w32 (of_z w32 c.unpack_header-len.result.0) ≡ len_at r =
+    to_z-of_z w32 c.unpack_header-len.result.0 fits
+    ∙ rw (c.word_index.ensures, c.requires.head) at c.unpack_header-len.ensures.len in
     sees_blocked r h c.requires.ring has (signed_not_above (pos 0) (len_at r) (rw len at c.if-len-gt0.false))

@@ -12,13 +12,16 @@ pub returns-clause-claimed : goal.returns-clause-claimed
 returns-clause-claimed c =
     let C : ℕ = c.self.inside.capacity in
     let w = opened c.args.type_id c.args.len in
-    let stored = with_items_is c.self.inside.words c.append_claim.new.words (omega (arith, c.append_claim.auto.words, c.deref_mut.ensures.len)) in
-    let claims = rw (to_z-of_z w32 c.args.type_id c.ranges.type_id, c.deref_mut.ensures.value) at c.append_claim.ensures.claimed in
+    let stored = with_items_is c.self.inside.words c.append_claim.new.words
+    (omega (arith, c.append_claim.auto.words, c.deref_mut.ensures.len)) in
+    let claims = rw (to_z-of_z w32 c.args.type_id c.ranges.type_id, c.deref_mut.ensures.value) at
+    c.append_claim.ensures.claimed in
     let now = subst (λ (r : Ring). AppendsClaim r w (ring C c.append_claim.new.words)) c.self.view_is claims in
     subst (λ (ws : List ℕ). AppendsClaim c.args.self.now w (ring C ws)) (sym stored) now
 
 pub returns-clause-claims : goal.returns-clause-claims
-returns-clause-claims c = λ t o. appended_keeps c.args.self.now _ (opened c.args.type_id c.args.len) (returns-clause-claimed c) t o
+returns-clause-claims c =
+    λ t o. appended_keeps c.args.self.now _ (opened c.args.type_id c.args.len) (returns-clause-claimed c) t o
 
 pub returns-clause-is_open : goal.returns-clause-is_open
 returns-clause-is_open c =

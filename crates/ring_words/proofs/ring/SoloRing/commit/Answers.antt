@@ -8,5 +8,7 @@ pub returns-clause-others : goal.returns-clause-others
 returns-clause-others c = λ t o apart.
     let C : ℕ = c.self.inside.capacity in
     let is : ring C c.deref_mut.result.now ≡ c.args.self.now = ap (ring C) c.deref_mut.ensures.value ∙ c.self.view_is in
-    let stored = with_items_is c.self.inside.words c.settle.new.words (omega (arith, c.settle.auto.words, c.deref_mut.ensures.len)) in
-    subst (λ (ws : List ℕ). IsOpen (ring C ws) t) (sym stored) (c.settle.ensures.others t (subst (λ (r : Ring). IsOpen r t) (sym is) o) apart)
+    let stored = with_items_is c.self.inside.words c.settle.new.words
+    (omega (arith, c.settle.auto.words, c.deref_mut.ensures.len)) in
+    subst (λ (ws : List ℕ). IsOpen (ring C ws) t) (sym stored)
+    (c.settle.ensures.others t (subst (λ (r : Ring). IsOpen r t) (sym is) o) apart)

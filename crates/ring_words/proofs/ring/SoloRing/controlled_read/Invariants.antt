@@ -6,7 +6,9 @@ use Rattle.ring_words.proofs.ring.SoloRing.controlled_read.Given as goal
 
 -- what was read so far
 abbrev pub invariant-turns : goal.invariant-turns
-invariant-turns g l = ReadsOn g.H.Handler.step l.limit l.initial.self l.self l.initial.handler l.handler l.messages × (l.start ≡ head_of l.initial.self) × (l.messages ≤ l.limit) × g.H.Handler.ready l.handler × (l.head ≡ head_of l.self)
+invariant-turns g l = ReadsOn g.H.Handler.step l.limit l.initial.self l.self l.initial.handler l.handler l.messages
+    × (l.start ≡ head_of l.initial.self) × (l.messages ≤ l.limit) × g.H.Handler.ready l.handler
+    × (l.head ≡ head_of l.self)
 
 -- the bytes to the end of the buffer
 abbrev pub decreases-turns : goal.decreases-turns

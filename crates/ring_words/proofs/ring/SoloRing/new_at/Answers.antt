@@ -12,7 +12,9 @@ invariant_of-result c =
     let items : c.in_ok-words.words.items ≡ replicate (C / 8 + 96) 0 = search rules in
     let lawful = lawful_from C (sym c.is_capacity.ensures.test ∙ c.if-not-is_capacity.false) in
     let lap : start % C ≡ 0 = rw c.from.ensures at c.if-start-from-ne0.false in (
-      subst (λ (ws : List ℕ). IsRing (ring C (slice_set (slice_set (slice_set ws (tail_index C) start) (head_cache_index C) start) (head_index C) start)))
+      subst (λ (ws : List ℕ). IsRing
+          (ring C (slice_set (slice_set (slice_set ws (tail_index C) start) (head_cache_index C) start)
+          (head_index C) start)))
           (sym items)
           (is_ring_fresh C start lawful lap (omega arith)),
       search rules,

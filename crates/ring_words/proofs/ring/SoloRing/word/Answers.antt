@@ -5,5 +5,6 @@ use Rattle.ring_words.proofs.ring.SoloRing.word.Goals as goal
 
 pub returns : goal.returns
 returns c =
-    let same : c.deref.result.now ≡ c.args.self.now.words = c.deref.ensures.value ∙ ap (λ (r : Ring). r.words) c.self.view_is in
+    let same : c.deref.result.now ≡ c.args.self.now.words =
+    c.deref.ensures.value ∙ ap (λ (r : Ring). r.words) c.self.view_is in
     rw (sym same) (search (rules, gets))

@@ -10,7 +10,13 @@ use Rattle.ring_words.proofs.write.append.append_claim.Goals as goal
 
 pub store_headers-requires-clause-order : goal.store_headers-requires-clause-order
 store_headers-requires-clause-order c =
-    omega (arith, c.requires.tail, c.requires.admitted.is_place, next_le c.args.capacity (tail_of (ring c.args.capacity c.args.words.now)) (span c.args.len))
+    omega (
+      arith,
+      c.requires.tail,
+      c.requires.admitted.is_place,
+      next_le c.args.capacity
+          (tail_of (ring c.args.capacity c.args.words.now)) (span c.args.len),
+    )
 
 pub returns : goal.returns
 returns c =
@@ -19,11 +25,14 @@ returns c =
     let place : ℕ = c.args.admission.place in
     let end : ℕ = c.args.admission.end in
     let ok = c.requires.ring in
-    let lawful = opened_lawful c.args.capacity c.args.type_id c.args.len c.requires.type_id c.ranges.type_id c.requires.admitted.short in
+    let lawful = opened_lawful c.args.capacity c.args.type_id c.args.len c.requires.type_id c.ranges.type_id
+    c.requires.admitted.short in
     let word : c.open_header.result ≡ header_of claim =
     c.open_header.ensures ∙ opened_header c.args.type_id c.args.len c.ranges.type_id in
     let admitted = rw (sym (length-opened c.args.type_id c.args.len)) at c.requires.admitted in
-    let words = c.store_headers.ensures ∙ headed_is r claim place end ok lawful admitted c.args.admission.tail c.open_header.result c.requires.tail word in
+    let words = c.store_headers.ensures ∙ headed_is r claim place end ok lawful admitted c.args.admission.tail
+    c.open_header.result c.requires.tail word in
     let both = appended_empty r claim place end ok lawful admitted (λ k. zero_words c.args.len k) in
-    let now = subst (λ (ws : List ℕ). AppendsClaim r claim (ring r.capacity (slice_set ws (tail_index r.capacity) end)) × IsRing (ring r.capacity (slice_set ws (tail_index r.capacity) end))) (sym words) both in
+    let now = subst (λ (ws : List ℕ). AppendsClaim r claim (ring r.capacity (slice_set ws (tail_index r.capacity) end))
+    × IsRing (ring r.capacity (slice_set ws (tail_index r.capacity) end))) (sym words) both in
     record { claimed = now.0; ring = now.1 }

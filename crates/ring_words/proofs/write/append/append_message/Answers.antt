@@ -11,7 +11,13 @@ use Rattle.ring_words.proofs.write.append.append_message.Goals as goal
 
 pub store_headers-requires-clause-order : goal.store_headers-requires-clause-order
 store_headers-requires-clause-order c =
-    omega (arith, c.requires.tail, c.requires.admitted.is_place, next_le c.args.capacity (tail_of (ring c.args.capacity c.args.words.now)) (span (length c.args.body.now)))
+    omega (
+      arith,
+      c.requires.tail,
+      c.requires.admitted.is_place,
+      next_le c.args.capacity
+          (tail_of (ring c.args.capacity c.args.words.now)) (span (length c.args.body.now)),
+    )
 
 pub store_body-requires : goal.store_body-requires
 store_body-requires c =
@@ -21,7 +27,8 @@ store_body-requires c =
     let place : ℕ = c.args.admission.place in
     let end : ℕ = c.args.admission.end in
     let ok = c.requires.ring in
-    let lawful = written_lawful c.args.capacity c.args.type_id body c.requires.type_id c.ranges.type_id c.requires.admitted.short (λ k. omega (arith, c.type_inv.body k)) in
+    let lawful = written_lawful c.args.capacity c.args.type_id body c.requires.type_id c.ranges.type_id
+    c.requires.admitted.short (λ k. omega (arith, c.type_inv.body k)) in
     let within = inside r claim place end ok lawful c.requires.admitted in
     omega (arith, c.word_index-at.ensures, within, c.store_headers.auto.words, ok.length)
 
@@ -33,10 +40,14 @@ returns c =
     let place : ℕ = c.args.admission.place in
     let end : ℕ = c.args.admission.end in
     let ok = c.requires.ring in
-    let lawful = written_lawful c.args.capacity c.args.type_id body c.requires.type_id c.ranges.type_id c.requires.admitted.short (λ k. omega (arith, c.type_inv.body k)) in
+    let lawful = written_lawful c.args.capacity c.args.type_id body c.requires.type_id c.ranges.type_id
+    c.requires.admitted.short (λ k. omega (arith, c.type_inv.body k)) in
     let word : c.committed_header-header.result ≡ header_of claim =
-    c.committed_header-header.ensures ∙ ap (λ t. committed_header t (length body)) (to_z-of_z w32 c.args.type_id c.ranges.type_id) in
-    let words = c.store_headers.ensures ∙ headed_is r claim place end ok lawful c.requires.admitted c.args.admission.tail c.committed_header-header.result c.requires.tail word in
+    c.committed_header-header.ensures ∙ ap (λ t. committed_header t (length body))
+    (to_z-of_z w32 c.args.type_id c.ranges.type_id) in
+    let words = c.store_headers.ensures ∙ headed_is r claim place end ok lawful c.requires.admitted
+    c.args.admission.tail c.committed_header-header.result c.requires.tail word in
     let stored = rw (c.word_index-at.ensures, words) at c.store_body.ensures in
-    let both = appended_with r claim place end ok lawful c.requires.admitted c.store_body.new.words (c.store_body.auto.words ∙ ap length words) stored.inside stored.below stored.above in
+    let both = appended_with r claim place end ok lawful c.requires.admitted c.store_body.new.words
+    (c.store_body.auto.words ∙ ap length words) stored.inside stored.below stored.above in
     record { claimed = both.0; ring = both.1 }

@@ -9,9 +9,11 @@ inside C i p n cap same le = omega (arith, same, mod_below p C (omega (arith, ca
 
 pub bounds-words-word_index : goal.bounds-words-word_index
 bounds-words-word_index c =
-    inside c.args.capacity c.word_index.result c.args.admission.tail (length c.args.words.now) c.requires.capacity c.word_index.ensures c.requires.room
+    inside c.args.capacity c.word_index.result c.args.admission.tail
+    (length c.args.words.now) c.requires.capacity c.word_index.ensures c.requires.room
 
 pub bounds-words-word_index-2 : goal.bounds-words-word_index-2
 bounds-words-word_index-2 c =
-    inside c.args.capacity c.word_index-2.result c.args.admission.place (length c.if-place-tail.words) c.requires.capacity c.word_index-2.ensures
+    inside c.args.capacity c.word_index-2.result c.args.admission.place
+    (length c.if-place-tail.words) c.requires.capacity c.word_index-2.ensures
     (omega (arith, c.requires.room, c.if-place-tail.auto.words))

@@ -18,15 +18,21 @@ returns c =
     let t : ClaimAt = c.args.claim.now in
     let ok = c.requires.ring in
     let word = c.settled_header-header.result in
-    let at : c.index.result / 8 - 1 ≡ index c.args.capacity t.place = omega (arith, c.index.ensures, c.requires.claim.index) in
+    let at : c.index.result / 8 - 1 ≡ index c.args.capacity t.place =
+    omega (arith, c.index.ensures, c.requires.claim.index) in
     let w = settle_rewrites r t c.args.state word ok c.settled_header-header.ensures in
     let f = settled_as c.args.state in
     let new : List ℕ = slice_set c.args.words.now (index c.args.capacity t.place) word in
-    let words : slice_set c.args.words.now (c.index.result / 8 - 1) word ≡ new = ap (λ i. slice_set c.args.words.now i word) at in
+    let words : slice_set c.args.words.now (c.index.result / 8 - 1) word ≡ new =
+    ap (λ i. slice_set c.args.words.now i word) at in
     record {
-      settled = subst (λ (ws : List ℕ). ChangesClaim r t.place f (ring c.args.capacity ws)) (sym words) (changes r t f new ok c.requires.claim w);
-      ring = subst (λ (ws : List ℕ). IsRing (ring c.args.capacity ws)) (sym words) (is_ring_changed r t f new ok c.requires.claim w);
+      settled = subst (λ (ws : List ℕ). ChangesClaim r t.place f (ring c.args.capacity ws)) (sym words)
+          (changes r t f new ok c.requires.claim w);
+      ring = subst (λ (ws : List ℕ). IsRing (ring c.args.capacity ws)) (sym words)
+          (is_ring_changed r t f new ok c.requires.claim w);
       others = λ d o ne.
           subst (λ (ws : List ℕ). IsOpen (ring c.args.capacity ws) d) (sym words)
-          (stays r t f new ok c.requires.claim w d (λ x e len here claim. settled_stays c.args.capacity t.place c.args.state d ne x e _ here claim.at_place) o);
+          (stays r t f new ok c.requires.claim w d
+          (λ x e len here claim. settled_stays c.args.capacity t.place c.args.state d ne x e _ here claim.at_place)
+          o);
     }

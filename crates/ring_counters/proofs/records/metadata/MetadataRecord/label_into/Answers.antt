@@ -17,5 +17,11 @@ returns-clause-label c =
     let known = metadata_known _ _ c.self.view_is c.self.invariant in
     let label = c.args.self.now.label in
     ext_get_or 0 _ _
-    (omega (arith, known.lawful.label_length, length-append label (replicate (380 - length label) 0), length-replicate {A = ℕ} (380 - length label) 0))
+    (omega (
+      arith,
+      known.lawful.label_length,
+      length-append label
+          (replicate (380 - length label) 0),
+      length-replicate {A = ℕ} (380 - length label) 0,
+    ))
     (λ k h. c.load_bytes.ensures k h ∙ label_byte _ _ known k (omega arith) ∙ slice_index-padded 380 label k)

@@ -6,10 +6,14 @@ use Rattle.ring_counters.proofs.records.metadata.MetadataRecord.reclaim.Goals as
 
 pub invariant_of-self : goal.invariant_of-self
 invariant_of-self c =
-    let known = metadata_known _ _ c.self.view_is c.self.invariant in
-    (_, reclaimed_shown _ _ _ _ known c.self.told (c.pack_state.ensures ∙ ap (state_word (negsuc 0)) (signed w32 _ _ c.type_id.ensures known.lawful.type_id)))
+    let known = metadata_known _ _ c.self.view_is c.self.invariant in (
+      _,
+      reclaimed_shown _ _ _ _ known c.self.told
+          (c.pack_state.ensures ∙ ap (state_word (negsuc 0)) (signed w32 _ _ c.type_id.ensures known.lawful.type_id)),
+    )
 
 pub returns : goal.returns
 returns c =
     let known = metadata_known _ _ c.self.view_is c.self.invariant in
-    metadata_decoded _ _ (reclaimed_shown _ _ _ _ known c.self.told (c.pack_state.ensures ∙ ap (state_word (negsuc 0)) (signed w32 _ _ c.type_id.ensures known.lawful.type_id)))
+    metadata_decoded _ _ (reclaimed_shown _ _ _ _ known c.self.told
+    (c.pack_state.ensures ∙ ap (state_word (negsuc 0)) (signed w32 _ _ c.type_id.ensures known.lawful.type_id)))

@@ -7,4 +7,5 @@ use Rattle.ring_counters.proofs.records.metadata.MetadataRecord.state.Goals as g
 pub returns : goal.returns
 returns c =
     let known = metadata_known _ _ c.self.view_is c.self.invariant in
-    signed w32 _ _ (c.cast_signed.ensures ∙ ap (cast_signed w32) (and_mask _ 32) ∙ state_decoded _ _ known) (state_fits _)
+    signed w32 _ _ (c.cast_signed.ensures ∙ ap (cast_signed w32) (and_mask _ 32) ∙ state_decoded _ _ known)
+    (state_fits _)

@@ -3,5 +3,9 @@ use Rattle.ring_counters.proofs.ValueSteps.{splits}
 use Rattle.ring_counters.proofs.values.seats.CounterValues.split.Goals as goal
 
 pub split_seat-seat-requires : goal.split_seat-seat-requires
-split_seat-seat-requires c =
-    (c.requires, (let h = c.args.self.now.counts in let k = c.args.self.now.some in omega arith), splits _ _ _ (let h = c.args.writer.now.counted in omega arith))
+split_seat-seat-requires c = (
+  c.requires,
+  (let h = c.args.self.now.counts in let k = c.args.self.now.some in omega arith),
+  splits _ _ _
+      (let h = c.args.writer.now.counted in omega arith),
+)

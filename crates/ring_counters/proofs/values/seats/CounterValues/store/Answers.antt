@@ -8,8 +8,10 @@ pub store-requires : goal.store-requires
 store-requires c =
     let fits = c.ranges.value in
     let value : cast_signed w64 c.cast_unsigned.result ≡ c.args.value =
-    ap (cast_signed w64) (c.cast_unsigned.ensures ∙ ap (cast_unsigned w64) (to_z-of_z w64 c.args.value fits)) ∙ to_z-of_z w64 c.args.value fits in (
+    ap (cast_signed w64) (c.cast_unsigned.ensures ∙ ap (cast_unsigned w64) (to_z-of_z w64 c.args.value fits))
+    ∙ to_z-of_z w64 c.args.value fits in (
       c.requires.writer,
       (let h = c.args.self.now.counts in let k = c.requires.id in omega arith),
-      stores _ _ _ _ _ _ _ c.requires.id (omega arith) (subst (FitsSigned w64) (sym value) fits) c.args.writer.now.writes,
+      stores _ _ _ _ _ _ _ c.requires.id (omega arith)
+          (subst (FitsSigned w64) (sym value) fits) c.args.writer.now.writes,
     )

@@ -17,18 +17,37 @@ invariant_of-producer-2 c =
     let told = c.in_ok-admission.ensures.told in
     record {
       known = made_matches _ _ _ _ _ _ _ _ told p.shares p.open_claims p.own_tail p.known;
-      produces = (ap (λ (v : View). v.consumes) told.view ∙ p.produces.0, c.in_ok-admission.ensures.seat.slots ∙ p.produces.1);
+      produces = (
+        ap (λ (v : View). v.consumes) told.view ∙ p.produces.0,
+        c.in_ok-admission.ensures.seat.slots
+            ∙ p.produces.1,
+      );
     }
 
 pub returns-clause-is_open : goal.returns-clause-is_open
 returns-clause-is_open c =
     let told = c.in_ok-admission.ensures.told in
-    rw c.new.ensures record { index = refl; message = told.admitted.message; limit = (let lies = told.admitted.place in let ends = told.admitted.limit in omega arith); claim = made_open _ _ _ _ _ _ _ _ told }
+    rw c.new.ensures record {
+      index = refl;
+      message = told.admitted.message;
+      limit =
+          (let lies = told.admitted.place in let ends = told.admitted.limit in omega arith);
+      claim =
+          made_open _ _ _ _ _ _ _ _ told;
+    }
 
 pub returns-clause-claims : goal.returns-clause-claims
 returns-clause-claims c t h =
     let told = c.in_ok-admission.ensures.told in
-    record { index = h.index; message = h.message; limit = h.limit; claim = has_more c.args.producer.now.seat.me.0 c.claim_alone.new.seat.me.0 _ t.place (IsOpen t.type_id t.len) (made_claims _ _ _ _ _ _ _ _ told) h.claim }
+    record {
+      index = h.index;
+      message = h.message;
+      limit = h.limit;
+      claim =
+          has_more c.args.producer.now.seat.me.0 c.claim_alone.new.seat.me.0 _ t.place (IsOpen t.type_id t.len)
+          (made_claims _ _ _ _ _ _ _ _ told) h.claim;
+    }
 
 pub returns-clause-apart : goal.returns-clause-apart
-returns-clause-apart c t h same = made_apart _ _ _ _ _ _ _ _ c.in_ok-admission.ensures.told t.place (IsOpen t.type_id t.len) h.claim (same ∙ ap (λ (r : ClaimAt). r.place) c.new.ensures)
+returns-clause-apart c t h same = made_apart _ _ _ _ _ _ _ _ c.in_ok-admission.ensures.told t.place
+    (IsOpen t.type_id t.len) h.claim (same ∙ ap (λ (r : ClaimAt). r.place) c.new.ensures)

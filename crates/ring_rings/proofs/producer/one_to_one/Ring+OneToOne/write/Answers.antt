@@ -10,12 +10,24 @@ invariant_of-producer-2 c =
     let told = c.in_ok-admission.ensures.told in
     let stored = c.store_message.ensures.stored _ _ (just_made _ _ _ _ _ _ _ _ told) in
     record {
-      known = written_matches _ _ _ _ _ _ _ _ told c.args.body.now refl c.store_message.new.seat.me.0 stored p.shares p.open_claims p.own_tail p.known;
-      produces = (ap (λ (v : View). v.consumes) stored ∙ ap (λ (v : View). v.consumes) told.view ∙ p.produces.0, c.store_message.ensures.seat.slots ∙ c.in_ok-admission.ensures.seat.slots ∙ p.produces.1);
+      known = written_matches _ _ _ _ _ _ _ _ told c.args.body.now refl c.store_message.new.seat.me.0 stored p.shares
+          p.open_claims p.own_tail p.known;
+      produces = (
+        ap (λ (v : View). v.consumes) stored ∙ ap (λ (v : View). v.consumes) told.view
+            ∙ p.produces.0,
+        c.store_message.ensures.seat.slots ∙ c.in_ok-admission.ensures.seat.slots ∙ p.produces.1,
+      );
     }
 
 pub returns-clause-claims : goal.returns-clause-claims
 returns-clause-claims c t h =
     let told = c.in_ok-admission.ensures.told in
     let stored = c.store_message.ensures.stored _ _ (just_made _ _ _ _ _ _ _ _ told) in
-    record { index = h.index; message = h.message; limit = h.limit; claim = has_more c.args.producer.now.seat.me.0 c.store_message.new.seat.me.0 _ t.place (IsOpen t.type_id t.len) (written_claims _ _ _ _ _ _ _ _ told c.args.body.now refl c.store_message.new.seat.me.0 stored) h.claim }
+    record {
+      index = h.index;
+      message = h.message;
+      limit = h.limit;
+      claim =
+          has_more c.args.producer.now.seat.me.0 c.store_message.new.seat.me.0 _ t.place (IsOpen t.type_id t.len)
+          (written_claims _ _ _ _ _ _ _ _ told c.args.body.now refl c.store_message.new.seat.me.0 stored) h.claim;
+    }

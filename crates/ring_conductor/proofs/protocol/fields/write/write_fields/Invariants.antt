@@ -1,8 +1,0 @@
-use Rattle.std.proofs.Common.{◌≡◌, length, take}
-use Rattle.std.specs.List.{flat_map}
-use Rattle.ring_conductor.specs.Writing.{over_start}
-use Rattle.ring_conductor.proofs.protocol.fields.write.write_fields.Given as goal
-
-abbrev pub invariant-loop-field : goal.invariant-loop-field
-invariant-loop-field l = (l.end ≡ length (flat_map (λ field. field.now) (take l.field-index l.fields)))
-    × (l.out ≡ over_start (flat_map (λ field. field.now) (take l.field-index l.fields)) l.fn.out)

@@ -1,0 +1,150 @@
+//! Why commands are refused, and the numbers that replies give for that.
+
+ghost use Rattle.std.specs.Prelude.{◌≡◌};
+ghost use Rattle.ring_protocol.specs.Codes.{IsNamed, bad_code, bad_correlation, number_of};
+ghost use Rattle.ring_protocol.specs.Codes.{of_allocate, of_bad, of_bad_owner, of_id};
+
+use crate::fault::Bad;
+use ring_counters::{AllocateRefused, BadOwner, IdFault};
+use std::fmt;
+use thiserror::Error;
+
+/// Why the conductor refused a command. It stands in `Reply::Refused` by its number, from which `try_from` makes it
+/// again.
+#[derive(Clone, Copy, Debug, PartialEq, Eq)]
+pub enum RefusalCode {
+    /// The key has more than 112 bytes.
+    KeyTooLong,
+    /// The label has more than 380 bytes.
+    LabelTooLong,
+    /// The label has a byte of 128 or more.
+    LabelNotAscii,
+    /// Every id was used, and none that was freed is due.
+    NoFreeCounter,
+    /// The id is not below the number of counters.
+    BadId,
+    /// No counter with the id is in use.
+    NotAllocated,
+    /// The type id is a command's, and the body is no spelling of its kind.
+    Malformed,
+    /// No command has the type id.
+    UnknownType,
+    /// The owner is 0, which stands for none.
+    BadOwner,
+}
+
+/// A number that no refusal has.
+#[derive(Clone, Copy, Debug, PartialEq, Eq, Error)]
+#[error("no refusal has the number {number}")]
+pub struct UnknownCode {
+    pub number: i32,
+}
+
+impl RefusalCode {
+    /// The number that a reply gives for it.
+    pub fn number(self) -> i32
+        ensures { result ≡ number_of self }
+    {
+        match self {
+            RefusalCode::KeyTooLong => 16,
+            RefusalCode::LabelTooLong => 17,
+            RefusalCode::LabelNotAscii => 18,
+            RefusalCode::NoFreeCounter => 19,
+            RefusalCode::BadId => 20,
+            RefusalCode::NotAllocated => 21,
+            RefusalCode::Malformed => 22,
+            RefusalCode::UnknownType => 23,
+            RefusalCode::BadOwner => 28,
+        }
+    }
+}
+
+/// The number and the name, as `16 KeyTooLong`.
+impl fmt::Display for RefusalCode {
+    fn fmt<W: fmt::Write>(&self, f: &mut fmt::Formatter<W>) -> fmt::Result {
+        write!(f, "{} {:?}", self.number(), self)
+    }
+}
+
+/// `UnknownCode` comes where no refusal has the number.
+impl TryFrom<i32> for RefusalCode {
+    type Error = UnknownCode;
+
+    ghost try_from_gives = { IsNamed };
+
+    fn try_from(number: i32) -> Result<Self, UnknownCode> {
+        match number {
+            16 => Ok(RefusalCode::KeyTooLong),
+            17 => Ok(RefusalCode::LabelTooLong),
+            18 => Ok(RefusalCode::LabelNotAscii),
+            19 => Ok(RefusalCode::NoFreeCounter),
+            20 => Ok(RefusalCode::BadId),
+            21 => Ok(RefusalCode::NotAllocated),
+            22 => Ok(RefusalCode::Malformed),
+            23 => Ok(RefusalCode::UnknownType),
+            28 => Ok(RefusalCode::BadOwner),
+            _ => Err(UnknownCode { number }),
+        }
+    }
+}
+
+impl From<AllocateRefused> for RefusalCode {
+    ghost from_gives = { λ fault code. code ≡ of_allocate fault };
+
+    fn from(fault: AllocateRefused) -> Self {
+        match fault {
+            AllocateRefused::KeyTooLong => RefusalCode::KeyTooLong,
+            AllocateRefused::LabelTooLong => RefusalCode::LabelTooLong,
+            AllocateRefused::LabelNotAscii => RefusalCode::LabelNotAscii,
+            AllocateRefused::NoFreeCounter => RefusalCode::NoFreeCounter,
+        }
+    }
+}
+
+impl From<IdFault> for RefusalCode {
+    ghost from_gives = { λ fault code. code ≡ of_id fault };
+
+    fn from(fault: IdFault) -> Self {
+        match fault {
+            IdFault::BadId => RefusalCode::BadId,
+            IdFault::NotAllocated => RefusalCode::NotAllocated,
+        }
+    }
+}
+
+impl From<BadOwner> for RefusalCode {
+    ghost from_gives = { λ _ code. code ≡ of_bad_owner };
+
+    fn from(_fault: BadOwner) -> Self {
+        RefusalCode::BadOwner
+    }
+}
+
+impl From<Bad> for RefusalCode {
+    ghost from_gives = { λ fault code. code ≡ of_bad fault };
+
+    fn from(fault: Bad) -> Self {
+        match fault {
+            Bad::Malformed { .. } => RefusalCode::Malformed,
+            Bad::UnknownType { .. } => RefusalCode::UnknownType,
+        }
+    }
+}
+
+impl Bad {
+    /// The number of the fault.
+    pub fn code(self) -> i32
+        ensures { result ≡ bad_code self }
+    {
+        RefusalCode::from(self).number()
+    }
+
+    /// The correlation id of the reply.
+    pub fn correlation(self) -> u64
+        ensures { result ≡ bad_correlation self }
+    {
+        match self {
+            Bad::Malformed { correlation } | Bad::UnknownType { correlation } => correlation,
+        }
+    }
+}

@@ -1,0 +1,110 @@
+//! Commands as bytes.
+
+ghost use Rattle.ring_protocol.specs.Command.{content_of, Allocate, Free, Set, AllocateOwned, Close};
+ghost use Rattle.ring_protocol.specs.Writing.{Encodes};
+
+use super::Command;
+use crate::fields::write::{len_field, write_fields};
+
+fn allocate(
+    out: &mut [u8],
+    correlation: u64,
+    type_id: i32,
+    key: &[u8],
+    label: &[u8],
+) -> Option<usize>
+    ensures { Encodes (Allocate correlation type_id key.now label.now) out.old out.new result }
+{
+    write_fields(
+        out,
+        &[
+            &correlation.to_le_bytes(),
+            &type_id.to_le_bytes(),
+            &len_field(key)?,
+            key,
+            &len_field(label)?,
+            label,
+        ],
+    )
+}
+
+fn free(out: &mut [u8], correlation: u64, id: u32) -> Option<usize>
+    ensures { Encodes (Free correlation id) out.old out.new result }
+{
+    write_fields(out, &[&correlation.to_le_bytes(), &id.to_le_bytes()])
+}
+
+fn set(out: &mut [u8], correlation: u64, id: u32, value: i64) -> Option<usize>
+    ensures { Encodes (Set correlation id value) out.old out.new result }
+{
+    write_fields(
+        out,
+        &[
+            &correlation.to_le_bytes(),
+            &id.to_le_bytes(),
+            &value.to_le_bytes(),
+        ],
+    )
+}
+
+fn allocate_owned(
+    out: &mut [u8],
+    correlation: u64,
+    type_id: i32,
+    owner: u64,
+    key: &[u8],
+    label: &[u8],
+) -> Option<usize>
+    ensures { Encodes (AllocateOwned correlation type_id owner key.now label.now) out.old out.new result }
+{
+    write_fields(
+        out,
+        &[
+            &correlation.to_le_bytes(),
+            &type_id.to_le_bytes(),
+            &owner.to_le_bytes(),
+            &len_field(key)?,
+            key,
+            &len_field(label)?,
+            label,
+        ],
+    )
+}
+
+fn close(out: &mut [u8], correlation: u64, owner: u64) -> Option<usize>
+    ensures { Encodes (Close correlation owner) out.old out.new result }
+{
+    write_fields(out, &[&correlation.to_le_bytes(), &owner.to_le_bytes()])
+}
+
+/// Writes the one spelling of the command over the start of the output, and says how many bytes it takes. The rest of
+/// the output is unchanged.
+///
+/// Answers `None`, and writes nothing, where the spelling does not fit, or where the key or the label is longer than
+/// 2^32 - 1 bytes.
+pub fn encode_command(command: &Command, out: &mut [u8]) -> Option<usize>
+    ensures { Encodes (content_of command.now) out.old out.new result }
+{
+    match *command {
+        Command::Allocate {
+            correlation,
+            type_id,
+            key,
+            label,
+        } => { allocate(out, correlation, type_id, key, label) }
+        Command::Free { correlation, id } => free(out, correlation, id),
+        Command::Set {
+            correlation,
+            id,
+            value,
+        } => set(out, correlation, id, value),
+        Command::AllocateOwned {
+            correlation,
+            type_id,
+            owner,
+            key,
+            label,
+        } => { allocate_owned(out, correlation, type_id, owner, key, label) }
+        Command::Close { correlation, owner } => close(out, correlation, owner),
+    }
+}

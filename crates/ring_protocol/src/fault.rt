@@ -1,0 +1,36 @@
+//! Why bytes are no message of the protocol.
+
+ghost use Rattle.std.specs.Prelude.{◌≡◌};
+ghost use Rattle.ring_protocol.specs.Bad.{correlation_of};
+
+use crate::codes::RefusalCode;
+use crate::fields::read::take_u64;
+use std::error::Error;
+use std::fmt;
+
+/// Why a type id and a body spell nothing. The correlation is that of the reply: the first 8 bytes of the body, or
+/// `u64::MAX` where it is shorter.
+#[derive(Clone, Copy, Debug, PartialEq, Eq)]
+pub enum Bad {
+    /// The type id is known, and the body is no spelling of its kind.
+    Malformed { correlation: u64 },
+    /// The type id is not known.
+    UnknownType { correlation: u64 },
+}
+
+/// The number and the name of the refusal.
+impl fmt::Display for Bad {
+    fn fmt<W: fmt::Write>(&self, f: &mut fmt::Formatter<W>) -> fmt::Result {
+        write!(f, "{}", RefusalCode::from(*self))
+    }
+}
+
+impl Error for Bad {}
+
+/// The correlation of the reply to a body that spells nothing.
+#[tactic(auto, unfolding(crate::specs::Bad::correlation_of, crate::specs::Field::u64_at))]
+pub fn correlation_in(body: &[u8]) -> u64
+    ensures { result ≡ correlation_of body.now }
+{
+    take_u64(body).map_or(u64::MAX, |(correlation, _)| correlation)
+}

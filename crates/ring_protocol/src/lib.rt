@@ -1,0 +1,19 @@
+//! Commands and replies, and how they are spelled as bytes and read again.
+#![tactic(auto)]
+
+mod codes;
+mod command;
+mod fault;
+mod fields;
+mod laws;
+mod reply;
+
+pub use codes::{RefusalCode, UnknownCode};
+pub use command::decode::decode_command;
+pub use command::encode::encode_command;
+pub use command::{Command, LONGEST_COMMAND, type_ids as command_type_ids};
+pub use fault::Bad;
+pub use laws::{command_round_trip, longest_command, one_command, one_reply, reply_round_trip};
+pub use reply::decode::decode_reply;
+pub use reply::encode::encode_reply;
+pub use reply::{LONGEST_REPLY, Reply, type_ids as reply_type_ids};

@@ -1,0 +1,75 @@
+//! What the conductor answers.
+
+pub mod decode;
+pub mod encode;
+
+/// The type ids of replies.
+pub mod type_ids {
+    /// The type id of `Reply::Allocated`.
+    pub const ALLOCATED: i32 = 101;
+
+    /// The type id of `Reply::Done`.
+    pub const DONE: i32 = 102;
+
+    /// The type id of `Reply::Refused`.
+    pub const REFUSED: i32 = 103;
+
+    /// The type id of `Reply::Closed`.
+    pub const CLOSED: i32 = 104;
+}
+
+/// The bytes of the longest reply.
+pub const LONGEST_REPLY: usize = 12;
+
+/// The reply to the command with the same correlation id.
+#[derive(Clone, Copy, Debug, PartialEq, Eq)]
+pub enum Reply {
+    /// A counter was made, and this is its id.
+    Allocated { correlation: u64, id: u32 },
+    /// The counter was freed or set.
+    Done { correlation: u64 },
+    /// Nothing was done, for the reason with this number: see `RefusalCode`.
+    Refused { correlation: u64, code: i32 },
+    /// So many counters of the owner were freed.
+    Closed { correlation: u64, freed: u32 },
+}
+
+impl Reply {
+    ghost use Rattle.std.specs.Prelude.{◌≡◌, length};
+    ghost use Rattle.ring_protocol.specs.Reply.{correlation_id_of, spelling_of, type_id_of};
+
+    /// The type id of the message that spells the reply.
+    pub fn type_id(&self) -> i32
+        ensures { result ≡ type_id_of self.now }
+    {
+        match self {
+            Reply::Allocated { .. } => type_ids::ALLOCATED,
+            Reply::Done { .. } => type_ids::DONE,
+            Reply::Refused { .. } => type_ids::REFUSED,
+            Reply::Closed { .. } => type_ids::CLOSED,
+        }
+    }
+
+    /// The correlation id of the command that it answers.
+    pub fn correlation(&self) -> u64
+        ensures { result ≡ correlation_id_of self.now }
+    {
+        match *self {
+            Reply::Allocated { correlation, .. } => correlation,
+            Reply::Done { correlation } => correlation,
+            Reply::Refused { correlation, .. } => correlation,
+            Reply::Closed { correlation, .. } => correlation,
+        }
+    }
+
+    /// How many bytes its spelling takes: 8 for a `Done`, and else 12.
+    #[tactic(auto, unfolding(crate::specs::Field::u32_field, crate::specs::Field::u64_field, crate::specs::Field::i32_field))]
+    pub fn encoded_len(&self) -> usize
+        ensures { result ≡ length (spelling_of self.now) }
+    {
+        match self {
+            Reply::Done { .. } => 8,
+            Reply::Allocated { .. } | Reply::Refused { .. } | Reply::Closed { .. } => LONGEST_REPLY,
+        }
+    }
+}
