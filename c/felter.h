@@ -165,6 +165,7 @@ int32_t felter_counter_find(felter_counters *counters, int32_t type_id, uint64_t
 int32_t felter_counters_count(felter_counters *counters, uint32_t *count);
 /* Frees each counter of an owner, and says how many. FELTER_BAD_OWNER, FELTER_BAD_MOMENT. */
 int32_t felter_counters_close_owner(felter_counters *counters, uint64_t now, uint64_t owner, uint32_t *freed);
+
 #ifdef __cplusplus
 }
 #endif

@@ -1,4 +1,4 @@
-"""Rings for the threads of one process, by ctypes alone.
+"""Rings and counters for the threads of one process, by ctypes alone.
 
     producer, consumer = felter.many_to_one(65536)
     producer.write(7, b"hello")
@@ -7,7 +7,8 @@
 
 The library is `libfelter.so` in the folder that FELTER_DIR names, or else in this repository's `c/out`, where `c/build`
 puts it. Nothing waits: reads answer None where nothing is there, and a full ring or a faster producer is an exception
-(`Error`, whose `is_passing` is then true). Capacities, lengths and positions are bytes.
+(`Error`, whose `is_passing` is then true). Capacities, lengths and positions are bytes; moments are milliseconds by a
+clock of the caller.
 
 A handle may be used by any thread: a lock in each lets one call at a time work on it. Handles are context managers, and
 free what they own at the end. This module is tested and not proved; that handles of two rings are not mixed is compared
@@ -36,6 +37,14 @@ class Number(enum.IntEnum):
     CONTENDED = 8
     PUT_RANGE = 9
     NO_SHARES = 12
+    BAD_COUNT = 15
+    KEY_TOO_LONG = 16
+    LABEL_TOO_LONG = 17
+    LABEL_NOT_ASCII = 18
+    NO_FREE_COUNTER = 19
+    BAD_ID = 20
+    NOT_ALLOCATED = 21
+    BAD_OWNER = 28
     NO_HANDLE = 100
     WRONG_HANDLE = 101
     HANDLE_IN_USE = 102
@@ -43,6 +52,7 @@ class Number(enum.IntEnum):
     NO_CLAIM = 104
     NO_MESSAGE = 105
     SHORT_BUFFER = 106
+    BAD_MOMENT = 107
     OTHER_RING = 108
 
 
@@ -93,6 +103,7 @@ def _whole(kind, bits, is_signed):
 _TYPES = {
     "i32": _whole(ctypes.c_int32, 32, True),
     "u32": _whole(ctypes.c_uint32, 32, False),
+    "i64": _whole(ctypes.c_int64, 64, True),
     "u64": _whole(ctypes.c_uint64, 64, False),
     "usize": _whole(ctypes.c_size_t, 64, False),
     "*Handle": ctypes.POINTER(_Handle),
@@ -100,6 +111,7 @@ _TYPES = {
     "*u8": ctypes.c_void_p,
     "*i32": ctypes.POINTER(ctypes.c_int32),
     "*u32": ctypes.POINTER(ctypes.c_uint32),
+    "*i64": ctypes.POINTER(ctypes.c_int64),
     "*u64": ctypes.POINTER(ctypes.c_uint64),
     "*usize": ctypes.POINTER(ctypes.c_size_t),
 }
@@ -122,6 +134,18 @@ felter_heartbeat *Handle *u64
 felter_set_heartbeat *Handle u64
 felter_shares *Handle *u32
 felter_read *Handle *i32 *usize *u8 usize
+felter_counters_new u32 u32 *Handle
+felter_counter_allocate_owned *Handle u64 i32 bytes usize bytes usize u64 u64 *u32
+felter_counter_free *Handle u64 u32
+felter_counter_set *Handle u32 i64
+felter_counter_add *Handle u32 i64 *i64
+felter_counter_value *Handle u32 *i64
+felter_counter_type_id *Handle u32 *i32
+felter_counter_registration *Handle u32 *u64
+felter_counter_owner *Handle u32 *u64
+felter_counter_find *Handle i32 u64 *u32
+felter_counters_count *Handle *u32
+felter_counters_close_owner *Handle u64 u64 *u32
 """
 
 
@@ -317,3 +341,68 @@ def many_to_one(capacity, start=0):
 def one_to_one(capacity, start=0):
     """Makes a ring of one producer, which cannot be split."""
     return _ring("felter_one_to_one_new_at", capacity, start)
+
+
+class Counters(_Owner):
+    """Counters with the ids below `count`. A freed id rests for `reuse_ms` milliseconds."""
+
+    def __init__(self, count, reuse_ms=0):
+        super().__init__()
+        _call("felter_counters_new", count, reuse_ms, self._handle)
+
+    def allocate(self, now, type_id, key=b"", label=b"", registration=0, owner=0):
+        """Allocates a counter of value 0 at a moment, and answers its id. The owner 0 stands for none."""
+        parameters = now, type_id, key, len(key), label, len(label), registration, owner
+        return self._say("felter_counter_allocate_owned", ctypes.c_uint32, *parameters)
+
+    def release(self, now, counter):
+        """Frees a counter at a moment."""
+        self._do("felter_counter_free", now, counter)
+
+    def set(self, counter, value):
+        """Sets a counter's value."""
+        self._do("felter_counter_set", counter, value)
+
+    def add(self, counter, delta):
+        """Adds to a counter's value, which wraps, and answers the value before."""
+        return self._say("felter_counter_add", ctypes.c_int64, counter, delta)
+
+    def value(self, counter):
+        """A counter's value."""
+        return self._say("felter_counter_value", ctypes.c_int64, counter)
+
+    def type_id(self, counter):
+        """A counter's type id."""
+        return self._say("felter_counter_type_id", ctypes.c_int32, counter)
+
+    def registration(self, counter):
+        """A counter's registration id."""
+        return self._say("felter_counter_registration", ctypes.c_uint64, counter)
+
+    def owner(self, counter):
+        """A counter's owner, 0 where it has none."""
+        return self._say("felter_counter_owner", ctypes.c_uint64, counter)
+
+    def find(self, type_id, registration):
+        """The lowest id in use of a type and registration id, or None."""
+        try:
+            return self._say("felter_counter_find", ctypes.c_uint32, type_id, registration)
+        except Error as refused:
+            if refused.number != Number.NOT_ALLOCATED:
+                raise
+            return None
+
+    def __len__(self):
+        """The number of ids, in use or not."""
+        return self._say("felter_counters_count", ctypes.c_uint32)
+
+    def __iter__(self):
+        """The ids in use, rising."""
+        for counter in range(len(self)):
+            with contextlib.suppress(Error):
+                self.type_id(counter)
+                yield counter
+
+    def close_owner(self, now, owner):
+        """Frees each counter of an owner at a moment, and answers how many."""
+        return self._say("felter_counters_close_owner", ctypes.c_uint32, now, owner)

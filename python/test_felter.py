@@ -136,5 +136,24 @@ class Rings(Case):
         self.assertEqual(producer.shares(), 65535)
 
 
+class CountersCase(Case):
+    def test_counters_say_what_they_were_given(self):
+        counters = felter.Counters(3, 10)
+        one = counters.allocate(0, 4, b"key", b"label", 8, 9)
+        self.assertEqual(counters.allocate(0, -5), 1)
+        self.assertEqual((len(counters), list(counters)), (3, [0, 1]))
+        said = counters.type_id(one), counters.registration(one), counters.owner(one)
+        self.assertEqual(said, (4, 8, 9))
+        self.assertEqual((counters.find(4, 8), counters.find(4, 7)), (0, None))
+        counters.set(one, -7)
+        self.assertEqual((counters.add(one, 10), counters.value(one)), (-7, 3))
+        self.refuses(Number.BAD_ID, counters.value, 3)
+        self.assertEqual(counters.close_owner(0, 9), 1)
+        counters.release(0, 1)
+        self.refuses(Number.NOT_ALLOCATED, counters.release, 0, 1)
+        self.refuses(Number.LABEL_NOT_ASCII, counters.allocate, 0, 1, b"", b"\x80")
+        self.assertEqual(list(counters), [])
+
+
 if __name__ == "__main__":
     unittest.main()

@@ -62,6 +62,7 @@ void __wrap_free(void *at) {
 static struct {
     felter_producer producer, other, single;
     felter_consumer consumer, of_single;
+    felter_counters counters;
 } all;
 
 static int32_t make_many(void) { return felter_many_to_one_new(128, &all.producer, &all.consumer); }
@@ -77,12 +78,30 @@ static int32_t read_one(void) {
     CHECK(code != FELTER_OK || (type_id == 1 && len == 4 && memcmp(buffer, "kept", 4) == 0));
     return code;
 }
+static int32_t make_counters(void) { return felter_counters_new(4, 0, &all.counters); }
+static int32_t allocate(void) {
+    uint32_t id = 9;
+    return felter_counter_allocate(&all.counters, 0, 1, BYTES("k"), BYTES("label"), 0, &id);
+}
+static int32_t add_one(void) {
+    int64_t before;
+    return felter_counter_add(&all.counters, 0, 1, &before);
+}
+static int32_t see_one(void) {
+    int64_t value = 0;
+    int32_t code = felter_counter_value(&all.counters, 0, &value);
+    CHECK(code != FELTER_OK || value == 1);
+    return code;
+}
 
-static int32_t (*const steps[])(void) = {make_many, make_one, split, write_one, join, read_one};
+static int32_t (*const steps[])(void) = {
+    make_many, make_one, split, write_one, join, read_one, make_counters, allocate, add_one, see_one,
+};
 
 static void free_all(void) {
-    felter_handle *handles[] = {&all.producer.handle, &all.other.handle, &all.single.handle, &all.consumer.handle,
-                                &all.of_single.handle};
+    felter_handle *handles[] = {&all.producer.handle,  &all.other.handle,     &all.single.handle,
+                                &all.consumer.handle,  &all.of_single.handle,
+                                &all.counters.handle};
     for (size_t i = 0; i < sizeof handles / sizeof *handles; i++) felter_free(handles[i]);
 }
 
@@ -115,7 +134,7 @@ int main(void) {
         free_all();
         CHECK(live == before);
         if (!met) {
-            CHECK(refusals >= 5);
+            CHECK(refusals >= 10);
             printf("memory: %d requests refused in turn, none leaked\n", refusals);
             return 0;
         }

@@ -25,6 +25,22 @@ pub enum Error {
     PutRange,
     /// One share is left, and is needed.
     NoShares,
+    /// The number of counters is 0 or above 4096.
+    BadCount,
+    /// The key has more than 112 bytes.
+    KeyTooLong,
+    /// The label has more than 380 bytes.
+    LabelTooLong,
+    /// The label has a byte of 128 or more.
+    LabelNotAscii,
+    /// Every id was used, and none that was freed is due.
+    NoFreeCounter,
+    /// The id is not below the number of counters.
+    BadId,
+    /// No counter with this id is in use.
+    NotAllocated,
+    /// The owner is 0, which stands for none.
+    BadOwner,
     /// The handle is empty. No call of this crate brings it about.
     NoHandle,
     /// The handle is of another kind: a producer of a one-to-one ring was to be split.
@@ -42,6 +58,8 @@ pub enum Error {
         /// How many bytes are wanted.
         wanted: usize,
     },
+    /// The moment is above 2^62.
+    BadMoment,
     /// The two handles are of two rings.
     OtherRing,
     /// A number that this crate does not know.
@@ -62,6 +80,14 @@ impl Error {
             Error::Contended => 8,
             Error::PutRange => 9,
             Error::NoShares => 12,
+            Error::BadCount => 15,
+            Error::KeyTooLong => 16,
+            Error::LabelTooLong => 17,
+            Error::LabelNotAscii => 18,
+            Error::NoFreeCounter => 19,
+            Error::BadId => 20,
+            Error::NotAllocated => 21,
+            Error::BadOwner => 28,
             Error::NoHandle => 100,
             Error::WrongHandle => 101,
             Error::HandleInUse => 102,
@@ -69,6 +95,7 @@ impl Error {
             Error::NoClaim => 104,
             Error::NoMessage => 105,
             Error::ShortBuffer { .. } => 106,
+            Error::BadMoment => 107,
             Error::OtherRing => 108,
             Error::Unknown(number) => number,
         }
@@ -76,7 +103,7 @@ impl Error {
 
     /// The error of a number that is not 0.
     pub(crate) fn of(number: i32) -> Error {
-        const KNOWN: [Error; 17] = [
+        const KNOWN: [Error; 26] = [
             Error::BadCapacity,
             Error::BadStart,
             Error::OutOfMemory,
@@ -87,12 +114,21 @@ impl Error {
             Error::Contended,
             Error::PutRange,
             Error::NoShares,
+            Error::BadCount,
+            Error::KeyTooLong,
+            Error::LabelTooLong,
+            Error::LabelNotAscii,
+            Error::NoFreeCounter,
+            Error::BadId,
+            Error::NotAllocated,
+            Error::BadOwner,
             Error::NoHandle,
             Error::WrongHandle,
             Error::HandleInUse,
             Error::ClaimOpen,
             Error::NoClaim,
             Error::NoMessage,
+            Error::BadMoment,
             Error::OtherRing,
         ];
         let found = KNOWN.into_iter().find(|it| it.number() == number);

@@ -43,3 +43,30 @@ extern "C" {
         room: usize,
     ) -> i32;
 }
+
+// Counters.
+extern "C" {
+    pub(crate) fn felter_counters_new(count: u32, reuse_ms: u32, counters: *mut Raw) -> i32;
+    pub(crate) fn felter_counter_allocate_owned(
+        counters: *mut Raw,
+        now: u64,
+        type_id: i32,
+        key: *const u8,
+        key_len: usize,
+        label: *const u8,
+        label_len: usize,
+        registration: u64,
+        owner: u64,
+        id: *mut u32,
+    ) -> i32;
+    pub(crate) fn felter_counter_free(counters: *mut Raw, now: u64, id: u32) -> i32;
+    pub(crate) fn felter_counter_set(counters: *mut Raw, id: u32, value: i64) -> i32;
+    pub(crate) fn felter_counter_add(counters: *mut Raw, id: u32, delta: i64, before: *mut i64) -> i32;
+    pub(crate) fn felter_counter_value(counters: *mut Raw, id: u32, value: *mut i64) -> i32;
+    pub(crate) fn felter_counter_type_id(counters: *mut Raw, id: u32, type_id: *mut i32) -> i32;
+    pub(crate) fn felter_counter_registration(counters: *mut Raw, id: u32, registration: *mut u64) -> i32;
+    pub(crate) fn felter_counter_owner(counters: *mut Raw, id: u32, owner: *mut u64) -> i32;
+    pub(crate) fn felter_counter_find(counters: *mut Raw, type_id: i32, registration: u64, id: *mut u32) -> i32;
+    pub(crate) fn felter_counters_count(counters: *mut Raw, count: *mut u32) -> i32;
+    pub(crate) fn felter_counters_close_owner(counters: *mut Raw, now: u64, owner: u64, freed: *mut u32) -> i32;
+}

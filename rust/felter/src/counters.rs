@@ -1,0 +1,171 @@
+//! Counters.
+use crate::error::Error;
+use crate::handle::{done, Handle};
+use crate::raw::{self, Raw};
+
+/// Counters with the ids from 0 on.
+///
+/// ```
+/// let mut counters = felter::Counters::new(8, 0)?;
+/// let id = counters.allocate(0, 1, b"", b"requests", 0)?;
+/// counters.add(id, 3)?;
+/// assert_eq!(counters.value(id)?, 3);
+/// # Ok::<(), felter::Error>(())
+/// ```
+#[derive(Debug)]
+pub struct Counters {
+    handle: Handle,
+}
+
+impl Counters {
+    /// Makes counters with the ids below `count`, at most 4096. A freed id rests for `reuse_ms` milliseconds.
+    ///
+    /// Errors: [`Error::BadCount`], [`Error::OutOfMemory`].
+    pub fn new(count: u32, reuse_ms: u32) -> Result<Counters, Error> {
+        let mut handle = Handle::empty();
+        // SAFETY: an empty handle.
+        done(unsafe { raw::felter_counters_new(count, reuse_ms, handle.raw()) })?;
+        Ok(Counters { handle })
+    }
+
+    /// Allocates a counter of value 0 at a moment, and says its id.
+    ///
+    /// Errors: [`Error::KeyTooLong`], [`Error::LabelTooLong`], [`Error::LabelNotAscii`], [`Error::NoFreeCounter`].
+    pub fn allocate(
+        &mut self,
+        now: u64,
+        type_id: i32,
+        key: &[u8],
+        label: &[u8],
+        registration: u64,
+    ) -> Result<u32, Error> {
+        self.allocate_owned(now, type_id, key, label, registration, 0)
+    }
+
+    /// The same with an owner; 0 stands for none.
+    pub fn allocate_owned(
+        &mut self,
+        now: u64,
+        type_id: i32,
+        key: &[u8],
+        label: &[u8],
+        registration: u64,
+        owner: u64,
+    ) -> Result<u32, Error> {
+        let (key_at, key_len) = (key.as_ptr(), key.len());
+        let (label_at, label_len) = (label.as_ptr(), label.len());
+        let handle = self.handle.raw();
+        let mut id = 0;
+        // SAFETY: our handle, two slices' pointers and lengths, and a number of ours.
+        done(unsafe {
+            raw::felter_counter_allocate_owned(
+                handle,
+                now,
+                type_id,
+                key_at,
+                key_len,
+                label_at,
+                label_len,
+                registration,
+                owner,
+                &mut id,
+            )
+        })?;
+        Ok(id)
+    }
+
+    /// Frees a counter at a moment.
+    ///
+    /// Errors: [`Error::BadId`], [`Error::NotAllocated`], [`Error::BadMoment`].
+    pub fn free(&mut self, now: u64, id: u32) -> Result<(), Error> {
+        // SAFETY: our handle.
+        done(unsafe { raw::felter_counter_free(self.handle.raw(), now, id) })
+    }
+
+    /// Sets a counter's value.
+    ///
+    /// Errors: [`Error::BadId`], [`Error::NotAllocated`].
+    pub fn set(&mut self, id: u32, value: i64) -> Result<(), Error> {
+        // SAFETY: our handle.
+        done(unsafe { raw::felter_counter_set(self.handle.raw(), id, value) })
+    }
+
+    /// Adds to a counter's value, which wraps, and says the value before.
+    ///
+    /// Errors: [`Error::BadId`], [`Error::NotAllocated`].
+    pub fn add(&mut self, id: u32, delta: i64) -> Result<i64, Error> {
+        let mut before = 0;
+        // SAFETY: our handle, and a number of ours.
+        done(unsafe { raw::felter_counter_add(self.handle.raw(), id, delta, &mut before) })?;
+        Ok(before)
+    }
+
+    /// A number of a counter in use, by the call that says it.
+    fn number<T: Default>(
+        &mut self,
+        id: u32,
+        call: unsafe extern "C" fn(*mut Raw, u32, *mut T) -> i32,
+    ) -> Result<T, Error> {
+        let mut number = T::default();
+        // SAFETY: our handle, and a number of ours.
+        done(unsafe { call(self.handle.raw(), id, &mut number) })?;
+        Ok(number)
+    }
+
+    /// A counter's value.
+    ///
+    /// Errors: [`Error::BadId`], [`Error::NotAllocated`].
+    pub fn value(&mut self, id: u32) -> Result<i64, Error> {
+        self.number(id, raw::felter_counter_value)
+    }
+
+    /// A counter's type id. Errors as [`value`](Counters::value).
+    pub fn type_id(&mut self, id: u32) -> Result<i32, Error> {
+        self.number(id, raw::felter_counter_type_id)
+    }
+
+    /// A counter's registration id. Errors as [`value`](Counters::value).
+    pub fn registration(&mut self, id: u32) -> Result<u64, Error> {
+        self.number(id, raw::felter_counter_registration)
+    }
+
+    /// A counter's owner, 0 where it has none. Errors as [`value`](Counters::value).
+    pub fn owner(&mut self, id: u32) -> Result<u64, Error> {
+        self.number(id, raw::felter_counter_owner)
+    }
+
+    /// The lowest id in use of a type and registration id.
+    pub fn find(&mut self, type_id: i32, registration: u64) -> Result<Option<u32>, Error> {
+        let mut id = 0;
+        // SAFETY: our handle, and a number of ours.
+        match done(unsafe { raw::felter_counter_find(self.handle.raw(), type_id, registration, &mut id) }) {
+            Ok(()) => Ok(Some(id)),
+            Err(Error::NotAllocated) => Ok(None),
+            Err(other) => Err(other),
+        }
+    }
+
+    /// The number of ids, in use or not.
+    pub fn count(&mut self) -> Result<u32, Error> {
+        let mut count = 0;
+        // SAFETY: our handle, and a number of ours.
+        done(unsafe { raw::felter_counters_count(self.handle.raw(), &mut count) })?;
+        Ok(count)
+    }
+
+    /// The ids in use, rising.
+    pub fn ids(&mut self) -> Result<Vec<u32>, Error> {
+        let count = self.count()?;
+        Ok((0..count).filter(|&id| self.type_id(id).is_ok()).collect())
+    }
+
+    /// Frees each counter of an owner at a moment, and says how many.
+    ///
+    /// Errors: [`Error::BadOwner`], [`Error::BadMoment`].
+    pub fn close_owner(&mut self, now: u64, owner: u64) -> Result<u32, Error> {
+        let mut freed = 0;
+        // SAFETY: our handle, and a number of ours.
+        done(unsafe { raw::felter_counters_close_owner(self.handle.raw(), now, owner, &mut freed) })?;
+        Ok(freed)
+    }
+}
