@@ -18,7 +18,7 @@ mod request;
 mod rest;
 mod sample;
 mod shared;
-mod storming;
+mod storm;
 mod trips;
 mod watching;
 

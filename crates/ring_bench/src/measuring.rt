@@ -7,7 +7,7 @@ use crate::flow::run_flow;
 use crate::job::Job;
 use crate::request::Request;
 use crate::sample::Sample;
-use crate::storming::run_storm;
+use crate::storm::run_storm;
 use crate::trips::run_trips;
 use std::alloc::Global;
 use std::rt::Clock;
