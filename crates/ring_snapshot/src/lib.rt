@@ -27,4 +27,8 @@ pub use ring_finding::RingFinding;
 pub use write::{CounterMetadata, CounterValueWords, Words, write_words};
 
 #[cfg(test)]
+mod counters_tests;
+#[cfg(test)]
 mod tests;
+#[cfg(test)]
+mod write_tests;

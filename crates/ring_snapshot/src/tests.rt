@@ -15,10 +15,10 @@ fn words_of(alloc: Global, ring: &SoloRing) -> Result<Vec<u64>, AllocError> {
 
 /// A sequence of numbers that looks random, and is the same in each run.
 #[derive(Drop)]
-struct Numbers(u64);
+pub(crate) struct Numbers(pub(crate) u64);
 
 impl Numbers {
-    fn next(&mut self) -> u64 {
+    pub(crate) fn next(&mut self) -> u64 {
         self.0 ^= self.0 << 13;
         self.0 ^= self.0 >> 7;
         self.0 ^= self.0 << 17;
