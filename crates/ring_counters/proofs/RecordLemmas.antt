@@ -9,8 +9,8 @@ use Rattle.std.proofs.lemmas.Nat.{mod_low, shr_high, from_le_bytes-to_le_bytes_4
 use Rattle.std.proofs.lemmas.List.{ext_get_or, length-append, length-replicate, get_or-drop, get_or_past, get_or_append_left, get_or-append_right}
 use Rattle.std.proofs.lemmas.List.Elements.{All-get_or, All-from_get_or}
 use Rattle.std.proofs.lemmas.List.FromFn.{length-map-range_with_len, get_or-map-range_with_len}
-use Rattle.ring_counters.specs.Counter.{Status, Unused, Allocated, Reclaimed, Metadata, Values, padded, unused_metadata, unused_values, state_of, deadline_of, word_of_bytes, state_word, label_text, metadata_word, value_word}
-use Rattle.ring_counters.specs.Records.{byte_at, bytes_at, status_from, metadata_of, values_of, IsMetadata, SomeMetadata, IsValues, SomeValues}
+use Rattle.ring_counters.specs.Counter.{Status, Unused, Allocated, Reclaimed, Metadata, Values, padded, unused_metadata, state_of, deadline_of, word_of_bytes, state_word, label_text, metadata_word, value_word}
+use Rattle.ring_counters.specs.Records.{byte_at, bytes_at, status_from, metadata_of, IsMetadata, SomeMetadata, IsValues}
 use Rattle.ring_layout.proofs.HeaderLemmas.{pattern_below}
 use Rattle.ring_layout.proofs.WordBytes.{byte_of_word, from_le_bytes-same}
 
@@ -256,14 +256,6 @@ module _ (words : List ℕ) (v : Values) (h : IsValues words v) where
   unfolding value_word
   owner_shown = h.shows 2 (omega arith)
 
-  pub values_decoded : values_of words ≡ v
-  unfolding values_of
-  values_decoded = λ i. record { value = value_decoded i; registration = registration_shown i; owner = owner_shown i }
-
--- the words that say v are those of v
-pub values_known : (words : List ℕ) (v : Values) → values_of words ≡ v → SomeValues words → IsValues words v
-values_known words v e h = subst (IsValues words) (sym (values_decoded words h.0 h.1) ∙ e) h.1
-
 -- a number that a signed type holds, as a call gives it
 pub signed : (w : Width) (z y : ℤ) → z ≡ y → FitsSigned w y → cast_signed w (cast_unsigned w z) ≡ y
 signed w z y e f = ap (λ x. cast_signed w (cast_unsigned w x)) e ∙ to_z-of_z w y f
@@ -297,28 +289,6 @@ unused_metadata_shown = record {
       (λ k lo hi. zero_past 64 k ∙ sym (word_of-zeros (replicate 112 0) (zero_past 112) (k - 2)))
       (λ k lo hi. zero_past 64 k ∙ sym (word_of-zeros (label_text []) (zero_past 4) (k - 16)));
 }
-
-value_word-past : (v : Values) (k : ℕ) → 3 ≤ k → value_word v k ≡ 0
-unfolding value_word
-value_word-past v k h =
-    cond-false _ _ _ (ne_eqb k 0 (λ e. omega arith)) ∙ cond-false _ _ _ (ne_eqb k 1 (λ e. omega arith))
-    ∙ cond-false _ _ _ (ne_eqb k 2 (λ e. omega arith))
-
-value_word-same : (v : Values) (value : ℤ) (k : ℕ)
-    → value_word (record v { value = value }) (suc k) ≡ value_word v (suc k)
-unfolding value_word
-value_word-same v value k = cond-false _ _ _ (ne_eqb (suc k) 0 (λ e. omega arith))
-    ∙ sym (cond-false _ _ _ (ne_eqb (suc k) 0 (λ e. omega arith)))
-
-pub unused_values_shown : IsValues (replicate 16 0) unused_values
-unfolding value_word
-unused_values_shown = record { value = record { sfits = omega arith }; shows = λ k h. zero_past 16 k ∙ sym (none k) }
-  where
-    none : (k : ℕ) → value_word unused_values k ≡ 0
-    none zero = refl
-    none (suc zero) = refl
-    none (suc (suc zero)) = refl
-    none (suc (suc (suc k))) = value_word-past unused_values (suc (suc (suc k))) (omega arith)
 
 -- a record after its state and its deadline were stored
 pub reclaimed_shown : (words : List ℕ) (m : Metadata) (state deadline : ℕ) → IsMetadata words m → length words ≡ 64
@@ -405,29 +375,3 @@ allocated_shown type_id key label w0 w1 w2 state fits small_key small_label few_
           | inr more ↦ text_above k (omega arith) ∙ above k (omega arith) ∙ blank k (omega arith)
               ∙ sym (word_of-past (label_text label) (k - 16) (omega arith))
         ]
-
-pub allocated_values_shown : (registration owner : ℕ)
-    → IsValues (set (set (replicate 16 0) 1 registration) 2 owner)
-    record { value = pos 0; registration = registration; owner = owner }
-unfolding value_word
-allocated_values_shown registration owner = record { value = record { sfits = omega arith }; shows = λ k h. shown k }
-  where
-    shown : (k : ℕ) → slice_index (set (set (replicate 16 0) 1 registration) 2 owner) k
-        ≡ value_word (record { value = pos 0; registration = registration; owner = owner }) k
-    shown zero = refl
-    shown (suc zero) = refl
-    shown (suc (suc zero)) = refl
-    shown (suc (suc (suc k))) = zero_past 13 k
-        ∙ sym (value_word-past (record { value = pos 0; registration = registration; owner = owner })
-        (suc (suc (suc k))) (omega arith))
-
-pub set_values_shown : (words : List ℕ) (v : Values) (value : ℤ) (bits : ℕ) → IsValues words v → length words ≡ 16
-    → FitsSigned w64 value → bits ≡ cast_unsigned w64 value
-    → IsValues (set words 0 bits) (record v { value = value })
-unfolding value_word
-set_values_shown words v value bits h len fits is = record { value = fits; shows = shown }
-  where
-    shown : (k : ℕ) → k < 16 → slice_index (set words 0 bits) k ≡ value_word (record v { value = value }) k
-    shown zero less = get_or-set_same words 0 bits 0 (omega arith) ∙ is
-    shown (suc k) less = get_or-set_other words 0 (suc k) bits 0 (λ e. omega arith) ∙ h.shows (suc k) less
-        ∙ sym (value_word-same v value k)

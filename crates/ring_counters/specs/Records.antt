@@ -25,14 +25,6 @@ metadata_of words = record {
   label = bytes_at words 132 (slice_index words 16 % 2 ^ 32);
 }
 
--- what the words of a value record say
-unfoldable pub values_of : List ℕ → Values
-values_of words = record {
-  value = cast_signed w64 (slice_index words 0);
-  registration = slice_index words 1;
-  owner = slice_index words 2;
-}
-
 -- the limits of a metadata record
 pub record IsLawful (m : Metadata) : Type 0 where
   pub type_id : FitsSigned w32 m.type_id
@@ -52,6 +44,3 @@ SomeMetadata words = (m : Metadata) × IsMetadata words m
 pub record IsValues (words : List ℕ) (v : Values) : Type 0 where
   pub value : FitsSigned w64 v.value
   pub shows : (k : ℕ) → k < 16 → slice_index words k ≡ value_word v k
-
-abbrev pub SomeValues : List ℕ → Type 0
-SomeValues words = (v : Values) × IsValues words v

@@ -1,26 +1,25 @@
-//! A value record of 16 words.
+//! What the manager keeps of a counter's value record.
 ghost use Rattle.std.specs.Prelude.{◌≡◌, ℕ, ◌<◌, pos};
 ghost use Rattle.ring_counters.specs.Counter.{Values, unused_values, value_word};
 
-use ring_layout::counter_descriptor::{
-    COUNTER_WORDS, OWNER_ID_WORD, REGISTRATION_ID_WORD, VALUE_WORD,
-};
+use ring_layout::counter_descriptor::{OWNER_ID_WORD, REGISTRATION_ID_WORD, VALUE_WORD};
 use std::marker::Model;
 
+/// A value record without the 13 words that are always 0, so that the records of many counters stand close together: a
+/// set touches nothing else of the manager's but this and a flag.
 #[derive(Drop)]
 pub(crate) struct ValueRecord {
-    words: [u64; COUNTER_WORDS],
+    value: i64,
+    registration: u64,
+    owner: u64,
 }
 
 impl Model for ValueRecord {
     ghost use Rattle.ring_counters.specs.Counter.{Values};
-    ghost use Rattle.ring_counters.specs.Records.{values_of, SomeValues};
 
     ghost Value = { Values };
 
-    ghost view = { λ r. values_of r.words };
-
-    ghost invariant = { λ r. SomeValues r.words };
+    ghost view = { λ r. record { value = r.value; registration = r.registration; owner = r.owner } };
 }
 
 impl ValueRecord {
@@ -28,47 +27,56 @@ impl ValueRecord {
         ensures { result ≡ unused_values }
     {
         ValueRecord {
-            words: [0; COUNTER_WORDS],
+            value: 0,
+            registration: 0,
+            owner: 0,
         }
     }
 
-    /// Makes the record that of a counter in use, with all its words. The value is 0.
+    /// Makes the record that of a counter in use. The value is 0.
     pub(crate) fn allocate(&mut self, registration: u64, owner: u64)
         ensures { self.new ≡ record { value = pos 0; registration = registration; owner = owner } }
     {
-        self.words = [0; COUNTER_WORDS];
-        self.words[REGISTRATION_ID_WORD] = registration;
-        self.words[OWNER_ID_WORD] = owner;
+        self.value = 0;
+        self.registration = registration;
+        self.owner = owner;
     }
 
     pub(crate) fn set(&mut self, value: i64)
         ensures { self.new ≡ record self.old { value = value } }
     {
-        self.words[VALUE_WORD] = value.cast_unsigned();
+        self.value = value;
     }
 
     pub(crate) fn value(&self) -> i64
         ensures { result ≡ self.now.value }
     {
-        self.words[VALUE_WORD].cast_signed()
+        self.value
     }
 
     pub(crate) fn registration(&self) -> u64
         ensures { result ≡ self.now.registration }
     {
-        self.words[REGISTRATION_ID_WORD]
+        self.registration
     }
 
     pub(crate) fn owner(&self) -> u64
         ensures { result ≡ self.now.owner }
     {
-        self.words[OWNER_ID_WORD]
+        self.owner
     }
 
+    /// The word with this number of the 16 that the record has.
+    #[tactic(auto, unfolding(crate::specs::Counter::value_word))]
     pub(crate) fn word(&self, k: usize) -> u64
         requires { k < 16 }
         ensures { result ≡ value_word self.now k }
     {
-        self.words[k]
+        match k {
+            VALUE_WORD => self.value.cast_unsigned(),
+            REGISTRATION_ID_WORD => self.registration,
+            OWNER_ID_WORD => self.owner,
+            _ => 0,
+        }
     }
 }

@@ -1,4 +1,4 @@
-use Rattle.std.proofs.Common.{◌≡◌, ◌<◌, ◌∙◌, sym, ap, arith, length, set, get_or, remove}
+use Rattle.std.proofs.Common.{◌≡◌, ◌∙◌, sym, ap, arith, set}
 use Rattle.ring_counters.specs.Counter.{Metadata, Allocated}
 use Rattle.ring_counters.specs.Registry.{Registry, is_allocated}
 use Rattle.ring_counters.proofs.FlagLemmas.{flags_size, flags_stored}
