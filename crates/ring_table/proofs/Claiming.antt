@@ -15,10 +15,10 @@ use Rattle.ring_table.specs.Changes.{blank, fresh}
 use Rattle.ring_table.specs.Owners.{OwnedHistory, all_of}
 use Rattle.ring_table.specs.Views.{Logs, View, Wanted, logged, with_producer, with_tail, with_claim}
 use Rattle.ring_table.specs.Rule.{Kept}
-use Rattle.ring_table.specs.ProducerSteps.{Mine, EndBelow, IsClaimable, MovesTail, MovesOwnTail}
-use Rattle.ring_table.proofs.StagedPlaces.{capacity_aligned, start_aligned, lies_in, end_aligned}
+use Rattle.ring_table.specs.ProducerSteps.{Mine, IsClaimable, MovesTail, MovesOwnTail}
+use Rattle.ring_table.proofs.StagedPlaces.{capacity_aligned, start_aligned, end_aligned}
 use Rattle.ring_table.proofs.StagedWords.{staged_word-fresh}
-use Rattle.ring_table.proofs.Histories.{staged_end-append, owned_by-append, owned_by-append_other, owned_at}
+use Rattle.ring_table.proofs.Histories.{staged_end-append, owned_by-append, owned_by-append_other}
 use Rattle.ring_table.proofs.Sums.{at_below}
 use Rattle.ring_table.proofs.Seating.{sole_sees_top, reseated}
 use Rattle.ring_table.proofs.Memories.{memory_appended, service_elsewhere}

@@ -1,9 +1,8 @@
--- The consumer's steps keep the rule.
-use Rattle.std.proofs.Common.{◌≡◌, ◌≢◌, ℕ, ◌+◌, ◌-◌, ◌/◌, ◌%◌, ◌^◌, ◌≤◌, ◌<◌, ℤ, pos, negsuc, ◌≤ℤ◌, FitsSigned, List, [], ◌∷◌, ◌++◌, cond, ltb, true, set, get_or, slice_index, sym, refl, ap, ◌∙◌, subst, ⊎_elim, lt-ltb, le-ltb, length-set, get_or-set_other, get_or-set_same, arith}
+-- The consumer's loads keep the rule, and what a step of it owes.
+use Rattle.std.proofs.Common.{◌≡◌, ◌≢◌, ℕ, ◌+◌, ◌-◌, ◌/◌, ◌%◌, ◌^◌, ◌≤◌, ◌<◌, ℤ, pos, negsuc, ◌≤ℤ◌, FitsSigned, List, [], ◌∷◌, ◌++◌, cond, true, set, get_or, slice_index, sym, refl, ap, ◌∙◌, subst, ⊎_elim, le-ltb, arith}
 use mathlib.Core.Option.{some}
 use mathlib.Core.Logic.{dite}
 use native.Mathlib.Decide.{ℕ_discrete}
-use native.Mathlib.Nat.{add-mod_right}
 use lib.ListN.{get_elem?}
 use Rattle.std.specs.Int.{cast_signed, cast_unsigned, w32}
 use Rattle.std.proofs.lemmas.Bool.{cases_lt}
@@ -12,52 +11,23 @@ use Rattle.atomic_table.specs.Table.{State, keeps, Allows}
 use Rattle.ring_layout.specs.History.{IsMessage}
 use Rattle.ring_layout.specs.Places.{index}
 use Rattle.ring_layout.specs.Headers.{header, padding_type}
-use Rattle.ring_layout.specs.Layout.{tail_index, head_cache_index, head_index, correlation_index, heartbeat_index, IsUnnamed}
+use Rattle.ring_layout.specs.Layout.{head_cache_index, correlation_index, heartbeat_index, IsUnnamed}
 use Rattle.ring_layout.proofs.HeaderLemmas.{fits_pos}
 use Rattle.ring_table.specs.Staged.{PlacedMessage, staged_end, staged_word_at}
 use Rattle.ring_table.specs.Owners.{OwnedHistory, all_of}
 use Rattle.ring_table.specs.Passing.{Reaches}
 use Rattle.ring_table.specs.Services.{AreServed}
-use Rattle.ring_table.specs.Views.{Logs, ConsumerView, View, Wanted, logged, with_consumer, scanned, cleared_to, stands_at}
+use Rattle.ring_table.specs.Views.{Logs, ConsumerView, View, Wanted, logged, with_consumer, scanned}
 use Rattle.ring_table.specs.Rule.{IsMemory, Kept}
 use Rattle.ring_table.specs.ProducerSteps.{Mine}
-use Rattle.ring_table.specs.ConsumerSteps.{with_scan, rounded, IsInside, LoadsHeader, LoadsBody, ClearsWord, StoresHead, StoresHeadBefore}
-use Rattle.ring_table.proofs.StagedPlaces.{capacity_aligned, start_aligned, nothing_behind}
-use Rattle.ring_table.proofs.ReachLemmas.{reach_bounds, reach_aligned, shows_body, back_before_last}
+use Rattle.ring_table.specs.ConsumerSteps.{with_scan, rounded, IsInside, LoadsHeader, LoadsBody}
+use Rattle.ring_table.proofs.StagedPlaces.{capacity_aligned, start_aligned}
+use Rattle.ring_table.proofs.ReachLemmas.{reach_bounds, reach_aligned, shows_body}
 use Rattle.ring_table.proofs.HeaderReads.{low_half, high_half, Leads, leads}
 use Rattle.ring_table.proofs.Sums.{set_own}
 use Rattle.ring_table.proofs.Seating.{sees_top_after, reseated}
-use Rattle.ring_table.proofs.Memories.{index_inside, not_inside, one_position, service_elsewhere}
+use Rattle.ring_table.proofs.Memories.{index_inside, not_inside, service_elsewhere}
 use Rattle.ring_table.proofs.Loading.{Ok, May, sees}
-
--- ---- the last of a list
-
-drop_last : List PlacedMessage → List PlacedMessage
-drop_last [] = []
-drop_last (x ∷ []) = []
-drop_last (x ∷ y ∷ ys) = x ∷ drop_last (y ∷ ys)
-
-last_or : PlacedMessage → List PlacedMessage → PlacedMessage
-last_or d [] = d
-last_or d (x ∷ xs) = last_or x xs
-
-front_is : (g : List PlacedMessage) (m : PlacedMessage) → drop_last (g ++ m ∷ []) ≡ g
-unfolding drop_last
-front_is [] m = refl
-front_is (x ∷ []) m = refl
-front_is (x ∷ y ∷ ys) m = ap (λ l. x ∷ l) (front_is (y ∷ ys) m)
-
-last_is : (d : PlacedMessage) (g : List PlacedMessage) (m : PlacedMessage) → last_or d (g ++ m ∷ []) ≡ m
-unfolding last_or
-last_is d [] m = refl
-last_is d (x ∷ xs) m = last_is x xs m
-
-one_end : (g g' : List PlacedMessage) (m m' : PlacedMessage) → g ++ m ∷ [] ≡ g' ++ m' ∷ [] → (g ≡ g') × (m ≡ m')
-one_end g g' m m' e = (
-  sym (front_is g m) ∙ (ap drop_last e ∙ front_is g' m'),
-  sym (last_is m g m)
-      ∙ (ap (last_or m) e ∙ last_is m g' m'),
-)
 
 -- ---- headers
 
@@ -75,7 +45,7 @@ not_positive (negsuc n) fits le t = let high = t.1 in omega (arith, fits.sfits)
 
 module _ (C start : ℕ) where
   -- the consumer steps: one word changes, and it is where `now` says
-  consumed : (words : List ℕ) (views : List View) (r : Kept C start words views) (id : ℕ) (v : View)
+  pub consumed : (words : List ℕ) (views : List View) (r : Kept C start words views) (id : ℕ) (v : View)
       → get_elem? views id ≡ some v → v.consumes ≡ true → (i value : ℕ) (now : ConsumerView) (log : List (ℕ × ℕ))
       → IsMemory C start (set words i value) (all_of r.hist) now → r.consumer.head ≤ now.head
       → now.heartbeats ≡ r.consumer.heartbeats → i ≢ head_cache_index C → i ≢ correlation_index C
@@ -314,167 +284,5 @@ module _ (C start : ℕ) where
               ∙ m.shows p (omega arith) (omega arith) (omega arith)
               ∙ ap (λ z. cond z 0 (staged_word_at (all_of h) p)) (le-ltb p r.consumer.cleared (omega arith))
               ∙ b.word,
-        ),
-      )
-
-  same_shown : (p cleared x : ℕ) → (p < cleared + 8 → p < cleared)
-      → cond (ltb p cleared) 0 x ≡ cond (ltb p (cleared + 8)) 0 x
-  same_shown p cleared x back = ⊎_elim
-      (λ (a : p < cleared). ap (λ b. cond b 0 x) (lt-ltb p cleared a ∙ sym (lt-ltb p (cleared + 8) (omega arith))))
-      (λ (a : cleared ≤ p). ap (λ b. cond b 0 x)
-      (le-ltb p cleared a
-      ∙ sym (le-ltb p (cleared + 8) (let far : ¬ (p < cleared + 8) = λ z. let y =
-      back z in omega arith in omega arith))))
-      (cases_lt p cleared)
-
-  pub clears_word : (slots id : ℕ) (me : Mine) → me.0.consumes ≡ true → me.0.consumer.cleared < me.0.consumer.scan
-      → Allows (Ok C start) slots id me (index C me.0.consumer.cleared) (λ _. 0)
-      (λ _ me'. (me'.1 ≡ me.1) × ClearsWord me.0 me'.0)
-  clears_word slots id me consumes more s r wide at small =
-      let v : View = me.0 in
-      let mine = ((r.seated.each id v at).consumes consumes).1 in
-      let h : OwnedHistory = r.hist in
-      let law = r.lawful in
-      let m = r.memory in
-      let least = law.capacity.least in
-      let q : ℕ = v.consumer.cleared in
-      let head : ℕ = r.consumer.head in
-      let q_is : q ≡ r.consumer.cleared = ap (λ (z : ConsumerView). z.cleared) mine in
-      let scan_is : v.consumer.scan ≡ r.consumer.scan = ap (λ (z : ConsumerView). z.scan) mine in
-      let from = m.clears_from in
-      let eight = m.clears_words in
-      let room = m.room in
-      let bounds = reach_bounds C r.consumer.scan start (all_of h) r.consumer.got m.placed m.passed in
-      let below_top = bounds.1 in
-      let scan8 = reach_aligned C r.consumer.scan start (all_of h) r.consumer.got (omega arith)
-      (capacity_aligned C law.capacity) (start_aligned C start law) m.placed m.passed in
-      let inside = index_inside C start law q in
-      let wide = m.wide in
-      let now : ConsumerView = cleared_to (r.consumer.cleared + 8) r.consumer in
-      let next : ConsumerView → ConsumerView = λ z. cleared_to (z.cleared + 8) z in (
-        with_consumer (next v.consumer) v,
-        keeps,
-        tt,
-        subst (λ (c : ConsumerView). Kept C start (set s.words (index C q) 0) (set s.views id (with_consumer c v)))
-            (ap next (sym mine))
-            (consumed s.words s.views r id v at consumes (index C q) 0 now v.log
-            (record {
-              wide = length-set s.words (index C q) 0 ∙ m.wide;
-              placed = m.placed;
-              tail_is = get_or-set_other s.words (index C q) (tail_index C) 0 0
-                  (not_inside C start law q (tail_index C) (omega arith)) ∙ m.tail_is;
-              limit = m.limit;
-              room = m.room;
-              head_is = get_or-set_other s.words (index C q) (head_index C) 0 0
-                  (not_inside C start law q (head_index C) (omega arith)) ∙ m.head_is;
-              took = m.took;
-              passed = m.passed;
-              clears_from = omega arith;
-              clears_to = omega arith;
-              clears_words = omega arith;
-              shows = λ p p8 p0 p1. dite (ℕ_discrete p q)
-                  (λ e. ap (λ k. get_or (set s.words (index C q) 0) (index C k) 0) e
-                  ∙ get_or-set_same s.words (index C q) 0 0 (omega arith)
-                  ∙ sym (ap (λ b. cond b 0 (staged_word_at (all_of h) p))
-                  (lt-ltb p (r.consumer.cleared + 8) (omega arith))))
-                  (λ ne. get_or-set_other s.words (index C q) (index C p) 0 0
-                  (λ e. ne (one_position C start law head p q p8 (omega arith) p0 p1 (omega arith) (omega arith) e))
-                  ∙ m.shows p p8 p0 p1 ∙ same_shown p r.consumer.cleared (staged_word_at (all_of h) p)
-                  (λ x. omega arith));
-            }) (omega arith) refl (λ e. omega arith) (λ e. omega arith) (λ e. omega arith)
-            (λ j un. not_inside C start law q j un.behind)),
-        (refl, refl),
-      )
-
-  -- the head goes to q, which was reached with the messages got and up to which the words are cleared
-  stores_head_at : (q : ℕ) (got : List PlacedMessage) (s : State Wanted View) (r : Ok C start s) (id : ℕ) (v : View)
-      → get_elem? s.views id ≡ some v → v.consumes ≡ true → Reaches q start (all_of r.hist) got → r.consumer.cleared ≡ q
-      → Kept C start (set s.words (head_index C) q) (set s.views id (with_consumer (stands_at q got v.consumer) v))
-  stores_head_at q got s r id v at consumes reaches all =
-      let h : OwnedHistory = r.hist in
-      let law = r.lawful in
-      let m = r.memory in
-      let least = law.capacity.least in
-      let head : ℕ = r.consumer.head in
-      let i : ℕ = head_index C in
-      let from = m.clears_from in
-      let eight = m.clears_words in
-      let to = m.clears_to in
-      let room = m.room in
-      let wide = m.wide in
-      let mine = ((r.seated.each id v at).consumes consumes).1 in
-      let bounds = reach_bounds C q start (all_of h) got m.placed reaches in
-      let below_top = bounds.1 in
-      let now : ConsumerView = stands_at q got r.consumer in
-      subst (λ (c : ConsumerView). Kept C start (set s.words i q) (set s.views id (with_consumer c v)))
-      (ap (stands_at q got) (sym mine))
-      (consumed s.words s.views r id v at consumes i q now v.log
-      (record {
-        wide = length-set s.words i q ∙ m.wide;
-        placed = m.placed;
-        tail_is = get_or-set_other s.words i (tail_index C) q 0 (omega arith) ∙ m.tail_is;
-        limit = m.limit;
-        room = omega arith;
-        head_is = get_or-set_same s.words i q 0 (omega arith);
-        took = reaches;
-        passed = reaches;
-        clears_from = omega arith;
-        clears_to = omega arith;
-        clears_words = omega arith;
-        shows = λ p p8 p0 p1. get_or-set_other s.words i (index C p) q 0
-            (λ e. not_inside C start law p i (omega arith) (sym e))
-            ∙ ⊎_elim
-            (λ (near : p < head + C). m.shows p p8 (omega arith) near
-            ∙ ap (λ b. cond b 0 (staged_word_at (all_of h) p)) (le-ltb p r.consumer.cleared (omega arith)))
-            -- one lap on from words that were cleared
-            (λ (far : head + C ≤ p).
-            let back : ℕ = p - C in
-            let lap : back + C ≡ p = omega arith in
-            let c8 = capacity_aligned C law.capacity in
-            ap (λ z. get_or s.words (index C z) 0) (sym lap)
-            ∙ ap (λ (z : ℕ). get_or s.words (z / 8) 0) (add-mod_right back C)
-            ∙ m.shows back (omega arith) (omega arith) (omega arith)
-            ∙ ap (λ z. cond z 0 (staged_word_at (all_of h) back)) (lt-ltb back r.consumer.cleared (omega arith))
-            ∙ sym (nothing_behind C start (all_of h) p m.placed (omega arith)))
-            (cases_lt p (head + C))
-            ∙ sym (ap (λ b. cond b 0 (staged_word_at (all_of h) p)) (le-ltb p q p0));
-      }) (omega arith) refl (λ e. omega arith) (λ e. omega arith) (λ e. omega arith) (λ j un. un.not_head))
-
-  pub stores_head : (slots id : ℕ) (me : Mine) → me.0.consumes ≡ true → me.0.consumer.cleared ≡ me.0.consumer.scan
-      → Allows (Ok C start) slots id me (head_index C) (λ _. me.0.consumer.scan)
-      (λ _ me'. (me'.1 ≡ me.1) × StoresHead me.0 me'.0)
-  stores_head slots id me consumes all s r wide at small =
-      let v : View = me.0 in
-      let mine = ((r.seated.each id v at).consumes consumes).1 in
-      let cleared : v.consumer.cleared ≡ r.consumer.cleared = ap (λ (z : ConsumerView). z.cleared) mine in (
-        with_consumer (stands_at v.consumer.scan v.consumer.got v.consumer) v,
-        keeps,
-        tt,
-        stores_head_at v.consumer.scan v.consumer.got s r id v at consumes
-            (subst (λ (z : ConsumerView). Reaches z.scan start (all_of r.hist) z.got) (sym mine) r.memory.passed)
-            (sym cleared ∙ all),
-        (refl, refl),
-      )
-
-  pub stores_head_before : (slots id : ℕ) (me : Mine) (front : List PlacedMessage) (last : PlacedMessage)
-      → me.0.consumes ≡ true → me.0.consumer.got ≡ front ++ last ∷ [] → me.0.consumer.cleared ≡ last.place
-      → Allows (Ok C start) slots id me (head_index C) (λ _. last.place)
-      (λ _ me'. (me'.1 ≡ me.1) × StoresHeadBefore me.0 me'.0)
-  stores_head_before slots id me front last consumes got all s r wide at small =
-      let v : View = me.0 in
-      let mine = ((r.seated.each id v at).consumes consumes).1 in
-      let cleared : v.consumer.cleared ≡ r.consumer.cleared = ap (λ (z : ConsumerView). z.cleared) mine in
-      let reaches =
-      subst (λ (z : ConsumerView). Reaches z.scan start (all_of r.hist) z.got) (sym mine) r.memory.passed in (
-        with_consumer (stands_at last.place front v.consumer) v,
-        keeps,
-        tt,
-        stores_head_at last.place front s r id v at consumes
-            (back_before_last v.consumer.scan start (all_of r.hist) front last
-            (subst (Reaches v.consumer.scan start (all_of r.hist)) got reaches)) (sym cleared ∙ all),
-        (
-          refl,
-          λ front' last' got'. let same = one_end front front' last last' (sym got ∙ got') in λ i. with_consumer
-              (stands_at (same.1 i).place (same.0 i) v.consumer) v,
         ),
       )

@@ -12,6 +12,7 @@ pub mod Loading
 pub mod Claiming
 pub mod Storing
 pub mod Consuming
+pub mod Clearing
 pub mod ServiceLemmas
 pub mod Serving
 pub mod RestLemmas

@@ -56,6 +56,11 @@ LoadsBody word v n = (k : ℕ) (m : PlacedMessage) (at : ℕ) → get_elem? v.co
 abbrev pub ClearsWord : View → View → Type 0
 ClearsWord v w = w ≡ with_consumer (cleared_to (v.consumer.cleared + 8) v.consumer) v
 
+-- the next word to clear was found to be n: where that is 0 it is passed, and needs no store. The log does not tell
+pub record LoadsPassed (v : View) (n : ℕ) (w : View) : Type 0 where
+  pub zero : n ≡ 0 → ClearsWord v w
+  pub other : n ≢ 0 → w ≡ v
+
 abbrev pub StoresHead : View → View → Type 0
 StoresHead v w = w ≡ with_consumer (stands_at v.consumer.scan v.consumer.got v.consumer) v
 

@@ -1,5 +1,5 @@
 -- What the steps of a producer tell it: v is its view before, w after, n the number found.
-use Rattle.std.specs.Prelude.{◌≡◌, ◌≢◌, ℕ, ◌+◌, ◌%◌, ◌≤◌, ◌<◌, ℤ, pos, neg_ℤ, FitsSigned, ◌^◌, List, All, length, slice_index}
+use Rattle.std.specs.Prelude.{◌≡◌, ◌≢◌, ℕ, ◌+◌, ◌%◌, ◌≤◌, ◌<◌, ℤ, FitsSigned, ◌^◌, List, All, length, slice_index}
 use Rattle.std.specs.Int.{w32, w64, to_le_bytes}
 use mathlib.Core.Option.{some}
 use lib.ListN.{get_elem?}

@@ -16,7 +16,8 @@ pub use laws::{
 };
 pub use rule::RingRule;
 pub use steps::consumer::{
-    clear_word, load_body_word, load_first_header, load_next_header, store_head, store_head_before,
+    clear_word, load_body_word, load_first_header, load_next_header, load_passed_word, store_head,
+    store_head_before,
 };
 pub use steps::producer::{
     load_head, load_own_word, load_tail, move_tail, store_aborted_header, store_body_word,

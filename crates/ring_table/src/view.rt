@@ -44,7 +44,7 @@ pub struct ProducerView {
 /// What the consumer knows.
 pub struct ConsumerView {
     pub head: u64,
-    /// Up to where the running read has set words to 0.
+    /// Up to where the running read has set words to 0, or has found them so.
     pub cleared: u64,
     /// How far the running read has come.
     pub scan: u64,
@@ -59,7 +59,7 @@ pub struct ConsumerView {
 /// What a seat knows.
 pub struct View {
     pub capacity: u64,
-    /// Word and value of each load.
+    /// Word and value of each load, but for those of words to be cleared.
     pub log: LinkedList<(u64, u64)>,
     pub producer: ProducerView,
     /// Whether the seat is the consumer's. Where it is not, `consumer` says nothing.

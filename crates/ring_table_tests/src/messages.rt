@@ -54,6 +54,27 @@ fn leaves_the_last_message_in_the_ring(rt: HostRuntime) -> Result<(), Fail> {
 }
 
 #[test]
+fn passes_a_word_that_is_zero_without_a_store(rt: HostRuntime) -> Result<(), Fail> {
+    let mut ring = Owner::new(rt.alloc())?;
+    ring.write(&rt, [0, 7]);
+    assert_eq!(rt; ring.pass_first(&rt), [0, 7]);
+    let found = [
+        ring.pass_word(&rt),
+        ring.pass_word(&rt),
+        ring.pass_word(&rt),
+    ];
+    ring.take(&rt);
+    let closed = ring.close();
+    let words = [closed.word(0), closed.word(1), closed.word(2)];
+    let head = closed.word(64);
+    closed.free();
+    assert_eq!(rt; found, [0x0000_0001_0000_0018, 0, 7]);
+    assert_eq!(rt; words, [0, 0, 0]);
+    assert_eq!(rt; head, 24);
+    Ok(())
+}
+
+#[test]
 fn passes_an_aborted_record(rt: HostRuntime) -> Result<(), Fail> {
     let mut ring = Owner::new(rt.alloc())?;
     ring.write_aborted(&rt);

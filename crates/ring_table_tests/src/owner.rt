@@ -15,8 +15,8 @@ use ring_layout::ring_buffer_descriptor::MAX_POSITION;
 use ring_layout::{fits, pad_and_span, word_index};
 use ring_table::{
     Key, RingSeat, RingTable, SharedRing, Wanted, clear_word, close, load_body_word, load_cache,
-    load_first_header, load_head, load_next_header, load_own_word, load_tail, move_tail, open,
-    store_aborted_header, store_body_word, store_cache, store_claimed_header,
+    load_first_header, load_head, load_next_header, load_own_word, load_passed_word, load_tail,
+    move_tail, open, store_aborted_header, store_body_word, store_cache, store_claimed_header,
     store_committed_header, store_head, store_head_before, store_padding_header, store_tail,
 };
 use std::alloc::{AllocError, Global};
@@ -44,7 +44,7 @@ pub struct Owner {
     table: RingTable,
     seat: RingSeat,
     head: u64,
-    /// Up to where the running read has set words to 0.
+    /// Up to where the running read has set words to 0, or has found them so.
     cleared: u64,
     /// How far the running read has come.
     scan: u64,
@@ -355,6 +355,19 @@ impl Owner {
         self.clear_word();
         self.clear_word();
         self.clear_word();
+    }
+
+    /// Loads the next word that was passed, and sets it to 0 where it is not. Tells what it was.
+    pub fn pass_word(&mut self, rt: &impl Abort) -> u64 {
+        assert!(rt; self.cleared < self.scan);
+        let table = &self.table;
+        let index = word_index(128, self.cleared);
+        let word = load_passed_word(&table.shared, &mut self.seat, 128, self.cleared, index);
+        if word != 0 {
+            clear_word(&table.shared, &mut self.seat, 128, self.cleared, index);
+        }
+        self.cleared += 8;
+        word
     }
 
     /// Stores the head behind all that was passed.

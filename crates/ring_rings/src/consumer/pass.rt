@@ -1,15 +1,35 @@
 //! How a read gives the producers room: it clears what it has passed, and then stores the head.
-ghost use Rattle.std.specs.Prelude.{◌≡◌, ◌≢◌, ℕ, ◌+◌, ◌%◌, ◌≤◌, List, true};
-ghost use Rattle.ring_layout.specs.Places.{max_position};
+ghost use Rattle.std.specs.Prelude.{◌≡◌, ◌≢◌, ℕ, ◌+◌, ◌%◌, ◌≤◌, ◌<◌, List, true};
+ghost use Rattle.ring_layout.specs.Places.{index, max_position};
 ghost use Rattle.ring_table.specs.declared.claim.PlacedMessage.{PlacedMessage};
 ghost use Rattle.ring_table.specs.Seats.{IsSameSeat, IsSeatOf};
+ghost use Rattle.ring_table.specs.ConsumerSteps.{ClearsWord};
 ghost use Rattle.ring_table.specs.Views.{cleared_to, with_consumer};
 ghost use Rattle.ring_rings.specs.Seats.{IsConsumerOf, capacity_of, head_of, seat_view};
 ghost use Rattle.ring_rings.specs.ReadingSteps.{HasCome, IsInBlock, IsLeft, SettlesAll, SettlesBefore};
 
 use crate::ring::{Consumer, Ring};
 use ring_layout::word_index;
-use ring_table::{RingSeat, SharedRing, clear_word, store_head, store_head_before};
+use ring_table::{
+    RingSeat, SharedRing, clear_word, load_passed_word, store_head, store_head_before,
+};
+
+/// Sees to it that the next word that the read has passed is 0. Its index in the buffer is `target`.
+#[inline(always)]
+fn pass_word(ring: &SharedRing, seat: &mut RingSeat, capacity: u32, cleared: u64, target: usize)
+    requires seat { IsSeatOf ring.now.table_id ring.now.key capacity seat.old }
+    requires target { target ≡ index capacity cleared }
+    requires consumes { seat.old.me.0.consumes ≡ true }
+    requires cleared { seat.old.me.0.consumer.cleared ≡ cleared }
+    requires passed { cleared < seat.old.me.0.consumer.scan }
+    ensures seat { IsSameSeat seat.old seat.new }
+    ensures told { ClearsWord seat.old.me.0 seat.new.me.0 }
+{
+    // A load costs little of what a store does, and many words of messages are 0.
+    if load_passed_word(ring, seat, capacity, cleared, target) != 0 {
+        clear_word(ring, seat, capacity, cleared, target);
+    }
+}
 
 /// Sets the words from the head up to the position `to`, which the read has passed, to 0.
 fn clear_up(ring: &SharedRing, seat: &mut RingSeat, capacity: u32, head: u64, to: u64)
@@ -28,13 +48,13 @@ fn clear_up(ring: &SharedRing, seat: &mut RingSeat, capacity: u32, head: u64, to
     // Four in a turn, since the compiler keeps a turn for each.
     for k in 0..count / 4 {
         let (at, target) = (head + 32 * k, first + 4 * k as usize);
-        clear_word(ring, seat, capacity, at, target);
-        clear_word(ring, seat, capacity, at + 8, target + 1);
-        clear_word(ring, seat, capacity, at + 16, target + 2);
-        clear_word(ring, seat, capacity, at + 24, target + 3);
+        pass_word(ring, seat, capacity, at, target);
+        pass_word(ring, seat, capacity, at + 8, target + 1);
+        pass_word(ring, seat, capacity, at + 16, target + 2);
+        pass_word(ring, seat, capacity, at + 24, target + 3);
     }
     for j in count / 4 * 4..count {
-        clear_word(ring, seat, capacity, head + 8 * j, first + j as usize);
+        pass_word(ring, seat, capacity, head + 8 * j, first + j as usize);
     }
 }
 

@@ -1,7 +1,8 @@
 //! What the steps of the consumer tell.
 ghost use Rattle.std.specs.Prelude.{◌≡◌};
 ghost use Rattle.ring_table.specs.Views.{Logs, logged};
-ghost use Rattle.ring_table.specs.ConsumerSteps.{LoadsHeader, LoadsBody, ClearsWord, StoresHead, StoresHeadBefore};
+ghost use Rattle.ring_table.specs.ConsumerSteps.{LoadsHeader, LoadsBody, LoadsPassed, ClearsWord};
+ghost use Rattle.ring_table.specs.ConsumerSteps.{StoresHead, StoresHeadBefore};
 
 use crate::view::{View, Wanted};
 use atomic_table::Play;
@@ -26,6 +27,12 @@ pub struct LoadBody;
 
 impl Play<Wanted, View> for LoadBody {
     ghost then = { λ st me n me'. (me'.1 ≡ me.1) × (me'.0 ≡ logged st.word n me.0) × LoadsBody st.word me.0 n };
+}
+
+pub struct LoadPassed;
+
+impl Play<Wanted, View> for LoadPassed {
+    ghost then = { λ st me n me'. (me'.1 ≡ me.1) × LoadsPassed me.0 n me'.0 };
 }
 
 pub struct ClearWord;

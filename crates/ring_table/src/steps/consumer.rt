@@ -2,12 +2,12 @@
 ghost use Rattle.std.specs.Prelude.{◌≡◌, ◌+◌, ◌%◌, ◌<◌, true};
 ghost use Rattle.ring_layout.specs.Places.{index};
 ghost use Rattle.ring_table.specs.Views.{logged};
-ghost use Rattle.ring_table.specs.ConsumerSteps.{ClearsWord, LoadsBody, LoadsHeader};
+ghost use Rattle.ring_table.specs.ConsumerSteps.{ClearsWord, LoadsBody, LoadsHeader, LoadsPassed};
 ghost use Rattle.ring_table.specs.ConsumerSteps.{StandsBefore, StoresHead, StoresHeadBefore};
 ghost use Rattle.ring_table.specs.Seats.{IsSameSeat, IsSeatOf};
 
 use crate::plays::consumer::{
-    ClearWord, LoadBody, LoadFirstHeader, LoadNextHeader, StoreHead, StoreHeadBefore,
+    ClearWord, LoadBody, LoadFirstHeader, LoadNextHeader, LoadPassed, StoreHead, StoreHeadBefore,
 };
 use crate::steps::{RingSeat, SharedRing, trailer_word};
 use ring_layout::ring_buffer_descriptor::HEAD_POSITION_WORD;
@@ -60,6 +60,26 @@ pub fn load_body_word(
     ensures told { LoadsBody (index capacity position) consumer.old.me.0 result }
 {
     ring.load::<LoadBody>(consumer, target)
+}
+
+/// Loads the next word that the read has passed and not yet cleared. Where it is 0 it counts as cleared, since nobody
+/// else stores to it. Its index in the buffer is `target`.
+pub fn load_passed_word(
+    ring: &SharedRing,
+    consumer: &mut RingSeat,
+    capacity: u32,
+    cleared: u64,
+    target: usize,
+) -> u64
+    requires seat { IsSeatOf ring.now.table_id ring.now.key capacity consumer.old }
+    requires target { target ≡ index capacity cleared }
+    requires consumes { consumer.old.me.0.consumes ≡ true }
+    requires cleared { consumer.old.me.0.consumer.cleared ≡ cleared }
+    requires passed { cleared < consumer.old.me.0.consumer.scan }
+    ensures seat { IsSameSeat consumer.old consumer.new }
+    ensures told { LoadsPassed consumer.old.me.0 result consumer.new.me.0 }
+{
+    ring.load::<LoadPassed>(consumer, target)
 }
 
 /// Sets the next word that the read has passed to 0. Its index in the buffer is `target`.

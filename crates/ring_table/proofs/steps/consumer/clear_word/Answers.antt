@@ -4,7 +4,7 @@ use Rattle.ring_table.specs.Views.{View}
 use Rattle.ring_table.specs.ProducerSteps.{Mine}
 use Rattle.ring_table.specs.ConsumerSteps.{ClearsWord}
 use Rattle.ring_table.proofs.Calls.{at_index, in_records}
-use Rattle.ring_table.proofs.Consuming.{clears_word}
+use Rattle.ring_table.proofs.Clearing.{clears_word}
 use Rattle.ring_table.proofs.steps.consumer.clear_word.Goals as goal
 
 pub store-requires : goal.store-requires

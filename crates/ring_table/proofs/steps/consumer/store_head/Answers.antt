@@ -6,7 +6,7 @@ use Rattle.ring_table.specs.ProducerSteps.{Mine}
 use Rattle.ring_table.specs.ConsumerSteps.{StoresHead}
 use Rattle.ring_table.proofs.Calls.{at_index, in_trailer}
 use Rattle.ring_table.proofs.Loading.{Ok}
-use Rattle.ring_table.proofs.Consuming.{stores_head}
+use Rattle.ring_table.proofs.Clearing.{stores_head}
 use Rattle.ring_table.proofs.steps.consumer.store_head.Goals as goal
 
 pub store-requires : goal.store-requires
