@@ -1,20 +1,23 @@
 -- What was received and what is left are the committed messages of the claims.
-use Rattle.std.proofs.Common.{◌≡◌, ◌∙◌, ℕ, List, [], ◌∷◌, ◌++◌, refl, sym, ap, append_assoc}
+use Rattle.std.proofs.Common.{◌≡◌, ◌≢◌, ◌∙◌, ℕ, ◌+◌, List, [], ◌∷◌, ◌++◌, length, length-append, refl, sym, ap, append_assoc, subst, arith}
+use Rattle.std.proofs.lemmas.List.Elements.{All-cons, All-nil}
 use Rattle.ring_layout.specs.declared.message.Claim.{Claim}
 use Rattle.ring_layout.specs.declared.message.Message.{Message}
 use Rattle.ring_layout.specs.declared.message.ClaimState.TheVariants.{Open, Committed, Aborted}
 use Rattle.ring_layout.specs.History.{committed_of, shown}
+use Rattle.ring_words.specs.Drain.{AllSettled}
 use Rattle.ring_words.specs.Ring.{Ring, Has}
 use Rattle.ring_table.specs.declared.claim.PlacedMessage.{PlacedMessage}
 use Rattle.ring_table.specs.declared.claim.StagedClaim.{StagedClaim}
 use Rattle.ring_table.specs.declared.claim.Stage.{Stage}
 use Rattle.ring_table.specs.declared.claim.Stage.TheVariants.{Moved, Padded, Stored}
 use Rattle.ring_table.specs.declared.view.View.{View}
-use Rattle.ring_table.specs.Passing.{placed_committed_of, placed_message, shown_at}
-use Rattle.ring_table.specs.Staged.{claim_of, claims_of}
+use Rattle.ring_table.specs.Passing.{AreSettled, IsSettled, placed_committed_of, placed_message, shown_at}
+use Rattle.ring_table.specs.Staged.{claim_of, claims_of, state_of}
 use Rattle.ring_rings.specs.Closing.{HandsOut}
 use Rattle.ring_rings.specs.Reading.{messages_of}
 use Rattle.ring_conductor.specs.Finishing.{IsWhole}
+use Rattle.ring_conductor.proofs.FoldLemmas.{lengths}
 
 pub messages_of-append : (a b : List PlacedMessage) → messages_of (a ++ b) ≡ messages_of a ++ messages_of b
 messages_of-append [] b = refl
@@ -55,3 +58,35 @@ whole C start p r rest out one h has =
     ∙ (ap messages_of (placed_committed_of-append out.passed out.left)
     ∙ messages_of-append (placed_committed_of out.passed) (placed_committed_of out.left)) in
     left ∙ (passed ∙ sym all)
+
+-- What is left -----------------------------------------------------------------
+
+not_open : (stage : Stage) → IsSettled stage → state_of stage ≢ Open
+not_open Moved h e = absurd h
+not_open Padded h e = absurd h
+not_open (Stored Open) h e = absurd h
+not_open (Stored Committed) h e = absurd cc
+not_open (Stored Aborted) h e = absurd cc
+
+settled_behind : (a b : List StagedClaim) → AreSettled (a ++ b) → AreSettled b
+settled_behind [] b h = h
+settled_behind (c ∷ a) b h = settled_behind a b h.1
+
+all_settled : (cs : List StagedClaim) → AreSettled cs → AllSettled (claims_of cs)
+all_settled [] h = All-nil (λ (d : Claim). d.state ≢ Open)
+all_settled (c ∷ cs) h = All-cons (λ (d : Claim). d.state ≢ Open) (claim_of c) (claims_of cs) (not_open c.stage h.0)
+    (all_settled cs h.1)
+
+-- where no claim is open, what was received and what a closed ring shows are all committed messages
+pub drained : (C start : ℕ) (p r : View) (rest : Ring) → HandsOut C start p r rest → AreSettled p.producer.claims
+    → (count : ℕ) → ((h : List Claim) → Has rest h → AllSettled h → count ≡ length (committed_of h))
+    → length r.consumer.taken + count ≡ length (placed_committed_of p.producer.claims)
+drained C start p r rest out settled count drains =
+    let took = ap length out.messages in
+    let here = all_settled out.left (settled_behind out.passed out.left (subst AreSettled out.whole settled)) in
+    let left = drains (claims_of out.left) out.has here ∙ (ap length (same_committed out.left)
+    ∙ lengths (placed_committed_of out.left)) in
+    let all = ap (λ l. length (placed_committed_of l)) out.whole
+    ∙ (ap length (placed_committed_of-append out.passed out.left)
+    ∙ length-append (placed_committed_of out.passed) (placed_committed_of out.left)) in
+    omega arith

@@ -8,9 +8,8 @@ use Rattle.std.proofs.lemmas.Bool.{cases_lt}
 use Rattle.ring_layout.specs.declared.message.Claim.{Claim}
 use Rattle.ring_layout.specs.declared.message.Message.{Message}
 use Rattle.ring_layout.specs.declared.message.ClaimState.TheVariants.{Open, Committed, Aborted}
-use Rattle.ring_layout.specs.History.{committed_of, shown}
-use Rattle.ring_words.specs.declared.read.action.Action.{Action}
-use Rattle.ring_words.specs.Read.{Reads}
+use Rattle.ring_layout.specs.History.{committed_of}
+use Rattle.ring_words.specs.Drain.{AllSettled}
 use Rattle.ring_words.specs.Ring.{Ring, Has}
 use Rattle.ring_table.specs.declared.claim.PlacedMessage.{PlacedMessage}
 use Rattle.ring_table.specs.declared.claim.StagedClaim.{StagedClaim}
@@ -18,6 +17,9 @@ use Rattle.ring_table.specs.declared.claim.Stage.{Stage}
 use Rattle.ring_table.specs.declared.claim.Stage.TheVariants.{Moved, Padded, Stored}
 use Rattle.ring_table.specs.declared.view.View.{View}
 use Rattle.ring_table.specs.Passing.{placed_committed_of, placed_message, shown_at}
+use Rattle.ring_table.specs.OpenClaims.{open_count}
+use Rattle.ring_table.proofs.LawLemmas.{none_open}
+use Rattle.ring_rings.specs.Closing.{HandsOut}
 use Rattle.ring_rings.specs.Reading.{messages_of}
 use Rattle.ring_counters.specs.declared.fault.AllocateRefused.{AllocateRefused}
 use Rattle.ring_counters.specs.declared.fault.IdFault.{IdFault}
@@ -37,11 +39,10 @@ use Rattle.ring_conductor.specs.Applied.{allocated, applied, done_unless, obeyed
 use Rattle.ring_protocol.specs.Codes.{bad_owner_code}
 use Rattle.ring_protocol.specs.Command.{Instruction, Allocate, AllocateOwned, Close, Free, Set}
 use Rattle.ring_conductor.specs.Conducting.{Works}
-use Rattle.ring_conductor.specs.Finishing.{IsWhole}
 use Rattle.ring_conductor.specs.Storming.{IsBoardFor, IsReportOf, all_commands, counters_after, storm_counters, sum_of, with_value_of}
 use Rattle.ring_conductor.specs.Fold.{Ledger, fold_of, at_moment, served}
 use Rattle.ring_protocol.specs.Reading.{command_of}
-use Rattle.ring_conductor.proofs.FinishLemmas.{messages_of-append}
+use Rattle.ring_conductor.proofs.FinishLemmas.{drained, messages_of-append}
 use Rattle.ring_conductor.proofs.FoldLemmas.{lengths}
 
 -- What the conductor does ------------------------------------------------------
@@ -191,70 +192,34 @@ few_committed (c ∷ cs) =
     let both = length-append here (placed_committed_of cs) in
     omega arith
 
-committed_of-append : (a b : List Claim) → committed_of (a ++ b) ≡ committed_of a ++ committed_of b
-committed_of-append [] b = refl
-committed_of-append (c ∷ a) b =
-    ap (λ l. shown c ++ l) (committed_of-append a b) ∙ sym (append_assoc (shown c) (committed_of a) (committed_of b))
-
--- there are so many committed messages, with those that were read
-pub record HasLeft (rest : Ring) (all read : ℕ) : Type 0 where
-  pub history : List Claim
-  pub has : Has rest history
-  pub count : read + length (committed_of history) ≤ all
-
-pub none_read : (rest : Ring) (h : List Claim) → Has rest h → HasLeft rest (length (committed_of h)) 0
-none_read rest h has = record { history = h; has = has; count = omega arith }
-
-pub more_read : {S : Type 0} (step : S → Message → S → Action → Type 0) (limit : ℕ) (old new : Ring) (s t : S)
-    (count all read more : ℕ) → Reads step limit old new s t count → HasLeft old all read → more ≤ read + count
-    → HasLeft new all more
-more_read step limit old new s t count all read more reads before few =
-    let passes = reads.passes before.history before.has in
-    let parts = ap (λ h. length (committed_of h)) passes.whole
-    ∙ (ap length (committed_of-append passes.passed passes.rest)
-    ∙ length-append (committed_of passes.passed) (committed_of passes.rest)) in
-    let shown = ap length passes.shown in
-    let counted = reads.counted in
-    let sum = before.count in
-    record { history = passes.rest; has = passes.left; count = omega arith }
-
--- what was received and what is left are not more than the claims
-pub few_left : (claims : List StagedClaim) (received : List PlacedMessage) (rest : Ring) (h : List Claim) → Has rest h
-    → IsWhole claims received rest → length received + length (committed_of h) ≤ length claims
-few_left claims received rest h has whole =
-    let all = ap length (whole h has) in
-    let both = length-append (messages_of received) (committed_of h) in
-    let took = lengths received in
-    let committed = lengths (placed_committed_of claims) in
-    let few = few_committed claims in
-    omega arith
-
-module _ (p : StormPlan) (claims : List StagedClaim) (taken : List PlacedMessage) (rest : Ring) (h : List Claim)
-    (has : Has rest h) (whole : IsWhole claims taken rest) (sent : length claims ≤ all_commands p)
-    (done : all_commands p ≤ length taken)
-    (counters : Registry) (folded : counters ≡ storm_counters p (messages_of taken)) where
-  report_of : (r : StormReport) → r.received ≡ length taken → r.seen ≡ all_commands p → r.left ≤ length (committed_of h)
+module _ (p : StormPlan) (C start : ℕ) (v w : View) (rest : Ring) (out : HandsOut C start v w rest)
+    (settled : open_count v.producer.claims ≡ 0) (sent : length v.producer.claims ≤ all_commands p)
+    (done : all_commands p ≤ length w.consumer.taken)
+    (counters : Registry) (folded : counters ≡ storm_counters p (messages_of w.consumer.taken)) where
+  report_of : (r : StormReport) → r.received ≡ length w.consumer.taken → r.seen ≡ all_commands p
+      → ((h : List Claim) → Has rest h → AllSettled h → r.left ≡ length (committed_of h))
       → r.live ≡ length (live_of counters) → r.sum ≡ sum_of (live_of counters) → IsReportOf p r
   report_of r received seen left live sum =
-      let few = few_left claims taken rest h has whole in
+      let all = drained C start v w rest out (none_open v.producer.claims settled).0 r.left left in
+      let few = few_committed v.producer.claims in
       record {
         received = omega arith;
         left = omega arith;
         seen = seen;
-        messages = messages_of taken;
-        taken = lengths taken ∙ sym received;
+        messages = messages_of w.consumer.taken;
+        taken = lengths w.consumer.taken ∙ sym received;
         live = live ∙ ap (λ c. length (live_of c)) folded;
         sum = sum ∙ ap (λ c. sum_of (live_of c)) folded;
       }
 
   -- the report of a storm that took all commands
-  pub reported : (result : Result StormReport StormFault) (n m : ℕ) → n ≡ length taken → m ≡ all_commands p
+  pub reported : (result : Result StormReport StormFault) (n m : ℕ) → n ≡ length w.consumer.taken → m ≡ all_commands p
       → IfOk result (λ r. (r.received ≡ n) × (r.seen ≡ m))
-      → IfOk result (λ r. (g : List Claim) → Has rest g → r.left ≤ length (committed_of g))
+      → IfOk result (λ r. (h : List Claim) → Has rest h → AllSettled h → r.left ≡ length (committed_of h))
       → IfOk result (λ r. r.live ≡ length (live_of counters)) → IfOk result (λ r. r.sum ≡ sum_of (live_of counters))
       → IfOk result (IsReportOf p)
   reported (Ok r) n m n_is m_is counts left live sum =
-      report_of r (counts.0 ∙ n_is) (counts.1 ∙ m_is) (left h has) live sum
+      report_of r (counts.0 ∙ n_is) (counts.1 ∙ m_is) left live sum
   reported (Err fault) n m n_is m_is counts left live sum = counts
 
 -- The board --------------------------------------------------------------------

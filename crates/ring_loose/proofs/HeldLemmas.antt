@@ -1,7 +1,8 @@
 -- What is held by number: a list with None where nothing is.
-use Rattle.std.proofs.Common.{◌≡◌, ◌≢◌, ℕ, suc, ◌+◌, ◌-◌, ◌<◌, IfNone, OnSome, List, [], ◌∷◌, ◌++◌, length, set, slice_index_or, cond, is_some, refl, ap, Option, Some, None, sym, ◌∙◌, subst, arith, ◌⊎◌, inl, inr, get_or-set_same, get_or-set_other}
+use Rattle.std.proofs.Common.{◌≡◌, ◌≢◌, ℕ, suc, ◌+◌, ◌-◌, ◌<◌, IfNone, OnSome, List, [], ◌∷◌, ◌++◌, drop, length, set, slice_index_or, cond, is_some, refl, ap, Option, Some, None, sym, ◌∙◌, subst, arith, ◌⊎◌, inl, inr, get_or-set_same, get_or-set_other}
 use mathlib.Core.Logic.{dite}
 use native.Mathlib.Decide.{ℕ_discrete}
+use Rattle.std.proofs.Math.Seq.{drop-cons}
 use Rattle.std.proofs.lemmas.Bool.{cases_lt}
 use Rattle.std.specs.List.{count_by}
 use Rattle.std.proofs.lemmas.List.Sums.{sum_by-append, sum_by-set}
@@ -74,6 +75,20 @@ module _ {A : Type 0} where
   none_of None free = refl
   none_of (Some x) free = absurd (free x refl)
 
+  -- the list from an index on
+  pub front : (xs : List (Option A)) (n : ℕ) (o : Option A) → n < length xs → slice_index_or xs n None ≡ o
+      → drop n xs ≡ o ∷ drop (n + 1) xs
+  front xs n o inside has =
+      let next : suc n ≡ n + 1 = omega arith in
+      drop-cons xs n None inside ∙ ap (λ x. x ∷ drop (suc n) xs) has ∙ ap (λ m. o ∷ drop m xs) next
+
+  -- nothing is held at the index of a number that is free
+  pub none_at : (xs : List (Option A)) (n : ℕ) → IsFree xs (n + 1) → slice_index_or xs n None ≡ None
+  none_at xs n free =
+      let at : n + 1 - 1 ≡ n = omega arith in
+      none_of (slice_index_or xs n None) (λ x has. free x
+      (record { positive = omega arith; has = subst (λ i. HasAt xs i x) (sym at) has }))
+
   one_more_gone : (xs : List (Option A)) (i : ℕ) → AreGone xs i → slice_index_or xs i None ≡ None → AreGone xs (i + 1)
   one_more_gone xs i below here k lt =
       elim (cases_lt k i) as (λ _. slice_index_or xs k None ≡ None) [
@@ -92,11 +107,8 @@ module _ {A : Type 0} where
       → OnSome r P → (P → ys ≡ set xs (i + 1 - 1) None) → IfNone r (IsFree xs (i + 1))
       → i < length xs → AreGone xs i → (length ys ≡ length xs) × AreGone ys (i + 1)
   given_up None xs ys i P same left took free inside below =
-      let at : i + 1 - 1 ≡ i = omega arith in
-      let here : slice_index_or xs i None ≡ None =
-      none_of (slice_index_or xs i None) (λ x has. free x
-      (record { positive = omega arith; has = subst (λ n. HasAt xs n x) (sym at) has })) in
-      subst (λ l. (length l ≡ length xs) × AreGone l (i + 1)) (sym same) (refl, one_more_gone xs i below here)
+      subst (λ l. (length l ≡ length xs) × AreGone l (i + 1)) (sym same)
+      (refl, one_more_gone xs i below (none_at xs i free))
   given_up (Some u) xs ys i P same left took free inside below =
       let at : i + 1 - 1 ≡ i = omega arith in
       subst (λ l. (length l ≡ length xs) × AreGone l (i + 1)) (sym (took left ∙ ap (λ n. set xs n None) at))

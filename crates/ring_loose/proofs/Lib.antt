@@ -2,3 +2,4 @@ pub mod HeldLemmas
 mod ClaimsLemmas
 mod TryLemmas
 mod LooseLemmas
+mod LeavingLemmas

@@ -1,6 +1,5 @@
 -- How the claims that a producer holds are aborted, one after another.
 use Rattle.std.proofs.Common.{Result, IsOk, ◌≡◌, ℕ, suc, ◌+◌, ◌-◌, ◌<◌, List, ◌∷◌, drop, length, set, Option, Some, None, MatchOption, IfNone, slice_index_or, refl, sym, ap, ◌∙◌, subst, arith, inl, inr, get_or-set_same, get_or-set_other}
-use Rattle.std.proofs.Math.Seq.{drop-cons}
 use Rattle.std.proofs.lemmas.Bool.{cases_lt}
 use Rattle.std.proofs.lemmas.List.{drop-set-lt, length-set}
 use Rattle.ring_layout.specs.declared.message.ClaimState.TheVariants.{Aborted}
@@ -16,27 +15,13 @@ use Rattle.ring_rings.specs.Closing.{close_refusal_of, IsRefusedAs}
 use Rattle.ring_loose.specs.Claims.{Holder, SettlesAt}
 use Rattle.ring_loose.specs.Held.{HasAt, IsFree}
 use Rattle.ring_loose.proofs.ClaimsLemmas.{same_open}
+use Rattle.ring_loose.proofs.HeldLemmas.{front, none_at}
 use Rattle.ring_loose.proofs.TryLemmas.{Keeps}
 use Rattle.ring_loose.specs.Loose.{AreSeats, Loose, aborted_view, all_aborted, with_holder}
 
 -- what the producer knows once the claims from an index on are aborted
 abbrev pub aborted_from : ℕ → Holder → View
 aborted_from n h = with_claims (all_aborted (drop n h.claims) h.view.producer.claims) h.view
-
-front : (claims : List (Option ClaimAt)) (n : ℕ) (o : Option ClaimAt) → n < length claims
-    → slice_index_or claims n None ≡ o → drop n claims ≡ o ∷ drop (n + 1) claims
-front claims n o inside has =
-    let next : suc n ≡ n + 1 = omega arith in
-    drop-cons claims n None inside ∙ ap (λ x. x ∷ drop (suc n) claims) has ∙ ap (λ m. o ∷ drop m claims) next
-
-none_at : (claims : List (Option ClaimAt)) (n : ℕ) → IsFree claims (n + 1) → slice_index_or claims n None ≡ None
-none_at claims n gone = by_case (slice_index_or claims n None) refl
-  where
-    by_case : (o : Option ClaimAt) → slice_index_or claims n None ≡ o → slice_index_or claims n None ≡ None
-    by_case None e = e
-    by_case (Some t) e =
-        let at : n ≡ n + 1 - 1 = omega arith in absurd
-        (gone t (record { positive = omega arith; has = subst (λ i. HasAt claims i t) at e }))
 
 -- of a ring the claims below an index were aborted
 pub record AbortedTo (start : Loose) (count n : ℕ) (now : Loose) : Type 0 where

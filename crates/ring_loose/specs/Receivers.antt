@@ -1,6 +1,7 @@
 -- Numbered receivers of a broadcast buffer.
-use Rattle.std.specs.Prelude.{◌≡◌, ℕ, List, MatchOption, MatchResult, Option, Result}
+use Rattle.std.specs.Prelude.{◌≡◌, ℕ, List, [], ◌∷◌, MatchOption, MatchResult, Option, Some, None, Result}
 use Rattle.ring_board.specs.declared.board.Board.{Board}
+use Rattle.ring_board.specs.declared.shared.view.View.{View}
 use Rattle.ring_board.specs.declared.board.Transmitter.{Transmitter}
 use Rattle.ring_board.specs.declared.board.CopyReceiver.{CopyReceiver}
 use Rattle.ring_board.specs.Receiving.{GotCopy, GotLapped, GotNothing}
@@ -49,3 +50,9 @@ pub record Leaves (old : Crowd) (number : ℕ) (new : Crowd) : Type 0 where
   pub receiver : CopyReceiver
   pub goes : Goes receiver old.receivers number new.receivers
   pub share : view_of new.transmitter ≡ joined (view_of old.transmitter) (receiver_view receiver)
+
+-- what a transmitter knows once all receivers that are here have left, in rising order of their numbers
+abbrev pub all_left : List (Option CopyReceiver) → View → View
+all_left [] v = v
+all_left (None ∷ more) v = all_left more v
+all_left (Some r ∷ more) v = all_left more (joined v (receiver_view r))

@@ -1,16 +1,22 @@
 //! The broadcast buffer of a run, with its numbered receivers.
-ghost use Rattle.std.specs.Prelude.{◌≡◌, ◌+◌, IfNone, IfOk, IfSome, OnErr, OnOk, OnSome, length};
+ghost use Rattle.std.specs.Prelude.{◌≡◌, ◌+◌, [], IfNone, IfOk, IfSome, OnErr, OnOk, OnSome, length};
+ghost use Rattle.ring_board.specs.Closing.{IsClosed, closed_capacity, closed_words};
 ghost use Rattle.ring_board.specs.Refusals.{make_refusal_of, subscribe_refusal_of, transmit_refusal_of, IsMadeUnless, IsRefusedBy, IsSubscribedUnless};
 ghost use Rattle.ring_board.specs.Layout.{all_shares};
-ghost use Rattle.ring_board.specs.Seats.{capacity_of, next_record, shares_of, tail_of, view_of, IsTransmitterOf};
+ghost use Rattle.ring_board.specs.Rule.{opening_view};
+ghost use Rattle.ring_board.specs.Runs.{AreAllRuns};
+ghost use Rattle.ring_board.specs.Seats.{capacity_of, next_record, shares_of, start_of, tail_of, transmitted, view_of};
+ghost use Rattle.ring_board.specs.Seats.{IsTransmitterOf};
 ghost use Rattle.ring_board.specs.Steps.{sent_on};
 ghost use Rattle.ring_loose.specs.Held.{IsFree, held_count, held_in};
-ghost use Rattle.ring_loose.specs.Receivers.{AreReceivers, Leaves, ReceivesAt, Subscribes, crowd};
+ghost use Rattle.ring_loose.specs.Receivers.{AreReceivers, Leaves, ReceivesAt, Subscribes, all_left, crowd};
 
 use crate::numbered::Numbered;
 use crate::received::Received;
 use crate::receiving::receive_at;
-use ring_board::{Board, CopyReceiver, MakeFault, SubscribeFault, TransmitFault, Transmitter};
+use ring_board::{
+    Board, ClosedBoard, CopyReceiver, MakeFault, SubscribeFault, TransmitFault, Transmitter,
+};
 use std::alloc::{AllocError, Global};
 
 /// A broadcast buffer with its receivers, which are numbered from 1. No number is given twice.
@@ -79,7 +85,10 @@ fn join_receiver(
 impl LooseBoard {
     /// Makes an empty broadcast buffer.
     pub fn new(alloc: Global, capacity: u32) -> Result<Self, MakeFault>
-        ensures { IsMadeUnless (make_refusal_of capacity 0) result }
+        ensures refused { IsMadeUnless (make_refusal_of capacity 0) result }
+        ensures board { IfOk result (λ made. (capacity_of made.board ≡ capacity) × (start_of made.board ≡ 0)) }
+        ensures fresh { IfOk result (λ made. (view_of made.transmitter ≡ opening_view capacity 0)
+            × (held_in made.receivers ≡ [])) }
     {
         let (board, transmitter) = Board::new(alloc, capacity)?;
         Ok(LooseBoard {
@@ -132,8 +141,10 @@ impl LooseBoard {
     pub fn leave(&mut self, number: usize) -> Option<()>
         ensures left { OnSome result (Leaves
             (crowd self.old.transmitter self.old.receivers) number (crowd self.new.transmitter self.new.receivers)) }
-        ensures same { IfNone result (held_in self.new.receivers ≡ held_in self.old.receivers) }
+        ensures same { IfNone result ((self.new.transmitter ≡ self.old.transmitter)
+            × (held_in self.new.receivers ≡ held_in self.old.receivers)) }
         ensures free { IfNone result (IsFree (held_in self.old.receivers) number) }
+        ensures board { self.new.board ≡ self.old.board }
     {
         join_receiver(
             &self.board,
@@ -145,21 +156,34 @@ impl LooseBoard {
 
     /// Joins all receivers, in rising order of their numbers. The transmitter has all shares then.
     fn join_all(&mut self)
-        ensures { shares_of self.new.transmitter ≡ all_shares }
+        ensures shares { shares_of self.new.transmitter ≡ all_shares }
+        ensures left { view_of self.new.transmitter
+            ≡ all_left (held_in self.old.receivers) (view_of self.old.transmitter) }
+        ensures board { self.new.board ≡ self.old.board }
     {
         for index in 0..self.receivers.drawn() {
             let _ = self.leave(index + 1);
         }
     }
 
-    /// Joins all receivers and closes the broadcast buffer.
-    pub fn close(mut self) {
+    /// Joins all receivers, in rising order of their numbers, and closes the broadcast buffer. What it answers has the
+    /// words of all that was transmitted.
+    pub fn close(mut self) -> ClosedBoard
+        ensures capacity { closed_capacity result ≡ capacity_of self.board }
+        ensures closed { IsClosed (capacity_of self.board) (start_of self.board) (transmitted self.transmitter)
+            (closed_words result) }
+        ensures runs { AreAllRuns (transmitted self.transmitter)
+            (all_left (held_in self.receivers) (view_of self.transmitter)).heard }
+    {
         self.join_all();
         let LooseBoard {
             board,
             transmitter,
             ..
         } = self;
-        let _ = board.close(transmitter);
+        match board.close(transmitter) {
+            Ok(closed) => closed,
+            Err(_refused) => unreachable!(),
+        }
     }
 }

@@ -8,6 +8,7 @@ ghost use Rattle.ring_rings.specs.Seats.{capacity_of, shares_of, IsProducerOf};
 ghost use Rattle.ring_loose.specs.Claims.{AreOpen, Declines, HoldsNothing, Puts, SettlesAt, Tries, WritesAfter, holder_of};
 ghost use Rattle.ring_loose.specs.Held.{IsFree, held_in};
 ghost use Rattle.ring_loose.specs.Loose.{aborted_view, beaten_view, fresh_loose, head_in, with_holder, with_reader, with_view};
+ghost use Rattle.ring_table.specs.Passing.{AreSettled};
 ghost use Rattle.ring_table.specs.ServiceSteps.{DrawsId, LoadsHeartbeat};
 ghost use Rattle.ring_words.specs.Fresh.{make_refusal_of, IsMadeUnless};
 ghost use Rattle.ring_words.specs.Read.{stop_of};
@@ -311,6 +312,7 @@ impl LooseRing {
 
     /// Aborts all open claims, in rising order of their numbers, and closes the ring.
     pub fn close(mut self) -> SoloRing
+        ensures settled { AreSettled (aborted_view self.holder).producer.claims }
         ensures rest { HandsOut self.capacity 0 (aborted_view self.holder) self.consumer result }
         ensures service { Serves self.capacity (aborted_view self.holder) self.consumer result }
     {

@@ -1,3 +1,4 @@
+pub mod Closing
 pub mod Faults
 pub mod Instructions
 pub mod Serving

@@ -6,7 +6,6 @@ mod fault;
 mod input;
 mod options;
 mod printer;
-mod rest;
 mod runner;
 mod scenario;
 mod service;

@@ -1,5 +1,8 @@
 //! What a run holds, and what its calls print.
-ghost use Rattle.std.specs.Prelude.{◌≡◌, None, IsOkUnless};
+ghost use Rattle.std.specs.Prelude.{◌≡◌, ◌+◌, ◌↔◌, None, IfSome, IsOkUnless, IsSome, IsTrue, length};
+ghost use Rattle.ring_table.specs.Passing.{placed_committed_of};
+ghost use Rattle.ring_loose.specs.Loose.{aborted_view};
+ghost use Rattle.ring_scenario.specs.Closing.{IsServed};
 ghost use Rattle.ring_scenario.specs.Sizes.{size_fault_of};
 
 mod serving;
@@ -8,7 +11,6 @@ mod storming;
 use crate::fault::RunFault;
 use crate::options::Options;
 use crate::printer::{Printer, hex_word};
-use crate::rest::count_left;
 use crate::service::{CommandService, Served};
 use ring_board::MakeFault as BoardMakeFault;
 use ring_lines::{Call, LineFault};
@@ -214,7 +216,13 @@ impl Runner {
 
     /// Aborts the open claims, joins receivers, listeners and watchers, closes all, and counts the messages that are
     /// left.
-    pub fn close(self) -> Ended {
+    pub fn close(self) -> Ended
+        ensures messages { result.messages ≡ self.messages }
+        ensures left { length self.loose.consumer.consumer.taken + result.left
+            ≡ length (placed_committed_of (aborted_view self.loose.holder).producer.claims) }
+        ensures served { IsSome result.served ↔ IsTrue self.serves }
+        ensures finished { IfSome result.served (IsServed self.service) }
+    {
         let Runner {
             loose,
             board,
@@ -223,12 +231,12 @@ impl Runner {
             serves,
             ..
         } = self;
-        let left = count_left(&mut loose.close());
-        board.close();
+        let left = loose.close().drain();
+        let _ = board.close();
         let served = service.close();
         Ended {
             messages,
-            left,
+            left: u64::from(left),
             served: serves.then_some(served),
         }
     }

@@ -2,6 +2,7 @@
 ghost use Rattle.std.specs.Prelude.{◌≡◌, ◌≤◌, List, length, IfErr, IfOk};
 ghost use Rattle.ring_layout.specs.declared.message.Claim.{Claim};
 ghost use Rattle.ring_layout.specs.History.{committed_of};
+ghost use Rattle.ring_words.specs.Drain.{AllSettled};
 ghost use Rattle.ring_words.specs.Ring.{Has};
 ghost use Rattle.ring_counters.specs.Manager.{registry_of};
 ghost use Rattle.ring_counters.specs.Registry.{count_of, live_of};
@@ -11,35 +12,7 @@ ghost use Rattle.ring_conductor.specs.declared.storming.plan.StormFault.TheVaria
 use crate::finishing::Finished;
 use crate::storming::plan::{StormFault, StormReport};
 use ring_counters::CountersManager;
-use ring_words::{Action, Handler, SoloRing, Stop};
 use std::alloc::Global;
-
-/// Takes any message.
-#[derive(Drop)]
-struct Anyone;
-
-impl Handler for Anyone {
-    ghost step = { λ s m t action. Unit {0} };
-
-    fn on_message(&mut self, _type_id: i32, _body: &[u8]) -> Action {
-        Action::Continue
-    }
-}
-
-/// How many messages are left in a ring.
-fn count_left(mut rest: SoloRing) -> u64
-    ensures { (h : List Claim) → Has rest h → result ≤ length (committed_of h) }
-{
-    let mut left = 0u64;
-    for _ in 0..u64::MAX {
-        let end = rest.read(u32::MAX, &mut Anyone);
-        left = left.saturating_add(u64::from(end.messages));
-        if end.stopped == Stop::Unpublished {
-            return left;
-        }
-    }
-    left
-}
 
 /// How many counters are in use, and the sum of their values.
 fn count_live(alloc: Global, counters: &CountersManager) -> Result<(u32, i64), StormFault>
@@ -68,13 +41,14 @@ pub(crate) fn report(
 ) -> Result<StormReport, StormFault>
     requires few { count_of (registry_of finished.counters) ≤ 64 }
     ensures received { IfOk result (λ r. (r.received ≡ finished.received) × (r.seen ≡ seen)) }
-    ensures left { IfOk result (λ r. (h : List Claim) → Has finished.rest h → r.left ≤ length (committed_of h)) }
+    ensures left { IfOk result (λ r. (h : List Claim) → Has finished.rest h → AllSettled h
+        → r.left ≡ length (committed_of h)) }
     ensures live { IfOk result (λ r. r.live ≡ length (live_of (registry_of finished.counters))) }
     ensures sum { IfOk result (λ r. r.sum ≡ sum_of (live_of (registry_of finished.counters))) }
     ensures err { IfErr result (λ fault. fault ≡ OutOfMemory) }
 {
     let Finished {
-        rest,
+        mut rest,
         board: _,
         values: _,
         counters,
@@ -83,7 +57,7 @@ pub(crate) fn report(
     let (live, sum) = count_live(alloc, &counters)?;
     Ok(StormReport {
         received,
-        left: count_left(rest),
+        left: u64::from(rest.drain()),
         seen,
         live,
         sum,

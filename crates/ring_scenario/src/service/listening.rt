@@ -102,6 +102,7 @@ impl CommandService {
         ensures same { IfNone result (held_in self.new.listeners ≡ held_in self.old.listeners) }
         ensures free { IfNone result (IsFree (held_in self.old.listeners) number) }
         ensures others { KeepsTheRest self.old.conductor self.new.conductor }
+        ensures producer { self.new.producer ≡ self.old.producer }
     {
         join_listener(
             &self.board,
@@ -115,6 +116,7 @@ impl CommandService {
     pub(super) fn join_listeners(&mut self)
         ensures shares { shares_of (transmitter_of self.new.conductor) ≡ 65536 }
         ensures others { KeepsTheRest self.old.conductor self.new.conductor }
+        ensures producer { self.new.producer ≡ self.old.producer }
     {
         for index in 0..self.listeners.drawn() {
             let _ = self.dismiss(index + 1);

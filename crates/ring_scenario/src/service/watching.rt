@@ -122,6 +122,7 @@ impl CommandService {
         ensures free { IfNone result (IsFree (held_in self.old.watchers) number) }
         ensures registry { registry_of (counters_of self.new.conductor) ≡ registry_of (counters_of self.old.conductor) }
         ensures others { KeepsSeats self.old.conductor self.new.conductor }
+        ensures producer { self.new.producer ≡ self.old.producer }
     {
         join_watcher(
             &self.values,
@@ -136,6 +137,7 @@ impl CommandService {
         ensures shares { value_shares_of self.new.conductor ≡ 65536 }
         ensures registry { registry_of (counters_of self.new.conductor) ≡ registry_of (counters_of self.old.conductor) }
         ensures others { KeepsSeats self.old.conductor self.new.conductor }
+        ensures producer { self.new.producer ≡ self.old.producer }
     {
         for index in 0..self.watchers.drawn() {
             let _ = self.unwatch(index + 1);

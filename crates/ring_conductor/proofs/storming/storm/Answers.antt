@@ -11,5 +11,5 @@ returns-in-None-clause-report g c =
     let done = threads.done c.in-None.is in
     let folded = ap (λ (m : CountersManager). registry_of m) e.counters ∙ threads.hub.2 in
     let said = c.report.ensures in
-    reported _ _ _ _ _ e.left.has e.whole threads.sent done.0 _ folded c.report.result _ _ e.received done.1
+    reported _ _ _ _ _ _ e.left threads.whole.settled threads.sent done.0 _ folded c.report.result _ _ e.received done.1
     said.received said.left said.live said.sum

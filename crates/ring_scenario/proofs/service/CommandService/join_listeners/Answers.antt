@@ -23,6 +23,7 @@ loop-index-preserved c =
             ∙ was.2.consumer;
         counters = c.dismiss.ensures.others.counters ∙ was.2.counters;
       },
+      c.dismiss.ensures.producer ∙ was.3,
     )
 
 pub returns-clause-shares : goal.returns-clause-shares

@@ -23,6 +23,7 @@ loop-index-preserved c =
             ∙ was.3.consumer;
         transmitter = c.unwatch.ensures.others.transmitter ∙ was.3.transmitter;
       },
+      c.unwatch.ensures.producer ∙ was.4,
     )
 
 pub returns-clause-shares : goal.returns-clause-shares
