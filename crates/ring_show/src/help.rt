@@ -1,9 +1,11 @@
 //! The texts of the help.
 
 pub const ABOUT: &str =
-    "Shows what lies in a ring or in counters, from a copy of their memory in a file.";
+    "Shows what lies in a ring, a board or counters, from a copy of their memory in a file.";
 
 pub const RING: &str = "Lists the records of a ring between its head and its tail";
+
+pub const BOARD: &str = "Lists the records of a broadcast buffer's running lap";
 
 pub const COUNTERS: &str = "Lists the counters in use and those that were freed, by rising id";
 
@@ -34,7 +36,8 @@ pub const AFTER: &str = "\
 The copy is words of 64 bits, little-endian, in the layout of Agrona's buffers.
 
 The line below the positions is a picture of the buffer, from its first byte to its last:
-  H head   T tail   = committed   O open   x aborted   - aborted, or padding   ? header not yet stored   . free
+  a ring:  H head   T tail   = committed   O open   x aborted   - aborted, or padding   ? header not yet stored   . free
+  a board: L latest   T tail   I tail intent   = valid   ~ lapped   - padding   . not listed
 
 What is wrong with the memory stands on standard error, one finding a line.
 

@@ -1,7 +1,8 @@
-//! Shows what lies in a ring, or in counters: reads a copy of their memory from files,
+//! Shows what lies in a ring, a board or counters: reads a copy of their memory from files,
 //! and prints a table that a person reads, or JSON.
 #![tactic(auto)]
 
+mod board;
 mod bodies;
 mod counters;
 mod fault;
@@ -10,6 +11,7 @@ mod input;
 mod json;
 mod options;
 mod picture;
+mod records;
 mod report;
 mod ring;
 mod table;
@@ -78,6 +80,10 @@ fn report_of<R: AllocGlobal + Files>(rt: &R, options: &Options<'_>) -> Result<Re
         Subject::Ring(section) => {
             let words = input::words(rt, section)?;
             ring::report(alloc, words.as_slice(), options)
+        }
+        Subject::Board(section) => {
+            let words = input::words(rt, section)?;
+            board::report(alloc, words.as_slice(), options)
         }
         Subject::Counters { metadata, values } => {
             let metadata = input::words(rt, metadata)?;

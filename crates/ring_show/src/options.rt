@@ -15,6 +15,7 @@ pub struct Section<'a> {
 #[derive(Clone, Copy, Debug)]
 pub enum Subject<'a> {
     Ring(Section<'a>),
+    Board(Section<'a>),
     Counters {
         metadata: Section<'a>,
         values: Section<'a>,
@@ -84,10 +85,17 @@ fn shown<'a>(alloc: Global, name: &'a str, about: &'a str) -> Result<Command<'a>
     Ok(command)
 }
 
-fn command<'a>(alloc: Global) -> Result<Command<'a>, Error> {
-    let ring = shown(alloc, "ring", help::RING)?
+/// A subcommand that lists the records of one file.
+fn listed<'a>(alloc: Global, name: &'a str, about: &'a str) -> Result<Command<'a>, Error> {
+    let command = shown(alloc, name, about)?
         .arg(file(alloc, "FILE", help::FILE))?
         .arg(number(alloc, "from", "POSITION", help::FROM))?;
+    Ok(command)
+}
+
+fn command<'a>(alloc: Global) -> Result<Command<'a>, Error> {
+    let ring = listed(alloc, "ring", help::RING)?;
+    let board = listed(alloc, "board", help::BOARD)?;
     let counters = shown(alloc, "counters", help::COUNTERS)?
         .arg(file(alloc, "METADATA", help::METADATA))?
         .arg(file(alloc, "VALUES", help::VALUES))?
@@ -100,6 +108,7 @@ fn command<'a>(alloc: Global) -> Result<Command<'a>, Error> {
         .after_help(help::AFTER)
         .subcommand_required(true)
         .subcommand(ring)?
+        .subcommand(board)?
         .subcommand(counters)?;
     Ok(command)
 }
@@ -125,6 +134,7 @@ fn named_section<'a>(matches: &ArgMatches<'a>, file: &str, at: &str, length: &st
 fn options_of<'a>(name: &str, matches: &ArgMatches<'a>) -> Options<'a> {
     Options {
         subject: match name {
+            "board" => Subject::Board(named_section(matches, "FILE", "at", "length")),
             "counters" => Subject::Counters {
                 metadata: named_section(matches, "METADATA", "at", "length"),
                 values: named_section(matches, "VALUES", "values-at", "values-length"),

@@ -1,11 +1,11 @@
 //! The report of a ring.
-use crate::bodies;
 use crate::fault::ShowFault;
-use crate::options::{Bodies, Options};
-use crate::picture::{Mark, Picture};
-use crate::report::{Cell, Column, Field, Report};
-use ring_layout::{align8, byte_index};
-use ring_snapshot::{Record, RecordState, RingFinding, RingSnapshot};
+use crate::options::Options;
+use crate::picture::Mark;
+use crate::records::{Listed, Shown, fields};
+use crate::report::Report;
+use ring_layout::byte_index;
+use ring_snapshot::{Record, RecordState, RingSnapshot};
 use std::alloc::{AllocError, Global};
 
 fn state_name(state: RecordState) -> &'static str {
@@ -25,6 +25,19 @@ fn mark_of(state: RecordState) -> Mark {
         RecordState::Aborted => Mark::Aborted,
         RecordState::AbortedOrPadding => Mark::AbortedOrPadding,
         RecordState::Unstored => Mark::Unstored,
+    }
+}
+
+fn shown(record: Record<'_>) -> Shown<'_> {
+    let has_message = matches!(record.state, RecordState::Open | RecordState::Committed);
+    Shown {
+        place: record.place,
+        index: record.index,
+        state: state_name(record.state),
+        mark: mark_of(record.state),
+        type_id: record.type_id,
+        length: record.length,
+        body: if has_message { Some(record.body) } else { None },
     }
 }
 
@@ -58,112 +71,31 @@ impl Tally {
     }
 }
 
-/// What is gathered of a ring.
-#[derive(Drop)]
-struct Gathered {
-    rows: Vec<Vec<Cell>>,
-    tally: Tally,
-    picture: Picture,
-    finding: Option<RingFinding>,
-}
-
-fn columns(alloc: Global, bodies: Bodies) -> Result<Vec<Column>, AllocError> {
-    let mut columns = Vec::new(alloc);
-    for (name, is_number) in [
-        ("place", true),
-        ("index", true),
-        ("state", false),
-        ("type", true),
-        ("length", true),
-    ] {
-        columns.push(Column { name, is_number })?;
-    }
-    if bodies != Bodies::None {
-        columns.push(Column {
-            name: "body",
-            is_number: false,
-        })?;
-    }
-    Ok(columns)
-}
-
-fn row(alloc: Global, bodies: Bodies, record: Record<'_>) -> Result<Vec<Cell>, AllocError> {
-    let mut row = Vec::new(alloc);
-    row.push(Cell::Unsigned(record.place))?;
-    row.push(Cell::Unsigned(u64::from(record.index)))?;
-    row.push(Cell::Text(String::from_str(alloc, state_name(record.state))?))?;
-    row.push(Cell::Signed(i64::from(record.type_id)))?;
-    row.push(Cell::Unsigned(u64::from(record.length)))?;
-    if bodies != Bodies::None {
-        row.push(match record.state {
-            RecordState::Open | RecordState::Committed => {
-                let bytes: Vec<u8> = record.body.collect(alloc)?;
-                bodies::cell(alloc, bodies, bytes.as_slice())?
-            }
-            _ => Cell::Nothing,
-        })?;
-    }
-    Ok(row)
-}
-
+/// Adds the records from the head, or from the position that was asked for, and counts them.
 fn gather(
     alloc: Global,
     ring: &RingSnapshot<'_>,
     options: &Options<'_>,
-) -> Result<Gathered, AllocError> {
-    let mut gathered = Gathered {
-        rows: Vec::new(alloc),
-        tally: Tally::default(),
-        picture: Picture::new(alloc, ring.capacity())?,
-        finding: None,
-    };
+    listed: &mut Listed,
+) -> Result<Tally, AllocError> {
+    let mut tally = Tally::default();
     let records = match ring.records_from(options.from.unwrap_or(ring.head())) {
         Ok(records) => records,
         Err(finding) => {
-            gathered.finding = Some(finding);
-            return Ok(gathered);
+            listed.find(format!(in alloc; "{finding}")?)?;
+            return Ok(tally);
         }
     };
     for entry in records {
         match entry {
             Ok(record) => {
-                let (index, state) = (record.index, record.state);
-                let span = align8(u64::from(record.length));
-                mark(&mut gathered.picture, ring.capacity(), index, span, state);
-                gathered.tally.add(state, record.place);
-                gathered.rows.push(row(alloc, options.bodies, record)?)?;
+                tally.add(record.state, record.place);
+                listed.add(alloc, shown(record))?;
             }
-            Err(finding) => gathered.finding = Some(finding),
+            Err(finding) => listed.find(format!(in alloc; "{finding}")?)?,
         }
     }
-    Ok(gathered)
-}
-
-/// Marks a record. Where headers are not yet stored the bytes may go on at the buffer's start.
-fn mark(picture: &mut Picture, capacity: u32, index: u32, span: u64, state: RecordState) {
-    let room = u64::from(capacity.saturating_sub(index));
-    picture.mark(index, span.min(room), mark_of(state));
-    if span > room {
-        picture.mark(0, span - room, mark_of(state));
-    }
-}
-
-fn fields(alloc: Global, ring: &RingSnapshot<'_>) -> Result<Vec<Field>, AllocError> {
-    let mut fields = Vec::new(alloc);
-    for (name, value) in [
-        ("capacity", u64::from(ring.capacity())),
-        ("head", ring.head()),
-        ("tail", ring.tail()),
-        ("head_cache", ring.head_cache()),
-        ("correlation", ring.correlation()),
-        ("heartbeat", ring.heartbeat()),
-    ] {
-        fields.push(Field {
-            name,
-            value: Cell::Unsigned(value),
-        })?;
-    }
-    Ok(fields)
+    Ok(tally)
 }
 
 fn summary(alloc: Global, ring: &RingSnapshot<'_>, tally: Tally) -> Result<String, AllocError> {
@@ -199,24 +131,21 @@ pub fn report(alloc: Global, words: &[u64], options: &Options<'_>) -> Result<Rep
             return Ok(Report::refused(alloc, "ring", "records", "not a ring", text)?);
         }
     };
-    let gathered = gather(alloc, &ring, options)?;
-    let mut findings = Vec::new(alloc);
-    if let Some(finding) = gathered.finding {
-        findings.push(format!(in alloc; "{finding}")?)?;
-    }
     let capacity = ring.capacity();
+    let mut listed = Listed::new(alloc, capacity, options.bodies)?;
+    let tally = gather(alloc, &ring, options, &mut listed)?;
+    let named = [
+        ("capacity", u64::from(capacity)),
+        ("head", ring.head()),
+        ("tail", ring.tail()),
+        ("head_cache", ring.head_cache()),
+        ("correlation", ring.correlation()),
+        ("heartbeat", ring.heartbeat()),
+    ];
     let signs = [
         ('H', byte_index(capacity, ring.head())),
         ('T', byte_index(capacity, ring.tail())),
     ];
-    Ok(Report {
-        kind: "ring",
-        fields: fields(alloc, &ring)?,
-        picture: gathered.picture.line(alloc, &signs)?,
-        list: "records",
-        columns: columns(alloc, options.bodies)?,
-        rows: gathered.rows,
-        summary: summary(alloc, &ring, gathered.tally)?,
-        findings,
-    })
+    let summary = summary(alloc, &ring, tally)?;
+    Ok(listed.report(alloc, "ring", fields(alloc, &named)?, &signs, summary)?)
 }

@@ -1,4 +1,5 @@
+pub mod EntryLemmas
+pub mod StepLemmas
 pub mod ListingLemmas
 pub mod CounterLemmas
 pub mod WriteLemmas
-pub mod BoardLemmas

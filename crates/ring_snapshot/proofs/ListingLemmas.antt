@@ -2,11 +2,8 @@
 use Rattle.std.proofs.Common.{◌≡◌, ℕ, zero, suc, ◌+◌, ◌-◌, ◌*◌, ◌/◌, ◌%◌, ◌^◌, ◌<◌, ◌≤◌, List, [], ◌∷◌, ◌++◌, length, drop, slice_index, refl, ap, sym, ◌∙◌, arith, inl, inr, ℤ, pos, negsuc, neg_ℤ, nat_abs, ◌≤ℤ◌, true, false, Ok, Err, rules}
 use Rattle.std.specs.Prelude.{int_lt, not, ◌&&◌, if◌then◌else◌}
 use Rattle.std.specs.Int.{from_le_bytes, w64}
-use Rattle.std.proofs.lemmas.Int.{ints}
 use Rattle.std.proofs.lemmas.Bool.{cases_lt, lt-ltb, le-ltb, le-leb, lt-leb, ne_eqb, cond-true, cond-false}
-use Rattle.std.proofs.lemmas.List.{ext_get_or, get_or-drop, get_or_past}
-use Rattle.std.proofs.lemmas.List.FromFn.{length-map-range_with_len, get_or-map-range_with_len}
-use Rattle.std.proofs.lemmas.List.Elements.{All-head, All-tail, All-get_or}
+use Rattle.std.proofs.lemmas.List.Elements.{All-head, All-tail}
 use Rattle.ring_layout.specs.declared.message.Claim.{Claim}
 use Rattle.ring_layout.specs.declared.message.ClaimState.TheVariants.{Open, Committed, Aborted}
 use Rattle.ring_layout.specs.History.{IsMessage, span_of, span}
@@ -18,14 +15,15 @@ use Rattle.ring_layout.proofs.CapacityLemmas.{capacity_blocks}
 use Rattle.ring_layout.proofs.PlaceLemmas.{next_le, next_cases, next_within, next_aligned, span_bounds, end_of_le}
 use Rattle.ring_layout.proofs.PictureLemmas.{word_at_padding_header, word_at_record, word_at_rest}
 use Rattle.ring_layout.proofs.HeaderLemmas.{len_of-header, type_of-header, fits_pos, fits_neg}
-use Rattle.ring_layout.proofs.WordBytes.{byte_of_word}
 use Rattle.ring_words.proofs.HeadLemmas.{state_cases, header_open, header_committed, header_aborted}
-use Rattle.ring_counters.specs.Records.{byte_at, bytes_at}
+use Rattle.ring_counters.specs.Records.{bytes_at}
 use Rattle.ring_snapshot.specs.declared.record.Record.{Record}
 use Rattle.ring_snapshot.specs.declared.record.RecordState.{RecordState}
 use Rattle.ring_snapshot.specs.declared.record.RecordState.TheVariants as shown
-use Rattle.ring_snapshot.specs.declared.ring_finding.RingFinding.{RingFinding}
-use Rattle.ring_snapshot.specs.RingRecords.{Entry, length_in, type_in, up_to_eight, is_length, is_padding_type, passed_at, message_at, entry_for, entry_at, followed, listing, state_of, records_of, ok_records, Lie}
+use Rattle.ring_snapshot.specs.Listing.{up_to_eight, followed, ok_records}
+use Rattle.ring_snapshot.specs.RingRecords.{Entry, length_in, type_in, is_length, is_padding_type, passed_at, message_at, entry_for, entry_at, listing, state_of, records_of, Lie}
+use Rattle.ring_snapshot.proofs.EntryLemmas.{not_padding, not_below_one, body_told}
+use Rattle.ring_snapshot.proofs.StepLemmas.{some_suc, listing_ends, listing_step}
 
 -- ---- numbers
 
@@ -40,13 +38,6 @@ neg_below (suc n) h = refl
 neg_not_positive : (n : ℕ) → int_lt (pos 0) (neg_ℤ (pos n)) ≡ false
 neg_not_positive zero = refl
 neg_not_positive (suc n) = refl
-
-not_padding : (z : ℤ) → pos 1 ≤ℤ z → is_padding_type z ≡ false
-not_padding (pos n) h = refl
-not_padding (negsuc n) h = absurd (omega (arith, ints))
-
-not_below_one : (z : ℤ) → pos 1 ≤ℤ z → int_lt z (pos 1) ≡ false
-not_below_one z h = grind (arith, ints)
 
 -- ---- an entry
 
@@ -208,33 +199,8 @@ module _ (C : ℕ) (words : List ℕ) (tail e : ℕ) (c : Claim) (h : List Claim
       ∙ cond-false _ _ _ (ne_eqb (8 * (j + 1)) 0 (λ z. omega arith))
       ∙ ap (λ k. from_le_bytes w64 (drop k c.message.body)) back
 
-  byte_small : (j : ℕ) → slice_index c.message.body j < 256
-  byte_small j =
-      elim (cases_lt j n) as (λ _. slice_index c.message.body j < 256) [
-        | inl lt ↦ All-get_or (λ (b : ℕ). b < 256) c.message.body j 0 lt lawful.bytes
-        | inr le ↦ omega (arith, get_or_past c.message.body j 0 le)
-      ]
-
-  body_byte : (k : ℕ) → k < n → byte_at words (place % C + 8 + k) ≡ slice_index c.message.body k
-  body_byte k lt =
-      let inside = mod_aligned C place c8 place_aligned in
-      let quotient : (place % C + 8 + k) / 8 ≡ place % C / 8 + 1 + k / 8 = omega (arith, inside) in
-      let remainder : (place % C + 8 + k) % 8 ≡ k % 8 = omega (arith, inside) in
-      ap (λ i. slice_index words i / 2 ^ (8 * ((place % C + 8 + k) % 8)) % 256) quotient
-      ∙ ap (λ i. slice_index words (place % C / 8 + 1 + k / 8) / 2 ^ (8 * i) % 256) remainder
-      ∙ ap (λ w. w / 2 ^ (8 * (k % 8)) % 256) (body_word (k / 8) (omega arith))
-      ∙ byte_of_word (drop (8 * (k / 8)) c.message.body)
-      (λ j. let e = get_or-drop (8 * (k / 8)) c.message.body j 0 in omega (arith, e, byte_small (8 * (k / 8) + j)))
-      (k % 8) (omega arith)
-      ∙ get_or-drop (8 * (k / 8)) c.message.body (k % 8) 0
-      ∙ ap (slice_index c.message.body) (omega arith)
-
   body_is : bytes_at words (place % C + 8) n ≡ c.message.body
-  body_is =
-      ext_get_or 0 (bytes_at words (place % C + 8) n) c.message.body
-      (length-map-range_with_len (byte_at words) (place % C + 8) n)
-      (λ k lt. let lt' : k < n = omega (arith, length-map-range_with_len (byte_at words) (place % C + 8) n) in
-      get_or-map-range_with_len (byte_at words) (place % C + 8) n k (place % C + 8 + k) 0 lt' refl ∙ body_byte k lt')
+  body_is = body_told words c.message.body (place % C) lawful.bytes (mod_aligned C place c8 place_aligned) body_word
 
   -- the entry at the place
   abbrev Told : Type 0
@@ -345,21 +311,12 @@ module _ (C : ℕ) (words : List ℕ) (tail e : ℕ) (c : Claim) (h : List Claim
 
 -- ---- the whole
 
-some_suc : (k : ℕ) → 0 < k → (less : ℕ) × (k ≡ suc less)
-some_suc zero lt = absurd (omega arith)
-some_suc (suc k) lt = (k, refl)
-
--- one step of a listing
-listing_step : (C : ℕ) (words : List ℕ) (tail m at : ℕ) → at < tail
-    → listing C words tail (suc m) at ≡ followed (listing C words tail m) at (entry_at C words tail at)
-listing_step C words tail m at lt = cond-false _ _ _ (lt-leb tail at lt)
-
 pub exact : (C : ℕ) (words : List ℕ) (tail : ℕ) → IsCapacity C → (h : List Claim) (m e : ℕ) → e % 8 ≡ 0
     → tail ≤ e + 8 * m → Lie C words tail e h
     → listing C words tail m e ≡ ok_records (records_of C e h)
-exact C words tail ok [] zero e aligned enough lie = refl
-exact C words tail ok [] (suc m) e aligned enough lie =
-    cond-true _ _ _ (le-leb tail e (let ends : e ≡ tail = lie.ends in omega (arith, ends)))
+exact C words tail ok [] m e aligned enough lie =
+    listing_ends (λ (r : Record). r.length) (entry_at C words tail) tail m e
+    (let ends : e ≡ tail = lie.ends in omega (arith, ends))
 exact C words tail ok (c ∷ h) m e aligned enough lie =
     let place : ℕ = next_place C e (span_of c) in
     let n : ℕ = length c.message.body in
@@ -375,8 +332,8 @@ exact C words tail ok (c ∷ h) m e aligned enough lie =
     exact C words tail ok h less (place + span n) (omega (arith, whole, b)) (omega (arith, much, is, b))
     (rest_lies C words tail e c h ok aligned lie) in
     ap (λ x. listing C words tail x place) is
-    ∙ listing_step C words tail less place (omega (arith, end, b))
-    ∙ ap (followed (listing C words tail less) place) (claim_entry C words tail e c h ok aligned lie)
+    ∙ listing_step (λ (r : Record). r.length) (entry_at C words tail) tail less place (omega (arith, end, b))
+    ∙ ap (followed (λ (r : Record). r.length) (listing C words tail less) place) (claim_entry C words tail e c h ok aligned lie)
     ∙ ap (λ x. Ok (state_of C place c) ∷ listing C words tail less (place + up_to_eight x)) (length_of_state C place c)
     ∙ ap (λ xs. Ok (state_of C place c) ∷ xs) rest in
     elim (cases_lt e place) as (λ _. listing C words tail m e ≡ ok_records (records_of C e (c ∷ h))) [
@@ -386,8 +343,8 @@ exact C words tail ok (c ∷ h) m e aligned enough lie =
           let pb = pad_bounds C words tail e c h ok aligned lie before in
           let pad_end : e + up_to_eight (place - e) ≡ place = omega (arith, w, before) in
           ap (λ x. listing C words tail x e) is
-          ∙ listing_step C words tail less e (omega (arith, end, before, b))
-          ∙ ap (followed (listing C words tail less) e) (pad_entry C words tail e c h ok aligned lie before)
+          ∙ listing_step (λ (r : Record). r.length) (entry_at C words tail) tail less e (omega (arith, end, before, b))
+          ∙ ap (followed (λ (r : Record). r.length) (listing C words tail less) e) (pad_entry C words tail e c h ok aligned lie before)
           ∙ ap (λ x. Ok (passed_at C e (place - e)) ∷ listing C words tail less x) pad_end
           ∙ ap (λ xs. Ok (passed_at C e (place - e)) ∷ xs) (from_claim less (omega (arith, enough, is, pb, before)))
           ∙ sym (ap (λ xs. ok_records (xs ++ state_of C place c ∷ records_of C (place + span n) h))
@@ -399,23 +356,3 @@ exact C words tail ok (c ∷ h) m e aligned enough lie =
           ∙ sym (ap (λ xs. ok_records (xs ++ state_of C place c ∷ records_of C (place + span n) h))
           (cond-false _ (passed_at C e (place - e) ∷ []) [] (le-ltb e place from)))
     ]
-
--- ---- the iterator's step
-
-pub next_ok : (C : ℕ) (words : List ℕ) (tail m at : ℕ) (x : Entry) (r : Record) → 0 < m → at < tail
-    → x ≡ entry_at C words tail at → x ≡ Ok r
-    → listing C words tail m at ≡ x ∷ listing C words tail (m - 1) (at + up_to_eight r.length)
-next_ok C words tail zero at x r some lt is ok = absurd (omega (arith, some))
-next_ok C words tail (suc m) at x r some lt is ok =
-    listing_step C words tail m at lt
-    ∙ ap (followed (listing C words tail m) at) (sym is ∙ ok)
-    ∙ ap (λ k. Ok r ∷ listing C words tail k (at + up_to_eight r.length)) (let e : m ≡ suc m - 1 = omega arith in e)
-    ∙ ap (λ y. y ∷ listing C words tail (suc m - 1) (at + up_to_eight r.length)) (sym ok)
-
-pub next_err : (C : ℕ) (words : List ℕ) (tail m at : ℕ) (x : Entry) (f : RingFinding) → 0 < m → at < tail
-    → x ≡ entry_at C words tail at → x ≡ Err f
-    → listing C words tail m at ≡ x ∷ []
-next_err C words tail zero at x f some lt is err = absurd (omega (arith, some))
-next_err C words tail (suc m) at x f some lt is err =
-    listing_step C words tail m at lt ∙ ap (followed (listing C words tail m) at) (sym is ∙ err)
-    ∙ ap (λ y. y ∷ []) (sym err)

@@ -1,15 +1,21 @@
 -- The records in the words of a board, whatever these are. Positions are running byte counts, and C is the capacity of
 -- the buffer.
-use Rattle.std.specs.Prelude.{ℕ, true, false, zero, suc, ◌+◌, ◌-◌, ◌/◌, ◌%◌, Bool, ◌&&◌, ◌||◌, ◌==◌, not, nat_le, nat_lt, int_lt, if◌then◌else◌, ℤ, pos, nat_abs, List, [], ◌∷◌, slice_index, Result, Ok, Err, Option, Some, None}
+use Rattle.std.specs.Prelude.{◌≡◌, ℕ, true, false, ◌+◌, ◌-◌, ◌/◌, ◌%◌, Bool, ◌&&◌, ◌||◌, ◌==◌, not, nat_le, nat_lt, int_lt, if◌then◌else◌, ℤ, pos, nat_abs, List, [], ◌∷◌, ◌++◌, length, slice_index, Result, Ok, Err, Option, Some, None, ◌⊎◌}
+use mathlib.Core.Option.{some}
+use lib.ListN.{get_elem?}
 use Rattle.ring_layout.specs.Places.{index, room}
+use Rattle.ring_layout.specs.Headers.{padding_type}
+use Rattle.ring_board.specs.declared.shared.view.Record.{Record}
 use Rattle.ring_board.specs.Layout.{intent_index, tail_index, latest_index}
+use Rattle.ring_board.specs.Closing.{IsClosed}
 use Rattle.ring_counters.specs.Records.{bytes_at}
 use Rattle.ring_snapshot.specs.declared.board_record.BoardRecord.{BoardRecord}
 use Rattle.ring_snapshot.specs.declared.board_finding.BoardFinding.{BoardFinding}
 use Rattle.ring_snapshot.specs.declared.board_finding.BoardFinding.TheVariants.{UnalignedPosition, TailBeforeLatest, IntentBeforeTail, TailTooFar, IntentTooFar, OutsideOfRecords, BadLength, BadType}
 use Rattle.ring_snapshot.specs.declared.board.BoardRecords.{BoardRecords}
 use Rattle.ring_snapshot.specs.declared.board.BoardSnapshot.{BoardSnapshot}
-use Rattle.ring_snapshot.specs.RingRecords.{length_in, type_in, is_padding_type, up_to_eight}
+use Rattle.ring_snapshot.specs.Listing.{up_to_eight, listed_by, ok_records, or_else}
+use Rattle.ring_snapshot.specs.RingRecords.{length_in, type_in, is_padding_type}
 
 abbrev pub BoardEntry : Type 0
 BoardEntry = Result BoardRecord BoardFinding
@@ -60,17 +66,10 @@ abbrev pub entry_at : ℕ → List ℕ → ℕ → ℕ → ℕ → ℕ → Board
 entry_at C words intent latest tail at =
     let w = slice_index words (index C at) in entry_for C words intent latest tail at (length_in w) (type_in w)
 
--- an entry, and the rest from where it ends; nothing behind a finding
-abbrev pub followed : (ℕ → List BoardEntry) → ℕ → BoardEntry → List BoardEntry
-followed rest at (Err finding) = Err finding ∷ []
-followed rest at (Ok r) = Ok r ∷ rest (at + up_to_eight r.length)
-
 -- the first n of what lies from a position on: one behind the other, up to the tail or a finding
 abbrev pub listing : ℕ → List ℕ → ℕ → ℕ → ℕ → ℕ → ℕ → List BoardEntry
-listing C words intent latest tail zero at = []
-listing C words intent latest tail (suc n) at =
-    if nat_le tail at then [] else followed (listing C words intent latest tail n) at
-    (entry_at C words intent latest tail at)
+listing C words intent latest tail =
+    listed_by (λ (r : BoardRecord). r.length) (entry_at C words intent latest tail) tail
 
 -- what is still to come
 abbrev pub records_left : BoardRecords → List BoardEntry
@@ -91,9 +90,13 @@ abbrev pub listed_from : BoardSnapshot → ℕ → List BoardEntry
 listed_from b position =
     listing b.capacity b.words.now (intent_in b) (latest_in b) (tail_in b) ((tail_in b - position) / 8) position
 
+-- the begin of the lap in which the last record lies
+abbrev pub lap_of : ℕ → ℕ → ℕ
+lap_of C latest = latest - latest % C
+
 -- the begin of the running lap, or the last record where the intent is more than the buffer beyond that
 abbrev pub first_whole : ℕ → ℕ → ℕ → ℕ
-first_whole C intent latest = let lap = latest - latest % C in if nat_le intent (lap + C) then lap else latest
+first_whole C intent latest = let lap = lap_of C latest in if nat_le intent (lap + C) then lap else latest
 
 -- what is wrong with the positions, in the order of the tests
 abbrev pub positions_finding : ℕ → ℕ → ℕ → ℕ → Option BoardFinding
@@ -106,12 +109,47 @@ positions_finding C intent tail latest =
     else (if nat_lt (latest + C) intent then Some (IntentTooFar intent latest)
     else None))))
 
-abbrev pub or_else : Option BoardFinding → Option BoardFinding → Option BoardFinding
-or_else (Some finding) other = Some finding
-or_else None other = other
-
 -- why nothing is listed from a position
 abbrev pub from_finding : ℕ → ℕ → ℕ → ℕ → ℕ → Option BoardFinding
 from_finding C intent tail latest position = or_else (positions_finding C intent tail latest)
     (if not (position % 8 == 0) || not (nat_le position latest || position == tail)
     || nat_lt (position + C) intent then Some (OutsideOfRecords position) else None)
+
+-- Words of a closed board --------------------------------------------------
+
+-- the words are those of a closed board that began at a multiple of its capacity, and transmitted this list
+abbrev pub HaveTransmitted : ℕ → List ℕ → List Record → Type 0
+HaveTransmitted C words sent = (e : ℕ) × (e % C ≡ 0) × IsClosed C e sent words
+
+-- a transmission as a record
+abbrev pub record_of : ℕ → ℕ → Record → BoardRecord
+record_of C intent r = record {
+  place = r.place;
+  index = r.place % C;
+  is_padding = false;
+  is_valid = nat_lt intent (r.place + C);
+  type_id = r.message.type_id;
+  length = 8 + length r.message.body;
+  body = r.message.body;
+}
+
+-- the records of transmissions: before each the padding, where there is one
+abbrev pub records_of : ℕ → ℕ → List Record → List BoardRecord
+records_of C intent [] = []
+records_of C intent (r ∷ rs) =
+    (if nat_lt r.before r.place then padding_at C intent r.before (r.place - r.before) padding_type ∷ [] else [])
+    ++ record_of C intent r ∷ records_of C intent rs
+
+-- those of them that lie at a position or behind it
+abbrev pub from_on : ℕ → List BoardRecord → List BoardRecord
+from_on position [] = []
+from_on position (r ∷ rs) = (if nat_le position r.place then r ∷ [] else []) ++ from_on position rs
+
+-- what is to be listed of these transmissions from a position on: all that lies there, in order, and no finding
+abbrev pub transmitted_from : BoardSnapshot → List Record → ℕ → List BoardEntry
+transmitted_from b sent position = ok_records (from_on position (records_of b.capacity (tail_in b) sent))
+
+-- a transmission begins at the position, with its padding or its record, or the last one ends there
+abbrev pub Begins : List Record → ℕ → ℕ → Type 0
+Begins sent tail position = (position ≡ tail)
+    ⊎ ((k : ℕ) × (r : Record) × (get_elem? sent k ≡ some r) × ((position ≡ r.before) ⊎ (position ≡ r.place)))

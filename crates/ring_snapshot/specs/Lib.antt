@@ -1,3 +1,4 @@
+pub mod Listing
 pub mod RingRecords
 pub mod CounterWords
 pub mod CounterRecords

@@ -11,6 +11,7 @@ use Rattle.ring_layout.specs.Picture.{word_at}
 use Rattle.ring_layout.specs.Headers.{padding_type}
 use Rattle.ring_layout.specs.Layout.{tail_index, head_index}
 use Rattle.ring_counters.specs.Records.{bytes_at}
+use Rattle.ring_snapshot.specs.Listing.{up_to_eight, listed_by, or_else}
 use Rattle.ring_snapshot.specs.declared.record.Record.{Record}
 use Rattle.ring_snapshot.specs.declared.record.RecordState.TheVariants.{Open, Committed, Aborted, AbortedOrPadding, Unstored}
 use Rattle.ring_snapshot.specs.declared.ring_finding.RingFinding.{RingFinding}
@@ -32,10 +33,6 @@ type_in w = cast_signed w32 (w / 2 ^ 32)
 
 abbrev pub is_padding_type : ℤ → Bool
 is_padding_type type_id = int_le type_id padding_type && int_le padding_type type_id
-
--- the bytes from a record's begin to the next one's
-abbrev pub up_to_eight : ℕ → ℕ
-up_to_eight n = (n + 7) / 8 * 8
 
 -- a record of this length may lie at the position: no message is longer, and it crosses neither the end of the buffer
 -- nor the tail
@@ -82,16 +79,9 @@ entry_at C words tail at =
     let w = slice_index words (index C at) in
     if w == 0 then Ok (unstored_at C tail at) else entry_for C words tail at (length_in w) (type_in w)
 
--- an entry, and the rest from where it ends; nothing behind a finding
-abbrev pub followed : (ℕ → List Entry) → ℕ → Entry → List Entry
-followed rest at (Err finding) = Err finding ∷ []
-followed rest at (Ok r) = Ok r ∷ rest (at + up_to_eight r.length)
-
 -- the first n of what lies from a position on: one behind the other, up to the tail or a finding
 abbrev pub listing : ℕ → List ℕ → ℕ → ℕ → ℕ → List Entry
-listing C words tail zero at = []
-listing C words tail (suc n) at =
-    if nat_le tail at then [] else followed (listing C words tail n) at (entry_at C words tail at)
+listing C words tail = listed_by (λ (r : Record). r.length) (entry_at C words tail) tail
 
 -- what is still to come
 abbrev pub records_left : Records → List Entry
@@ -115,10 +105,6 @@ positions_finding C head tail =
     else (if nat_lt tail head then Some (TailBeforeHead head tail)
     else (if nat_lt (head + C) tail then Some (TailTooFar head tail)
     else None))
-
-abbrev pub or_else : Option RingFinding → Option RingFinding → Option RingFinding
-or_else (Some finding) other = Some finding
-or_else None other = other
 
 -- why nothing is listed from a position
 abbrev pub from_finding : ℕ → ℕ → ℕ → ℕ → Option RingFinding
@@ -159,10 +145,6 @@ records_of C e (c ∷ h) =
     let place = next_place C e (span_of c) in
     (if nat_lt e place then passed_at C e (place - e) ∷ [] else []) ++ state_of C place c
     ∷ records_of C (place + span_of c) h
-
-abbrev pub ok_records : List Record → List Entry
-ok_records [] = []
-ok_records (r ∷ rs) = Ok r ∷ ok_records rs
 
 -- the claims lie from e up to the tail, and the words there are theirs
 pub record Lie (C : ℕ) (words : List ℕ) (tail e : ℕ) (h : List Claim) : Type 0 where

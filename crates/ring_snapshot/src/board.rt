@@ -39,7 +39,7 @@ impl<'a> BoardSnapshot<'a> {
     ghost use Rattle.ring_board.specs.Layout.{IsBoardCapacity, board_words, intent_index, tail_index, latest_index};
     ghost use Rattle.ring_board.specs.Refusals.{IsRefusedBy};
     ghost use Rattle.ring_snapshot.specs.declared.board_finding.BoardFinding.TheVariants.{BadSize};
-    ghost use Rattle.ring_snapshot.specs.RingRecords.{up_to_eight};
+    ghost use Rattle.ring_snapshot.specs.Listing.{up_to_eight};
     ghost use Rattle.ring_snapshot.specs.BoardRecords.{intent_in, tail_in, latest_in, records_left, listing, listed_from, first_whole, positions_finding, from_finding};
 
     /// Takes the words of a board. `BadSize` where no board has so many.
@@ -173,7 +173,7 @@ impl<'a> BoardSnapshot<'a> {
 
 impl<'a> BoardRecords<'a> {
     ghost use Rattle.std.specs.Prelude.{◌≡◌, ◌+◌, ◌<◌, ◌≤◌, IfOk};
-    ghost use Rattle.ring_snapshot.specs.RingRecords.{up_to_eight};
+    ghost use Rattle.ring_snapshot.specs.Listing.{up_to_eight};
     ghost use Rattle.ring_snapshot.specs.BoardRecords.{is_length, entry_at};
 
     /// Tests whether a record of this length, header included, may lie at the position.

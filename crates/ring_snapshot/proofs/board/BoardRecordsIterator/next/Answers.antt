@@ -1,7 +1,8 @@
 use Rattle.std.proofs.Common.{rules, ◌≡◌, ◌+◌, ◌-◌, ◌<◌, ◌∷◌, length, ap, sym, ◌∙◌, arith}
-use Rattle.ring_snapshot.specs.RingRecords.{up_to_eight}
-use Rattle.ring_snapshot.specs.BoardRecords.{listing, records_left}
-use Rattle.ring_snapshot.proofs.BoardLemmas.{next_ok, next_err}
+use Rattle.ring_snapshot.specs.declared.board_record.BoardRecord.{BoardRecord}
+use Rattle.ring_snapshot.specs.Listing.{up_to_eight}
+use Rattle.ring_snapshot.specs.BoardRecords.{entry_at, listing, records_left}
+use Rattle.ring_snapshot.proofs.StepLemmas.{next_ok, next_err}
 use Rattle.ring_snapshot.proofs.board.BoardRecordsIterator.next.Goals as goal
 use Rattle.ring_snapshot.proofs.board.BoardRecordsIterator.next.Goals.{in-Ok, in-Err}
 
@@ -15,13 +16,15 @@ returns-clause-steps c =
       | in-Ok w ↦
           let span : up_to_eight w.in-Ok.record.length ≡ w.align8.result =
           sym (w.align8.ensures ∙ ap up_to_eight w.from.ensures) in
-          next_ok old.board.capacity old.board.words.now old.intent old.latest old.tail old.most old.at x w.in-Ok.record
-          some before c.entry_at-entry.ensures.entry w.in-Ok.is
+          next_ok (λ (r : BoardRecord). r.length)
+          (entry_at old.board.capacity old.board.words.now old.intent old.latest old.tail) old.tail old.most old.at x
+          w.in-Ok.record some before c.entry_at-entry.ensures.entry w.in-Ok.is
           ∙ ap (λ k. x ∷ listing old.board.capacity old.board.words.now old.intent old.latest old.tail (old.most - 1)
           (old.at + k)) span
           ∙ ap (λ s. x ∷ records_left s) (sym w.self-is)
       | in-Err w ↦
-          next_err old.board.capacity old.board.words.now old.intent old.latest old.tail old.most old.at x
+          next_err (λ (r : BoardRecord). r.length)
+          (entry_at old.board.capacity old.board.words.now old.intent old.latest old.tail) old.tail old.most old.at x
           w.in-Err._finding some before c.entry_at-entry.ensures.entry w.in-Err.is
           ∙ ap (λ s. x ∷ records_left s) (sym w.self-is)
     ]

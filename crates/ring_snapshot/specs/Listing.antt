@@ -1,0 +1,26 @@
+-- One record behind the other: of a ring, and of a board. R is what a record is, and F what may be wrong with the words.
+use Rattle.std.specs.Prelude.{ℕ, zero, suc, ◌+◌, ◌*◌, ◌/◌, nat_le, if◌then◌else◌, List, [], ◌∷◌, Result, Ok, Err, Option, Some, None}
+
+-- the bytes from a record's begin to the next one's
+abbrev pub up_to_eight : ℕ → ℕ
+up_to_eight n = (n + 7) / 8 * 8
+
+-- an entry, and the rest from where it ends; nothing behind a finding
+abbrev pub followed : {R F : Type 0} → (R → ℕ) → (ℕ → List (Result R F)) → ℕ → Result R F → List (Result R F)
+followed length_of rest at (Err finding) = Err finding ∷ []
+followed length_of rest at (Ok r) = Ok r ∷ rest (at + up_to_eight (length_of r))
+
+-- the first n of what lies from a position on: one behind the other, up to the tail or a finding
+abbrev pub listed_by : {R F : Type 0} → (R → ℕ) → (ℕ → Result R F) → ℕ → ℕ → ℕ → List (Result R F)
+listed_by length_of entry tail zero at = []
+listed_by length_of entry tail (suc n) at =
+    if nat_le tail at then [] else followed length_of (listed_by length_of entry tail n) at (entry at)
+
+abbrev pub ok_records : {R F : Type 0} → List R → List (Result R F)
+ok_records [] = []
+ok_records (r ∷ rs) = Ok r ∷ ok_records rs
+
+-- the first finding of two
+abbrev pub or_else : {F : Type 0} → Option F → Option F → Option F
+or_else (Some finding) other = Some finding
+or_else None other = other
