@@ -81,6 +81,7 @@ pub record Gathers (v w u : View) : Type 0 where
   pub shares : u.producer.shares ≡ v.producer.shares + w.producer.shares
   pub open_claims : open_count u.producer.claims ≡ open_count v.producer.claims + open_count w.producer.claims
   pub claims : length u.producer.claims ≡ length v.producer.claims + length w.producer.claims
+  pub together : u.producer.claims ≡ interleaved v.producer.claims w.producer.claims
 
 pub gathered : (C : ℕ) (v w u : View) → Joins C v w u → Gathers v w u
 gathered C v w u h =
@@ -90,4 +91,5 @@ gathered C v w u h =
       shares = ap (λ (z : View). z.producer.shares) h.view;
       open_claims = ap open_count claims ∙ open_count-interleaved v.producer.claims w.producer.claims;
       claims = ap length claims ∙ length-interleaved v.producer.claims w.producer.claims;
+      together = claims;
     }

@@ -1,7 +1,7 @@
 -- What a storm counts.
 use Rattle.std.proofs.Common.{◌≡◌, ℕ, ◌+◌, ◌*◌, ◌≤◌, List, [], ◌∷◌, ◌++◌, ◌/◌, ◌<◌, length, length-append, append_assoc, max, ℤ, ◌+ℤ◌, ◌==◌, Bool, true, false, if◌then◌else◌, fold, Option, Some, None, Result, Ok, Err, IfOk, suc, refl, sym, ap, ◌∙◌, subst, inl, inr, arith}
 use Rattle.std.specs.Int.{IsPowerOfTwo, saturate_signed, w64}
-use Rattle.std.proofs.lemmas.List.{length-map, length-replicate, length-set}
+use Rattle.std.proofs.lemmas.List.{append-nil, length-map, length-replicate, length-set}
 use Rattle.std.proofs.lemmas.List.FromFn.{length-range_with_len}
 use Rattle.std.proofs.lemmas.List.Sums.{count_by-le-length, length-filter}
 use Rattle.std.proofs.lemmas.Bool.{cases_lt}
@@ -17,9 +17,13 @@ use Rattle.ring_table.specs.declared.claim.Stage.{Stage}
 use Rattle.ring_table.specs.declared.claim.Stage.TheVariants.{Moved, Padded, Stored}
 use Rattle.ring_table.specs.declared.view.View.{View}
 use Rattle.ring_table.specs.Passing.{placed_committed_of, placed_message, shown_at}
+use Rattle.ring_table.specs.Staged.{claims_of}
 use Rattle.ring_table.specs.OpenClaims.{open_count}
 use Rattle.ring_table.proofs.LawLemmas.{none_open}
-use Rattle.ring_rings.specs.Closing.{HandsOut}
+use Rattle.ring_rings.specs.Closing.{AreOrdered, HandsOut}
+use Rattle.ring_board.specs.declared.shared.view.Joined.{Joined}
+use Rattle.ring_board.specs.declared.shared.view.Record.{Record}
+use Rattle.ring_board.specs.Runs.{AreAllRuns}
 use Rattle.ring_rings.specs.Reading.{messages_of}
 use Rattle.ring_counters.specs.declared.fault.AllocateRefused.{AllocateRefused}
 use Rattle.ring_counters.specs.declared.fault.IdFault.{IdFault}
@@ -38,12 +42,16 @@ use Rattle.ring_conductor.specs.declared.storming.plan.StormReport.{StormReport}
 use Rattle.ring_conductor.specs.Applied.{allocated, applied, done_unless, obeyed, obeyed_if_read, refused}
 use Rattle.ring_protocol.specs.Codes.{bad_owner_code}
 use Rattle.ring_protocol.specs.Command.{Instruction, Allocate, AllocateOwned, Close, Free, Set}
+use Rattle.ring_conductor.specs.Account.{IsFoldOf, messages_in}
 use Rattle.ring_conductor.specs.Conducting.{Works}
+use Rattle.ring_conductor.specs.Finishing.{IsWhole}
+use Rattle.ring_conductor.specs.Turns.{AreAllTurns}
 use Rattle.ring_conductor.specs.Storming.{IsBoardFor, IsReportOf, all_commands, counters_after, storm_counters, sum_of, with_value_of}
 use Rattle.ring_conductor.specs.Fold.{Ledger, fold_of, at_moment, served}
 use Rattle.ring_protocol.specs.Reading.{command_of}
 use Rattle.ring_conductor.proofs.FinishLemmas.{drained, messages_of-append}
 use Rattle.ring_conductor.proofs.FoldLemmas.{lengths}
+use Rattle.ring_conductor.proofs.TurnLemmas.{nothing}
 
 -- What the conductor does ------------------------------------------------------
 
@@ -192,24 +200,68 @@ few_committed (c ∷ cs) =
     let both = length-append here (placed_committed_of cs) in
     omega arith
 
-module _ (p : StormPlan) (C start : ℕ) (v w : View) (rest : Ring) (out : HandsOut C start v w rest)
-    (settled : open_count v.producer.claims ≡ 0) (sent : length v.producer.claims ≤ all_commands p)
-    (done : all_commands p ≤ length w.consumer.taken)
-    (counters : Registry) (folded : counters ≡ storm_counters p (messages_of w.consumer.taken)) where
+-- what a storm that took all commands has, once it finished: v and w are what producer and conductor knew of the ring
+pub record Ended (p : StormPlan) (C start : ℕ) (v w : View) (rest : Ring) (counters : Registry) (sent : List Record)
+    (heard : List Joined) : Type 0 where
+  pub capacity : C ≡ p.ring
+  pub begins : start ≡ 0
+  pub out : HandsOut C start v w rest
+  pub whole : IsWhole v.producer.claims w.consumer.taken rest
+  pub settled : open_count v.producer.claims ≡ 0
+  pub few : length v.producer.claims ≤ all_commands p
+  pub done : all_commands p ≤ length w.consumer.taken
+  pub turns : AreAllTurns p.commands p.clients v.producer.claims heard
+  pub runs : AreAllRuns sent heard
+  pub counters_are : counters ≡ storm_counters p (messages_of w.consumer.taken)
+  pub writes : List ValueWrite
+  pub folded : ∥ IsFoldOf (messages_of w.consumer.taken) counters writes (messages_in sent) ∥₁
+
+module _ (p : StormPlan) (C start : ℕ) (v w : View) (rest : Ring) (counters : Registry) (sent : List Record)
+    (heard : List Joined) (ended : Ended p C start v w rest counters sent heard) where
+  -- nothing is left, so that the messages taken are those of the claims
+  all_taken : messages_of w.consumer.taken ≡ messages_of (placed_committed_of v.producer.claims)
+  all_taken =
+      let out = ended.out in
+      let left = committed_of (claims_of out.left) in
+      let whole = ended.whole (claims_of out.left) out.has in
+      let both = ap length whole in
+      let sum = length-append (messages_of w.consumer.taken) left in
+      let took = lengths w.consumer.taken in
+      let committed = lengths (placed_committed_of v.producer.claims) in
+      let few = few_committed v.producer.claims in
+      let most = ended.few in
+      let least = ended.done in
+      let none = nothing left (omega arith) in
+      sym (append-nil (messages_of w.consumer.taken))
+      ∙ (sym (ap (λ l. messages_of w.consumer.taken ++ l) none) ∙ whole)
+
   report_of : (r : StormReport) → r.received ≡ length w.consumer.taken → r.seen ≡ all_commands p
       → ((h : List Claim) → Has rest h → AllSettled h → r.left ≡ length (committed_of h))
       → r.live ≡ length (live_of counters) → r.sum ≡ sum_of (live_of counters) → IsReportOf p r
   report_of r received seen left live sum =
-      let all = drained C start v w rest out (none_open v.producer.claims settled).0 r.left left in
+      let all = drained C start v w rest ended.out (none_open v.producer.claims ended.settled).0 r.left left in
       let few = few_committed v.producer.claims in
+      let most = ended.few in
+      let least = ended.done in
+      let messages = messages_of w.consumer.taken in
       record {
         received = omega arith;
         left = omega arith;
         seen = seen;
-        messages = messages_of w.consumer.taken;
+        claims = v.producer.claims;
+        ordered = subst (λ s. AreOrdered p.ring s v.producer.claims) ended.begins
+            (subst (λ k. AreOrdered k start v.producer.claims) ended.capacity ended.out.ordered);
+        receivers = heard;
+        turns = ended.turns;
+        messages = messages;
         taken = lengths w.consumer.taken ∙ sym received;
-        live = live ∙ ap (λ c. length (live_of c)) folded;
-        sum = sum ∙ ap (λ c. sum_of (live_of c)) folded;
+        whole = all_taken;
+        replies = sent;
+        runs = ended.runs;
+        writes = ended.writes;
+        folded = subst (λ r. ∥ IsFoldOf messages r ended.writes (messages_in sent) ∥₁) ended.counters_are ended.folded;
+        live = live ∙ ap (λ c. length (live_of c)) ended.counters_are;
+        sum = sum ∙ ap (λ c. sum_of (live_of c)) ended.counters_are;
       }
 
   -- the report of a storm that took all commands

@@ -1,9 +1,11 @@
 -- What a client's calls add to its claims and its copies.
-use Rattle.std.proofs.Common.{◌≡◌, ◌∙◌, ℕ, zero, suc, ◌+◌, List, [], ◌∷◌, ◌++◌, append_assoc, Bool, true, false, true≢false, Option, Some, None, is_some, OnSome, Result, Ok, Err, IfErr, OnOk, is_ok, add-one, length, inl, inr, refl, sym, ap, subst}
+use Rattle.std.proofs.Common.{◌≡◌, ◌∙◌, ℕ, zero, suc, ◌+◌, ◌≤◌, List, [], ◌∷◌, ◌++◌, append_assoc, Bool, true, false, true≢false, Option, Some, None, is_some, OnSome, Result, Ok, Err, IfErr, OnOk, is_ok, add-one, length, length-append, inl, inr, refl, sym, ap, subst, arith}
 use Rattle.std.specs.Bool.{OnFalse, OnTrue}
 use Rattle.std.proofs.lemmas.List.{append-nil}
 use Rattle.ring_table.specs.declared.claim.StagedClaim.{StagedClaim}
 use Rattle.ring_table.specs.declared.view.View.{View}
+use Rattle.ring_table.specs.Owners.{interleaved}
+use Rattle.ring_board.specs.declared.shared.view.Joined.{Joined}
 use Rattle.ring_board.specs.declared.shared.view.Taken.{Taken}
 use Rattle.ring_board.specs.Steps.{Sat}
 use Rattle.ring_rings.specs.Claiming.{RefusesTry, Writes, record_behind}
@@ -16,7 +18,7 @@ use Rattle.ring_conductor.specs.declared.client.SendFault.TheVariants as fault
 use Rattle.ring_conductor.specs.declared.client.request.Request.{Request}
 use Rattle.ring_conductor.specs.Asking.{asked, IsHeard, IsSendable, RefusesAs, SendsAs}
 use Rattle.ring_protocol.specs.Command.{Instruction, spelling_of, type_id_of}
-use Rattle.ring_conductor.specs.Turns.{Adds, AreAnswered, Lengthens, Turns}
+use Rattle.ring_conductor.specs.Turns.{Adds, AreAllTurns, AreAnswered, AreTurns, Lengthens, Turns}
 
 -- Longer lists -------------------------------------------------------------------
 
@@ -120,6 +122,62 @@ pub next_answered : (client other n m number : ℕ) (claims more_claims : List S
 next_answered client other n m number claims more_claims copies more_copies same_client same is turn h =
     answered_as client other (n + 1) (m + 1) more_claims more_copies same_client (ap (λ k. k + 1) same)
     (one_more client n number claims more_claims copies more_copies is turn h)
+
+-- No other claims ------------------------------------------------------------------
+
+pub nothing : {A : Type 0} (l : List A) → length l ≤ 0 → l ≡ []
+nothing [] few = refl
+nothing (x ∷ xs) few = let clash : ⊥ = omega (arith, few) in absurd clash
+
+turn_adds : (client number : ℕ) (claims more_claims : List StagedClaim) (copies more_copies : List Taken)
+    → Turns client number claims more_claims copies more_copies → length more_claims ≡ length claims + 1
+turn_adds client number claims more_claims copies more_copies turn =
+    ap length turn.sent.added ∙ length-append claims (turn.sent.claim ∷ [])
+
+enough : (client n : ℕ) (claims : List StagedClaim) (copies : List Taken) → AreAnswered client n claims copies
+    → n ≤ length claims
+enough client zero claims copies h = omega arith
+enough client (suc n) claims copies h =
+    let before = enough client n h.0 h.2 h.4 in
+    let one = turn_adds client (suc n) h.0 h.1 h.2 h.3 h.5 in
+    let all = ap length h.6.1 ∙ length-append h.1 h.6.0 in
+    omega arith
+
+-- a client that sent no more commands than were answered has no other claims
+pub only_turns : (client n : ℕ) (claims : List StagedClaim) (copies : List Taken) → AreAnswered client n claims copies
+    → length claims ≤ n → AreTurns client n claims copies
+only_turns client zero claims copies h few = nothing claims few
+only_turns client (suc n) claims copies h few =
+    let before = enough client n h.0 h.2 h.4 in
+    let one = turn_adds client (suc n) h.0 h.1 h.2 h.3 h.5 in
+    let all = ap length h.6.1 ∙ length-append h.1 h.6.0 in
+    let same : claims ≡ h.1 = h.6.1 ∙ (ap (λ l. h.1 ++ l) (nothing h.6.0 (omega arith)) ∙ append-nil h.1) in (
+      h.0,
+      h.2,
+      h.3,
+      only_turns client n h.0 h.2 h.4 (omega arith),
+      subst (λ l. Turns client (suc n) h.0 l h.2 h.3) (sym same) h.5,
+      h.7,
+    )
+
+-- the turns of one client more, which had all its replies
+pub all_turns : (commands client seen : ℕ) (claims others own : List StagedClaim) (receivers before : List Joined)
+    (receiver : Joined) → AreAllTurns commands client others before
+    → AreAnswered client seen own receiver.copies → seen ≡ commands → length own ≤ commands
+    → claims ≡ interleaved others own → receivers ≡ before ++ receiver ∷ []
+    → AreAllTurns commands (client + 1) claims receivers
+all_turns commands client seen claims others own receivers before receiver rest answered counted few together joined =
+    subst (λ k. AreAllTurns commands k claims receivers) (sym (add-one client)) (
+      others,
+      own,
+      before,
+      receiver,
+      rest,
+      only_turns client commands own receiver.copies
+          (subst (λ k. AreAnswered client k own receiver.copies) counted answered) few,
+      together,
+      joined,
+    )
 
 -- what is said of a success
 pub of_some : {T : Type 0} (o : Option T) (P : Type 0) → is_some o ≡ true → OnSome o P → P

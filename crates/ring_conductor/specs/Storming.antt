@@ -2,12 +2,19 @@
 use Rattle.std.specs.Prelude.{◌≡◌, ◌⊎◌, ℕ, ◌*◌, ◌/◌, ◌<◌, ◌≤◌, ◌^◌, ℤ, pos, ◌+ℤ◌, IsTrue, List, [], ◌∷◌, fold, length}
 use Rattle.std.specs.Int.{is_power_of_two, IsPowerOfTwo, saturate_signed, w64}
 use Rattle.ring_layout.specs.declared.message.Message.{Message}
+use Rattle.ring_table.specs.declared.claim.StagedClaim.{StagedClaim}
+use Rattle.ring_table.specs.Passing.{placed_committed_of}
 use Rattle.ring_rings.specs.declared.ring.Ring.{Ring}
+use Rattle.ring_rings.specs.Closing.{AreOrdered}
 use Rattle.ring_rings.specs.declared.ring.Producer.{Producer}
 use Rattle.ring_rings.specs.Reading.{messages_of}
 use Rattle.ring_rings.specs.Seats.{claims_of, open_claims_of, shares_of, IsConsumerOf, IsProducerOf}
 use Rattle.ring_board.specs.declared.board.Board.{Board}
+use Rattle.ring_board.specs.declared.shared.view.Joined.{Joined}
+use Rattle.ring_board.specs.declared.shared.view.Record.{Record}
+use Rattle.ring_board.specs.Runs.{AreAllRuns}
 use Rattle.ring_board.specs.Seats.{IsReceiverOf, shares_of as board_shares}
+use Rattle.ring_counters.specs.declared.values.rule.ValueWrite.{ValueWrite}
 use Rattle.ring_counters.specs.declared.values.seats.CounterValues.{CounterValues}
 use Rattle.ring_counters.specs.Counter.{Counter}
 use Rattle.ring_counters.specs.Manager.{registry_of}
@@ -22,6 +29,9 @@ use Rattle.ring_conductor.specs.declared.storming.shared.Shared.{Shared}
 use Rattle.ring_conductor.specs.Applied.{applied}
 use Rattle.ring_conductor.specs.Asking.{producer_of, receiver_of}
 use Rattle.ring_conductor.specs.Conducting.{IsConductorOf, counters_of, received_of, transmitter_of}
+use Rattle.ring_conductor.specs.Finishing.{joined_by}
+use Rattle.ring_conductor.specs.Account.{IsFoldOf, messages_in}
+use Rattle.ring_conductor.specs.Turns.{AreAllTurns}
 
 -- The plan ---------------------------------------------------------------------
 
@@ -67,6 +77,10 @@ sum_of counters = fold with_value_of (pos 0) counters
 abbrev pub board_shares_of : Conductor → ℕ
 board_shares_of c = board_shares (transmitter_of c)
 
+-- the receivers that are out, and those that were joined, are as before
+abbrev pub KeepsReceivers : Conductor → Conductor → Type 0
+KeepsReceivers old new = (board_shares_of new ≡ board_shares_of old) × (joined_by new ≡ joined_by old)
+
 -- a client's producer: one share of this ring, and no open claim
 abbrev pub IsClientSeat : {K : Type 0} → Ring K → Producer → Type 0
 IsClientSeat ring p = IsProducerOf ring p × (shares_of p ≡ 1) × (open_claims_of p ≡ 0)
@@ -108,9 +122,14 @@ IsConductorAt s c = IsConductorOf IsConsumerOf s.ring.now s.board.now s.values.n
 abbrev pub IsHubAt : {G : Type 0} → Shared G → Hub → Type 0
 IsHubAt s hub = IsHubOf s.plan s.ring.now s.board.now s.values.now hub
 
--- all commands were taken, and so many clients had all their replies
+-- all commands were taken, and so many clients had all their replies: so many were seen, each in its turn
 abbrev pub IsDone : StormPlan → ℕ → LevelEnd → Type 0
 IsDone p clients end = (all_commands p ≤ taken_by end.hub.conductor) × (end.seen ≡ clients * p.commands)
+    × AreAllTurns p.commands clients (claims_of end.hub.producer) (joined_by end.hub.conductor)
+
+-- nobody has sent a command, and no receiver was joined
+abbrev pub IsUnused : Hub → Type 0
+IsUnused hub = (claims_of hub.producer ≡ []) × (joined_by hub.conductor ≡ [])
 
 -- no share is away, and no claim is open
 pub record HasAll (hub : Hub) : Type 0 where
@@ -120,14 +139,24 @@ pub record HasAll (hub : Hub) : Type 0 where
 
 -- The report -------------------------------------------------------------------
 
--- all commands were taken, none is left, and each client had all replies; the live counters, and the sum of their
--- values,
--- are those that messages, as many as were taken, make of fresh counters
+-- All commands were taken, none is left, and each client had all its replies. The claims of the ring, in the order of
+-- the exchanges, are the clients' commands, and what was taken is their messages; each command has its reply among the
+-- copies of its client's receiver, which are runs of all replies; and these are the ones that the messages have. The
+-- live counters, and the sum of their values, are those that the messages make of fresh counters
 pub record IsReportOf (p : StormPlan) (r : StormReport) : Type 0 where
   pub received : r.received ≡ all_commands p
   pub left : r.left ≡ 0
   pub seen : r.seen ≡ all_commands p
+  pub claims : List StagedClaim
+  pub ordered : AreOrdered p.ring 0 claims
+  pub receivers : List Joined
+  pub turns : AreAllTurns p.commands p.clients claims receivers
   pub messages : List Message
   pub taken : length messages ≡ r.received
+  pub whole : messages ≡ messages_of (placed_committed_of claims)
+  pub replies : List Record
+  pub runs : AreAllRuns replies receivers
+  pub writes : List ValueWrite
+  pub folded : ∥ IsFoldOf messages (storm_counters p messages) writes (messages_in replies) ∥₁
   pub live : r.live ≡ length (live_of (storm_counters p messages))
   pub sum : r.sum ≡ sum_of (live_of (storm_counters p messages))

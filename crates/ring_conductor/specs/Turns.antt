@@ -5,7 +5,9 @@ use Rattle.ring_layout.specs.declared.message.Message.{Message}
 use Rattle.ring_layout.specs.declared.message.ClaimState.TheVariants.{Committed}
 use Rattle.ring_table.specs.declared.claim.StagedClaim.{StagedClaim}
 use Rattle.ring_table.specs.declared.claim.Stage.TheVariants.{Stored}
+use Rattle.ring_table.specs.Owners.{interleaved}
 use Rattle.ring_rings.specs.Seats.{claims_of}
+use Rattle.ring_board.specs.declared.shared.view.Joined.{Joined}
 use Rattle.ring_board.specs.declared.shared.view.Taken.{Taken}
 use Rattle.ring_board.specs.Seats.{copies_of}
 use Rattle.ring_protocol.specs.declared.reply.Reply.{Reply}
@@ -71,3 +73,21 @@ AreAnswered client (suc n) claims copies =
     × AreAnswered client n claims_before copies_before
     × Turns client (suc n) claims_before claims_after copies_before copies_after
     × Lengthens claims_after claims × Lengthens copies_after copies
+
+-- these claims are the first n commands of a client and no others, and each has its reply among these copies, in order
+abbrev pub AreTurns : ℕ → ℕ → List StagedClaim → List Taken → Type 0
+AreTurns client zero claims copies = claims ≡ []
+AreTurns client (suc n) claims copies =
+    (claims_before : List StagedClaim) × (copies_before : List Taken) × (copies_after : List Taken)
+    × AreTurns client n claims_before copies_before
+    × Turns client (suc n) claims_before claims copies_before copies_after
+    × Lengthens copies_after copies
+
+-- these claims, put together by place, are all commands of the clients below a number, and these are the clients'
+-- receivers, the first client's first: each command has its reply among the copies of its client
+abbrev pub AreAllTurns : ℕ → ℕ → List StagedClaim → List Joined → Type 0
+AreAllTurns commands zero claims receivers = (claims ≡ []) × (receivers ≡ [])
+AreAllTurns commands (suc client) claims receivers =
+    (others : List StagedClaim) × (own : List StagedClaim) × (before : List Joined) × (receiver : Joined)
+    × AreAllTurns commands client others before × AreTurns client commands own receiver.copies
+    × (claims ≡ interleaved others own) × (receivers ≡ before ++ receiver ∷ [])

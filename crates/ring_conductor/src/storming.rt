@@ -1,7 +1,7 @@
 //! Clients on threads of their own, against one conductor.
 ghost use Rattle.std.specs.Prelude.{◌≡◌, ◌↔◌, ◌≤◌, IfOk, Err, None};
 ghost use Rattle.ring_conductor.specs.declared.storming.plan.StormFault.TheVariants.{BadPlan};
-ghost use Rattle.ring_conductor.specs.Storming.{HasAll, IsDone, IsHubOf, IsPlan, IsReportOf, all_commands, sent_by};
+ghost use Rattle.ring_conductor.specs.Storming.{HasAll, IsDone, IsHubOf, IsPlan, IsReportOf, IsUnused, all_commands, sent_by};
 
 mod client;
 mod conductor;
@@ -93,7 +93,7 @@ fn run_threads<R: Threads + Wait, G: Gate + Sync>(
     requires plan { IsPlan plan.now }
     requires hub { IsHubOf plan.now ring.now board.now values.now hub }
     requires whole { HasAll hub }
-    requires new { sent_by hub.producer ≡ 0 }
+    requires unused { IsUnused hub }
     ensures hub { IsHubOf plan.now ring.now board.now values.now result.hub }
     ensures whole { HasAll result.hub }
     ensures sent { sent_by result.hub.producer ≤ all_commands plan.now }
@@ -109,7 +109,7 @@ fn run_threads<R: Threads + Wait, G: Gate + Sync>(
             requires plan { IsPlan plan }
             requires hub { IsHubOf plan ring.now board.now values.now hub }
             requires whole { HasAll hub }
-            requires new { sent_by hub.producer ≡ 0 }
+            requires unused { IsUnused hub }
             ensures hub { IsHubOf plan ring.entry.now board.entry.now values.entry.now result.hub }
             ensures whole { HasAll result.hub }
             ensures sent { sent_by result.hub.producer ≤ all_commands plan }

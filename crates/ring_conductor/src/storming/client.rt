@@ -165,6 +165,7 @@ impl<G: Gate> Shared<'_, G> {
         ensures client { IsClientAt self.now result }
         ensures sent { sent_by (producer_of result.client) ≤ self.now.plan.commands }
         ensures seen { result.seen ≤ self.now.plan.commands }
+        ensures index { result.index ≡ client.index }
         ensures answered { AreAnswered result.index result.seen (claims_by result.client) (copies_by result.client) }
     {
         for number in 1..=self.plan.commands {

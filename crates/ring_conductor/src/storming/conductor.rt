@@ -1,7 +1,7 @@
 //! What the conductor does in a storm.
 ghost use Rattle.std.specs.Prelude.{◌≡◌, ◌+◌, ◌≤◌, IsTrue};
-ghost use Rattle.ring_conductor.specs.Storming.{HasCounters, IsConductorAt, IsPlan};
-ghost use Rattle.ring_conductor.specs.Storming.{all_commands, board_shares_of, taken_by};
+ghost use Rattle.ring_conductor.specs.Storming.{HasCounters, IsConductorAt, IsPlan, KeepsReceivers};
+ghost use Rattle.ring_conductor.specs.Storming.{all_commands, taken_by};
 
 use crate::conductor::{Conductor, WorkStop};
 use crate::storming::shared::Shared;
@@ -22,7 +22,7 @@ impl<G> Shared<'_, G> {
         requires counters { HasCounters self.now.plan conductor.old }
         ensures conductor { IsConductorAt self.now conductor.new }
         ensures counters { HasCounters self.now.plan conductor.new }
-        ensures shares { board_shares_of conductor.new ≡ board_shares_of conductor.old }
+        ensures receivers { KeepsReceivers conductor.old conductor.new }
         ensures taken { taken_by conductor.new ≡ taken_by conductor.old + result }
     {
         let backoff = Backoff::new();
@@ -49,7 +49,7 @@ impl<G> Shared<'_, G> {
         requires counters { HasCounters self.now.plan conductor }
         ensures conductor { IsConductorAt self.now result.conductor }
         ensures counters { HasCounters self.now.plan result.conductor }
-        ensures shares { board_shares_of result.conductor ≡ board_shares_of conductor }
+        ensures receivers { KeepsReceivers conductor result.conductor }
         ensures done { IsTrue result.is_done → all_commands self.now.plan ≤ taken_by result.conductor }
     {
         let all = u64::from(self.plan.all_commands());

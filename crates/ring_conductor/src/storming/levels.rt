@@ -1,10 +1,13 @@
 //! How the threads of a storm are started and joined.
-ghost use Rattle.std.specs.Prelude.{◌≡◌, ◌+◌, ◌*◌, ◌<◌, ◌≤◌, IsTrue, None, Some};
+ghost use Rattle.std.specs.Prelude.{◌≡◌, ◌+◌, ◌*◌, ◌<◌, ◌≤◌, [], IsTrue, None, Some};
 ghost use Rattle.ring_conductor.specs.declared.storming.seats.Failure.TheVariants.{OutOfMemory};
 ghost use Rattle.ring_rings.specs.Seats.{open_claims_of, shares_of, IsConsumerOf};
 ghost use Rattle.ring_conductor.specs.Conducting.{IsConductorOf};
 ghost use Rattle.ring_conductor.specs.Asking.{producer_of};
+ghost use Rattle.ring_conductor.specs.Finishing.{joined_by};
 ghost use Rattle.ring_conductor.specs.Storming.{HasCounters, IsClientAt, IsClientOf, IsDone, IsHubAt, IsNew, IsPlan};
+ghost use Rattle.ring_conductor.specs.Storming.{IsUnused};
+ghost use Rattle.ring_conductor.specs.Turns.{AreAnswered, claims_by, copies_by};
 ghost use Rattle.ring_conductor.specs.Storming.{all_commands, board_shares_of, sent_by, taken_by};
 
 use crate::storming::conductor::ConductorEnd;
@@ -48,9 +51,11 @@ fn conduct<'s, E, R: Threads, G: Gate + Sync>(
 ) -> LevelEnd
     requires plan { IsPlan shared.plan }
     requires hub { IsHubAt shared hub }
+    requires unused { IsUnused hub }
     ensures hub { IsHubAt shared.entry result.hub }
     ensures producer { result.hub.producer ≡ hub.producer }
     ensures receivers { board_shares_of result.hub.conductor ≡ board_shares_of hub.conductor }
+    ensures unused { IsUnused result.hub }
     ensures seen { result.seen ≡ 0 }
     ensures done { (result.failure ≡ None) → all_commands shared.entry.plan ≤ taken_by result.hub.conductor }
 {
@@ -79,11 +84,12 @@ fn conduct<'s, E, R: Threads, G: Gate + Sync>(
         },
         move || -> ConductorEnd
             requires { IsPlan plan × IsConductorOf IsConsumerOf ring.now board.now values.now conductor
-                × HasCounters plan conductor }
+                × HasCounters plan conductor × (joined_by conductor ≡ []) }
             ensures conductor { IsConductorOf IsConsumerOf ring.entry.now board.entry.now values.entry.now
                 result.conductor }
             ensures counters { HasCounters plan result.conductor }
             ensures shares { board_shares_of result.conductor ≡ board_shares_of conductor }
+            ensures none_joined { joined_by result.conductor ≡ [] }
             ensures done { IsTrue result.is_done → all_commands plan ≤ taken_by result.conductor }
         {
             let shared = Shared {
@@ -137,12 +143,13 @@ pub(crate) fn level<'s, E, R: Threads, G: Gate + Sync>(
 ) -> LevelEnd
     requires plan { IsPlan shared.plan × (remaining ≤ 64) }
     requires hub { IsHubAt shared hub }
+    requires unused { IsUnused hub }
     requires shares { (remaining < shares_of hub.producer) × (remaining < board_shares_of hub.conductor) }
     ensures hub { IsHubAt shared.entry result.hub }
     ensures producers { shares_of result.hub.producer ≡ shares_of hub.producer }
     ensures receivers { board_shares_of result.hub.conductor ≡ board_shares_of hub.conductor }
     ensures open_claims { open_claims_of result.hub.producer ≡ open_claims_of hub.producer }
-    ensures sent { sent_by result.hub.producer ≤ sent_by hub.producer + remaining * shared.entry.plan.commands }
+    ensures sent { sent_by result.hub.producer ≤ remaining * shared.entry.plan.commands }
     ensures seen { result.seen ≤ remaining * shared.entry.plan.commands }
     ensures done { (result.failure ≡ None) → IsDone shared.entry.plan remaining result }
 {
@@ -164,13 +171,21 @@ pub(crate) fn level<'s, E, R: Threads, G: Gate + Sync>(
     } = shared;
     let started = stack_of(gate, index).spawn_scoped_with(
         scope,
-        ClientBack { ring, board, plan },
+        ClientBack {
+            ring,
+            board,
+            plan,
+            index,
+        },
         move || -> StormClient
             requires client { IsClientOf ring.now board.now client }
             requires new { IsNew client }
             ensures client { IsClientOf ring.entry.now board.entry.now result }
             ensures sent { sent_by (producer_of result.client) ≤ plan.commands }
             ensures seen { result.seen ≤ plan.commands }
+            ensures index { result.index ≡ client.index }
+            ensures answered { AreAnswered result.index result.seen
+                (claims_by result.client) (copies_by result.client) }
         {
             let shared = Shared {
                 ring,
@@ -205,6 +220,8 @@ fn gather<G>(shared: Shared<'_, G>, index: u32, end: LevelEnd, client: StormClie
     requires client { IsClientAt shared client }
     requires sent { sent_by (producer_of client.client) ≤ shared.plan.commands }
     requires seen { (client.seen ≤ shared.plan.commands) × (end.seen ≤ index * shared.plan.commands) }
+    requires its_index { client.index ≡ index }
+    requires answered { AreAnswered client.index client.seen (claims_by client.client) (copies_by client.client) }
     requires done { (end.failure ≡ None) → IsDone shared.plan index end }
     ensures hub { IsHubAt shared.entry result.hub }
     ensures producers { shares_of result.hub.producer ≡ shares_of end.hub.producer + 1 }
@@ -220,12 +237,13 @@ fn gather<G>(shared: Shared<'_, G>, index: u32, end: LevelEnd, client: StormClie
         failure,
     } = end;
     let replies = shared.join_client(&mut hub, client);
-    LevelEnd {
-        hub,
-        seen: seen + replies,
-        failure: match failure {
-            None if replies < u64::from(shared.plan.commands) => Some(Failure::TurnsSpent),
-            failure => failure,
-        },
+    let seen = seen + replies;
+    if replies < u64::from(shared.plan.commands) {
+        return LevelEnd {
+            hub,
+            seen,
+            failure: Some(failure.unwrap_or(Failure::TurnsSpent)),
+        };
     }
+    LevelEnd { hub, seen, failure }
 }

@@ -1,10 +1,12 @@
 //! What threads promise of what they give back.
-ghost use Rattle.std.specs.Prelude.{◌≡◌, ◌≤◌, IsTrue};
+ghost use Rattle.std.specs.Prelude.{◌≡◌, ◌≤◌, [], IsTrue};
 ghost use Rattle.ring_rings.specs.Seats.{IsConsumerOf};
 ghost use Rattle.ring_conductor.specs.Conducting.{IsConductorOf};
 ghost use Rattle.ring_conductor.specs.Asking.{producer_of};
+ghost use Rattle.ring_conductor.specs.Finishing.{joined_by};
 ghost use Rattle.ring_conductor.specs.Storming.{HasCounters, IsClientOf};
 ghost use Rattle.ring_conductor.specs.Storming.{all_commands, board_shares_of, sent_by, taken_by};
+ghost use Rattle.ring_conductor.specs.Turns.{AreAnswered, claims_by, copies_by};
 
 use crate::storming::conductor::ConductorEnd;
 use crate::storming::plan::StormPlan;
@@ -14,20 +16,22 @@ use ring_counters::CounterValues;
 use ring_rings::ManyToOneRing;
 use std::thread::Promise;
 
-/// A client comes back with its seats.
+/// A client comes back with its seats, and each command that it counts was answered.
 #[derive(Clone, Copy)]
 pub(crate) struct ClientBack<'a> {
     pub(crate) ring: &'a ManyToOneRing,
     pub(crate) board: &'a Board,
     pub(crate) plan: StormPlan,
+    pub(crate) index: u32,
 }
 
 impl<'a> Promise<StormClient> for ClientBack<'a> {
     ghost kept_by = { λ p r. IsClientOf p.ring.now p.board.now r
-        × (sent_by (producer_of r.client) ≤ p.plan.commands) × (r.seen ≤ p.plan.commands) };
+        × (sent_by (producer_of r.client) ≤ p.plan.commands) × (r.seen ≤ p.plan.commands)
+        × (r.index ≡ p.index) × AreAnswered r.index r.seen (claims_by r.client) (copies_by r.client) };
 }
 
-/// The conductor comes back with its shares.
+/// The conductor comes back with its shares, and has joined no receiver.
 #[derive(Clone, Copy)]
 pub(crate) struct ConductorBack<'a> {
     pub(crate) ring: &'a ManyToOneRing,
@@ -39,6 +43,6 @@ pub(crate) struct ConductorBack<'a> {
 
 impl<'a> Promise<ConductorEnd> for ConductorBack<'a> {
     ghost kept_by = { λ p r. IsConductorOf IsConsumerOf p.ring.now p.board.now p.values.now r.conductor
-        × HasCounters p.plan r.conductor × (board_shares_of r.conductor ≡ p.shares)
+        × HasCounters p.plan r.conductor × (board_shares_of r.conductor ≡ p.shares) × (joined_by r.conductor ≡ [])
         × (IsTrue r.is_done → all_commands p.plan ≤ taken_by r.conductor) };
 }

@@ -1,6 +1,9 @@
-use Rattle.std.proofs.Common.{◌∙◌, ap}
+use Rattle.std.proofs.Common.{◌≡◌, ◌∙◌, ap, subst}
+use Rattle.ring_rings.specs.Closing.{HandsOut}
+use Rattle.ring_rings.specs.Seats.{view_of}
 use Rattle.ring_counters.specs.declared.manager.CountersManager.{CountersManager}
 use Rattle.ring_counters.specs.Manager.{registry_of}
+use Rattle.ring_conductor.specs.Conducting.{ring_view}
 use Rattle.ring_conductor.proofs.StormLemmas.{reported}
 use Rattle.ring_conductor.proofs.storming.storm.Goals as goal
 
@@ -9,7 +12,18 @@ returns-in-None-clause-report g c =
     let e = c.in-Ok-finish.ensures in
     let threads = c.run_threads-hub.ensures in
     let done = threads.done c.in-None.is in
-    let folded = ap (λ (m : CountersManager). registry_of m) e.counters ∙ threads.hub.2 in
     let said = c.report.ensures in
-    reported _ _ _ _ _ _ e.left threads.whole.settled threads.sent done.0 _ folded c.report.result _ _ e.received done.1
-    said.received said.left said.live said.sum
+    reported _ _ _ _ _ _ _ _ _ record {
+      capacity = c.in-Ok.ensures.ring.0;
+      begins = c.in-Ok.ensures.ring.1;
+      out = e.left;
+      whole = e.whole;
+      settled = threads.whole.settled;
+      few = threads.sent;
+      done = done.0;
+      turns = done.2;
+      runs = e.runs;
+      counters_are = ap (λ (m : CountersManager). registry_of m) e.counters ∙ threads.hub.2;
+      writes = _;
+      folded = e.folded;
+    } c.report.result _ _ e.received done.1 said.received said.left said.live said.sum

@@ -14,6 +14,7 @@ loop-number-preserved g c =
       client = e.client;
       sent = (let few = e.sent in let before = was.sent in omega arith);
       seen = (let same = e.same.1 in let before = was.seen in omega arith);
+      index = e.same.0 ∙ was.index;
       answered = next_answered old.index new.index old.seen new.seen c.loop-number.number (claims_by old.client)
           (claims_by new.client) (copies_by old.client) (copies_by new.client) e.same.0 e.same.1 (sym was.seen)
           (of_some c.command.result _ some e.turn) was.answered;

@@ -9,6 +9,7 @@ invariant-loop-number g l = record {
   client : IsClientOf l.self.ring.now l.self.board.now l.client;
   sent : sent_by (producer_of l.client.client) < l.number;
   seen : l.client.seen + 1 ≡ l.number;
+  index : l.client.index ≡ l.fn.client.index;
   answered : AreAnswered l.client.index l.client.seen (claims_by l.client.client) (copies_by l.client.client);
   within : l.number ≤ l.self.plan.commands + 1;
 }
