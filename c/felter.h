@@ -139,7 +139,8 @@ int32_t felter_shares(felter_producer *producer, uint32_t *shares);
  * wanted. An eighth of the capacity is always enough. */
 int32_t felter_read(felter_consumer *consumer, int32_t *type_id, size_t *len, uint8_t *buffer, size_t room);
 
-/* What stands before the bytes of a message in a batch. */
+/* What stands before the bytes of a message in a batch. It may be read in place where the buffer is aligned to 8 bytes;
+ * else memcpy it out. */
 typedef struct felter_record {
     uint64_t len;    /* how many bytes follow */
     int64_t type_id;

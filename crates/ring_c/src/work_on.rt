@@ -1,4 +1,4 @@
-//! What every call of one handle does.
+//! What calls of handles have in common.
 
 /// Works on what a handle stands for, where it is of this kind, and gives the code of that. An empty handle gives 100,
 /// and one of another kind 101.
@@ -48,5 +48,42 @@ macro_rules! make_into {
     };
 }
 
+/// Fills an empty handle with what is made, and gives the code: 102 for one in use, for which nothing is made.
+macro_rules! fill {
+    ($handle:ident, $alloc:ident, $make:expr) => {
+        if $handle.is_empty($alloc) {
+            match $make {
+                Ok(made) => {
+                    $handle.put(made);
+                    $crate::code::DONE
+                }
+                Err(code) => code,
+            }
+        } else {
+            $crate::code::HANDLE_IN_USE
+        }
+    };
+}
+
+/// Fills two empty handles with the two that are made, and gives the code as `fill` does.
+macro_rules! fill_both {
+    ($first:ident, $second:ident, $alloc:ident, $make:expr) => {
+        if $first.is_empty($alloc) && $second.is_empty($alloc) {
+            match $make {
+                Ok((one, two)) => {
+                    $first.put(one);
+                    $second.put(two);
+                    $crate::code::DONE
+                }
+                Err(code) => code,
+            }
+        } else {
+            $crate::code::HANDLE_IN_USE
+        }
+    };
+}
+
+pub(crate) use fill;
+pub(crate) use fill_both;
 pub(crate) use make_into;
 pub(crate) use work_on;

@@ -5,10 +5,10 @@ ghost use Rattle.ring_c.specs.Boards.{heard, make_code, IsUnheard, Received, Say
 ghost use Rattle.ring_c.specs.Told.{a_receiver, a_transmitter, Gives, GivesInto, HoldNewBoard, IsBoardCode, OpensBoard, Uses};
 
 use crate::boards::TransmitterSide;
-use crate::code::{DONE, HANDLE_IN_USE, OUT_OF_MEMORY};
+use crate::code::{HANDLE_IN_USE, OUT_OF_MEMORY};
 use crate::handle::Handle;
 use crate::held::Held;
-use crate::work_on::{make_into, work_on};
+use crate::work_on::{fill, make_into, work_on};
 use ring_board::{Board, MakeFault};
 use std::alloc::Global;
 use std::sync::Arc;
@@ -51,16 +51,7 @@ fn make_board(alloc: Global, capacity: u32, start: u64) -> Result<Box<Held>, i32
 pub extern "C" fn felter_board_new(alloc: Global, capacity: u32, transmitter: &mut Handle) -> i32
     ensures { OpensBoard capacity 0 transmitter.old.held transmitter.new.held result }
 {
-    if !transmitter.is_empty(alloc) {
-        return HANDLE_IN_USE;
-    }
-    match make_board(alloc, capacity, 0) {
-        Ok(made) => {
-            transmitter.put(made);
-            DONE
-        }
-        Err(code) => code,
-    }
+    fill!(transmitter, alloc, make_board(alloc, capacity, 0))
 }
 
 /// Makes a board that starts at a multiple of its capacity, with its transmitter.
@@ -73,16 +64,7 @@ pub extern "C" fn felter_board_new_at(
 ) -> i32
     ensures { OpensBoard capacity start transmitter.old.held transmitter.new.held result }
 {
-    if !transmitter.is_empty(alloc) {
-        return HANDLE_IN_USE;
-    }
-    match make_board(alloc, capacity, start) {
-        Ok(made) => {
-            transmitter.put(made);
-            DONE
-        }
-        Err(code) => code,
-    }
+    fill!(transmitter, alloc, make_board(alloc, capacity, start))
 }
 
 /// Transmits a message. It never waits.
