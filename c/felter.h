@@ -1,4 +1,4 @@
-/* felter: rings and counters for the threads of one process.
+/* felter: rings, boards and counters for the threads of one process.
  *
  * The library behind this header is proved; this header, and what a caller keeps, is not.
  *
@@ -43,7 +43,7 @@ extern "C" {
 enum felter_code {
     FELTER_OK = 0,
     /* Numbers of the library. */
-    FELTER_BAD_CAPACITY = 1,          /* no power of two from 128 to 2^24 */
+    FELTER_BAD_CAPACITY = 1,          /* no power of two from 128 (of a board 256) to 2^24 */
     FELTER_BAD_START = 2,             /* no multiple of the capacity, or above 2^62 */
     FELTER_OUT_OF_MEMORY = 3,         /* there was no memory */
     FELTER_BAD_TYPE = 4,              /* the type id is below 1 */
@@ -53,6 +53,7 @@ enum felter_code {
     FELTER_CONTENDED = 8,             /* another producer was faster */
     FELTER_PUT_RANGE = 9,             /* the bytes do not lie inside the claim */
     FELTER_NO_SHARES = 12,            /* one share is left, and is needed */
+    FELTER_LAPPED = 13,               /* the transmitter overtook the receiver */
     FELTER_BAD_COUNT = 15,            /* the number of counters is 0 or above 4096 */
     FELTER_KEY_TOO_LONG = 16,         /* the key has more than 112 bytes */
     FELTER_LABEL_TOO_LONG = 17,       /* the label has more than 380 bytes */
@@ -78,7 +79,10 @@ typedef struct felter_handle { void *at; } felter_handle;
 
 typedef struct felter_producer { felter_handle handle; } felter_producer;
 typedef struct felter_consumer { felter_handle handle; } felter_consumer;
+typedef struct felter_transmitter { felter_handle handle; } felter_transmitter;
+typedef struct felter_receiver { felter_handle handle; } felter_receiver;
 typedef struct felter_counters { felter_handle handle; } felter_counters;
+typedef struct felter_reader { felter_handle handle; } felter_reader;
 
 /* The first value of a handle of any kind. */
 #define FELTER_EMPTY {{0}}
@@ -135,6 +139,46 @@ int32_t felter_shares(felter_producer *producer, uint32_t *shares);
  * wanted. An eighth of the capacity is always enough. */
 int32_t felter_read(felter_consumer *consumer, int32_t *type_id, size_t *len, uint8_t *buffer, size_t room);
 
+/* What stands before the bytes of a message in a batch. It may be read in place where the buffer is aligned to 8 bytes;
+ * else memcpy it out. */
+typedef struct felter_record {
+    uint64_t len;    /* how many bytes follow */
+    int64_t type_id;
+} felter_record;
+
+/* Where the message behind one of so many bytes begins in a batch, from where that one begins. */
+#define FELTER_SPAN(len) (sizeof(felter_record) + ((size_t)(len) + 7) / 8 * 8)
+
+/* Reads up to `limit` messages into a buffer, one behind another: each is a felter_record and its bytes, and begins at
+ * a multiple of 8 bytes, FELTER_SPAN behind the one before. Says how many messages came, and the bytes that they take.
+ * It stops where the buffer is full, and the message that has no room stays; fewer messages can come than are there.
+ * FELTER_NO_MESSAGE, also where the limit is 0; FELTER_SHORT_BUFFER where the first one has no room (for which
+ * felter_read says its length): FELTER_SPAN(capacity / 8) bytes are always enough for one. */
+int32_t felter_read_batch(felter_consumer *consumer, uint32_t limit, uint32_t *count, size_t *used, uint8_t *buffer,
+                          size_t room);
+
+/* Boards --------------------------------------------------------------------------------------------------------- */
+
+/* A board is a broadcast buffer: its one transmitter never waits, and each receiver gets every message, or learns that
+ * it was overtaken. Makes one of a capacity, a power of two from 256 to 2^24, with its transmitter, which holds all
+ * 65,536 shares. FELTER_BAD_CAPACITY, FELTER_BAD_START, FELTER_OUT_OF_MEMORY, FELTER_HANDLE_IN_USE. */
+int32_t felter_board_new(uint32_t capacity, felter_transmitter *transmitter);
+int32_t felter_board_new_at(uint32_t capacity, uint64_t start, felter_transmitter *transmitter);
+/* Transmits a message. FELTER_BAD_TYPE, FELTER_TOO_LONG, FELTER_POSITION_LIMIT. */
+int32_t felter_transmit(felter_transmitter *transmitter, int32_t type_id, const uint8_t *body, size_t len);
+/* Makes a receiver, which starts with the message that was transmitted last, with one share of the transmitter's. The
+ * share is lost when the receiver is freed: after 65,535 receivers the answer is FELTER_NO_SHARES.
+ * FELTER_OUT_OF_MEMORY, FELTER_HANDLE_IN_USE. */
+int32_t felter_subscribe(felter_transmitter *transmitter, felter_receiver *receiver);
+/* Copies the next message into a buffer. FELTER_NO_MESSAGE. FELTER_LAPPED where the transmitter overtook the receiver:
+ * *lapped says how often by now, and the next call goes on with the message that was transmitted last.
+ * FELTER_SHORT_BUFFER where the room is less than an eighth of the capacity, whatever the message: *len says that
+ * eighth, and nothing is taken. */
+int32_t felter_receive(felter_receiver *receiver, int32_t *type_id, size_t *len, uint64_t *lapped, uint8_t *buffer,
+                       size_t room);
+/* How often the receiver was lapped. */
+int32_t felter_lapped_count(felter_receiver *receiver, uint64_t *count);
+
 /* Counters ------------------------------------------------------------------------------------------------------- */
 
 /* Makes counters with the ids below `count`. A freed id rests for `reuse_ms`. FELTER_BAD_COUNT, FELTER_OUT_OF_MEMORY,
@@ -158,6 +202,11 @@ int32_t felter_counter_value(felter_counters *counters, uint32_t id, int64_t *va
 int32_t felter_counter_type_id(felter_counters *counters, uint32_t id, int32_t *type_id);
 int32_t felter_counter_registration(felter_counters *counters, uint32_t id, uint64_t *registration);
 int32_t felter_counter_owner(felter_counters *counters, uint32_t id, uint64_t *owner);
+/* Copies the label, of at most 380 bytes and without an end, and says its length: also with FELTER_SHORT_BUFFER, where
+ * the room is less. */
+int32_t felter_counter_label(felter_counters *counters, uint32_t id, size_t *len, uint8_t *buffer, size_t room);
+/* Copies the key, of 112 bytes with zeros after a shorter one. FELTER_SHORT_BUFFER where the room is less. */
+int32_t felter_counter_key(felter_counters *counters, uint32_t id, uint8_t *buffer, size_t room);
 /* Finds the lowest id in use of a type and registration id; else FELTER_NOT_ALLOCATED. */
 int32_t felter_counter_find(felter_counters *counters, int32_t type_id, uint64_t registration, uint32_t *id);
 /* The number of ids, in use or not. To list the counters in use, ask for each id's type: FELTER_NOT_ALLOCATED says that
@@ -165,6 +214,13 @@ int32_t felter_counter_find(felter_counters *counters, int32_t type_id, uint64_t
 int32_t felter_counters_count(felter_counters *counters, uint32_t *count);
 /* Frees each counter of an owner, and says how many. FELTER_BAD_OWNER, FELTER_BAD_MOMENT. */
 int32_t felter_counters_close_owner(felter_counters *counters, uint64_t now, uint64_t owner, uint32_t *freed);
+
+/* Makes a reader of the values, for another thread, with one share of the counters' 65,536. The share is lost when the
+ * reader is freed. FELTER_NO_SHARES, FELTER_OUT_OF_MEMORY, FELTER_HANDLE_IN_USE. */
+int32_t felter_counters_reader(felter_counters *counters, felter_reader *reader);
+/* Loads a value: of an id that was never used 0, of a freed one its last. No value that the reader has seen comes back
+ * once a later one was loaded. FELTER_BAD_ID. */
+int32_t felter_reader_value(felter_reader *reader, uint32_t id, int64_t *value);
 
 #ifdef __cplusplus
 }

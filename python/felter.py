@@ -1,4 +1,4 @@
-"""Rings and counters for the threads of one process, by ctypes alone.
+"""Rings, boards and counters for the threads of one process, by ctypes alone.
 
     producer, consumer = felter.many_to_one(65536)
     producer.write(7, b"hello")
@@ -20,6 +20,7 @@ import ctypes
 import enum
 import itertools
 import os
+import struct
 import threading
 import typing
 
@@ -37,6 +38,7 @@ class Number(enum.IntEnum):
     CONTENDED = 8
     PUT_RANGE = 9
     NO_SHARES = 12
+    LAPPED = 13
     BAD_COUNT = 15
     KEY_TOO_LONG = 16
     LABEL_TOO_LONG = 17
@@ -134,6 +136,12 @@ felter_heartbeat *Handle *u64
 felter_set_heartbeat *Handle u64
 felter_shares *Handle *u32
 felter_read *Handle *i32 *usize *u8 usize
+felter_read_batch *Handle u32 *u32 *usize *u8 usize
+felter_board_new_at u32 u64 *Handle
+felter_transmit *Handle i32 bytes usize
+felter_subscribe *Handle *Handle
+felter_receive *Handle *i32 *usize *u64 *u8 usize
+felter_lapped_count *Handle *u64
 felter_counters_new u32 u32 *Handle
 felter_counter_allocate_owned *Handle u64 i32 bytes usize bytes usize u64 u64 *u32
 felter_counter_free *Handle u64 u32
@@ -143,9 +151,13 @@ felter_counter_value *Handle u32 *i64
 felter_counter_type_id *Handle u32 *i32
 felter_counter_registration *Handle u32 *u64
 felter_counter_owner *Handle u32 *u64
+felter_counter_label *Handle u32 *usize *u8 usize
+felter_counter_key *Handle u32 *u8 usize
 felter_counter_find *Handle i32 u64 *u32
 felter_counters_count *Handle *u32
 felter_counters_close_owner *Handle u64 u64 *u32
+felter_counters_reader *Handle *Handle
+felter_reader_value *Handle u32 *i64
 """
 
 
@@ -255,6 +267,19 @@ class Consumer(_Reading):
 
     _name = "felter_read"
 
+    def read_batch(self, limit, room=65536):
+        """A list of up to `limit` messages, by one call; of none it is empty. Fewer can come than are there. A message
+        takes 16 bytes of the room and its own, rounded up to 8, and one that has no room stays."""
+        buffer, count, used = ctypes.create_string_buffer(room), ctypes.c_uint32(), ctypes.c_size_t()
+        with self._lock:
+            _try("felter_read_batch", self._handle, limit, count, used, buffer, room)
+        messages, at = [], 0
+        for _ in range(count.value):
+            length, type_id = struct.unpack_from("=Qq", buffer, at)
+            messages.append(Message(type_id, buffer[at + 16:at + 16 + length]))
+            at += 16 + (length + 7) // 8 * 8
+        return messages
+
     def set_heartbeat(self, value):
         """Stores the heartbeat that producers load."""
         self._do("felter_set_heartbeat", value)
@@ -343,6 +368,62 @@ def one_to_one(capacity, start=0):
     return _ring("felter_one_to_one_new_at", capacity, start)
 
 
+class Lapped(Error):
+    """The transmitter overtook the receiver: `count` says how often by now."""
+
+    def __init__(self, count):
+        super().__init__(Number.LAPPED)
+        self.count = count
+
+
+class Transmitter(_Owner):
+    """Transmits on a board of a capacity. It never waits: a receiver that is too slow is overtaken, and learns that."""
+
+    def __init__(self, capacity, start=0):
+        super().__init__()
+        self._capacity = capacity
+        _call("felter_board_new_at", capacity, start, self._handle)
+
+    def transmit(self, type_id, body):
+        """Transmits a message."""
+        self._do("felter_transmit", type_id, body, len(body))
+
+    def subscribe(self):
+        """Makes a receiver, which starts with the message that was transmitted last. It has one share of 65,536, which
+        is lost when it is freed."""
+        receiver = Receiver(self._capacity)
+        self._do("felter_subscribe", receiver._handle)
+        return receiver
+
+
+class Receiver(_Owner):
+    """Receives what is transmitted on a board."""
+
+    def __init__(self, capacity):
+        super().__init__()
+        self._buffer = ctypes.create_string_buffer(capacity // 8)
+
+    def receive(self):
+        """The next message, or None where nothing is there. Raises Lapped where the transmitter overtook the receiver;
+        the next call goes on with the message that was transmitted last."""
+        type_id, length, lapped = ctypes.c_int32(), ctypes.c_size_t(), ctypes.c_uint64()
+        with self._lock:
+            outs = type_id, length, lapped, self._buffer, len(self._buffer)
+            try:
+                took = _try("felter_receive", self._handle, *outs)
+            except Error as refused:
+                raise Lapped(lapped.value) if refused.number == Number.LAPPED else refused
+            return Message(type_id.value, self._buffer[:length.value]) if took else None
+
+    def __iter__(self):
+        """The messages that are there, each taken as it is asked for."""
+        return iter(self.receive, None)
+
+    def lapped_count(self):
+        """How often it was lapped."""
+        return self._say("felter_lapped_count", ctypes.c_uint64)
+
+
 class Counters(_Owner):
     """Counters with the ids below `count`. A freed id rests for `reuse_ms` milliseconds."""
 
@@ -383,6 +464,18 @@ class Counters(_Owner):
         """A counter's owner, 0 where it has none."""
         return self._say("felter_counter_owner", ctypes.c_uint64, counter)
 
+    def label(self, counter):
+        """A counter's label."""
+        label, length = ctypes.create_string_buffer(380), ctypes.c_size_t()
+        self._do("felter_counter_label", counter, length, label, len(label))
+        return label[:length.value]
+
+    def key(self, counter):
+        """A counter's key of 112 bytes, with zeros after a shorter one."""
+        key = ctypes.create_string_buffer(112)
+        self._do("felter_counter_key", counter, key, len(key))
+        return key[:]
+
     def find(self, type_id, registration):
         """The lowest id in use of a type and registration id, or None."""
         try:
@@ -406,3 +499,18 @@ class Counters(_Owner):
     def close_owner(self, now, owner):
         """Frees each counter of an owner at a moment, and answers how many."""
         return self._say("felter_counters_close_owner", ctypes.c_uint32, now, owner)
+
+    def reader(self):
+        """Makes a reader of the values, for another thread. It has one share of 65,536, which is lost when it is
+        freed."""
+        reader = Reader()
+        self._do("felter_counters_reader", reader._handle)
+        return reader
+
+
+class Reader(_Owner):
+    """Loads values of counters."""
+
+    def value(self, counter):
+        """Loads a value: of an id that was never used 0, of a freed one its last."""
+        return self._say("felter_reader_value", ctypes.c_int64, counter)

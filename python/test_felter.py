@@ -56,6 +56,19 @@ class Rings(Case):
         producer.write(5, bytes(512))
         self.assertEqual(consumer.read(), Message(5, bytes(512)))
 
+    def test_batches_have_all_messages_in_order(self):
+        producer, consumer = felter.many_to_one(4096)
+        wanted = [Message(1 + number, body_of(1, number)) for number in range(20)]
+        for message in wanted:
+            producer.write(*message)
+        self.assertEqual(consumer.read_batch(0), [])
+        self.refuses(Number.SHORT_BUFFER, consumer.read_batch, 9, 16)
+        read = consumer.read_batch(3) + consumer.read_batch(100, 100)
+        self.assertLess(len(read), 20)
+        read += consumer.read_batch(100)
+        self.assertEqual(read, wanted)
+        self.assertEqual(consumer.read_batch(100), [])
+
     def test_two_threads_write_and_a_third_reads(self):
         count = 1500
         first, consumer = felter.many_to_one(1024)
@@ -136,6 +149,48 @@ class Rings(Case):
         self.assertEqual(producer.shares(), 65535)
 
 
+class Boards(Case):
+    def test_receivers_get_all_or_learn_what_they_missed(self):
+        transmitter = felter.Transmitter(256, 512)
+        receiver = transmitter.subscribe()
+        self.assertIsNone(receiver.receive())
+        transmitter.transmit(3, b"one")
+        transmitter.transmit(4, b"\0" * 32)
+        self.assertEqual(list(receiver), [Message(3, b"one"), Message(4, b"\0" * 32)])
+        for number in range(7):
+            transmitter.transmit(10 + number, bytes([number] * 26))
+        lapped = self.refuses(Number.LAPPED, receiver.receive)
+        self.assertEqual((lapped.count, str(lapped), receiver.lapped_count()), (1, "13 LAPPED", 1))
+        with transmitter:
+            self.assertEqual(list(receiver), [Message(16, bytes([6] * 26))])
+            self.refuses(Number.TOO_LONG, transmitter.transmit, 1, bytes(33))
+        self.refuses(Number.NO_HANDLE, transmitter.transmit, 1, b"")
+        self.assertEqual(list(receiver), [])
+        self.refuses(Number.BAD_CAPACITY, felter.Transmitter, 128)
+
+    def test_a_thread_transmits_and_two_receive(self):
+        count, read = 2000, {}
+        transmitter = felter.Transmitter(1024)
+
+        def collect(sender, receiver):
+            read[sender] = []
+            while not read[sender] or read[sender][-1] != count:
+                try:
+                    read[sender] += [message.type_id for message in receiver if message.body == b"%d" % message.type_id]
+                except felter.Lapped:
+                    pass
+                time.sleep(0)
+
+        def transmit():
+            for number in range(1, count + 1):
+                transmitter.transmit(number, b"%d" % number)
+
+        first, second = transmitter.subscribe(), transmitter.subscribe()
+        run(lambda: collect(1, first), lambda: collect(2, second), transmit)
+        for numbers in read.values():
+            self.assertEqual(numbers, sorted(set(numbers)))
+
+
 class CountersCase(Case):
     def test_counters_say_what_they_were_given(self):
         counters = felter.Counters(3, 10)
@@ -144,6 +199,8 @@ class CountersCase(Case):
         self.assertEqual((len(counters), list(counters)), (3, [0, 1]))
         said = counters.type_id(one), counters.registration(one), counters.owner(one)
         self.assertEqual(said, (4, 8, 9))
+        self.assertEqual((counters.label(one), counters.label(1)), (b"label", b""))
+        self.assertEqual((counters.key(one), counters.key(1)), (b"key" + bytes(109), bytes(112)))
         self.assertEqual((counters.find(4, 8), counters.find(4, 7)), (0, None))
         counters.set(one, -7)
         self.assertEqual((counters.add(one, 10), counters.value(one)), (-7, 3))
@@ -153,6 +210,26 @@ class CountersCase(Case):
         self.refuses(Number.NOT_ALLOCATED, counters.release, 0, 1)
         self.refuses(Number.LABEL_NOT_ASCII, counters.allocate, 0, 1, b"", b"\x80")
         self.assertEqual(list(counters), [])
+
+
+    def test_a_reader_on_a_thread_sees_values_rise(self):
+        counters = felter.Counters(2)
+        counters.allocate(0, 1)
+        reader, seen = counters.reader(), [0]
+        self.refuses(Number.BAD_ID, reader.value, 2)
+
+        def watch():
+            while seen[-1] < 2000:
+                seen.append(reader.value(0))
+
+        def count():
+            for _ in range(2000):
+                counters.add(0, 1)
+
+        run(watch, count)
+        self.assertEqual(seen, sorted(seen))
+        counters.free()
+        self.assertEqual(reader.value(0), 2000)
 
 
 if __name__ == "__main__":

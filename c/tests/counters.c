@@ -1,6 +1,9 @@
 /* Every code of the calls of counters. */
 #include "check.h"
 
+#include <pthread.h>
+#include <sched.h>
+
 static void makes(void) {
     felter_counters counters = FELTER_EMPTY;
     uint32_t count = 0;
@@ -12,6 +15,28 @@ static void makes(void) {
     EXPECT(FELTER_OK, felter_counters_count(&counters, &count));
     CHECK(count == 4096);
     felter_free(&counters.handle);
+}
+
+/* Compares a counter's label and key, each into a buffer of its length and into one that is too short. */
+static void says(felter_counters *counters, uint32_t id, const uint8_t *label, size_t label_len, const uint8_t *key,
+                 size_t key_len) {
+    uint8_t buffer[400];
+    size_t len = 9999;
+    memset(buffer, 0xEE, sizeof buffer);
+    if (label_len > 0) {
+        EXPECT(FELTER_SHORT_BUFFER, felter_counter_label(counters, id, &len, buffer, label_len - 1));
+        CHECK(len == label_len && buffer[0] == 0xEE);
+        len = 9999;
+    }
+    EXPECT(FELTER_OK, felter_counter_label(counters, id, &len, buffer, label_len));
+    CHECK(len == label_len && (len == 0 || memcmp(buffer, label, len) == 0) && buffer[len] == 0xEE);
+    memset(buffer, 0xEE, sizeof buffer);
+    EXPECT(FELTER_SHORT_BUFFER, felter_counter_key(counters, id, buffer, 111));
+    CHECK(buffer[0] == 0xEE);
+    EXPECT(FELTER_OK, felter_counter_key(counters, id, buffer, 112));
+    CHECK(key_len == 0 || memcmp(buffer, key, key_len) == 0);
+    for (size_t i = key_len; i < 112; i++) CHECK(buffer[i] == 0);
+    CHECK(buffer[112] == 0xEE);
 }
 
 static void allocates(void) {
@@ -52,6 +77,9 @@ static void allocates(void) {
     EXPECT(FELTER_OK, felter_counter_find(&counters, 8, 78, &id));
     CHECK(id == 1);
     EXPECT(FELTER_NOT_ALLOCATED, felter_counter_find(&counters, 8, 77, &id));
+    says(&counters, 0, label, 380, key, 112);
+    says(&counters, 1, BYTES("two"), BYTES("key"));
+    says(&counters, 2, NULL, 0, NULL, 0);
 
     EXPECT(FELTER_BAD_MOMENT, felter_counter_free(&counters, LAST_POSITION + 1, 0));
     EXPECT(FELTER_OK, felter_counter_free(&counters, 1000, 0));
@@ -90,6 +118,70 @@ static void values(void) {
     EXPECT(FELTER_NO_HANDLE, felter_counter_value(&counters, id, &value));
 }
 
+#define LAST 100000
+
+struct watcher {
+    felter_reader reader;
+    uint32_t id;
+    uint64_t loads;
+};
+
+/* Loads a value that rises until it is the last one. */
+static void *watch(void *its) {
+    struct watcher *it = its;
+    int64_t last = 0, value = 0;
+    while (last < LAST) {
+        EXPECT(FELTER_OK, felter_reader_value(&it->reader, it->id, &value));
+        CHECK(value >= last && value <= LAST);
+        last = value;
+        it->loads++;
+        if (it->loads % 1024 == 0) sched_yield();
+    }
+    return NULL;
+}
+
+static void readers(void) {
+    felter_counters counters = FELTER_EMPTY;
+    static struct watcher watchers[2];
+    felter_reader never = FELTER_EMPTY;
+    pthread_t ids[2];
+    uint32_t id = 0;
+    int64_t value = 77;
+    EXPECT(FELTER_NO_HANDLE, felter_counters_reader(&counters, &never));
+    EXPECT(FELTER_NO_HANDLE, felter_reader_value(&never, 0, &value));
+    EXPECT(FELTER_OK, felter_counters_new(3, 0, &counters));
+    for (int i = 0; i < 2; i++) {
+        EXPECT(FELTER_OK, felter_counter_allocate(&counters, 0, 1, NULL, 0, NULL, 0, 0, &id));
+        EXPECT(FELTER_OK, felter_counters_reader(&counters, &watchers[i].reader));
+        EXPECT(FELTER_HANDLE_IN_USE, felter_counters_reader(&counters, &watchers[i].reader));
+        watchers[i].id = id;
+    }
+    EXPECT(FELTER_BAD_ID, felter_reader_value(&watchers[0].reader, 3, &value));
+    EXPECT(FELTER_WRONG_HANDLE, felter_reader_value((felter_reader *)(void *)&counters, 0, &value));
+    EXPECT(FELTER_WRONG_HANDLE, felter_counters_reader((felter_counters *)(void *)&watchers[0].reader, &never));
+    CHECK(value == 77);
+    EXPECT(FELTER_OK, felter_reader_value(&watchers[0].reader, 2, &value));
+    CHECK(value == 0);
+    for (int i = 0; i < 2; i++) CHECK(pthread_create(&ids[i], NULL, watch, &watchers[i]) == 0);
+    for (int64_t n = 1; n <= LAST; n++) {
+        EXPECT(FELTER_OK, felter_counter_set(&counters, 0, n));
+        EXPECT(FELTER_OK, felter_counter_add(&counters, 1, 1, &value));
+        if (n % 4096 == 0) sched_yield();
+    }
+    for (int i = 0; i < 2; i++) CHECK(pthread_join(ids[i], NULL) == 0);
+    felter_free(&counters.handle);
+    EXPECT(FELTER_OK, felter_reader_value(&watchers[1].reader, 0, &value));
+    CHECK(value == LAST);
+    for (int i = 0; i < 2; i++) felter_free(&watchers[i].reader.handle);
+    EXPECT(FELTER_OK, felter_counters_new(1, 0, &counters));
+    for (int i = 0; i < 65535; i++) {
+        EXPECT(FELTER_OK, felter_counters_reader(&counters, &never));
+        felter_free(&never.handle);
+    }
+    EXPECT(FELTER_NO_SHARES, felter_counters_reader(&counters, &never));
+    felter_free(&counters.handle);
+}
+
 /* What each call answers of an id. */
 static void refuses(felter_counters *counters, uint32_t id, int32_t code) {
     int64_t value = 0;
@@ -102,6 +194,11 @@ static void refuses(felter_counters *counters, uint32_t id, int32_t code) {
     EXPECT(code, felter_counter_type_id(counters, id, &type_id));
     EXPECT(code, felter_counter_registration(counters, id, &number));
     EXPECT(code, felter_counter_owner(counters, id, &number));
+    size_t len = 7;
+    uint8_t buffer[1] = {5};
+    EXPECT(code, felter_counter_label(counters, id, &len, buffer, 1));
+    EXPECT(code, felter_counter_key(counters, id, buffer, 1));
+    CHECK(len == 7 && buffer[0] == 5);
 }
 
 /* What each call answers of a handle. */
@@ -135,6 +232,7 @@ int main(void) {
     makes();
     allocates();
     values();
+    readers();
     refusals();
     puts("counters: each answer as it should be");
     return 0;

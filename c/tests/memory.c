@@ -62,7 +62,10 @@ void __wrap_free(void *at) {
 static struct {
     felter_producer producer, other, single;
     felter_consumer consumer, of_single;
+    felter_transmitter transmitter;
+    felter_receiver receiver;
     felter_counters counters;
+    felter_reader reader;
 } all;
 
 static int32_t make_many(void) { return felter_many_to_one_new(128, &all.producer, &all.consumer); }
@@ -94,14 +97,35 @@ static int32_t see_one(void) {
     return code;
 }
 
+static int32_t lend(void) { return felter_counters_reader(&all.counters, &all.reader); }
+static int32_t load(void) {
+    int64_t value = 0;
+    int32_t code = felter_reader_value(&all.reader, 0, &value);
+    CHECK(code != FELTER_OK || value == 1);
+    return code;
+}
+static int32_t make_board(void) { return felter_board_new(256, &all.transmitter); }
+static int32_t subscribe(void) { return felter_subscribe(&all.transmitter, &all.receiver); }
+static int32_t transmit(void) { return felter_transmit(&all.transmitter, 2, BYTES("seen")); }
+static int32_t receive(void) {
+    uint8_t buffer[32];
+    int32_t type_id = 0;
+    size_t len = 0;
+    uint64_t lapped = 0;
+    int32_t code = felter_receive(&all.receiver, &type_id, &len, &lapped, buffer, sizeof buffer);
+    CHECK(code != FELTER_OK || (type_id == 2 && len == 4 && memcmp(buffer, "seen", 4) == 0));
+    return code;
+}
+
 static int32_t (*const steps[])(void) = {
-    make_many, make_one, split, write_one, join, read_one, make_counters, allocate, add_one, see_one,
+    make_many,     make_one, split,   write_one, join, read_one,   make_board, subscribe,
+    transmit,      receive,  make_counters, allocate, add_one, see_one, lend, load,
 };
 
 static void free_all(void) {
     felter_handle *handles[] = {&all.producer.handle,  &all.other.handle,     &all.single.handle,
-                                &all.consumer.handle,  &all.of_single.handle,
-                                &all.counters.handle};
+                                &all.consumer.handle,  &all.of_single.handle, &all.transmitter.handle,
+                                &all.receiver.handle,  &all.counters.handle,  &all.reader.handle};
     for (size_t i = 0; i < sizeof handles / sizeof *handles; i++) felter_free(handles[i]);
 }
 
@@ -134,7 +158,7 @@ int main(void) {
         free_all();
         CHECK(live == before);
         if (!met) {
-            CHECK(refusals >= 10);
+            CHECK(refusals >= 17);
             printf("memory: %d requests refused in turn, none leaked\n", refusals);
             return 0;
         }

@@ -1,3 +1,4 @@
+mod BatchLemmas
 pub mod HandleValues
 mod ReadLemmas
 pub mod Values

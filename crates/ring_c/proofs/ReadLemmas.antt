@@ -1,5 +1,5 @@
 -- A controlled read of one message into a buffer.
-use Rattle.std.proofs.Common.{◌≡◌, ◌⊎◌, inl, inr, ℕ, ◌<◌, ◌≤◌, List, [], ◌∷◌, ◌++◌, All, length, ℤ, pos, refl, sym, ap, ◌∙◌, subst}
+use Rattle.std.proofs.Common.{◌≡◌, inl, inr, ℕ, List, [], ◌∷◌, ◌++◌, All, ℤ, pos, refl, sym, ap, ◌∙◌, subst}
 use Rattle.std.proofs.lemmas.List.{append-nil}
 use Rattle.std.proofs.lemmas.List.Elements.{All-head}
 use Rattle.ring_layout.specs.declared.message.Message.{Message}
@@ -10,7 +10,7 @@ use Rattle.ring_words.specs.declared.read.end.ReadEnd.{ReadEnd}
 use Rattle.ring_words.specs.Read.{GoesOn}
 use Rattle.ring_table.specs.declared.claim.PlacedMessage.{PlacedMessage}
 use Rattle.ring_table.specs.declared.view.View.{View}
-use Rattle.ring_rings.specs.Reading.{Controls, WentOn, Broke, Aborts, Reads, messages_of}
+use Rattle.ring_rings.specs.Reading.{Controls, messages_of}
 use Rattle.ring_c.specs.declared.copying.Copying.{Copying}
 use Rattle.ring_c.specs.Consuming.{Out, TookOne, out}
 use Rattle.ring_c.specs.Copying.{Copies, Exceeds, Fits}

@@ -5,7 +5,6 @@ use Rattle.ring_layout.specs.History.{overwritten}
 use Rattle.ring_table.specs.declared.claim.PlacedMessage.{PlacedMessage}
 use Rattle.ring_table.specs.declared.view.View.{View}
 use Rattle.ring_table.specs.Views.{beaten, with_consumer}
-use Rattle.ring_rings.specs.Reading.{IsNext}
 use Rattle.ring_c.specs.Side.{Reading, having_read}
 
 -- what a read puts out: a message's type id and length, and the buffer

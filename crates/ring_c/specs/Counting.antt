@@ -1,5 +1,6 @@
 -- What calls of counters do: c are the counters before, d after, and the code is what is answered.
 use Rattle.std.specs.Prelude.{◌≡◌, ◌≢◌, ◌⊎◌, ◌<◌, ◌≤◌, ◌^◌, ℕ, ℤ, pos, List, [], ◌∷◌, ◌++◌, length, Some, None, Ok, Err}
+use Rattle.ring_layout.specs.History.{overwritten}
 use Rattle.ring_counters.specs.declared.fault.AllocateRefused.{AllocateRefused}
 use Rattle.ring_counters.specs.declared.fault.AllocateRefused.TheVariants.{KeyTooLong, LabelTooLong, LabelNotAscii, NoFreeCounter}
 use Rattle.ring_counters.specs.declared.fault.IdFault.{IdFault}
@@ -101,3 +102,26 @@ WasFound type_id registration before id c d code = (d ≡ c)
 
 abbrev pub WasCounted : ℕ → CountersSide → CountersSide → ℤ → Type 0
 WasCounted count c d code = (d ≡ c) × (code ≡ pos 0) × (count ≡ count_of (registry_of c.manager))
+
+-- these bytes stand at the front of the buffer, or it is too short for them, and stays
+abbrev pub Fills : List ℕ → List ℕ → List ℕ → ℤ → Type 0
+Fills bytes before after code =
+    ((code ≡ pos 0) × (length bytes ≤ length before) × (after ≡ overwritten 0 bytes before))
+    ⊎ ((code ≡ pos 106) × (length before < length bytes) × (after ≡ before))
+
+abbrev pub label_at : CountersSide → ℕ → List ℕ
+label_at c id = (counter_at (registry_of c.manager) id).metadata.label
+
+-- the label's length is put out, and the label where there is room for it
+abbrev pub SaysLabel : ℕ → ℕ → ℕ → List ℕ → List ℕ → CountersSide → CountersSide → ℤ → Type 0
+SaysLabel id len len' before after c d code =
+    ((answer (id_refusal_of (registry_of c.manager) id) (length (label_at c id)) ≡ Ok len') × (d ≡ c)
+    × Fills (label_at c id) before after code)
+    ⊎ (IdRefused (length (label_at c id)) id c d code × (len' ≡ len) × (after ≡ before))
+
+-- the key of 112 bytes is put out, where there is room for it
+abbrev pub SaysKey : ℕ → List ℕ → List ℕ → CountersSide → CountersSide → ℤ → Type 0
+SaysKey id before after c d code =
+    ((answer {T = Unit {0}} (id_refusal_of (registry_of c.manager) id) tt ≡ Ok tt) × (d ≡ c)
+    × Fills (counter_at (registry_of c.manager) id).metadata.key before after code)
+    ⊎ (IdRefused {T = Unit {0}} tt id c d code × (after ≡ before))

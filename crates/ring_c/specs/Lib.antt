@@ -1,7 +1,10 @@
+pub mod Batch
+pub mod Boards
 pub mod Codes
 pub mod Consuming
 pub mod Copying
 pub mod Counting
+pub mod Lending
 pub mod Owned
 pub mod Producing
 pub mod Side

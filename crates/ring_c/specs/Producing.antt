@@ -1,8 +1,8 @@
 -- What a producer's calls do: p is the producer before, q after, and the code is what is answered.
 use Rattle.std.specs.Prelude.{◌≡◌, ◌≢◌, ◌⊎◌, ℕ, ◌+◌, ◌<◌, ℤ, pos, List, length, MatchOption, Bool, true, false}
-use Rattle.std.specs.declared.option.Option.{Option}
 use Rattle.std.specs.declared.option.Option.TheVariants.{None, Some}
 use Rattle.ring_layout.specs.declared.message.ClaimState.{ClaimState}
+use Rattle.ring_layout.specs.declared.message.ClaimState.TheVariants.{Aborted}
 use Rattle.ring_words.specs.Open.{ClaimAt}
 use Rattle.ring_words.specs.declared.fault.ClaimFault.{ClaimFault}
 use Rattle.ring_rings.specs.declared.fault.TryFault.{TryFault}
@@ -12,7 +12,7 @@ use Rattle.ring_table.specs.Changes.{changed, staged}
 use Rattle.ring_table.specs.ServiceSteps.{DrawsId, LoadsHeartbeat}
 use Rattle.ring_table.specs.Views.{producer_alone, with_claims, without_share}
 use Rattle.ring_rings.specs.Bodies.{PutsBytes}
-use Rattle.ring_rings.specs.Claiming.{Claims, ClaimsAlone, Refuses, RefusesAlone, RefusesTry, Writes, WritesAlone}
+use Rattle.ring_rings.specs.Claiming.{Claims, ClaimsAlone, RefusesAlone, RefusesTry, Writes, WritesAlone}
 use Rattle.ring_rings.specs.Joining.{Joins, LoadsPositions}
 use Rattle.ring_c.specs.Codes.{claim_code, try_code}
 use Rattle.ring_c.specs.Side.{Side, knowing}
@@ -86,13 +86,20 @@ Put number offset bytes p q code =
     WithClaim number (λ t. ((code ≡ pos 0) × (q ≡ knowing q.view p) × PutsBytes t.place offset bytes p.view q.view)
     ⊎ ((t.len < offset + length bytes) × Declined (pos 9) p q code)) p q code
 
+-- the producer whose claim was settled so
+abbrev pub settling : ClaimState → ClaimAt → Side → Side
+settling state t p =
+    record (knowing (with_claims (changed t.place (staged (Stored state)) p.view.producer.claims) p.view) p) {
+      claim = None;
+    }
+
 -- the open claim was settled
 abbrev pub Settled : ClaimState → ℕ → Side → Side → ℤ → Type 0
-Settled state number p q code = WithClaim number
-    (λ t. (code ≡ pos 0)
-    × (q ≡ record (knowing (with_claims (changed t.place (staged (Stored state)) p.view.producer.claims) p.view) p) {
-      claim = None;
-    })) p q code
+Settled state number p q code = WithClaim number (λ t. (code ≡ pos 0) × (q ≡ settling state t p)) p q code
+
+-- the claim was aborted, if one was open
+abbrev pub Closes : Side → Side → Type 0
+Closes p q = MatchOption p.claim (q ≡ p) (λ t. q ≡ settling Aborted t p)
 
 -- What producers load and draw ---------------------------------------------------
 

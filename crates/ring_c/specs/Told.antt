@@ -2,20 +2,24 @@
 use Rattle.std.specs.Prelude.{◌≡◌, ◌≢◌, ◌⊎◌, ℕ, ℤ, pos, [], MatchOption, Bool}
 use Rattle.std.specs.declared.option.Option.{Option}
 use Rattle.std.specs.declared.option.Option.TheVariants.{None, Some}
-use Rattle.ring_words.specs.declared.fault.MakeFault.{MakeFault}
 use Rattle.ring_words.specs.Fresh.{make_refusal_of}
 use Rattle.ring_table.specs.declared.view.View.{View}
 use Rattle.ring_rings.specs.Opening.{first_consumer, first_producer}
+use Rattle.ring_board.specs.Refusals.{make_refusal_of as board_refusal_of}
+use Rattle.ring_board.specs.Rule.{opening_view}
 use Rattle.ring_counters.specs.Manager.{registry_of, shares_of, writes_of}
 use Rattle.ring_counters.specs.Registry.{fresh_registry}
 use Rattle.ring_counters.specs.Registry.{make_refusal_of as counters_refusal_of}
 use Rattle.ring_c.specs.Codes.{make_code}
 use Rattle.ring_c.specs.Counting.{make_code as counters_code}
 use Rattle.ring_c.specs.declared.counters.CountersSide.{CountersSide}
-use Rattle.ring_c.specs.Producing.{IsApart, IsWhole, Splits, TakesIn}
+use Rattle.ring_c.specs.declared.counters.ReaderSide.{ReaderSide}
+use Rattle.ring_c.specs.Boards.{Listening, Sending}
+use Rattle.ring_c.specs.Boards.{make_code as board_code}
+use Rattle.ring_c.specs.Producing.{Closes, IsApart, TakesIn}
 use Rattle.ring_c.specs.Side.{Reading, Side}
 use Rattle.ring_c.specs.declared.held.Held.{Held}
-use Rattle.ring_c.specs.declared.held.Held.TheVariants.{Producer, Consumer, Counters}
+use Rattle.ring_c.specs.declared.held.Held.TheVariants.{Producer, Consumer, Transmitter, Receiver, Counters, Reader}
 
 -- What a handle holds, where it is of one kind ---------------------------------------
 
@@ -27,9 +31,21 @@ abbrev pub a_consumer : Held → Option Reading
 a_consumer (Consumer c) = Some c
 a_consumer _ = None
 
+abbrev pub a_transmitter : Held → Option Sending
+a_transmitter (Transmitter t) = Some t
+a_transmitter _ = None
+
+abbrev pub a_receiver : Held → Option Listening
+a_receiver (Receiver r) = Some r
+a_receiver _ = None
+
 abbrev pub some_counters : Held → Option CountersSide
 some_counters (Counters c) = Some c
 some_counters _ = None
+
+abbrev pub a_reader : Held → Option ReaderSide
+a_reader (Reader r) = Some r
+a_reader _ = None
 
 -- the handle holds one of this kind, of which P holds
 abbrev pub Holds : {S : Type 0} → (Held → Option S) → (S → Type 0) → Option Held → Type 0
@@ -41,6 +57,10 @@ Holds kind P held = MatchOption held ⊥ (λ h. MatchOption (kind h) ⊥ P)
 abbrev pub Uses : {S : Type 0} → (Held → Option S) → (S → S → ℤ → Type 0) → Option Held → Option Held → ℤ → Type 0
 Uses kind P before after code = MatchOption before ((code ≡ pos 100) × (after ≡ None))
     (λ h. MatchOption (kind h) ((code ≡ pos 101) × (after ≡ Some h)) (λ s. Holds kind (λ t. P s t code) after))
+
+-- of a producer the open claim was aborted, and nothing else changed
+abbrev pub ClosesHeld : Held → Held → Type 0
+ClosesHeld h k = MatchOption (a_producer h) (k ≡ h) (λ p. MatchOption (a_producer k) ⊥ (Closes p))
 
 -- Rings that are made ------------------------------------------------------------
 
@@ -67,19 +87,39 @@ Opens many C start p c p' c' code = (((p ≢ None) ⊎ (c ≢ None)) × (code �
     ⊎ ((p ≡ None) × (c ≡ None) × IsMakeCode C start code
     × (((code ≡ pos 0) × HoldFresh many C start p' c') ⊎ ((code ≢ pos 0) × (p' ≡ None) × (c' ≡ None))))
 
--- Splitting ----------------------------------------------------------------------
+-- Handles that are filled by another one -------------------------------------------
 
--- a producer was split, or not
-abbrev pub SplitsOff : Option Held → Option Held → Option Held → ℤ → Type 0
-SplitsOff p p' o' code = MatchOption p ((code ≡ pos 100) × (p' ≡ None) × (o' ≡ None))
-    (λ h. MatchOption (a_producer h) (((code ≡ pos 101) ⊎ (code ≡ pos 3)) × (p' ≡ Some h) × (o' ≡ None))
-    (λ s. ((code ≡ pos 0) × Holds a_producer (λ t. Holds a_producer (λ o. Splits s t o) o') p')
-    ⊎ (IsWhole s code × Holds a_producer (λ t. t ≡ s) p' × (o' ≡ None))))
+-- of what a handle of this kind holds something was made for another handle, or not
+abbrev pub Gives : {S T : Type 0} → (Held → Option S) → (Held → Option T) → (S → S → T → Type 0) → (S → ℤ → Type 0)
+    → Option Held → Option Held → Option Held → ℤ → Type 0
+Gives kind other Makes Keeps p p' o' code = MatchOption p ((code ≡ pos 100) × (p' ≡ None) × (o' ≡ None))
+    (λ h. MatchOption (kind h) (((code ≡ pos 101) ⊎ (code ≡ pos 3)) × (p' ≡ Some h) × (o' ≡ None))
+    (λ s. ((code ≡ pos 0) × Holds kind (λ t. Holds other (λ o. Makes s t o) o') p')
+    ⊎ (Keeps s code × Holds kind (λ t. t ≡ s) p' × (o' ≡ None))))
 
--- a handle in use answers 102 and stays as it is; else a producer is split off into it, or not
-abbrev pub SplitsInto : Option Held → Option Held → Option Held → Option Held → ℤ → Type 0
-SplitsInto p o p' o' code =
-    ((o ≢ None) × (code ≡ pos 102) × (p' ≡ p) × (o' ≡ o)) ⊎ ((o ≡ None) × SplitsOff p p' o' code)
+-- a handle in use answers 102 and stays as it is; else it is filled, or not
+abbrev pub GivesInto : {S T : Type 0} → (Held → Option S) → (Held → Option T) → (S → S → T → Type 0) → (S → ℤ → Type 0)
+    → Option Held → Option Held → Option Held → Option Held → ℤ → Type 0
+GivesInto kind other Makes Keeps p o p' o' code = ((o ≢ None) × (code ≡ pos 102) × (p' ≡ p) × (o' ≡ o))
+    ⊎ ((o ≡ None) × Gives kind other Makes Keeps p p' o' code)
+
+-- Boards that are made -----------------------------------------------------------
+
+-- a board is refused with the refusal's code; where there is none it is made, unless memory is wanting
+abbrev pub IsBoardCode : ℕ → ℕ → ℤ → Type 0
+IsBoardCode C start code =
+    MatchOption (board_refusal_of C start) ((code ≡ pos 0) ⊎ (code ≡ pos 3)) (λ fault. code ≡ board_code fault)
+
+-- the transmitter holds all shares of a board on which nothing was transmitted
+abbrev pub HoldNewBoard : ℕ → ℕ → Option Held → Type 0
+HoldNewBoard C start h =
+    Holds a_transmitter (λ p. p ≡ record { table = p.table; capacity = C; view = opening_view C start }) h
+
+-- a handle in use answers 102 and stays as it is; else a board is made for it, or refused
+abbrev pub OpensBoard : ℕ → ℕ → Option Held → Option Held → ℤ → Type 0
+OpensBoard C start h h' code = ((h ≢ None) × (code ≡ pos 102) × (h' ≡ h))
+    ⊎ ((h ≡ None) × IsBoardCode C start code
+    × (((code ≡ pos 0) × HoldNewBoard C start h') ⊎ ((code ≢ pos 0) × (h' ≡ None))))
 
 -- Counters that are made ---------------------------------------------------------
 

@@ -12,6 +12,10 @@ pub(crate) const OUT_OF_MEMORY: i32 = 3;
 pub(crate) const PUT_RANGE: i32 = 9;
 /// One share is left, and is needed.
 pub(crate) const NO_SHARES: i32 = 12;
+/// The receiver was lapped.
+pub(crate) const LAPPED: i32 = 13;
+/// The id is not below the number of counters.
+pub(crate) const BAD_ID: i32 = 20;
 /// No counter with this id is in use.
 pub(crate) const NOT_ALLOCATED: i32 = 21;
 /// The owner is 0.

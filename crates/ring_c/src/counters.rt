@@ -2,8 +2,9 @@
 ghost use Rattle.std.specs.Prelude.{◌≡◌};
 ghost use Rattle.std.specs.Arc.{arc_value};
 ghost use Rattle.ring_counters.specs.Manager.{IsManagerOf};
+ghost use Rattle.ring_counters.specs.Seats.{IsReaderOf};
 
-use ring_counters::{CounterValues, CountersManager};
+use ring_counters::{CounterValues, CountersManager, ValueReader};
 use std::sync::Arc;
 
 /// The counters' manager, with their values.
@@ -12,4 +13,12 @@ pub struct CountersSide {
     pub(crate) values: Arc<CounterValues>,
     pub(crate) manager: CountersManager,
     ghost of: { IsManagerOf (arc_value values) manager },
+}
+
+/// A reader of the values of counters, with those.
+#[derive(Drop)]
+pub struct ReaderSide {
+    pub(crate) values: Arc<CounterValues>,
+    pub(crate) reader: ValueReader,
+    ghost of: { IsReaderOf (arc_value values) reader },
 }

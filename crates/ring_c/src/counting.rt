@@ -1,11 +1,13 @@
 //! What a handle's counters do.
 ghost use Rattle.std.specs.Prelude.{◌≡◌};
 ghost use Rattle.ring_counters.specs.Registry.{counter_at};
-ghost use Rattle.ring_c.specs.Counting.{Asked, OwnerClosed, WasAdded, WasAllocated, WasCounted, WasFound, WasFreed, WasSet, allocate_code, id_code};
+ghost use Rattle.ring_c.specs.Counting.{Asked, OwnerClosed, SaysKey, SaysLabel, WasAdded, WasAllocated, WasCounted, WasFound, WasFreed, WasSet, allocate_code, id_code};
 
-use crate::code::{BAD_MOMENT, BAD_OWNER, DONE, NOT_ALLOCATED};
+use crate::code::{BAD_ID, BAD_MOMENT, BAD_OWNER, DONE, NOT_ALLOCATED, SHORT_BUFFER};
+use crate::copying::copy_at;
 use crate::counters::CountersSide;
 use ring_counters::{AllocateRefused, IdFault};
+use ring_layout::counter_descriptor::{MAX_KEY_LENGTH, MAX_LABEL_LENGTH};
 
 /// The greatest moment, in milliseconds.
 const LAST_MOMENT: u64 = 1 << 62;
@@ -15,8 +17,8 @@ fn code_of_id(fault: IdFault) -> i32
     ensures { result ≡ id_code fault }
 {
     match fault {
-        IdFault::BadId => 20,
-        IdFault::NotAllocated => 21,
+        IdFault::BadId => BAD_ID,
+        IdFault::NotAllocated => NOT_ALLOCATED,
     }
 }
 
@@ -174,6 +176,41 @@ impl CountersSide {
         match self.manager.registration(id) {
             Ok(answer) => {
                 *registration = answer;
+                DONE
+            }
+            Err(fault) => code_of_id(fault),
+        }
+    }
+
+    /// Says a counter's label.
+    pub(crate) fn label(&mut self, id: u32, len: &mut usize, buffer: &mut [u8]) -> i32
+        ensures { SaysLabel id len.old len.new buffer.old buffer.new self.old self.new result }
+    {
+        let mut label = [0; MAX_LABEL_LENGTH];
+        match self.manager.label_into(id, &mut label) {
+            Ok(found) => {
+                *len = found;
+                if buffer.len() < found {
+                    return SHORT_BUFFER;
+                }
+                copy_at(buffer, 0, &label[..found]);
+                DONE
+            }
+            Err(fault) => code_of_id(fault),
+        }
+    }
+
+    /// Says a counter's key.
+    pub(crate) fn key(&mut self, id: u32, buffer: &mut [u8]) -> i32
+        ensures { SaysKey id buffer.old buffer.new self.old self.new result }
+    {
+        let mut key = [0; MAX_KEY_LENGTH];
+        match self.manager.key_into(id, &mut key) {
+            Ok(()) => {
+                if buffer.len() < key.len() {
+                    return SHORT_BUFFER;
+                }
+                copy_at(buffer, 0, &key);
                 DONE
             }
             Err(fault) => code_of_id(fault),

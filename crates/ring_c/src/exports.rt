@@ -1,8 +1,10 @@
 //! What C calls.
+pub(crate) mod boards;
 pub(crate) mod consuming;
 pub(crate) mod counting;
 pub(crate) mod counting_new;
 pub(crate) mod joining;
 pub(crate) mod opening;
 pub(crate) mod producing;
+pub(crate) mod reading;
 pub(crate) mod sharing;

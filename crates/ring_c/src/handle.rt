@@ -93,6 +93,14 @@ impl Handle {
         *self = Handle::of(held);
     }
 
+    /// Puts a value in, by a box that is there. What the handle held is dropped.
+    pub(crate) fn refill(&mut self, mut room: Box<Held>, held: Held)
+        ensures { self.new.held ≡ Some held }
+    {
+        *room = held;
+        self.put(room);
+    }
+
     /// Tests whether the handle is empty, and leaves it as it was.
     pub(crate) fn is_empty(&mut self, alloc: Global) -> bool
         ensures same { self.new.held ≡ self.old.held }

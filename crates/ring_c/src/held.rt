@@ -1,6 +1,7 @@
 //! What a handle can stand for.
+use crate::boards::{ReceiverSide, TransmitterSide};
 use crate::consumer::ConsumerSide;
-use crate::counters::CountersSide;
+use crate::counters::{CountersSide, ReaderSide};
 use crate::producer::ProducerSide;
 
 /// What a handle can stand for.
@@ -10,5 +11,8 @@ pub enum Held {
     Vacant,
     Producer(ProducerSide),
     Consumer(ConsumerSide),
+    Transmitter(TransmitterSide),
+    Receiver(ReceiverSide),
     Counters(CountersSide),
+    Reader(ReaderSide),
 }

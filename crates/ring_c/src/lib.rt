@@ -1,6 +1,8 @@
 //! Rings for C: each export works on handles, and each handle owns what it stands for.
 #![tactic(auto)]
 
+mod batch;
+mod boards;
 mod code;
 mod consumer;
 mod copying;
@@ -11,14 +13,20 @@ mod handle;
 mod held;
 mod loose;
 mod producer;
+mod reading;
 mod ring;
+mod work_on;
 
-pub use exports::consuming::{felter_read, felter_set_heartbeat};
+pub use exports::boards::{
+    felter_board_new, felter_board_new_at, felter_lapped_count, felter_receive, felter_subscribe,
+    felter_transmit,
+};
+pub use exports::consuming::{felter_read, felter_read_batch, felter_set_heartbeat};
 pub use exports::counting::{
     felter_counter_add, felter_counter_allocate, felter_counter_allocate_owned,
-    felter_counter_find, felter_counter_free, felter_counter_owner, felter_counter_registration,
-    felter_counter_set, felter_counter_type_id, felter_counter_value, felter_counters_close_owner,
-    felter_counters_count,
+    felter_counter_find, felter_counter_free, felter_counter_key, felter_counter_label,
+    felter_counter_owner, felter_counter_registration, felter_counter_set, felter_counter_type_id,
+    felter_counter_value, felter_counters_close_owner, felter_counters_count,
 };
 pub use exports::counting_new::felter_counters_new;
 pub use exports::joining::felter_join;
@@ -30,5 +38,6 @@ pub use exports::producing::{
     felter_abort, felter_claim, felter_commit, felter_heartbeat, felter_next_id, felter_positions,
     felter_put, felter_shares, felter_write,
 };
+pub use exports::reading::{felter_counters_reader, felter_reader_value};
 pub use exports::sharing::{felter_free, felter_split};
 pub use handle::{Handle, handle_crosses};

@@ -1,7 +1,7 @@
 //! A producer in a handle.
 ghost use Rattle.std.specs.Prelude.{◌≡◌, IfErr, IfOk, OnOk};
 ghost use Rattle.ring_layout.specs.declared.message.ClaimState.TheVariants.{Aborted, Committed};
-ghost use Rattle.ring_c.specs.Producing.{Claimed, Counted, Drew, HeardBeat, IsApart, IsWhole, Positioned, Put, Settled, Splits, TakesIn, Wrote};
+ghost use Rattle.ring_c.specs.Producing.{Claimed, Closes, Counted, Drew, HeardBeat, IsApart, IsWhole, Positioned, Put, Settled, Splits, TakesIn, Wrote};
 
 use crate::code::{
     CLAIM_OPEN, DONE, NO_CLAIM, NO_SHARES, OTHER_RING, OUT_OF_MEMORY, PUT_RANGE, WRONG_HANDLE,
@@ -140,7 +140,9 @@ impl ProducerSide {
     }
 
     /// Aborts the open claim, if one is.
-    pub(crate) fn abort_open(&mut self) {
+    pub(crate) fn abort_open(&mut self)
+        ensures { Closes self.old self.new }
+    {
         if let Some(claim) = self.claim.take() {
             match &self.ring {
                 AnyRing::Many(ring) => ring.abort(&mut self.producer, claim),

@@ -3,6 +3,12 @@ use crate::error::Error;
 use crate::handle::{done, Handle};
 use crate::raw::{self, Raw};
 
+/// The most bytes of a label.
+const MAX_LABEL: usize = 380;
+
+/// The bytes of a key.
+pub const MAX_KEY: usize = 112;
+
 /// Counters with the ids from 0 on.
 ///
 /// ```
@@ -134,6 +140,27 @@ impl Counters {
         self.number(id, raw::felter_counter_owner)
     }
 
+    /// A counter's label.
+    ///
+    /// Errors: [`Error::BadId`], [`Error::NotAllocated`].
+    pub fn label(&mut self, id: u32) -> Result<Vec<u8>, Error> {
+        let (mut label, mut len) = (vec![0; MAX_LABEL], 0);
+        // SAFETY: our handle, a number of ours, and a vector's pointer and length.
+        done(unsafe { raw::felter_counter_label(self.handle.raw(), id, &mut len, label.as_mut_ptr(), MAX_LABEL) })?;
+        label.truncate(len);
+        Ok(label)
+    }
+
+    /// A counter's key, with zeros after a shorter one.
+    ///
+    /// Errors: [`Error::BadId`], [`Error::NotAllocated`].
+    pub fn key(&mut self, id: u32) -> Result<[u8; MAX_KEY], Error> {
+        let mut key = [0; MAX_KEY];
+        // SAFETY: our handle, and an array's pointer and length.
+        done(unsafe { raw::felter_counter_key(self.handle.raw(), id, key.as_mut_ptr(), MAX_KEY) })?;
+        Ok(key)
+    }
+
     /// The lowest id in use of a type and registration id.
     pub fn find(&mut self, type_id: i32, registration: u64) -> Result<Option<u32>, Error> {
         let mut id = 0;
@@ -167,5 +194,44 @@ impl Counters {
         // SAFETY: our handle, and a number of ours.
         done(unsafe { raw::felter_counters_close_owner(self.handle.raw(), now, owner, &mut freed) })?;
         Ok(freed)
+    }
+
+    /// Makes a reader of the values, for another thread, with one of the counters' 65,536 shares. The share is lost
+    /// when the reader is dropped.
+    ///
+    /// Errors: [`Error::NoShares`], [`Error::OutOfMemory`].
+    pub fn reader(&mut self) -> Result<Reader, Error> {
+        let mut reader = Handle::empty();
+        // SAFETY: two handles, the second empty.
+        done(unsafe { raw::felter_counters_reader(self.handle.raw(), reader.raw()) })?;
+        Ok(Reader { handle: reader })
+    }
+}
+
+/// Loads values of counters, on a thread of its own.
+///
+/// ```
+/// let mut counters = felter::Counters::new(8, 0)?;
+/// let id = counters.allocate(0, 1, b"", b"requests", 0)?;
+/// let mut reader = counters.reader()?;
+/// counters.set(id, 5)?;
+/// let seen = std::thread::spawn(move || reader.value(id)).join().expect("it does not panic");
+/// assert_eq!(seen, Ok(5));
+/// # Ok::<(), felter::Error>(())
+/// ```
+#[derive(Debug)]
+pub struct Reader {
+    handle: Handle,
+}
+
+impl Reader {
+    /// Loads a value: of an id that was never used 0, of a freed one its last.
+    ///
+    /// Errors: [`Error::BadId`].
+    pub fn value(&mut self, id: u32) -> Result<i64, Error> {
+        let mut value = 0;
+        // SAFETY: our handle, and a number of ours.
+        done(unsafe { raw::felter_reader_value(self.handle.raw(), id, &mut value) })?;
+        Ok(value)
     }
 }

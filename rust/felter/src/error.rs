@@ -25,6 +25,11 @@ pub enum Error {
     PutRange,
     /// One share is left, and is needed.
     NoShares,
+    /// The transmitter overtook the receiver.
+    Lapped {
+        /// How often by now.
+        count: u64,
+    },
     /// The number of counters is 0 or above 4096.
     BadCount,
     /// The key has more than 112 bytes.
@@ -80,6 +85,7 @@ impl Error {
             Error::Contended => 8,
             Error::PutRange => 9,
             Error::NoShares => 12,
+            Error::Lapped { .. } => 13,
             Error::BadCount => 15,
             Error::KeyTooLong => 16,
             Error::LabelTooLong => 17,
@@ -133,6 +139,7 @@ impl Error {
         ];
         let found = KNOWN.into_iter().find(|it| it.number() == number);
         found.unwrap_or(match number {
+            13 => Error::Lapped { count: 0 },
             106 => Error::ShortBuffer { wanted: 0 },
             other => Error::Unknown(other),
         })
@@ -155,6 +162,7 @@ impl Error {
 impl fmt::Display for Error {
     fn fmt(&self, f: &mut fmt::Formatter<'_>) -> fmt::Result {
         match self {
+            Error::Lapped { count } => write!(f, "13 Lapped {count}"),
             Error::ShortBuffer { wanted } => write!(f, "106 ShortBuffer wanted {wanted}"),
             Error::Unknown(number) => write!(f, "{number} Unknown"),
             other => write!(f, "{} {other:?}", other.number()),

@@ -1,4 +1,4 @@
-//! Rings and counters for the threads of one process, proved for every interleaving.
+//! Rings, boards and counters for the threads of one process, proved for every interleaving.
 //!
 //! ```
 //! let (mut producer, mut consumer) = felter::many_to_one(65_536)?;
@@ -14,7 +14,7 @@
 //! Nothing waits: a full ring, a faster producer and an empty ring are answers, and the caller tries again in a way of
 //! its own. Capacities, lengths and positions are bytes; moments are milliseconds by a clock of the caller.
 //!
-//! Each handle owns what it stands for together with its ring or counters, so no lifetime ties them, and they
+//! Each handle owns what it stands for together with its ring, board or counters, so no lifetime ties them, and they
 //! may be dropped in any order. A handle may go to another thread, and one thread uses it at a time: handles are
 //! [`Send`] and not [`Sync`].
 //!
@@ -31,6 +31,7 @@
 //! ([`Error::OtherRing`]). What is left to users is the process: no call from a signal handler or in a forked child,
 //! and a processor of x86-64-v2 or later. This crate itself, its declarations among it, is tested and not proved.
 
+mod board;
 mod counters;
 mod error;
 mod handle;
@@ -38,7 +39,8 @@ mod message;
 mod raw;
 mod ring;
 
-pub use counters::Counters;
+pub use board::{Receiver, Transmitter};
+pub use counters::{Counters, Reader, MAX_KEY};
 pub use error::{Error, Refused};
-pub use message::Message;
+pub use message::{Batch, Message};
 pub use ring::{many_to_one, many_to_one_at, one_to_one, one_to_one_at, Claim, Consumer, Positions, Producer};

@@ -44,6 +44,34 @@ extern "C" {
     ) -> i32;
 }
 
+// Reads in batches.
+extern "C" {
+    pub(crate) fn felter_read_batch(
+        consumer: *mut Raw,
+        limit: u32,
+        count: *mut u32,
+        used: *mut usize,
+        buffer: *mut u8,
+        room: usize,
+    ) -> i32;
+}
+
+// Boards.
+extern "C" {
+    pub(crate) fn felter_board_new_at(capacity: u32, start: u64, transmitter: *mut Raw) -> i32;
+    pub(crate) fn felter_transmit(transmitter: *mut Raw, type_id: i32, body: *const u8, len: usize) -> i32;
+    pub(crate) fn felter_subscribe(transmitter: *mut Raw, receiver: *mut Raw) -> i32;
+    pub(crate) fn felter_receive(
+        receiver: *mut Raw,
+        type_id: *mut i32,
+        len: *mut usize,
+        lapped: *mut u64,
+        buffer: *mut u8,
+        room: usize,
+    ) -> i32;
+    pub(crate) fn felter_lapped_count(receiver: *mut Raw, count: *mut u64) -> i32;
+}
+
 // Counters.
 extern "C" {
     pub(crate) fn felter_counters_new(count: u32, reuse_ms: u32, counters: *mut Raw) -> i32;
@@ -66,7 +94,17 @@ extern "C" {
     pub(crate) fn felter_counter_type_id(counters: *mut Raw, id: u32, type_id: *mut i32) -> i32;
     pub(crate) fn felter_counter_registration(counters: *mut Raw, id: u32, registration: *mut u64) -> i32;
     pub(crate) fn felter_counter_owner(counters: *mut Raw, id: u32, owner: *mut u64) -> i32;
+    pub(crate) fn felter_counter_label(
+        counters: *mut Raw,
+        id: u32,
+        len: *mut usize,
+        buffer: *mut u8,
+        room: usize,
+    ) -> i32;
+    pub(crate) fn felter_counter_key(counters: *mut Raw, id: u32, buffer: *mut u8, room: usize) -> i32;
     pub(crate) fn felter_counter_find(counters: *mut Raw, type_id: i32, registration: u64, id: *mut u32) -> i32;
     pub(crate) fn felter_counters_count(counters: *mut Raw, count: *mut u32) -> i32;
     pub(crate) fn felter_counters_close_owner(counters: *mut Raw, now: u64, owner: u64, freed: *mut u32) -> i32;
+    pub(crate) fn felter_counters_reader(counters: *mut Raw, reader: *mut Raw) -> i32;
+    pub(crate) fn felter_reader_value(reader: *mut Raw, id: u32, value: *mut i64) -> i32;
 }

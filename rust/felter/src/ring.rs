@@ -1,7 +1,7 @@
 //! Rings: many-to-one and one-to-one.
 use crate::error::{Error, Refused};
 use crate::handle::{done, Handle, Number};
-use crate::message::Message;
+use crate::message::{message_of, Batch, Message};
 use crate::raw;
 
 /// Makes a ring of any number of producers, with the first of them, which holds all 65,536 shares, and its consumer.
@@ -195,16 +195,6 @@ impl Drop for Claim<'_> {
     }
 }
 
-/// What a read of one message answered.
-fn message_of(code: i32, type_id: i32, len: usize, buffer: &[u8]) -> Result<Option<Message<'_>>, Error> {
-    match done(code) {
-        Ok(()) => Ok(Some(Message { type_id, body: &buffer[..len] })),
-        Err(Error::NoMessage) => Ok(None),
-        Err(Error::ShortBuffer { .. }) => Err(Error::ShortBuffer { wanted: len }),
-        Err(other) => Err(other),
-    }
-}
-
 /// Reads a ring.
 #[derive(Debug)]
 pub struct Consumer {
@@ -221,6 +211,38 @@ impl Consumer {
         // SAFETY: our handle, two numbers of ours, and a slice's pointer and length.
         let code = unsafe { raw::felter_read(self.handle.raw(), &mut type_id, &mut len, at, room) };
         message_of(code, type_id, len, buffer)
+    }
+
+    /// Reads up to `limit` messages into a buffer; of none the batch is empty. Fewer can come than are there.
+    ///
+    /// A message takes 16 bytes and its own, rounded up to 8, and one that has no room stays.
+    ///
+    /// Errors: [`Error::ShortBuffer`] where the first one has no room; `wanted` is then 0, and
+    /// [`read`](Consumer::read) says its length.
+    ///
+    /// ```
+    /// let (mut producer, mut consumer) = felter::one_to_one(1024)?;
+    /// for (type_id, body) in [(1, "one"), (2, ""), (3, "three")] {
+    ///     producer.write(type_id, body.as_bytes())?;
+    /// }
+    /// let mut room = [0; 512];
+    /// let batch = consumer.read_batch(100, &mut room)?;
+    /// assert_eq!(batch.len(), 3);
+    /// for (message, type_id) in batch.zip(1..) {
+    ///     assert_eq!(message.type_id, type_id);
+    /// }
+    /// assert_eq!(consumer.read_batch(100, &mut room)?.len(), 0);
+    /// # Ok::<(), felter::Error>(())
+    /// ```
+    pub fn read_batch<'a>(&mut self, limit: u32, buffer: &'a mut [u8]) -> Result<Batch<'a>, Error> {
+        let (mut count, mut used) = (0, 0);
+        let (at, room) = (buffer.as_mut_ptr(), buffer.len());
+        // SAFETY: our handle, two numbers of ours, and a slice's pointer and length.
+        let code = unsafe { raw::felter_read_batch(self.handle.raw(), limit, &mut count, &mut used, at, room) };
+        match done(code) {
+            Ok(()) | Err(Error::NoMessage) => Ok(Batch::new(count, &buffer[..used])),
+            Err(other) => Err(other),
+        }
     }
 
     /// Stores the heartbeat that producers load.

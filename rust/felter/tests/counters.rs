@@ -2,6 +2,7 @@
 #![forbid(unsafe_code)]
 
 use felter::{Counters, Error};
+use std::thread;
 
 #[test]
 fn counters_say_what_they_were_given() {
@@ -12,6 +13,11 @@ fn counters_say_what_they_were_given() {
     assert_eq!(counters.allocate(0, 5, b"", &[b'x'; 381], 0), Err(Error::LabelTooLong));
     assert_eq!(counters.allocate(0, 5, b"", &[200], 0), Err(Error::LabelNotAscii));
     assert_eq!((counters.type_id(id), counters.registration(id), counters.owner(id)), (Ok(4), Ok(8), Ok(9)));
+    assert_eq!((counters.label(id), counters.label(1)), (Ok(b"label".to_vec()), Ok(vec![])));
+    let mut key = [0; felter::MAX_KEY];
+    key[..3].copy_from_slice(b"key");
+    assert_eq!((counters.key(id), counters.key(3)), (Ok(key), Err(Error::BadId)));
+    assert_eq!(counters.label(2), Err(Error::NotAllocated));
     assert_eq!(counters.find(4, 8), Ok(Some(id)));
     assert_eq!(counters.find(4, 9), Ok(None));
     assert_eq!(counters.set(id, i64::MAX), Ok(()));
@@ -25,4 +31,30 @@ fn counters_say_what_they_were_given() {
     assert_eq!(counters.free(5, 1), Err(Error::NotAllocated));
     assert_eq!(counters.value(3), Err(Error::BadId));
     assert_eq!(counters.ids(), Ok(vec![]));
+}
+
+#[test]
+fn values_rise_for_readers_on_threads() {
+    let mut counters = Counters::new(2, 0).unwrap();
+    let id = counters.allocate(0, 1, b"", b"rises", 0).unwrap();
+    let readers = [counters.reader().unwrap(), counters.reader().unwrap()];
+    let threads = readers.map(|mut reader| {
+        thread::spawn(move || {
+            assert_eq!(reader.value(2), Err(Error::BadId));
+            let mut last = 0;
+            while last < 20_000 {
+                let value = reader.value(id).unwrap();
+                assert!(value >= last);
+                last = value;
+                thread::yield_now();
+            }
+            last
+        })
+    });
+    for value in 1..=20_000 {
+        counters.set(id, value).unwrap();
+    }
+    for it in threads {
+        assert_eq!(it.join().expect("it does not panic"), 20_000);
+    }
 }

@@ -142,3 +142,24 @@ fn handles_of_two_rings_of_one_capacity_are_refused_and_come_back() {
     two.join(refused.back).expect("its own ring");
     assert_eq!((one.shares(), two.shares()), (Ok(65_536), Ok(65_536)));
 }
+
+#[test]
+fn batches_have_all_messages_in_order() {
+    let (mut producer, mut consumer) = one_to_one(4096).unwrap();
+    let mut room = [0; 700];
+    thread::scope(|scope| {
+        scope.spawn(|| produce(&mut producer, 0, 5_000, 200));
+        let mut next = 0;
+        while next < 5_000 {
+            for message in consumer.read_batch(7, &mut room).expect("there is room for one") {
+                assert_eq!((message.type_id, message.body), (1, &body_of(0, next, 200)[..]));
+                next += 1;
+            }
+            thread::yield_now();
+        }
+    });
+    producer.write(5, &[1; 33]).unwrap();
+    assert_eq!(consumer.read_batch(1, &mut [0; 55]).unwrap_err(), Error::ShortBuffer { wanted: 0 });
+    let batch: Vec<_> = consumer.read_batch(1, &mut room[..56]).unwrap().collect();
+    assert_eq!(batch, [Message { type_id: 5, body: &[1; 33] }]);
+}

@@ -1,10 +1,10 @@
 //! What a consumer's handle does.
+ghost use Rattle.ring_c.specs.Batch.{batch, ReadBatch};
 ghost use Rattle.ring_c.specs.Consuming.{out, Beat, ReadOne};
 ghost use Rattle.ring_c.specs.Told.{a_consumer, Uses};
 
-use crate::code::{NO_HANDLE, WRONG_HANDLE};
 use crate::handle::Handle;
-use crate::held::Held;
+use crate::work_on::work_on;
 use std::alloc::Global;
 
 /// Reads the next message into a buffer, and says its type id and length.
@@ -19,15 +19,24 @@ pub extern "C" fn felter_read(
     ensures { Uses a_consumer (ReadOne (out type_id.old len.old buffer.old) (out type_id.new len.new buffer.new))
         consumer.old.held consumer.new.held result }
 {
-    let Some(mut held) = consumer.take(alloc) else {
-        return NO_HANDLE;
-    };
-    let code = match &mut *held {
-        Held::Consumer(side) => side.read(type_id, len, buffer),
-        _ => WRONG_HANDLE,
-    };
-    consumer.put(held);
-    code
+    work_on!(consumer, alloc, Consumer(side) => side.read(type_id, len, buffer))
+}
+
+/// Reads up to `limit` messages into a buffer, one behind another, and says how many and the bytes that they take.
+#[unsafe(no_mangle)]
+pub extern "C" fn felter_read_batch(
+    alloc: Global,
+    consumer: &mut Handle,
+    limit: u32,
+    count: &mut u32,
+    used: &mut usize,
+    buffer: &mut [u8],
+) -> i32
+    ensures { Uses a_consumer
+        (ReadBatch limit (batch count.old used.old buffer.old) (batch count.new used.new buffer.new))
+        consumer.old.held consumer.new.held result }
+{
+    work_on!(consumer, alloc, Consumer(side) => side.read_batch(limit, count, used, buffer))
 }
 
 /// Stores the heartbeat that producers load.
@@ -35,13 +44,5 @@ pub extern "C" fn felter_read(
 pub extern "C" fn felter_set_heartbeat(alloc: Global, consumer: &mut Handle, value: u64) -> i32
     ensures { Uses a_consumer (Beat value) consumer.old.held consumer.new.held result }
 {
-    let Some(mut held) = consumer.take(alloc) else {
-        return NO_HANDLE;
-    };
-    let code = match &mut *held {
-        Held::Consumer(side) => side.set_heartbeat(value),
-        _ => WRONG_HANDLE,
-    };
-    consumer.put(held);
-    code
+    work_on!(consumer, alloc, Consumer(side) => side.set_heartbeat(value))
 }

@@ -1,12 +1,11 @@
 //! What a handle of counters does.
 ghost use Rattle.ring_counters.specs.Registry.{counter_at};
-ghost use Rattle.ring_c.specs.Counting.{Asked, OwnerClosed, WasAdded, WasAllocated, WasCounted, WasFound, WasFreed, WasSet};
+ghost use Rattle.ring_c.specs.Counting.{Asked, OwnerClosed, SaysKey, SaysLabel, WasAdded, WasAllocated, WasCounted, WasFound, WasFreed, WasSet};
 ghost use Rattle.ring_c.specs.Told.{some_counters, Uses};
 
-use crate::code::{NO_HANDLE, WRONG_HANDLE};
 use crate::counting::Wanted;
 use crate::handle::Handle;
-use crate::held::Held;
+use crate::work_on::work_on;
 use std::alloc::Global;
 
 /// Allocates a counter of value 0, and says its id.
@@ -24,25 +23,15 @@ pub extern "C" fn felter_counter_allocate(
     ensures { Uses some_counters (WasAllocated now type_id key.now label.now registration 0 id.old id.new)
         counters.old.held counters.new.held result }
 {
-    let Some(mut held) = counters.take(alloc) else {
-        return NO_HANDLE;
+    let wanted = Wanted {
+        now,
+        type_id,
+        key,
+        label,
+        registration,
+        owner: 0,
     };
-    let code = match &mut *held {
-        Held::Counters(side) => side.allocate(
-            Wanted {
-                now,
-                type_id,
-                key,
-                label,
-                registration,
-                owner: 0,
-            },
-            id,
-        ),
-        _ => WRONG_HANDLE,
-    };
-    counters.put(held);
-    code
+    work_on!(counters, alloc, Counters(side) => side.allocate(wanted, id))
 }
 
 /// Allocates a counter of value 0 for an owner, and says its id.
@@ -61,25 +50,15 @@ pub extern "C" fn felter_counter_allocate_owned(
     ensures { Uses some_counters (WasAllocated now type_id key.now label.now registration owner id.old id.new)
         counters.old.held counters.new.held result }
 {
-    let Some(mut held) = counters.take(alloc) else {
-        return NO_HANDLE;
+    let wanted = Wanted {
+        now,
+        type_id,
+        key,
+        label,
+        registration,
+        owner,
     };
-    let code = match &mut *held {
-        Held::Counters(side) => side.allocate(
-            Wanted {
-                now,
-                type_id,
-                key,
-                label,
-                registration,
-                owner,
-            },
-            id,
-        ),
-        _ => WRONG_HANDLE,
-    };
-    counters.put(held);
-    code
+    work_on!(counters, alloc, Counters(side) => side.allocate(wanted, id))
 }
 
 /// Sets a counter's value.
@@ -92,15 +71,7 @@ pub extern "C" fn felter_counter_set(
 ) -> i32
     ensures { Uses some_counters (WasSet id value) counters.old.held counters.new.held result }
 {
-    let Some(mut held) = counters.take(alloc) else {
-        return NO_HANDLE;
-    };
-    let code = match &mut *held {
-        Held::Counters(side) => side.set(id, value),
-        _ => WRONG_HANDLE,
-    };
-    counters.put(held);
-    code
+    work_on!(counters, alloc, Counters(side) => side.set(id, value))
 }
 
 /// Adds to a counter's value, which wraps, and says the value before.
@@ -114,15 +85,7 @@ pub extern "C" fn felter_counter_add(
 ) -> i32
     ensures { Uses some_counters (WasAdded id delta before.old before.new) counters.old.held counters.new.held result }
 {
-    let Some(mut held) = counters.take(alloc) else {
-        return NO_HANDLE;
-    };
-    let code = match &mut *held {
-        Held::Counters(side) => side.add(id, delta, before),
-        _ => WRONG_HANDLE,
-    };
-    counters.put(held);
-    code
+    work_on!(counters, alloc, Counters(side) => side.add(id, delta, before))
 }
 
 /// Frees a counter at a moment, in milliseconds and at most 2^62.
@@ -135,15 +98,7 @@ pub extern "C" fn felter_counter_free(
 ) -> i32
     ensures { Uses some_counters (WasFreed now id) counters.old.held counters.new.held result }
 {
-    let Some(mut held) = counters.take(alloc) else {
-        return NO_HANDLE;
-    };
-    let code = match &mut *held {
-        Held::Counters(side) => side.free(now, id),
-        _ => WRONG_HANDLE,
-    };
-    counters.put(held);
-    code
+    work_on!(counters, alloc, Counters(side) => side.free(now, id))
 }
 
 /// Frees each counter of an owner, and says how many.
@@ -158,15 +113,7 @@ pub extern "C" fn felter_counters_close_owner(
     ensures { Uses some_counters (OwnerClosed now owner freed.old freed.new) counters.old.held counters.new.held
         result }
 {
-    let Some(mut held) = counters.take(alloc) else {
-        return NO_HANDLE;
-    };
-    let code = match &mut *held {
-        Held::Counters(side) => side.close_owner(now, owner, freed),
-        _ => WRONG_HANDLE,
-    };
-    counters.put(held);
-    code
+    work_on!(counters, alloc, Counters(side) => side.close_owner(now, owner, freed))
 }
 
 /// Finds the lowest id in use of a type and a registration id.
@@ -181,15 +128,7 @@ pub extern "C" fn felter_counter_find(
     ensures { Uses some_counters (WasFound type_id registration id.old id.new) counters.old.held counters.new.held
         result }
 {
-    let Some(mut held) = counters.take(alloc) else {
-        return NO_HANDLE;
-    };
-    let code = match &mut *held {
-        Held::Counters(side) => side.find(type_id, registration, id),
-        _ => WRONG_HANDLE,
-    };
-    counters.put(held);
-    code
+    work_on!(counters, alloc, Counters(side) => side.find(type_id, registration, id))
 }
 
 /// Says how many ids there are, in use or not.
@@ -201,15 +140,7 @@ pub extern "C" fn felter_counters_count(
 ) -> i32
     ensures { Uses some_counters (WasCounted count.new) counters.old.held counters.new.held result }
 {
-    let Some(mut held) = counters.take(alloc) else {
-        return NO_HANDLE;
-    };
-    let code = match &mut *held {
-        Held::Counters(side) => side.count(count),
-        _ => WRONG_HANDLE,
-    };
-    counters.put(held);
-    code
+    work_on!(counters, alloc, Counters(side) => side.count(count))
 }
 
 /// Says a counter's value.
@@ -223,15 +154,7 @@ pub extern "C" fn felter_counter_value(
     ensures { Uses some_counters (Asked (λ r. (counter_at r id).values.value) id value.old value.new) counters.old.held
         counters.new.held result }
 {
-    let Some(mut held) = counters.take(alloc) else {
-        return NO_HANDLE;
-    };
-    let code = match &mut *held {
-        Held::Counters(side) => side.value(id, value),
-        _ => WRONG_HANDLE,
-    };
-    counters.put(held);
-    code
+    work_on!(counters, alloc, Counters(side) => side.value(id, value))
 }
 
 /// Says a counter's type.
@@ -245,15 +168,7 @@ pub extern "C" fn felter_counter_type_id(
     ensures { Uses some_counters (Asked (λ r. (counter_at r id).metadata.type_id) id type_id.old type_id.new)
         counters.old.held counters.new.held result }
 {
-    let Some(mut held) = counters.take(alloc) else {
-        return NO_HANDLE;
-    };
-    let code = match &mut *held {
-        Held::Counters(side) => side.type_id(id, type_id),
-        _ => WRONG_HANDLE,
-    };
-    counters.put(held);
-    code
+    work_on!(counters, alloc, Counters(side) => side.type_id(id, type_id))
 }
 
 /// Says a counter's registration id.
@@ -268,15 +183,7 @@ pub extern "C" fn felter_counter_registration(
         (Asked (λ r. (counter_at r id).values.registration) id registration.old registration.new) counters.old.held
         counters.new.held result }
 {
-    let Some(mut held) = counters.take(alloc) else {
-        return NO_HANDLE;
-    };
-    let code = match &mut *held {
-        Held::Counters(side) => side.registration(id, registration),
-        _ => WRONG_HANDLE,
-    };
-    counters.put(held);
-    code
+    work_on!(counters, alloc, Counters(side) => side.registration(id, registration))
 }
 
 /// Says a counter's owner, 0 for none.
@@ -290,13 +197,33 @@ pub extern "C" fn felter_counter_owner(
     ensures { Uses some_counters (Asked (λ r. (counter_at r id).values.owner) id owner.old owner.new) counters.old.held
         counters.new.held result }
 {
-    let Some(mut held) = counters.take(alloc) else {
-        return NO_HANDLE;
-    };
-    let code = match &mut *held {
-        Held::Counters(side) => side.owner(id, owner),
-        _ => WRONG_HANDLE,
-    };
-    counters.put(held);
-    code
+    work_on!(counters, alloc, Counters(side) => side.owner(id, owner))
+}
+
+/// Copies a counter's label to the front of a buffer, and says its length.
+#[unsafe(no_mangle)]
+pub extern "C" fn felter_counter_label(
+    alloc: Global,
+    counters: &mut Handle,
+    id: u32,
+    len: &mut usize,
+    buffer: &mut [u8],
+) -> i32
+    ensures { Uses some_counters (SaysLabel id len.old len.new buffer.old buffer.new) counters.old.held
+        counters.new.held result }
+{
+    work_on!(counters, alloc, Counters(side) => side.label(id, len, buffer))
+}
+
+/// Copies a counter's key of 112 bytes, with zeros after a short one, to the front of a buffer.
+#[unsafe(no_mangle)]
+pub extern "C" fn felter_counter_key(
+    alloc: Global,
+    counters: &mut Handle,
+    id: u32,
+    buffer: &mut [u8],
+) -> i32
+    ensures { Uses some_counters (SaysKey id buffer.old buffer.new) counters.old.held counters.new.held result }
+{
+    work_on!(counters, alloc, Counters(side) => side.key(id, buffer))
 }

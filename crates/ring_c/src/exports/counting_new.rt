@@ -4,10 +4,11 @@ ghost use Rattle.std.specs.declared.option.Option.TheVariants.{Some};
 ghost use Rattle.ring_c.specs.Counting.{make_code};
 ghost use Rattle.ring_c.specs.Told.{HoldFreshCounters, IsCountersCode, OpensCounters};
 
-use crate::code::{DONE, HANDLE_IN_USE, OUT_OF_MEMORY};
+use crate::code::OUT_OF_MEMORY;
 use crate::counters::CountersSide;
 use crate::handle::Handle;
 use crate::held::Held;
+use crate::work_on::fill;
 use ring_counters::{CountersManager, MakeFault};
 use std::alloc::Global;
 use std::sync::Arc;
@@ -51,14 +52,5 @@ pub extern "C" fn felter_counters_new(
 ) -> i32
     ensures { OpensCounters count reuse_ms counters.old.held counters.new.held result }
 {
-    if !counters.is_empty(alloc) {
-        return HANDLE_IN_USE;
-    }
-    match make_counters(alloc, count, reuse_ms) {
-        Ok(made) => {
-            counters.put(made);
-            DONE
-        }
-        Err(code) => code,
-    }
+    fill!(counters, alloc, make_counters(alloc, count, reuse_ms))
 }

@@ -25,14 +25,12 @@ pub extern "C" fn felter_join(alloc: Global, producer: &mut Handle, other: &mut 
             Held::Producer(joining) => match side.join(joining) {
                 Ok(()) => DONE,
                 Err((code, back)) => {
-                    *second = Held::Producer(back);
-                    other.put(second);
+                    other.refill(second, Held::Producer(back));
                     code
                 }
             },
             back => {
-                *second = back;
-                other.put(second);
+                other.refill(second, back);
                 WRONG_HANDLE
             }
         },

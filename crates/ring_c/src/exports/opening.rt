@@ -5,12 +5,13 @@ ghost use Rattle.ring_rings.specs.Seats.{consumer_view, view_of};
 ghost use Rattle.ring_c.specs.Side.{capacity_in, is_many, table_in, IsConsumerIn, IsProducerIn};
 ghost use Rattle.ring_c.specs.Told.{HoldFresh, HoldPair, IsMakeCode, Opens};
 
-use crate::code::{DONE, HANDLE_IN_USE, OUT_OF_MEMORY, code_of_make};
+use crate::code::{OUT_OF_MEMORY, code_of_make};
 use crate::consumer::ConsumerSide;
 use crate::handle::Handle;
 use crate::held::Held;
 use crate::producer::ProducerSide;
 use crate::ring::AnyRing;
+use crate::work_on::fill_both;
 use ring_rings::{Consumer, ManyToOneRing, OneToOneRing, Producer};
 use std::alloc::Global;
 use std::sync::Arc;
@@ -103,17 +104,7 @@ pub extern "C" fn felter_many_to_one_new_at(
 ) -> i32
     ensures { Opens true capacity start producer.old.held consumer.old.held producer.new.held consumer.new.held result }
 {
-    if !producer.is_empty(alloc) || !consumer.is_empty(alloc) {
-        return HANDLE_IN_USE;
-    }
-    match make_many(alloc, capacity, start) {
-        Ok((one, two)) => {
-            producer.put(one);
-            consumer.put(two);
-            DONE
-        }
-        Err(code) => code,
-    }
+    fill_both!(producer, consumer, alloc, make_many(alloc, capacity, start))
 }
 
 /// Makes a ring that starts at 0, with a producer that holds all shares, and the consumer.
@@ -126,17 +117,7 @@ pub extern "C" fn felter_many_to_one_new(
 ) -> i32
     ensures { Opens true capacity 0 producer.old.held consumer.old.held producer.new.held consumer.new.held result }
 {
-    if !producer.is_empty(alloc) || !consumer.is_empty(alloc) {
-        return HANDLE_IN_USE;
-    }
-    match make_many(alloc, capacity, 0) {
-        Ok((one, two)) => {
-            producer.put(one);
-            consumer.put(two);
-            DONE
-        }
-        Err(code) => code,
-    }
+    fill_both!(producer, consumer, alloc, make_many(alloc, capacity, 0))
 }
 
 /// Makes a ring with one producer that starts at a multiple of its capacity.
@@ -151,17 +132,7 @@ pub extern "C" fn felter_one_to_one_new_at(
     ensures { Opens false capacity start producer.old.held consumer.old.held producer.new.held consumer.new.held
         result }
 {
-    if !producer.is_empty(alloc) || !consumer.is_empty(alloc) {
-        return HANDLE_IN_USE;
-    }
-    match make_one(alloc, capacity, start) {
-        Ok((one, two)) => {
-            producer.put(one);
-            consumer.put(two);
-            DONE
-        }
-        Err(code) => code,
-    }
+    fill_both!(producer, consumer, alloc, make_one(alloc, capacity, start))
 }
 
 /// Makes a ring with one producer that starts at 0.
@@ -174,15 +145,5 @@ pub extern "C" fn felter_one_to_one_new(
 ) -> i32
     ensures { Opens false capacity 0 producer.old.held consumer.old.held producer.new.held consumer.new.held result }
 {
-    if !producer.is_empty(alloc) || !consumer.is_empty(alloc) {
-        return HANDLE_IN_USE;
-    }
-    match make_one(alloc, capacity, 0) {
-        Ok((one, two)) => {
-            producer.put(one);
-            consumer.put(two);
-            DONE
-        }
-        Err(code) => code,
-    }
+    fill_both!(producer, consumer, alloc, make_one(alloc, capacity, 0))
 }

@@ -3,9 +3,8 @@ ghost use Rattle.ring_layout.specs.declared.message.ClaimState.TheVariants.{Abor
 ghost use Rattle.ring_c.specs.Producing.{Claimed, Counted, Drew, HeardBeat, Positioned, Put, Settled, Wrote};
 ghost use Rattle.ring_c.specs.Told.{a_producer, Uses};
 
-use crate::code::{NO_HANDLE, WRONG_HANDLE};
 use crate::handle::Handle;
-use crate::held::Held;
+use crate::work_on::work_on;
 use std::alloc::Global;
 
 /// Writes a message, by one try.
@@ -18,15 +17,7 @@ pub extern "C" fn felter_write(
 ) -> i32
     ensures { Uses a_producer (Wrote type_id body.now) producer.old.held producer.new.held result }
 {
-    let Some(mut held) = producer.take(alloc) else {
-        return NO_HANDLE;
-    };
-    let code = match &mut *held {
-        Held::Producer(side) => side.write(type_id, body),
-        _ => WRONG_HANDLE,
-    };
-    producer.put(held);
-    code
+    work_on!(producer, alloc, Producer(side) => side.write(type_id, body))
 }
 
 /// Claims room for a message of `len` bytes, which are 0 until they are put, and says the claim's number.
@@ -40,15 +31,7 @@ pub extern "C" fn felter_claim(
 ) -> i32
     ensures { Uses a_producer (Claimed type_id len claim.old claim.new) producer.old.held producer.new.held result }
 {
-    let Some(mut held) = producer.take(alloc) else {
-        return NO_HANDLE;
-    };
-    let code = match &mut *held {
-        Held::Producer(side) => side.claim(type_id, len, claim),
-        _ => WRONG_HANDLE,
-    };
-    producer.put(held);
-    code
+    work_on!(producer, alloc, Producer(side) => side.claim(type_id, len, claim))
 }
 
 /// Puts bytes into the open claim, from the byte `offset` on.
@@ -62,15 +45,7 @@ pub extern "C" fn felter_put(
 ) -> i32
     ensures { Uses a_producer (Put claim offset bytes.now) producer.old.held producer.new.held result }
 {
-    let Some(mut held) = producer.take(alloc) else {
-        return NO_HANDLE;
-    };
-    let code = match &mut *held {
-        Held::Producer(side) => side.put(claim, offset, bytes),
-        _ => WRONG_HANDLE,
-    };
-    producer.put(held);
-    code
+    work_on!(producer, alloc, Producer(side) => side.put(claim, offset, bytes))
 }
 
 /// Settles the open claim: the consumer is shown its message.
@@ -78,15 +53,7 @@ pub extern "C" fn felter_put(
 pub extern "C" fn felter_commit(alloc: Global, producer: &mut Handle, claim: u64) -> i32
     ensures { Uses a_producer (Settled Committed claim) producer.old.held producer.new.held result }
 {
-    let Some(mut held) = producer.take(alloc) else {
-        return NO_HANDLE;
-    };
-    let code = match &mut *held {
-        Held::Producer(side) => side.commit(claim),
-        _ => WRONG_HANDLE,
-    };
-    producer.put(held);
-    code
+    work_on!(producer, alloc, Producer(side) => side.commit(claim))
 }
 
 /// Settles the open claim: the consumer passes it.
@@ -94,15 +61,7 @@ pub extern "C" fn felter_commit(alloc: Global, producer: &mut Handle, claim: u64
 pub extern "C" fn felter_abort(alloc: Global, producer: &mut Handle, claim: u64) -> i32
     ensures { Uses a_producer (Settled Aborted claim) producer.old.held producer.new.held result }
 {
-    let Some(mut held) = producer.take(alloc) else {
-        return NO_HANDLE;
-    };
-    let code = match &mut *held {
-        Held::Producer(side) => side.abort(claim),
-        _ => WRONG_HANDLE,
-    };
-    producer.put(held);
-    code
+    work_on!(producer, alloc, Producer(side) => side.abort(claim))
 }
 
 /// Loads the head, and then the tail.
@@ -115,15 +74,7 @@ pub extern "C" fn felter_positions(
 ) -> i32
     ensures { Uses a_producer (Positioned head.new tail.new) producer.old.held producer.new.held result }
 {
-    let Some(mut held) = producer.take(alloc) else {
-        return NO_HANDLE;
-    };
-    let code = match &mut *held {
-        Held::Producer(side) => side.positions(head, tail),
-        _ => WRONG_HANDLE,
-    };
-    producer.put(held);
-    code
+    work_on!(producer, alloc, Producer(side) => side.positions(head, tail))
 }
 
 /// Draws the ring's next correlation id.
@@ -131,15 +82,7 @@ pub extern "C" fn felter_positions(
 pub extern "C" fn felter_next_id(alloc: Global, producer: &mut Handle, id: &mut u64) -> i32
     ensures { Uses a_producer (Drew id.new) producer.old.held producer.new.held result }
 {
-    let Some(mut held) = producer.take(alloc) else {
-        return NO_HANDLE;
-    };
-    let code = match &mut *held {
-        Held::Producer(side) => side.next_id(id),
-        _ => WRONG_HANDLE,
-    };
-    producer.put(held);
-    code
+    work_on!(producer, alloc, Producer(side) => side.next_id(id))
 }
 
 /// Loads the heartbeat that the consumer stored last, 0 before the first.
@@ -147,15 +90,7 @@ pub extern "C" fn felter_next_id(alloc: Global, producer: &mut Handle, id: &mut 
 pub extern "C" fn felter_heartbeat(alloc: Global, producer: &mut Handle, value: &mut u64) -> i32
     ensures { Uses a_producer (HeardBeat value.new) producer.old.held producer.new.held result }
 {
-    let Some(mut held) = producer.take(alloc) else {
-        return NO_HANDLE;
-    };
-    let code = match &mut *held {
-        Held::Producer(side) => side.heartbeat(value),
-        _ => WRONG_HANDLE,
-    };
-    producer.put(held);
-    code
+    work_on!(producer, alloc, Producer(side) => side.heartbeat(value))
 }
 
 /// Says how many of the ring's 65,536 shares the producer holds.
@@ -163,13 +98,5 @@ pub extern "C" fn felter_heartbeat(alloc: Global, producer: &mut Handle, value: 
 pub extern "C" fn felter_shares(alloc: Global, producer: &mut Handle, shares: &mut u32) -> i32
     ensures { Uses a_producer (Counted shares.new) producer.old.held producer.new.held result }
 {
-    let Some(mut held) = producer.take(alloc) else {
-        return NO_HANDLE;
-    };
-    let code = match &mut *held {
-        Held::Producer(side) => side.shares(shares),
-        _ => WRONG_HANDLE,
-    };
-    producer.put(held);
-    code
+    work_on!(producer, alloc, Producer(side) => side.shares(shares))
 }

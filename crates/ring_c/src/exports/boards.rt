@@ -1,0 +1,130 @@
+//! What handles of a board do.
+ghost use Rattle.std.specs.Prelude.{◌≡◌, ◌≢◌, pos, IfOk, MatchResult};
+ghost use Rattle.std.specs.declared.option.Option.TheVariants.{None, Some};
+ghost use Rattle.ring_c.specs.Boards.{heard, make_code, IsUnheard, Received, SaysLapped, Subscribes, Transmitted};
+ghost use Rattle.ring_c.specs.Told.{a_receiver, a_transmitter, Gives, GivesInto, HoldNewBoard, IsBoardCode, OpensBoard, Uses};
+
+use crate::boards::TransmitterSide;
+use crate::code::{HANDLE_IN_USE, OUT_OF_MEMORY};
+use crate::handle::Handle;
+use crate::held::Held;
+use crate::work_on::{fill, make_into, work_on};
+use ring_board::{Board, MakeFault};
+use std::alloc::Global;
+use std::sync::Arc;
+
+/// The code of a board that was not made.
+fn code_of_make(fault: MakeFault) -> i32
+    ensures { result ≡ make_code fault }
+{
+    match fault {
+        MakeFault::BadCapacity => 1,
+        MakeFault::BadStart => 2,
+        MakeFault::OutOfMemory => OUT_OF_MEMORY,
+    }
+}
+
+/// Makes a board.
+fn make_board(alloc: Global, capacity: u32, start: u64) -> Result<Box<Held>, i32>
+    ensures made { IfOk result (λ made. HoldNewBoard capacity start (Some made.value)) }
+    ensures code { MatchResult result (λ _. IsBoardCode capacity start (pos 0))
+        (λ code. IsBoardCode capacity start code × (code ≢ pos 0)) }
+{
+    let (board, transmitter) = match Board::new_at(alloc, capacity, start) {
+        Ok(made) => made,
+        Err(fault) => return Err(code_of_make(fault)),
+    };
+    let Ok(board) = Arc::new(alloc, board) else {
+        return Err(OUT_OF_MEMORY);
+    };
+    match Box::new(
+        alloc,
+        Held::Transmitter(TransmitterSide { board, transmitter }),
+    ) {
+        Ok(made) => Ok(made),
+        Err(_) => Err(OUT_OF_MEMORY),
+    }
+}
+
+/// Makes a board that starts at 0, with its transmitter.
+#[unsafe(no_mangle)]
+pub extern "C" fn felter_board_new(alloc: Global, capacity: u32, transmitter: &mut Handle) -> i32
+    ensures { OpensBoard capacity 0 transmitter.old.held transmitter.new.held result }
+{
+    fill!(transmitter, alloc, make_board(alloc, capacity, 0))
+}
+
+/// Makes a board that starts at a multiple of its capacity, with its transmitter.
+#[unsafe(no_mangle)]
+pub extern "C" fn felter_board_new_at(
+    alloc: Global,
+    capacity: u32,
+    start: u64,
+    transmitter: &mut Handle,
+) -> i32
+    ensures { OpensBoard capacity start transmitter.old.held transmitter.new.held result }
+{
+    fill!(transmitter, alloc, make_board(alloc, capacity, start))
+}
+
+/// Transmits a message. It never waits.
+#[unsafe(no_mangle)]
+pub extern "C" fn felter_transmit(
+    alloc: Global,
+    transmitter: &mut Handle,
+    type_id: i32,
+    body: &[u8],
+) -> i32
+    ensures { Uses a_transmitter (Transmitted type_id body.now) transmitter.old.held transmitter.new.held result }
+{
+    work_on!(transmitter, alloc, Transmitter(side) => side.transmit(type_id, body))
+}
+
+/// Subscribes a receiver into an empty handle. The room for it is taken first.
+fn subscribe_into(alloc: Global, transmitter: &mut Handle, receiver: &mut Handle) -> i32
+    requires { receiver.old.held ≡ None }
+    ensures { Gives a_transmitter a_receiver Subscribes IsUnheard transmitter.old.held transmitter.new.held
+        receiver.new.held result }
+{
+    make_into!(transmitter, alloc, Transmitter(side) => side.subscribe(alloc), receiver, Receiver)
+}
+
+/// Makes a receiver, which starts with the record at latest.
+#[unsafe(no_mangle)]
+pub extern "C" fn felter_subscribe(
+    alloc: Global,
+    transmitter: &mut Handle,
+    receiver: &mut Handle,
+) -> i32
+    ensures { GivesInto a_transmitter a_receiver Subscribes IsUnheard transmitter.old.held receiver.old.held
+        transmitter.new.held receiver.new.held result }
+{
+    if !receiver.is_empty(alloc) {
+        return HANDLE_IN_USE;
+    }
+    subscribe_into(alloc, transmitter, receiver)
+}
+
+/// Receives the next message into a buffer that has room for the longest one, or says how often it was lapped.
+#[unsafe(no_mangle)]
+pub extern "C" fn felter_receive(
+    alloc: Global,
+    receiver: &mut Handle,
+    type_id: &mut i32,
+    len: &mut usize,
+    lapped: &mut u64,
+    buffer: &mut [u8],
+) -> i32
+    ensures { Uses a_receiver (Received (heard type_id.old len.old lapped.old buffer.old)
+        (heard type_id.new len.new lapped.new buffer.new)) receiver.old.held receiver.new.held result }
+{
+    work_on!(receiver, alloc, Receiver(side) => side.receive(type_id, len, lapped, buffer))
+}
+
+/// Says how often the receiver was lapped.
+#[unsafe(no_mangle)]
+pub extern "C" fn felter_lapped_count(alloc: Global, receiver: &mut Handle, count: &mut u64) -> i32
+    ensures { Uses a_receiver (SaysLapped count.new) receiver.old.held receiver.new.held result }
+{
+    work_on!(receiver, alloc, Receiver(side) => side.lapped_count(count))
+}

@@ -1,0 +1,47 @@
+//! Readers of counters' values.
+ghost use Rattle.std.specs.Prelude.{◌≡◌};
+ghost use Rattle.std.specs.declared.option.Option.TheVariants.{None};
+ghost use Rattle.ring_c.specs.Lending.{IsLast, Lends, Loaded};
+ghost use Rattle.ring_c.specs.Told.{a_reader, some_counters, Gives, GivesInto, Uses};
+
+use crate::code::HANDLE_IN_USE;
+use crate::handle::Handle;
+use crate::work_on::{make_into, work_on};
+use std::alloc::Global;
+
+/// Makes a reader for an empty handle. The room for it is taken first.
+fn lend_into(alloc: Global, counters: &mut Handle, reader: &mut Handle) -> i32
+    requires { reader.old.held ≡ None }
+    ensures { Gives some_counters a_reader Lends IsLast counters.old.held counters.new.held reader.new.held result }
+{
+    make_into!(counters, alloc, Counters(side) => side.reader(), reader, Reader)
+}
+
+/// Makes a reader of the counters' values, for another thread, with one share.
+#[unsafe(no_mangle)]
+pub extern "C" fn felter_counters_reader(
+    alloc: Global,
+    counters: &mut Handle,
+    reader: &mut Handle,
+) -> i32
+    ensures { GivesInto some_counters a_reader Lends IsLast counters.old.held reader.old.held counters.new.held
+        reader.new.held result }
+{
+    if !reader.is_empty(alloc) {
+        return HANDLE_IN_USE;
+    }
+    lend_into(alloc, counters, reader)
+}
+
+/// Loads a counter's value: of an id that was never used 0, of a freed one its last value.
+#[unsafe(no_mangle)]
+pub extern "C" fn felter_reader_value(
+    alloc: Global,
+    reader: &mut Handle,
+    id: u32,
+    value: &mut i64,
+) -> i32
+    ensures { Uses a_reader (Loaded id value.old value.new) reader.old.held reader.new.held result }
+{
+    work_on!(reader, alloc, Reader(side) => side.load(id, value))
+}

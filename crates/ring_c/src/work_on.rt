@@ -1,0 +1,89 @@
+//! What calls of handles have in common.
+
+/// Works on what a handle stands for, where it is of this kind, and gives the code of that. An empty handle gives 100,
+/// and one of another kind 101.
+macro_rules! work_on {
+    ($handle:ident, $alloc:ident, $kind:ident($side:ident) => $work:expr) => {
+        match $handle.take($alloc) {
+            Some(mut held) => {
+                let code = match &mut *held {
+                    $crate::held::Held::$kind($side) => $work,
+                    _ => $crate::code::WRONG_HANDLE,
+                };
+                $handle.put(held);
+                code
+            }
+            None => $crate::code::NO_HANDLE,
+        }
+    };
+}
+
+/// Makes something of what a handle stands for, where it is of this kind, for another handle, and gives the code. The
+/// room for it is taken first, so that nothing is made where memory is wanting.
+macro_rules! make_into {
+    ($handle:ident, $alloc:ident, $kind:ident($side:ident) => $make:expr, $other:ident, $made:ident) => {
+        match $handle.take($alloc) {
+            Some(mut held) => match Box::new($alloc, $crate::held::Held::Vacant) {
+                Ok(room) => {
+                    let code = match &mut *held {
+                        $crate::held::Held::$kind($side) => match $make {
+                            Ok(made) => {
+                                $other.refill(room, $crate::held::Held::$made(made));
+                                $crate::code::DONE
+                            }
+                            Err(code) => code,
+                        },
+                        _ => $crate::code::WRONG_HANDLE,
+                    };
+                    $handle.put(held);
+                    code
+                }
+                Err(_) => {
+                    $handle.put(held);
+                    $crate::code::OUT_OF_MEMORY
+                }
+            },
+            None => $crate::code::NO_HANDLE,
+        }
+    };
+}
+
+/// Fills an empty handle with what is made, and gives the code: 102 for one in use, for which nothing is made.
+macro_rules! fill {
+    ($handle:ident, $alloc:ident, $make:expr) => {
+        if $handle.is_empty($alloc) {
+            match $make {
+                Ok(made) => {
+                    $handle.put(made);
+                    $crate::code::DONE
+                }
+                Err(code) => code,
+            }
+        } else {
+            $crate::code::HANDLE_IN_USE
+        }
+    };
+}
+
+/// Fills two empty handles with the two that are made, and gives the code as `fill` does.
+macro_rules! fill_both {
+    ($first:ident, $second:ident, $alloc:ident, $make:expr) => {
+        if $first.is_empty($alloc) && $second.is_empty($alloc) {
+            match $make {
+                Ok((one, two)) => {
+                    $first.put(one);
+                    $second.put(two);
+                    $crate::code::DONE
+                }
+                Err(code) => code,
+            }
+        } else {
+            $crate::code::HANDLE_IN_USE
+        }
+    };
+}
+
+pub(crate) use fill;
+pub(crate) use fill_both;
+pub(crate) use make_into;
+pub(crate) use work_on;

@@ -1,0 +1,92 @@
+//! Boards: one transmitter, and receivers that learn when they missed something.
+use crate::error::Error;
+use crate::handle::{done, Handle};
+use crate::message::{message_of, Message};
+use crate::raw;
+
+/// Transmits on a board. It never waits: a receiver that is too slow is overtaken, and learns that.
+///
+/// ```
+/// let mut transmitter = felter::Transmitter::new(4096)?;
+/// let mut receiver = transmitter.subscribe()?;
+/// transmitter.transmit(3, b"to all")?;
+/// let mut room = [0; 4096 / 8];
+/// let message = receiver.receive(&mut room)?.expect("it was transmitted");
+/// assert_eq!((message.type_id, message.body), (3, &b"to all"[..]));
+/// assert_eq!(receiver.receive(&mut room)?, None);
+/// # Ok::<(), felter::Error>(())
+/// ```
+#[derive(Debug)]
+pub struct Transmitter {
+    handle: Handle,
+}
+
+impl Transmitter {
+    /// Makes a board of a capacity, a power of two from 256 to 2^24, with its transmitter.
+    ///
+    /// Errors: [`Error::BadCapacity`], [`Error::OutOfMemory`].
+    pub fn new(capacity: u32) -> Result<Transmitter, Error> {
+        Transmitter::new_at(capacity, 0)
+    }
+
+    /// Makes a board whose positions begin at `start`.
+    ///
+    /// Errors: also [`Error::BadStart`].
+    pub fn new_at(capacity: u32, start: u64) -> Result<Transmitter, Error> {
+        let mut handle = Handle::empty();
+        // SAFETY: an empty handle.
+        done(unsafe { raw::felter_board_new_at(capacity, start, handle.raw()) })?;
+        Ok(Transmitter { handle })
+    }
+
+    /// Transmits a message.
+    ///
+    /// Errors: [`Error::BadType`], [`Error::TooLong`], [`Error::PositionLimit`].
+    pub fn transmit(&mut self, type_id: i32, body: &[u8]) -> Result<(), Error> {
+        // SAFETY: our handle, and a slice's pointer and length.
+        done(unsafe { raw::felter_transmit(self.handle.raw(), type_id, body.as_ptr(), body.len()) })
+    }
+
+    /// Makes a receiver, which starts with the message that was transmitted last, with one share of the board's 65,536.
+    /// The share is lost when the receiver is dropped.
+    ///
+    /// Errors: [`Error::NoShares`], [`Error::OutOfMemory`].
+    pub fn subscribe(&mut self) -> Result<Receiver, Error> {
+        let mut handle = Handle::empty();
+        // SAFETY: two handles, the second empty.
+        done(unsafe { raw::felter_subscribe(self.handle.raw(), handle.raw()) })?;
+        Ok(Receiver { handle })
+    }
+}
+
+/// Receives what is transmitted on a board.
+#[derive(Debug)]
+pub struct Receiver {
+    handle: Handle,
+}
+
+impl Receiver {
+    /// Copies the next message into a buffer; `None` where nothing is there yet.
+    ///
+    /// Errors: [`Error::Lapped`] where the transmitter overtook the receiver; the next call goes on with the message
+    /// that was transmitted last. [`Error::ShortBuffer`] where the buffer is shorter than an eighth of the capacity,
+    /// whatever the message; nothing is taken then.
+    pub fn receive<'a>(&mut self, buffer: &'a mut [u8]) -> Result<Option<Message<'a>>, Error> {
+        let (mut type_id, mut len, mut lapped) = (0, 0, 0);
+        let (at, room) = (buffer.as_mut_ptr(), buffer.len());
+        // SAFETY: our handle, three numbers of ours, and a slice's pointer and length.
+        let code = unsafe { raw::felter_receive(self.handle.raw(), &mut type_id, &mut len, &mut lapped, at, room) };
+        match message_of(code, type_id, len, buffer) {
+            Err(Error::Lapped { .. }) => Err(Error::Lapped { count: lapped }),
+            answer => answer,
+        }
+    }
+
+    /// How often the receiver was lapped.
+    pub fn lapped_count(&mut self) -> Result<u64, Error> {
+        let mut count = 0;
+        // SAFETY: our handle, and a number of ours.
+        done(unsafe { raw::felter_lapped_count(self.handle.raw(), &mut count) })?;
+        Ok(count)
+    }
+}

@@ -1,0 +1,80 @@
+//! Boards on threads, from safe code.
+#![forbid(unsafe_code)]
+
+use felter::{Error, Message, Receiver, Transmitter};
+use std::thread;
+
+const CAPACITY: u32 = 4096;
+const LAST: u64 = 50_000;
+
+/// The message with a number.
+fn body_of(number: u64) -> Vec<u8> {
+    let mut body = number.to_le_bytes().to_vec();
+    body.extend((0..number % 90).map(|i| (number * 31 + i) as u8));
+    body
+}
+
+/// Receives until the last message, each whole, and with gaps only where it was lapped; says how many.
+fn listen(mut receiver: Receiver) -> u64 {
+    let mut room = vec![0; CAPACITY as usize / 8];
+    let (mut last, mut laps, mut got, mut is_lapped) = (0, 0, 0, true);
+    while last < LAST {
+        match receiver.receive(&mut room) {
+            Ok(Some(message)) => {
+                let number = u64::from_le_bytes(message.body[..8].try_into().expect("8 bytes"));
+                assert_eq!((message.type_id, message.body), (9, &body_of(number)[..]));
+                assert!(if is_lapped { number > last } else { number == last + 1 });
+                (last, is_lapped) = (number, false);
+                got += 1;
+            }
+            Ok(None) => thread::yield_now(),
+            Err(Error::Lapped { count }) => {
+                assert_eq!(count, laps + 1);
+                (laps, is_lapped) = (count, true);
+            }
+            Err(other) => panic!("{other}"),
+        }
+    }
+    assert_eq!(receiver.lapped_count(), Ok(laps));
+    got
+}
+
+#[test]
+fn receivers_get_all_or_learn_what_they_missed() {
+    let mut transmitter = Transmitter::new(CAPACITY).expect("a capacity");
+    let receivers = [transmitter.subscribe().expect("a share"), transmitter.subscribe().expect("a share")];
+    let threads = receivers.map(|receiver| thread::spawn(move || listen(receiver)));
+    for number in 1..=LAST {
+        transmitter.transmit(9, &body_of(number)).expect("it is lawful");
+        if number % 1024 == 0 {
+            thread::yield_now();
+        }
+    }
+    drop(transmitter);
+    for it in threads {
+        assert!(it.join().expect("it does not panic") > 0);
+    }
+}
+
+#[test]
+fn refusals_have_their_numbers_and_change_nothing() {
+    assert_eq!(Transmitter::new(128).unwrap_err(), Error::BadCapacity);
+    assert_eq!(Transmitter::new_at(256, 128).unwrap_err(), Error::BadStart);
+    let mut transmitter = Transmitter::new_at(256, 512).unwrap();
+    let mut receiver = transmitter.subscribe().unwrap();
+    assert_eq!(transmitter.transmit(0, b""), Err(Error::BadType));
+    assert_eq!(transmitter.transmit(1, &[0; 33]), Err(Error::TooLong));
+    let mut room = [0; 32];
+    assert_eq!(receiver.receive(&mut room), Ok(None));
+    transmitter.transmit(5, &[7; 32]).unwrap();
+    assert_eq!(receiver.receive(&mut [0; 31]), Err(Error::ShortBuffer { wanted: 32 }));
+    assert_eq!(receiver.receive(&mut room), Ok(Some(Message { type_id: 5, body: &[7; 32] })));
+    for i in 0..7 {
+        transmitter.transmit(10 + i, &[i as u8; 26]).unwrap();
+    }
+    let lapped = receiver.receive(&mut room).unwrap_err();
+    assert_eq!(lapped, Error::Lapped { count: 1 });
+    assert_eq!((lapped.number(), lapped.to_string().as_str()), (13, "13 Lapped 1"));
+    assert_eq!(receiver.receive(&mut room), Ok(Some(Message { type_id: 16, body: &[6; 26] })));
+    assert_eq!(receiver.receive(&mut room), Ok(None));
+}
