@@ -172,7 +172,8 @@ module _ (C : ℕ) (ok : IsBoardCapacity C) (words : List ℕ) (sent : List Reco
       begins_in : (l : List Record) → Chain C start l → latest ≡ last_of start l → tail ≡ end_of start l
           → Begins l tail (lap_of C latest)
       begins_in [] c la en =
-          inl (let at = h.1 in let same : latest % C ≡ start % C = ap (λ x. x % C) la in omega (arith, la, en, at, same))
+          inl (let at = h.1 in let same : latest % C ≡ start % C = ap (λ x. x % C) la in
+          omega (arith, la, en, at, same))
       begins_in (r ∷ rs) c la en =
           let low = last_high C ok.least whole start start (r ∷ rs) c (omega arith) in
           let reaches : start ≤ lap_of C latest = lap_reaches start latest h.1 (omega (arith, la, low)) in

@@ -36,7 +36,8 @@ returns-then-position-ne0-clause-exact c = λ sent h begins near.
             ∙ le-leb p c.latest-latest.result v.if-position-latest.true in absurd cc
         | else-position-latest v ↦
             let far = v.if-position-latest.false in
-            let at : p ≡ c.tail-tail.result = ⊎_elim (λ le. absurd (omega (arith, far, le, la))) (λ e. e ∙ sym tl) low in
+            let at : p ≡ c.tail-tail.result =
+            ⊎_elim (λ le. absurd (omega (arith, far, le, la))) (λ e. e ∙ sym tl) low in
             let clash : false ≡ true = sym w.if-not-begins.true ∙ v.begins-is ∙ eq-eqb p c.tail-tail.result at in
             absurd cc
       ]
