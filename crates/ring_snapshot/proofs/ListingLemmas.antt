@@ -1,8 +1,8 @@
 -- The words of a history list its records.
-use Rattle.std.proofs.Common.{◌≡◌, ℕ, zero, suc, ◌+◌, ◌-◌, ◌*◌, ◌/◌, ◌%◌, ◌^◌, ◌<◌, ◌≤◌, List, [], ◌∷◌, ◌++◌, length, drop, slice_index, refl, ap, sym, ◌∙◌, arith, inl, inr, ℤ, pos, negsuc, neg_ℤ, nat_abs, ◌≤ℤ◌, true, false, Ok, Err, rules}
+use Rattle.std.proofs.Common.{◌≡◌, ℕ, zero, suc, ◌+◌, ◌-◌, ◌*◌, ◌/◌, ◌%◌, ◌^◌, ◌<◌, ◌≤◌, List, [], ◌∷◌, ◌++◌, length, drop, slice_index, refl, ap, sym, ◌∙◌, arith, inl, inr, ℤ, pos, neg_ℤ, nat_abs, ◌≤ℤ◌, true, false, Ok, rules}
 use Rattle.std.specs.Prelude.{int_lt, not, ◌&&◌, if◌then◌else◌}
 use Rattle.std.specs.Int.{from_le_bytes, w64}
-use Rattle.std.proofs.lemmas.Bool.{cases_lt, lt-ltb, le-ltb, le-leb, lt-leb, ne_eqb, cond-true, cond-false}
+use Rattle.std.proofs.lemmas.Bool.{cases_lt, lt-ltb, le-ltb, ne_eqb, cond-true, cond-false}
 use Rattle.std.proofs.lemmas.List.Elements.{All-head, All-tail}
 use Rattle.ring_layout.specs.declared.message.Claim.{Claim}
 use Rattle.ring_layout.specs.declared.message.ClaimState.TheVariants.{Open, Committed, Aborted}
@@ -332,8 +332,10 @@ exact C words tail ok (c ∷ h) m e aligned enough lie =
     exact C words tail ok h less (place + span n) (omega (arith, whole, b)) (omega (arith, much, is, b))
     (rest_lies C words tail e c h ok aligned lie) in
     ap (λ x. listing C words tail x place) is
-    ∙ listing_step (λ (r : Record). r.length) (entry_at C words tail) tail less place (omega (arith, end, b))
-    ∙ ap (followed (λ (r : Record). r.length) (listing C words tail less) place) (claim_entry C words tail e c h ok aligned lie)
+    ∙ listing_step (λ (r : Record). r.length) (entry_at C words tail) tail less place
+    (omega (arith, end, b))
+    ∙ ap (followed (λ (r : Record). r.length) (listing C words tail less) place)
+    (claim_entry C words tail e c h ok aligned lie)
     ∙ ap (λ x. Ok (state_of C place c) ∷ listing C words tail less (place + up_to_eight x)) (length_of_state C place c)
     ∙ ap (λ xs. Ok (state_of C place c) ∷ xs) rest in
     elim (cases_lt e place) as (λ _. listing C words tail m e ≡ ok_records (records_of C e (c ∷ h))) [
@@ -343,8 +345,10 @@ exact C words tail ok (c ∷ h) m e aligned enough lie =
           let pb = pad_bounds C words tail e c h ok aligned lie before in
           let pad_end : e + up_to_eight (place - e) ≡ place = omega (arith, w, before) in
           ap (λ x. listing C words tail x e) is
-          ∙ listing_step (λ (r : Record). r.length) (entry_at C words tail) tail less e (omega (arith, end, before, b))
-          ∙ ap (followed (λ (r : Record). r.length) (listing C words tail less) e) (pad_entry C words tail e c h ok aligned lie before)
+          ∙ listing_step (λ (r : Record). r.length) (entry_at C words tail) tail less e
+          (omega (arith, end, before, b))
+          ∙ ap (followed (λ (r : Record). r.length) (listing C words tail less) e)
+          (pad_entry C words tail e c h ok aligned lie before)
           ∙ ap (λ x. Ok (passed_at C e (place - e)) ∷ listing C words tail less x) pad_end
           ∙ ap (λ xs. Ok (passed_at C e (place - e)) ∷ xs) (from_claim less (omega (arith, enough, is, pb, before)))
           ∙ sym (ap (λ xs. ok_records (xs ++ state_of C place c ∷ records_of C (place + span n) h))

@@ -147,7 +147,7 @@ from_on position (r ∷ rs) = (if nat_le position r.place then r ∷ [] else [])
 
 -- what is to be listed of these transmissions from a position on: all that lies there, in order, and no finding
 abbrev pub transmitted_from : BoardSnapshot → List Record → ℕ → List BoardEntry
-transmitted_from b sent position = ok_records (from_on position (records_of b.capacity (tail_in b) sent))
+transmitted_from b sent position = ok_records (from_on position (records_of b.capacity (intent_in b) sent))
 
 -- a transmission begins at the position, with its padding or its record, or the last one ends there
 abbrev pub Begins : List Record → ℕ → ℕ → Type 0

@@ -1,4 +1,4 @@
--- One record behind the other: of a ring, and of a board. R is what a record is, and F what may be wrong with the words.
+-- One record behind the other, of a ring or of a board. R is what a record is, F what may be wrong with the words.
 use Rattle.std.specs.Prelude.{ℕ, zero, suc, ◌+◌, ◌*◌, ◌/◌, nat_le, if◌then◌else◌, List, [], ◌∷◌, Result, Ok, Err, Option, Some, None}
 
 -- the bytes from a record's begin to the next one's

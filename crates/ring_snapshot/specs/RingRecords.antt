@@ -1,6 +1,6 @@
 -- The records in the words of a ring, whatever these are, and those of a history. Positions are running byte counts,
 -- and C is the capacity of the buffer.
-use Rattle.std.specs.Prelude.{◌≡◌, ℕ, zero, suc, ◌+◌, ◌-◌, ◌*◌, ◌/◌, ◌%◌, ◌^◌, ◌<◌, ◌≤◌, Bool, ◌&&◌, ◌==◌, not, nat_le, nat_lt, int_lt, int_le, if◌then◌else◌, ℤ, pos, nat_abs, List, [], ◌∷◌, ◌++◌, All, length, slice_index, Result, Ok, Err, Option, Some, None, ◌||◌}
+use Rattle.std.specs.Prelude.{◌≡◌, ℕ, ◌+◌, ◌-◌, ◌/◌, ◌%◌, ◌^◌, ◌<◌, ◌≤◌, Bool, ◌&&◌, ◌==◌, not, nat_le, nat_lt, int_lt, int_le, if◌then◌else◌, ℤ, pos, nat_abs, List, [], ◌∷◌, ◌++◌, All, length, slice_index, Result, Ok, Err, Option, Some, None, ◌||◌}
 use Rattle.std.specs.Int.{cast_signed, w32}
 use Rattle.ring_layout.specs.declared.message.Claim.{Claim}
 use Rattle.ring_layout.specs.declared.message.ClaimState.{ClaimState}

@@ -35,12 +35,13 @@ pub struct BoardRecords<'a> {
 }
 
 impl<'a> BoardSnapshot<'a> {
-    ghost use Rattle.std.specs.Prelude.{◌≡◌, ◌≢◌, ℕ, ◌+◌, ◌-◌, ◌*◌, ◌/◌, ◌%◌, ◌^◌, ◌<◌, ◌≤◌, List, length, slice_index, IfOk, IfErr};
+    ghost use Rattle.std.specs.Prelude.{◌≡◌, ◌≢◌, ℕ, ◌+◌, ◌-◌, ◌*◌, ◌/◌, ◌%◌, ◌^◌, ◌<◌, ◌≤◌, List, length, slice_index, IfOk, IfErr, IsOkAnd};
+    ghost use Rattle.ring_board.specs.declared.shared.view.Record.{Record};
     ghost use Rattle.ring_board.specs.Layout.{IsBoardCapacity, board_words, intent_index, tail_index, latest_index};
     ghost use Rattle.ring_board.specs.Refusals.{IsRefusedBy};
     ghost use Rattle.ring_snapshot.specs.declared.board_finding.BoardFinding.TheVariants.{BadSize};
     ghost use Rattle.ring_snapshot.specs.Listing.{up_to_eight};
-    ghost use Rattle.ring_snapshot.specs.BoardRecords.{intent_in, tail_in, latest_in, records_left, listing, listed_from, first_whole, positions_finding, from_finding};
+    ghost use Rattle.ring_snapshot.specs.BoardRecords.{intent_in, tail_in, latest_in, records_left, listing, listed_from, first_whole, positions_finding, from_finding, HaveTransmitted, Begins, lap_of, transmitted_from};
 
     /// Takes the words of a board. `BadSize` where no board has so many.
     pub fn new(words: &'a [u64]) -> Result<Self, BoardFinding>
@@ -100,6 +101,9 @@ impl<'a> BoardSnapshot<'a> {
             (latest_in self.now)) result }
         ensures listed { IfOk result (λ r. records_left r
             ≡ listed_from self.now (first_whole self.now.capacity (intent_in self.now) (latest_in self.now))) }
+        ensures exact { (sent : List Record) → HaveTransmitted self.now.capacity self.now.words.now sent
+            → IsOkAnd result (λ r. records_left r
+            ≡ transmitted_from self.now sent (lap_of self.now.capacity (latest_in self.now))) }
     {
         let (intent, tail, latest) = (self.intent(), self.tail(), self.latest());
         self.check_positions(intent, tail, latest)?;
@@ -116,6 +120,9 @@ impl<'a> BoardSnapshot<'a> {
         ensures refused { IsRefusedBy (from_finding self.now.capacity (intent_in self.now) (tail_in self.now)
             (latest_in self.now) position) result }
         ensures listed { IfOk result (λ r. records_left r ≡ listed_from self.now position) }
+        ensures exact { (sent : List Record) → HaveTransmitted self.now.capacity self.now.words.now sent
+            → Begins sent (tail_in self.now) position → tail_in self.now ≤ position + self.now.capacity
+            → IsOkAnd result (λ r. records_left r ≡ transmitted_from self.now sent position) }
     {
         let (intent, tail, latest) = (self.intent(), self.tail(), self.latest());
         self.check_positions(intent, tail, latest)?;
