@@ -1,14 +1,13 @@
 -- What is asked, whatever its correlation id.
-use Rattle.std.proofs.Common.{◌≡◌, ◌∙◌, ◌≤◌, ℕ, ℤ, List, length, take, drop, Option, None, Some, IsSome, refl, sym, ap, subst, to_z, of_z, w32, true≢false}
-use Rattle.std.proofs.lemmas.List.{take_at}
+use Rattle.std.proofs.Common.{◌≡◌, ◌∙◌, ◌≤◌, ℕ, ℤ, List, length, take, Option, None, Some, IsSome, refl, sym, ap, subst, to_z, of_z, w32, true≢false}
 use Rattle.ring_table.specs.declared.view.View.{View}
 use Rattle.ring_rings.specs.declared.fault.TryFault.{TryFault}
 use Rattle.ring_rings.specs.Claiming.{RefusesTry, Writes}
 use Rattle.ring_conductor.specs.declared.client.request.Request.{Request}
 use Rattle.ring_conductor.specs.declared.client.request.Request.TheVariants.{Allocate, Free, Set, AllocateOwned, Close}
-use Rattle.ring_conductor.specs.Asking.{asked, IsSendable, SendsAs}
+use Rattle.ring_conductor.specs.Asking.{asked, IsSendable}
 use Rattle.ring_protocol.specs.Command.{Instruction, HasShortTexts, spelling_of, type_id_of}
-use Rattle.ring_protocol.specs.Writing.{Encodes, over_start}
+use Rattle.ring_protocol.specs.Writing.{Encodes}
 use Rattle.ring_protocol.proofs.Lengths.{free_length, set_length, close_length, allocate_length, allocate_owned_length}
 use Rattle.ring_protocol.proofs.Written.{command_bytes}
 

@@ -1,5 +1,5 @@
 -- What a storm counts.
-use Rattle.std.proofs.Common.{◌≡◌, ℕ, ◌+◌, ◌*◌, ◌≤◌, List, [], ◌∷◌, ◌++◌, ◌/◌, ◌<◌, length, length-append, append_assoc, max, ℤ, ◌+ℤ◌, ◌==◌, Bool, true, false, if◌then◌else◌, fold, Option, Some, None, Result, Ok, Err, IfOk, suc, refl, sym, ap, ◌∙◌, subst, inl, inr, arith}
+use Rattle.std.proofs.Common.{◌≡◌, ℕ, ◌+◌, ◌*◌, ◌≤◌, List, [], ◌∷◌, ◌++◌, ◌/◌, ◌<◌, length, length-append, max, ℤ, ◌+ℤ◌, ◌==◌, Bool, true, false, if◌then◌else◌, fold, Option, Some, None, Result, Ok, Err, IfOk, suc, refl, sym, ap, ◌∙◌, subst, inl, inr, arith}
 use Rattle.std.specs.Int.{IsPowerOfTwo, saturate_signed, w64}
 use Rattle.std.proofs.lemmas.List.{append-nil, length-map, length-replicate, length-set}
 use Rattle.std.proofs.lemmas.List.FromFn.{length-range_with_len}

@@ -1,5 +1,5 @@
 -- What a client's calls add to its claims and its copies.
-use Rattle.std.proofs.Common.{◌≡◌, ◌∙◌, ℕ, zero, suc, ◌+◌, ◌≤◌, List, [], ◌∷◌, ◌++◌, append_assoc, Bool, true, false, true≢false, Option, Some, None, is_some, OnSome, Result, Ok, Err, IfErr, OnOk, is_ok, add-one, length, length-append, inl, inr, refl, sym, ap, subst, arith}
+use Rattle.std.proofs.Common.{◌≡◌, ◌∙◌, ℕ, zero, suc, ◌+◌, ◌≤◌, List, [], ◌∷◌, ◌++◌, append_assoc, Bool, true, true≢false, Option, Some, None, is_some, OnSome, Result, Ok, Err, IfErr, OnOk, is_ok, add-one, length, length-append, inl, inr, refl, sym, ap, subst, arith}
 use Rattle.std.specs.Bool.{OnFalse, OnTrue}
 use Rattle.std.proofs.lemmas.List.{append-nil}
 use Rattle.ring_table.specs.declared.claim.StagedClaim.{StagedClaim}

@@ -1,5 +1,5 @@
 -- What a client asks, and what it hears.
-use Rattle.std.specs.Prelude.{◌≡◌, ◌≢◌, ℕ, ◌≤◌, ℤ, List, length, Result, Err}
+use Rattle.std.specs.Prelude.{◌≡◌, ◌≢◌, ℕ, ◌≤◌, ℤ, List, length}
 use Rattle.ring_table.specs.declared.view.View.{View}
 use Rattle.ring_table.specs.ServiceSteps.{DrawsId}
 use Rattle.ring_rings.specs.declared.fault.TryFault.{TryFault}
@@ -19,7 +19,6 @@ use Rattle.ring_conductor.specs.declared.client.Polled.TheVariants.{Answered, An
 use Rattle.ring_conductor.specs.declared.client.SendFault.{SendFault}
 use Rattle.ring_conductor.specs.declared.client.SendFault.TheVariants.{TooLong, Refused}
 use Rattle.ring_protocol.specs.Command.{Instruction, Allocate, Free, Set, AllocateOwned, Close, HasShortTexts, spelling_of, type_id_of}
-use Rattle.ring_protocol.specs.Reading.{reply_of}
 use Rattle.ring_protocol.specs.Reply as reply
 
 abbrev pub producer_of : Client → Producer

@@ -1,7 +1,6 @@
 -- What a client of a storm does: command after command, each with its reply.
-use Rattle.std.specs.Prelude.{◌≡◌, ℕ, zero, suc, ◌+◌, ◌==◌, ℤ, pos, if◌then◌else◌, List, [], ◌∷◌, ◌++◌, codes}
+use Rattle.std.specs.Prelude.{◌≡◌, ℕ, zero, suc, ◌==◌, pos, if◌then◌else◌, List, [], ◌∷◌, ◌++◌, codes}
 use Rattle.std.specs.Fmt.{decimal}
-use Rattle.ring_layout.specs.declared.message.Message.{Message}
 use Rattle.ring_layout.specs.declared.message.ClaimState.TheVariants.{Committed}
 use Rattle.ring_table.specs.declared.claim.StagedClaim.{StagedClaim}
 use Rattle.ring_table.specs.declared.claim.Stage.TheVariants.{Stored}

@@ -1,9 +1,6 @@
-use Rattle.std.proofs.Common.{◌≡◌, ◌∙◌, ap, subst}
-use Rattle.ring_rings.specs.Closing.{HandsOut}
-use Rattle.ring_rings.specs.Seats.{view_of}
+use Rattle.std.proofs.Common.{◌∙◌, ap}
 use Rattle.ring_counters.specs.declared.manager.CountersManager.{CountersManager}
 use Rattle.ring_counters.specs.Manager.{registry_of}
-use Rattle.ring_conductor.specs.Conducting.{ring_view}
 use Rattle.ring_conductor.proofs.StormLemmas.{reported}
 use Rattle.ring_conductor.proofs.storming.storm.Goals as goal
 

@@ -14,7 +14,7 @@ use Rattle.ring_board.specs.Closing.{closed_words, IsClosed}
 use Rattle.ring_board.specs.Seats.{capacity_of as board_capacity_of, heard_by, shares_of as board_shares_of, transmitted}
 use Rattle.ring_counters.specs.declared.manager.CountersManager.{CountersManager}
 use Rattle.ring_counters.specs.Manager.{registry_of, writes_of}
-use Rattle.ring_conductor.specs.Account.{Account, fresh_account, messages_in}
+use Rattle.ring_conductor.specs.Account.{fresh_account, messages_in}
 use Rattle.ring_conductor.specs.Conducting.{ledger_of, received_of, transmitter_of}
 use Rattle.ring_conductor.proofs.AccountLemmas.{account_in}
 use Rattle.ring_conductor.proofs.FoldLemmas.{lengths}

@@ -1,4 +1,4 @@
-use Rattle.std.proofs.Common.{◌≡◌, ◌+◌, ◌*◌, ◌≤◌, subst, arith}
+use Rattle.std.proofs.Common.{◌≡◌, subst, arith}
 use Rattle.ring_board.specs.Seats.{receiver_view}
 use Rattle.ring_board.specs.Steps.{as_joined}
 use Rattle.ring_conductor.specs.Asking.{receiver_of}

@@ -1,4 +1,4 @@
-use Rattle.std.proofs.Common.{◌≡◌, ◌∙◌, ◌+◌, true, not, is_some, sym, ap, arith}
+use Rattle.std.proofs.Common.{◌≡◌, ◌∙◌, true, not, is_some, sym, ap, arith}
 use Rattle.ring_conductor.specs.Turns.{claims_by, copies_by}
 use Rattle.ring_conductor.proofs.TurnLemmas.{answered_as, next_answered, of_some, still_answered}
 use Rattle.ring_conductor.proofs.storming.shared.Shared.run_client.Goals as goal

@@ -1,4 +1,4 @@
-use Rattle.std.proofs.Common.{◌≡◌, ◌≤◌}
+use Rattle.std.proofs.Common.{◌≤◌}
 use Rattle.ring_rings.specs.Seats.{IsConsumerOf}
 use Rattle.ring_conductor.specs.Conducting.{IsConductorOf}
 use Rattle.ring_conductor.specs.Storming.{HasCounters, KeepsReceivers, taken_by}
