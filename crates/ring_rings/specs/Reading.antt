@@ -77,7 +77,7 @@ pub record IsUnpublished (n : ℕ) : Type 0 where
   pub low : len ≤ℤ pos 0
   pub is : n ≡ header len type_id
 
--- the last load found such a header at the new head
+-- the last load of the log found such a header at the new head
 pub record IsBlocked (v w : View) : Type 0 where
   pub before : List (ℕ × ℕ)
   pub found : ℕ
@@ -94,7 +94,7 @@ abbrev pub record_loads : ℕ → PlacedMessage → List (ℕ × ℕ)
 record_loads C m = (index C m.place, header (pos (8 + length m.message.body)) m.message.type_id)
     ∷ body_loads C m ((length m.message.body + 7) / 8)
 
--- the last loads found the message m at the new head
+-- the last loads of the log found the message m at the new head
 pub record IsNext (v w : View) (m : Message) : Type 0 where
   pub before : List (ℕ × ℕ)
   pub loads : w.log ≡ v.log ++ (before ++ record_loads w.capacity (record { place = w.consumer.head; message = m }))

@@ -31,7 +31,8 @@ fn pass_word(ring: &SharedRing, seat: &mut RingSeat, capacity: u32, cleared: u64
     }
 }
 
-/// Sets the words from the head up to the position `to`, which the read has passed, to 0.
+/// Sees to it that the words from the head up to the position `to`, which the read has passed, are 0.
+#[inline(always)]
 fn clear_up(ring: &SharedRing, seat: &mut RingSeat, capacity: u32, head: u64, to: u64)
     requires seat { IsSeatOf ring.now.table_id ring.now.key capacity seat.old }
     requires consumes { seat.old.me.0.consumes ≡ true }
@@ -61,6 +62,7 @@ fn clear_up(ring: &SharedRing, seat: &mut RingSeat, capacity: u32, head: u64, to
 impl<K> Ring<K> {
     /// Clears all that the read has passed, up to `scan`, and stores the head there. Where the head stands there, does
     /// nothing.
+    #[inline(always)]
     pub(super) fn move_head(&self, consumer: &mut Consumer, scan: u64)
         requires consumer { IsConsumerOf self.now consumer.old }
         requires from { (head_of consumer.old ≤ scan) × (scan % 8 ≡ 0) × (scan ≤ max_position) }
@@ -84,6 +86,7 @@ impl<K> Ring<K> {
     }
 
     /// The same up to the place of the message that the read got last, which stays in the ring.
+    #[inline(always)]
     pub(super) fn move_head_before(&self, consumer: &mut Consumer, place: u64)
         requires consumer { IsConsumerOf self.now consumer.old }
         requires from { (head_of consumer.old ≤ place) × (place % 8 ≡ 0) × (place ≤ max_position) }

@@ -23,6 +23,7 @@ impl<K> Ring<K> {
     }
 
     /// Ends a read that began at the head `start` and has come to `scan`: clears what it passed, and stores the head.
+    #[inline(always)]
     fn finish(
         &self,
         consumer: &mut Consumer,
