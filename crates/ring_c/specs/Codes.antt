@@ -2,8 +2,8 @@
 use Rattle.std.specs.Prelude.{ℤ, pos}
 use Rattle.ring_words.specs.declared.fault.ClaimFault.{ClaimFault}
 use Rattle.ring_words.specs.declared.fault.ClaimFault.TheVariants.{BadType, TooLong, PositionLimit, InsufficientCapacity}
-use Rattle.ring_words.specs.declared.fault.MakeFault.{MakeFault}
-use Rattle.ring_words.specs.declared.fault.MakeFault.TheVariants.{BadCapacity, BadStart, OutOfMemory}
+use Rattle.ring_layout.specs.declared.make_fault.MakeFault.{MakeFault}
+use Rattle.ring_layout.specs.declared.make_fault.MakeFault.TheVariants.{BadCapacity, BadStart, OutOfMemory}
 use Rattle.ring_rings.specs.declared.fault.TryFault.{TryFault}
 use Rattle.ring_rings.specs.declared.fault.TryFault.TheVariants.{Refused, Contended}
 

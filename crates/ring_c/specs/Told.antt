@@ -2,8 +2,9 @@
 use Rattle.std.specs.Prelude.{◌≡◌, ◌≢◌, ◌⊎◌, ℕ, ℤ, pos, [], MatchOption, Bool}
 use Rattle.std.specs.declared.option.Option.{Option}
 use Rattle.std.specs.declared.option.Option.TheVariants.{None, Some}
-use Rattle.ring_words.specs.declared.fault.MakeFault.{MakeFault}
-use Rattle.ring_words.specs.Fresh.{make_refusal_of}
+use Rattle.ring_layout.specs.declared.make_fault.MakeFault.{MakeFault}
+use Rattle.ring_layout.specs.Places.{is_capacity}
+use Rattle.ring_layout.specs.Refusals.{make_refusal_of}
 use Rattle.ring_table.specs.declared.view.View.{View}
 use Rattle.ring_rings.specs.Opening.{first_consumer, first_producer}
 use Rattle.ring_counters.specs.Manager.{registry_of, shares_of, writes_of}
@@ -47,7 +48,7 @@ Uses kind P before after code = MatchOption before ((code ≡ pos 100) × (after
 -- a ring is refused with the refusal's code; where there is none it is made, unless memory is wanting
 abbrev pub IsMakeCode : ℕ → ℕ → ℤ → Type 0
 IsMakeCode C start code =
-    MatchOption (make_refusal_of C start) ((code ≡ pos 0) ⊎ (code ≡ pos 3)) (λ fault. code ≡ make_code fault)
+    MatchOption (make_refusal_of (is_capacity C) C start) ((code ≡ pos 0) ⊎ (code ≡ pos 3)) (λ fault. code ≡ make_code fault)
 
 -- a producer and the consumer of one ring, which know this
 pub record ArePaired (many : Bool) (C : ℕ) (v w : View) (p : Side) (c : Reading) : Type 0 where

@@ -1,7 +1,8 @@
 //! The broadcast buffer of a run, with its numbered receivers.
 ghost use Rattle.std.specs.Prelude.{◌≡◌, ◌+◌, IfNone, IfOk, IfSome, OnErr, OnOk, OnSome, length};
-ghost use Rattle.ring_board.specs.Refusals.{make_refusal_of, subscribe_refusal_of, transmit_refusal_of, IsMadeUnless, IsRefusedBy, IsSubscribedUnless};
-ghost use Rattle.ring_board.specs.Layout.{all_shares};
+ghost use Rattle.ring_layout.specs.Places.{is_board_capacity};
+ghost use Rattle.ring_layout.specs.Refusals.{all_shares, make_refusal_of, IsMadeUnless, IsRefusedBy};
+ghost use Rattle.ring_board.specs.Refusals.{subscribe_refusal_of, transmit_refusal_of, IsSubscribedUnless};
 ghost use Rattle.ring_board.specs.Seats.{capacity_of, next_record, shares_of, tail_of, view_of, IsTransmitterOf};
 ghost use Rattle.ring_board.specs.Steps.{sent_on};
 ghost use Rattle.ring_loose.specs.Held.{IsFree, held_count, held_in};
@@ -79,7 +80,7 @@ fn join_receiver(
 impl LooseBoard {
     /// Makes an empty broadcast buffer.
     pub fn new(alloc: Global, capacity: u32) -> Result<Self, MakeFault>
-        ensures { IsMadeUnless (make_refusal_of capacity 0) result }
+        ensures { IsMadeUnless (make_refusal_of (is_board_capacity capacity) capacity 0) result }
     {
         let (board, transmitter) = Board::new(alloc, capacity)?;
         Ok(LooseBoard {

@@ -4,6 +4,7 @@ ghost use Rattle.std.specs.Prelude.{◌≡◌, ◌+◌, ◌/◌, ◌<◌, ◌≤
 use crate::board::{Board, Copied, CopyReceiver, Transmitter};
 use crate::fault::{Lapped, SubscribeFault};
 use crate::receiver::found::Front;
+use ring_layout::has_spare_share;
 use std::alloc::Global;
 
 impl Board {
@@ -27,7 +28,7 @@ impl Board {
             × (receiver_view r ≡ newcomer (view_of transmitter.old))) }
         ensures transmitter { IfOk result (λ _. view_of transmitter.new ≡ fewer (view_of transmitter.old)) }
     {
-        if transmitter.shares <= 1 {
+        if !has_spare_share(transmitter.shares) {
             return Err(SubscribeFault::NoShares);
         }
         let scratch = vec![in alloc; 0u8; self.capacity as usize / 8].map_err(

@@ -3,14 +3,14 @@ ghost use Rattle.std.specs.Prelude.{◌≡◌, ◌==◌, ◌+◌, ◌≤◌, tru
 ghost use Rattle.ring_board.specs.Seats.{IsSeatOf, IsSameSeat};
 
 use crate::board::{Board, RawRecord, Receiver, Transmitter};
-use crate::fault::{Lapped, NoShares};
+use crate::fault::Lapped;
 use crate::shared::view::BoardSeat;
-use ring_layout::put_part;
+use ring_layout::{NoShares, has_spare_share, put_part};
 
 impl Board {
     ghost use Rattle.ring_board.specs.Runs.{AreRuns};
     ghost use Rattle.ring_board.specs.Steps.{fewer, newcomer, joined};
-    ghost use Rattle.ring_board.specs.Refusals.{raw_refusal_of, IsRefusedBy};
+    ghost use Rattle.ring_layout.specs.Refusals.{share_refusal_of, IsRefusedBy};
     ghost use Rattle.ring_board.specs.Seats.{view_of, shares_of, transmitted, IsTransmitterOf, IsRawOf, raw_view, raw_subscribed_at, answered_by};
 
     /// Makes a raw receiver, which starts with the record at latest, with one share of the transmitter's. It takes no
@@ -18,12 +18,12 @@ impl Board {
     pub fn subscribe_raw(&self, transmitter: &mut Transmitter) -> Result<Receiver, NoShares>
         requires { IsTransmitterOf self.now transmitter.old }
         ensures board { IsTransmitterOf self.now transmitter.new }
-        ensures refused { IsRefusedBy (raw_refusal_of (shares_of transmitter.old)) result }
+        ensures refused { IsRefusedBy (share_refusal_of (shares_of transmitter.old)) result }
         ensures same { OnErr result (transmitter.new ≡ transmitter.old) }
         ensures receiver { IfOk result (λ r. IsRawOf self.now r × (raw_view r ≡ newcomer (view_of transmitter.old))) }
         ensures transmitter { IfOk result (λ _. view_of transmitter.new ≡ fewer (view_of transmitter.old)) }
     {
-        if transmitter.shares <= 1 {
+        if !has_spare_share(transmitter.shares) {
             return Err(NoShares);
         }
         let (seat, place) = self.seat_receiver(transmitter);
