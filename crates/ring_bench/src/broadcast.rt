@@ -154,7 +154,7 @@ pub fn run_broadcast<R: Clock + Threads + Sync>(
     if request.contender != Contender::Board || request.threads != RECEIVERS {
         return Err(Fault::NoContender);
     }
-    let (board, mut transmitter) = Board::new(alloc, request.capacity)?;
+    let (board, mut transmitter) = Board::new(alloc, request.capacity).map_err(Fault::NoBoard)?;
     let one = board.subscribe(alloc, &mut transmitter)?;
     let two = board.subscribe(alloc, &mut transmitter)?;
     let body = Body::new(alloc, request.size)?;

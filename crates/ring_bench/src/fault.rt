@@ -1,7 +1,7 @@
 //! Why a measurement gives no figures.
-use ring_board::{MakeFault as BoardFault, SubscribeFault};
+use ring_board::SubscribeFault;
 use ring_conductor::StormFault;
-use ring_counters::{MakeFault as CountersFault, NoShares as NoValueShares};
+use ring_counters::MakeFault as CountersFault;
 use ring_rings::{MakeFault, NoShares};
 use std::alloc::{AllocError, AllocFailed};
 use std::io;
@@ -17,7 +17,7 @@ pub enum Fault {
     #[error("the ring cannot be made: {0}")]
     NoRing(MakeFault),
     #[error("the board cannot be made: {0}")]
-    NoBoard(BoardFault),
+    NoBoard(MakeFault),
     #[error("the counters cannot be made: {0}")]
     NoCounters(CountersFault),
     #[error("there is no receiver: {0}")]
@@ -47,12 +47,6 @@ impl From<MakeFault> for Fault {
     }
 }
 
-impl From<BoardFault> for Fault {
-    fn from(fault: BoardFault) -> Fault {
-        Fault::NoBoard(fault)
-    }
-}
-
 impl From<CountersFault> for Fault {
     fn from(fault: CountersFault) -> Fault {
         Fault::NoCounters(fault)
@@ -68,12 +62,6 @@ impl From<SubscribeFault> for Fault {
 impl From<StormFault> for Fault {
     fn from(fault: StormFault) -> Fault {
         Fault::NoStorm(fault)
-    }
-}
-
-impl From<NoValueShares> for Fault {
-    fn from(_fault: NoValueShares) -> Fault {
-        Fault::NoShares
     }
 }
 

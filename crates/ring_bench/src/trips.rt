@@ -177,7 +177,7 @@ fn run_served<R: Clock + Threads + Sync, S: SharedRing + Sync + Drop>(
     times: u32,
 ) -> Result<Sample, Fault> {
     let (ring, mut producer, consumer) = S::open(alloc, capacity)?;
-    let (board, transmitter) = Board::new(alloc, capacity)?;
+    let (board, transmitter) = Board::new(alloc, capacity).map_err(Fault::NoBoard)?;
     let (values, counters) = CountersManager::new(alloc, COUNTERS, 0)?;
     let mut conductor = Conductor::new(consumer, transmitter, counters);
     let mut receiver = conductor.subscribe(alloc, &board)?;

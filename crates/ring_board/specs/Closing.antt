@@ -6,7 +6,8 @@ use Rattle.ring_board.specs.declared.board.Board.{Board}
 use Rattle.ring_board.specs.declared.board.Transmitter.{Transmitter}
 use Rattle.ring_board.specs.declared.board.ClosedBoard.{ClosedBoard}
 use Rattle.ring_board.specs.declared.board.BoardCloseRefused.{BoardCloseRefused}
-use Rattle.ring_board.specs.Layout.{intent_index, tail_index, latest_index, IsUnnamed, all_shares}
+use Rattle.ring_layout.specs.Refusals.{all_shares}
+use Rattle.ring_board.specs.Layout.{intent_index, tail_index, latest_index, IsUnnamed}
 use Rattle.ring_board.specs.Records.{Chain, end_of, last_of, stores_of, IsBoardWord}
 
 -- the words of a board of capacity C that began at e and transmitted this list

@@ -1,28 +1,13 @@
 -- Which refusal comes when.
-use Rattle.std.specs.Prelude.{ℕ, ◌/◌, ◌%◌, ◌==◌, ◌||◌, not, ℤ, pos, Option, Some, None, Result, if◌then◌else◌, nat_lt, int_lt}
+use Rattle.std.specs.Prelude.{ℕ, ◌/◌, ℤ, pos, Option, Some, None, Result, if◌then◌else◌, nat_lt, int_lt}
 use Rattle.ring_layout.specs.History.{span}
 use Rattle.ring_layout.specs.Places.{end_after, max_position}
 use Rattle.ring_layout.specs.Refusals.{IsRefusedOr}
 pub use Rattle.ring_layout.specs.Refusals.{IsRefusedAs, IsRefusedBy}
-use Rattle.ring_board.specs.declared.fault.MakeFault.{MakeFault}
-use Rattle.ring_board.specs.declared.fault.MakeFault.TheVariants.{BadCapacity, BadStart, OutOfMemory}
 use Rattle.ring_board.specs.declared.fault.TransmitFault.{TransmitFault}
 use Rattle.ring_board.specs.declared.fault.TransmitFault.TheVariants.{BadType, TooLong, PositionLimit}
-use Rattle.ring_board.specs.declared.fault.NoShares.{NoShares}
 use Rattle.ring_board.specs.declared.fault.SubscribeFault.{SubscribeFault}
 use Rattle.ring_board.specs.declared.fault.SubscribeFault.TheVariants as subscribe_fault
-use Rattle.ring_board.specs.Layout.{is_board_capacity}
-
--- why a board cannot be made, in the order of the tests
-abbrev pub make_refusal_of : ℕ → ℕ → Option MakeFault
-make_refusal_of C start =
-    if not (is_board_capacity C) then Some BadCapacity
-    else (if not (start % C == 0) || nat_lt max_position start then Some BadStart
-    else None)
-
--- the result is the refusal; where there is none it is Ok, unless memory is wanting
-abbrev pub IsMadeUnless : {T : Type 0} → Option MakeFault → Result T MakeFault → Type 0
-IsMadeUnless refusal result = IsRefusedOr OutOfMemory refusal result
 
 -- why a message of this type id and length is not transmitted at this tail, in the order of the tests
 abbrev pub transmit_refusal_of : ℕ → ℕ → ℤ → ℕ → Option TransmitFault
@@ -41,6 +26,13 @@ subscribe_refusal_of shares = if nat_lt 1 shares then None else Some subscribe_f
 abbrev pub IsSubscribedUnless : {T : Type 0} → Option SubscribeFault → Result T SubscribeFault → Type 0
 IsSubscribedUnless refusal result = IsRefusedOr subscribe_fault.OutOfMemory refusal result
 
--- why a transmitter with so many shares makes no raw receiver
-abbrev pub raw_refusal_of : ℕ → Option NoShares
-raw_refusal_of shares = if nat_lt 1 shares then None else Some record {}
+-- the number of a message that is not transmitted
+abbrev pub transmit_code : TransmitFault → ℤ
+transmit_code (BadType _) = pos 4
+transmit_code (TooLong _ _) = pos 5
+transmit_code (PositionLimit _) = pos 6
+
+-- the number of a copying receiver that is not made
+abbrev pub subscribe_code : SubscribeFault → ℤ
+subscribe_code subscribe_fault.NoShares = pos 12
+subscribe_code subscribe_fault.OutOfMemory = pos 3

@@ -118,39 +118,6 @@ pub record HasBegun (C : ℕ) (t : Transmitter) (type_id : ℤ) (len : ℕ) (b :
 abbrev pub refused_with : Transmitter → TransmitFault → BeginRefused
 refused_with t reason = record { reason = reason; transmitter = t }
 
--- Copying receivers --------------------------------------------------------
-
-abbrev pub IsReceiverOf : Board → CopyReceiver → Type 0
-IsReceiverOf board r = (r.seat.table_id ≡ board.table.shared.table_id) × IsViewOf board r.seat.me.0
-
--- what the receiver knows, with the slots of its seat, which has none
-abbrev pub receiver_seat : CopyReceiver → Sat
-receiver_seat r = r.seat.me
-
-abbrev pub receiver_view : CopyReceiver → View
-receiver_view r = r.seat.me.0
-
--- where the receiver subscribed
-abbrev pub subscribed_at : CopyReceiver → ℕ
-subscribed_at r = r.seat.me.0.from
-
-abbrev pub copies_of : CopyReceiver → List Taken
-copies_of r = r.seat.me.0.copies
-
--- where the receiver stands: the record there is looked for next
-abbrev pub stands_at : CopyReceiver → ℕ
-stands_at r = r.seat.me.0.at
-
-abbrev pub lapped_count_of : CopyReceiver → ℕ
-lapped_count_of r = r.seat.me.0.count
-
--- what a call of `receive` answered and did
-abbrev pub Received : CopyReceiver → CopyReceiver → Result (Option Copied) Lapped → Type 0
-Received old new result = MatchResult result
-    (λ o. MatchOption o (GotNothing (receiver_seat old) (receiver_seat new))
-    (λ c. GotCopy c.place c.type_id c.body.now (receiver_seat old) (receiver_seat new)))
-    (λ l. GotLapped l (receiver_seat old) (receiver_seat new))
-
 -- Raw receivers ------------------------------------------------------------
 
 abbrev pub IsRawOf : Board → Receiver → Type 0
@@ -203,3 +170,34 @@ type_id_of r = r.type_id
 
 abbrev pub len_of : RawRecord → ℕ
 len_of r = r.len
+
+-- Copying receivers: they have a raw one inside -----------------------------
+
+abbrev pub IsReceiverOf : Board → CopyReceiver → Type 0
+IsReceiverOf board r = IsRawOf board r.receiver
+
+abbrev pub receiver_seat : CopyReceiver → Sat
+receiver_seat r = raw_seat r.receiver
+
+abbrev pub receiver_view : CopyReceiver → View
+receiver_view r = raw_view r.receiver
+
+abbrev pub subscribed_at : CopyReceiver → ℕ
+subscribed_at r = raw_subscribed_at r.receiver
+
+-- the messages that it copied
+abbrev pub copies_of : CopyReceiver → List Taken
+copies_of r = answered_by r.receiver
+
+abbrev pub stands_at : CopyReceiver → ℕ
+stands_at r = raw_stands_at r.receiver
+
+abbrev pub lapped_count_of : CopyReceiver → ℕ
+lapped_count_of r = raw_lapped_count_of r.receiver
+
+-- what a call of `receive` answered and did
+abbrev pub Received : CopyReceiver → CopyReceiver → Result (Option Copied) Lapped → Type 0
+Received old new result = MatchResult result
+    (λ o. MatchOption o (GotNothing (receiver_seat old) (receiver_seat new))
+    (λ c. GotCopy c.place c.type_id c.body.now (receiver_seat old) (receiver_seat new)))
+    (λ l. GotLapped l (receiver_seat old) (receiver_seat new))

@@ -91,20 +91,6 @@ pub struct BoardCloseRefused {
     pub transmitter: Transmitter,
 }
 
-/// A receiver that copies each message out and validates the copy. It is used by one thread at a time, and may move
-/// between threads. One that is let go keeps its share, and with it the board from closing, for good.
-#[derive(Drop)]
-pub struct CopyReceiver {
-    pub(crate) seat: BoardSeat,
-    pub(crate) place: u64,
-    pub(crate) count: u64,
-    pub(crate) scratch: Vec<u8>,
-    ghost rests: { (seat.me.0.stage ≡ Resting) × (seat.me.1 ≡ []) },
-    ghost stands: { (seat.me.0.at ≡ place) × (place ≤ max_position) × (seat.me.0.count ≡ count) },
-    ghost held: { seat.me.0.shares ≡ 1 },
-    ghost room: { vec_len scratch ≡ seat.me.0.capacity / 8 },
-}
-
 /// A receiver that answers records unread. Their bodies are loaded, and validated, when its user asks. It is used by
 /// one thread at a time, and may move between threads. One that is let go keeps the board from closing for good.
 #[derive(Drop)]
@@ -115,6 +101,16 @@ pub struct Receiver {
     ghost rests: { (seat.me.0.stage ≡ Resting) × (seat.me.1 ≡ []) },
     ghost stands: { (seat.me.0.at ≡ place) × (place ≤ max_position) × (seat.me.0.count ≡ count) },
     ghost held: { seat.me.0.shares ≡ 1 },
+}
+
+/// A receiver that copies each message out and validates the copy. It is used by one thread at a time, and may move
+/// between threads. One that is let go keeps its share, and with it the board from closing, for good.
+#[derive(Drop)]
+pub struct CopyReceiver {
+    // Seat, place and count are those of a raw receiver.
+    pub(crate) receiver: Receiver,
+    pub(crate) scratch: Vec<u8>,
+    ghost room: { vec_len scratch ≡ receiver.seat.me.0.capacity / 8 },
 }
 
 /// A record that a raw receiver answered unread.

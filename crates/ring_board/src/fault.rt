@@ -1,63 +1,93 @@
 //! Why a call refuses.
-use thiserror::Error;
+ghost use Rattle.std.specs.Prelude.{◌≡◌, pos};
+ghost use Rattle.ring_board.specs.Refusals.{subscribe_code, transmit_code};
 
-/// Why a board could not be made.
-#[derive(Clone, Copy, Debug, PartialEq, Eq, Error)]
-pub enum MakeFault {
-    /// The capacity is no power of two from 256 to 2^24.
-    #[error("1 BadCapacity")]
-    BadCapacity,
-    /// The start is no multiple of the capacity, or above 2^62.
-    #[error("2 BadStart")]
-    BadStart,
-    /// There was no memory.
-    #[error("3 OutOfMemory")]
-    OutOfMemory,
-}
+use ring_layout::refusal_codes::{
+    BAD_TYPE, LAPPED, NO_SHARES, OUT_OF_MEMORY, POSITION_LIMIT, RECEIVERS_OUT, TOO_LONG,
+};
+use thiserror::Error;
 
 /// Why a message was not transmitted.
 #[derive(Clone, Copy, Debug, PartialEq, Eq, Error)]
 pub enum TransmitFault {
     /// The type id is below 1.
-    #[error("4 BadType {type_id}")]
+    #[error("{} BadType {type_id}", self.code())]
     BadType { type_id: i32 },
     /// The body has more than an eighth of the capacity, in bytes.
-    #[error("5 TooLong {len} max {max}")]
+    #[error("{} TooLong {len} max {max}", self.code())]
     TooLong { len: usize, max: u32 },
     /// The record would end above 2^62. The transmitter's tail is here.
-    #[error("6 PositionLimit tail {tail}")]
+    #[error("{} PositionLimit tail {tail}", self.code())]
     PositionLimit { tail: u64 },
 }
 
-/// The transmitter has one share left, and needs it.
-#[derive(Clone, Copy, Debug, PartialEq, Eq, Error)]
-#[error("12 NoShares")]
-pub struct NoShares;
+impl TransmitFault {
+    /// The number of the refusal.
+    pub fn code(self) -> i32
+        ensures { result ≡ transmit_code self }
+    {
+        match self {
+            TransmitFault::BadType { type_id: _ } => BAD_TYPE,
+            TransmitFault::TooLong { len: _, max: _ } => TOO_LONG,
+            TransmitFault::PositionLimit { tail: _ } => POSITION_LIMIT,
+        }
+    }
+}
 
 /// Why a copying receiver was not made.
 #[derive(Clone, Copy, Debug, PartialEq, Eq, Error)]
 pub enum SubscribeFault {
     /// The transmitter has one share left, and needs it.
-    #[error("12 NoShares")]
+    #[error("{} NoShares", self.code())]
     NoShares,
     /// There was no memory.
-    #[error("3 OutOfMemory")]
+    #[error("{} OutOfMemory", self.code())]
     OutOfMemory,
+}
+
+impl SubscribeFault {
+    /// The number of the refusal.
+    pub fn code(self) -> i32
+        ensures { result ≡ subscribe_code self }
+    {
+        match self {
+            SubscribeFault::NoShares => NO_SHARES,
+            SubscribeFault::OutOfMemory => OUT_OF_MEMORY,
+        }
+    }
 }
 
 /// The receiver was lapped: so often by now, at this place, as this intent showed. The bytes that it passed over are
 /// its own `place` after the call less this one.
 #[derive(Clone, Copy, Debug, PartialEq, Eq, Error)]
-#[error("13 Lapped {count} place {place} intent {intent}")]
+#[error("{} Lapped {count} place {place} intent {intent}", self.code())]
 pub struct Lapped {
     pub count: u64,
     pub place: u64,
     pub intent: u64,
 }
 
+impl Lapped {
+    /// The number of the refusal.
+    pub fn code(self) -> i32
+        ensures { result ≡ pos 13 }
+    {
+        LAPPED
+    }
+}
+
 /// So many shares are with receivers.
 #[derive(Clone, Copy, Debug, PartialEq, Eq, Error)]
-#[error("14 ReceiversOut {receivers}")]
+#[error("{} ReceiversOut {receivers}", self.code())]
 pub struct ReceiversOut {
     pub receivers: u32,
+}
+
+impl ReceiversOut {
+    /// The number of the refusal.
+    pub fn code(self) -> i32
+        ensures { result ≡ pos 14 }
+    {
+        RECEIVERS_OUT
+    }
 }

@@ -13,5 +13,6 @@ pub use board::{
     BeginRefused, Begun, Board, BoardCloseRefused, ClosedBoard, Copied, CopyReceiver, Filled,
     RawRecord, Receiver, Transmitter,
 };
-pub use fault::{Lapped, MakeFault, NoShares, ReceiversOut, SubscribeFault, TransmitFault};
+pub use fault::{Lapped, ReceiversOut, SubscribeFault, TransmitFault};
 pub use laws::{loaded_stays_loaded, runs_stay_runs};
+pub use ring_layout::{MakeFault, NoShares};

@@ -1,34 +1,22 @@
 //! A board, from its making to its close.
 ghost use Rattle.std.specs.Prelude.{◌≡◌, ℕ, ◌+◌, ◌/◌, ◌%◌, ◌<◌, ◌≤◌, slice_index, slice_get, vec_len, IfOk};
 ghost use Rattle.std.specs.Slots.{slots_items, slots_len, IsFull};
-ghost use Rattle.ring_layout.specs.Places.{max_position};
-ghost use Rattle.ring_board.specs.Layout.{is_board_capacity, IsBoardCapacity, intent_index, tail_index, latest_index};
-ghost use Rattle.ring_board.specs.Refusals.{make_refusal_of, IsMadeUnless, IsRefusedAs};
+ghost use Rattle.ring_layout.specs.Places.{is_board_capacity, max_position, IsBoardCapacity};
+ghost use Rattle.ring_layout.specs.Refusals.{make_refusal_of, IsMadeUnless, IsRefusedAs};
+ghost use Rattle.ring_board.specs.Layout.{intent_index, tail_index, latest_index};
 ghost use Rattle.ring_board.specs.Runs.{AreAllRuns};
 ghost use Rattle.ring_board.specs.Seats.{capacity_of, start_of, heard_by, IsNewAt, shares_of, transmitted, IsTransmitterOf};
 ghost use Rattle.ring_board.specs.Closing.{IsClosed, closed_words, closed_capacity, close_refusal_of, kept_open};
 
 use crate::board::{Board, BoardCloseRefused, ClosedBoard, Transmitter};
-use crate::fault::{MakeFault, ReceiversOut};
+use crate::fault::ReceiversOut;
 use crate::shared::view::Shape;
 use atomic_table::{Closed, Table};
 use ring_layout::broadcast_buffer_descriptor::{
-    LATEST_COUNTER_WORD, MAX_CAPACITY, MIN_CAPACITY, TAIL_COUNTER_WORD, TAIL_INTENT_COUNTER_WORD,
-    TRAILER_WORDS,
+    LATEST_COUNTER_WORD, TAIL_COUNTER_WORD, TAIL_INTENT_COUNTER_WORD, TRAILER_WORDS,
 };
-use ring_layout::max_message;
-use ring_layout::ring_buffer_descriptor::MAX_POSITION;
+use ring_layout::{ALL_SHARES, MakeFault, check_board, max_message};
 use std::alloc::{AllocError, Global};
-
-/// The shares of a board.
-const ALL_SHARES: u32 = 1 << 16;
-
-/// Tests whether a board may have this capacity: a power of two from 256 to 2^24.
-fn is_board_capacity(capacity: u32) -> bool
-    ensures { result ≡ is_board_capacity capacity }
-{
-    capacity.is_power_of_two() && capacity >= MIN_CAPACITY && capacity <= MAX_CAPACITY
-}
 
 /// Copies the words of a table that was closed.
 fn copy_words(closed: &Closed<(), Global>, words: &mut Vec<u64>)
@@ -46,7 +34,7 @@ impl Board {
     /// Makes a board that starts at position 0, with its transmitter, which holds all shares. The refusals are those of
     /// `new_at`.
     pub fn new(alloc: Global, capacity: u32) -> Result<(Board, Transmitter), MakeFault>
-        ensures refused { IsMadeUnless (make_refusal_of capacity 0) result }
+        ensures refused { IsMadeUnless (make_refusal_of (is_board_capacity capacity) capacity 0) result }
         ensures board { IfOk result (λ made. (capacity_of made.0 ≡ capacity) × (start_of made.0 ≡ 0)) }
         ensures transmitter { IfOk result (IsNewAt capacity 0) }
     {
@@ -61,16 +49,11 @@ impl Board {
         capacity: u32,
         start: u64,
     ) -> Result<(Board, Transmitter), MakeFault>
-        ensures refused { IsMadeUnless (make_refusal_of capacity start) result }
+        ensures refused { IsMadeUnless (make_refusal_of (is_board_capacity capacity) capacity start) result }
         ensures board { IfOk result (λ made. (capacity_of made.0 ≡ capacity) × (start_of made.0 ≡ start)) }
         ensures transmitter { IfOk result (IsNewAt capacity start) }
     {
-        if !is_board_capacity(capacity) {
-            return Err(MakeFault::BadCapacity);
-        }
-        if start % u64::from(capacity) != 0 || start > MAX_POSITION {
-            return Err(MakeFault::BadStart);
-        }
+        check_board(capacity, start)?;
         Board::make(alloc, capacity, start).map_err(|_| MakeFault::OutOfMemory)
     }
 

@@ -4,28 +4,18 @@ use Rattle.std.specs.Prelude.{◌≡◌, ◌⊎◌, ℕ, ◌/◌, ◌<◌, ◌�
 use Rattle.atomic_table.specs.Seated.{TableId}
 use Rattle.ring_layout.specs.History.{overwritten}
 use Rattle.ring_board.specs.declared.board.Board.{Board}
-use Rattle.ring_board.specs.declared.fault.MakeFault.{MakeFault}
-use Rattle.ring_board.specs.declared.fault.MakeFault.TheVariants.{BadCapacity, BadStart, OutOfMemory}
-use Rattle.ring_board.specs.declared.fault.TransmitFault.{TransmitFault}
-use Rattle.ring_board.specs.declared.fault.TransmitFault.TheVariants.{BadType, TooLong, PositionLimit}
 use Rattle.ring_board.specs.declared.fault.SubscribeFault.TheVariants.{NoShares}
 use Rattle.ring_board.specs.declared.fault.Lapped.{Lapped}
 use Rattle.ring_board.specs.declared.shared.view.View.{View}
 use Rattle.ring_board.specs.Receiving.{GotCopy, GotLapped, GotNothing}
 use Rattle.ring_board.specs.Records.{end_of}
-use Rattle.ring_board.specs.Refusals.{subscribe_refusal_of, transmit_refusal_of}
+use Rattle.ring_board.specs.Refusals.{subscribe_refusal_of, transmit_code, transmit_refusal_of}
 use Rattle.ring_board.specs.Seats.{next_record}
 use Rattle.ring_board.specs.Steps.{Sat, fewer, newcomer, sent_on}
 
 -- which board it is
 abbrev pub table_of : Board → TableId
 table_of board = board.table.shared.table_id
-
--- the code of a board that was not made
-abbrev pub make_code : MakeFault → ℤ
-make_code BadCapacity = pos 1
-make_code BadStart = pos 2
-make_code OutOfMemory = pos 3
 
 -- Transmitting -------------------------------------------------------------------
 
@@ -44,12 +34,6 @@ knowing v p = record p { view = v }
 -- where the last transmission ended
 abbrev pub tail_in : Sending → ℕ
 tail_in p = end_of p.view.start p.view.sent
-
--- the code of a message that is not transmitted
-abbrev pub transmit_code : TransmitFault → ℤ
-transmit_code (BadType _) = pos 4
-transmit_code (TooLong _ _) = pos 5
-transmit_code (PositionLimit _) = pos 6
 
 -- a message was appended to the transmitted list, or refused with the refusal's code, and nothing changed
 abbrev pub Transmitted : ℤ → List ℕ → Sending → Sending → ℤ → Type 0

@@ -2,32 +2,12 @@
 use Rattle.std.specs.Prelude.{◌≡◌, ◌≢◌, ◌⊎◌, ◌<◌, ◌≤◌, ◌^◌, ℕ, ℤ, pos, List, [], ◌∷◌, ◌++◌, length, Some, None, Ok, Err}
 use Rattle.ring_layout.specs.History.{overwritten}
 use Rattle.ring_counters.specs.declared.fault.AllocateRefused.{AllocateRefused}
-use Rattle.ring_counters.specs.declared.fault.AllocateRefused.TheVariants.{KeyTooLong, LabelTooLong, LabelNotAscii, NoFreeCounter}
 use Rattle.ring_counters.specs.declared.fault.IdFault.{IdFault}
-use Rattle.ring_counters.specs.declared.fault.IdFault.TheVariants.{BadId, NotAllocated}
-use Rattle.ring_counters.specs.declared.fault.MakeFault.{MakeFault}
-use Rattle.ring_counters.specs.declared.fault.MakeFault.TheVariants.{BadCount, OutOfMemory}
+use Rattle.ring_counters.specs.Codes.{allocate_code, id_code}
 use Rattle.ring_counters.specs.Manager.{registry_of, writes_of}
 use Rattle.ring_counters.specs.Registry.{Registry, allocated_in, allocation_of, answer, closed_in, counter_at, count_of, id_refusal_of, new_counter, owned_ids, reclaimed_in, registered_id, value_at, value_plus, with_value}
 use Rattle.ring_counters.specs.Views.{value_write}
 use Rattle.ring_c.specs.declared.counters.CountersSide.{CountersSide}
-
--- the code of counters that are not made
-abbrev pub make_code : MakeFault → ℤ
-make_code BadCount = pos 15
-make_code OutOfMemory = pos 3
-
--- the code of an id that is refused
-abbrev pub id_code : IdFault → ℤ
-id_code BadId = pos 20
-id_code NotAllocated = pos 21
-
--- the code of a counter that is not allocated
-abbrev pub allocate_code : AllocateRefused → ℤ
-allocate_code KeyTooLong = pos 16
-allocate_code LabelTooLong = pos 17
-allocate_code LabelNotAscii = pos 18
-allocate_code NoFreeCounter = pos 19
 
 -- the id is refused, and nothing changed
 pub record IdRefused {T : Type 0} (asked : T) (id : ℕ) (c d : CountersSide) (code : ℤ) : Type 0 where

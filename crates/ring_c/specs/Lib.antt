@@ -1,6 +1,5 @@
 pub mod Batch
 pub mod Boards
-pub mod Codes
 pub mod Consuming
 pub mod Copying
 pub mod Counting

@@ -14,7 +14,8 @@ use Rattle.ring_table.specs.Views.{producer_alone, with_claims, without_share}
 use Rattle.ring_rings.specs.Bodies.{PutsBytes}
 use Rattle.ring_rings.specs.Claiming.{Claims, ClaimsAlone, RefusesAlone, RefusesTry, Writes, WritesAlone}
 use Rattle.ring_rings.specs.Joining.{Joins, LoadsPositions}
-use Rattle.ring_c.specs.Codes.{claim_code, try_code}
+use Rattle.ring_words.specs.Refusal.{claim_code}
+use Rattle.ring_rings.specs.Claiming.{try_code}
 use Rattle.ring_c.specs.Side.{Side, knowing}
 
 -- it was refused with this number, and nothing changed

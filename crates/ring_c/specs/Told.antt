@@ -2,20 +2,18 @@
 use Rattle.std.specs.Prelude.{◌≡◌, ◌≢◌, ◌⊎◌, ℕ, ℤ, pos, [], MatchOption, Bool}
 use Rattle.std.specs.declared.option.Option.{Option}
 use Rattle.std.specs.declared.option.Option.TheVariants.{None, Some}
-use Rattle.ring_words.specs.Fresh.{make_refusal_of}
+use Rattle.ring_layout.specs.Places.{is_board_capacity, is_capacity}
+use Rattle.ring_layout.specs.Refusals.{make_code, make_refusal_of}
 use Rattle.ring_table.specs.declared.view.View.{View}
 use Rattle.ring_rings.specs.Opening.{first_consumer, first_producer}
-use Rattle.ring_board.specs.Refusals.{make_refusal_of as board_refusal_of}
 use Rattle.ring_board.specs.Rule.{opening_view}
 use Rattle.ring_counters.specs.Manager.{registry_of, shares_of, writes_of}
 use Rattle.ring_counters.specs.Registry.{fresh_registry}
 use Rattle.ring_counters.specs.Registry.{make_refusal_of as counters_refusal_of}
-use Rattle.ring_c.specs.Codes.{make_code}
-use Rattle.ring_c.specs.Counting.{make_code as counters_code}
+use Rattle.ring_counters.specs.Codes.{make_code as counters_code}
 use Rattle.ring_c.specs.declared.counters.CountersSide.{CountersSide}
 use Rattle.ring_c.specs.declared.counters.ReaderSide.{ReaderSide}
 use Rattle.ring_c.specs.Boards.{Listening, Sending}
-use Rattle.ring_c.specs.Boards.{make_code as board_code}
 use Rattle.ring_c.specs.Producing.{Closes, IsApart, TakesIn}
 use Rattle.ring_c.specs.Side.{Reading, Side}
 use Rattle.ring_c.specs.declared.held.Held.{Held}
@@ -67,7 +65,7 @@ ClosesHeld h k = MatchOption (a_producer h) (k ≡ h) (λ p. MatchOption (a_prod
 -- a ring is refused with the refusal's code; where there is none it is made, unless memory is wanting
 abbrev pub IsMakeCode : ℕ → ℕ → ℤ → Type 0
 IsMakeCode C start code =
-    MatchOption (make_refusal_of C start) ((code ≡ pos 0) ⊎ (code ≡ pos 3)) (λ fault. code ≡ make_code fault)
+    MatchOption (make_refusal_of (is_capacity C) C start) ((code ≡ pos 0) ⊎ (code ≡ pos 3)) (λ fault. code ≡ make_code fault)
 
 -- a producer and the consumer of one ring, which know this
 pub record ArePaired (many : Bool) (C : ℕ) (v w : View) (p : Side) (c : Reading) : Type 0 where
@@ -108,7 +106,7 @@ GivesInto kind other Makes Keeps p o p' o' code = ((o ≢ None) × (code ≡ pos
 -- a board is refused with the refusal's code; where there is none it is made, unless memory is wanting
 abbrev pub IsBoardCode : ℕ → ℕ → ℤ → Type 0
 IsBoardCode C start code =
-    MatchOption (board_refusal_of C start) ((code ≡ pos 0) ⊎ (code ≡ pos 3)) (λ fault. code ≡ board_code fault)
+    MatchOption (make_refusal_of (is_board_capacity C) C start) ((code ≡ pos 0) ⊎ (code ≡ pos 3)) (λ fault. code ≡ make_code fault)
 
 -- the transmitter holds all shares of a board on which nothing was transmitted
 abbrev pub HoldNewBoard : ℕ → ℕ → Option Held → Type 0

@@ -2,11 +2,11 @@
 ghost use Rattle.std.specs.Prelude.{◌≡◌, length, take, IfErr, IfOk};
 ghost use Rattle.ring_layout.specs.History.{overwritten};
 ghost use Rattle.ring_board.specs.Seats.{receiver_seat, IsReceiverOf};
-ghost use Rattle.ring_c.specs.Boards.{heard, Hears, transmit_code, IsUnheard, Received, SaysLapped, Subscribes, Transmitted};
+ghost use Rattle.ring_c.specs.Boards.{heard, Hears, IsUnheard, Received, SaysLapped, Subscribes, Transmitted};
 
 use crate::code::{DONE, LAPPED, NO_MESSAGE, NO_SHARES, OUT_OF_MEMORY, SHORT_BUFFER};
 use crate::copying::copy_at;
-use ring_board::{Board, CopyReceiver, SubscribeFault, TransmitFault, Transmitter};
+use ring_board::{Board, CopyReceiver, SubscribeFault, Transmitter};
 use std::alloc::Global;
 use std::marker::Model;
 use std::sync::Arc;
@@ -59,17 +59,6 @@ impl Model for ReceiverSide {
     ghost invariant = { λ a. IsReceiverOf (arc_value a.board) a.receiver };
 }
 
-/// The code of a message that is not transmitted.
-fn code_of_transmit(fault: TransmitFault) -> i32
-    ensures { result ≡ transmit_code fault }
-{
-    match fault {
-        TransmitFault::BadType { type_id: _ } => 4,
-        TransmitFault::TooLong { len: _, max: _ } => 5,
-        TransmitFault::PositionLimit { tail: _ } => 6,
-    }
-}
-
 impl TransmitterSide {
     /// Transmits a message.
     pub(crate) fn transmit(&mut self, type_id: i32, body: &[u8]) -> i32
@@ -77,7 +66,7 @@ impl TransmitterSide {
     {
         match self.board.transmit(&mut self.transmitter, type_id, body) {
             Ok(()) => DONE,
-            Err(fault) => code_of_transmit(fault),
+            Err(fault) => fault.code(),
         }
     }
 

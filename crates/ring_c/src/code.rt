@@ -1,8 +1,4 @@
 //! The codes that exports answer.
-ghost use Rattle.std.specs.Prelude.{◌≡◌};
-ghost use Rattle.ring_c.specs.Codes.{claim_code, make_code, try_code};
-
-use ring_rings::{ClaimFault, MakeFault, TryFault};
 
 /// The call did what it says.
 pub(crate) const DONE: i32 = 0;
@@ -38,36 +34,3 @@ pub(crate) const SHORT_BUFFER: i32 = 106;
 pub(crate) const BAD_MOMENT: i32 = 107;
 /// The two handles are of two rings.
 pub(crate) const OTHER_RING: i32 = 108;
-
-/// The code of a refused claim.
-pub(crate) fn code_of_claim(fault: ClaimFault) -> i32
-    ensures { result ≡ claim_code fault }
-{
-    match fault {
-        ClaimFault::BadType { type_id: _ } => 4,
-        ClaimFault::TooLong { len: _, max: _ } => 5,
-        ClaimFault::PositionLimit { tail: _ } => 6,
-        ClaimFault::InsufficientCapacity { tail: _, head: _ } => 7,
-    }
-}
-
-/// The code of a refused try.
-pub(crate) fn code_of_try(fault: TryFault) -> i32
-    ensures { result ≡ try_code fault }
-{
-    match fault {
-        TryFault::Refused(fault) => code_of_claim(fault),
-        TryFault::Contended { tail: _, seen: _ } => 8,
-    }
-}
-
-/// The code of a ring that was not made.
-pub(crate) fn code_of_make(fault: MakeFault) -> i32
-    ensures { result ≡ make_code fault }
-{
-    match fault {
-        MakeFault::BadCapacity => 1,
-        MakeFault::BadStart => 2,
-        MakeFault::OutOfMemory => OUT_OF_MEMORY,
-    }
-}

@@ -1,38 +1,15 @@
 //! What a handle's counters do.
 ghost use Rattle.std.specs.Prelude.{◌≡◌};
 ghost use Rattle.ring_counters.specs.Registry.{counter_at};
-ghost use Rattle.ring_c.specs.Counting.{Asked, OwnerClosed, SaysKey, SaysLabel, WasAdded, WasAllocated, WasCounted, WasFound, WasFreed, WasSet, allocate_code, id_code};
+ghost use Rattle.ring_c.specs.Counting.{Asked, OwnerClosed, SaysKey, SaysLabel, WasAdded, WasAllocated, WasCounted, WasFound, WasFreed, WasSet};
 
-use crate::code::{BAD_ID, BAD_MOMENT, BAD_OWNER, DONE, NOT_ALLOCATED, SHORT_BUFFER};
+use crate::code::{BAD_MOMENT, BAD_OWNER, DONE, NOT_ALLOCATED, SHORT_BUFFER};
 use crate::copying::copy_at;
 use crate::counters::CountersSide;
-use ring_counters::{AllocateRefused, IdFault};
 use ring_layout::counter_descriptor::{MAX_KEY_LENGTH, MAX_LABEL_LENGTH};
 
 /// The greatest moment, in milliseconds.
 const LAST_MOMENT: u64 = 1 << 62;
-
-/// The code of an id that is refused.
-fn code_of_id(fault: IdFault) -> i32
-    ensures { result ≡ id_code fault }
-{
-    match fault {
-        IdFault::BadId => BAD_ID,
-        IdFault::NotAllocated => NOT_ALLOCATED,
-    }
-}
-
-/// The code of a counter that is not allocated.
-fn code_of_allocate(fault: AllocateRefused) -> i32
-    ensures { result ≡ allocate_code fault }
-{
-    match fault {
-        AllocateRefused::KeyTooLong => 16,
-        AllocateRefused::LabelTooLong => 17,
-        AllocateRefused::LabelNotAscii => 18,
-        AllocateRefused::NoFreeCounter => 19,
-    }
-}
 
 /// What a counter is allocated with.
 #[derive(Drop)]
@@ -65,7 +42,7 @@ impl CountersSide {
                 *id = made;
                 DONE
             }
-            Err(fault) => code_of_allocate(fault),
+            Err(fault) => fault.code(),
         }
     }
 
@@ -75,7 +52,7 @@ impl CountersSide {
     {
         match self.manager.set(&self.values, id, value) {
             Ok(()) => DONE,
-            Err(fault) => code_of_id(fault),
+            Err(fault) => fault.code(),
         }
     }
 
@@ -88,7 +65,7 @@ impl CountersSide {
                 *before = value;
                 DONE
             }
-            Err(fault) => code_of_id(fault),
+            Err(fault) => fault.code(),
         }
     }
 
@@ -101,7 +78,7 @@ impl CountersSide {
         }
         match self.manager.free(now, id) {
             Ok(()) => DONE,
-            Err(fault) => code_of_id(fault),
+            Err(fault) => fault.code(),
         }
     }
 
@@ -151,7 +128,7 @@ impl CountersSide {
                 *value = answer;
                 DONE
             }
-            Err(fault) => code_of_id(fault),
+            Err(fault) => fault.code(),
         }
     }
 
@@ -164,7 +141,7 @@ impl CountersSide {
                 *type_id = answer;
                 DONE
             }
-            Err(fault) => code_of_id(fault),
+            Err(fault) => fault.code(),
         }
     }
 
@@ -178,7 +155,7 @@ impl CountersSide {
                 *registration = answer;
                 DONE
             }
-            Err(fault) => code_of_id(fault),
+            Err(fault) => fault.code(),
         }
     }
 
@@ -196,7 +173,7 @@ impl CountersSide {
                 copy_at(buffer, 0, &label[..found]);
                 DONE
             }
-            Err(fault) => code_of_id(fault),
+            Err(fault) => fault.code(),
         }
     }
 
@@ -213,7 +190,7 @@ impl CountersSide {
                 copy_at(buffer, 0, &key);
                 DONE
             }
-            Err(fault) => code_of_id(fault),
+            Err(fault) => fault.code(),
         }
     }
 
@@ -226,7 +203,7 @@ impl CountersSide {
                 *owner = answer;
                 DONE
             }
-            Err(fault) => code_of_id(fault),
+            Err(fault) => fault.code(),
         }
     }
 }

@@ -5,7 +5,6 @@ ghost use Rattle.ring_c.specs.Producing.{Claimed, Closes, Counted, Drew, HeardBe
 
 use crate::code::{
     CLAIM_OPEN, DONE, NO_CLAIM, NO_SHARES, OTHER_RING, OUT_OF_MEMORY, PUT_RANGE, WRONG_HANDLE,
-    code_of_claim, code_of_try,
 };
 use crate::ring::AnyRing;
 use ring_rings::{Claim, Producer};
@@ -47,11 +46,11 @@ impl ProducerSide {
         match &self.ring {
             AnyRing::Many(ring) => match ring.write_once(&mut self.producer, type_id, body) {
                 Ok(()) => DONE,
-                Err(fault) => code_of_try(fault),
+                Err(fault) => fault.code(),
             },
             AnyRing::One(ring) => match ring.write(&mut self.producer, type_id, body) {
                 Ok(()) => DONE,
-                Err(fault) => code_of_claim(fault),
+                Err(fault) => fault.code(),
             },
         }
     }
@@ -70,7 +69,7 @@ impl ProducerSide {
                     self.claim = Some(claim);
                     DONE
                 }
-                Err(fault) => code_of_try(fault),
+                Err(fault) => fault.code(),
             },
             AnyRing::One(ring) => match ring.claim(&mut self.producer, type_id, len) {
                 Ok(claim) => {
@@ -78,7 +77,7 @@ impl ProducerSide {
                     self.claim = Some(claim);
                     DONE
                 }
-                Err(fault) => code_of_claim(fault),
+                Err(fault) => fault.code(),
             },
         }
     }

@@ -12,7 +12,8 @@ use Rattle.ring_protocol.specs.declared.reply.Reply.{Reply}
 use Rattle.ring_protocol.specs.declared.reply.Reply.TheVariants.{Allocated, Done, Refused, Closed}
 use Rattle.ring_protocol.specs.Command.{Instruction, Allocate, Free, Set, AllocateOwned, Close}
 use Rattle.ring_protocol.specs.Reading.{command_of}
-use Rattle.ring_protocol.specs.Codes.{allocate_code, id_code, bad_code, bad_correlation, bad_owner_code}
+use Rattle.ring_counters.specs.Codes.{allocate_code, id_code}
+use Rattle.ring_protocol.specs.Codes.{bad_code, bad_correlation, bad_owner_code}
 
 -- the counters afterwards, the values that were written, and the reply
 pub record Outcome : Type 0 where

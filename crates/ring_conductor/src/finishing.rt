@@ -14,11 +14,9 @@ use crate::conductor::Conductor;
 use crate::finishing::fault::{FinishFault, FinishRefused};
 use ring_board::{Board, ClosedBoard};
 use ring_counters::{CounterValues, CountersManager};
+use ring_layout::ALL_SHARES;
 use ring_rings::{CommandSource, Producer};
 use ring_words::SoloRing;
-
-/// The shares of a ring, and of a board.
-const ALL_SHARES: u32 = 65536;
 
 /// What a conductor hands out.
 #[derive(Drop)]

@@ -1,6 +1,7 @@
 pub mod Counter
 pub mod Records
 pub mod Registry
+pub mod Codes
 pub mod Allocating
 pub mod Kept
 pub mod Views

@@ -1,61 +1,128 @@
 //! Why a call refuses.
+ghost use Rattle.std.specs.Prelude.{◌≡◌, pos};
+ghost use Rattle.ring_counters.specs.Codes.{allocate_code, id_code, make_code};
+
+use ring_layout::refusal_codes::{
+    BAD_COUNT, BAD_ID, BAD_OWNER, KEY_TOO_LONG, LABEL_NOT_ASCII, LABEL_TOO_LONG, NO_FREE_COUNTER,
+    NOT_ALLOCATED, OUT_OF_MEMORY,
+};
 use thiserror::Error;
 
 /// Why no counters could be made.
 #[derive(Clone, Copy, Debug, PartialEq, Eq, Error)]
 pub enum MakeFault {
     /// The number of counters is 0 or above 4,096.
-    #[error("15 BadCount")]
+    #[error("{} BadCount", self.code())]
     BadCount,
     /// There is not enough memory.
-    #[error("3 OutOfMemory")]
+    #[error("{} OutOfMemory", self.code())]
     OutOfMemory,
+}
+
+impl MakeFault {
+    /// The number of the refusal.
+    pub fn code(self) -> i32
+        ensures { result ≡ make_code self }
+    {
+        match self {
+            MakeFault::BadCount => BAD_COUNT,
+            MakeFault::OutOfMemory => OUT_OF_MEMORY,
+        }
+    }
 }
 
 /// Why no counter was allocated.
 #[derive(Clone, Copy, Debug, PartialEq, Eq, Error)]
 pub enum AllocateRefused {
     /// The key has more than 112 bytes.
-    #[error("16 KeyTooLong")]
+    #[error("{} KeyTooLong", self.code())]
     KeyTooLong,
     /// The label has more than 380 bytes.
-    #[error("17 LabelTooLong")]
+    #[error("{} LabelTooLong", self.code())]
     LabelTooLong,
     /// The label has a byte of 128 or more.
-    #[error("18 LabelNotAscii")]
+    #[error("{} LabelNotAscii", self.code())]
     LabelNotAscii,
     /// Every id was used, and none that was freed is due.
-    #[error("19 NoFreeCounter")]
+    #[error("{} NoFreeCounter", self.code())]
     NoFreeCounter,
+}
+
+impl AllocateRefused {
+    /// The number of the refusal.
+    pub fn code(self) -> i32
+        ensures { result ≡ allocate_code self }
+    {
+        match self {
+            AllocateRefused::KeyTooLong => KEY_TOO_LONG,
+            AllocateRefused::LabelTooLong => LABEL_TOO_LONG,
+            AllocateRefused::LabelNotAscii => LABEL_NOT_ASCII,
+            AllocateRefused::NoFreeCounter => NO_FREE_COUNTER,
+        }
+    }
 }
 
 /// Why an id is refused.
 #[derive(Clone, Copy, Debug, PartialEq, Eq, Error)]
 pub enum IdFault {
     /// The id is not below the number of counters.
-    #[error("20 BadId")]
+    #[error("{} BadId", self.code())]
     BadId,
     /// No counter with this id is in use.
-    #[error("21 NotAllocated")]
+    #[error("{} NotAllocated", self.code())]
     NotAllocated,
+}
+
+impl IdFault {
+    /// The number of the refusal.
+    pub fn code(self) -> i32
+        ensures { result ≡ id_code self }
+    {
+        match self {
+            IdFault::BadId => BAD_ID,
+            IdFault::NotAllocated => NOT_ALLOCATED,
+        }
+    }
 }
 
 /// The id is not below the number of counters.
 #[derive(Clone, Copy, Debug, PartialEq, Eq, Error)]
-#[error("20 BadId")]
+#[error("{} BadId", self.code())]
 pub struct BadId;
+
+impl BadId {
+    /// The number of the refusal.
+    pub fn code(self) -> i32
+        ensures { result ≡ pos 20 }
+    {
+        BAD_ID
+    }
+}
 
 /// The owner is 0, which stands for none.
 #[derive(Clone, Copy, Debug, PartialEq, Eq, Error)]
-#[error("28 BadOwner")]
+#[error("{} BadOwner", self.code())]
 pub struct BadOwner;
 
-/// All shares but one are with readers.
-#[derive(Clone, Copy, Debug, PartialEq, Eq, Error)]
-#[error("12 NoShares")]
-pub struct NoShares;
+impl BadOwner {
+    /// The number of the refusal.
+    pub fn code(self) -> i32
+        ensures { result ≡ pos 28 }
+    {
+        BAD_OWNER
+    }
+}
 
 /// There is not enough memory.
 #[derive(Clone, Copy, Debug, PartialEq, Eq, Error)]
-#[error("3 OutOfMemory")]
+#[error("{} OutOfMemory", self.code())]
 pub struct OutOfMemory;
+
+impl OutOfMemory {
+    /// The number of the refusal.
+    pub fn code(self) -> i32
+        ensures { result ≡ pos 3 }
+    {
+        OUT_OF_MEMORY
+    }
+}

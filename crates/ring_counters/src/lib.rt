@@ -9,8 +9,9 @@ mod records;
 mod values;
 
 pub use calls::list::{LiveCounter, LiveCounters};
-pub use fault::{AllocateRefused, BadId, BadOwner, IdFault, MakeFault, NoShares, OutOfMemory};
+pub use fault::{AllocateRefused, BadId, BadOwner, IdFault, MakeFault, OutOfMemory};
 pub use info::CounterInfo;
 pub use manager::CountersManager;
+pub use ring_layout::NoShares;
 pub use values::rule::{ValueLoad, ValueWrite, ValuesView};
 pub use values::seats::{CounterValues, ValueReader};

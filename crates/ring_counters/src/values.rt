@@ -9,14 +9,12 @@ ghost use Rattle.ring_counters.specs.ValueWrites.{value_after, Begins, AreLoads}
 ghost use Rattle.ring_counters.specs.Seats.{IsReaderOf, IsWriterOf, loads_of, made_of, seen_by};
 ghost use Rattle.ring_counters.specs.Seats.{values_count, writer_writes};
 
-use crate::fault::{BadId, NoShares};
+use crate::fault::BadId;
 use crate::values::rule::{CutReader, JoinReader, LearnLoads, LoadValue, StoreValue};
 use crate::values::seats::{CounterValues, ValueReader, ValueWriter};
 use atomic_table::Table;
+use ring_layout::{ALL_SHARES, NoShares, has_spare_share};
 use std::alloc::{AllocError, Global};
-
-/// The shares of the values, of which each reader has one.
-const SHARES: u32 = 65536;
 
 impl CounterValues {
     /// The values of `count` ids, all 0, and their writer.
@@ -35,7 +33,7 @@ impl CounterValues {
             CounterValues { table },
             ValueWriter {
                 seat,
-                shares: SHARES,
+                shares: ALL_SHARES,
             },
         ))
     }
@@ -90,7 +88,7 @@ impl CounterValues {
         ensures shares { IfOk result (λ _. writer.new.shares + 1 ≡ writer.old.shares) }
         ensures err { IfErr result (λ _. writer.new ≡ writer.old) }
     {
-        if writer.shares <= 1 {
+        if !has_spare_share(writer.shares) {
             return Err(NoShares);
         }
         let seat = self.table.shared.split_seat::<CutReader>(&mut writer.seat);

@@ -12,6 +12,15 @@ pub record IsCapacity (C : ℕ) : Type 0 where
   pub least : 128 ≤ C
   pub most : C ≤ 2 ^ 24
 
+-- a lawful capacity of a board: a power of two from 256 to 2^24
+abbrev pub is_board_capacity : ℕ → Bool
+is_board_capacity C = is_power_of_two C && nat_le 256 C && nat_le C (2 ^ 24)
+
+pub record IsBoardCapacity (C : ℕ) : Type 0 where
+  pub power : IsTrue (is_power_of_two C)
+  pub least : 256 ≤ C
+  pub most : C ≤ 2 ^ 24
+
 abbrev pub max_position : ℕ
 max_position = 2 ^ 62
 

@@ -1,5 +1,10 @@
--- What a result is where a refusal comes, or none does.
-use Rattle.std.specs.Prelude.{◌≡◌, Option, Result, Err, MatchOption, IsOk, IsOkUnless}
+-- Why a ring or a board is not made, and what a result is where a refusal comes, or none does.
+use Rattle.std.specs.Prelude.{◌≡◌, ℕ, ◌%◌, ◌^◌, ◌==◌, ◌||◌, Bool, not, nat_lt, if◌then◌else◌, ℤ, pos}
+use Rattle.std.specs.Prelude.{Option, Some, None, Result, Err, MatchOption, IsOk, IsOkUnless}
+use Rattle.ring_layout.specs.declared.make_fault.MakeFault.{MakeFault}
+use Rattle.ring_layout.specs.declared.make_fault.MakeFault.TheVariants.{BadCapacity, BadStart, OutOfMemory}
+use Rattle.ring_layout.specs.declared.share.NoShares.{NoShares}
+use Rattle.ring_layout.specs.Places.{max_position}
 
 -- the result is the refusal, or Ok where there is none
 abbrev pub IsRefusedBy : {T F : Type 0} → Option F → Result T F → Type 0
@@ -12,3 +17,28 @@ IsRefusedAs error refusal result = MatchOption refusal (IsOk result) (λ fault. 
 -- the result is the refusal; where there is none it is Ok, or this fault, as that memory is wanting
 abbrev pub IsRefusedOr : {T F : Type 0} → F → Option F → Result T F → Type 0
 IsRefusedOr lack refusal result = MatchOption refusal (IsOkUnless result lack) (λ fault. result ≡ Err fault)
+
+-- why a buffer of C bytes is not made that starts here, where its kind may have the capacity or not
+abbrev pub make_refusal_of : Bool → ℕ → ℕ → Option MakeFault
+make_refusal_of lawful C start =
+    if not lawful then Some BadCapacity
+    else (if not (start % C == 0) || nat_lt max_position start then Some BadStart
+    else None)
+
+-- the result is the refusal; where there is none it is Ok, unless memory is wanting
+abbrev pub IsMadeUnless : {T : Type 0} → Option MakeFault → Result T MakeFault → Type 0
+IsMadeUnless refusal result = IsRefusedOr OutOfMemory refusal result
+
+-- the number of what is not made
+abbrev pub make_code : MakeFault → ℤ
+make_code BadCapacity = pos 1
+make_code BadStart = pos 2
+make_code OutOfMemory = pos 3
+
+-- the shares that there are
+abbrev pub all_shares : ℕ
+all_shares = 2 ^ 16
+
+-- why none of so many shares is given away
+abbrev pub share_refusal_of : ℕ → Option NoShares
+share_refusal_of shares = if nat_lt 1 shares then None else Some record {}

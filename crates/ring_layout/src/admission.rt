@@ -5,7 +5,8 @@ ghost use Rattle.std.specs.Int.{is_power_of_two};
 ghost use Rattle.ring_layout.specs.History.{span};
 ghost use Rattle.ring_layout.specs.Places.{IsCapacity, max_position, next_place, end_after, Fits};
 
-use crate::placement::{max_message, pad_and_span};
+use crate::capacity::max_message;
+use crate::placement::pad_and_span;
 use crate::ring_buffer_descriptor::MAX_POSITION;
 
 /// Where a record goes that comes next behind `tail`: it lies at `place`, behind padding where that is greater, and

@@ -1,26 +1,10 @@
 //! Where a record may go.
-ghost use Rattle.std.specs.Prelude.{◌≡◌, ◌+◌, ◌/◌, ◌%◌, ◌≤◌, ◌↔◌, IsTrue};
+ghost use Rattle.std.specs.Prelude.{◌≡◌, ◌+◌, ◌/◌, ◌%◌, ◌≤◌, IsTrue};
 ghost use Rattle.std.specs.Int.{is_power_of_two};
 ghost use Rattle.ring_layout.specs.History.{span};
-ghost use Rattle.ring_layout.specs.Places.{is_capacity, IsCapacity, index, max_position, next_place};
+ghost use Rattle.ring_layout.specs.Places.{index, max_position, next_place};
 
 use crate::record_descriptor;
-use crate::ring_buffer_descriptor::{MAX_CAPACITY, MIN_CAPACITY};
-
-/// Tests whether a ring may have this capacity: a power of two from 128 to 2^24.
-pub fn is_capacity(capacity: u32) -> bool
-    ensures test { result ≡ is_capacity capacity }
-    ensures lawful { IsTrue result ↔ IsCapacity capacity }
-{
-    capacity.is_power_of_two() && capacity >= MIN_CAPACITY && capacity <= MAX_CAPACITY
-}
-
-/// The most bytes of a message: an eighth of the capacity.
-pub fn max_message(capacity: u32) -> u32
-    ensures { result ≡ capacity / 8 }
-{
-    capacity / 8
-}
 
 /// The byte index of a position, in bytes, in a buffer whose capacity is a power of two.
 pub fn byte_index(capacity: u32, position: u64) -> u64

@@ -1,8 +1,9 @@
 //! The broadcast buffer of a run, with its numbered receivers.
 ghost use Rattle.std.specs.Prelude.{◌≡◌, ◌+◌, [], IfNone, IfOk, IfSome, OnErr, OnOk, OnSome, length};
+ghost use Rattle.ring_layout.specs.Places.{is_board_capacity};
+ghost use Rattle.ring_layout.specs.Refusals.{all_shares, make_refusal_of, IsMadeUnless, IsRefusedBy};
 ghost use Rattle.ring_board.specs.Closing.{IsClosed, closed_capacity, closed_words};
-ghost use Rattle.ring_board.specs.Refusals.{make_refusal_of, subscribe_refusal_of, transmit_refusal_of, IsMadeUnless, IsRefusedBy, IsSubscribedUnless};
-ghost use Rattle.ring_board.specs.Layout.{all_shares};
+ghost use Rattle.ring_board.specs.Refusals.{subscribe_refusal_of, transmit_refusal_of, IsSubscribedUnless};
 ghost use Rattle.ring_board.specs.Rule.{opening_view};
 ghost use Rattle.ring_board.specs.Runs.{AreAllRuns};
 ghost use Rattle.ring_board.specs.Seats.{capacity_of, next_record, shares_of, start_of, tail_of, transmitted, view_of};
@@ -85,7 +86,7 @@ fn join_receiver(
 impl LooseBoard {
     /// Makes an empty broadcast buffer.
     pub fn new(alloc: Global, capacity: u32) -> Result<Self, MakeFault>
-        ensures refused { IsMadeUnless (make_refusal_of capacity 0) result }
+        ensures refused { IsMadeUnless (make_refusal_of (is_board_capacity capacity) capacity 0) result }
         ensures board { IfOk result (λ made. (capacity_of made.board ≡ capacity) × (start_of made.board ≡ 0)) }
         ensures fresh { IfOk result (λ made. (view_of made.transmitter ≡ opening_view capacity 0)
             × (held_in made.receivers ≡ [])) }

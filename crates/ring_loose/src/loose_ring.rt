@@ -1,6 +1,8 @@
 //! The ring of a run, with its numbered claims.
 ghost use Rattle.std.specs.Prelude.{◌≡◌, ◌+◌, IfErr, IfNone, IfOk, IfSome, MatchOption, OnErr, OnOk, OnSome, length};
 ghost use Rattle.ring_layout.specs.declared.message.ClaimState.TheVariants.{Committed, Aborted};
+ghost use Rattle.ring_layout.specs.Places.{is_capacity};
+ghost use Rattle.ring_layout.specs.Refusals.{make_refusal_of, IsMadeUnless};
 ghost use Rattle.ring_rings.specs.Closing.{HandsOut, Serves};
 ghost use Rattle.ring_rings.specs.Joining.{LoadsPositions};
 ghost use Rattle.ring_rings.specs.Reading.{Controls, Reads};
@@ -10,7 +12,6 @@ ghost use Rattle.ring_loose.specs.Held.{IsFree, held_in};
 ghost use Rattle.ring_loose.specs.Loose.{aborted_view, beaten_view, fresh_loose, head_in, with_holder, with_reader, with_view};
 ghost use Rattle.ring_table.specs.Passing.{AreSettled};
 ghost use Rattle.ring_table.specs.ServiceSteps.{DrawsId, LoadsHeartbeat};
-ghost use Rattle.ring_words.specs.Fresh.{make_refusal_of, IsMadeUnless};
 ghost use Rattle.ring_words.specs.Read.{stop_of};
 
 use crate::numbered::Numbered;
@@ -155,7 +156,7 @@ fn make_claim<R: Wait>(
 impl LooseRing {
     /// Makes an empty ring.
     pub fn new(alloc: Global, capacity: u32) -> Result<Self, MakeFault>
-        ensures refused { IsMadeUnless (make_refusal_of capacity 0) result }
+        ensures refused { IsMadeUnless (make_refusal_of (is_capacity capacity) capacity 0) result }
         ensures fresh { IfOk result (λ made. made ≡ fresh_loose capacity) }
     {
         let (ring, producer, consumer) = ManyToOneRing::new(alloc, capacity)?;

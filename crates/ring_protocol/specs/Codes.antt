@@ -9,15 +9,16 @@ use Rattle.ring_counters.specs.declared.fault.AllocateRefused.{AllocateRefused}
 use Rattle.ring_counters.specs.declared.fault.AllocateRefused.TheVariants.{KeyTooLong, LabelTooLong, LabelNotAscii, NoFreeCounter}
 use Rattle.ring_counters.specs.declared.fault.IdFault.{IdFault}
 use Rattle.ring_counters.specs.declared.fault.IdFault.TheVariants.{BadId, NotAllocated}
+use Rattle.ring_counters.specs.Codes.{allocate_code, id_code}
 
 -- the number of each refusal
 abbrev pub number_of : RefusalCode → ℤ
-number_of of.KeyTooLong = pos 16
-number_of of.LabelTooLong = pos 17
-number_of of.LabelNotAscii = pos 18
-number_of of.NoFreeCounter = pos 19
-number_of of.BadId = pos 20
-number_of of.NotAllocated = pos 21
+number_of of.KeyTooLong = allocate_code KeyTooLong
+number_of of.LabelTooLong = allocate_code LabelTooLong
+number_of of.LabelNotAscii = allocate_code LabelNotAscii
+number_of of.NoFreeCounter = allocate_code NoFreeCounter
+number_of of.BadId = id_code BadId
+number_of of.NotAllocated = id_code NotAllocated
 number_of of.Malformed = pos 22
 number_of of.UnknownType = pos 23
 number_of of.BadOwner = pos 28
@@ -47,13 +48,7 @@ abbrev pub of_bad : Bad → RefusalCode
 of_bad (Malformed correlation) = of.Malformed
 of_bad (UnknownType correlation) = of.UnknownType
 
--- and the numbers of that ------------------------------------------------------
-
-abbrev pub allocate_code : AllocateRefused → ℤ
-allocate_code fault = number_of (of_allocate fault)
-
-abbrev pub id_code : IdFault → ℤ
-id_code fault = number_of (of_id fault)
+-- and the numbers of what the protocol itself refuses ---------------------------
 
 abbrev pub bad_code : Bad → ℤ
 bad_code bad = number_of (of_bad bad)

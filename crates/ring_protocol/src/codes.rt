@@ -1,11 +1,16 @@
 //! Why commands are refused, and the numbers that replies give for that.
 
-ghost use Rattle.std.specs.Prelude.{◌≡◌};
+ghost use Rattle.std.specs.Prelude.{◌≡◌, pos};
+ghost use Rattle.ring_counters.specs.Codes.{allocate_code, id_code};
 ghost use Rattle.ring_protocol.specs.Codes.{IsNamed, bad_code, bad_correlation, number_of};
 ghost use Rattle.ring_protocol.specs.Codes.{of_allocate, of_bad, of_bad_owner, of_id};
 
 use crate::fault::Bad;
 use ring_counters::{AllocateRefused, BadOwner, IdFault};
+use ring_layout::refusal_codes::{
+    BAD_ID, BAD_OWNER, KEY_TOO_LONG, LABEL_NOT_ASCII, LABEL_TOO_LONG, MALFORMED, NO_FREE_COUNTER,
+    NOT_ALLOCATED, UNKNOWN_TYPE,
+};
 use std::fmt;
 use thiserror::Error;
 
@@ -46,15 +51,15 @@ impl RefusalCode {
         ensures { result ≡ number_of self }
     {
         match self {
-            RefusalCode::KeyTooLong => 16,
-            RefusalCode::LabelTooLong => 17,
-            RefusalCode::LabelNotAscii => 18,
-            RefusalCode::NoFreeCounter => 19,
-            RefusalCode::BadId => 20,
-            RefusalCode::NotAllocated => 21,
-            RefusalCode::Malformed => 22,
-            RefusalCode::UnknownType => 23,
-            RefusalCode::BadOwner => 28,
+            RefusalCode::KeyTooLong => KEY_TOO_LONG,
+            RefusalCode::LabelTooLong => LABEL_TOO_LONG,
+            RefusalCode::LabelNotAscii => LABEL_NOT_ASCII,
+            RefusalCode::NoFreeCounter => NO_FREE_COUNTER,
+            RefusalCode::BadId => BAD_ID,
+            RefusalCode::NotAllocated => NOT_ALLOCATED,
+            RefusalCode::Malformed => MALFORMED,
+            RefusalCode::UnknownType => UNKNOWN_TYPE,
+            RefusalCode::BadOwner => BAD_OWNER,
         }
     }
 }
@@ -74,22 +79,22 @@ impl TryFrom<i32> for RefusalCode {
 
     fn try_from(number: i32) -> Result<Self, UnknownCode> {
         match number {
-            16 => Ok(RefusalCode::KeyTooLong),
-            17 => Ok(RefusalCode::LabelTooLong),
-            18 => Ok(RefusalCode::LabelNotAscii),
-            19 => Ok(RefusalCode::NoFreeCounter),
-            20 => Ok(RefusalCode::BadId),
-            21 => Ok(RefusalCode::NotAllocated),
-            22 => Ok(RefusalCode::Malformed),
-            23 => Ok(RefusalCode::UnknownType),
-            28 => Ok(RefusalCode::BadOwner),
+            KEY_TOO_LONG => Ok(RefusalCode::KeyTooLong),
+            LABEL_TOO_LONG => Ok(RefusalCode::LabelTooLong),
+            LABEL_NOT_ASCII => Ok(RefusalCode::LabelNotAscii),
+            NO_FREE_COUNTER => Ok(RefusalCode::NoFreeCounter),
+            BAD_ID => Ok(RefusalCode::BadId),
+            NOT_ALLOCATED => Ok(RefusalCode::NotAllocated),
+            MALFORMED => Ok(RefusalCode::Malformed),
+            UNKNOWN_TYPE => Ok(RefusalCode::UnknownType),
+            BAD_OWNER => Ok(RefusalCode::BadOwner),
             _ => Err(UnknownCode { number }),
         }
     }
 }
 
 impl From<AllocateRefused> for RefusalCode {
-    ghost from_gives = { λ fault code. code ≡ of_allocate fault };
+    ghost from_gives = { λ fault code. (code ≡ of_allocate fault) × (number_of code ≡ allocate_code fault) };
 
     fn from(fault: AllocateRefused) -> Self {
         match fault {
@@ -102,7 +107,7 @@ impl From<AllocateRefused> for RefusalCode {
 }
 
 impl From<IdFault> for RefusalCode {
-    ghost from_gives = { λ fault code. code ≡ of_id fault };
+    ghost from_gives = { λ fault code. (code ≡ of_id fault) × (number_of code ≡ id_code fault) };
 
     fn from(fault: IdFault) -> Self {
         match fault {

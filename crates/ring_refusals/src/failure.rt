@@ -9,19 +9,10 @@ pub enum Failure {
     Wrong,
 }
 
-impl From<ring_words::MakeFault> for Failure {
-    fn from(fault: ring_words::MakeFault) -> Failure {
+impl From<ring_rings::MakeFault> for Failure {
+    fn from(fault: ring_rings::MakeFault) -> Failure {
         match fault {
-            ring_words::MakeFault::OutOfMemory => Failure::Refused,
-            _ => Failure::Wrong,
-        }
-    }
-}
-
-impl From<ring_board::MakeFault> for Failure {
-    fn from(fault: ring_board::MakeFault) -> Failure {
-        match fault {
-            ring_board::MakeFault::OutOfMemory => Failure::Refused,
+            ring_rings::MakeFault::OutOfMemory => Failure::Refused,
             _ => Failure::Wrong,
         }
     }

@@ -1,5 +1,5 @@
 -- Claims with their headers stored, and how many of them are open.
-use Rattle.std.proofs.Common.{◌≡◌, ℕ, ◌+◌, ◌-◌, ◌≤◌, ℤ, List, [], ◌∷◌, ◌++◌, length, Bool, true, false, cond, eqb, ltb, sym, refl, ap, ◌∙◌, subst, arith}
+use Rattle.std.proofs.Common.{◌≡◌, ◌≢◌, ℕ, ◌+◌, ◌-◌, ◌≤◌, ℤ, List, [], ◌∷◌, ◌++◌, length, Bool, true, false, cond, eqb, ltb, sym, refl, ap, ◌∙◌, subst, arith}
 use Rattle.ring_layout.specs.declared.message.ClaimState.{ClaimState}
 use Rattle.ring_layout.specs.declared.message.ClaimState.TheVariants.{Open, Committed, Aborted}
 use Rattle.ring_table.specs.declared.claim.StagedClaim.{StagedClaim}
@@ -14,6 +14,12 @@ use Rattle.ring_table.specs.Views.{with_claims}
 use Rattle.ring_rings.specs.Matching.{Matches}
 use Rattle.ring_table.proofs.LawLemmas.{open_count-changed}
 use Rattle.ring_rings.proofs.RisingLemmas.{rising_kept}
+
+-- a settled claim is none that is open
+pub none_open : (s : ClaimState) → s ≢ Open → one_if_open s ≡ 0
+none_open Open ne = absurd (ne refl)
+none_open Committed ne = refl
+none_open Aborted ne = refl
 
 -- an open claim that is settled counts no more
 pub settles_one : (v : View) (place at : ℕ) (type_id : ℤ) (len : ℕ) (s : ClaimState)

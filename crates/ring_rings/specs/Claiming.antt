@@ -6,6 +6,7 @@ use Rattle.ring_layout.specs.Places.{next_place, end_after, max_position, Fits}
 use Rattle.ring_layout.specs.Layout.{tail_index, head_cache_index, head_index}
 pub use Rattle.ring_layout.specs.Refusals.{IsRefusedBy}
 use Rattle.ring_words.specs.Open.{ClaimAt}
+use Rattle.ring_words.specs.Refusal.{claim_code}
 use Rattle.ring_words.specs.declared.fault.ClaimFault.{ClaimFault}
 use Rattle.ring_words.specs.declared.fault.ClaimFault.TheVariants.{BadType, TooLong, PositionLimit, InsufficientCapacity}
 use Rattle.ring_table.specs.declared.claim.StagedClaim.{StagedClaim}
@@ -211,3 +212,8 @@ pub record AfterTries (C : ℕ) (type_id : ℤ) (len : ℕ) (v : View) (P : View
   pub before : View
   pub contended : AreContended C type_id len tries v before
   pub holds : P before
+
+-- the number of a refused try
+abbrev pub try_code : TryFault → ℤ
+try_code (Refused fault) = claim_code fault
+try_code (Contended _ _) = pos 8

@@ -1,9 +1,11 @@
 -- What a closed ring hands out.
-use Rattle.std.specs.Prelude.{◌≡◌, ℕ, ◌-◌, ◌%◌, ◌^◌, ◌≤◌, List, ◌∷◌, ◌++◌, length, slice_index, Option, Some, None, if◌then◌else◌, nat_lt, ◌==◌}
+use Rattle.std.specs.Prelude.{◌≡◌, ℕ, ◌-◌, ◌%◌, ◌^◌, ◌≤◌, ℤ, pos, List, ◌∷◌, ◌++◌, length, slice_index}
+use Rattle.std.specs.Prelude.{Option, Some, None, if◌then◌else◌, nat_lt, ◌==◌}
 use mathlib.Core.Option.{some}
 use lib.ListN.{get_elem?}
 use Rattle.ring_layout.specs.Layout.{correlation_index, heartbeat_index, head_cache_index, IsUnnamed}
 pub use Rattle.ring_layout.specs.Refusals.{IsRefusedAs}
+use Rattle.ring_layout.specs.Refusals.{all_shares}
 use Rattle.ring_words.specs.Ring.{Ring, Has, head_of}
 use Rattle.ring_table.specs.declared.claim.StagedClaim.{StagedClaim}
 use Rattle.ring_table.specs.declared.view.View.{View}
@@ -21,8 +23,13 @@ use Rattle.ring_rings.specs.declared.ring.Consumer.{Consumer}
 abbrev pub close_refusal_of : ℕ → ℕ → Option CloseFault
 close_refusal_of open_claims shares =
     if nat_lt 0 open_claims then Some (ClaimsOpen open_claims)
-    else (if shares == 65536 then None
-    else Some (ProducersOut (65536 - shares)))
+    else (if shares == all_shares then None
+    else Some (ProducersOut (all_shares - shares)))
+
+-- the number of why a ring is not closed
+abbrev pub close_code : CloseFault → ℤ
+close_code (ClaimsOpen _) = pos 10
+close_code (ProducersOut _) = pos 11
 
 -- ring, producer and consumer come back with the reason
 abbrev pub kept_open : {R : Type 0} → R → Producer → Consumer → CloseFault → CloseRefused R

@@ -6,9 +6,9 @@ ghost use Rattle.ring_rings.specs.Seats.{capacity_of, consumer_view, open_claims
 ghost use Rattle.ring_rings.specs.Seats.{IsConsumerOf, IsProducerOf};
 
 use crate::fault::CloseFault;
-use crate::open::ALL_SHARES;
 use crate::ring::{CloseRefused, Consumer, Producer, Ring};
 use atomic_table::Closed;
+use ring_layout::ALL_SHARES;
 use ring_table::{Wanted, close, join_consumer};
 use ring_words::SoloRing;
 use std::alloc::Global;

@@ -1,7 +1,10 @@
 //! Why a call of a shared ring refuses.
 ghost use Rattle.std.specs.Prelude.{◌≡◌};
 ghost use Rattle.ring_rings.specs.declared.fault.TryFault.TheVariants.{Refused};
+ghost use Rattle.ring_rings.specs.Claiming.{try_code};
+ghost use Rattle.ring_rings.specs.Closing.{close_code};
 
+use ring_layout::refusal_codes::{CLAIMS_OPEN, CONTENDED, PRODUCERS_OUT};
 use ring_words::ClaimFault;
 use thiserror::Error;
 
@@ -12,8 +15,20 @@ pub enum TryFault {
     #[error("{0}")]
     Refused(ClaimFault),
     /// Another producer was faster: the tail that was loaded, and a greater position that was loaded after it.
-    #[error("8 Contended tail {tail} seen {seen}")]
+    #[error("{} Contended tail {tail} seen {seen}", self.code())]
     Contended { tail: u64, seen: u64 },
+}
+
+impl TryFault {
+    /// The number of the refusal.
+    pub fn code(self) -> i32
+        ensures { result ≡ try_code self }
+    {
+        match self {
+            TryFault::Refused(fault) => fault.code(),
+            TryFault::Contended { tail: _, seen: _ } => CONTENDED,
+        }
+    }
 }
 
 impl From<ClaimFault> for TryFault {
@@ -24,18 +39,25 @@ impl From<ClaimFault> for TryFault {
     }
 }
 
-/// The producer has one share left, and needs it.
-#[derive(Clone, Copy, Debug, PartialEq, Eq, Error)]
-#[error("12 NoShares")]
-pub struct NoShares;
-
 /// Why a ring is not closed.
 #[derive(Clone, Copy, Debug, PartialEq, Eq, Error)]
 pub enum CloseFault {
     /// So many claims of this producer are open.
-    #[error("10 ClaimsOpen {claims}")]
+    #[error("{} ClaimsOpen {claims}", self.code())]
     ClaimsOpen { claims: u64 },
     /// So many shares are with other producers.
-    #[error("11 ProducersOut {shares}")]
+    #[error("{} ProducersOut {shares}", self.code())]
     ProducersOut { shares: u32 },
+}
+
+impl CloseFault {
+    /// The number of the refusal.
+    pub fn code(self) -> i32
+        ensures { result ≡ close_code self }
+    {
+        match self {
+            CloseFault::ClaimsOpen { claims: _ } => CLAIMS_OPEN,
+            CloseFault::ProducersOut { shares: _ } => PRODUCERS_OUT,
+        }
+    }
 }

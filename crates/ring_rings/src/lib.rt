@@ -11,11 +11,10 @@ mod ring;
 mod source;
 
 pub use claim::Claim;
-pub use fault::{CloseFault, NoShares, TryFault};
+pub use fault::{CloseFault, TryFault};
 pub use ring::{
     CloseRefused, Consumer, ManyToOne, ManyToOneRing, OneToOne, OneToOneRing, Producer, Ring,
 };
-pub use ring_words::{
-    Action, ClaimFault, Handler, MakeFault, Positions, PutRange, ReadEnd, Standing, Stop,
-};
+pub use ring_layout::{MakeFault, NoShares};
+pub use ring_words::{Action, ClaimFault, Handler, Positions, PutRange, ReadEnd, Standing, Stop};
 pub use source::CommandSource;

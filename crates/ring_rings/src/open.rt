@@ -1,26 +1,22 @@
 //! Rings as they are made, with the first producer and the consumer.
 ghost use Rattle.std.specs.Prelude.{◌≡◌, ◌/◌, ◌%◌, ◌≤◌, IfOk};
-ghost use Rattle.ring_layout.specs.Places.{IsCapacity, max_position};
-ghost use Rattle.ring_words.specs.Fresh.{make_refusal_of, IsMadeUnless};
+ghost use Rattle.ring_layout.specs.Places.{is_capacity, IsCapacity, max_position};
+ghost use Rattle.ring_layout.specs.Refusals.{make_refusal_of, IsMadeUnless};
 ghost use Rattle.ring_rings.specs.Seats.{capacity_of, start_of};
 ghost use Rattle.ring_rings.specs.Opening.{IsFirstConsumer, IsFirstProducer};
 
 use crate::ring::{Consumer, Producer, Ring};
-use ring_layout::ring_buffer_descriptor::{MAX_POSITION, TRAILER_WORDS};
-use ring_layout::{is_capacity, max_message};
+use ring_layout::ring_buffer_descriptor::TRAILER_WORDS;
+use ring_layout::{ALL_SHARES, MakeFault, check_ring, max_message};
 use ring_table::{Key, open, split_consumer};
-use ring_words::MakeFault;
 use std::alloc::{AllocError, Global};
 use std::marker::PhantomData;
-
-/// The shares of a ring.
-pub(crate) const ALL_SHARES: u32 = 1 << 16;
 
 impl<K> Ring<K> {
     /// Makes an empty ring that starts at position 0, with a producer that holds all shares. The refusals are those of
     /// `new_at`.
     pub fn new(alloc: Global, capacity: u32) -> Result<(Self, Producer, Consumer), MakeFault>
-        ensures refused { IsMadeUnless (make_refusal_of capacity 0) result }
+        ensures refused { IsMadeUnless (make_refusal_of (is_capacity capacity) capacity 0) result }
         ensures ring { IfOk result (λ made. (capacity_of made.0 ≡ capacity) × (start_of made.0 ≡ 0)) }
         ensures producer { IfOk result (λ made. IsFirstProducer made.0 capacity 0 made.1) }
         ensures consumer { IfOk result (λ made. IsFirstConsumer made.0 capacity 0 made.2) }
@@ -36,17 +32,12 @@ impl<K> Ring<K> {
         capacity: u32,
         start: u64,
     ) -> Result<(Self, Producer, Consumer), MakeFault>
-        ensures refused { IsMadeUnless (make_refusal_of capacity start) result }
+        ensures refused { IsMadeUnless (make_refusal_of (is_capacity capacity) capacity start) result }
         ensures ring { IfOk result (λ made. (capacity_of made.0 ≡ capacity) × (start_of made.0 ≡ start)) }
         ensures producer { IfOk result (λ made. IsFirstProducer made.0 capacity start made.1) }
         ensures consumer { IfOk result (λ made. IsFirstConsumer made.0 capacity start made.2) }
     {
-        if !is_capacity(capacity) {
-            return Err(MakeFault::BadCapacity);
-        }
-        if start % u64::from(capacity) != 0 || start > MAX_POSITION {
-            return Err(MakeFault::BadStart);
-        }
+        check_ring(capacity, start)?;
         Self::make(alloc, capacity, start).map_err(|_| MakeFault::OutOfMemory)
     }
 

@@ -12,7 +12,6 @@ use crate::fault::RunFault;
 use crate::options::Options;
 use crate::printer::{Printer, hex_word};
 use crate::service::{CommandService, Served};
-use ring_board::MakeFault as BoardMakeFault;
 use ring_lines::{Call, LineFault};
 use ring_loose::{Claimed, LooseBoard, LooseRing, Received};
 use ring_words::{Action, MakeFault, Positions, ReadEnd, Stop};
@@ -53,7 +52,7 @@ impl Runner {
         ensures { IsOkUnless result RunFault.OutOfMemory }
     {
         let loose = LooseRing::new(alloc, options.ring).map_err(from_make)?;
-        let board = LooseBoard::new(alloc, options.board).map_err(from_board_make)?;
+        let board = LooseBoard::new(alloc, options.board).map_err(from_make)?;
         let service = CommandService::new(alloc, options)?;
         Ok(Runner {
             alloc,
@@ -248,15 +247,6 @@ fn from_make(fault: MakeFault) -> RunFault
     match fault {
         MakeFault::OutOfMemory => RunFault::OutOfMemory,
         MakeFault::BadCapacity | MakeFault::BadStart => RunFault::BadCapacity,
-    }
-}
-
-fn from_board_make(fault: BoardMakeFault) -> RunFault
-    ensures { fault ≡ BoardMakeFault.OutOfMemory → result ≡ RunFault.OutOfMemory }
-{
-    match fault {
-        BoardMakeFault::OutOfMemory => RunFault::OutOfMemory,
-        BoardMakeFault::BadCapacity | BoardMakeFault::BadStart => RunFault::BadCapacity,
     }
 }
 

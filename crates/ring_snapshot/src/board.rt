@@ -1,6 +1,7 @@
 //! The records of a board.
 ghost use Rattle.std.specs.Prelude.{◌≡◌, ◌+◌, ◌%◌, ◌≤◌, length};
-ghost use Rattle.ring_board.specs.Layout.{IsBoardCapacity, board_words};
+ghost use Rattle.ring_layout.specs.Places.{IsBoardCapacity};
+ghost use Rattle.ring_board.specs.Layout.{board_words};
 
 use crate::board_finding::BoardFinding;
 use crate::board_record::BoardRecord;
@@ -36,8 +37,9 @@ pub struct BoardRecords<'a> {
 
 impl<'a> BoardSnapshot<'a> {
     ghost use Rattle.std.specs.Prelude.{◌≡◌, ◌≢◌, ℕ, ◌+◌, ◌-◌, ◌*◌, ◌/◌, ◌%◌, ◌^◌, ◌<◌, ◌≤◌, List, length, slice_index, IfOk, IfErr, IsOkAnd};
+    ghost use Rattle.ring_layout.specs.Places.{IsBoardCapacity};
     ghost use Rattle.ring_board.specs.declared.shared.view.Record.{Record};
-    ghost use Rattle.ring_board.specs.Layout.{IsBoardCapacity, board_words, intent_index, tail_index, latest_index};
+    ghost use Rattle.ring_board.specs.Layout.{board_words, intent_index, tail_index, latest_index};
     ghost use Rattle.ring_board.specs.Refusals.{IsRefusedBy};
     ghost use Rattle.ring_snapshot.specs.declared.board_finding.BoardFinding.TheVariants.{BadSize};
     ghost use Rattle.ring_snapshot.specs.Listing.{up_to_eight};

@@ -17,3 +17,10 @@ refusal_of r type_id len =
     else (if nat_lt max_position end then Some (PositionLimit (tail_of r))
     else (if nat_lt (head_of r + r.capacity) end then Some (InsufficientCapacity (tail_of r) (head_of r))
     else None)))
+
+-- the number of a refused claim
+abbrev pub claim_code : ClaimFault → ℤ
+claim_code (BadType _) = pos 4
+claim_code (TooLong _ _) = pos 5
+claim_code (PositionLimit _) = pos 6
+claim_code (InsufficientCapacity _ _) = pos 7

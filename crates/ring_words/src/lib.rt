@@ -10,9 +10,10 @@ mod words;
 mod write;
 
 pub use claim::SoloClaim;
-pub use fault::{ClaimFault, MakeFault, PutRange};
+pub use fault::{ClaimFault, PutRange};
 pub use positions::{Positions, Standing};
 pub use read::action::Action;
 pub use read::end::{ReadEnd, Stop};
 pub use read::handler::Handler;
 pub use ring::SoloRing;
+pub use ring_layout::MakeFault;

@@ -2,16 +2,17 @@
 ghost use Rattle.std.specs.Prelude.{◌≡◌, ◌/◌, ◌%◌, ◌||◌, List, IfOk, slice_get, vec_len};
 ghost use Rattle.ring_layout.specs.declared.message.Claim.{Claim};
 ghost use Rattle.ring_layout.specs.History.{committed_of};
+ghost use Rattle.ring_layout.specs.Places.{is_capacity};
+ghost use Rattle.ring_layout.specs.Refusals.{make_refusal_of, IsMadeUnless};
 ghost use Rattle.ring_words.specs.Ring.{ring, head_of, tail_of, Has, IsRing};
 ghost use Rattle.ring_words.specs.Open.{ClaimAt, IsOpen, IsOpenIn};
-ghost use Rattle.ring_words.specs.Fresh.{fresh, make_refusal_of, IsMadeUnless};
+ghost use Rattle.ring_words.specs.Fresh.{fresh};
 
-use crate::fault::MakeFault;
 use crate::positions::Positions;
 use ring_layout::ring_buffer_descriptor::{
-    HEAD_CACHE_POSITION_WORD, HEAD_POSITION_WORD, MAX_POSITION, TAIL_POSITION_WORD, TRAILER_WORDS,
+    HEAD_CACHE_POSITION_WORD, HEAD_POSITION_WORD, TAIL_POSITION_WORD, TRAILER_WORDS,
 };
-use ring_layout::{is_capacity, max_message};
+use ring_layout::{MakeFault, check_ring, max_message};
 use std::alloc::Global;
 use std::marker::Model;
 
@@ -38,7 +39,7 @@ impl SoloRing {
     /// Makes an empty ring that starts at position 0. It refuses with `BadCapacity` a capacity that is no power of two
     /// from 128 to 2^24, and then with `OutOfMemory`.
     pub fn new(alloc: Global, capacity: u32) -> Result<Self, MakeFault>
-        ensures refused { IsMadeUnless (make_refusal_of capacity 0) result }
+        ensures refused { IsMadeUnless (make_refusal_of (is_capacity capacity) capacity 0) result }
         ensures fresh { IfOk result (λ ring. ring ≡ fresh capacity 0) }
     {
         Self::new_at(alloc, capacity, 0)
@@ -47,15 +48,10 @@ impl SoloRing {
     /// Makes an empty ring that starts at a multiple of its capacity. It refuses with `BadCapacity`, then with
     /// `BadStart` a start that is no multiple of the capacity or above 2^62, and then with `OutOfMemory`.
     pub fn new_at(alloc: Global, capacity: u32, start: u64) -> Result<Self, MakeFault>
-        ensures refused { IsMadeUnless (make_refusal_of capacity start) result }
+        ensures refused { IsMadeUnless (make_refusal_of (is_capacity capacity) capacity start) result }
         ensures fresh { IfOk result (λ ring. ring ≡ fresh capacity start) }
     {
-        if !is_capacity(capacity) {
-            return Err(MakeFault::BadCapacity);
-        }
-        if start % u64::from(capacity) != 0 || start > MAX_POSITION {
-            return Err(MakeFault::BadStart);
-        }
+        check_ring(capacity, start)?;
         let trailer = capacity as usize / 8;
         let mut words = vec![in alloc; 0; trailer + TRAILER_WORDS].map_err(
             |_| MakeFault::OutOfMemory,

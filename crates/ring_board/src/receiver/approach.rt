@@ -3,13 +3,14 @@ ghost use Rattle.std.specs.Prelude.{◌≡◌, ℕ, ◌+◌, ◌-◌, ◌*◌, �
 ghost use Rattle.std.specs.Int.{cast_signed, w32};
 ghost use Rattle.ring_layout.specs.History.{span};
 ghost use Rattle.ring_layout.specs.Places.{max_position};
-ghost use Rattle.ring_board.specs.declared.shared.view.Stage.TheVariants.{Reading};
+ghost use Rattle.ring_board.specs.declared.shared.view.Stage.TheVariants.{Behind, Reading};
 ghost use Rattle.ring_board.specs.Records.{announced, body_len, word_count, is_padding};
-ghost use Rattle.ring_board.specs.Steps.{IsSound};
-ghost use Rattle.ring_board.specs.Receiving.{RestsAt, FoundIs, NearIs, IsInside, CopiedWords, TookAll, TookNone, GotNothing, GotCopy, GotRecord, GotMiss};
+ghost use Rattle.ring_board.specs.Steps.{IsSound, LoadsLatest, Sat};
+ghost use Rattle.ring_board.specs.Receiving.{RestsAt, FoundIs, NearIs, IsInside, CopiedWords, TookAll, TookNone, GotNothing, GotCopy, GotLapped, GotRecord, GotMiss};
 ghost use Rattle.ring_board.specs.Seats.{IsSeatOf, IsSameSeat};
 
 use crate::board::{Board, RawRecord};
+use crate::fault::Lapped;
 use crate::receiver::found::{Found, Front, Miss};
 use crate::shared::view::BoardSeat;
 use ring_layout::put_word;
@@ -159,6 +160,25 @@ impl Board {
         } else {
             Ok(len)
         }
+    }
+
+    /// Goes to the record at latest, after a failed validation, and says where that lies. The lap is told with the
+    /// number of all of them, one more than so far.
+    pub(crate) fn go_to_latest(&self, seat: &mut BoardSeat, count: u64, miss: Miss) -> (u64, Lapped)
+        requires seat { IsSeatOf self.now seat.old }
+        requires stage { (seat.old.me.0.stage ≡ Behind) × (seat.old.me.0.count ≡ count) }
+        ensures same { IsSameSeat seat.old seat.new }
+        ensures seen { LoadsLatest seat.old.me result.0 seat.new.me }
+        ensures lapped { (m : Sat) → GotMiss miss.place miss.intent m seat.old.me → GotLapped result.1 m seat.new.me }
+        ensures count { result.1.count ≡ count + 1 }
+    {
+        let place = self.load_latest(seat);
+        let lapped = Lapped {
+            count: count + 1,
+            place: miss.place,
+            intent: miss.intent,
+        };
+        (place, lapped)
     }
 
     /// Copies the next message to the front of the scratch, if there is one. Or else gives the place and the intent of

@@ -4,6 +4,7 @@ ghost use Rattle.std.specs.Prelude.{◌≡◌, ◌+◌, ◌/◌, ◌<◌, ◌≤
 use crate::board::{Board, Copied, CopyReceiver, Transmitter};
 use crate::fault::{Lapped, SubscribeFault};
 use crate::receiver::found::Front;
+use ring_layout::has_spare_share;
 use std::alloc::Global;
 
 impl Board {
@@ -27,19 +28,14 @@ impl Board {
             × (receiver_view r ≡ newcomer (view_of transmitter.old))) }
         ensures transmitter { IfOk result (λ _. view_of transmitter.new ≡ fewer (view_of transmitter.old)) }
     {
-        if transmitter.shares <= 1 {
+        if !has_spare_share(transmitter.shares) {
             return Err(SubscribeFault::NoShares);
         }
         let scratch = vec![in alloc; 0u8; self.capacity as usize / 8].map_err(
             |_| SubscribeFault::OutOfMemory,
         )?;
-        let (seat, place) = self.seat_receiver(transmitter);
-        Ok(CopyReceiver {
-            seat,
-            place,
-            count: 0,
-            scratch,
-        })
+        let receiver = self.seat_receiver(transmitter);
+        Ok(CopyReceiver { receiver, scratch })
     }
 
     /// Takes a copying receiver back, with its share. Its copies are runs of the transmitted list.
@@ -52,12 +48,10 @@ impl Board {
         ensures runs { AreRuns (transmitted transmitter.old) (subscribed_at receiver) (copies_of receiver) }
     {
         let CopyReceiver {
-            seat,
-            place: _,
-            count: _,
+            receiver: raw,
             scratch: _,
         } = receiver;
-        self.take_back(transmitter, seat);
+        self.join_raw(transmitter, raw);
     }
 }
 
@@ -73,17 +67,17 @@ impl CopyReceiver {
     pub fn place(&self) -> u64
         ensures { result ≡ stands_at self.now }
     {
-        self.place
+        self.receiver.place
     }
 
     /// How often the receiver was lapped.
     pub fn lapped_count(&self) -> u64
         ensures { result ≡ lapped_count_of self.now }
     {
-        self.count
+        self.receiver.count
     }
 
-    /// Copies the next message to the front of the scratch.
+    /// Copies the next message to the front of its own scratch.
     fn copy_next(&mut self, board: &Board) -> Result<Option<Front>, Lapped>
         requires { IsReceiverOf board.now self.old }
         ensures board { IsReceiverOf board.now self.new }
@@ -95,22 +89,7 @@ impl CopyReceiver {
         ensures len { MatchResult result (λ o. MatchOption o (Unit {0}) (λ f. f.len ≤ vec_len self.new.scratch))
             (λ l. Unit {0}) }
     {
-        match board.attempt(&mut self.seat, self.place, self.scratch.as_mut_slice()) {
-            Ok(None) => Ok(None),
-            Ok(Some(front)) => {
-                self.place = front.place + (8 + front.len).next_multiple_of(8) as u64;
-                Ok(Some(front))
-            }
-            Err(miss) => {
-                self.place = board.load_latest(&mut self.seat);
-                self.count += 1;
-                Err(Lapped {
-                    count: self.count,
-                    place: miss.place,
-                    intent: miss.intent,
-                })
-            }
-        }
+        self.receiver.copy_next(board, self.scratch.as_mut_slice())
     }
 
     /// The copy at the front of the scratch.

@@ -1,16 +1,17 @@
 //! Raw receivers.
-ghost use Rattle.std.specs.Prelude.{◌≡◌, ◌==◌, ◌+◌, ◌≤◌, true, length, take, drop, IfOk, OnErr};
+ghost use Rattle.std.specs.Prelude.{◌≡◌, ◌==◌, ◌+◌, ◌/◌, ◌≤◌, true, length, take, drop, IfOk, OnErr, MatchResult, MatchOption};
 ghost use Rattle.ring_board.specs.Seats.{IsSeatOf, IsSameSeat};
 
 use crate::board::{Board, RawRecord, Receiver, Transmitter};
-use crate::fault::{Lapped, NoShares};
+use crate::fault::Lapped;
+use crate::receiver::found::Front;
 use crate::shared::view::BoardSeat;
-use ring_layout::put_part;
+use ring_layout::{NoShares, has_spare_share, put_part, span};
 
 impl Board {
     ghost use Rattle.ring_board.specs.Runs.{AreRuns};
     ghost use Rattle.ring_board.specs.Steps.{fewer, newcomer, joined};
-    ghost use Rattle.ring_board.specs.Refusals.{raw_refusal_of, IsRefusedBy};
+    ghost use Rattle.ring_layout.specs.Refusals.{share_refusal_of, IsRefusedBy};
     ghost use Rattle.ring_board.specs.Seats.{view_of, shares_of, transmitted, IsTransmitterOf, IsRawOf, raw_view, raw_subscribed_at, answered_by};
 
     /// Makes a raw receiver, which starts with the record at latest, with one share of the transmitter's. It takes no
@@ -18,20 +19,15 @@ impl Board {
     pub fn subscribe_raw(&self, transmitter: &mut Transmitter) -> Result<Receiver, NoShares>
         requires { IsTransmitterOf self.now transmitter.old }
         ensures board { IsTransmitterOf self.now transmitter.new }
-        ensures refused { IsRefusedBy (raw_refusal_of (shares_of transmitter.old)) result }
+        ensures refused { IsRefusedBy (share_refusal_of (shares_of transmitter.old)) result }
         ensures same { OnErr result (transmitter.new ≡ transmitter.old) }
         ensures receiver { IfOk result (λ r. IsRawOf self.now r × (raw_view r ≡ newcomer (view_of transmitter.old))) }
         ensures transmitter { IfOk result (λ _. view_of transmitter.new ≡ fewer (view_of transmitter.old)) }
     {
-        if transmitter.shares <= 1 {
+        if !has_spare_share(transmitter.shares) {
             return Err(NoShares);
         }
-        let (seat, place) = self.seat_receiver(transmitter);
-        Ok(Receiver {
-            seat,
-            place,
-            count: 0,
-        })
+        Ok(self.seat_receiver(transmitter))
     }
 
     /// Takes a raw receiver back, with its share. The records that it answered are runs of the transmitted list.
@@ -48,12 +44,15 @@ impl Board {
             place: _,
             count: _,
         } = receiver;
-        self.take_back(transmitter, seat);
+        self.take_in(&mut transmitter.seat, seat);
+        self.learn(&mut transmitter.seat);
+        transmitter.shares += 1;
     }
 }
 
 impl Receiver {
     ghost use Rattle.ring_board.specs.Bodies.{GaveBody, IsRight, Validated};
+    ghost use Rattle.ring_board.specs.Receiving.{GotNothing, GotCopy, GotLapped};
     ghost use Rattle.ring_board.specs.Seats.{IsRawOf, IsAnswered, raw_seat, raw_view, raw_stands_at, raw_lapped_count_of, ReceivedNext, StaysAnswered, place_of, len_of};
 
     /// Where it stands, as a position in bytes: the next call looks for a record there. After `Lapped` the bytes that
@@ -82,17 +81,44 @@ impl Receiver {
         match board.answer(&mut self.seat, self.place) {
             Ok(None) => Ok(None),
             Ok(Some(record)) => {
-                self.place = record.place + (8 + record.len).next_multiple_of(8) as u64;
+                self.place = record.place + span(record.len);
                 Ok(Some(record))
             }
             Err(miss) => {
-                self.place = board.load_latest(&mut self.seat);
-                self.count += 1;
-                Err(Lapped {
-                    count: self.count,
-                    place: miss.place,
-                    intent: miss.intent,
-                })
+                let (place, lapped) = board.go_to_latest(&mut self.seat, self.count, miss);
+                self.place = place;
+                self.count = lapped.count;
+                Err(lapped)
+            }
+        }
+    }
+
+    /// Copies the next message to the front of a scratch, if there is one, validates the copy, and goes behind it.
+    pub(crate) fn copy_next(
+        &mut self,
+        board: &Board,
+        scratch: &mut [u8],
+    ) -> Result<Option<Front>, Lapped>
+        requires board { IsRawOf board.now self.old }
+        requires room { length scratch.old ≡ board.now.capacity / 8 }
+        ensures board { IsRawOf board.now self.new }
+        ensures got { MatchResult result (λ o. MatchOption o (GotNothing (raw_seat self.old) (raw_seat self.new))
+            (λ f. GotCopy f.place f.type_id (take f.len scratch.new) (raw_seat self.old) (raw_seat self.new)))
+            (λ l. GotLapped l (raw_seat self.old) (raw_seat self.new)) }
+        ensures len { MatchResult result (λ o. MatchOption o (Unit {0}) (λ f. f.len ≤ length scratch.new))
+            (λ l. Unit {0}) }
+    {
+        match board.attempt(&mut self.seat, self.place, scratch) {
+            Ok(None) => Ok(None),
+            Ok(Some(front)) => {
+                self.place = front.place + span(front.len);
+                Ok(Some(front))
+            }
+            Err(miss) => {
+                let (place, lapped) = board.go_to_latest(&mut self.seat, self.count, miss);
+                self.place = place;
+                self.count = lapped.count;
+                Err(lapped)
             }
         }
     }

@@ -1,7 +1,7 @@
 //! What handles of a board do.
 ghost use Rattle.std.specs.Prelude.{◌≡◌, ◌≢◌, pos, IfOk, MatchResult};
 ghost use Rattle.std.specs.declared.option.Option.TheVariants.{None, Some};
-ghost use Rattle.ring_c.specs.Boards.{heard, make_code, IsUnheard, Received, SaysLapped, Subscribes, Transmitted};
+ghost use Rattle.ring_c.specs.Boards.{heard, IsUnheard, Received, SaysLapped, Subscribes, Transmitted};
 ghost use Rattle.ring_c.specs.Told.{a_receiver, a_transmitter, Gives, GivesInto, HoldNewBoard, IsBoardCode, OpensBoard, Uses};
 
 use crate::boards::TransmitterSide;
@@ -9,20 +9,9 @@ use crate::code::{HANDLE_IN_USE, OUT_OF_MEMORY};
 use crate::handle::Handle;
 use crate::held::Held;
 use crate::work_on::{fill, make_into, work_on};
-use ring_board::{Board, MakeFault};
+use ring_board::Board;
 use std::alloc::Global;
 use std::sync::Arc;
-
-/// The code of a board that was not made.
-fn code_of_make(fault: MakeFault) -> i32
-    ensures { result ≡ make_code fault }
-{
-    match fault {
-        MakeFault::BadCapacity => 1,
-        MakeFault::BadStart => 2,
-        MakeFault::OutOfMemory => OUT_OF_MEMORY,
-    }
-}
 
 /// Makes a board.
 fn make_board(alloc: Global, capacity: u32, start: u64) -> Result<Box<Held>, i32>
@@ -32,7 +21,7 @@ fn make_board(alloc: Global, capacity: u32, start: u64) -> Result<Box<Held>, i32
 {
     let (board, transmitter) = match Board::new_at(alloc, capacity, start) {
         Ok(made) => made,
-        Err(fault) => return Err(code_of_make(fault)),
+        Err(fault) => return Err(fault.code()),
     };
     let Ok(board) = Arc::new(alloc, board) else {
         return Err(OUT_OF_MEMORY);

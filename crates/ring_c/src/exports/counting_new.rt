@@ -1,7 +1,6 @@
 //! Counters that are made for a handle.
 ghost use Rattle.std.specs.Prelude.{◌≡◌, ◌≢◌, pos, IfOk, MatchResult};
 ghost use Rattle.std.specs.declared.option.Option.TheVariants.{Some};
-ghost use Rattle.ring_c.specs.Counting.{make_code};
 ghost use Rattle.ring_c.specs.Told.{HoldFreshCounters, IsCountersCode, OpensCounters};
 
 use crate::code::OUT_OF_MEMORY;
@@ -9,19 +8,9 @@ use crate::counters::CountersSide;
 use crate::handle::Handle;
 use crate::held::Held;
 use crate::work_on::fill;
-use ring_counters::{CountersManager, MakeFault};
+use ring_counters::CountersManager;
 use std::alloc::Global;
 use std::sync::Arc;
-
-/// The code of counters that were not made.
-fn code_of_make(fault: MakeFault) -> i32
-    ensures { result ≡ make_code fault }
-{
-    match fault {
-        MakeFault::BadCount => 15,
-        MakeFault::OutOfMemory => OUT_OF_MEMORY,
-    }
-}
 
 /// Makes counters.
 fn make_counters(alloc: Global, count: u32, reuse_ms: u32) -> Result<Box<Held>, i32>
@@ -31,7 +20,7 @@ fn make_counters(alloc: Global, count: u32, reuse_ms: u32) -> Result<Box<Held>, 
 {
     let (values, manager) = match CountersManager::new(alloc, count, reuse_ms) {
         Ok(made) => made,
-        Err(fault) => return Err(code_of_make(fault)),
+        Err(fault) => return Err(fault.code()),
     };
     let Ok(values) = Arc::new(alloc, values) else {
         return Err(OUT_OF_MEMORY);

@@ -5,7 +5,7 @@ ghost use Rattle.ring_rings.specs.Seats.{consumer_view, view_of};
 ghost use Rattle.ring_c.specs.Side.{capacity_in, is_many, table_in, IsConsumerIn, IsProducerIn};
 ghost use Rattle.ring_c.specs.Told.{HoldFresh, HoldPair, IsMakeCode, Opens};
 
-use crate::code::{OUT_OF_MEMORY, code_of_make};
+use crate::code::OUT_OF_MEMORY;
 use crate::consumer::ConsumerSide;
 use crate::handle::Handle;
 use crate::held::Held;
@@ -61,7 +61,7 @@ fn make_many(alloc: Global, capacity: u32, start: u64) -> Result<Pair, i32>
 {
     let (ring, producer, consumer) = match ManyToOneRing::new_at(alloc, capacity, start) {
         Ok(made) => made,
-        Err(fault) => return Err(code_of_make(fault)),
+        Err(fault) => return Err(fault.code()),
     };
     let Ok(ring) = Arc::new(alloc, ring) else {
         return Err(OUT_OF_MEMORY);
@@ -81,7 +81,7 @@ fn make_one(alloc: Global, capacity: u32, start: u64) -> Result<Pair, i32>
 {
     let (ring, producer, consumer) = match OneToOneRing::new_at(alloc, capacity, start) {
         Ok(made) => made,
-        Err(fault) => return Err(code_of_make(fault)),
+        Err(fault) => return Err(fault.code()),
     };
     let Ok(ring) = Arc::new(alloc, ring) else {
         return Err(OUT_OF_MEMORY);

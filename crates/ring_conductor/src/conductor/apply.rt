@@ -7,7 +7,7 @@ ghost use Rattle.ring_conductor.specs.Applied.{applied, obeyed};
 ghost use Rattle.ring_conductor.specs.Applying.{Applies, allocates};
 
 use ring_counters::{CounterValues, CountersManager};
-use ring_protocol::{Command, RefusalCode, Reply, decode_command};
+use ring_protocol::{Command, Reply, decode_command};
 
 /// A counter that a command asks for.
 #[derive(Clone, Copy)]
@@ -39,7 +39,7 @@ fn allocate(
         Ok(id) => Reply::Allocated { correlation, id },
         Err(fault) => Reply::Refused {
             correlation,
-            code: RefusalCode::from(fault).number(),
+            code: fault.code(),
         },
     }
 }
@@ -53,7 +53,7 @@ fn free(counters: &mut CountersManager, now: u64, correlation: u64, id: u32) -> 
         Ok(()) => Reply::Done { correlation },
         Err(fault) => Reply::Refused {
             correlation,
-            code: RefusalCode::from(fault).number(),
+            code: fault.code(),
         },
     }
 }
@@ -73,7 +73,7 @@ fn set(
         Ok(()) => Reply::Done { correlation },
         Err(fault) => Reply::Refused {
             correlation,
-            code: RefusalCode::from(fault).number(),
+            code: fault.code(),
         },
     }
 }
@@ -87,7 +87,7 @@ fn close(counters: &mut CountersManager, now: u64, correlation: u64, owner: u64)
         Ok(freed) => Reply::Closed { correlation, freed },
         Err(fault) => Reply::Refused {
             correlation,
-            code: RefusalCode::from(fault).number(),
+            code: fault.code(),
         },
     }
 }

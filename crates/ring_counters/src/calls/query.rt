@@ -10,10 +10,11 @@ ghost use Rattle.ring_counters.specs.Seats.{IsReaderOf, made_of, seen_by, loads_
 ghost use Rattle.ring_counters.specs.Manager.{counter_in, range_refusal_at, refusal_at};
 ghost use Rattle.ring_counters.specs.Manager.{registry_of, writes_of, shares_of, IsManagerOf};
 
-use crate::fault::{IdFault, NoShares, OutOfMemory};
+use crate::fault::{IdFault, OutOfMemory};
 use crate::info::CounterInfo;
 use crate::manager::CountersManager;
 use crate::values::seats::{CounterValues, ValueReader};
+use ring_layout::NoShares;
 use ring_layout::counter_descriptor::{MAX_KEY_LENGTH, MAX_LABEL_LENGTH};
 use std::alloc::Global;
 

@@ -8,10 +8,11 @@ ghost use Rattle.ring_rings.specs.Seats.{capacity_of, claims_of, shares_of, view
 ghost use Rattle.ring_rings.specs.Seats.{IsOpenClaimOf, IsProducerOf, KeepsBoth, KeepsClaims, LiesApart};
 
 use crate::claim::Claim;
-use crate::fault::{NoShares, TryFault};
+use crate::fault::TryFault;
 use crate::producer::body::store_message;
 use crate::producer::claim::try_claim;
 use crate::ring::{ManyToOne, Producer, Ring};
+use ring_layout::{NoShares, has_spare_share};
 use ring_table::{Wanted, join_producer, load_tail, split_producer};
 
 impl Ring<ManyToOne> {
@@ -97,7 +98,7 @@ impl Ring<ManyToOne> {
             IsProducerOf self.now other × (view_of other ≡ producer_alone (view_of producer.old))) }
         ensures claims { KeepsClaims self.now producer.old producer.new }
     {
-        if producer.shares == 1 {
+        if !has_spare_share(producer.shares) {
             return Err(NoShares);
         }
         let seat = split_producer(&self.table.shared, &mut producer.seat);

@@ -1,9 +1,11 @@
 //! How producers settle their claims.
-ghost use Rattle.std.specs.Prelude.{◌≡◌, ◌+◌, ◌<◌, ◌↔◌, length, IsTrue, OnErr, OnOk, is_err};
-ghost use Rattle.ring_layout.specs.declared.message.ClaimState.TheVariants.{Aborted, Committed};
+ghost use Rattle.std.specs.Prelude.{◌≡◌, ◌≢◌, ◌+◌, ◌<◌, ◌↔◌, length, IsTrue, OnErr, OnOk, is_err};
+ghost use Rattle.ring_layout.specs.declared.message.ClaimState.TheVariants.{Aborted, Committed, Open};
+ghost use Rattle.ring_layout.specs.History.{IsMessage};
 ghost use Rattle.ring_table.specs.declared.claim.Stage.TheVariants.{Stored};
-ghost use Rattle.ring_table.specs.Changes.{staged};
-ghost use Rattle.ring_table.specs.ProducerSteps.{with_changed};
+ghost use Rattle.ring_table.specs.Changes.{blank, staged};
+ghost use Rattle.ring_table.specs.ProducerSteps.{with_changed, HasClaimAt, IsOpen};
+ghost use Rattle.ring_table.specs.Seats.{IsSameSeat, IsSeatOf};
 ghost use Rattle.ring_table.specs.Staged.{AreRising};
 ghost use Rattle.ring_rings.specs.Bodies.{PutsBytes};
 ghost use Rattle.ring_rings.specs.Seats.{claims_of, view_of, IsOpenClaimOf, IsProducerOf, KeepsOthers};
@@ -11,8 +13,35 @@ ghost use Rattle.ring_rings.specs.Seats.{claims_of, view_of, IsOpenClaimOf, IsPr
 use crate::claim::Claim;
 use crate::producer::body::put_bytes;
 use crate::ring::{Producer, Ring};
-use ring_table::{Wanted, store_aborted_header, store_committed_header};
+use ring_layout::ClaimState;
+use ring_table::{RingSeat, SharedRing, Wanted, store_aborted_header, store_committed_header};
 use ring_words::PutRange;
+
+/// Stores the header of an open claim, which is committed or aborted from then on.
+#[inline]
+fn store_settled_header(
+    words: &SharedRing,
+    seat: &mut RingSeat,
+    capacity: u32,
+    place: u64,
+    wanted: Wanted,
+    state: ClaimState,
+)
+    requires seat { IsSeatOf words.now.table_id words.now.key capacity seat.old }
+    requires message { IsMessage capacity (blank wanted.type_id wanted.len) }
+    requires claim { HasClaimAt seat.old.me.0 place (IsOpen wanted.type_id wanted.len) }
+    requires settled { state ≢ Open }
+    ensures seat { IsSameSeat seat.old seat.new }
+    ensures view { seat.new.me.0 ≡ with_changed place (staged (Stored state)) seat.old.me.0 }
+    ensures rising { AreRising seat.old.me.0.producer.claims }
+{
+    match state {
+        ClaimState::Aborted => store_aborted_header(words, seat, capacity, place, wanted),
+        ClaimState::Committed | ClaimState::Open => {
+            store_committed_header(words, seat, capacity, place, wanted);
+        }
+    }
+}
 
 impl<K> Ring<K> {
     /// Puts bytes into an open claim, from the byte `offset` of its body on. It refuses bytes that do not lie inside
@@ -51,6 +80,33 @@ impl<K> Ring<K> {
         Ok(())
     }
 
+    /// Settles an open claim, as committed or as aborted.
+    #[inline]
+    fn settle(&self, producer: &mut Producer, claim: Claim, state: ClaimState)
+        requires producer { IsProducerOf self.now producer.old }
+        requires claim { IsOpenClaimOf self.now producer.old claim }
+        requires settled { state ≢ Open }
+        ensures producer { IsProducerOf self.now producer.new }
+        ensures rising { AreRising (claims_of producer.old) }
+        ensures settled { view_of producer.new
+            ≡ with_changed claim.place (staged (Stored state)) (view_of producer.old) }
+        ensures others { KeepsOthers self.now claim.place producer.old producer.new }
+    {
+        let wanted = Wanted {
+            type_id: claim.type_id(),
+            len: claim.len(),
+        };
+        store_settled_header(
+            &self.table.shared,
+            &mut producer.seat,
+            self.capacity,
+            claim.place(),
+            wanted,
+            state,
+        );
+        producer.open_claims -= 1;
+    }
+
     /// Settles an open claim: the consumer is shown its message.
     pub fn commit(&self, producer: &mut Producer, claim: Claim)
         requires producer { IsProducerOf self.now producer.old }
@@ -61,18 +117,7 @@ impl<K> Ring<K> {
             ≡ with_changed claim.place (staged (Stored Committed)) (view_of producer.old) }
         ensures others { KeepsOthers self.now claim.place producer.old producer.new }
     {
-        let wanted = Wanted {
-            type_id: claim.type_id(),
-            len: claim.len(),
-        };
-        store_committed_header(
-            &self.table.shared,
-            &mut producer.seat,
-            self.capacity,
-            claim.place(),
-            wanted,
-        );
-        producer.open_claims -= 1;
+        self.settle(producer, claim, ClaimState::Committed);
     }
 
     /// Settles an open claim: the consumer passes it.
@@ -85,17 +130,6 @@ impl<K> Ring<K> {
             ≡ with_changed claim.place (staged (Stored Aborted)) (view_of producer.old) }
         ensures others { KeepsOthers self.now claim.place producer.old producer.new }
     {
-        let wanted = Wanted {
-            type_id: claim.type_id(),
-            len: claim.len(),
-        };
-        store_aborted_header(
-            &self.table.shared,
-            &mut producer.seat,
-            self.capacity,
-            claim.place(),
-            wanted,
-        );
-        producer.open_claims -= 1;
+        self.settle(producer, claim, ClaimState::Aborted);
     }
 }

@@ -1,6 +1,6 @@
 //! Claims of the ring with one owner, and what happens to them.
 ghost use Rattle.std.specs.Prelude.{◌≡◌, ◌≢◌, ◌+◌, ◌%◌, ◌<◌, ◌↔◌, pos, ◌≤ℤ◌, length, IfOk, OnOk, OnErr, IsTrue, is_err};
-ghost use Rattle.ring_layout.specs.declared.message.ClaimState.TheVariants.{Committed, Aborted};
+ghost use Rattle.ring_layout.specs.declared.message.ClaimState.TheVariants.{Open, Committed, Aborted};
 ghost use Rattle.ring_layout.specs.Places.{IsCapacity};
 ghost use Rattle.ring_words.specs.Ring.{tail_of};
 ghost use Rattle.ring_words.specs.Open.{ClaimAt, IsOpen, fresh_claim};
@@ -13,7 +13,7 @@ use crate::fault::{ClaimFault, PutRange};
 use crate::positions::Positions;
 use crate::ring::SoloRing;
 use crate::write::append::{append_claim, append_message};
-use crate::write::settle::{put_bytes, settle};
+use crate::write::settle::{put_bytes, settle_at};
 use ring_layout::record_descriptor::HEADER_LENGTH;
 use ring_layout::{
     Admission, ClaimState, byte_index, has_room, is_length, is_position, is_type_id, max_message,
@@ -116,18 +116,24 @@ impl SoloRing {
         Ok(())
     }
 
+    /// Settles an open claim of this ring, as committed or as aborted.
+    #[inline]
+    fn settle(&mut self, claim: SoloClaim, state: ClaimState)
+        requires claim { IsOpen self.old claim }
+        requires settled { state ≢ Open }
+        ensures settled { Settles self.old claim.place state self.new }
+        ensures others { (t : ClaimAt) → IsOpen self.old t → t.place ≢ claim.place → IsOpen self.new t }
+    {
+        settle_at(&mut self.words, self.capacity, &claim, state);
+    }
+
     /// Settles an open claim of this ring: the reader is shown its message.
     pub fn commit(&mut self, claim: SoloClaim)
         requires { IsOpen self.old claim }
         ensures settled { Settles self.old claim.place Committed self.new }
         ensures others { (t : ClaimAt) → IsOpen self.old t → t.place ≢ claim.place → IsOpen self.new t }
     {
-        settle(
-            &mut self.words,
-            self.capacity,
-            &claim,
-            ClaimState::Committed,
-        );
+        self.settle(claim, ClaimState::Committed);
     }
 
     /// Settles an open claim of this ring: the reader passes it.
@@ -136,6 +142,6 @@ impl SoloRing {
         ensures settled { Settles self.old claim.place Aborted self.new }
         ensures others { (t : ClaimAt) → IsOpen self.old t → t.place ≢ claim.place → IsOpen self.new t }
     {
-        settle(&mut self.words, self.capacity, &claim, ClaimState::Aborted);
+        self.settle(claim, ClaimState::Aborted);
     }
 }

@@ -25,7 +25,7 @@ fn settled_header(claim: &SoloClaim, state: ClaimState) -> u64
 }
 
 /// Stores the settled header of an open claim.
-pub(crate) fn settle(words: &mut [u64], capacity: u32, claim: &SoloClaim, state: ClaimState)
+pub(crate) fn settle_at(words: &mut [u64], capacity: u32, claim: &SoloClaim, state: ClaimState)
     requires ring { IsRing (ring capacity words.old) }
     requires claim { IsOpen (ring capacity words.old) claim.now }
     requires settled { state ≢ Open }

@@ -26,6 +26,6 @@ returns-in-Ok-Some-clause-kept c = let got =
     λ r h. answered_more _ _ _ r (ap (λ (m : Sat). m.0.capacity) copy.1) (ap (λ (m : Sat). m.0.copies) copy.1) h
 
 pub returns-in-Err-clause-kept : goal.returns-in-Err-clause-kept
-returns-in-Err-clause-kept c = let got = c.in-Err.ensures.got in let new = c.load_latest-self.ensures.seen in
+returns-in-Err-clause-kept c = let got = c.in-Err.ensures.got in let new = c.go_to_latest-place.ensures.seen in
     λ r h. answered_same _ _ r (ap (λ (m : Sat). m.0.capacity) new.1 ∙ ap (λ (m : Sat). m.0.capacity) got.1)
     (ap (λ (m : Sat). m.0.copies) new.1 ∙ ap (λ (m : Sat). m.0.copies) got.1) h

@@ -1,40 +1,40 @@
-use Rattle.std.proofs.Common.{refl, ap, ◌∙◌, arith}
+use Rattle.std.proofs.Common.{ap, ◌∙◌, arith}
 use Rattle.ring_table.specs.declared.view.View.{View}
-use Rattle.ring_layout.specs.declared.message.ClaimState.TheVariants.{Aborted}
 use Rattle.ring_table.specs.declared.claim.Stage.TheVariants.{Stored}
 use Rattle.ring_table.specs.Changes.{staged}
 use Rattle.ring_table.specs.ProducerSteps.{IsOpen}
 use Rattle.ring_rings.proofs.PutLemmas.{has_other}
-use Rattle.ring_rings.proofs.CountLemmas.{settles_one, matches_settled}
-use Rattle.ring_rings.proofs.ring.Ring.abort.Goals as goal
+use Rattle.ring_rings.proofs.CountLemmas.{none_open, settles_one, matches_settled}
+use Rattle.ring_rings.proofs.ring.Ring.settle.Goals as goal
 
 pub overflow_sub-producer : goal.overflow_sub-producer
 overflow_sub-producer g c =
     let p = c.args.producer.now in
     let counted = p.known.counted in
     let settled = settles_one p.seat.me.0 c.args.claim.place c.place.result c.args.claim.type_id c.args.claim.len
-    Aborted c.requires.claim.claim c.place.ensures c.store_aborted_header.ensures.rising refl in
+    c.args.state c.requires.claim.claim c.place.ensures c.store_settled_header.ensures.rising
+    (none_open c.args.state c.requires.settled) in
     omega arith
 
 pub invariant_of-producer : goal.invariant_of-producer
 invariant_of-producer g c =
     let p = c.args.producer.now in
-    let e = c.store_aborted_header.ensures in
+    let e = c.store_settled_header.ensures in
     record {
       known = matches_settled p.seat.me.0 _ p.shares p.open_claims p.own_tail c.args.claim.place c.place.result
-          c.args.claim.type_id c.args.claim.len Aborted p.known c.requires.claim.claim c.place.ensures e.rising e.view
-          refl;
+          c.args.claim.type_id c.args.claim.len c.args.state p.known c.requires.claim.claim c.place.ensures e.rising
+          e.view (none_open c.args.state c.requires.settled);
       produces = (ap (λ (v : View). v.consumes) e.view ∙ p.produces.0, e.seat.slots ∙ p.produces.1);
     }
 
 pub returns-clause-others : goal.returns-clause-others
 returns-clause-others g c t h other =
-    let e = c.store_aborted_header.ensures in
+    let e = c.store_settled_header.ensures in
     record {
       index = h.index;
       message = h.message;
       limit = h.limit;
-      claim = has_other c.args.producer.now.seat.me.0 c.store_aborted_header.new.producer.me.0 c.place.result t.place
-          (staged (Stored Aborted)) (IsOpen t.type_id t.len) (ap (λ (v : View). v.producer.claims) e.view) h.claim
+      claim = has_other c.args.producer.now.seat.me.0 c.store_settled_header.new.seat.me.0 c.place.result t.place
+          (staged (Stored c.args.state)) (IsOpen t.type_id t.len) (ap (λ (v : View). v.producer.claims) e.view) h.claim
           (λ here. other (here ∙ c.place.ensures));
     }

@@ -5,7 +5,7 @@ use Rattle.ring_words.specs.Open.{ClaimAt, IsOpen}
 use Rattle.ring_words.specs.Change.{ChangesClaim, settled_as}
 use Rattle.ring_words.proofs.MiddleLemmas.{open_lies, changes, is_ring_changed, stays}
 use Rattle.ring_words.proofs.SettleLemmas.{settle_rewrites, settled_stays}
-use Rattle.ring_words.proofs.write.settle.settle.Goals as goal
+use Rattle.ring_words.proofs.write.settle.settle_at.Goals as goal
 
 pub settled_header-header-requires-clause-short : goal.settled_header-header-requires-clause-short
 settled_header-header-requires-clause-short c =

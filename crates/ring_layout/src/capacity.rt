@@ -1,0 +1,66 @@
+//! Which capacities and starts a ring and a board may have.
+ghost use Rattle.std.specs.Prelude.{◌≡◌, ◌%◌, ◌/◌, ◌<◌, ◌≤◌, ◌↔◌, IsTrue, OnOk, true};
+ghost use Rattle.ring_layout.specs.Places.{is_capacity, is_board_capacity, IsCapacity, IsBoardCapacity, max_position};
+ghost use Rattle.ring_layout.specs.Refusals.{make_refusal_of, IsRefusedBy};
+
+use crate::broadcast_buffer_descriptor as board;
+use crate::make_fault::MakeFault;
+use crate::ring_buffer_descriptor::{MAX_CAPACITY, MAX_POSITION, MIN_CAPACITY};
+
+/// Tests whether a ring may have this capacity: a power of two from 128 to 2^24.
+pub fn is_capacity(capacity: u32) -> bool
+    ensures test { result ≡ is_capacity capacity }
+    ensures lawful { IsTrue result ↔ IsCapacity capacity }
+{
+    capacity.is_power_of_two() && capacity >= MIN_CAPACITY && capacity <= MAX_CAPACITY
+}
+
+/// Tests whether a board may have this capacity: a power of two from 256 to 2^24.
+pub fn is_board_capacity(capacity: u32) -> bool
+    ensures test { result ≡ is_board_capacity capacity }
+    ensures lawful { IsTrue result ↔ IsBoardCapacity capacity }
+{
+    capacity.is_power_of_two() && capacity >= board::MIN_CAPACITY && capacity <= board::MAX_CAPACITY
+}
+
+/// The most bytes of a message: an eighth of the capacity.
+pub fn max_message(capacity: u32) -> u32
+    ensures { result ≡ capacity / 8 }
+{
+    capacity / 8
+}
+
+/// Tests whether a buffer may have this capacity and this start, where `is_lawful` says whether its kind may have the
+/// capacity.
+fn check_start(is_lawful: bool, capacity: u32, start: u64) -> Result<(), MakeFault>
+    requires { is_lawful ≡ true → 0 < capacity }
+    ensures { IsRefusedBy (make_refusal_of is_lawful capacity start) result }
+{
+    if !is_lawful {
+        return Err(MakeFault::BadCapacity);
+    }
+    if start % u64::from(capacity) != 0 || start > MAX_POSITION {
+        return Err(MakeFault::BadStart);
+    }
+    Ok(())
+}
+
+/// Tests whether a ring may have this capacity and begin at this position: `BadCapacity` where the capacity is no power
+/// of two from 128 to 2^24, and then `BadStart` where the start is no multiple of it or above 2^62.
+pub fn check_ring(capacity: u32, start: u64) -> Result<(), MakeFault>
+    ensures refused { IsRefusedBy (make_refusal_of (is_capacity capacity) capacity start) result }
+    ensures lawful { OnOk result (IsCapacity capacity) }
+    ensures start { OnOk result ((start % capacity ≡ 0) × (start ≤ max_position)) }
+{
+    check_start(is_capacity(capacity), capacity, start)
+}
+
+/// Tests whether a board may have this capacity and begin at this position: `BadCapacity` where the capacity is no
+/// power of two from 256 to 2^24, and then `BadStart` where the start is no multiple of it or above 2^62.
+pub fn check_board(capacity: u32, start: u64) -> Result<(), MakeFault>
+    ensures refused { IsRefusedBy (make_refusal_of (is_board_capacity capacity) capacity start) result }
+    ensures lawful { OnOk result (IsBoardCapacity capacity) }
+    ensures start { OnOk result ((start % capacity ≡ 0) × (start ≤ max_position)) }
+{
+    check_start(is_board_capacity(capacity), capacity, start)
+}

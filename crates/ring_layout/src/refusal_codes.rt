@@ -1,0 +1,83 @@
+//! The number of each refusal, which texts, replies and exports to C give for it. No two refusals share one, and one
+//! that several calls give has the same number everywhere.
+
+/// A capacity is none that a ring or a board may have.
+pub const BAD_CAPACITY: i32 = 1;
+
+/// A start is no multiple of the capacity, or above 2^62.
+pub const BAD_START: i32 = 2;
+
+/// Memory is wanting.
+pub const OUT_OF_MEMORY: i32 = 3;
+
+/// A type id is below 1.
+pub const BAD_TYPE: i32 = 4;
+
+/// A message has more than an eighth of the capacity.
+pub const TOO_LONG: i32 = 5;
+
+/// A record would end above 2^62.
+pub const POSITION_LIMIT: i32 = 6;
+
+/// A record does not fit behind the head.
+pub const INSUFFICIENT_CAPACITY: i32 = 7;
+
+/// Another producer was faster.
+pub const CONTENDED: i32 = 8;
+
+/// Bytes do not lie inside a claim.
+pub const PUT_RANGE: i32 = 9;
+
+/// Claims are open.
+pub const CLAIMS_OPEN: i32 = 10;
+
+/// Shares are with other producers.
+pub const PRODUCERS_OUT: i32 = 11;
+
+/// One share is left, and its holder needs it.
+pub const NO_SHARES: i32 = 12;
+
+/// A receiver was overtaken.
+pub const LAPPED: i32 = 13;
+
+/// Shares are with receivers.
+pub const RECEIVERS_OUT: i32 = 14;
+
+/// A number of counters is 0 or above 4,096.
+pub const BAD_COUNT: i32 = 15;
+
+/// A key has more than 112 bytes.
+pub const KEY_TOO_LONG: i32 = 16;
+
+/// A label has more than 380 bytes.
+pub const LABEL_TOO_LONG: i32 = 17;
+
+/// A label has a byte of 128 or more.
+pub const LABEL_NOT_ASCII: i32 = 18;
+
+/// Every id was used, and none that was freed is due.
+pub const NO_FREE_COUNTER: i32 = 19;
+
+/// An id is not below the number of counters.
+pub const BAD_ID: i32 = 20;
+
+/// No counter with an id is in use.
+pub const NOT_ALLOCATED: i32 = 21;
+
+/// A body is no spelling of its command.
+pub const MALFORMED: i32 = 22;
+
+/// No command has a type id.
+pub const UNKNOWN_TYPE: i32 = 23;
+
+/// A line is none of a scenario.
+pub const BAD_LINE: i32 = 25;
+
+/// A number of a storm's plan is not allowed.
+pub const BAD_PLAN: i32 = 26;
+
+/// A wait took as many turns as it may.
+pub const TURNS_SPENT: i32 = 27;
+
+/// An owner is 0, which stands for none.
+pub const BAD_OWNER: i32 = 28;
