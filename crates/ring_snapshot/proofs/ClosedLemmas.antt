@@ -6,11 +6,11 @@ use Rattle.std.proofs.lemmas.Nat.{mod_below, div-add-mod'}
 use Rattle.std.proofs.Math.Nat.{mul-mod_left}
 use mathlib.Core.Option.{some, some-injective, some-ne-none}
 use lib.ListN.{get_elem?}
-use Rattle.ring_layout.specs.Places.{IsCapacity, room}
+use Rattle.ring_layout.specs.Places.{IsBoardCapacity, IsCapacity, room}
 use Rattle.ring_layout.proofs.Laps.{mod_step}
 use Rattle.ring_layout.proofs.CapacityLemmas.{capacity_blocks}
 use Rattle.ring_board.specs.declared.shared.view.Record.{Record}
-use Rattle.ring_board.specs.Layout.{IsBoardCapacity, intent_index, tail_index, latest_index}
+use Rattle.ring_board.specs.Layout.{intent_index, tail_index, latest_index}
 use Rattle.ring_board.specs.Records.{Chain, end, end_of, last_of}
 use Rattle.ring_board.specs.Closing.{IsClosed}
 use Rattle.ring_board.proofs.PlaceLemmas.{chain_at, lies_after, lies_whole}
