@@ -58,6 +58,14 @@ fn lapped(rt: &(impl AllocGlobal + Abort)) -> Vec<u64> {
     words_of(rt.alloc(), &closed.expect(rt, "no receiver is out")).expect(rt, "memory")
 }
 
+/// The same words, but for one.
+fn with_word(mut words: Vec<u64>, at: usize, word: u64) -> Vec<u64> {
+    if let Some(it) = words.as_mut_slice().get_mut(at) {
+        *it = word;
+    }
+    words
+}
+
 /// Compares a report as a table.
 fn is_table(rt: &(impl AllocGlobal + Abort), report: &Report, wanted: &str) {
     let text = table::text(rt.alloc(), report).expect(rt, "memory");
@@ -122,9 +130,8 @@ place  index  state    type  length  body
 
 #[test]
 fn shows_a_transmission_that_runs(rt: HostRuntime) {
-    let mut words = lapped(&rt);
     // The intent, behind the 32 words of the buffer: 16 bytes of the running lap's first record are overwritten.
-    words[32] = 528;
+    let words = with_word(lapped(&rt), 32, 528);
     let report = board::report(rt.alloc(), words.as_slice(), &options(None)).expect(&rt, "memory");
     is_table(
         &rt,
@@ -137,7 +144,7 @@ place  index  state  type  length  body
 1 valid, 0 lapped, 0 padding; transmitting from 360 to 528; the begin of the lap is overwritten
 ",
     );
-    words[32] = 512;
+    let words = with_word(words, 32, 512);
     let report = board::report(rt.alloc(), words.as_slice(), &options(None)).expect(&rt, "memory");
     assert_eq!(rt;
         report.summary.as_str(),
@@ -179,10 +186,9 @@ fn board_as_json(rt: HostRuntime) {
 fn ring_as_json(rt: HostRuntime) {
     let mut ring = SoloRing::new(rt.alloc(), 128).expect(&rt, "a ring");
     ring.write(7, b"hello").expect(&rt, "room");
-    let mut words = words_of(rt.alloc(), &ring).expect(&rt, "memory");
+    let words = words_of(rt.alloc(), &ring).expect(&rt, "memory");
     // The tail is word 16 of the trailer; behind the first record stands a length of 5.
-    words[16 + 16] = 32;
-    words[2] = 5;
+    let words = with_word(with_word(words, 16 + 16, 32), 2, 5);
     let report = ring::report(rt.alloc(), words.as_slice(), &options(None)).expect(&rt, "memory");
     is_json(
         &rt,
