@@ -2,21 +2,20 @@
 #![tactic(auto)]
 
 mod client;
-mod conducting;
+mod service;
+mod shared;
 
 ghost use Rattle.std.specs.Prelude.{◌≡◌};
-ghost use Rattle.std.specs.Thread.{IsSync};
-ghost use Rattle.ring_conductor.specs.Conducting.{IsConductorOf};
 ghost use Rattle.ring_counters.specs.Seats.{IsReaderOf};
-ghost use Rattle.ring_rings.specs.Seats.{IsConsumerOf};
-ghost use Rattle.ring_example.specs.Caller.{IsCallerOf};
+ghost use Rattle.ring_example.specs.Seats.{AreCallersOf, IsConductorAt, IsCallerOf};
 
-use client::{Caller, run_caller};
-use conducting::{COUNTERS, Monitor, conduct, watch};
+use client::Caller;
 use ring_board::Board;
 use ring_conductor::{Client, Conductor, finish};
-use ring_counters::{CounterInfo, CounterValues, CountersManager};
+use ring_counters::{CounterInfo, CountersManager, ValueReader};
 use ring_rings::{ManyToOneRing, Positions};
+use service::{COUNTERS, conduct, watch};
+use shared::Shared;
 use std::io;
 use std::sync::Wait;
 use std::sync::atomic::AtomicBool;
@@ -29,59 +28,51 @@ const RING: u32 = 256;
 /// The bytes of the board. A reply takes 24, so all 2,002 fit and no client is lapped.
 const BOARD: u32 = 65_536;
 
+/// Two callers.
+type Callers = (Caller, Caller);
+
 /// Runs the callers on two threads, and then tells the others to stop.
-fn run_callers<R: Threads + Wait + Sync>(
-    rt: &R,
-    ring: &ManyToOneRing,
-    board: &Board,
-    callers: (Caller, Caller),
-    stop: &AtomicBool,
-) -> (Caller, Caller)
-    requires { IsCallerOf ring.now board.now callers.0 × IsCallerOf ring.now board.now callers.1 }
-    ensures { IsCallerOf ring.now board.now result.0 × IsCallerOf ring.now board.now result.1 }
+fn run_callers<R: Threads + Wait + Sync>(rt: &R, on: &Shared, callers: Callers) -> Callers
+    requires { AreCallersOf on.now callers }
+    ensures { AreCallersOf on.now result }
 {
     let (one, two) = callers;
     let callers = join(
         rt,
         // What goes into a thread belongs to ring and board, and so does what comes back.
         move || -> Caller
-            requires { IsCallerOf ring.now board.now one }
-            ensures { IsCallerOf ring.entry.now board.entry.now result }
-        { run_caller(rt, ring, board, one) },
+            requires { IsCallerOf on.now one }
+            ensures { IsCallerOf on.entry.now result }
+        { one.run(rt, on) },
         move || -> Caller
-            requires { IsCallerOf ring.now board.now two }
-            ensures { IsCallerOf ring.entry.now board.entry.now result }
-        { run_caller(rt, ring, board, two) },
+            requires { IsCallerOf on.now two }
+            ensures { IsCallerOf on.entry.now result }
+        { two.run(rt, on) },
     );
-    stop.store(true, SeqCst);
+    on.stop.store(true, SeqCst);
     callers
 }
 
 /// Runs the conductor and the monitor on two threads, until they are told to stop.
-fn run_conductor<R: Threads + Wait + Sync>(
+fn run_service<R: Threads + Wait + Sync>(
     rt: &R,
-    ring: &ManyToOneRing,
-    board: &Board,
-    values: &CounterValues,
+    on: &Shared,
     conductor: Conductor,
-    monitor: Monitor,
-    stop: &AtomicBool,
-) -> (Conductor, Monitor)
-    requires conductor { IsConductorOf IsConsumerOf ring.now board.now values.now conductor }
-    requires monitor { IsReaderOf values.now monitor.reader }
-    ensures conductor { IsConductorOf IsConsumerOf ring.now board.now values.now result.0 }
-    ensures monitor { IsReaderOf values.now result.1.reader }
+    reader: ValueReader,
+) -> (Conductor, (ValueReader, bool))
+    requires { IsConductorAt on.now conductor × IsReaderOf on.now.values reader }
+    ensures { IsConductorAt on.now result.0 × IsReaderOf on.now.values result.1.0 }
 {
     join(
         rt,
         move || -> Conductor
-            requires { IsConductorOf IsConsumerOf ring.now board.now values.now conductor }
-            ensures { IsConductorOf IsConsumerOf ring.entry.now board.entry.now values.entry.now result }
-        { conduct(rt, ring, board, values, conductor, stop) },
-        move || -> Monitor
-            requires { IsReaderOf values.now monitor.reader }
-            ensures { IsReaderOf values.entry.now result.reader }
-        { watch(rt, values, monitor, stop) },
+            requires { IsConductorAt on.now conductor }
+            ensures { IsConductorAt on.entry.now result }
+        { conduct(rt, on, conductor) },
+        move || -> (ValueReader, bool)
+            requires { IsReaderOf on.now.values reader }
+            ensures { IsReaderOf on.entry.now.values result.0 }
+        { watch(rt, on, reader) },
     )
 }
 
@@ -105,36 +96,44 @@ fn main(rt: HostRuntime) -> anyhow::Result<()> {
     let (values, counters) = CountersManager::new(alloc, COUNTERS, 0)?;
     let mut conductor = Conductor::new(consumer, transmitter, counters);
     let receiver = conductor.subscribe(alloc, &board)?;
-    let requests = Caller::new(
-        "requests",
-        Client::new(ring.split(&mut producer)?, receiver),
-    );
+    let requests = Client::new(ring.split(&mut producer)?, receiver);
     let receiver = conductor.subscribe(alloc, &board)?;
-    let errors = Caller::new("errors", Client::new(ring.split(&mut producer)?, receiver));
-    let monitor = Monitor::new(conductor.value_reader(&values)?);
+    let errors = Client::new(ring.split(&mut producer)?, receiver);
+    let callers = (
+        Caller::new("requests", requests),
+        Caller::new("errors", errors),
+    );
+    let reader = conductor.value_reader(&values)?;
 
     let stop = AtomicBool::new(false);
-    let callers = (requests, errors);
-    let ((one, two), (mut conductor, monitor)) = {
-        let (rt, ring, board, values, stop) = (&rt, &ring, &board, &values, &stop);
+    let shared = Shared {
+        ring,
+        board,
+        values,
+        stop,
+    };
+    let ((one, two), (mut conductor, (reader, saw_fall))) = {
+        let (rt, on) = (&rt, &shared);
         join(
             rt,
-            move || -> (Caller, Caller)
-                requires { IsCallerOf ring.now board.now callers.0 × IsCallerOf ring.now board.now callers.1 }
-                ensures { IsCallerOf ring.entry.now board.entry.now result.0
-                    × IsCallerOf ring.entry.now board.entry.now result.1 }
-            { run_callers(rt, ring, board, callers, stop) },
-            move || -> (Conductor, Monitor)
-                requires conductor { IsConductorOf IsConsumerOf ring.now board.now values.now conductor }
-                requires monitor { IsReaderOf values.now monitor.reader }
-                ensures conductor { IsConductorOf IsConsumerOf ring.entry.now board.entry.now values.entry.now
-                    result.0 }
-                ensures monitor { IsReaderOf values.entry.now result.1.reader }
-            { run_conductor(rt, ring, board, values, conductor, monitor, stop) },
+            move || -> Callers
+                requires { AreCallersOf on.now callers }
+                ensures { AreCallersOf on.entry.now result }
+            { run_callers(rt, on, callers) },
+            move || -> (Conductor, (ValueReader, bool))
+                requires { IsConductorAt on.now conductor × IsReaderOf on.now.values reader }
+                ensures { IsConductorAt on.entry.now result.0 × IsReaderOf on.entry.now.values result.1.0 }
+            { run_service(rt, on, conductor, reader) },
         )
     };
 
     // All seats are taken back, and then the conductor can finish.
+    let Shared {
+        ring,
+        board,
+        values,
+        ..
+    } = shared;
     let replies = one.replies.saturating_add(two.replies);
     let laps = one.laps.saturating_add(two.laps);
     let (writer, receiver) = one.client.into_parts();
@@ -143,7 +142,7 @@ fn main(rt: HostRuntime) -> anyhow::Result<()> {
     let (writer, receiver) = two.client.into_parts();
     ring.join(&mut producer, writer);
     conductor.join_receiver(&board, receiver);
-    conductor.join_value_reader(&values, monitor.reader);
+    conductor.join_value_reader(&values, reader);
     let finished = finish(ring, board, values, conductor, producer).map_err(
         |refused| refused.reason,
     )?;
@@ -151,18 +150,9 @@ fn main(rt: HostRuntime) -> anyhow::Result<()> {
     let Positions { head, tail } = finished.rest.positions();
     print_counter(&rt, one.label, live.as_slice())?;
     print_counter(&rt, two.label, live.as_slice())?;
-    println!(rt;
-        "commands {} replies {replies} laps {laps}",
-        finished.received
-    )?;
-    println!(rt;
-        "values {}",
-        if monitor.saw_fall {
-            "fell"
-        } else {
-            "never fell"
-        }
-    )?;
+    let received = finished.received;
+    println!(rt; "commands {received} replies {replies} laps {laps}")?;
+    println!(rt; "values {}", if saw_fall { "fell" } else { "never fell" })?;
     println!(rt; "left {}", tail - head)?;
     Ok(())
 }

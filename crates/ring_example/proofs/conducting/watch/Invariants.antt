@@ -1,8 +1,0 @@
-use Rattle.ring_counters.specs.Seats.{IsReaderOf}
-use Rattle.ring_example.proofs.conducting.watch.Given as goal
-
-abbrev pub invariant-loop : goal.invariant-loop
-invariant-loop g l = IsReaderOf l.values l.monitor.reader
-
-abbrev pub invariant-loop-id : goal.invariant-loop-id
-invariant-loop-id g l = IsReaderOf l.values l.monitor.reader

@@ -1,0 +1,58 @@
+//! The conductor at work, and the monitor of its counters.
+ghost use Rattle.ring_counters.specs.Seats.{IsReaderOf};
+ghost use Rattle.ring_example.specs.Seats.{IsConductorAt};
+
+use crate::shared::Shared;
+use crossbeam_utils::Backoff;
+use ring_conductor::{Conductor, WorkStop};
+use ring_counters::ValueReader;
+use std::sync::Wait;
+use std::sync::atomic::Ordering::SeqCst;
+
+/// How many counters there are.
+pub const COUNTERS: u32 = 2;
+
+/// The moment at which the conductor works, in milliseconds. It matters to counters that are freed, and here none is.
+const NOW: u64 = 0;
+
+/// Works until it is told to stop and no command is left.
+pub fn conduct<R: Wait>(rt: &R, on: &Shared, mut conductor: Conductor) -> Conductor
+    requires { IsConductorAt on.now conductor }
+    ensures { IsConductorAt on.now result }
+{
+    let backoff = Backoff::new();
+    for _ in rt.forever() {
+        // Looked at first: what was sent before the stop is then still taken below.
+        let is_last = on.stop.load(SeqCst);
+        let work = conductor.do_work(&on.ring, &on.board, &on.values, NOW, u32::MAX);
+        match work.stopped {
+            // The end of the buffer is not the end of the commands: the next call goes on behind it.
+            WorkStop::Block | WorkStop::Limit => backoff.reset(),
+            WorkStop::Unpublished if !is_last => backoff.snooze(),
+            WorkStop::Unpublished | WorkStop::BoardEnd => return conductor,
+        }
+    }
+    unreachable!()
+}
+
+/// Reads all values until it is told to stop. Says whether one was ever below an earlier one of the same counter.
+pub fn watch<R: Wait>(rt: &R, on: &Shared, mut reader: ValueReader) -> (ValueReader, bool)
+    requires { IsReaderOf on.now.values reader }
+    ensures { IsReaderOf on.now.values result.0 }
+{
+    let mut latest = [0; COUNTERS as usize];
+    let mut saw_fall = false;
+    let backoff = Backoff::new();
+    for _ in rt.forever() {
+        for (id, value) in (0..COUNTERS).zip(latest.iter_mut()) {
+            let now = on.values.load(&mut reader, id).unwrap_or(i64::MIN);
+            saw_fall |= now < *value;
+            *value = now;
+        }
+        if on.stop.load(SeqCst) {
+            return (reader, saw_fall);
+        }
+        backoff.snooze();
+    }
+    unreachable!()
+}
