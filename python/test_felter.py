@@ -1,4 +1,4 @@
-"""Tests of felter.py: python3 python/test_felter.py"""
+"""Tests of felter: python3 python/test_felter.py"""
 
 import ctypes
 import threading

@@ -1,0 +1,39 @@
+"""Rings, boards and counters for the threads of one process, by ctypes alone.
+
+    producer, consumer = felter.many_to_one(65536)
+    producer.write(7, b"hello")
+    for message in consumer:
+        print(message.type_id, message.body)
+
+The library is `libfelter.so` in the folder that FELTER_DIR names, or else in this repository's `c/out`, where `c/build`
+puts it. Nothing waits: reads answer None where nothing is there, and a full ring or a faster producer is an exception
+(`Error`, whose `is_passing` is then true). Capacities, lengths and positions are bytes; moments are milliseconds by a
+clock of the caller.
+
+A handle may be used by any thread: a lock in each lets one call at a time work on it. Handles are context managers, and
+free what they own at the end. This module is tested and not proved; that handles of two rings are not mixed is compared
+here, by a number that each ring has.
+"""
+
+from felter.boards import Receiver, Transmitter
+from felter.counters import Counters, Reader
+from felter.errors import Error, Lapped, Number
+from felter.message import Message
+from felter.rings import Claim, Consumer, Positions, Producer, many_to_one, one_to_one
+
+__all__ = [
+    "Claim",
+    "Consumer",
+    "Counters",
+    "Error",
+    "Lapped",
+    "Message",
+    "Number",
+    "Positions",
+    "Producer",
+    "Reader",
+    "Receiver",
+    "Transmitter",
+    "many_to_one",
+    "one_to_one",
+]

@@ -1,0 +1,56 @@
+"""Boards: a transmitter never waits, and a receiver learns what it missed."""
+
+import ctypes
+
+from felter._library import call, is_there
+from felter._owner import Owner
+from felter.errors import Error, Lapped, Number
+from felter.message import Message
+
+
+class Transmitter(Owner):
+    """Transmits on a board of a capacity. It never waits: a receiver that is too slow is overtaken, and learns that."""
+
+    def __init__(self, capacity, start=0):
+        super().__init__()
+        self._capacity = capacity
+        call("felter_board_new_at", capacity, start, self._handle)
+
+    def transmit(self, type_id, body):
+        """Transmits a message."""
+        self._do("felter_transmit", type_id, body, len(body))
+
+    def subscribe(self):
+        """Makes a receiver, which starts with the message that was transmitted last. It has one share of 65,536, which
+        is lost when it is freed."""
+        receiver = Receiver(self._capacity)
+        self._do("felter_subscribe", receiver._handle)
+        return receiver
+
+
+class Receiver(Owner):
+    """Receives what is transmitted on a board."""
+
+    def __init__(self, capacity):
+        super().__init__()
+        self._buffer = ctypes.create_string_buffer(capacity // 8)
+
+    def receive(self):
+        """The next message, or None where nothing is there. Raises Lapped where the transmitter overtook the receiver;
+        the next call goes on with the message that was transmitted last."""
+        type_id, length, lapped = ctypes.c_int32(), ctypes.c_size_t(), ctypes.c_uint64()
+        with self._lock:
+            outs = type_id, length, lapped, self._buffer, len(self._buffer)
+            try:
+                took = is_there("felter_receive", self._handle, *outs)
+            except Error as refused:
+                raise Lapped(lapped.value) if refused.number == Number.LAPPED else refused
+            return Message(type_id.value, self._buffer[:length.value]) if took else None
+
+    def __iter__(self):
+        """The messages that are there, each taken as it is asked for."""
+        return iter(self.receive, None)
+
+    def lapped_count(self):
+        """How often it was lapped."""
+        return self._say("felter_lapped_count", ctypes.c_uint64)
