@@ -7,5 +7,6 @@ pub mod AccountLemmas
 pub mod SendingLemmas
 pub mod AskingLemmas
 pub mod TurnLemmas
+pub mod LiveLemmas
 pub mod StormLemmas
 pub mod WholeLemmas

@@ -46,11 +46,12 @@ use Rattle.ring_conductor.specs.Account.{IsFoldOf, messages_in}
 use Rattle.ring_conductor.specs.Conducting.{Works}
 use Rattle.ring_conductor.specs.Finishing.{IsWhole}
 use Rattle.ring_conductor.specs.Turns.{AreAllTurns}
-use Rattle.ring_conductor.specs.Storming.{IsBoardFor, IsReportOf, all_commands, counters_after, storm_counters, sum_of, with_value_of}
+use Rattle.ring_conductor.specs.Storming.{IsBoardFor, IsPlan, IsReportOf, all_commands, counters_after, storm_counters, sum_of, with_value_of}
 use Rattle.ring_conductor.specs.Fold.{Ledger, fold_of, at_moment, served}
 use Rattle.ring_protocol.specs.Reading.{command_of}
 use Rattle.ring_conductor.proofs.FinishLemmas.{drained, messages_of-append}
 use Rattle.ring_conductor.proofs.FoldLemmas.{lengths}
+use Rattle.ring_conductor.proofs.LiveLemmas.{storm_live}
 use Rattle.ring_conductor.proofs.TurnLemmas.{nothing}
 
 -- What the conductor does ------------------------------------------------------
@@ -203,6 +204,7 @@ few_committed (c ∷ cs) =
 -- what a storm that took all commands has, once it finished: v and w are what producer and conductor knew of the ring
 pub record Ended (p : StormPlan) (C start : ℕ) (v w : View) (rest : Ring) (counters : Registry) (sent : List Record)
     (heard : List Joined) : Type 0 where
+  pub lawful : IsPlan p
   pub capacity : C ≡ p.ring
   pub begins : start ≡ 0
   pub out : HandsOut C start v w rest
@@ -261,6 +263,9 @@ module _ (p : StormPlan) (C start : ℕ) (v w : View) (rest : Ring) (counters : 
         writes = ended.writes;
         folded = subst (λ r. ∥ IsFoldOf messages r ended.writes (messages_in sent) ∥₁) ended.counters_are ended.folded;
         live = live ∙ ap (λ c. length (live_of c)) ended.counters_are;
+        clients = live ∙ (ap (λ c. length (live_of c)) ended.counters_are
+            ∙ (ap (λ ms. length (live_of (storm_counters p ms))) all_taken
+            ∙ storm_live p v.producer.claims heard ended.lawful.commands.0 ended.lawful.clients.1 ended.turns));
         sum = sum ∙ ap (λ c. sum_of (live_of c)) ended.counters_are;
       }
 

@@ -142,7 +142,7 @@ pub record HasAll (hub : Hub) : Type 0 where
 -- All commands were taken, none is left, and each client had all its replies. The claims of the ring, in the order of
 -- the exchanges, are the clients' commands, and what was taken is their messages; each command has its reply among the
 -- copies of its client's receiver, which are runs of all replies; and these are the ones that the messages have. The
--- live counters, and the sum of their values, are those that the messages make of fresh counters
+-- live counters, and the sum of their values, are those that the messages make of fresh counters: one for each client
 pub record IsReportOf (p : StormPlan) (r : StormReport) : Type 0 where
   pub received : r.received ≡ all_commands p
   pub left : r.left ≡ 0
@@ -159,4 +159,5 @@ pub record IsReportOf (p : StormPlan) (r : StormReport) : Type 0 where
   pub writes : List ValueWrite
   pub folded : ∥ IsFoldOf messages (storm_counters p messages) writes (messages_in replies) ∥₁
   pub live : r.live ≡ length (live_of (storm_counters p messages))
+  pub clients : r.live ≡ p.clients
   pub sum : r.sum ≡ sum_of (live_of (storm_counters p messages))

@@ -26,7 +26,7 @@ pub struct StormReport {
     pub left: u64,
     /// How many replies came to the clients that had sent their commands.
     pub seen: u64,
-    /// How many counters are in use.
+    /// How many counters are in use: one for each client.
     pub live: u32,
     /// The sum of their values.
     pub sum: i64,

@@ -11,6 +11,7 @@ returns-in-None-clause-report g c =
     let done = threads.done c.in-None.is in
     let said = c.report.ensures in
     reported _ _ _ _ _ _ _ _ _ record {
+      lawful = c.is_lawful.ensures.0 c.if-not-is_lawful.false;
       capacity = c.in-Ok.ensures.ring.0;
       begins = c.in-Ok.ensures.ring.1;
       out = e.left;
