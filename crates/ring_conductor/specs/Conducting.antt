@@ -106,8 +106,8 @@ pub record IsCutOff (limit : ℕ) (v w : View) (board : BoardView) (done : Work)
   pub full : IsAtEnd board
 
 -- messages were taken at a moment, and counters, value writes and replies are their fold: v and l are what the
--- conductor
--- knew of the ring, and its ledger, w and k the same afterwards. Each was taken where a reply of 12 bytes had room
+-- conductor knew of the ring, and its ledger, w and k the same afterwards. Each was taken where a reply of 12 bytes had
+-- room
 pub record Works (now limit : ℕ) (v w : View) (l k : Ledger) (done : Work) : Type 0 where
   pub messages : List PlacedMessage
   pub counted : done.messages ≡ length messages

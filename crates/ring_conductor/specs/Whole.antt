@@ -18,12 +18,9 @@ use Rattle.ring_conductor.specs.Account.{account_of, fresh_account, messages_in}
 use Rattle.ring_conductor.specs.Fold.{at_moment}
 
 -- Claims lie one behind the other from the ring's start on. What was received, some messages at the moment `early` and
--- others
--- at the moment `late`, followed by what still lies in the ring, is their committed messages, each whole and once. What
--- was
--- received makes of four fresh counters these counters, all value writes, and the replies, which the closed board has.
--- What
--- each of the two listeners copied are runs of all replies
+-- others at the moment `late`, followed by what still lies in the ring, is their committed messages, each whole and
+-- once. What was received makes of four fresh counters these counters, all value writes, and the replies, which the
+-- closed board has. What each of the two listeners copied are runs of all replies
 pub record Concludes (early late : ℕ) (f : Finished) : Type 0 where
   pub claims : List StagedClaim
   pub ordered : AreOrdered 1024 0 claims

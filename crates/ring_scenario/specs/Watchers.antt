@@ -22,8 +22,7 @@ pub record Watches (writes : List ValueWrite) (old : Numbered ValueReader) (next
   pub comes : Comes reader (held_in old) next (held_in new)
 
 -- the reader of this number loaded this value of an id once, the one after writes that are no fewer than it had seen,
--- and
--- no other reader changed
+-- and no other reader changed
 pub record Peeks (id : ℕ) (value : ℤ) (old : Numbered ValueReader) (number : ℕ)
     (new : Numbered ValueReader) : Type 0 where
   pub before : ValueReader
