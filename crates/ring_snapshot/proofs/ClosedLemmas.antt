@@ -1,25 +1,24 @@
 -- What the words of a closed board list from a position on.
-use Rattle.std.proofs.Common.{◌≡◌, ℕ, zero, suc, ◌<◌, ◌+◌, ◌-◌, ◌*◌, ◌/◌, ◌%◌, ◌≤◌, ◌⊎◌, List, [], ◌∷◌, slice_index, refl, ap, sym, ◌∙◌, subst, inl, inr, ⊎_elim, arith, true, eq-eqb}
-use Rattle.std.specs.Prelude.{not, ◌||◌, ◌==◌, nat_le, nat_lt, if◌then◌else◌, Option, Some, None}
-use Rattle.std.proofs.lemmas.Bool.{cases_lt, le-ltb, le-leb, lt-leb, cond-false}
+use Rattle.std.proofs.Common.{◌≡◌, ℕ, zero, suc, ◌+◌, ◌-◌, ◌*◌, ◌/◌, ◌%◌, ◌≤◌, ◌⊎◌, List, [], ◌∷◌, slice_index, refl, ap, sym, ◌∙◌, subst, inl, inr, ⊎_elim, arith, true, false, Err, eq-eqb}
+use Rattle.std.specs.Prelude.{not, ◌||◌, None}
+use Rattle.std.proofs.lemmas.Bool.{cases_lt, le-ltb, cond-false}
 use Rattle.std.proofs.lemmas.Nat.{mod_below, div-add-mod'}
 use Rattle.std.proofs.Math.Nat.{mul-mod_left}
 use mathlib.Core.Option.{some, some-injective, some-ne-none}
 use lib.ListN.{get_elem?}
-use Rattle.ring_layout.specs.Places.{IsBoardCapacity, IsCapacity, room}
+use Rattle.ring_layout.specs.Places.{IsBoardCapacity, room}
 use Rattle.ring_layout.proofs.Laps.{mod_step}
-use Rattle.ring_layout.proofs.CapacityLemmas.{capacity_blocks}
 use Rattle.ring_board.specs.declared.shared.view.Record.{Record}
 use Rattle.ring_board.specs.Layout.{intent_index, tail_index, latest_index}
 use Rattle.ring_board.specs.Records.{Chain, end, end_of, last_of}
 use Rattle.ring_board.specs.Closing.{IsClosed}
+use Rattle.ring_board.specs.Refusals.{IsRefusedBy}
 use Rattle.ring_board.proofs.PlaceLemmas.{chain_at, lies_after, lies_whole}
-use Rattle.ring_board.proofs.OpeningLemmas.{multiple}
+use Rattle.ring_board.proofs.OpeningLemmas.{capacity_whole, multiple}
 use Rattle.ring_snapshot.specs.declared.board_record.BoardRecord.{BoardRecord}
 use Rattle.ring_snapshot.specs.declared.board_finding.BoardFinding.{BoardFinding}
-use Rattle.ring_snapshot.specs.declared.board_finding.BoardFinding.TheVariants.{OutsideOfRecords}
-use Rattle.ring_snapshot.specs.Listing.{ok_records, or_else}
-use Rattle.ring_snapshot.specs.BoardRecords.{BoardEntry, entry_at, listing, records_of, from_on, HaveTransmitted, Begins, lap_of, positions_finding, from_finding}
+use Rattle.ring_snapshot.specs.Listing.{ok_records}
+use Rattle.ring_snapshot.specs.BoardRecords.{BoardEntry, entry_at, listing, records_of, from_on, HaveTransmitted, Begins, lap_of, positions_finding}
 use Rattle.ring_snapshot.proofs.StepLemmas.{listing_ends}
 use Rattle.ring_snapshot.proofs.StoredLemmas.{padding_stands, header_stands, body_stands}
 use Rattle.ring_snapshot.proofs.BoardLemmas.{Fit, last_fits, last_high, lap_in, from_on_none, AreKept, from_one}
@@ -34,26 +33,6 @@ positions_none C intent tail latest a b c d e f g =
     ∙ cond-false _ _ _ (le-ltb intent tail e)
     ∙ cond-false _ _ _ (le-ltb (latest + room C latest) tail f)
     ∙ cond-false _ _ _ (le-ltb (latest + C) intent g)
-
-from_none : (C intent tail latest p : ℕ) → positions_finding C intent tail latest ≡ None → p % 8 ≡ 0
-    → (p ≤ latest) ⊎ (p ≡ tail) → intent ≤ p + C
-    → from_finding C intent tail latest p ≡ None
-from_none C intent tail latest p none p8 at near =
-    let x = eq-eqb (p % 8) 0 p8 in let z = le-ltb (p + C) intent near in
-    ap (λ (o : Option BoardFinding). or_else o outside) none
-    ∙ cond-false _ (Some (OutsideOfRecords p)) None (λ i. not (x i) || not (begins i) || z i)
-  where
-    outside : Option BoardFinding
-    outside = if not (p % 8 == 0) || not (nat_le p latest || p == tail)
-        || nat_lt (p + C) intent then Some (OutsideOfRecords p) else None
-
-    beyond : latest < p → (p ≤ latest) ⊎ (p ≡ tail) → (nat_le p latest || p == tail) ≡ true
-    beyond lt or = let past = lt-leb p latest lt in
-        let is : (p == tail) ≡ true = eq-eqb p tail (⊎_elim (λ le. absurd (omega (arith, le, lt))) (λ e. e) or) in
-        λ i. past i || is i
-
-    begins : (nat_le p latest || p == tail) ≡ true
-    begins = ⊎_elim (λ lt. beyond lt at) (λ le. ap (λ b. b || p == tail) (le-leb p latest le)) (cases_lt latest p)
 
 module _ (C : ℕ) (ok : IsBoardCapacity C) (words : List ℕ) (sent : List Record) (h : HaveTransmitted C words sent) where
   abbrev intent : ℕ
@@ -72,15 +51,14 @@ module _ (C : ℕ) (ok : IsBoardCapacity C) (words : List ℕ) (sent : List Reco
   closed = h.2
 
   whole : C % 64 ≡ 0
-  whole = let lawful : IsCapacity C = record { power = ok.power; least = omega (arith, ok.least); most = ok.most } in
-      omega (arith, capacity_blocks C lawful)
+  whole = capacity_whole C ok
 
   fit : Fit C (last_of start sent) (end_of start sent)
   fit = let e8 = multiple C start whole h.1 in let at = h.1 in
       last_fits C ok.least whole start start sent closed.places
       (omega arith, omega (arith, at), e8, e8)
 
-  pub closed_positions : positions_finding C intent tail latest ≡ None
+  closed_positions : positions_finding C intent tail latest ≡ None
   closed_positions =
       let f = fit in let la = closed.latest in let en = closed.tail in let it = closed.intent in
       let low = f.0 in let inside = f.1 in let l8 = f.2 in let e8 = f.3 in let least = ok.least in
@@ -95,6 +73,13 @@ module _ (C : ℕ) (ok : IsBoardCapacity C) (words : List ℕ) (sent : List Reco
       far_at : end_of start sent ≤ last_of start sent + room C (last_of start sent) → tail ≤ latest + room C latest
       far_at far = subst (λ x. tail ≤ x + room C x) (sym closed.latest)
           (let en = closed.tail in omega (arith, en, far))
+
+  -- positions that were read there are not refused
+  pub never_refused : (i t l : ℕ) → i ≡ intent → t ≡ tail → l ≡ latest → (f : BoardFinding)
+      → IsRefusedBy {T = Unit {0}} (positions_finding C i t l) (Err f) → ⊥
+  never_refused i t l it tl la f refused =
+      let none = (λ j. positions_finding C (it j) (tl j) (la j)) ∙ closed_positions in
+      let clash : false ≡ true = subst (λ o. IsRefusedBy {T = Unit {0}} o (Err f)) none refused in absurd cc
 
   -- the transmission that was begun last is done
   pub at_rest : intent ≡ tail
@@ -135,11 +120,7 @@ module _ (C : ℕ) (ok : IsBoardCapacity C) (words : List ℕ) (sent : List Reco
             subst (λ (x : Record). x.place ≤ last_of q.place qs) (some-injective q r on) up
         place_low d e (q ∷ qs) c (suc k) r on = place_low q.place (end q) qs c.1 k r on
 
-    pub closed_from : tail ≤ p + C → from_finding C intent tail latest p ≡ None
-    closed_from near = let it = closed.intent in let en = closed.tail in
-        from_none C intent tail latest p closed_positions begins_whole begins_low (omega (arith, it, en, near))
-
-    pub closed_listed : (m : ℕ) → tail ≤ p + C → tail ≤ p + 8 * m
+    closed_listed : (m : ℕ) → tail ≤ p + C → tail ≤ p + 8 * m
         → listing C words intent latest tail m p ≡ ok_records (from_on p (records_of C intent sent))
     closed_listed m near enough =
         let told : List BoardRecord → List BoardEntry = λ rs. ok_records rs in
@@ -150,6 +131,15 @@ module _ (C : ℕ) (ok : IsBoardCapacity C) (words : List ℕ) (sent : List Reco
         (λ t. from_one C ok.least ok.most whole words intent latest tail p start start sent closed.places kept
         (sym closed.latest) (sym closed.tail) near t.0 t.1 t.2 t.3 m enough)
         begins
+
+    -- the listing of positions that were read there
+    pub closed_listing : (i t l q : ℕ) → i ≡ intent → t ≡ tail → l ≡ latest → q ≡ p → tail ≤ p + C
+        → listing C words i l t ((t - q) / 8) q ≡ ok_records (from_on p (records_of C intent sent))
+    closed_listing i t l q it tl la first near =
+        let w8 = begins_whole in let e8 = fit.3 in let en = closed.tail in
+        let enough : tail ≤ p + 8 * ((tail - p) / 8) = omega (arith, w8, e8, en) in
+        (λ j. listing C words (it j) (la j) (tl j) ((tl j - first j) / 8) (first j))
+        ∙ closed_listed ((tail - p) / 8) near enough
 
   -- the running lap
   pub lap_begins : Begins sent tail (lap_of C latest)

@@ -1,5 +1,5 @@
 -- The words of a registry list its counters.
-use Rattle.std.proofs.Common.{◌≡◌, ℕ, zero, suc, ◌+◌, ◌-◌, ◌*◌, ◌%◌, ◌^◌, ◌<◌, ◌≤◌, Bool, true, false, cond, List, [], ◌∷◌, map, filter, length, drop, slice_index, refl, ap, sym, ◌∙◌, arith, ℤ, pos, Ok, Err}
+use Rattle.std.proofs.Common.{◌≡◌, ℕ, zero, suc, ◌+◌, ◌-◌, ◌*◌, ◌%◌, ◌^◌, ◌<◌, ◌≤◌, Bool, true, false, cond, List, ◌∷◌, map, filter, length, drop, slice_index, refl, ap, sym, ◌∙◌, arith, ℤ, pos, Ok, Err}
 use Rattle.std.specs.Prelude.{int_lt, not, ◌||◌, if◌then◌else◌, Option, Some, None}
 use Rattle.std.specs.List.{range_with_len}
 use Rattle.std.specs.Int.{cast_signed, w32}
@@ -7,18 +7,17 @@ use Rattle.std.specs.Ordering.{int_eq}
 use Rattle.std.proofs.lemmas.Int.{to_z-of_z}
 use Rattle.std.proofs.lemmas.List.{get_or-drop}
 use Rattle.ring_layout.proofs.HeaderLemmas.{fits_pos}
-use Rattle.ring_counters.specs.Counter.{Status, Metadata, Values, deadline_of}
+use Rattle.ring_counters.specs.Counter.{Status, Metadata, Values}
 use Rattle.ring_counters.specs.Counter as ring_counters
 use Rattle.ring_counters.specs.Records.{bytes_at, metadata_of, IsMetadata, IsValues}
 use Rattle.ring_counters.specs.Registry.{Registry, count_of, counter_at, status_at, is_unused, is_allocated}
 use Rattle.ring_counters.proofs.RecordLemmas.{state_decoded, type_decoded, deadline_shown, length_decoded, metadata_decoded, value_decoded, registration_shown, owner_shown}
-use Rattle.ring_snapshot.specs.declared.counter.Counter.{Counter}
 use Rattle.ring_snapshot.specs.declared.counter.CounterState.{CounterState}
 use Rattle.ring_snapshot.specs.declared.counter.CounterState.TheVariants.{Allocated, Reclaimed}
 use Rattle.ring_snapshot.specs.declared.counters_finding.CountersFinding.TheVariants.{BadLabelLength}
 use Rattle.ring_snapshot.specs.RingRecords.{length_in}
 use Rattle.ring_snapshot.specs.CounterWords.{HaveIds}
-use Rattle.ring_snapshot.specs.CounterRecords.{CounterEntry, state_from, counter_in, with_label, with_state, entry_of, or_none, entries, Show, counter_of, given}
+use Rattle.ring_snapshot.specs.CounterRecords.{CounterEntry, state_from, counter_in, with_label, with_state, entry_of, or_none, entries, Show, counter_as, counter_of, given}
 
 -- ---- any words
 
@@ -28,11 +27,6 @@ pub entries_here : (metadata values : List ℕ) (count id : ℕ) → id < count
     (entries metadata values (count - (id + 1)) (id + 1))
 entries_here metadata values count id less =
     let size : count - id ≡ suc (count - (id + 1)) = omega arith in ap (λ n. entries metadata values n id) size
-
-pub entries_behind : (metadata values : List ℕ) (count id : ℕ) → count ≤ id
-    → entries metadata values (count - id) id ≡ []
-entries_behind metadata values count id more =
-    let none : count - id ≡ 0 = omega arith in ap (λ n. entries metadata values n id) none
 
 -- ---- the words of a counter
 
@@ -60,20 +54,7 @@ module _ (id : ℕ) (words values : List ℕ) (c : ring_counters.Counter) (m : I
   label_read = sym (ap (bytes_at words 132) (length_decoded words c.metadata m))
       ∙ ap (λ (x : Metadata). x.label) (metadata_decoded words c.metadata m)
 
-  abbrev with_told : CounterState → Counter
-  with_told told = record {
-    id = id;
-    state = told;
-    type_id = c.metadata.type_id;
-    deadline = deadline_of c.metadata.status;
-    key = c.metadata.key;
-    label = c.metadata.label;
-    value = c.values.value;
-    registration = c.values.registration;
-    owner = c.values.owner;
-  }
-
-  counter_read : (told : CounterState) → counter_in id words values told n ≡ with_told told
+  counter_read : (told : CounterState) → counter_in id words values told n ≡ counter_as id told c
   counter_read told = λ i. record {
     id = id;
     state = told;
@@ -87,7 +68,7 @@ module _ (id : ℕ) (words values : List ℕ) (c : ring_counters.Counter) (m : I
   }
 
   label_passes : (told : CounterState) → with_label id words values (length_in (slice_index words 16)) told
-      ≡ Ok (with_told told)
+      ≡ Ok (counter_as id told c)
   label_passes told =
       ap (λ x. with_label id words values x told)
       (read_short (slice_index words 16) n (length_decoded words c.metadata m) short)
@@ -106,7 +87,8 @@ module _ (id : ℕ) (words values : List ℕ) (c : ring_counters.Counter) (m : I
     where
       with_flags : Status → Option CounterEntry
       with_flags s =
-          if not (is_unused s) then Some (Ok (with_told (if is_allocated s then Allocated else Reclaimed))) else None
+          if not (is_unused s) then Some (Ok (counter_as id (if is_allocated s then Allocated else Reclaimed) c))
+          else None
 
       read : (s : Status) → c.metadata.status ≡ s → entry_of id words values ≡ by_state (ring_counters.state_of s)
       read s is = ap by_state (state_decoded words c.metadata m) ∙ ap (λ x. by_state (ring_counters.state_of x)) is

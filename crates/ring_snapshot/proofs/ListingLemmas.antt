@@ -18,10 +18,9 @@ use Rattle.ring_layout.proofs.HeaderLemmas.{len_of-header, type_of-header, fits_
 use Rattle.ring_words.proofs.HeadLemmas.{state_cases, header_open, header_committed, header_aborted}
 use Rattle.ring_counters.specs.Records.{bytes_at}
 use Rattle.ring_snapshot.specs.declared.record.Record.{Record}
-use Rattle.ring_snapshot.specs.declared.record.RecordState.{RecordState}
 use Rattle.ring_snapshot.specs.declared.record.RecordState.TheVariants as shown
 use Rattle.ring_snapshot.specs.Listing.{up_to_eight, followed, ok_records}
-use Rattle.ring_snapshot.specs.RingRecords.{Entry, length_in, type_in, is_length, is_padding_type, passed_at, message_at, entry_for, entry_at, listing, state_of, records_of, Lie}
+use Rattle.ring_snapshot.specs.RingRecords.{Entry, length_in, type_in, is_length, is_padding_type, passed_at, message_at, entry_for, entry_at, listing, claim_as, state_of, records_of, Lie}
 use Rattle.ring_snapshot.proofs.EntryLemmas.{not_padding, not_below_one, body_told}
 use Rattle.ring_snapshot.proofs.StepLemmas.{some_suc, listing_ends, listing_step}
 
@@ -80,16 +79,12 @@ for_open C words tail at n type_id lawful fits =
 
 -- ---- a claim as a record
 
-abbrev with_state : ℕ → ℕ → Claim → RecordState → ℕ → List ℕ → Record
-with_state C place c state len body =
-    record { place = place; index = place % C; state = state; type_id = c.message.type_id; length = len; body = body }
-
 state_open : (C place : ℕ) (c : Claim) → c.state ≡ Open
-    → state_of C place c ≡ with_state C place c shown.Open (8 + length c.message.body) c.message.body
+    → state_of C place c ≡ claim_as C place c shown.Open (8 + length c.message.body) c.message.body
 state_open C place c e = rw e refl
 
 state_committed : (C place : ℕ) (c : Claim) → c.state ≡ Committed
-    → state_of C place c ≡ with_state C place c shown.Committed (8 + length c.message.body) c.message.body
+    → state_of C place c ≡ claim_as C place c shown.Committed (8 + length c.message.body) c.message.body
 state_committed C place c e = rw e refl
 
 state_aborted : (C place : ℕ) (c : Claim) → c.state ≡ Aborted
@@ -112,28 +107,28 @@ not_negative k = grind (arith)
 message_committed : (C : ℕ) (words : List ℕ) (place : ℕ) (c : Claim)
     → bytes_at words (place % C + 8) (length c.message.body) ≡ c.message.body
     → message_at C words place (pos (8 + length c.message.body)) c.message.type_id
-    ≡ with_state C place c shown.Committed (8 + length c.message.body) c.message.body
+    ≡ claim_as C place c shown.Committed (8 + length c.message.body) c.message.body
 message_committed C words place c body =
     let k : ℕ = length c.message.body in
     let less : 8 + k - 8 ≡ k = omega arith in
-    ap (λ b. with_state C place c (if b then shown.Open else shown.Committed) (8 + k)
+    ap (λ b. claim_as C place c (if b then shown.Open else shown.Committed) (8 + k)
     (bytes_at words (place % C + 8) (8 + k - 8))) (not_negative (8 + k))
-    ∙ ap (λ j. with_state C place c shown.Committed (8 + k) (bytes_at words (place % C + 8) j)) less
-    ∙ ap (with_state C place c shown.Committed (8 + k)) body
+    ∙ ap (λ j. claim_as C place c shown.Committed (8 + k) (bytes_at words (place % C + 8) j)) less
+    ∙ ap (claim_as C place c shown.Committed (8 + k)) body
 
 message_open : (C : ℕ) (words : List ℕ) (place : ℕ) (c : Claim)
     → bytes_at words (place % C + 8) (length c.message.body) ≡ c.message.body
     → message_at C words place (neg_ℤ (pos (8 + length c.message.body))) c.message.type_id
-    ≡ with_state C place c shown.Open (8 + length c.message.body) c.message.body
+    ≡ claim_as C place c shown.Open (8 + length c.message.body) c.message.body
 message_open C words place c body =
     let k : ℕ = length c.message.body in
     let less : 8 + k - 8 ≡ k = omega arith in
     let len : ℤ = neg_ℤ (pos (8 + k)) in
-    ap (λ b. with_state C place c (if b then shown.Open else shown.Committed) (nat_abs len)
+    ap (λ b. claim_as C place c (if b then shown.Open else shown.Committed) (nat_abs len)
     (bytes_at words (place % C + 8) (nat_abs len - 8))) (neg_below (8 + k) (omega arith))
-    ∙ ap (λ a. with_state C place c shown.Open a (bytes_at words (place % C + 8) (a - 8))) (abs_neg (8 + k))
-    ∙ ap (λ j. with_state C place c shown.Open (8 + k) (bytes_at words (place % C + 8) j)) less
-    ∙ ap (with_state C place c shown.Open (8 + k)) body
+    ∙ ap (λ a. claim_as C place c shown.Open a (bytes_at words (place % C + 8) (a - 8))) (abs_neg (8 + k))
+    ∙ ap (λ j. claim_as C place c shown.Open (8 + k) (bytes_at words (place % C + 8) j)) less
+    ∙ ap (claim_as C place c shown.Open (8 + k)) body
 
 -- ---- one claim
 

@@ -14,17 +14,17 @@ use Rattle.ring_snapshot.specs.declared.board_finding.BoardFinding.{BoardFinding
 use Rattle.ring_snapshot.specs.declared.board_finding.BoardFinding.TheVariants.{UnalignedPosition, TailBeforeLatest, IntentBeforeTail, TailTooFar, IntentTooFar, OutsideOfRecords, BadLength, BadType}
 use Rattle.ring_snapshot.specs.declared.board.BoardRecords.{BoardRecords}
 use Rattle.ring_snapshot.specs.declared.board.BoardSnapshot.{BoardSnapshot}
-use Rattle.ring_snapshot.specs.Listing.{up_to_eight, listed_by, ok_records, or_else}
+use Rattle.ring_snapshot.specs.Listing.{up_to_eight, lies_inside, listed_by, ok_records, or_else}
 use Rattle.ring_snapshot.specs.RingRecords.{length_in, type_in, is_padding_type}
 
 abbrev pub BoardEntry : Type 0
 BoardEntry = Result BoardRecord BoardFinding
 
--- a record of this length may lie at the position: no message is longer, it does not cross the end of the buffer, and
--- the one at `latest` ends at the tail
+-- a record of this length may lie at the position: inside the buffer, it does not cross `latest`, and the one at
+-- `latest` ends at the tail
 abbrev pub is_length : ℕ → ℕ → ℕ → ℕ → ℕ → Bool
 is_length C latest tail at n =
-    nat_le 8 n && nat_le n (8 + C / 8) && nat_le (up_to_eight n) (room C at)
+    lies_inside C at n
     && (if nat_lt at latest then nat_le (at + up_to_eight n) latest else (at == latest && at + up_to_eight n == tail))
 
 abbrev pub padding_at : ℕ → ℕ → ℕ → ℕ → ℤ → BoardRecord

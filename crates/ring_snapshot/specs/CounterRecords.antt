@@ -86,11 +86,11 @@ pub record Show (metadata values : List ℕ) (r : Registry) : Type 0 where
   pub value_words : (id k : ℕ) → id < count_of r → k < 16
       → slice_index values (16 * id + k) ≡ value_word (counter_at r id).values k
 
--- a counter of a registry, as it is listed
-abbrev pub counter_of : ℕ → ring_counters.Counter → Counter
-counter_of id c = record {
+-- a counter of a registry as a record of this state
+abbrev pub counter_as : ℕ → CounterState → ring_counters.Counter → Counter
+counter_as id state c = record {
   id = id;
-  state = if is_allocated c.metadata.status then Allocated else Reclaimed;
+  state = state;
   type_id = c.metadata.type_id;
   deadline = deadline_of c.metadata.status;
   key = c.metadata.key;
@@ -99,6 +99,10 @@ counter_of id c = record {
   registration = c.values.registration;
   owner = c.values.owner;
 }
+
+-- a counter of a registry, as it is listed
+abbrev pub counter_of : ℕ → ring_counters.Counter → Counter
+counter_of id c = counter_as id (if is_allocated c.metadata.status then Allocated else Reclaimed) c
 
 -- the counters of the n ids from this one on that were ever given, in use or freed, by rising id
 abbrev pub given : Registry → ℕ → ℕ → List CounterEntry

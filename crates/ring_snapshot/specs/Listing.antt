@@ -1,9 +1,15 @@
 -- One record behind the other, of a ring or of a board. R is what a record is, F what may be wrong with the words.
-use Rattle.std.specs.Prelude.{ℕ, zero, suc, ◌+◌, ◌*◌, ◌/◌, nat_le, if◌then◌else◌, List, [], ◌∷◌, Result, Ok, Err, Option, Some, None}
+use Rattle.std.specs.Prelude.{ℕ, zero, suc, ◌+◌, ◌*◌, ◌/◌, Bool, ◌&&◌, nat_le, if◌then◌else◌, List, [], ◌∷◌, Result, Ok, Err, Option, Some, None}
+use Rattle.ring_layout.specs.Places.{room}
 
 -- the bytes from a record's begin to the next one's
 abbrev pub up_to_eight : ℕ → ℕ
 up_to_eight n = (n + 7) / 8 * 8
+
+-- a record of this length may lie at the position in a buffer of C bytes: no message is longer, and it does not cross
+-- the end of the buffer
+abbrev pub lies_inside : ℕ → ℕ → ℕ → Bool
+lies_inside C at n = nat_le 8 n && nat_le n (8 + C / 8) && nat_le (up_to_eight n) (room C at)
 
 -- an entry, and the rest from where it ends; nothing behind a finding
 abbrev pub followed : {R F : Type 0} → (R → ℕ) → (ℕ → List (Result R F)) → ℕ → Result R F → List (Result R F)

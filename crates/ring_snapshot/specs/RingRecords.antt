@@ -6,13 +6,14 @@ use Rattle.ring_layout.specs.declared.message.Claim.{Claim}
 use Rattle.ring_layout.specs.declared.message.ClaimState.{ClaimState}
 use Rattle.ring_layout.specs.declared.message.ClaimState.TheVariants as claimed
 use Rattle.ring_layout.specs.History.{IsMessage, span_of}
-use Rattle.ring_layout.specs.Places.{index, room, next_place, end_of}
+use Rattle.ring_layout.specs.Places.{index, next_place, end_of}
 use Rattle.ring_layout.specs.Picture.{word_at}
 use Rattle.ring_layout.specs.Headers.{padding_type}
 use Rattle.ring_layout.specs.Layout.{tail_index, head_index}
 use Rattle.ring_counters.specs.Records.{bytes_at}
-use Rattle.ring_snapshot.specs.Listing.{up_to_eight, listed_by, or_else}
+use Rattle.ring_snapshot.specs.Listing.{up_to_eight, lies_inside, listed_by, or_else}
 use Rattle.ring_snapshot.specs.declared.record.Record.{Record}
+use Rattle.ring_snapshot.specs.declared.record.RecordState.{RecordState}
 use Rattle.ring_snapshot.specs.declared.record.RecordState.TheVariants.{Open, Committed, Aborted, AbortedOrPadding, Unstored}
 use Rattle.ring_snapshot.specs.declared.ring_finding.RingFinding.{RingFinding}
 use Rattle.ring_snapshot.specs.declared.ring_finding.RingFinding.TheVariants.{UnalignedPosition, TailBeforeHead, TailTooFar, OutsideOfRecords, BadLength, BadType}
@@ -34,11 +35,9 @@ type_in w = cast_signed w32 (w / 2 ^ 32)
 abbrev pub is_padding_type : ℤ → Bool
 is_padding_type type_id = int_le type_id padding_type && int_le padding_type type_id
 
--- a record of this length may lie at the position: no message is longer, and it crosses neither the end of the buffer
--- nor the tail
+-- a record of this length may lie at the position: inside the buffer, and it does not cross the tail
 abbrev pub is_length : ℕ → ℕ → ℕ → ℕ → Bool
-is_length C tail at n =
-    nat_le 8 n && nat_le n (8 + C / 8) && nat_le (up_to_eight n) (room C at) && nat_le (at + up_to_eight n) tail
+is_length C tail at n = lies_inside C at n && nat_le (at + up_to_eight n) tail
 
 -- a passed record: where it ends with the buffer it may be padding
 abbrev pub passed_at : ℕ → ℕ → ℕ → Record
@@ -114,28 +113,17 @@ from_finding C head tail position = or_else (positions_finding C head tail)
 
 -- Words of a history -------------------------------------------------------
 
+-- a claim as a record of this state, with this length and body
+abbrev pub claim_as : ℕ → ℕ → Claim → RecordState → ℕ → List ℕ → Record
+claim_as C place c state n body =
+    record { place = place; index = place % C; state = state; type_id = c.message.type_id; length = n; body = body }
+
 abbrev pub state_of : ℕ → ℕ → Claim → Record
 state_of C place c = by_state c.state
   where
     by_state : ClaimState → Record
-    by_state claimed.Open = record {
-      place = place;
-      index = place % C;
-      state = Open;
-      type_id =
-          c.message.type_id;
-      length = 8 + length c.message.body;
-      body = c.message.body;
-    }
-    by_state claimed.Committed = record {
-      place = place;
-      index = place % C;
-      state = Committed;
-      type_id =
-          c.message.type_id;
-      length = 8 + length c.message.body;
-      body = c.message.body;
-    }
+    by_state claimed.Open = claim_as C place c Open (8 + length c.message.body) c.message.body
+    by_state claimed.Committed = claim_as C place c Committed (8 + length c.message.body) c.message.body
     by_state claimed.Aborted = passed_at C place (8 + length c.message.body)
 
 -- the records of claims that come after e, each with its place: the padding before a claim, and the claim

@@ -6,12 +6,12 @@ ghost use Rattle.ring_board.specs.Layout.{board_words};
 use crate::board_finding::BoardFinding;
 use crate::board_record::BoardRecord;
 use crate::body::Body;
+use crate::listing::lies_inside;
 use ring_layout::broadcast_buffer_descriptor::{
-    LATEST_COUNTER_WORD, MAX_CAPACITY, MIN_CAPACITY, TAIL_COUNTER_WORD, TAIL_INTENT_COUNTER_WORD,
-    TRAILER_WORDS,
+    LATEST_COUNTER_WORD, MAX_CAPACITY, TAIL_COUNTER_WORD, TAIL_INTENT_COUNTER_WORD, TRAILER_WORDS,
 };
 use ring_layout::record_descriptor::{HEADER_LENGTH, PADDING_MSG_TYPE_ID};
-use ring_layout::{align8, byte_index, max_message, unpack_header, word_index};
+use ring_layout::{align8, byte_index, is_board_capacity, unpack_header, word_index};
 
 /// A board's words: those of its buffer, and those of its trailer.
 #[derive(Clone, Copy, Debug)]
@@ -57,7 +57,7 @@ impl<'a> BoardSnapshot<'a> {
             return Err(refused);
         }
         let capacity = (words.len() - TRAILER_WORDS) as u32 * 8;
-        if !capacity.is_power_of_two() || capacity < MIN_CAPACITY {
+        if !is_board_capacity(capacity) {
             return Err(refused);
         }
         Ok(BoardSnapshot { capacity, words })
@@ -189,14 +189,10 @@ impl<'a> BoardRecords<'a> {
     fn is_length(&self, length: u32) -> bool
         ensures { result ≡ is_length self.now.board.capacity self.now.latest self.now.tail self.now.at length }
     {
-        let capacity = self.board.capacity;
-        if length < HEADER_LENGTH as u32 || length > HEADER_LENGTH as u32 + max_message(capacity) {
+        if !lies_inside(self.board.capacity, self.at, length) {
             return false;
         }
         let span = align8(u64::from(length));
-        if span > u64::from(capacity) - byte_index(capacity, self.at) {
-            return false;
-        }
         if self.at < self.latest {
             span <= self.latest - self.at
         } else {

@@ -1,10 +1,8 @@
 ghost use Rattle.ring_counters.specs.Manager.{IsManagerOf};
 
-use crate::tests::Numbers;
-use crate::write::Words;
+use crate::tests::{Numbers, words_of};
 use crate::{CounterMetadata, CounterState, CounterValueWords, CountersFinding, CountersSnapshot};
 use ring_counters::{CounterValues, CountersManager};
-use std::alloc::{AllocError, Global};
 use std::process::Abort;
 
 /// A manager with its values.
@@ -13,17 +11,6 @@ struct Desk {
     values: CounterValues,
     counters: CountersManager,
     ghost own: { IsManagerOf values counters },
-}
-
-/// All words of a list.
-fn words_of<S: Words>(alloc: Global, source: &S) -> Result<Vec<u64>, AllocError> {
-    let mut words = Vec::new(alloc);
-    for index in 0..10_000 {
-        if let Some(word) = source.word_at(index) {
-            words.push(word)?;
-        }
-    }
-    Ok(words)
 }
 
 /// Compares what is listed with what the manager answers, and gives how many were listed.

@@ -9,6 +9,7 @@ mod body;
 mod counter;
 mod counters;
 mod counters_finding;
+mod listing;
 mod record;
 mod ring;
 mod ring_finding;

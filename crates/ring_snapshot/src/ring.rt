@@ -4,6 +4,7 @@ ghost use Rattle.ring_layout.specs.Places.{IsCapacity};
 ghost use Rattle.ring_layout.specs.Layout.{ring_words};
 
 use crate::body::Body;
+use crate::listing::lies_inside;
 use crate::record::{Record, RecordState};
 use crate::ring_finding::RingFinding;
 use ring_layout::record_descriptor::{HEADER_LENGTH, PADDING_MSG_TYPE_ID};
@@ -11,7 +12,7 @@ use ring_layout::ring_buffer_descriptor::{
     CONSUMER_HEARTBEAT_WORD, CORRELATION_COUNTER_WORD, HEAD_CACHE_POSITION_WORD,
     HEAD_POSITION_WORD, MAX_CAPACITY, TAIL_POSITION_WORD, TRAILER_WORDS,
 };
-use ring_layout::{align8, byte_index, is_capacity, max_message, unpack_header, word_index};
+use ring_layout::{align8, byte_index, is_capacity, unpack_header, word_index};
 
 /// A ring's words: those of its buffer, and those of its trailer.
 #[derive(Clone, Copy, Debug)]
@@ -165,12 +166,7 @@ impl<'a> RingSnapshot<'a> {
         requires { at ≤ tail }
         ensures { result ≡ is_length self.now.capacity tail at length }
     {
-        let most = HEADER_LENGTH as u32 + max_message(self.capacity);
-        if length < HEADER_LENGTH as u32 || length > most {
-            return false;
-        }
-        let span = align8(u64::from(length));
-        span <= u64::from(self.capacity) - byte_index(self.capacity, at) && span <= tail - at
+        lies_inside(self.capacity, at, length) && align8(u64::from(length)) <= tail - at
     }
 
     /// The state of a passed record: where it ends with the buffer it may be padding.

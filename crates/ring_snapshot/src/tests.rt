@@ -1,14 +1,15 @@
-use crate::{RecordState, RingFinding, RingSnapshot};
+use crate::{RecordState, RingFinding, RingSnapshot, Words};
 use ring_words::{Action, Handler, SoloRing};
 use std::alloc::{AllocError, Global};
 
-/// The words of a ring.
-fn words_of(alloc: Global, ring: &SoloRing) -> Result<Vec<u64>, AllocError> {
+/// All words of a list, of 10,000 at the most.
+pub(crate) fn words_of<S: Words>(alloc: Global, source: &S) -> Result<Vec<u64>, AllocError> {
     let mut words = Vec::new(alloc);
-    for index in 0..ring.capacity() as usize / 8 + 96 {
-        if let Some(word) = ring.word(index) {
-            words.push(word)?;
-        }
+    for index in 0..10_000 {
+        let Some(word) = source.word_at(index) else {
+            break;
+        };
+        words.push(word)?;
     }
     Ok(words)
 }
@@ -23,6 +24,16 @@ impl Numbers {
         self.0 ^= self.0 >> 7;
         self.0 ^= self.0 << 17;
         self.0
+    }
+
+    /// A header whose length and type id are near to lawful ones, and now and then any word.
+    pub(crate) fn next_header(&mut self) -> u64 {
+        let number = self.next();
+        if number % 8 == 0 {
+            number
+        } else {
+            (number >> 40 & 3) << 32 | number >> 50 & 31
+        }
     }
 }
 
@@ -147,13 +158,7 @@ fn ends_on_any_bytes(rt: HostRuntime) {
     let (mut listed, mut found, mut refused, mut bytes) = (0u64, 0u64, 0u64, 0u64);
     for _ in 0..100_000 {
         for word in words.iter_mut().take(16) {
-            let number = numbers.next();
-            // Lengths and type ids near to lawful ones, and now and then any word.
-            *word = if number % 4 == 0 {
-                number
-            } else {
-                (number >> 40 & 3) << 32 | number >> 50 & 31
-            };
+            *word = numbers.next_header();
         }
         words[16 + 48] = numbers.next() % 512 & !7;
         words[16 + 16] = words[16 + 48] + (numbers.next() % 136 & !3);

@@ -1,9 +1,9 @@
-use crate::tests::Numbers;
+use crate::tests::{Numbers, words_of};
 use crate::{BoardFinding, BoardSnapshot, CounterMetadata, CounterValueWords, write_words};
 use ring_board::{Board, ClosedBoard};
 use ring_counters::CountersManager;
 use ring_words::SoloRing;
-use std::alloc::{AllocError, Global};
+use std::alloc::Global;
 use std::io::{self, ErrorKind, Write};
 use std::process::Abort;
 
@@ -93,16 +93,6 @@ fn writes_the_records_of_counters(rt: HostRuntime) {
         &out.bytes[128..136],
         [254u8, 255, 255, 255, 255, 255, 255, 255].as_slice()
     );
-}
-
-fn words_of(alloc: Global, board: &ClosedBoard) -> Result<Vec<u64>, AllocError> {
-    let mut words = Vec::new(alloc);
-    for index in 0..10_000 {
-        if let Some(word) = board.word(index) {
-            words.push(word)?;
-        }
-    }
-    Ok(words)
 }
 
 /// A closed board of 256 bytes, on which so many messages of lengths that look random were transmitted: message k has
@@ -206,12 +196,7 @@ fn a_board_ends_on_any_bytes(rt: HostRuntime) {
     let (mut listed, mut found, mut refused) = (0u64, 0u64, 0u64);
     for _ in 0..100_000 {
         for word in words.iter_mut().take(32) {
-            let number = numbers.next();
-            *word = if number % 8 == 0 {
-                number
-            } else {
-                (number >> 40 & 3) << 32 | number >> 50 & 31
-            };
+            *word = numbers.next_header();
         }
         words[34] = numbers.next() % 512 & !7;
         words[33] = words[34].wrapping_add(numbers.next() % 40 & !3);

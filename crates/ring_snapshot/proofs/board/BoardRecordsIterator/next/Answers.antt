@@ -1,7 +1,6 @@
-use Rattle.std.proofs.Common.{rules, ◌≡◌, ◌+◌, ◌-◌, ◌<◌, ◌∷◌, length, ap, sym, ◌∙◌, arith}
+use Rattle.std.proofs.Common.{rules, ◌<◌, ◌∷◌, length, ap, sym, ◌∙◌, arith}
 use Rattle.ring_snapshot.specs.declared.board_record.BoardRecord.{BoardRecord}
-use Rattle.ring_snapshot.specs.Listing.{up_to_eight}
-use Rattle.ring_snapshot.specs.BoardRecords.{entry_at, listing, records_left}
+use Rattle.ring_snapshot.specs.BoardRecords.{entry_at, records_left}
 use Rattle.ring_snapshot.proofs.StepLemmas.{next_ok, next_err}
 use Rattle.ring_snapshot.proofs.board.BoardRecordsIterator.next.Goals as goal
 use Rattle.ring_snapshot.proofs.board.BoardRecordsIterator.next.Goals.{in-Ok, in-Err}
@@ -14,13 +13,9 @@ returns-clause-steps c =
     let before : old.at < old.tail = search rules in
     elim c.match-entry.branch [
       | in-Ok w ↦
-          let span : up_to_eight w.in-Ok.record.length ≡ w.align8.result =
-          sym (w.align8.ensures ∙ ap up_to_eight w.from.ensures) in
           next_ok (λ (r : BoardRecord). r.length)
           (entry_at old.board.capacity old.board.words.now old.intent old.latest old.tail) old.tail old.most old.at x
-          w.in-Ok.record some before c.entry_at-entry.ensures.entry w.in-Ok.is
-          ∙ ap (λ k. x ∷ listing old.board.capacity old.board.words.now old.intent old.latest old.tail (old.most - 1)
-          (old.at + k)) span
+          w.in-Ok.record _ _ some before c.entry_at-entry.ensures.entry w.in-Ok.is w.from.ensures w.align8.ensures
           ∙ ap (λ s. x ∷ records_left s) (sym w.self-is)
       | in-Err w ↦
           next_err (λ (r : BoardRecord). r.length)

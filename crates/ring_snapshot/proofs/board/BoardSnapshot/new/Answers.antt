@@ -1,23 +1,14 @@
-use Rattle.std.proofs.Common.{◌≡◌, ◌-◌, ◌*◌, length, refl, ap, sym, ◌∙◌, arith, true, false}
-use Rattle.std.specs.Int.{is_power_of_two}
-use Rattle.ring_layout.specs.Places.{IsCapacity}
-use Rattle.ring_layout.proofs.CapacityLemmas.{capacity_blocks}
+use Rattle.std.proofs.Common.{◌≡◌, ◌-◌, ◌*◌, length, refl, sym, ◌∙◌, subst, arith, true, false}
+use Rattle.ring_layout.specs.Places.{IsBoardCapacity}
+use Rattle.ring_board.proofs.OpeningLemmas.{capacity_whole}
 use Rattle.ring_snapshot.proofs.board.BoardSnapshot.new.Goals as goal
-use Rattle.ring_snapshot.proofs.board.BoardSnapshot.new.Goals.{then-not-is_power_of_two-via-then-not-is_power_of_two, then-not-is_power_of_two-via-else-not-is_power_of_two+then-capacity-lt-MIN_CAPACITY}
 
-pub returns-then-not-is_power_of_two-clause-refused :
-    goal.returns-then-not-is_power_of_two-clause-refused
-returns-then-not-is_power_of_two-clause-refused c = (
+pub returns-then-not-is_board_capacity-clause-refused : goal.returns-then-not-is_board_capacity-clause-refused
+returns-then-not-is_board_capacity-clause-refused c = (
   refl,
   λ C ok e.
-      let lawful : IsCapacity C = record { power = ok.power; least = omega (arith, ok.least); most = ok.most } in
-      let same : (length c.args.words.now - 16) * 8 ≡ C = omega (arith, e, capacity_blocks C lawful) in
-      elim c.then-not-is_power_of_two.branch as (λ _. ⊥) [
-        | then-not-is_power_of_two-via-then-not-is_power_of_two w ↦
-            let yes : c.is_power_of_two.result ≡ true =
-            c.is_power_of_two.ensures ∙ ap is_power_of_two same ∙ ok.power in
-            let clash : false ≡ true = sym w.if-not-is_power_of_two.true ∙ yes in absurd cc
-        | then-not-is_power_of_two-via-else-not-is_power_of_two+then-capacity-lt-MIN_CAPACITY w ↦
-            absurd (omega (arith, same, ok.least, w.if-capacity-lt-MIN_CAPACITY.true))
-      ],
+      let same : (length c.args.words.now - 16) * 8 ≡ C = omega (arith, e, capacity_whole C ok) in
+      let yes : c.is_board_capacity.result ≡ true =
+      c.is_board_capacity.ensures.lawful.1 (subst IsBoardCapacity (sym same) ok) in
+      let clash : false ≡ true = sym c.if-not-is_board_capacity.true ∙ yes in absurd cc,
 )
