@@ -1,8 +1,7 @@
 //! The report of a board.
-use crate::fault::ShowFault;
 use crate::options::Options;
 use crate::picture::Mark;
-use crate::records::{Listed, Shown, fields};
+use crate::records::{Listed, Shown, Tally};
 use crate::report::Report;
 use ring_layout::byte_index;
 use ring_snapshot::{BoardRecord, BoardSnapshot};
@@ -27,68 +26,19 @@ fn mark_of(is_padding: bool, is_valid: bool) -> Mark {
     }
 }
 
-fn shown(record: BoardRecord<'_>) -> Shown<'_> {
-    let (is_padding, is_valid) = (record.is_padding, record.is_valid);
-    Shown {
-        place: record.place,
-        index: record.index,
-        state: state_name(is_padding, is_valid),
-        mark: mark_of(is_padding, is_valid),
-        type_id: record.type_id,
-        length: record.length,
-        body: if is_padding { None } else { Some(record.body) },
-    }
-}
-
-/// How many records there are of each state.
-#[derive(Clone, Copy, Debug, Default)]
-struct Tally {
-    valid: u32,
-    lapped: u32,
-    padding: u32,
-}
-
-impl Tally {
-    fn add(&mut self, is_padding: bool, is_valid: bool) {
-        if is_padding {
-            self.padding = self.padding.saturating_add(1);
-        } else if is_valid {
-            self.valid = self.valid.saturating_add(1);
-        } else {
-            self.lapped = self.lapped.saturating_add(1);
+impl<'a> From<BoardRecord<'a>> for Shown<'a> {
+    fn from(record: BoardRecord<'a>) -> Shown<'a> {
+        let (is_padding, is_valid) = (record.is_padding, record.is_valid);
+        Shown {
+            place: record.place,
+            index: record.index,
+            state: state_name(is_padding, is_valid),
+            mark: mark_of(is_padding, is_valid),
+            type_id: record.type_id,
+            length: record.length,
+            body: if is_padding { None } else { Some(record.body) },
         }
     }
-}
-
-/// Adds the records of the running lap, or those from the position that was asked for, and counts them.
-fn gather(
-    alloc: Global,
-    board: &BoardSnapshot<'_>,
-    options: &Options<'_>,
-    listed: &mut Listed,
-) -> Result<Tally, AllocError> {
-    let mut tally = Tally::default();
-    let begun = match options.from {
-        Some(position) => board.records_from(position),
-        None => board.records(),
-    };
-    let records = match begun {
-        Ok(records) => records,
-        Err(finding) => {
-            listed.find(format!(in alloc; "{finding}")?)?;
-            return Ok(tally);
-        }
-    };
-    for entry in records {
-        match entry {
-            Ok(record) => {
-                tally.add(record.is_padding, record.is_valid);
-                listed.add(alloc, shown(record))?;
-            }
-            Err(finding) => listed.find(format!(in alloc; "{finding}")?)?,
-        }
-    }
-    Ok(tally)
 }
 
 /// Tests whether the intent goes beyond the begin of the running lap, so that the lap is not listed from there.
@@ -101,9 +51,10 @@ fn is_overwritten(board: &BoardSnapshot<'_>) -> bool {
 
 fn summary(alloc: Global, board: &BoardSnapshot<'_>, tally: Tally) -> Result<String, AllocError> {
     let Tally {
-        valid,
+        committed: valid,
         lapped,
-        padding,
+        passed: padding,
+        ..
     } = tally;
     let mut text = format!(in alloc; "{valid} valid, {lapped} lapped, {padding} padding")?;
     let (intent, tail) = (board.intent(), board.tail());
@@ -116,18 +67,23 @@ fn summary(alloc: Global, board: &BoardSnapshot<'_>, tally: Tally) -> Result<Str
     Ok(text)
 }
 
-/// What lies in the words of a board.
-pub fn report(alloc: Global, words: &[u64], options: &Options<'_>) -> Result<Report, ShowFault> {
+/// What lies in the words of a board: the running lap, or what is listed from the position that was asked for.
+pub fn report(alloc: Global, words: &[u64], options: &Options<'_>) -> Result<Report, AllocError> {
     let board = match BoardSnapshot::new(words) {
         Ok(board) => board,
-        Err(finding) => {
-            let text = format!(in alloc; "{finding}")?;
-            return Ok(Report::refused(alloc, "board", "records", "not a board", text)?);
-        }
+        Err(finding) => return Report::refused(alloc, "board", "records", "not a board", finding),
     };
     let capacity = board.capacity();
     let mut listed = Listed::new(alloc, capacity, options.bodies)?;
-    let tally = gather(alloc, &board, options, &mut listed)?;
+    let begun = match options.from {
+        Some(position) => board.records_from(position),
+        None => board.records(),
+    };
+    match begun {
+        Ok(records) => listed.gather(alloc, records)?,
+        Err(finding) => listed.find(alloc, finding)?,
+    }
+    let summary = summary(alloc, &board, listed.tally())?;
     let named = [
         ("capacity", u64::from(capacity)),
         ("tail_intent", board.intent()),
@@ -139,6 +95,5 @@ pub fn report(alloc: Global, words: &[u64], options: &Options<'_>) -> Result<Rep
         ('T', byte_index(capacity, board.tail())),
         ('I', byte_index(capacity, board.intent())),
     ];
-    let summary = summary(alloc, &board, tally)?;
-    Ok(listed.report(alloc, "board", fields(alloc, &named)?, &signs, summary)?)
+    listed.report(alloc, "board", &named, &signs, summary)
 }

@@ -1,40 +1,28 @@
 //! The report of counters.
 use crate::bodies;
-use crate::fault::ShowFault;
 use crate::options::{Bodies, Options};
-use crate::report::{Cell, Column, Field, Report};
+use crate::report::{Cell, Report, columns, fields};
 use ring_layout::counter_descriptor::NOT_FREE_FOR_REUSE;
-use ring_snapshot::{Body, Counter, CounterState, CountersFinding, CountersSnapshot};
+use ring_snapshot::{Body, Counter, CounterState, CountersSnapshot};
 use std::alloc::{AllocError, Global};
+
+/// The columns of a list of counters, each with whether it has numbers.
+static COLUMNS: [(&str, bool); 8] = [
+    ("id", true),
+    ("state", false),
+    ("type", true),
+    ("value", true),
+    ("registration", true),
+    ("owner", true),
+    ("deadline", true),
+    ("label", false),
+];
 
 fn state_name(state: CounterState) -> &'static str {
     match state {
         CounterState::Allocated => "in use",
         CounterState::Reclaimed => "freed",
     }
-}
-
-fn columns(alloc: Global, bodies: Bodies) -> Result<Vec<Column>, AllocError> {
-    let mut columns = Vec::new(alloc);
-    for (name, is_number) in [
-        ("id", true),
-        ("state", false),
-        ("type", true),
-        ("value", true),
-        ("registration", true),
-        ("owner", true),
-        ("deadline", true),
-        ("label", false),
-    ] {
-        columns.push(Column { name, is_number })?;
-    }
-    if bodies != Bodies::None {
-        columns.push(Column {
-            name: "key",
-            is_number: false,
-        })?;
-    }
-    Ok(columns)
 }
 
 /// A key without the zeros at its end: memory does not tell how long it is.
@@ -112,17 +100,14 @@ pub fn report(
     metadata: &[u64],
     values: &[u64],
     options: &Options<'_>,
-) -> Result<Report, ShowFault> {
+) -> Result<Report, AllocError> {
     let counters = match CountersSnapshot::new(metadata, values) {
         Ok(counters) => counters,
-        Err(finding) => return refused(alloc, finding),
+        Err(finding) => {
+            return Report::refused(alloc, "counters", "counters", "not counters", finding);
+        }
     };
     let gathered = gather(alloc, &counters, options)?;
-    let mut fields = Vec::new(alloc);
-    fields.push(Field {
-        name: "ids",
-        value: Cell::Unsigned(u64::from(counters.count())),
-    })?;
     let summary = format!(in alloc;
         "{} in use, {} freed, of {} ids",
         gathered.in_use,
@@ -131,17 +116,12 @@ pub fn report(
     )?;
     Ok(Report {
         kind: "counters",
-        fields,
+        fields: fields(alloc, &[("ids", u64::from(counters.count()))])?,
         picture: String::new(alloc),
         list: "counters",
-        columns: columns(alloc, options.bodies)?,
+        columns: columns(alloc, COLUMNS.as_slice(), options.bodies, "key")?,
         rows: gathered.rows,
         summary,
         findings: gathered.findings,
     })
-}
-
-fn refused(alloc: Global, finding: CountersFinding) -> Result<Report, ShowFault> {
-    let text = format!(in alloc; "{finding}")?;
-    Ok(Report::refused(alloc, "counters", "counters", "not counters", text)?)
 }

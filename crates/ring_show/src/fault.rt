@@ -8,7 +8,7 @@ pub enum ShowFault {
     /// A file is not there, or a read failed.
     #[error("a file cannot be read")]
     InputUnread,
-    /// The section has more bytes than any ring, broadcast buffer or set of counters.
+    /// The section has more bytes than the largest ring.
     #[error("the section is too large: at most 16777984 bytes are read")]
     InputTooLarge,
     /// The section lies beyond the end of the file.

@@ -16,8 +16,6 @@ pub const VALUES: &str = "The file with the copy of the values; it may be the sa
 
 pub const VALUES_AT: &str = "Where the copy of the values begins in its file [default: 0]";
 
-pub const VALUES_LENGTH: &str = "How many bytes it has [default: up to the end of the file]";
-
 pub const FROM_ID: &str = "List from this id on";
 
 pub const FILE: &str = "The file with the copy";

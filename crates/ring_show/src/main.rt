@@ -76,19 +76,19 @@ fn run<R: AllocGlobal + Env + Files + Print + Eprint>(rt: &R) -> Result<ExitCode
 /// Reads the files, and says what lies in them.
 fn report_of<R: AllocGlobal + Files>(rt: &R, options: &Options<'_>) -> Result<Report, ShowFault> {
     let alloc = rt.alloc();
-    match options.subject {
+    Ok(match options.subject {
         Subject::Ring(section) => {
             let words = input::words(rt, section)?;
-            ring::report(alloc, words.as_slice(), options)
+            ring::report(alloc, words.as_slice(), options)?
         }
         Subject::Board(section) => {
             let words = input::words(rt, section)?;
-            board::report(alloc, words.as_slice(), options)
+            board::report(alloc, words.as_slice(), options)?
         }
         Subject::Counters { metadata, values } => {
             let metadata = input::words(rt, metadata)?;
             let values = input::words(rt, values)?;
-            counters::report(alloc, metadata.as_slice(), values.as_slice(), options)
+            counters::report(alloc, metadata.as_slice(), values.as_slice(), options)?
         }
-    }
+    })
 }

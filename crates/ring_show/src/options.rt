@@ -100,7 +100,7 @@ fn command<'a>(alloc: Global) -> Result<Command<'a>, Error> {
         .arg(file(alloc, "METADATA", help::METADATA))?
         .arg(file(alloc, "VALUES", help::VALUES))?
         .arg(number(alloc, "values-at", "BYTES", help::VALUES_AT))?
-        .arg(number(alloc, "values-length", "BYTES", help::VALUES_LENGTH))?
+        .arg(number(alloc, "values-length", "BYTES", help::LENGTH))?
         .arg(number(alloc, "from", "ID", help::FROM_ID))?;
     let command = Command::new(alloc, "ring-show")
         .bin_name("ring-show")?

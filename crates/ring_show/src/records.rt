@@ -1,11 +1,23 @@
 //! A list of records: what rings and boards have in common.
+ghost use Rattle.std.specs.Iterator.{IsFinite};
+
 use crate::bodies;
 use crate::options::Bodies;
 use crate::picture::{Mark, Picture};
-use crate::report::{Cell, Column, Field, Report};
+use crate::report::{Cell, Report, columns, fields};
 use ring_layout::align8;
 use ring_snapshot::Body;
 use std::alloc::{AllocError, Global};
+use std::fmt::Display;
+
+/// The columns of a list of records, each with whether it has numbers.
+static COLUMNS: [(&str, bool); 5] = [
+    ("place", true),
+    ("index", true),
+    ("state", false),
+    ("type", true),
+    ("length", true),
+];
 
 /// A record as it is shown.
 #[derive(Drop)]
@@ -42,12 +54,45 @@ impl<'a> Shown<'a> {
     }
 }
 
+/// How many records there are of each mark.
+#[derive(Clone, Copy, Debug, Default)]
+pub struct Tally {
+    pub committed: u32,
+    pub lapped: u32,
+    pub open: u32,
+    /// Aborted ones, and padding.
+    pub passed: u32,
+    pub unstored: bool,
+    /// The place of the first record at which a reader stops.
+    pub blocked: Option<u64>,
+}
+
+impl Tally {
+    fn add(&mut self, mark: Mark, place: u64) {
+        match mark {
+            Mark::Committed => self.committed = self.committed.saturating_add(1),
+            Mark::Lapped => self.lapped = self.lapped.saturating_add(1),
+            Mark::Aborted | Mark::AbortedOrPadding => self.passed = self.passed.saturating_add(1),
+            Mark::Open => {
+                self.open = self.open.saturating_add(1);
+                self.blocked = self.blocked.or(Some(place));
+            }
+            Mark::Unstored => {
+                self.unstored = true;
+                self.blocked = self.blocked.or(Some(place));
+            }
+            Mark::Free => {}
+        }
+    }
+}
+
 /// What is gathered of the records of a buffer.
 #[derive(Drop)]
 pub struct Listed {
     capacity: u32,
     bodies: Bodies,
     picture: Picture,
+    tally: Tally,
     rows: Vec<Vec<Cell>>,
     findings: Vec<String>,
 }
@@ -59,80 +104,74 @@ impl Listed {
             capacity,
             bodies,
             picture: Picture::new(alloc, capacity)?,
+            tally: Tally::default(),
             rows: Vec::new(alloc),
             findings: Vec::new(alloc),
         })
     }
 
     /// Adds a record. Where headers are not yet stored its bytes may go on at the buffer's start.
-    pub fn add(&mut self, alloc: Global, shown: Shown<'_>) -> Result<(), AllocError> {
+    fn add(&mut self, alloc: Global, shown: Shown<'_>) -> Result<(), AllocError> {
         let span = align8(u64::from(shown.length));
         let room = u64::from(self.capacity.saturating_sub(shown.index));
         self.picture.mark(shown.index, span.min(room), shown.mark);
         if span > room {
             self.picture.mark(0, span - room, shown.mark);
         }
+        self.tally.add(shown.mark, shown.place);
         let row = shown.row(alloc, self.bodies)?;
         self.rows.push(row)?;
         Ok(())
     }
 
     /// Adds what is wrong with the words.
-    pub fn find(&mut self, finding: String) -> Result<(), AllocError> {
-        self.findings.push(finding)?;
+    pub fn find<F: Display + Drop>(&mut self, alloc: Global, finding: F) -> Result<(), AllocError> {
+        self.findings.push(format!(in alloc; "{finding}")?)?;
         Ok(())
     }
 
-    /// The report of it, with letters before the pieces of these byte indexes.
+    /// Adds the records of a listing, and what it finds wrong.
+    pub fn gather<
+        'a,
+        R: Into<Shown<'a>> + Drop,
+        F: Display + Drop,
+        I: Iterator<Item = Result<R, F>> + Drop,
+    >(&mut self, alloc: Global, records: I) -> Result<(), AllocError>
+        requires can { I.can_next records }
+        requires ends { IsFinite (I.remaining records) }
+    {
+        for entry in records {
+            match entry {
+                Ok(record) => self.add(alloc, record.into())?,
+                Err(finding) => self.find(alloc, finding)?,
+            }
+        }
+        Ok(())
+    }
+
+    /// How many records were added.
+    pub fn tally(&self) -> Tally {
+        self.tally
+    }
+
+    /// The report of it: numbers with their names, and letters before the pieces of these byte indexes.
     pub fn report(
         self,
         alloc: Global,
         kind: &'static str,
-        fields: Vec<Field>,
+        named: &[(&'static str, u64)],
         signs: &[(char, u64)],
         summary: String,
     ) -> Result<Report, AllocError> {
         Ok(Report {
             kind,
-            fields,
+            fields: fields(alloc, named)?,
             picture: self.picture.line(alloc, signs)?,
             list: "records",
-            columns: columns(alloc, self.bodies)?,
+            columns: columns(alloc, COLUMNS.as_slice(), self.bodies, "body")?,
             rows: self.rows,
             summary,
             findings: self.findings,
         })
     }
-}
-
-fn columns(alloc: Global, bodies: Bodies) -> Result<Vec<Column>, AllocError> {
-    let mut columns = Vec::new(alloc);
-    for (name, is_number) in [
-        ("place", true),
-        ("index", true),
-        ("state", false),
-        ("type", true),
-        ("length", true),
-    ] {
-        columns.push(Column { name, is_number })?;
-    }
-    if bodies != Bodies::None {
-        columns.push(Column {
-            name: "body",
-            is_number: false,
-        })?;
-    }
-    Ok(columns)
-}
-
-/// The words of a trailer, each with its name.
-pub fn fields(alloc: Global, named: &[(&'static str, u64)]) -> Result<Vec<Field>, AllocError> {
-    let mut fields = Vec::new(alloc);
-    for (name, value) in named {
-        fields.push(Field {
-            name: *name,
-            value: Cell::Unsigned(*value),
-        })?;
-    }
-    Ok(fields)
 }

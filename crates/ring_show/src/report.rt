@@ -1,5 +1,7 @@
 //! What is shown, whatever it is and however it is printed.
+use crate::options::Bodies;
 use std::alloc::{AllocError, Global};
+use std::fmt::Display;
 
 /// A value in a table.
 #[derive(Debug, Drop)]
@@ -44,15 +46,15 @@ pub struct Report {
 
 impl Report {
     /// The report of memory that is not what it is said to be.
-    pub fn refused(
+    pub fn refused<F: Display + Drop>(
         alloc: Global,
         kind: &'static str,
         list: &'static str,
         summary: &str,
-        finding: String,
+        finding: F,
     ) -> Result<Report, AllocError> {
         let mut findings = Vec::new(alloc);
-        findings.push(finding)?;
+        findings.push(format!(in alloc; "{finding}")?)?;
         Ok(Report {
             kind,
             fields: Vec::new(alloc),
@@ -64,4 +66,39 @@ impl Report {
             findings,
         })
     }
+}
+
+/// Numbers, each with its name.
+pub fn fields(alloc: Global, named: &[(&'static str, u64)]) -> Result<Vec<Field>, AllocError> {
+    let mut fields = Vec::new(alloc);
+    for (name, value) in named {
+        fields.push(Field {
+            name: *name,
+            value: Cell::Unsigned(*value),
+        })?;
+    }
+    Ok(fields)
+}
+
+/// The columns of these names, each with whether it has numbers; and a last one for bytes, where these are shown.
+pub fn columns(
+    alloc: Global,
+    named: &[(&'static str, bool)],
+    bodies: Bodies,
+    last: &'static str,
+) -> Result<Vec<Column>, AllocError> {
+    let mut columns = Vec::new(alloc);
+    for (name, is_number) in named {
+        columns.push(Column {
+            name: *name,
+            is_number: *is_number,
+        })?;
+    }
+    if bodies != Bodies::None {
+        columns.push(Column {
+            name: last,
+            is_number: false,
+        })?;
+    }
+    Ok(columns)
 }
