@@ -14,6 +14,8 @@ mod picture;
 mod records;
 mod report;
 mod ring;
+#[cfg(test)]
+mod stored_tests;
 mod table;
 #[cfg(test)]
 mod tests;

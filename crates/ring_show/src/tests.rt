@@ -1,23 +1,11 @@
 use crate::options::{Bodies, Format, Options, Section, Subject};
 use crate::report::Report;
+use crate::stored_tests::{lapped, words_of};
 use crate::{board, counters, json, ring, table};
-use ring_board::Board;
 use ring_counters::CountersManager;
-use ring_snapshot::{CounterMetadata, CounterValueWords, Words};
+use ring_snapshot::{CounterMetadata, CounterValueWords};
 use ring_words::SoloRing;
-use std::alloc::{AllocError, Global};
 use std::process::Abort;
-
-/// All words of a list.
-fn words_of<S: Words>(alloc: Global, source: &S) -> Result<Vec<u64>, AllocError> {
-    let mut words = Vec::new(alloc);
-    for index in 0..10_000 {
-        if let Some(word) = source.word_at(index) {
-            words.push(word)?;
-        }
-    }
-    Ok(words)
-}
 
 /// The options of a report; the file's name is not read.
 fn options(from: Option<u64>) -> Options<'static> {
@@ -33,29 +21,9 @@ fn options(from: Option<u64>) -> Options<'static> {
     }
 }
 
-/// A board of 256 bytes on which twelve messages were transmitted: the last four lie in the second lap. These are the
-/// words of `examples/snapshots/lapped.board`.
-fn lapped(rt: &(impl AllocGlobal + Abort)) -> Vec<u64> {
-    let (board, mut transmitter) = Board::new(rt.alloc(), 256).expect(rt, "a board");
-    'sends: for (type_id, text) in [
-        (1, "session opened"),
-        (2, "bid 99.75"),
-        (2, "bid 99.80"),
-        (3, "ask 100.10 for 500 pieces"),
-        (2, "bid 99.85"),
-        (3, "ask 100.05"),
-        (4, "traded 200 at 100.05"),
-        (3, "ask 100.00 for 300 pieces"),
-        (4, "traded 300 at 100.00"),
-        (2, "bid 99.90"),
-        (3, "ask 100.15"),
-        (5, "session closed"),
-    ] {
-        let sent = board.transmit(&mut transmitter, type_id, text.as_bytes());
-        assert!(rt; sent.is_ok());
-    }
-    let closed = board.close(transmitter).map_err(|refused| refused.reason);
-    words_of(rt.alloc(), &closed.expect(rt, "no receiver is out")).expect(rt, "memory")
+/// The report of a board's words, from a position on.
+fn board_from(rt: &(impl AllocGlobal + Abort), words: &[u64], from: Option<u64>) -> Report {
+    board::report(rt.alloc(), words, &options(from)).expect(rt, "memory")
 }
 
 /// The same words, but for one.
@@ -80,8 +48,8 @@ fn is_json(rt: &(impl AllocGlobal + Abort), report: &Report, wanted: &str) {
 
 #[test]
 fn shows_a_board_that_lapped(rt: HostRuntime) {
-    let words = lapped(&rt);
-    let report = board::report(rt.alloc(), words.as_slice(), &options(None)).expect(&rt, "memory");
+    let words = words_of(&rt, &lapped(&rt));
+    let report = board_from(&rt, words.as_slice(), None);
     is_table(
         &rt,
         &report,
@@ -100,9 +68,8 @@ place  index  state  type  length  body
 
 #[test]
 fn shows_the_lap_before_from_a_place(rt: HostRuntime) {
-    let words = lapped(&rt);
-    let from = options(Some(112));
-    let report = board::report(rt.alloc(), words.as_slice(), &from).expect(&rt, "memory");
+    let words = words_of(&rt, &lapped(&rt));
+    let report = board_from(&rt, words.as_slice(), Some(112));
     is_table(
         &rt,
         &report,
@@ -122,8 +89,7 @@ place  index  state    type  length  body
 8 valid, 0 lapped, 1 padding
 ",
     );
-    let gone = options(Some(96));
-    let report = board::report(rt.alloc(), words.as_slice(), &gone).expect(&rt, "memory");
+    let report = board_from(&rt, words.as_slice(), Some(96));
     assert!(rt; report.rows.is_empty());
     assert_eq!(rt; report.findings.len(), 1);
 }
@@ -131,8 +97,8 @@ place  index  state    type  length  body
 #[test]
 fn shows_a_transmission_that_runs(rt: HostRuntime) {
     // The intent, behind the 32 words of the buffer: 16 bytes of the running lap's first record are overwritten.
-    let words = with_word(lapped(&rt), 32, 528);
-    let report = board::report(rt.alloc(), words.as_slice(), &options(None)).expect(&rt, "memory");
+    let words = with_word(words_of(&rt, &lapped(&rt)), 32, 528);
+    let report = board_from(&rt, words.as_slice(), None);
     is_table(
         &rt,
         &report,
@@ -145,7 +111,7 @@ place  index  state  type  length  body
 ",
     );
     let words = with_word(words, 32, 512);
-    let report = board::report(rt.alloc(), words.as_slice(), &options(None)).expect(&rt, "memory");
+    let report = board_from(&rt, words.as_slice(), None);
     assert_eq!(rt;
         report.summary.as_str(),
         "3 valid, 1 lapped, 0 padding; transmitting from 360 to 512"
@@ -154,9 +120,8 @@ place  index  state  type  length  body
 
 #[test]
 fn board_as_json(rt: HostRuntime) {
-    let words = lapped(&rt);
-    let from = options(Some(336));
-    let report = board::report(rt.alloc(), words.as_slice(), &from).expect(&rt, "memory");
+    let words = words_of(&rt, &lapped(&rt));
+    let report = board_from(&rt, words.as_slice(), Some(336));
     is_json(
         &rt,
         &report,
@@ -186,7 +151,7 @@ fn board_as_json(rt: HostRuntime) {
 fn ring_as_json(rt: HostRuntime) {
     let mut ring = SoloRing::new(rt.alloc(), 128).expect(&rt, "a ring");
     ring.write(7, b"hello").expect(&rt, "room");
-    let words = words_of(rt.alloc(), &ring).expect(&rt, "memory");
+    let words = words_of(&rt, &ring);
     // The tail is word 16 of the trailer; behind the first record stands a length of 5.
     let words = with_word(with_word(words, 16 + 16, 32), 2, 5);
     let report = ring::report(rt.alloc(), words.as_slice(), &options(None)).expect(&rt, "memory");
@@ -226,8 +191,8 @@ fn counters_as_json(rt: HostRuntime) {
     let id = manager.allocate(&values, 0, 5, b"k", b"errors", 0);
     assert_eq!(rt; id.ok(), Some(0));
     manager.set(&values, 0, -2).expect(&rt, "in use");
-    let metadata = words_of(rt.alloc(), &CounterMetadata(&manager)).expect(&rt, "memory");
-    let numbers = words_of(rt.alloc(), &CounterValueWords(&manager)).expect(&rt, "memory");
+    let metadata = words_of(&rt, &CounterMetadata(&manager));
+    let numbers = words_of(&rt, &CounterValueWords(&manager));
     let shown = options(None);
     let made = counters::report(rt.alloc(), metadata.as_slice(), numbers.as_slice(), &shown);
     let report = made.expect(&rt, "memory");
