@@ -1,5 +1,5 @@
 -- A controlled read of messages into a buffer, one behind another.
-use Rattle.std.proofs.Common.{◌≡◌, ◌≢◌, ◌⊎◌, inl, inr, ℕ, zero, suc, ◌+◌, ◌<◌, ◌≤◌, Bool, true, false, arith, List, [], ◌∷◌, ◌++◌, All, length, refl, sym, ap, ◌∙◌, subst}
+use Rattle.std.proofs.Common.{◌≡◌, ◌≢◌, ◌⊎◌, inl, inr, ℕ, zero, suc, ◌+◌, ◌<◌, ◌≤◌, Bool, true, false, arith, ℤ, pos, List, [], ◌∷◌, ◌++◌, All, length, refl, sym, ap, ◌∙◌, subst}
 use Rattle.std.proofs.lemmas.List.{append-nil}
 use Rattle.std.proofs.lemmas.List.Elements.{All-head, All-tail}
 use Rattle.ring_layout.specs.declared.message.Message.{Message}
@@ -7,12 +7,17 @@ use Rattle.ring_layout.specs.Handles.{Handles}
 use Rattle.ring_words.specs.declared.read.action.Action.{Action}
 use Rattle.ring_words.specs.declared.read.action.Action.TheVariants.{Abort, Break, Continue}
 use Rattle.ring_words.specs.declared.read.end.ReadEnd.{ReadEnd}
+use Rattle.ring_words.specs.declared.read.end.Stop.{Stop}
+use Rattle.ring_words.specs.declared.read.end.Stop.TheVariants.{Block, Unpublished}
 use Rattle.ring_words.specs.Read.{GoesOn}
 use Rattle.ring_table.specs.declared.claim.PlacedMessage.{PlacedMessage}
 use Rattle.ring_table.specs.declared.view.View.{View}
-use Rattle.ring_rings.specs.Reading.{Controls, Reads, messages_of}
+use Rattle.ring_rings.specs.Reading.{Controls, IsBlocked, IsNext, Reads, messages_of}
 use Rattle.ring_c.specs.declared.batch.Laying.{Laying}
-use Rattle.ring_c.specs.Batch.{Adds, IsShortFor, Lays, Leaves, TookSome, batch, laid, laid_end, span_in}
+use Rattle.ring_c.specs.Batch.{Adds, Batch, IsShort, Lays, Leaves, ReadBatch, ReadsBatch, TookBatch, TookSome, batch, laid, laid_end, span_in}
+use Rattle.ring_c.specs.Consuming.{RanOut, TookNone}
+use Rattle.ring_c.specs.Side.{Reading, having_read}
+use Rattle.ring_c.proofs.EndLemmas.{both, had_none, in_words, next_on, none_once, none_twice, ran_out}
 
 -- these messages were laid behind what was used
 record WereLaid (s : Laying) (ms : List PlacedMessage) (t : Laying) : Type 0 where
@@ -96,7 +101,7 @@ record Ends (limit : ℕ) (v w : View) (s t : Laying) (end : ReadEnd) : Type 0 w
   pub used : t.used ≡ between.used
   pub borrow : t.buffer.ghost_name ≡ between.buffer.ghost_name
   pub full : (t.is_full ≡ between.is_full)
-      ⊎ ((m : Message) × (length between.buffer.now < between.used + span_in (length m.body)))
+      ⊎ ((m : Message) × IsNext v w m × (length between.buffer.now < between.used + span_in (length m.body)))
 
 ends : (limit : ℕ) (v w : View) (s t : Laying) (end : ReadEnd) → s.used ≡ 0 → Controls Lays limit v w s t end
     → Ends limit v w s t end
@@ -123,13 +128,8 @@ ends limit v w s t end fresh (inr (inr aborts)) =
       buffer = leaves.buffer;
       used = leaves.used;
       borrow = leaves.borrow;
-      full = inr (aborts.message, leaves.short);
+      full = inr (aborts.message, aborts.next, leaves.short);
     }
-
--- the heartbeats stay
-pub same_beats : (limit : ℕ) (v w : View) (s t : Laying) (end : ReadEnd) → s.used ≡ 0 → Controls Lays limit v w s t end
-    → w.consumer.heartbeats ≡ v.consumer.heartbeats
-same_beats limit v w s t end fresh controls = (ends limit v w s t end fresh controls).reads.moves.heartbeats
 
 -- the buffer is the same one
 pub same_borrow : (limit : ℕ) (v w : View) (s t : Laying) (end : ReadEnd) → s.used ≡ 0
@@ -176,10 +176,14 @@ none_taken limit v w s t end fresh controls none =
       e.buffer ∙ (e.were.buffer ∙ ap (λ (ns : List PlacedMessage). laid s.used (messages_of ns) s.buffer.now) empty),
     )
 
+is_yes : Bool → Type 0
+is_yes true = Unit {0}
+is_yes false = ⊥
+
 -- the first message had no room
 pub none_fits : (limit : ℕ) (v w : View) (s t : Laying) (end : ReadEnd) → s.used ≡ 0 → s.is_full ≡ false
-    → Controls Lays limit v w s t end → end.messages ≡ 0 → t.is_full ≡ true
-    → (m : Message) × IsShortFor s.buffer.now m
+    → Controls Lays limit v w s t end → end.messages ≡ 0 → t.is_full ≡ true → IsShort s.buffer.now v w
+unfolding is_yes
 none_fits limit v w s t end fresh open_yet controls none is_full =
     let e = ends limit v w s t end fresh controls in
     let empty = no_messages e.reads.messages end.messages e.reads.counted none in
@@ -187,17 +191,75 @@ none_fits limit v w s t end fresh open_yet controls none is_full =
     e.were.used ∙ (ap (λ (ns : List PlacedMessage). laid_end s.used (messages_of ns)) empty ∙ fresh) in
     short e nothing_used e.full
   where
-    is_yes : Bool → Type 0
-    is_yes true = Unit {0}
-    is_yes false = ⊥
-
     short : (e : Ends limit v w s t end) → e.between.used ≡ 0
         → (t.is_full ≡ e.between.is_full)
-        ⊎ ((m : Message) × (length e.between.buffer.now < e.between.used + span_in (length m.body)))
-        → (m : Message) × IsShortFor s.buffer.now m
+        ⊎ ((m : Message) × IsNext v w m × (length e.between.buffer.now < e.between.used + span_in (length m.body)))
+        → IsShort s.buffer.now v w
     short e used (inl same) = absurd (subst is_yes (sym is_full ∙ (same ∙ (e.were.full ∙ open_yet))) tt)
-    short e used (inr (m, less)) = (
-      m,
-      subst (λ (n : ℕ). n < span_in (length m.body)) e.were.size (from_zero _ _
-          (subst (λ (n : ℕ). length e.between.buffer.now < n + span_in (length m.body)) used less)),
-    )
+    short e used (inr (m, next, less)) = record {
+      message = m;
+      next = next;
+      short = subst (λ (n : ℕ). n < span_in (length m.body)) e.were.size (from_zero _ _
+          (subst (λ (n : ℕ). length e.between.buffer.now < n + span_in (length m.body)) used less));
+    }
+
+-- no message came
+pub none_came : (limit : ℕ) (v w : View) (s t : Laying) (end : ReadEnd)
+    → v.consumer.head + end.bytes ≡ w.consumer.head → (end.stopped ≡ Unpublished → IsBlocked v w)
+    → Controls Lays limit v w s t end → end.messages ≡ 0 → t.is_full ≡ false → RanOut limit end.stopped v w
+unfolding is_yes
+none_came limit v w s t end bytes blocked (inl on) none open_yet = ran_out Lays limit v w s t end on none bytes blocked
+none_came limit v w s t end bytes blocked (inr (inl broke)) none open_yet =
+    absurd (never_broke s t broke.reads.messages broke.before
+    (subst (λ (answers : List Action). Handles Lays s (messages_of broke.reads.messages) answers t) broke.broke
+    broke.reads.handled))
+none_came limit v w s t end bytes blocked (inr (inr aborts)) none open_yet =
+    absurd (subst is_yes (sym (left aborts.before t aborts.message aborts.aborted).full ∙ open_yet) tt)
+
+-- Two reads as one -----------------------------------------------------------------
+
+-- one read that took something, or did not come to the end of the buffer
+pub batch_once : (limit : ℕ) (stopped : Stop) (o o' : Batch) (r s : Reading) (code : ℤ)
+    → (code ≡ pos 105 → stopped ≡ Block → ⊥) → ReadsBatch (RanOut limit stopped) limit o o' r s code
+    → ReadBatch limit o o' r s code
+batch_once limit stopped o o' r s code inside (same, on, took) = (
+  same,
+  on,
+  in_words code (λ some. some) (λ is none. none_once limit stopped r.view s.view o o' (inside is) none) (λ short. short)
+      took,
+)
+
+-- one read that came to the end of the buffer and took none, and another
+pub batch_twice : (limit : ℕ) (one two : Stop) (o o' o'' : Batch) (r s t : Reading) (first code : ℤ) → first ≡ pos 105
+    → one ≡ Block → ReadsBatch (RanOut limit one) limit o o' r s first
+    → ReadsBatch (RanOut limit two) limit o' o'' s t code → ReadBatch limit o o'' r t code
+batch_twice limit one two o o' o'' r s t first code is ended (same, on, took) (same', on', took') = (
+  same' ∙ ap (having_read t.view) same,
+  both r.view s.view t.view on on',
+  in_words code takes (λ _ again. none_twice limit one two r.view s.view t.view o o' o'' on on' ended none again) short
+      (subst (λ (x : Batch). TookBatch (RanOut limit two) limit s.view t.view x o'' code) none.outs took'),
+)
+  where
+    none : TookNone (RanOut limit one) r.view s.view o o'
+    none = had_none first is took
+
+    takes : TookSome limit s.view t.view o.buffer o'' → TookSome limit r.view t.view o.buffer o''
+    takes k = record {
+      messages = k.messages;
+      some = k.some;
+      taken = k.taken ∙ ap (λ (ms : List PlacedMessage). ms ++ k.messages) none.taken;
+      within = k.within;
+      room = k.room;
+      outs = k.outs;
+    }
+
+    short : TookNone (IsShort o.buffer) s.view t.view o o'' → TookNone (IsShort o.buffer) r.view t.view o o''
+    short k = record {
+      taken = k.taken ∙ none.taken;
+      why = record {
+        message = k.why.message;
+        next = next_on r.view s.view t.view on k.why.message k.why.next;
+        short = k.why.short;
+      };
+      outs = k.outs;
+    }

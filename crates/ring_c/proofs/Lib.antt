@@ -1,4 +1,5 @@
 mod BatchLemmas
+mod EndLemmas
 pub mod HandleValues
 mod ReadLemmas
 pub mod Values

@@ -1,5 +1,5 @@
 -- How messages are laid one behind another into a buffer.
-use Rattle.std.specs.Prelude.{◌≡◌, ◌≢◌, ◌⊎◌, ℕ, ◌+◌, ◌*◌, ◌/◌, ◌<◌, ◌≤◌, ℤ, pos, true, List, [], ◌∷◌, ◌++◌, length}
+use Rattle.std.specs.Prelude.{◌≡◌, ◌≢◌, ◌⊎◌, ℕ, ◌+◌, ◌*◌, ◌/◌, ◌<◌, ◌≤◌, ℤ, true, List, [], ◌∷◌, ◌++◌, length}
 use Rattle.std.specs.Int.{cast_unsigned, to_le_bytes, w64}
 use Rattle.ring_layout.specs.declared.message.Message.{Message}
 use Rattle.ring_layout.specs.History.{overwritten}
@@ -7,7 +7,8 @@ use Rattle.ring_table.specs.declared.claim.PlacedMessage.{PlacedMessage}
 use Rattle.ring_table.specs.declared.view.View.{View}
 use Rattle.ring_words.specs.declared.read.action.Action.{Action}
 use Rattle.ring_words.specs.declared.read.action.Action.TheVariants.{Abort, Continue}
-use Rattle.ring_rings.specs.Reading.{messages_of}
+use Rattle.ring_rings.specs.Reading.{IsNext, messages_of}
+use Rattle.ring_c.specs.Consuming.{HadNone, ReadCode, ReadsOn, TookNone}
 use Rattle.ring_c.specs.Side.{Reading, having_read}
 use Rattle.ring_c.specs.declared.batch.Laying.{Laying}
 
@@ -77,21 +78,21 @@ pub record TookSome (limit : ℕ) (v w : View) (bytes : List ℕ) (after : Batch
   pub room : laid_end 0 (messages_of messages) ≤ length bytes
   pub outs : after ≡ batch (length messages) (laid_end 0 (messages_of messages)) (laid 0 (messages_of messages) bytes)
 
--- none was, and nothing is put out
-abbrev pub TookNothing : View → View → Batch → Batch → Type 0
-TookNothing v w before after = (w.consumer.taken ≡ v.consumer.taken) × (after ≡ before)
-
--- the bytes have no room for a message
-abbrev pub IsShortFor : List ℕ → Message → Type 0
-IsShortFor bytes m = length bytes < span_in (length m.body)
+-- the bytes have no room for the message at the new head
+pub record IsShort (bytes : List ℕ) (v w : View) : Type 0 where
+  pub message : Message
+  pub next : IsNext v w message
+  pub short : length bytes < span_in (length message.body)
 
 -- messages were taken, none was there, or the buffer is too short for the first one, which stays
-abbrev pub TookBatch : ℕ → View → View → Batch → Batch → ℤ → Type 0
-TookBatch limit v w before after code = ((code ≡ pos 0) × TookSome limit v w before.buffer after)
-    ⊎ (((code ≡ pos 105) × TookNothing v w before after)
-    ⊎ ((code ≡ pos 106) × TookNothing v w before after × ((m : Message) × IsShortFor before.buffer m)))
+abbrev pub TookBatch : (View → View → Type 0) → ℕ → View → View → Batch → Batch → ℤ → Type 0
+TookBatch Why limit v w before after code = ReadCode (TookSome limit v w before.buffer after)
+    (TookNone Why v w before after) (TookNone (IsShort before.buffer) v w before after) code
 
 -- messages were read, or none was
+abbrev pub ReadsBatch : (View → View → Type 0) → ℕ → Batch → Batch → Reading → Reading → ℤ → Type 0
+ReadsBatch Why limit before after r s code = (s ≡ having_read s.view r) × ReadsOn r.view s.view
+    × TookBatch Why limit r.view s.view before after code
+
 abbrev pub ReadBatch : ℕ → Batch → Batch → Reading → Reading → ℤ → Type 0
-ReadBatch limit before after r s code = (s ≡ having_read s.view r)
-    × (s.view.consumer.heartbeats ≡ r.view.consumer.heartbeats) × TookBatch limit r.view s.view before after code
+ReadBatch limit = ReadsBatch (HadNone limit) limit

@@ -14,6 +14,7 @@ pub record Lends (c d : CountersSide) (r : ReaderSide) : Type 0 where
   pub shares : shares_of d.manager + 1 ≡ shares_of c.manager
   pub registry : registry_of d.manager ≡ registry_of c.manager
   pub writes : writes_of d.manager ≡ writes_of c.manager
+  pub same : arc_value d.values ≡ arc_value c.values
   pub values : arc_value r.values ≡ arc_value c.values
   pub made : made_of r.reader ≡ writes_of c.manager
   pub seen : seen_by r.reader ≡ writes_of c.manager

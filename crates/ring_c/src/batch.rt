@@ -1,8 +1,9 @@
 //! Messages laid one behind another into a buffer.
 ghost use Rattle.std.specs.Prelude.{◌≡◌, ◌≢◌, ◌+◌, ◌^◌, ◌<◌, ◌≤◌, true, false, length};
 ghost use Rattle.ring_layout.specs.declared.message.Message.{Message};
-ghost use Rattle.ring_rings.specs.Seats.{consumer_view, heartbeats_of, IsConsumerOf};
-ghost use Rattle.ring_c.specs.Batch.{batch, placed, span_in, IsShortFor, Lays, ReadBatch, TookBatch, TookSome};
+ghost use Rattle.ring_rings.specs.Seats.{consumer_view, IsConsumerOf};
+ghost use Rattle.ring_c.specs.Batch.{batch, placed, span_in, IsShort, Lays, ReadBatch, ReadsBatch, TookBatch, TookSome};
+ghost use Rattle.ring_c.specs.Consuming.{RanOut, ReadsOn};
 
 use crate::code::{DONE, NO_MESSAGE, SHORT_BUFFER};
 use crate::consumer::ConsumerSide;
@@ -65,13 +66,15 @@ fn lay_some<K>(
     requires fresh { (laying.old.used ≡ 0) × (laying.old.is_full ≡ false) }
     ensures consumer { IsConsumerOf ring.now consumer.new }
     ensures borrow { laying.new.buffer.ghost_name ≡ laying.old.buffer.ghost_name }
-    ensures beats { heartbeats_of consumer.new ≡ heartbeats_of consumer.old }
+    ensures reads { ReadsOn (consumer_view consumer.old) (consumer_view consumer.new) }
     ensures some { result.messages ≢ 0 → TookSome limit (consumer_view consumer.old) (consumer_view consumer.new)
         laying.old.buffer.now (batch result.messages laying.new.used laying.new.buffer.now) }
     ensures none { result.messages ≡ 0 → ((consumer_view consumer.new).consumer.taken
         ≡ (consumer_view consumer.old).consumer.taken) × (laying.new.buffer.now ≡ laying.old.buffer.now) }
     ensures full { result.messages ≡ 0 → laying.new.is_full ≡ true
-        → (m : Message) × IsShortFor laying.old.buffer.now m }
+        → IsShort laying.old.buffer.now (consumer_view consumer.old) (consumer_view consumer.new) }
+    ensures out { result.messages ≡ 0 → laying.new.is_full ≡ false → RanOut limit result.stopped
+        (consumer_view consumer.old) (consumer_view consumer.new) }
 {
     ring.controlled_read(consumer, limit, laying)
 }
@@ -87,8 +90,8 @@ fn lay_into<K>(
 ) -> (i32, Stop)
     requires { IsConsumerOf ring.now consumer.old }
     ensures consumer { IsConsumerOf ring.now consumer.new }
-    ensures beats { heartbeats_of consumer.new ≡ heartbeats_of consumer.old }
-    ensures took { TookBatch limit (consumer_view consumer.old) (consumer_view consumer.new)
+    ensures reads { ReadsOn (consumer_view consumer.old) (consumer_view consumer.new) }
+    ensures took { TookBatch (RanOut limit result.1) limit (consumer_view consumer.old) (consumer_view consumer.new)
         (batch count.old used.old buffer.old) (batch count.new used.new buffer.new) result.0 }
 {
     let mut laying = Laying {
@@ -119,8 +122,8 @@ impl ConsumerSide {
         used: &mut usize,
         buffer: &mut [u8],
     ) -> (i32, Stop)
-        ensures { ReadBatch limit (batch count.old used.old buffer.old) (batch count.new used.new buffer.new) self.old
-            self.new result.0 }
+        ensures { ReadsBatch (RanOut limit result.1) limit (batch count.old used.old buffer.old)
+            (batch count.new used.new buffer.new) self.old self.new result.0 }
     {
         match &self.ring {
             AnyRing::Many(ring) => {

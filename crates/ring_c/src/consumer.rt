@@ -1,7 +1,7 @@
 //! A consumer in a handle.
 ghost use Rattle.std.specs.Prelude.{◌≡◌, pos};
-ghost use Rattle.ring_rings.specs.Seats.{consumer_view, heartbeats_of, IsConsumerOf};
-ghost use Rattle.ring_c.specs.Consuming.{out, Beat, ReadOne, TookOne};
+ghost use Rattle.ring_rings.specs.Seats.{consumer_view, IsConsumerOf};
+ghost use Rattle.ring_c.specs.Consuming.{out, Beat, RanOut, ReadOne, ReadsOn, ReadsOne, TookOne};
 
 use crate::code::{DONE, NO_MESSAGE};
 use crate::copying::Copying;
@@ -39,8 +39,8 @@ fn take_one<K>(ring: &Ring<K>, consumer: &mut Consumer, copying: &mut Copying<'_
     requires waits { copying.old.code ≡ pos 105 }
     ensures consumer { IsConsumerOf ring.now consumer.new }
     ensures borrow { copying.new.buffer.ghost_name ≡ copying.old.buffer.ghost_name }
-    ensures beats { heartbeats_of consumer.new ≡ heartbeats_of consumer.old }
-    ensures took { TookOne (consumer_view consumer.old) (consumer_view consumer.new)
+    ensures reads { ReadsOn (consumer_view consumer.old) (consumer_view consumer.new) }
+    ensures took { TookOne (RanOut 1 result) (consumer_view consumer.old) (consumer_view consumer.new)
         (out copying.old.type_id copying.old.len copying.old.buffer.now)
         (out copying.new.type_id copying.new.len copying.new.buffer.now) copying.new.code }
 {
@@ -57,8 +57,8 @@ fn read_into<K>(
 ) -> (i32, Stop)
     requires { IsConsumerOf ring.now consumer.old }
     ensures consumer { IsConsumerOf ring.now consumer.new }
-    ensures beats { heartbeats_of consumer.new ≡ heartbeats_of consumer.old }
-    ensures took { TookOne (consumer_view consumer.old) (consumer_view consumer.new)
+    ensures reads { ReadsOn (consumer_view consumer.old) (consumer_view consumer.new) }
+    ensures took { TookOne (RanOut 1 result.1) (consumer_view consumer.old) (consumer_view consumer.new)
         (out type_id.old len.old buffer.old) (out type_id.new len.new buffer.new) result.0 }
 {
     let mut copying = Copying {
@@ -76,7 +76,7 @@ fn read_into<K>(
 impl ConsumerSide {
     /// Reads up to one message, as far as the end of the ring's buffer.
     fn try_read(&mut self, type_id: &mut i32, len: &mut usize, buffer: &mut [u8]) -> (i32, Stop)
-        ensures { ReadOne (out type_id.old len.old buffer.old)
+        ensures { ReadsOne (RanOut 1 result.1) (out type_id.old len.old buffer.old)
             (out type_id.new len.new buffer.new) self.old self.new result.0 }
     {
         match &self.ring {

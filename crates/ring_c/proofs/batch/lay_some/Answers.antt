@@ -1,11 +1,12 @@
-use Rattle.ring_c.proofs.BatchLemmas.{none_fits, none_taken, same_beats, same_borrow, some_taken}
+use Rattle.ring_c.proofs.BatchLemmas.{none_came, none_fits, none_taken, same_borrow, some_taken}
+use Rattle.ring_c.proofs.EndLemmas.{reads_on}
 use Rattle.ring_c.proofs.batch.lay_some.Goals as goal
 
 pub returns-clause-borrow : goal.returns-clause-borrow
 returns-clause-borrow g c = same_borrow _ _ _ _ _ _ c.requires.fresh.0 c.controlled_read.ensures.controls
 
-pub returns-clause-beats : goal.returns-clause-beats
-returns-clause-beats g c = same_beats _ _ _ _ _ _ c.requires.fresh.0 c.controlled_read.ensures.controls
+pub returns-clause-reads : goal.returns-clause-reads
+returns-clause-reads g c = reads_on _ _ _ _ _ _ _ c.controlled_read.ensures.controls
 
 pub returns-clause-some : goal.returns-clause-some
 returns-clause-some g c =
@@ -17,3 +18,7 @@ returns-clause-none g c = none_taken _ _ _ _ _ _ c.requires.fresh.0 c.controlled
 pub returns-clause-full : goal.returns-clause-full
 returns-clause-full g c =
     none_fits _ _ _ _ _ _ c.requires.fresh.0 c.requires.fresh.1 c.controlled_read.ensures.controls
+
+pub returns-clause-out : goal.returns-clause-out
+returns-clause-out g c = none_came _ _ _ _ _ _ c.controlled_read.ensures.bytes c.controlled_read.ensures.blocked
+    c.controlled_read.ensures.controls
