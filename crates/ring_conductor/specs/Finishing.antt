@@ -1,5 +1,5 @@
 -- What a conductor hands out when it finishes.
-use Rattle.std.specs.Prelude.{◌≡◌, ℕ, ◌-◌, nat_lt, if◌then◌else◌, List, ◌++◌, Option, Some, None}
+use Rattle.std.specs.Prelude.{◌≡◌, ℕ, ◌-◌, nat_lt, if◌then◌else◌, ℤ, pos, List, ◌++◌, Option, Some, None}
 use Rattle.ring_layout.specs.declared.message.Claim.{Claim}
 use Rattle.ring_layout.specs.History.{committed_of}
 use Rattle.ring_words.specs.Ring.{Ring, Has}
@@ -33,6 +33,12 @@ finish_refusal_of open_claims producing transmitting =
     else (if nat_lt producing 65536 then Some (ProducersOut (65536 - producing))
     else (if nat_lt transmitting 65536 then Some (ReceiversOut (65536 - transmitting))
     else None))
+
+-- the number of why a conductor does not finish
+abbrev pub finish_code : FinishFault → ℤ
+finish_code (ClaimsOpen _) = pos 10
+finish_code (ProducersOut _) = pos 11
+finish_code (ReceiversOut _) = pos 14
 
 -- why this conductor does not finish with this producer
 abbrev pub refusal_to : Conductor → Producer → Option FinishFault

@@ -20,6 +20,8 @@ use Rattle.ring_counters.specs.Counter.{Counter}
 use Rattle.ring_counters.specs.Manager.{registry_of}
 use Rattle.ring_counters.specs.Registry.{Registry, fresh_registry, live_of}
 use Rattle.ring_conductor.specs.declared.conductor.Conductor.{Conductor}
+use Rattle.ring_conductor.specs.declared.storming.plan.StormFault.{StormFault}
+use Rattle.ring_conductor.specs.declared.storming.plan.StormFault.TheVariants.{BadPlan, OutOfMemory, TurnsSpent}
 use Rattle.ring_conductor.specs.declared.storming.plan.StormPlan.{StormPlan}
 use Rattle.ring_conductor.specs.declared.storming.plan.StormReport.{StormReport}
 use Rattle.ring_conductor.specs.declared.storming.seats.StormClient.{StormClient}
@@ -41,6 +43,12 @@ pub record IsPlan (p : StormPlan) : Type 0 where
   pub commands : (1 ≤ p.commands) × (p.commands ≤ 10000)
   pub ring : (256 ≤ p.ring) × (p.ring ≤ 2 ^ 24) × IsTrue (is_power_of_two p.ring)
   pub turns : 1 ≤ p.turns
+
+-- the number of why a storm gives no report
+abbrev pub storm_code : StormFault → ℤ
+storm_code BadPlan = pos 26
+storm_code OutOfMemory = pos 3
+storm_code TurnsSpent = pos 27
 
 -- how many commands all clients send
 abbrev pub all_commands : StormPlan → ℕ

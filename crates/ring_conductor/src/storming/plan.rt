@@ -1,7 +1,8 @@
 //! What a storm is to do, and what it says afterwards.
 ghost use Rattle.std.specs.Prelude.{◌≡◌, ◌*◌, ◌↔◌, IsTrue};
-ghost use Rattle.ring_conductor.specs.Storming.{IsBoardFor, IsPlan};
+ghost use Rattle.ring_conductor.specs.Storming.{IsBoardFor, IsPlan, storm_code};
 
+use ring_layout::refusal_codes::{BAD_PLAN, OUT_OF_MEMORY, TURNS_SPENT};
 use thiserror::Error;
 
 /// What a storm is to do.
@@ -36,14 +37,27 @@ pub struct StormReport {
 #[derive(Clone, Copy, Debug, PartialEq, Eq, Error)]
 pub enum StormFault {
     /// A number of the plan is not allowed.
-    #[error("26 BadPlan")]
+    #[error("{} BadPlan", self.code())]
     BadPlan,
     /// Memory is wanting, or a thread could not be started.
-    #[error("3 OutOfMemory")]
+    #[error("{} OutOfMemory", self.code())]
     OutOfMemory,
     /// A wait took as many turns as it may.
-    #[error("27 TurnsSpent")]
+    #[error("{} TurnsSpent", self.code())]
     TurnsSpent,
+}
+
+impl StormFault {
+    /// The number of the refusal.
+    pub fn code(self) -> i32
+        ensures { result ≡ storm_code self }
+    {
+        match self {
+            StormFault::BadPlan => BAD_PLAN,
+            StormFault::OutOfMemory => OUT_OF_MEMORY,
+            StormFault::TurnsSpent => TURNS_SPENT,
+        }
+    }
 }
 
 impl StormPlan {
