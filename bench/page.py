@@ -36,9 +36,11 @@ SECTIONS = (
          ("allocate and free", "alloc_free"), ("get", "get"), ("set", "set"),
          ("set that two threads watch", "set_watched"))]),
     ("Storms: ns a command",
-     [("%d client%s" % (n, "" if n == 1 else "s"), "W7", "ours-storm", "storm", 20, n, "ns")
-      for n in (1, 2, 4, 16, 64)]),
+     [("%d client%s%s" % (n, "" if n == 1 else "s", said), "W7", "ours-storm", "storm", 20, n, metric)
+      for said, metric in (("", "ns"), (", whole call", "whole")) for n in (1, 2, 4, 16, 64)]),
 )
+# What ours alone is measured by, and what of the twins stands beside it
+BESIDE = {"whole": "ns"}
 
 
 class Set:
@@ -55,11 +57,12 @@ class Set:
         """Ours by a twin's, round by round."""
         _, workload, ours, name, size, threads, metric = row
         mine = self.values.get((workload, ours, size, threads, metric))
-        its = self.values.get((workload, "%s-%s" % (name, twin), size, threads, metric))
+        its = self.values.get((workload, "%s-%s" % (name, twin), size, threads, BESIDE.get(metric, metric)))
         return [a / b for a, b in zip(mine, its)] if mine and its else []
 
     def median(self, row, contender):
-        _, workload, _, _, size, threads, metric = row
+        _, workload, ours, _, size, threads, metric = row
+        metric = metric if contender == ours else BESIDE.get(metric, metric)
         found = self.values.get((workload, contender, size, threads, metric))
         return statistics.median(found) if found else None
 

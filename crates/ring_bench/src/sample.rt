@@ -22,6 +22,8 @@ enum Detail {
     Trips(Vec<u32>),
     /// What receivers came to.
     Heard(Heard),
+    /// The nanoseconds of the whole call, with what is made and taken apart in it.
+    Whole(u64),
 }
 
 /// What receivers of a broadcast came to.
@@ -83,6 +85,15 @@ impl Sample {
         }
     }
 
+    /// The sample with the time of the whole call.
+    pub fn with_whole(self, nanos: u64) -> Sample {
+        Sample {
+            nanos: self.nanos,
+            times: self.times,
+            detail: Detail::Whole(nanos),
+        }
+    }
+
     /// Prints a line for each figure. The first one is the nanoseconds of the job, under this name.
     pub fn print(&self, rt: &impl Print, name: &str) -> io::Result<()> {
         let each = Decimal {
@@ -108,6 +119,13 @@ impl Sample {
                     by: all,
                 };
                 println!(rt; "copied {copied}\nlaps_per_million {laps}")
+            }
+            Detail::Whole(nanos) => {
+                let each = Decimal {
+                    of: *nanos,
+                    by: self.times,
+                };
+                println!(rt; "whole {each}")
             }
         }
     }

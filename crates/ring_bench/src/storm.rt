@@ -4,12 +4,50 @@ use crate::fault::Fault;
 use crate::request::Request;
 use crate::rest::TRIES;
 use crate::sample::{Sample, nanos_since};
-use ring_conductor::{OpenGate, StormPlan, StormReport, storm};
+use ring_conductor::{Gate, StormPlan, StormReport, storm};
 use std::alloc::Global;
 use std::rt::Clock;
 use std::sync::Wait;
+use std::sync::atomic::{AtomicU64, Ordering};
 use std::thread::Threads;
 use std::time::Instant;
+
+/// Lets all clients send at once, and notes when the first thread started and when the last reply had come.
+#[derive(Drop)]
+struct Timed<'a, R> {
+    rt: &'a R,
+    plan: StormPlan,
+    made: Instant,
+    /// Nanoseconds since it was made.
+    began: AtomicU64,
+    ended: AtomicU64,
+}
+
+impl<R: Clock> Timed<'_, R> {
+    /// The nanoseconds since it was made, very many where the clock cannot be read.
+    fn nanos(&self) -> u64 {
+        nanos_since(self.rt, self.made).unwrap_or(u64::MAX)
+    }
+}
+
+impl<R: Clock> Gate for Timed<'_, R> {
+    fn may_send(&self, _client: u32, _number: u32) -> bool {
+        true
+    }
+
+    fn answered(&self, _client: u32, number: u32) {
+        if number == self.plan.commands {
+            self.ended.fetch_max(self.nanos(), Ordering::SeqCst);
+        }
+    }
+
+    fn may_start(&self, thread: u32) -> bool {
+        if thread.wrapping_add(1) == self.plan.clients {
+            self.began.store(self.nanos(), Ordering::SeqCst);
+        }
+        true
+    }
+}
 
 /// The plan of a request, in which each client sends so many commands. What is too large for it stays too large.
 fn plan_of(request: &Request, commands: u64) -> StormPlan {
@@ -45,11 +83,12 @@ fn check(plan: &StormPlan, report: &StormReport) -> Result<(), Fault> {
     }
 }
 
-/// Runs a storm in which each client sends so many commands, and gives the time of the whole call: the threads are
-/// started in it, and what they share is made, joined and taken apart. `NoContender` where the contender is no storm;
-/// `NoStorm` where its numbers are not allowed, memory or a thread is wanting, or nothing came for a long time;
-/// `WrongMessage` where commands or replies are lost.
-pub fn run_storm<R: Clock + Threads + Wait>(
+/// Runs a storm in which each client sends so many commands. Its time runs from the start of the first thread until the
+/// last reply has come, as that of the twins nearly does; the time of the whole call, in which all is made, joined and
+/// taken apart, stands beside it. `NoContender` where the contender is no storm; `NoStorm` where its numbers are not
+/// allowed, memory or a thread is wanting, or nothing came for a long time; `WrongMessage` where commands or replies are
+/// lost; `NoSystem` where the clock cannot be read.
+pub fn run_storm<R: Clock + Threads + Sync + Wait>(
     rt: &R,
     alloc: Global,
     request: &Request,
@@ -59,9 +98,22 @@ pub fn run_storm<R: Clock + Threads + Wait>(
         return Err(Fault::NoContender);
     }
     let plan = plan_of(request, times);
-    let start = Instant::now(rt)?;
-    let report = storm(rt, alloc, &plan, &OpenGate)?;
-    let nanos = nanos_since(rt, start)?;
+    let gate = Timed {
+        rt,
+        plan,
+        made: Instant::now(rt)?,
+        began: AtomicU64::new(0),
+        ended: AtomicU64::new(0),
+    };
+    let report = storm(rt, alloc, &plan, &gate)?;
+    let whole = nanos_since(rt, gate.made)?;
     check(&plan, &report)?;
-    Ok(Sample::new(nanos, all_commands(&plan)))
+    let (began, ended) = (
+        gate.began.load(Ordering::SeqCst),
+        gate.ended.load(Ordering::SeqCst),
+    );
+    if began > ended || ended > whole {
+        return Err(Fault::NoSystem);
+    }
+    Ok(Sample::new(ended.saturating_sub(began), all_commands(&plan)).with_whole(whole))
 }
