@@ -18,7 +18,9 @@ use Rattle.ring_table.specs.declared.claim.Stage.TheVariants.{Moved, Padded, Sto
 use Rattle.ring_table.specs.declared.view.View.{View}
 use Rattle.ring_table.specs.Passing.{placed_committed_of, placed_message, shown_at}
 use Rattle.ring_table.specs.Staged.{claims_of}
+use Rattle.ring_table.specs.declared.view.Service.{Service}
 use Rattle.ring_table.specs.OpenClaims.{open_count}
+use Rattle.ring_table.specs.Services.{once_below}
 use Rattle.ring_table.proofs.LawLemmas.{none_open}
 use Rattle.ring_rings.specs.Closing.{AreOrdered, HandsOut}
 use Rattle.ring_board.specs.declared.shared.view.Joined.{Joined}
@@ -45,13 +47,15 @@ use Rattle.ring_protocol.specs.Command.{Instruction, Allocate, AllocateOwned, Cl
 use Rattle.ring_conductor.specs.Account.{IsFoldOf, messages_in}
 use Rattle.ring_conductor.specs.Conducting.{Works}
 use Rattle.ring_conductor.specs.Finishing.{IsWhole}
-use Rattle.ring_conductor.specs.Turns.{AreAllTurns}
+use Rattle.ring_conductor.specs.Turns.{AreAllTurns, drawn_in}
 use Rattle.ring_conductor.specs.Storming.{IsBoardFor, IsPlan, IsReportOf, all_commands, counters_after, storm_counters, sum_of, with_value_of}
 use Rattle.ring_conductor.specs.Fold.{Ledger, fold_of, at_moment, served}
 use Rattle.ring_protocol.specs.Reading.{command_of}
 use Rattle.ring_conductor.proofs.FinishLemmas.{drained, messages_of-append}
 use Rattle.ring_conductor.proofs.FoldLemmas.{lengths}
+use Rattle.ring_conductor.proofs.DrawLemmas.{all_drawn}
 use Rattle.ring_conductor.proofs.LiveLemmas.{storm_live}
+use Rattle.ring_conductor.proofs.SumLemmas.{all_draws, storm_sum}
 use Rattle.ring_conductor.proofs.TurnLemmas.{nothing}
 
 -- What the conductor does ------------------------------------------------------
@@ -203,7 +207,7 @@ few_committed (c ∷ cs) =
 
 -- what a storm that took all commands has, once it finished: v and w are what producer and conductor knew of the ring
 pub record Ended (p : StormPlan) (C start : ℕ) (v w : View) (rest : Ring) (counters : Registry) (sent : List Record)
-    (heard : List Joined) : Type 0 where
+    (heard : List Joined) (services : List Service) : Type 0 where
   pub lawful : IsPlan p
   pub capacity : C ≡ p.ring
   pub begins : start ≡ 0
@@ -212,14 +216,17 @@ pub record Ended (p : StormPlan) (C start : ℕ) (v w : View) (rest : Ring) (cou
   pub settled : open_count v.producer.claims ≡ 0
   pub few : length v.producer.claims ≤ all_commands p
   pub done : all_commands p ≤ length w.consumer.taken
-  pub turns : AreAllTurns p.commands p.clients v.producer.claims heard
+  pub turns : AreAllTurns p.commands p.clients v.producer.claims heard services
+  pub drawn : ℕ
+  pub once : (x : ℕ) → drawn_in x services ≡ once_below x drawn
   pub runs : AreAllRuns sent heard
   pub counters_are : counters ≡ storm_counters p (messages_of w.consumer.taken)
   pub writes : List ValueWrite
   pub folded : ∥ IsFoldOf (messages_of w.consumer.taken) counters writes (messages_in sent) ∥₁
 
 module _ (p : StormPlan) (C start : ℕ) (v w : View) (rest : Ring) (counters : Registry) (sent : List Record)
-    (heard : List Joined) (ended : Ended p C start v w rest counters sent heard) where
+    (heard : List Joined) (services : List Service)
+    (ended : Ended p C start v w rest counters sent heard services) where
   -- nothing is left, so that the messages taken are those of the claims
   all_taken : messages_of w.consumer.taken ≡ messages_of (placed_committed_of v.producer.claims)
   all_taken =
@@ -246,6 +253,11 @@ module _ (p : StormPlan) (C start : ℕ) (v w : View) (rest : Ring) (counters : 
       let most = ended.few in
       let least = ended.done in
       let messages = messages_of w.consumer.taken in
+      let lawful = ended.lawful in
+      let draws = all_drawn ended.drawn services ended.once
+      ∙ all_draws p.commands p.clients v.producer.claims heard services ended.turns in
+      let folded = subst (λ r. ∥ IsFoldOf messages r ended.writes (messages_in sent) ∥₁) ended.counters_are
+      ended.folded in
       record {
         received = omega arith;
         left = omega arith;
@@ -254,19 +266,27 @@ module _ (p : StormPlan) (C start : ℕ) (v w : View) (rest : Ring) (counters : 
         ordered = subst (λ s. AreOrdered p.ring s v.producer.claims) ended.begins
             (subst (λ k. AreOrdered k start v.producer.claims) ended.capacity ended.out.ordered);
         receivers = heard;
+        services = services;
         turns = ended.turns;
+        once = λ x. ended.once x ∙ ap (once_below x) draws;
         messages = messages;
         taken = lengths w.consumer.taken ∙ sym received;
         whole = all_taken;
         replies = sent;
         runs = ended.runs;
         writes = ended.writes;
-        folded = subst (λ r. ∥ IsFoldOf messages r ended.writes (messages_in sent) ∥₁) ended.counters_are ended.folded;
+        folded = folded;
         live = live ∙ ap (λ c. length (live_of c)) ended.counters_are;
         clients = live ∙ (ap (λ c. length (live_of c)) ended.counters_are
             ∙ (ap (λ ms. length (live_of (storm_counters p ms))) all_taken
-            ∙ storm_live p v.producer.claims heard ended.lawful.commands.0 ended.lawful.clients.1 ended.turns));
+            ∙ storm_live p v.producer.claims heard services lawful.commands.0 lawful.clients.1 ended.turns));
         sum = sum ∙ ap (λ c. sum_of (live_of c)) ended.counters_are;
+        total = sum ∙ (ap (λ c. sum_of (live_of c)) ended.counters_are
+            ∙ storm_sum p.clients p.commands v.producer.claims heard services sent lawful.clients.1 lawful.commands.0
+            lawful.commands.1 ended.turns ended.runs ended.drawn ended.once (storm_counters p messages) ended.writes
+            (storm_count p messages)
+            (subst (λ ms. ∥ IsFoldOf ms (storm_counters p messages) ended.writes (messages_in sent) ∥₁) all_taken
+            folded));
       }
 
   -- the report of a storm that took all commands

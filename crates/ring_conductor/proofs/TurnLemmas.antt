@@ -4,9 +4,10 @@ use Rattle.std.specs.Bool.{OnFalse, OnTrue}
 use Rattle.std.proofs.lemmas.List.{append-nil}
 use Rattle.ring_table.specs.declared.claim.StagedClaim.{StagedClaim}
 use Rattle.ring_table.specs.declared.view.View.{View}
+use Rattle.ring_table.specs.declared.view.Service.{Service}
 use Rattle.ring_table.specs.Owners.{interleaved}
+use Rattle.ring_table.specs.Staged.{AreRising}
 use Rattle.ring_board.specs.declared.shared.view.Joined.{Joined}
-use Rattle.ring_board.specs.declared.shared.view.Taken.{Taken}
 use Rattle.ring_board.specs.Steps.{Sat}
 use Rattle.ring_rings.specs.Claiming.{RefusesTry, Writes, record_behind}
 use Rattle.ring_rings.specs.declared.fault.TryFault.{TryFault}
@@ -18,7 +19,7 @@ use Rattle.ring_conductor.specs.declared.client.SendFault.TheVariants as fault
 use Rattle.ring_conductor.specs.declared.client.request.Request.{Request}
 use Rattle.ring_conductor.specs.Asking.{asked, IsHeard, IsSendable, RefusesAs, SendsAs}
 use Rattle.ring_protocol.specs.Command.{Instruction, spelling_of, type_id_of}
-use Rattle.ring_conductor.specs.Turns.{Adds, AreAllTurns, AreAnswered, AreTurns, Lengthens, Turns}
+use Rattle.ring_conductor.specs.Turns.{Adds, AreAllTurns, AreAnswered, AreTurns, Deeds, Extends, Lengthens, Turns}
 
 -- Longer lists -------------------------------------------------------------------
 
@@ -27,6 +28,10 @@ same_length a = ([], sym (append-nil a))
 
 pub longer : {A : Type 0} (a b c : List A) → Lengthens a b → Lengthens b c → Lengthens a c
 longer a b c one two = (one.0 ++ two.0, two.1 ∙ (ap (λ l. l ++ two.0) one.1 ∙ append_assoc a one.0 two.0))
+
+pub nothing : {A : Type 0} (l : List A) → length l ≤ 0 → l ≡ []
+nothing [] few = refl
+nothing (x ∷ xs) few = let clash : ⊥ = omega (arith, few) in absurd clash
 
 -- Sending ------------------------------------------------------------------------
 
@@ -83,100 +88,83 @@ hears_more correlation old new (Lapped l) h = ([], ap (λ (m : Sat). m.0.copies)
 
 -- Turns --------------------------------------------------------------------------
 
--- what comes later does no harm
-pub still_answered : (client n : ℕ) (claims more_claims : List StagedClaim) (copies more_copies : List Taken)
-    → Lengthens claims more_claims → Lengthens copies more_copies
-    → AreAnswered client n claims copies → AreAnswered client n more_claims more_copies
-still_answered client zero claims more_claims copies more_copies c d h = tt
-still_answered client (suc n) claims more_claims copies more_copies c d h =
-    (h.0, h.1, h.2, h.3, h.4, h.5, longer h.1 claims more_claims h.6 c, longer h.3 copies more_copies h.7 d)
+pub same_deeds : (d : Deeds) → Extends d d
+same_deeds d =
+    record { claims = same_length d.claims; draws = same_length d.draws; copies = same_length d.copies }
 
--- one more
-one_more : (client n number : ℕ) (claims more_claims : List StagedClaim) (copies more_copies : List Taken)
-    → number ≡ n + 1 → Turns client number claims more_claims copies more_copies
-    → AreAnswered client n claims copies → AreAnswered client (n + 1) more_claims more_copies
-one_more client n number claims more_claims copies more_copies is turn h =
-    subst (λ k. AreAnswered client k more_claims more_copies) (sym (add-one n)) (
-      claims,
-      more_claims,
-      copies,
-      more_copies,
-      h,
-      subst (λ k. Turns client k claims more_claims copies more_copies)
-          (is ∙ add-one n) turn,
-      same_length more_claims,
-      same_length more_copies,
-    )
+-- before the first turn
+pub no_turn : (client n : ℕ) (d : Deeds) → n ≡ 0 → length d.claims ≡ 0 → d.draws ≡ [] → d.counter ≡ 0
+    → AreTurns client n d
+no_turn client n d none sent drawn counter =
+    subst (λ k. AreTurns client k d) (sym none) (nothing d.claims (omega arith), drawn, counter)
 
-pub answered_as : (client other n m : ℕ) (claims : List StagedClaim) (copies : List Taken) → other ≡ client → m ≡ n
-    → AreAnswered client n claims copies → AreAnswered other m claims copies
-answered_as client other n m claims copies same_client same h =
-    subst (λ k. AreAnswered k m claims copies) (sym same_client)
-    (subst (λ k. AreAnswered client k claims copies) (sym same) h)
+pub turns_as : (client other n m : ℕ) (d : Deeds) → other ≡ client → m ≡ n → AreTurns client n d → AreTurns other m d
+turns_as client other n m d same_client same h =
+    subst (λ k. AreTurns k m d) (sym same_client) (subst (λ k. AreTurns client k d) (sym same) h)
 
 -- one more, of a client that is otherwise the same
-pub next_answered : (client other n m number : ℕ) (claims more_claims : List StagedClaim)
-    (copies more_copies : List Taken) → other ≡ client → m ≡ n → number ≡ n + 1
-    → Turns client number claims more_claims copies more_copies → AreAnswered client n claims copies
-    → AreAnswered other (m + 1) more_claims more_copies
-next_answered client other n m number claims more_claims copies more_copies same_client same is turn h =
-    answered_as client other (n + 1) (m + 1) more_claims more_copies same_client (ap (λ k. k + 1) same)
-    (one_more client n number claims more_claims copies more_copies is turn h)
+pub next_turn : (client other n m number : ℕ) (old new : Deeds) → other ≡ client → m ≡ n → number ≡ n + 1
+    → Turns client number old new → AreTurns client n old → AreTurns other (m + 1) new
+next_turn client other n m number old new same_client same is turn h =
+    turns_as client other (suc n) (m + 1) new same_client (ap (λ k. k + 1) same ∙ add-one n)
+    (old, h, subst (λ k. Turns client k old new) (is ∙ add-one n) turn)
 
--- No other claims ------------------------------------------------------------------
+-- No other deeds -------------------------------------------------------------------
 
-pub nothing : {A : Type 0} (l : List A) → length l ≤ 0 → l ≡ []
-nothing [] few = refl
-nothing (x ∷ xs) few = let clash : ⊥ = omega (arith, few) in absurd clash
-
-turn_adds : (client number : ℕ) (claims more_claims : List StagedClaim) (copies more_copies : List Taken)
-    → Turns client number claims more_claims copies more_copies → length more_claims ≡ length claims + 1
-turn_adds client number claims more_claims copies more_copies turn =
-    ap length turn.sent.added ∙ length-append claims (turn.sent.claim ∷ [])
-
-enough : (client n : ℕ) (claims : List StagedClaim) (copies : List Taken) → AreAnswered client n claims copies
-    → n ≤ length claims
-enough client zero claims copies h = omega arith
-enough client (suc n) claims copies h =
-    let before = enough client n h.0 h.2 h.4 in
-    let one = turn_adds client (suc n) h.0 h.1 h.2 h.3 h.5 in
-    let all = ap length h.6.1 ∙ length-append h.1 h.6.0 in
+sent_all : (client n : ℕ) (d : Deeds) → AreTurns client n d → length d.claims ≡ n
+sent_all client zero d h = ap length h.0
+sent_all client (suc n) d h =
+    let before = sent_all client n h.0 h.1 in
+    let all = ap length h.2.sent.added ∙ length-append h.0.claims (h.2.sent.claim ∷ []) in
     omega arith
 
--- a client that sent no more commands than were answered has no other claims
-pub only_turns : (client n : ℕ) (claims : List StagedClaim) (copies : List Taken) → AreAnswered client n claims copies
-    → length claims ≤ n → AreTurns client n claims copies
-only_turns client zero claims copies h few = nothing claims few
-only_turns client (suc n) claims copies h few =
-    let before = enough client n h.0 h.2 h.4 in
-    let one = turn_adds client (suc n) h.0 h.1 h.2 h.3 h.5 in
-    let all = ap length h.6.1 ∙ length-append h.1 h.6.0 in
-    let same : claims ≡ h.1 = h.6.1 ∙ (ap (λ l. h.1 ++ l) (nothing h.6.0 (omega arith)) ∙ append-nil h.1) in (
-      h.0,
-      h.2,
-      h.3,
-      only_turns client n h.0 h.2 h.4 (omega arith),
-      subst (λ l. Turns client (suc n) h.0 l h.2 h.3) (sym same) h.5,
-      h.7,
-    )
+pub drew_all : (client n : ℕ) (d : Deeds) → AreTurns client n d → length d.draws ≡ n
+drew_all client zero d h = ap length h.1
+drew_all client (suc n) d h =
+    let before = drew_all client n h.0 h.1 in
+    let all = ap length h.2.drawn ∙ length-append h.0.draws (h.2.draw ∷ []) in
+    omega arith
 
--- the turns of one client more, which had all its replies
-pub all_turns : (commands client seen : ℕ) (claims others own : List StagedClaim) (receivers before : List Joined)
-    (receiver : Joined) → AreAllTurns commands client others before
-    → AreAnswered client seen own receiver.copies → seen ≡ commands → length own ≤ commands
-    → claims ≡ interleaved others own → receivers ≡ before ++ receiver ∷ []
-    → AreAllTurns commands (client + 1) claims receivers
-all_turns commands client seen claims others own receivers before receiver rest answered counted few together joined =
-    subst (λ k. AreAllTurns commands k claims receivers) (sym (add-one client)) (
+-- a list that is no longer than its beginning is that
+no_more : {A : Type 0} (old new : List A) → Lengthens old new → length new ≤ length old → new ≡ old
+no_more old new more few =
+    let both = ap length more.1 ∙ length-append old more.0 in
+    more.1 ∙ (ap (λ l. old ++ l) (nothing more.0 (omega arith)) ∙ append-nil old)
+
+-- the turns of one client more, which had all its replies: it made no more claims and draws than were answered, so that
+-- they are those of its turns
+pub all_turns : (commands client seen : ℕ) (d : Deeds) (claims others : List StagedClaim)
+    (receivers before : List Joined) (receiver : Joined) (services served : List Service) (service : Service)
+    → AreAllTurns commands client others before served → AreAnswered client seen d → seen ≡ commands
+    → (length d.claims ≤ commands) × (length d.draws ≤ commands) → AreRising d.claims
+    → claims ≡ interleaved others d.claims → receivers ≡ before ++ receiver ∷ [] → receiver.copies ≡ d.copies
+    → services ≡ served ++ service ∷ [] → service.draws ≡ d.draws
+    → AreAllTurns commands (client + 1) claims receivers services
+all_turns commands client seen d claims others receivers before receiver services served service rest answered counted
+    few rising together joined copies more draws =
+    let own = answered.before in
+    let turns = subst (λ k. AreTurns client k own) counted answered.turns in
+    let sent = sent_all client commands own turns in
+    let drew = drew_all client commands own turns in
+    let same = no_more own.claims d.claims answered.more.claims (omega arith) in
+    let same_draws = no_more own.draws d.draws answered.more.draws (omega arith) in
+    subst (λ k. AreAllTurns commands k claims receivers services) (sym (add-one client)) (
       others,
-      own,
       before,
-      receiver,
+      served,
       rest,
-      only_turns client commands own receiver.copies
-          (subst (λ k. AreAnswered client k own receiver.copies) counted answered) few,
-      together,
-      joined,
+      record {
+        own = own;
+        turns = turns;
+        rising = subst AreRising same rising;
+        together = together ∙ ap (interleaved others) same;
+        receiver = receiver;
+        joined = joined;
+        copies = subst (Lengthens own.copies) (sym copies) answered.more.copies;
+        service = service;
+        served = more;
+        draws = draws ∙ same_draws;
+      },
     )
 
 -- what is said of a success

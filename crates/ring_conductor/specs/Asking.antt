@@ -1,5 +1,6 @@
 -- What a client asks, and what it hears.
 use Rattle.std.specs.Prelude.{◌≡◌, ◌≢◌, ℕ, ◌≤◌, ℤ, List, length}
+use Rattle.ring_table.specs.declared.view.Service.{Service}
 use Rattle.ring_table.specs.declared.view.View.{View}
 use Rattle.ring_table.specs.ServiceSteps.{DrawsId}
 use Rattle.ring_rings.specs.declared.fault.TryFault.{TryFault}
@@ -26,6 +27,16 @@ producer_of c = c.producer
 
 abbrev pub receiver_of : Client → CopyReceiver
 receiver_of c = c.receiver
+
+-- what a producer drew and read, the numbers that it drew, and the services of those that were joined into it
+abbrev pub service_of : Producer → Service
+service_of p = (view_of p).producer.service
+
+abbrev pub draws_of : Producer → List ℕ
+draws_of p = (service_of p).draws
+
+abbrev pub services_of : Producer → List Service
+services_of p = (view_of p).producer.joined
 
 -- what a client's producer knows of the ring
 abbrev pub client_view : Client → View

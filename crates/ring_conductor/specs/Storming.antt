@@ -3,12 +3,16 @@ use Rattle.std.specs.Prelude.{◌≡◌, ◌⊎◌, ℕ, ◌*◌, ◌/◌, ◌<�
 use Rattle.std.specs.Int.{is_power_of_two, IsPowerOfTwo, saturate_signed, w64}
 use Rattle.ring_layout.specs.declared.message.Message.{Message}
 use Rattle.ring_table.specs.declared.claim.StagedClaim.{StagedClaim}
+use Rattle.ring_table.specs.declared.view.Service.{Service}
 use Rattle.ring_table.specs.Passing.{placed_committed_of}
+use Rattle.ring_table.specs.ProducerSteps.{EndBelow}
+use Rattle.ring_table.specs.Services.{once_below}
+use Rattle.ring_table.specs.Staged.{AreRising}
 use Rattle.ring_rings.specs.declared.ring.Ring.{Ring}
 use Rattle.ring_rings.specs.Closing.{AreOrdered}
 use Rattle.ring_rings.specs.declared.ring.Producer.{Producer}
 use Rattle.ring_rings.specs.Reading.{messages_of}
-use Rattle.ring_rings.specs.Seats.{claims_of, open_claims_of, shares_of, IsConsumerOf, IsProducerOf}
+use Rattle.ring_rings.specs.Seats.{claims_of, open_claims_of, seen_tail_of, shares_of, IsConsumerOf, IsProducerOf}
 use Rattle.ring_board.specs.declared.board.Board.{Board}
 use Rattle.ring_board.specs.declared.shared.view.Joined.{Joined}
 use Rattle.ring_board.specs.declared.shared.view.Record.{Record}
@@ -29,11 +33,11 @@ use Rattle.ring_conductor.specs.declared.storming.seats.Hub.{Hub}
 use Rattle.ring_conductor.specs.declared.storming.seats.LevelEnd.{LevelEnd}
 use Rattle.ring_conductor.specs.declared.storming.shared.Shared.{Shared}
 use Rattle.ring_conductor.specs.Applied.{applied}
-use Rattle.ring_conductor.specs.Asking.{producer_of, receiver_of}
+use Rattle.ring_conductor.specs.Asking.{draws_of, producer_of, receiver_of, services_of}
 use Rattle.ring_conductor.specs.Conducting.{IsConductorOf, counters_of, received_of, transmitter_of}
 use Rattle.ring_conductor.specs.Finishing.{joined_by}
 use Rattle.ring_conductor.specs.Account.{IsFoldOf, messages_in}
-use Rattle.ring_conductor.specs.Turns.{AreAllTurns}
+use Rattle.ring_conductor.specs.Turns.{AreAllTurns, Deeds, claims_by, copies_by, drawn_in, draws_by, last_set}
 
 -- The plan ---------------------------------------------------------------------
 
@@ -89,9 +93,14 @@ board_shares_of c = board_shares (transmitter_of c)
 abbrev pub KeepsReceivers : Conductor → Conductor → Type 0
 KeepsReceivers old new = (board_shares_of new ≡ board_shares_of old) × (joined_by new ≡ joined_by old)
 
--- a client's producer: one share of this ring, and no open claim
+-- the places of a producer's claims rise, and the claims end at or below the greatest end that it has seen
+abbrev pub HasRisen : Producer → Type 0
+HasRisen p = AreRising (claims_of p) × EndBelow (seen_tail_of p) (claims_of p)
+
+-- a client's producer: one share of this ring, no open claim, claims whose places rise, and no other joined into it
 abbrev pub IsClientSeat : {K : Type 0} → Ring K → Producer → Type 0
-IsClientSeat ring p = IsProducerOf ring p × (shares_of p ≡ 1) × (open_claims_of p ≡ 0)
+IsClientSeat ring p =
+    IsProducerOf ring p × (shares_of p ≡ 1) × (open_claims_of p ≡ 0) × HasRisen p × (services_of p ≡ [])
 
 -- how many claims a producer has made
 abbrev pub sent_by : Producer → ℕ
@@ -102,9 +111,22 @@ abbrev pub IsClientOf : {K : Type 0} → Ring K → Board → StormClient → Ty
 IsClientOf ring board c =
     IsClientSeat ring (producer_of c.client) × IsReceiverOf board (receiver_of c.client) × (c.index < 64)
 
--- it has sent no command, and was answered none
+-- what it did
+abbrev pub deeds_of : StormClient → Deeds
+deeds_of c = record {
+  claims = claims_by c.client;
+  draws = draws_by c.client;
+  copies = copies_by c.client;
+  counter = c.counter;
+}
+
+-- it has sent no command, was answered none, drew no number and knows no counter
 abbrev pub IsNew : StormClient → Type 0
-IsNew c = (sent_by (producer_of c.client) ≡ 0) × (c.seen ≡ 0)
+IsNew c = (sent_by (producer_of c.client) ≡ 0) × (c.seen ≡ 0) × (draws_by c.client ≡ []) × (c.counter ≡ 0)
+
+-- it has sent so many commands at the most, and drew as many numbers at the most
+abbrev pub SentAtMost : ℕ → StormClient → Type 0
+SentAtMost n c = (sent_by (producer_of c.client) ≤ n) × (length (draws_by c.client) ≤ n)
 
 -- how many commands the conductor took
 abbrev pub taken_by : Conductor → ℕ
@@ -114,11 +136,12 @@ taken_by c = length (received_of c)
 abbrev pub HasCounters : StormPlan → Conductor → Type 0
 HasCounters p c = registry_of (counters_of c) ≡ storm_counters p (messages_of (received_of c))
 
--- producer and conductor belong to this ring, this board and these values, and the counters are those of the messages
--- taken
+-- producer and conductor belong to this ring, this board and these values, the counters are those of the messages
+-- taken, and the producer drew no number
 abbrev pub IsHubOf : {K : Type 0} → StormPlan → Ring K → Board → CounterValues → Hub → Type 0
 IsHubOf p ring board values hub = IsProducerOf ring hub.producer
     × IsConductorOf IsConsumerOf ring board values hub.conductor × HasCounters p hub.conductor
+    × (draws_of hub.producer ≡ [])
 
 -- the same at what all threads share
 abbrev pub IsClientAt : {G : Type 0} → Shared G → StormClient → Type 0
@@ -134,10 +157,11 @@ IsHubAt s hub = IsHubOf s.plan s.ring.now s.board.now s.values.now hub
 abbrev pub IsDone : StormPlan → ℕ → LevelEnd → Type 0
 IsDone p clients end = (all_commands p ≤ taken_by end.hub.conductor) × (end.seen ≡ clients * p.commands)
     × AreAllTurns p.commands clients (claims_of end.hub.producer) (joined_by end.hub.conductor)
+    (services_of end.hub.producer)
 
--- nobody has sent a command, and no receiver was joined
+-- nobody has sent a command, and neither a receiver nor a producer was joined
 abbrev pub IsUnused : Hub → Type 0
-IsUnused hub = (claims_of hub.producer ≡ []) × (joined_by hub.conductor ≡ [])
+IsUnused hub = (claims_of hub.producer ≡ []) × (joined_by hub.conductor ≡ []) × (services_of hub.producer ≡ [])
 
 -- no share is away, and no claim is open
 pub record HasAll (hub : Hub) : Type 0 where
@@ -150,7 +174,9 @@ pub record HasAll (hub : Hub) : Type 0 where
 -- All commands were taken, none is left, and each client had all its replies. The claims of the ring, in the order of
 -- the exchanges, are the clients' commands, and what was taken is their messages; each command has its reply among the
 -- copies of its client's receiver, which are runs of all replies; and these are the ones that the messages have. The
--- live counters, and the sum of their values, are those that the messages make of fresh counters: one for each client
+-- commands' correlation ids are the numbers below that of all commands, each once. The live counters, and the sum of
+-- their values, are those that the messages make of fresh counters: one for each client, at the last number that it
+-- set, which the plan determines
 pub record IsReportOf (p : StormPlan) (r : StormReport) : Type 0 where
   pub received : r.received ≡ all_commands p
   pub left : r.left ≡ 0
@@ -158,7 +184,9 @@ pub record IsReportOf (p : StormPlan) (r : StormReport) : Type 0 where
   pub claims : List StagedClaim
   pub ordered : AreOrdered p.ring 0 claims
   pub receivers : List Joined
-  pub turns : AreAllTurns p.commands p.clients claims receivers
+  pub services : List Service
+  pub turns : AreAllTurns p.commands p.clients claims receivers services
+  pub once : (x : ℕ) → drawn_in x services ≡ once_below x (all_commands p)
   pub messages : List Message
   pub taken : length messages ≡ r.received
   pub whole : messages ≡ messages_of (placed_committed_of claims)
@@ -169,3 +197,4 @@ pub record IsReportOf (p : StormPlan) (r : StormReport) : Type 0 where
   pub live : r.live ≡ length (live_of (storm_counters p messages))
   pub clients : r.live ≡ p.clients
   pub sum : r.sum ≡ sum_of (live_of (storm_counters p messages))
+  pub total : r.sum ≡ pos (p.clients * last_set p.commands)

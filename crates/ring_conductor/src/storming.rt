@@ -36,7 +36,8 @@ use std::thread::Threads;
 /// reply on a board that has room for all of them. Its first command allocates a counter of type 1 with an empty key
 /// and the label `c` and the client's number; each further one sets that counter to the command's number. The
 /// conductor works at the moment 0 until it has taken all commands. Then all seats are joined and the conductor
-/// finishes, whatever came before.
+/// finishes, whatever came before. So the report's `sum` follows from the plan: each client's counter ends at the
+/// number of its commands, or at 0 where it sends one.
 ///
 /// `BadPlan` comes where a number of the plan is not allowed, before anything is done, then `OutOfMemory` where memory
 /// is wanting, or a thread could not be started or was kept from it by the gate, and then `TurnsSpent` where a wait

@@ -1,11 +1,12 @@
 //! What a client does.
-ghost use Rattle.std.specs.Prelude.{◌≡◌, ℕ, ◌+◌, ◌<◌, ◌≤◌, take, IfNone, IfSome, OnSome};
+ghost use Rattle.std.specs.Prelude.{◌≡◌, ℕ, ◌+◌, ◌%◌, ◌^◌, ◌<◌, ◌≤◌, [], ◌∷◌, ◌++◌, length, take};
+ghost use Rattle.std.specs.Prelude.{IfNone, IfSome, OnSome};
 ghost use Rattle.std.specs.Bool.{OnFalse, OnTrue};
 ghost use Rattle.ring_board.specs.Seats.{IsReceiverOf};
 ghost use Rattle.ring_conductor.specs.Asking.{asked, producer_of, receiver_of};
-ghost use Rattle.ring_conductor.specs.Storming.{IsClientAt, IsClientSeat, IsNew, sent_by};
-ghost use Rattle.ring_conductor.specs.Turns.{Adds, AreAnswered, IsAnswered, Lengthens, Turns};
-ghost use Rattle.ring_conductor.specs.Turns.{claims_by, copies_by, label_of, numbered};
+ghost use Rattle.ring_conductor.specs.Storming.{IsClientAt, IsClientSeat, IsNew, SentAtMost, deeds_of, sent_by};
+ghost use Rattle.ring_conductor.specs.Turns.{Adds, AreAnswered, Extends, IsAnswered, Lengthens, Turns};
+ghost use Rattle.ring_conductor.specs.Turns.{claims_by, copies_by, draws_by, label_of, numbered};
 
 use crate::client::request::Request;
 use crate::client::{Client, Polled};
@@ -65,6 +66,7 @@ fn try_send(
     ensures sent { OnTrue result
         (Adds (asked request.entry correlation) (claims_by client.old) (claims_by client.new)) }
     ensures refused { OnFalse result (claims_by client.new ≡ claims_by client.old) }
+    ensures draws { draws_by client.new ≡ draws_by client.old }
     ensures receiver { receiver_of client.new ≡ receiver_of client.old }
 {
     client.send_as(ring, correlation, request).is_ok()
@@ -93,6 +95,8 @@ impl<G: Gate> Shared<'_, G> {
         ensures sent { IfSome result (λ correlation.
             Adds (asked request.entry correlation) (claims_by client.old) (claims_by client.new)) }
         ensures refused { IfNone result (claims_by client.new ≡ claims_by client.old) }
+        ensures drawn { (number : ℕ) × (draws_by client.new ≡ draws_by client.old ++ number ∷ [])
+            × IfSome result (λ correlation. correlation ≡ number % 2 ^ 64) }
         ensures receiver { receiver_of client.new ≡ receiver_of client.old }
     {
         let correlation = client.next_correlation_id(self.ring);
@@ -137,12 +141,10 @@ impl<G: Gate> Shared<'_, G> {
     fn command(&self, client: &mut StormClient, number: u32) -> Option<()>
         requires { IsClientAt self.now client.old }
         ensures client { IsClientAt self.now client.new }
-        ensures turn { OnSome result (Turns client.old.index number
-            (claims_by client.old.client) (claims_by client.new.client)
-            (copies_by client.old.client) (copies_by client.new.client)) }
-        ensures claims { Lengthens (claims_by client.old.client) (claims_by client.new.client) }
-        ensures copies { Lengthens (copies_by client.old.client) (copies_by client.new.client) }
+        ensures turn { OnSome result (Turns client.old.index number (deeds_of client.old) (deeds_of client.new)) }
+        ensures grows { Extends (deeds_of client.old) (deeds_of client.new) }
         ensures sent { sent_by (producer_of client.new.client) ≤ sent_by (producer_of client.old.client) + 1 }
+        ensures drawn { length (draws_by client.new.client) ≤ length (draws_by client.old.client) + 1 }
         ensures same { (client.new.index ≡ client.old.index) × (client.new.seen ≡ client.old.seen) }
     {
         if !self.wait_for_gate(client.index, number) {
@@ -163,10 +165,10 @@ impl<G: Gate> Shared<'_, G> {
         requires client { IsClientAt self.now client }
         requires new { IsNew client }
         ensures client { IsClientAt self.now result }
-        ensures sent { sent_by (producer_of result.client) ≤ self.now.plan.commands }
+        ensures sent { SentAtMost self.now.plan.commands result }
         ensures seen { result.seen ≤ self.now.plan.commands }
         ensures index { result.index ≡ client.index }
-        ensures answered { AreAnswered result.index result.seen (claims_by result.client) (copies_by result.client) }
+        ensures answered { AreAnswered result.index result.seen (deeds_of result) }
     {
         for number in 1..=self.plan.commands {
             if self.command(&mut client, number).is_none() {

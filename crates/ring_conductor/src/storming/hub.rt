@@ -4,7 +4,7 @@ ghost use Rattle.ring_table.specs.Owners.{interleaved};
 ghost use Rattle.ring_rings.specs.Seats.{claims_of, open_claims_of, shares_of};
 ghost use Rattle.ring_board.specs.Seats.{receiver_view};
 ghost use Rattle.ring_board.specs.Steps.{as_joined};
-ghost use Rattle.ring_conductor.specs.Asking.{producer_of, receiver_of};
+ghost use Rattle.ring_conductor.specs.Asking.{producer_of, receiver_of, service_of, services_of};
 ghost use Rattle.ring_conductor.specs.Finishing.{joined_by};
 ghost use Rattle.ring_conductor.specs.Storming.{IsClientAt, IsHubAt, IsNew, board_shares_of, sent_by, taken_by};
 ghost use Rattle.ring_conductor.specs.Turns.{claims_by};
@@ -33,6 +33,7 @@ impl<G> Shared<'_, G> {
         ensures claims { OnOk result ((open_claims_of hub.new.producer ≡ open_claims_of hub.old.producer)
             × (claims_of hub.new.producer ≡ claims_of hub.old.producer)) }
         ensures receivers_joined { OnOk result (joined_by hub.new.conductor ≡ joined_by hub.old.conductor) }
+        ensures services { OnOk result (services_of hub.new.producer ≡ services_of hub.old.producer) }
         ensures taken { OnOk result (taken_by hub.new.conductor ≡ taken_by hub.old.conductor) }
         ensures err { OnErr result (hub.new ≡ hub.old) }
     {
@@ -62,6 +63,8 @@ impl<G> Shared<'_, G> {
             ≡ interleaved (claims_of hub.old.producer) (claims_by client.client) }
         ensures receivers_joined { joined_by hub.new.conductor
             ≡ joined_by hub.old.conductor ++ as_joined (receiver_view (receiver_of client.client)) ∷ [] }
+        ensures services { services_of hub.new.producer
+            ≡ services_of hub.old.producer ++ service_of (producer_of client.client) ∷ [] }
         ensures taken { taken_by hub.new.conductor ≡ taken_by hub.old.conductor }
         ensures seen { result ≡ client.seen }
     {

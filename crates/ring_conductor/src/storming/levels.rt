@@ -3,12 +3,11 @@ ghost use Rattle.std.specs.Prelude.{◌≡◌, ◌+◌, ◌*◌, ◌<◌, ◌≤
 ghost use Rattle.ring_conductor.specs.declared.storming.seats.Failure.TheVariants.{OutOfMemory};
 ghost use Rattle.ring_rings.specs.Seats.{open_claims_of, shares_of, IsConsumerOf};
 ghost use Rattle.ring_conductor.specs.Conducting.{IsConductorOf};
-ghost use Rattle.ring_conductor.specs.Asking.{producer_of};
 ghost use Rattle.ring_conductor.specs.Finishing.{joined_by};
 ghost use Rattle.ring_conductor.specs.Storming.{HasCounters, IsClientAt, IsClientOf, IsDone, IsHubAt, IsNew, IsPlan};
-ghost use Rattle.ring_conductor.specs.Storming.{IsUnused};
-ghost use Rattle.ring_conductor.specs.Turns.{AreAnswered, claims_by, copies_by};
-ghost use Rattle.ring_conductor.specs.Storming.{all_commands, board_shares_of, sent_by, taken_by};
+ghost use Rattle.ring_conductor.specs.Storming.{IsUnused, SentAtMost};
+ghost use Rattle.ring_conductor.specs.Turns.{AreAnswered};
+ghost use Rattle.ring_conductor.specs.Storming.{all_commands, board_shares_of, deeds_of, sent_by, taken_by};
 
 use crate::storming::conductor::ConductorEnd;
 use crate::storming::gate::Gate;
@@ -181,11 +180,10 @@ pub(crate) fn level<'s, E, R: Threads, G: Gate + Sync>(
             requires client { IsClientOf ring.now board.now client }
             requires new { IsNew client }
             ensures client { IsClientOf ring.entry.now board.entry.now result }
-            ensures sent { sent_by (producer_of result.client) ≤ plan.commands }
+            ensures sent { SentAtMost plan.commands result }
             ensures seen { result.seen ≤ plan.commands }
             ensures index { result.index ≡ client.index }
-            ensures answered { AreAnswered result.index result.seen
-                (claims_by result.client) (copies_by result.client) }
+            ensures answered { AreAnswered result.index result.seen (deeds_of result) }
         {
             let shared = Shared {
                 ring,
@@ -218,10 +216,10 @@ fn gather<G>(shared: Shared<'_, G>, index: u32, end: LevelEnd, client: StormClie
     requires plan { IsPlan shared.plan × (index < 64) }
     requires hub { IsHubAt shared end.hub }
     requires client { IsClientAt shared client }
-    requires sent { sent_by (producer_of client.client) ≤ shared.plan.commands }
+    requires sent { SentAtMost shared.plan.commands client }
     requires seen { (client.seen ≤ shared.plan.commands) × (end.seen ≤ index * shared.plan.commands) }
     requires its_index { client.index ≡ index }
-    requires answered { AreAnswered client.index client.seen (claims_by client.client) (copies_by client.client) }
+    requires answered { AreAnswered client.index client.seen (deeds_of client) }
     requires done { (end.failure ≡ None) → IsDone shared.plan index end }
     ensures hub { IsHubAt shared.entry result.hub }
     ensures producers { shares_of result.hub.producer ≡ shares_of end.hub.producer + 1 }

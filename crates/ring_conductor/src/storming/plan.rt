@@ -29,7 +29,7 @@ pub struct StormReport {
     pub seen: u64,
     /// How many counters are in use: one for each client.
     pub live: u32,
-    /// The sum of their values.
+    /// The sum of their values: for each client the last number that it set, 0 where it sent one command alone.
     pub sum: i64,
 }
 

@@ -2,11 +2,10 @@
 ghost use Rattle.std.specs.Prelude.{◌≡◌, ◌≤◌, [], IsTrue};
 ghost use Rattle.ring_rings.specs.Seats.{IsConsumerOf};
 ghost use Rattle.ring_conductor.specs.Conducting.{IsConductorOf};
-ghost use Rattle.ring_conductor.specs.Asking.{producer_of};
 ghost use Rattle.ring_conductor.specs.Finishing.{joined_by};
-ghost use Rattle.ring_conductor.specs.Storming.{HasCounters, IsClientOf};
-ghost use Rattle.ring_conductor.specs.Storming.{all_commands, board_shares_of, sent_by, taken_by};
-ghost use Rattle.ring_conductor.specs.Turns.{AreAnswered, claims_by, copies_by};
+ghost use Rattle.ring_conductor.specs.Storming.{HasCounters, IsClientOf, SentAtMost};
+ghost use Rattle.ring_conductor.specs.Storming.{all_commands, board_shares_of, deeds_of, taken_by};
+ghost use Rattle.ring_conductor.specs.Turns.{AreAnswered};
 
 use crate::storming::conductor::ConductorEnd;
 use crate::storming::plan::StormPlan;
@@ -27,8 +26,8 @@ pub(crate) struct ClientBack<'a> {
 
 impl<'a> Promise<StormClient> for ClientBack<'a> {
     ghost kept_by = { λ p r. IsClientOf p.ring.now p.board.now r
-        × (sent_by (producer_of r.client) ≤ p.plan.commands) × (r.seen ≤ p.plan.commands)
-        × (r.index ≡ p.index) × AreAnswered r.index r.seen (claims_by r.client) (copies_by r.client) };
+        × SentAtMost p.plan.commands r × (r.seen ≤ p.plan.commands)
+        × (r.index ≡ p.index) × AreAnswered r.index r.seen (deeds_of r) };
 }
 
 /// The conductor comes back with its shares, and has joined no receiver.

@@ -1,8 +1,9 @@
-use Rattle.std.proofs.Common.{◌≡◌, subst, arith}
+use Rattle.std.proofs.Common.{◌≡◌, refl, subst, arith}
 use Rattle.ring_board.specs.Seats.{receiver_view}
 use Rattle.ring_board.specs.Steps.{as_joined}
-use Rattle.ring_conductor.specs.Asking.{receiver_of}
-use Rattle.ring_conductor.specs.Turns.{AreAnswered, claims_by, copies_by}
+use Rattle.ring_conductor.specs.Asking.{producer_of, receiver_of, service_of}
+use Rattle.ring_conductor.specs.Storming.{deeds_of}
+use Rattle.ring_conductor.specs.Turns.{AreAnswered}
 use Rattle.ring_conductor.proofs.TurnLemmas.{all_turns}
 use Rattle.ring_conductor.proofs.storming.levels.gather.Goals as goal
 
@@ -17,11 +18,10 @@ returns-clause-done g c none =
     let counted = e.seen in
     let few = c.requires.seen.0 in
     let all : client.seen ≡ commands = omega (arith, same, enough, counted, few) in
-    let answered = subst (λ i. AreAnswered i client.seen (claims_by client.client) (copies_by client.client))
-    c.requires.its_index c.requires.answered in (
+    let answered = subst (λ i. AreAnswered i client.seen (deeds_of client)) c.requires.its_index c.requires.answered in (
       omega (arith, done.0, e.taken),
       omega (arith, done.1, counted, all),
-      all_turns commands c.args.index client.seen _ _ (claims_by client.client) _ _
-          (as_joined (receiver_view (receiver_of client.client))) done.2 answered all c.requires.sent e.together
-          e.receivers_joined,
+      all_turns commands c.args.index client.seen (deeds_of client) _ _ _ _
+          (as_joined (receiver_view (receiver_of client.client))) _ _ (service_of (producer_of client.client)) done.2
+          answered all c.requires.sent c.requires.client.0.3.0 e.together e.receivers_joined refl e.services refl,
     )

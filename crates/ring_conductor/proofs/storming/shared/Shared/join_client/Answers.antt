@@ -5,6 +5,8 @@ use Rattle.ring_board.specs.Seats.{receiver_view}
 use Rattle.ring_board.specs.Steps.{as_joined}
 use Rattle.ring_conductor.specs.Finishing.{joined_by}
 use Rattle.ring_conductor.specs.Storming.{sent_by}
+use Rattle.ring_conductor.specs.Asking.{service_of, services_of}
+use Rattle.ring_conductor.proofs.SeatLemmas.{joins_service}
 use Rattle.ring_conductor.proofs.SendingLemmas.{gathered}
 use Rattle.ring_conductor.proofs.storming.shared.Shared.join_client.Goals as goal
 
@@ -22,6 +24,13 @@ returns-clause-together g c =
     let both = gathered _ _ _ _ c.join.ensures.joined in
     both.together ∙ ap (λ p. interleaved (claims_of c.args.hub.now.producer) (claims_of p))
     c.into_parts-producer.ensures.producer
+
+pub returns-clause-services : goal.returns-clause-services
+returns-clause-services g c =
+    let is = c.into_parts-producer.ensures.producer in
+    let none = ap services_of is ∙ c.requires.client.0.4 in
+    joins_service _ _ _ _ c.join.ensures.joined none
+    ∙ ap (λ p. services_of c.args.hub.now.producer ++ service_of p ∷ []) is
 
 pub returns-clause-receivers_joined : goal.returns-clause-receivers_joined
 returns-clause-receivers_joined g c =

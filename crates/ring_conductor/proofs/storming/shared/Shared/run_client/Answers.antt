@@ -1,7 +1,22 @@
-use Rattle.std.proofs.Common.{◌≡◌, ◌∙◌, true, not, is_some, sym, ap, arith}
-use Rattle.ring_conductor.specs.Turns.{claims_by, copies_by}
-use Rattle.ring_conductor.proofs.TurnLemmas.{answered_as, next_answered, of_some, still_answered}
+use Rattle.std.proofs.Common.{◌≡◌, ◌∙◌, true, not, is_some, length, refl, sym, ap, arith}
+use Rattle.ring_conductor.specs.Storming.{deeds_of}
+use Rattle.ring_conductor.proofs.TurnLemmas.{next_turn, no_turn, of_some, same_deeds, turns_as}
 use Rattle.ring_conductor.proofs.storming.shared.Shared.run_client.Goals as goal
+
+pub loop-number-init : goal.loop-number-init
+loop-number-init g c =
+    let client = c.args.client in
+    let new = c.requires.new in
+    let drawn = ap length new.2 in
+    record {
+      client = c.requires.client;
+      sent = omega (arith, new.0);
+      drawn = omega (arith, drawn);
+      seen = omega (arith, new.1);
+      index = refl;
+      turns = no_turn client.index client.seen (deeds_of client) new.1 new.0 new.2 new.3;
+      within = omega arith;
+    }
 
 pub loop-number-preserved : goal.loop-number-preserved
 loop-number-preserved g c =
@@ -13,11 +28,11 @@ loop-number-preserved g c =
     record {
       client = e.client;
       sent = (let few = e.sent in let before = was.sent in omega arith);
+      drawn = (let few = e.drawn in let before = was.drawn in omega arith);
       seen = (let same = e.same.1 in let before = was.seen in omega arith);
       index = e.same.0 ∙ was.index;
-      answered = next_answered old.index new.index old.seen new.seen c.loop-number.number (claims_by old.client)
-          (claims_by new.client) (copies_by old.client) (copies_by new.client) e.same.0 e.same.1 (sym was.seen)
-          (of_some c.command.result _ some e.turn) was.answered;
+      turns = next_turn old.index new.index old.seen new.seen c.loop-number.number (deeds_of old) (deeds_of new)
+          e.same.0 e.same.1 (sym was.seen) (of_some c.command.result _ some e.turn) was.turns;
       within = omega arith;
     }
 
@@ -26,16 +41,23 @@ returns-else-is_none-clause-answered g c =
     let old = c.loop-number.client in
     let new = c.command.new.client in
     let e = c.command.ensures in
+    let was = c.loop-number.invariant in
     let some : is_some c.command.result ≡ true = c.is_none.ensures ∙ ap not c.if-is_none.false in
-    next_answered old.index new.index old.seen new.seen c.loop-number.number (claims_by old.client)
-    (claims_by new.client) (copies_by old.client) (copies_by new.client) e.same.0 e.same.1
-    (sym c.loop-number.invariant.seen) (of_some c.command.result _ some e.turn) c.loop-number.invariant.answered
+    record {
+      before = deeds_of new;
+      turns = next_turn old.index new.index old.seen new.seen c.loop-number.number (deeds_of old) (deeds_of new)
+          e.same.0 e.same.1 (sym was.seen) (of_some c.command.result _ some e.turn) was.turns;
+      more = same_deeds (deeds_of new);
+    }
 
 pub returns-then-is_none-clause-answered : goal.returns-then-is_none-clause-answered
 returns-then-is_none-clause-answered g c =
     let old = c.loop-number.client in
     let new = c.command.new.client in
     let e = c.command.ensures in
-    answered_as old.index new.index old.seen new.seen (claims_by new.client) (copies_by new.client) e.same.0 e.same.1
-    (still_answered old.index old.seen (claims_by old.client) (claims_by new.client) (copies_by old.client)
-    (copies_by new.client) e.claims e.copies c.loop-number.invariant.answered)
+    record {
+      before = deeds_of old;
+      turns = turns_as old.index new.index old.seen new.seen (deeds_of old) e.same.0 e.same.1
+          c.loop-number.invariant.turns;
+      more = e.grows;
+    }
