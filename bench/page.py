@@ -7,6 +7,7 @@ import json
 import math
 import statistics
 import sys
+import textwrap
 
 BEGIN, END = "<!-- the tables: begin -->", "<!-- the tables: end -->"
 RINGS = (("one owner", "ours-solo", "o2o"), ("one-to-one", "ours-o2o", "o2o"), ("many-to-one", "ours-m2o", "m2o"))
@@ -142,7 +143,7 @@ def main():
     with open(page) as it:
         before, rest = it.read().split(BEGIN)
     behind = rest.split(END)[1]
-    made = [about(sets), ""]
+    made = [textwrap.fill(about(sets), 120), ""]
     for title, rows in SECTIONS:
         made += ["## " + title, "", *table(rows, sets), ""]
     with open(page, "w") as it:

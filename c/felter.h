@@ -66,7 +66,6 @@ enum felter_code {
     FELTER_NO_HANDLE = 100,           /* the handle is empty */
     FELTER_WRONG_HANDLE = 101,        /* the handle is of another kind */
     FELTER_HANDLE_IN_USE = 102,       /* the handle that was to be filled is not empty */
-    FELTER_CLAIM_OPEN = 103,          /* a claim of the producer is open */
     FELTER_NO_CLAIM = 104,            /* no claim of this number is open */
     FELTER_NO_MESSAGE = 105,          /* nothing is there yet */
     FELTER_SHORT_BUFFER = 106,        /* the message is longer than the buffer, and stays */
@@ -81,6 +80,7 @@ typedef struct felter_producer { felter_handle handle; } felter_producer;
 typedef struct felter_consumer { felter_handle handle; } felter_consumer;
 typedef struct felter_transmitter { felter_handle handle; } felter_transmitter;
 typedef struct felter_receiver { felter_handle handle; } felter_receiver;
+typedef struct felter_raw_receiver { felter_handle handle; } felter_raw_receiver;
 typedef struct felter_counters { felter_handle handle; } felter_counters;
 typedef struct felter_reader { felter_handle handle; } felter_reader;
 
@@ -88,8 +88,8 @@ typedef struct felter_reader { felter_handle handle; } felter_reader;
 #define FELTER_EMPTY {{0}}
 
 /* Lets go of what a handle owns, and empties it: felter_free(&producer.handle). An empty one stays empty. The open
- * claim of a producer is aborted, so that the consumer passes it. Its share of the ring is lost: after 65,535 producers
- * that were split off and freed without felter_join, felter_split of that ring answers FELTER_NO_SHARES. */
+ * claims of a producer are aborted, so that the consumer passes them. Its share of the ring is lost: after 65,535
+ * producers that were split off and freed without felter_join, felter_split of that ring answers FELTER_NO_SHARES. */
 void felter_free(felter_handle *handle);
 
 /* Rings ---------------------------------------------------------------------------------------------------------- */
@@ -108,21 +108,23 @@ int32_t felter_one_to_one_new_at(uint32_t capacity, uint64_t start, felter_produ
  * FELTER_CONTENDED (many-to-one alone). */
 int32_t felter_write(felter_producer *producer, int32_t type_id, const uint8_t *body, size_t len);
 
-/* Claims room for a message of len bytes, which are 0 until they are put, and says the claim's number. One claim of a
- * producer may be open at a time, else FELTER_CLAIM_OPEN (split it to have more). The consumer passes no open claim:
- * settle it. Else it refuses as felter_write. */
+/* Claims room for a message of len bytes, which are 0 until they are put, and says the claim's number: its place, which
+ * is given once in a ring. Any number of claims may be open at once, and they may be settled in any order; the consumer
+ * passes no open claim, so settle each. It refuses as felter_write, and with FELTER_OUT_OF_MEMORY, before anything is
+ * tried, where there is no memory to keep one claim more. */
 int32_t felter_claim(felter_producer *producer, int32_t type_id, size_t len, uint64_t *claim);
-/* Puts bytes into an open claim from a byte on. FELTER_NO_CLAIM, FELTER_PUT_RANGE. */
+/* Puts bytes into an open claim of the producer from a byte on. FELTER_NO_CLAIM, FELTER_PUT_RANGE. */
 int32_t felter_put(felter_producer *producer, uint64_t claim, size_t offset, const uint8_t *bytes, size_t len);
-/* Settles an open claim: the consumer is shown its message (commit) or passes it (abort). FELTER_NO_CLAIM. */
+/* Settles an open claim of the producer: the consumer is shown its message (commit) or passes it (abort).
+ * FELTER_NO_CLAIM. */
 int32_t felter_commit(felter_producer *producer, uint64_t claim);
 int32_t felter_abort(felter_producer *producer, uint64_t claim);
 
-/* Makes another producer of a many-to-one ring, with one share. No claim of the producer is open: FELTER_CLAIM_OPEN.
+/* Makes another producer of a many-to-one ring, with one share and no claim: open ones stay the first producer's.
  * FELTER_NO_SHARES, FELTER_OUT_OF_MEMORY, FELTER_HANDLE_IN_USE; FELTER_WRONG_HANDLE of a one-to-one ring. */
 int32_t felter_split(felter_producer *producer, felter_producer *other);
-/* Takes another producer of the same many-to-one ring in (rule 6), with its shares, and empties its handle. No claim of
- * either is open: FELTER_CLAIM_OPEN. FELTER_OTHER_RING. */
+/* Takes another producer of the same many-to-one ring in (rule 6), with its shares and its open claims, which keep
+ * their numbers, and empties its handle. FELTER_OTHER_RING, FELTER_OUT_OF_MEMORY. */
 int32_t felter_join(felter_producer *producer, felter_producer *other);
 
 /* Loads the head, and then the tail. */
@@ -178,6 +180,21 @@ int32_t felter_receive(felter_receiver *receiver, int32_t *type_id, size_t *len,
                        size_t room);
 /* How often the receiver was lapped. */
 int32_t felter_lapped_count(felter_receiver *receiver, uint64_t *count);
+
+/* Makes a raw receiver, which answers each record unread; else as felter_subscribe. */
+int32_t felter_subscribe_raw(felter_transmitter *transmitter, felter_raw_receiver *receiver);
+/* Goes behind the next record, and says its type id and the bytes of its body, of which none was copied.
+ * FELTER_NO_MESSAGE; FELTER_LAPPED as of felter_receive. */
+int32_t felter_receive_next(felter_raw_receiver *receiver, int32_t *type_id, size_t *len, uint64_t *lapped);
+/* Copies the body of the record that felter_receive_next answered last to the front of a buffer. The bytes may be those
+ * of another record, unless felter_validate then answers FELTER_OK. FELTER_NO_MESSAGE where none was answered yet,
+ * FELTER_SHORT_BUFFER where the body is longer than the room. */
+int32_t felter_load_body(felter_raw_receiver *receiver, uint8_t *buffer, size_t room);
+/* Tests whether that record was not yet overwritten: then each body of it that was copied before is the one that was
+ * transmitted. FELTER_LAPPED where it was; FELTER_NO_MESSAGE where none was answered yet. */
+int32_t felter_validate(felter_raw_receiver *receiver);
+/* How often felter_receive_next answered FELTER_LAPPED. */
+int32_t felter_raw_lapped_count(felter_raw_receiver *receiver, uint64_t *count);
 
 /* Counters ------------------------------------------------------------------------------------------------------- */
 

@@ -104,7 +104,6 @@ class Rings(Case):
         with producer.claim(7, 6) as claim:
             claim.put(2, b"ab")
             self.refuses(Number.PUT_RANGE, claim.put, 5, b"ab")
-            self.refuses(Number.CLAIM_OPEN, producer.claim, 1, 1)
             self.assertIsNone(consumer.read())
         self.assertEqual(consumer.read(), Message(7, b"\0\0ab\0\0"))
         self.refuses(Number.NO_CLAIM, claim.commit)
@@ -114,6 +113,40 @@ class Rings(Case):
                 raise KeyError
         producer.write(9, b"next")
         self.assertEqual(list(consumer), [Message(9, b"next")])
+
+    def test_raw_records_are_loaded_and_validated(self):
+        transmitter = felter.Transmitter(256)
+        receiver = transmitter.subscribe_raw()
+        self.assertIsNone(receiver.receive_next())
+        self.refuses(Number.NO_MESSAGE, receiver.load_body, 8)
+        self.refuses(Number.NO_MESSAGE, receiver.validate)
+        transmitter.transmit(3, b"body of it")
+        self.assertEqual(receiver.receive_next(), felter.RawRecord(3, 10))
+        self.refuses(Number.SHORT_BUFFER, receiver.load_body, 9)
+        self.assertEqual(receiver.load_body(10), b"body of it")
+        self.assertTrue(receiver.validate())
+        for _ in range(12):
+            transmitter.transmit(4, b"another one")
+        self.assertFalse(receiver.validate())
+        with self.assertRaises(felter.Lapped) as lapped:
+            receiver.receive_next()
+        self.assertEqual((lapped.exception.count, receiver.lapped_count()), (1, 1))
+        self.assertEqual(receiver.receive_next(), felter.RawRecord(4, 11))
+
+    def test_claims_are_open_at_once(self):
+        producer, consumer = felter.many_to_one(1024)
+        other = producer.split()
+        first, second, third = producer.claim(1, 1), other.claim(2, 0), producer.claim(3, 1)
+        third.put(0, b"c")
+        third.commit()
+        self.assertIsNone(consumer.read())
+        first.put(0, b"a")
+        first.commit()
+        self.assertEqual(list(consumer), [Message(1, b"a")])
+        producer.join(other)
+        second.commit()
+        self.assertEqual(list(consumer), [Message(2, b""), Message(3, b"c")])
+        self.refuses(Number.NO_CLAIM, second.abort)
 
     def test_refusals_have_their_numbers(self):
         self.refuses(Number.BAD_CAPACITY, felter.many_to_one, 100)

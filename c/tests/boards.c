@@ -102,16 +102,107 @@ static void transmits(void) {
     felter_free(&late.handle);
 }
 
+/* Looks at the next record, compares it whole, and finds it valid. */
+static void expect_raw(felter_raw_receiver *receiver, int32_t type_id, const uint8_t *body, size_t len) {
+    uint8_t buffer[64];
+    int32_t type_read = -7;
+    size_t len_read = 9999;
+    uint64_t lapped = 77;
+    memset(buffer, 0xEE, sizeof buffer);
+    EXPECT(FELTER_OK, felter_receive_next(receiver, &type_read, &len_read, &lapped));
+    CHECK(type_read == type_id && len_read == len && lapped == 77);
+    if (len) EXPECT(FELTER_SHORT_BUFFER, felter_load_body(receiver, buffer, len - 1));
+    CHECK(buffer[0] == 0xEE);
+    EXPECT(FELTER_OK, felter_load_body(receiver, buffer, sizeof buffer));
+    CHECK(len == 0 || memcmp(buffer, body, len) == 0);
+    CHECK(buffer[len] == 0xEE);
+    EXPECT(FELTER_OK, felter_load_body(receiver, buffer, len));
+    EXPECT(FELTER_OK, felter_validate(receiver));
+}
+
+static void expect_no_record(felter_raw_receiver *receiver) {
+    int32_t type_id = -7;
+    size_t len = 7;
+    uint64_t lapped = 77;
+    EXPECT(FELTER_NO_MESSAGE, felter_receive_next(receiver, &type_id, &len, &lapped));
+    CHECK(type_id == -7 && len == 7 && lapped == 77);
+}
+
+/* Raw receivers: records are looked at, loaded and validated, until they are overwritten. */
+static void raw_records(void) {
+    felter_transmitter transmitter = FELTER_EMPTY;
+    felter_raw_receiver receiver = FELTER_EMPTY, late = FELTER_EMPTY, none = FELTER_EMPTY;
+    uint8_t body[33], buffer[32] = {5};
+    int32_t type_id = -7;
+    size_t len = 7;
+    uint64_t lapped = 77, count = 9;
+    for (size_t i = 0; i < sizeof body; i++) body[i] = (uint8_t)(100 + i);
+    EXPECT(FELTER_OK, felter_board_new_at(256, 512, &transmitter));
+    EXPECT(FELTER_OK, felter_subscribe_raw(&transmitter, &receiver));
+    EXPECT(FELTER_HANDLE_IN_USE, felter_subscribe_raw(&transmitter, &receiver));
+    EXPECT(FELTER_NO_HANDLE, felter_subscribe_raw((felter_transmitter *)(void *)&none, &late));
+    EXPECT(FELTER_WRONG_HANDLE, felter_subscribe_raw((felter_transmitter *)(void *)&receiver, &late));
+    expect_no_record(&receiver);
+    EXPECT(FELTER_NO_MESSAGE, felter_load_body(&receiver, buffer, sizeof buffer));
+    EXPECT(FELTER_NO_MESSAGE, felter_validate(&receiver));
+    CHECK(buffer[0] == 5);
+    EXPECT(FELTER_OK, felter_transmit(&transmitter, 7, body, 32));
+    EXPECT(FELTER_OK, felter_transmit(&transmitter, 8, NULL, 0));
+    EXPECT(FELTER_OK, felter_transmit(&transmitter, 9, body + 1, 13));
+    EXPECT(FELTER_OK, felter_subscribe_raw(&transmitter, &late));
+    expect_raw(&receiver, 7, body, 32);
+    expect_raw(&receiver, 8, NULL, 0);
+    expect_raw(&receiver, 9, body + 1, 13);
+    expect_raw(&late, 9, body + 1, 13);
+    expect_no_record(&receiver);
+    /* The record that was answered last stays so. */
+    EXPECT(FELTER_OK, felter_load_body(&receiver, buffer, 13));
+    CHECK(memcmp(buffer, body + 1, 13) == 0);
+    /* Seven records of 40 bytes overtake both. */
+    for (int32_t i = 0; i < 7; i++) EXPECT(FELTER_OK, felter_transmit(&transmitter, 10 + i, body + i, 26));
+    EXPECT(FELTER_OK, felter_load_body(&receiver, buffer, sizeof buffer));
+    EXPECT(FELTER_LAPPED, felter_validate(&receiver));
+    EXPECT(FELTER_OK, felter_raw_lapped_count(&receiver, &count));
+    CHECK(count == 0);
+    EXPECT(FELTER_LAPPED, felter_receive_next(&receiver, &type_id, &len, &lapped));
+    CHECK(type_id == -7 && len == 7 && lapped == 1);
+    EXPECT(FELTER_OK, felter_raw_lapped_count(&receiver, &count));
+    CHECK(count == 1);
+    EXPECT(FELTER_LAPPED, felter_validate(&receiver));
+    felter_free(&transmitter.handle);
+    expect_raw(&receiver, 16, body + 6, 26);
+    expect_no_record(&receiver);
+
+    felter_raw_receiver *wrong = (felter_raw_receiver *)(void *)&transmitter;
+    EXPECT(FELTER_OK, felter_board_new(256, &transmitter));
+    EXPECT(FELTER_WRONG_HANDLE, felter_receive_next(wrong, &type_id, &len, &lapped));
+    EXPECT(FELTER_WRONG_HANDLE, felter_load_body(wrong, buffer, sizeof buffer));
+    EXPECT(FELTER_WRONG_HANDLE, felter_validate(wrong));
+    EXPECT(FELTER_WRONG_HANDLE, felter_raw_lapped_count(wrong, &count));
+    EXPECT(FELTER_WRONG_HANDLE, felter_lapped_count((felter_receiver *)(void *)&receiver, &count));
+    EXPECT(FELTER_NO_HANDLE, felter_receive_next(&none, &type_id, &len, &lapped));
+    EXPECT(FELTER_NO_HANDLE, felter_load_body(&none, buffer, sizeof buffer));
+    EXPECT(FELTER_NO_HANDLE, felter_validate(&none));
+    EXPECT(FELTER_NO_HANDLE, felter_raw_lapped_count(&none, &count));
+    CHECK(type_id == -7 && len == 7 && lapped == 1 && count == 1);
+    felter_free(&transmitter.handle);
+    felter_free(&receiver.handle);
+    felter_free(&late.handle);
+}
+
 /* A receiver that is freed takes its share with it. */
 static void shares(void) {
     felter_transmitter transmitter = FELTER_EMPTY;
     felter_receiver receiver = FELTER_EMPTY;
+    felter_raw_receiver raw = FELTER_EMPTY;
     EXPECT(FELTER_OK, felter_board_new(256, &transmitter));
     for (uint32_t i = 0; i < 65535; i++) {
         EXPECT(FELTER_OK, felter_subscribe(&transmitter, &receiver));
         felter_free(&receiver.handle);
     }
     EXPECT(FELTER_NO_SHARES, felter_subscribe(&transmitter, &receiver));
+    EXPECT(FELTER_NO_SHARES, felter_subscribe_raw(&transmitter, &raw));
+    EXPECT(FELTER_NO_HANDLE, felter_validate(&raw));
     EXPECT(FELTER_NO_HANDLE, felter_lapped_count(&receiver, &(uint64_t){0}));
     EXPECT(FELTER_OK, felter_transmit(&transmitter, 1, BYTES("still")));
     felter_free(&transmitter.handle);
@@ -205,6 +296,7 @@ static void threads(void) {
 int main(void) {
     makes();
     transmits();
+    raw_records();
     shares();
     kinds();
     threads();

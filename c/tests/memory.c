@@ -64,14 +64,33 @@ static struct {
     felter_consumer consumer, of_single;
     felter_transmitter transmitter;
     felter_receiver receiver;
+    felter_raw_receiver raw;
     felter_counters counters;
     felter_reader reader;
+    uint64_t claims[8];
+    size_t claimed;
 } all;
 
 static int32_t make_many(void) { return felter_many_to_one_new(128, &all.producer, &all.consumer); }
 static int32_t make_one(void) { return felter_one_to_one_new(128, &all.single, &all.of_single); }
 static int32_t split(void) { return felter_split(&all.producer, &all.other); }
 static int32_t join(void) { return felter_join(&all.producer, &all.other); }
+/* Claims a record of 16 bytes more, and nothing where memory is wanting. */
+static int32_t claim(felter_producer *producer) {
+    uint64_t head = 0, before = 0, after = 0;
+    EXPECT(FELTER_OK, felter_positions(producer, &head, &before));
+    int32_t code = felter_claim(producer, 3, 1, &all.claims[all.claimed]);
+    EXPECT(FELTER_OK, felter_positions(producer, &head, &after));
+    CHECK(after == before + (code == FELTER_OK ? 16 : 0));
+    all.claimed += code == FELTER_OK;
+    return code;
+}
+static int32_t claim_one(void) { return claim(&all.producer); }
+static int32_t claim_other(void) { return claim(&all.other); }
+static int32_t abort_all(void) {
+    while (all.claimed) EXPECT(FELTER_OK, felter_abort(&all.producer, all.claims[--all.claimed]));
+    return FELTER_OK;
+}
 static int32_t write_one(void) { return felter_write(&all.producer, 1, BYTES("kept")); }
 static int32_t read_one(void) {
     uint8_t buffer[4];
@@ -106,6 +125,15 @@ static int32_t load(void) {
 }
 static int32_t make_board(void) { return felter_board_new(256, &all.transmitter); }
 static int32_t subscribe(void) { return felter_subscribe(&all.transmitter, &all.receiver); }
+static int32_t subscribe_raw(void) { return felter_subscribe_raw(&all.transmitter, &all.raw); }
+static int32_t look(void) {
+    int32_t type_id = 0;
+    size_t len = 0;
+    uint64_t lapped = 0;
+    int32_t code = felter_receive_next(&all.raw, &type_id, &len, &lapped);
+    CHECK(code != FELTER_OK || (type_id == 2 && len == 4));
+    return code;
+}
 static int32_t transmit(void) { return felter_transmit(&all.transmitter, 2, BYTES("seen")); }
 static int32_t receive(void) {
     uint8_t buffer[32];
@@ -118,15 +146,18 @@ static int32_t receive(void) {
 }
 
 static int32_t (*const steps[])(void) = {
-    make_many,     make_one, split,   write_one, join, read_one,   make_board, subscribe,
-    transmit,      receive,  make_counters, allocate, add_one, see_one, lend, load,
+    make_many, make_one,  split,     claim_one, claim_other, claim_one, claim_one,  claim_one,
+    join,      abort_all, write_one, read_one,  claim_one,   make_board, subscribe, subscribe_raw,
+    transmit,  receive,   look,      make_counters, allocate, add_one,   see_one,    lend,      load,
 };
 
 static void free_all(void) {
     felter_handle *handles[] = {&all.producer.handle,  &all.other.handle,     &all.single.handle,
                                 &all.consumer.handle,  &all.of_single.handle, &all.transmitter.handle,
-                                &all.receiver.handle,  &all.counters.handle,  &all.reader.handle};
+                                &all.receiver.handle,  &all.raw.handle,       &all.counters.handle,
+                                &all.reader.handle};
     for (size_t i = 0; i < sizeof handles / sizeof *handles; i++) felter_free(handles[i]);
+    all.claimed = 0;
 }
 
 int main(void) {
@@ -158,7 +189,7 @@ int main(void) {
         free_all();
         CHECK(live == before);
         if (!met) {
-            CHECK(refusals >= 17);
+            CHECK(refusals >= 21);
             printf("memory: %d requests refused in turn, none leaked\n", refusals);
             return 0;
         }

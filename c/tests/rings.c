@@ -183,9 +183,9 @@ static void ends(void) {
 
 /* A claim that is open, shown as what it holds. */
 static void claims(int many) {
-    felter_producer producer = FELTER_EMPTY, other = FELTER_EMPTY, none = FELTER_EMPTY;
+    felter_producer producer = FELTER_EMPTY, other = FELTER_EMPTY;
     felter_consumer consumer = FELTER_EMPTY;
-    uint64_t claim = 77, second = 78;
+    uint64_t claim = 77;
     if (many) EXPECT(FELTER_OK, felter_many_to_one_new(128, &producer, &consumer));
     else EXPECT(FELTER_OK, felter_one_to_one_new(128, &producer, &consumer));
     if (many) EXPECT(FELTER_OK, felter_split(&producer, &other));
@@ -196,8 +196,6 @@ static void claims(int many) {
     EXPECT(FELTER_TOO_LONG, felter_claim(&producer, 1, 17, &claim));
     CHECK(claim == 77);
     EXPECT(FELTER_OK, felter_claim(&producer, 7, 10, &claim));
-    EXPECT(FELTER_CLAIM_OPEN, felter_claim(&producer, 7, 10, &second));
-    CHECK(second == 78);
     expect_none(&consumer);
     EXPECT(FELTER_NO_CLAIM, felter_put(&producer, claim + 8, 0, BYTES("abc")));
     EXPECT(FELTER_NO_CLAIM, felter_commit(&producer, claim + 8));
@@ -209,10 +207,7 @@ static void claims(int many) {
     EXPECT(FELTER_OK, felter_put(&producer, claim, 4, BYTES("abcde")));
     EXPECT(FELTER_OK, felter_put(&producer, claim, 10, NULL, 0));
     if (many) {
-        EXPECT(FELTER_CLAIM_OPEN, felter_split(&producer, &none));
-        EXPECT(FELTER_NO_HANDLE, felter_write(&none, 1, NULL, 0));
-        EXPECT(FELTER_CLAIM_OPEN, felter_join(&producer, &other));
-        EXPECT(FELTER_CLAIM_OPEN, felter_join(&other, &producer));
+        EXPECT(FELTER_NO_CLAIM, felter_commit(&other, claim));
         EXPECT(FELTER_OK, felter_write(&other, 9, BYTES("behind")));
         expect_none(&consumer);
     }
@@ -237,6 +232,86 @@ static void claims(int many) {
     }
     felter_free(&consumer.handle);
     felter_free(&producer.handle);
+}
+
+#define OPEN 40
+
+/* Many claims at once, of which each third is aborted, and which are settled in an order of their own. */
+static void open_claims(int many) {
+    felter_producer producer = FELTER_EMPTY;
+    felter_consumer consumer = FELTER_EMPTY;
+    uint64_t claims[OPEN], more = 99;
+    uint8_t body[16];
+    if (many) EXPECT(FELTER_OK, felter_many_to_one_new(1024, &producer, &consumer));
+    else EXPECT(FELTER_OK, felter_one_to_one_new(1024, &producer, &consumer));
+    for (int turn = 0; turn < 3; turn++) {
+        /* Each record takes 24 bytes, but those of no bytes 8. */
+        for (uint32_t i = 0; i < OPEN; i++) {
+            EXPECT(FELTER_OK, felter_claim(&producer, 1 + (int32_t)i, i % 4 ? 9 + i % 8 : 0, &claims[i]));
+            CHECK(i == 0 || claims[i] > claims[i - 1]);
+        }
+        for (uint32_t at = 0; at < OPEN; at++) {
+            uint32_t i = at * 7 % OPEN;
+            memset(body, (int)i, sizeof body);
+            EXPECT(FELTER_OK, felter_put(&producer, claims[i], 0, body, i % 4 ? 9 + i % 8 : 0));
+            EXPECT(FELTER_PUT_RANGE, felter_put(&producer, claims[i], 1, body, 16));
+        }
+        EXPECT(FELTER_NO_CLAIM, felter_commit(&producer, claims[OPEN - 1] + 1));
+        for (uint32_t at = 0; at < OPEN; at++) {
+            uint32_t i = (at * 3 + 1) % OPEN;
+            if (i % 3) EXPECT(FELTER_OK, felter_commit(&producer, claims[i]));
+            else EXPECT(FELTER_OK, felter_abort(&producer, claims[i]));
+            EXPECT(FELTER_NO_CLAIM, felter_put(&producer, claims[i], 0, NULL, 0));
+            EXPECT(FELTER_NO_CLAIM, felter_commit(&producer, claims[i]));
+            EXPECT(FELTER_NO_CLAIM, felter_abort(&producer, claims[i]));
+        }
+        for (uint32_t i = 0; i < OPEN; i++) {
+            memset(body, (int)i, sizeof body);
+            if (i % 3) expect_message(&consumer, 1 + (int32_t)i, body, i % 4 ? 9 + i % 8 : 0);
+        }
+        expect_none(&consumer);
+    }
+    /* All that are open are aborted where the producer is freed. */
+    EXPECT(FELTER_OK, felter_write(&producer, 5, BYTES("first")));
+    for (int i = 0; i < 20; i++) EXPECT(FELTER_OK, felter_claim(&producer, 6, (size_t)i % 3, &more));
+    EXPECT(FELTER_OK, felter_write(&producer, 7, BYTES("last")));
+    expect_message(&consumer, 5, BYTES("first"));
+    expect_none(&consumer);
+    felter_free(&producer.handle);
+    expect_message(&consumer, 7, BYTES("last"));
+    expect_none(&consumer);
+    felter_free(&consumer.handle);
+}
+
+/* Claims that are open where producers are split and joined: they stay, and those of both are then one's. */
+static void joined_claims(void) {
+    felter_producer producer = FELTER_EMPTY, other = FELTER_EMPTY;
+    felter_consumer consumer = FELTER_EMPTY;
+    uint64_t claims[4];
+    EXPECT(FELTER_OK, felter_many_to_one_new(512, &producer, &consumer));
+    EXPECT(FELTER_OK, felter_claim(&producer, 1, 1, &claims[0]));
+    EXPECT(FELTER_OK, felter_split(&producer, &other));
+    EXPECT(FELTER_NO_CLAIM, felter_commit(&other, claims[0]));
+    EXPECT(FELTER_OK, felter_claim(&other, 2, 1, &claims[1]));
+    EXPECT(FELTER_OK, felter_claim(&producer, 3, 1, &claims[2]));
+    EXPECT(FELTER_OK, felter_claim(&other, 4, 1, &claims[3]));
+    EXPECT(FELTER_NO_CLAIM, felter_put(&producer, claims[1], 0, BYTES("b")));
+    EXPECT(FELTER_OK, felter_put(&other, claims[3], 0, BYTES("d")));
+    EXPECT(FELTER_OK, felter_join(&producer, &other));
+    EXPECT(FELTER_NO_HANDLE, felter_commit(&other, claims[1]));
+    EXPECT(FELTER_OK, felter_put(&producer, claims[1], 0, BYTES("b")));
+    EXPECT(FELTER_OK, felter_put(&producer, claims[0], 0, BYTES("a")));
+    for (int i = 3; i >= 0; i--) {
+        expect_none(&consumer);
+        if (i == 2) EXPECT(FELTER_OK, felter_abort(&producer, claims[i]));
+        else EXPECT(FELTER_OK, felter_commit(&producer, claims[i]));
+    }
+    expect_message(&consumer, 1, BYTES("a"));
+    expect_message(&consumer, 2, BYTES("b"));
+    expect_message(&consumer, 4, BYTES("d"));
+    expect_none(&consumer);
+    felter_free(&producer.handle);
+    felter_free(&consumer.handle);
 }
 
 static uint32_t shares_of(felter_producer *producer) {
@@ -356,9 +431,11 @@ int main(void) {
     for (int many = 0; many < 2; many++) {
         writes(many);
         claims(many);
+        open_claims(many);
         batches(many);
     }
     ends();
+    joined_claims();
     splits();
     looks();
     puts("rings: each answer as it should be");

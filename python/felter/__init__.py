@@ -15,7 +15,7 @@ free what they own at the end. This module is tested and not proved; that handle
 here, by a number that each ring has.
 """
 
-from felter.boards import Receiver, Transmitter
+from felter.boards import RawReceiver, RawRecord, Receiver, Transmitter
 from felter.counters import Counters, Reader
 from felter.errors import Error, Lapped, Number
 from felter.message import Message
@@ -31,6 +31,8 @@ __all__ = [
     "Number",
     "Positions",
     "Producer",
+    "RawReceiver",
+    "RawRecord",
     "Reader",
     "Receiver",
     "Transmitter",

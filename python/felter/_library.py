@@ -63,6 +63,11 @@ felter_transmit *Handle i32 bytes usize
 felter_subscribe *Handle *Handle
 felter_receive *Handle *i32 *usize *u64 *u8 usize
 felter_lapped_count *Handle *u64
+felter_subscribe_raw *Handle *Handle
+felter_receive_next *Handle *i32 *usize *u64
+felter_load_body *Handle *u8 usize
+felter_validate *Handle
+felter_raw_lapped_count *Handle *u64
 felter_counters_new u32 u32 *Handle
 felter_counter_allocate_owned *Handle u64 i32 bytes usize bytes usize u64 u64 *u32
 felter_counter_free *Handle u64 u32

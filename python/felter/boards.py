@@ -1,6 +1,7 @@
 """Boards: a transmitter never waits, and a receiver learns what it missed."""
 
 import ctypes
+import typing
 
 from felter._library import call, is_there
 from felter._owner import Owner
@@ -25,6 +26,12 @@ class Transmitter(Owner):
         is lost when it is freed."""
         receiver = Receiver(self._capacity)
         self._do("felter_subscribe", receiver._handle)
+        return receiver
+
+    def subscribe_raw(self):
+        """Makes a raw receiver, which answers each record unread; else as `subscribe`."""
+        receiver = RawReceiver()
+        self._do("felter_subscribe_raw", receiver._handle)
         return receiver
 
 
@@ -54,3 +61,47 @@ class Receiver(Owner):
     def lapped_count(self):
         """How often it was lapped."""
         return self._say("felter_lapped_count", ctypes.c_uint64)
+
+
+class RawRecord(typing.NamedTuple):
+    """What a raw receiver says of a record, whose body it has not read."""
+
+    type_id: int
+    length: int
+
+
+class RawReceiver(Owner):
+    """Receives what is transmitted on a board, each record unread."""
+
+    def receive_next(self):
+        """Goes behind the next record, and says its type id and length; None where nothing is there. Raises Lapped as
+        Receiver.receive does."""
+        type_id, length, lapped = ctypes.c_int32(), ctypes.c_size_t(), ctypes.c_uint64()
+        with self._lock:
+            try:
+                took = is_there("felter_receive_next", self._handle, type_id, length, lapped)
+            except Error as refused:
+                raise Lapped(lapped.value) if refused.number == Number.LAPPED else refused
+            return RawRecord(type_id.value, length.value) if took else None
+
+    def load_body(self, length):
+        """The body of the record that was answered last, which has so many bytes. They may be those of another record,
+        unless `validate` then says True."""
+        buffer = ctypes.create_string_buffer(length)
+        self._do("felter_load_body", buffer, length)
+        return buffer.raw[:length]
+
+    def validate(self):
+        """Whether the record that was answered last was not yet overwritten. If so, each body of it that was loaded
+        before is the one that was transmitted."""
+        try:
+            self._do("felter_validate")
+        except Error as refused:
+            if refused.number != Number.LAPPED:
+                raise
+            return False
+        return True
+
+    def lapped_count(self):
+        """How often `receive_next` was lapped."""
+        return self._say("felter_raw_lapped_count", ctypes.c_uint64)

@@ -28,7 +28,6 @@ class Number(enum.IntEnum):
     NO_HANDLE = 100
     WRONG_HANDLE = 101
     HANDLE_IN_USE = 102
-    CLAIM_OPEN = 103
     NO_CLAIM = 104
     NO_MESSAGE = 105
     SHORT_BUFFER = 106

@@ -71,15 +71,20 @@ class Claim:
 
     def put(self, offset, data):
         """Puts bytes into the message, from a byte on."""
-        self._producer._do("felter_put", self._number, offset, data, len(data))
+        self._do("felter_put", offset, data, len(data))
 
     def commit(self):
         """Shows the message to the consumer."""
-        self._producer._do("felter_commit", self._number)
+        self._do("felter_commit")
 
     def abort(self):
         """Lets the consumer pass it."""
-        self._producer._do("felter_abort", self._number)
+        self._do("felter_abort")
+
+    def _do(self, name, *parameters):
+        while self._producer._joined is not None:
+            self._producer = self._producer._joined
+        self._producer._do(name, self._number, *parameters)
 
     def __enter__(self):
         return self
@@ -92,12 +97,15 @@ class Claim:
 class Producer(Owner):
     """Writes into a ring. One that is freed takes its share of the ring with it: join it where that matters."""
 
+    # The producer that took it in.
+    _joined = None
+
     def write(self, type_id, body):
         """Writes a message, by one try."""
         self._do("felter_write", type_id, body, len(body))
 
     def claim(self, type_id, length):
-        """Claims room for a message, whose bytes are 0 until they are put. One claim may be open at a time."""
+        """Claims room for a message, whose bytes are 0 until they are put. Any number may be open at once."""
         return Claim(self, self._say("felter_claim", ctypes.c_uint64, type_id, length))
 
     def split(self):
@@ -107,8 +115,9 @@ class Producer(Owner):
         return other
 
     def join(self, other):
-        """Takes another producer of the same ring in, with its shares."""
+        """Takes another producer of the same ring in, with its shares and its open claims."""
         self._with("felter_join", other)
+        other._joined = self
 
     def positions(self):
         """Loads the head, and then the tail."""

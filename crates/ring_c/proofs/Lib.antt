@@ -1,4 +1,5 @@
 mod BatchLemmas
+mod ClaimLemmas
 mod EndLemmas
 pub mod HandleValues
 mod ReadLemmas

@@ -1,10 +1,12 @@
 pub mod Batch
 pub mod Boards
+pub mod Claims
 pub mod Consuming
 pub mod Copying
 pub mod Counting
 pub mod Lending
 pub mod Owned
 pub mod Producing
+pub mod Raw
 pub mod Side
 pub mod Told

@@ -1,8 +1,6 @@
 -- What a producer's calls do: p is the producer before, q after, and the code is what is answered.
-use Rattle.std.specs.Prelude.{◌≡◌, ◌≢◌, ◌⊎◌, ℕ, ◌+◌, ◌<◌, ℤ, pos, List, length, MatchOption, Bool, true, false}
-use Rattle.std.specs.declared.option.Option.TheVariants.{None, Some}
+use Rattle.std.specs.Prelude.{◌≡◌, ◌≢◌, ◌⊎◌, ℕ, ◌+◌, ◌<◌, ℤ, pos, List, [], ◌∷◌, ◌++◌, length, MatchOption, Bool, true, false}
 use Rattle.ring_layout.specs.declared.message.ClaimState.{ClaimState}
-use Rattle.ring_layout.specs.declared.message.ClaimState.TheVariants.{Aborted}
 use Rattle.ring_words.specs.Open.{ClaimAt}
 use Rattle.ring_words.specs.declared.fault.ClaimFault.{ClaimFault}
 use Rattle.ring_rings.specs.declared.fault.TryFault.{TryFault}
@@ -16,6 +14,7 @@ use Rattle.ring_rings.specs.Claiming.{Claims, ClaimsAlone, RefusesAlone, Refuses
 use Rattle.ring_rings.specs.Joining.{Joins, LoadsPositions}
 use Rattle.ring_words.specs.Refusal.{claim_code}
 use Rattle.ring_rings.specs.Claiming.{try_code}
+use Rattle.ring_c.specs.Claims.{aborted, claim_numbered, without}
 use Rattle.ring_c.specs.Side.{Side, knowing}
 
 -- it was refused with this number, and nothing changed
@@ -57,11 +56,15 @@ abbrev pub IsClaimed : Bool → ℕ → ℤ → ℕ → View → ClaimAt → Vie
 IsClaimed true capacity type_id len v t w = Claims capacity type_id len v t w
 IsClaimed false capacity type_id len v t w = ClaimsAlone capacity type_id len v t w
 
+-- the producer with these open claims
+abbrev pub holding : List ClaimAt → Side → Side
+holding claims p = record p { claims = claims }
+
 -- a claim was made, and its number is its place
 pub record MadeClaim (type_id : ℤ) (len : ℕ) (p q : Side) (number : ℕ) : Type 0 where
   pub claim : ClaimAt
   pub made : IsClaimed p.many p.capacity type_id len p.view claim q.view
-  pub side : q ≡ record (knowing q.view p) { claim = Some claim }
+  pub side : q ≡ holding (p.claims ++ claim ∷ []) (knowing q.view p)
   pub number_is : number ≡ claim.place
 
 -- it was refused, and the number out is as it was
@@ -70,37 +73,33 @@ pub record ClaimRefused (type_id : ℤ) (len : ℕ) (p q : Side) (before number 
   pub side : q ≡ knowing q.view p
   pub number_is : number ≡ before
 
+-- a claim was made, or refused, or memory to keep it is wanting
 abbrev pub Claimed : ℤ → ℕ → ℕ → ℕ → Side → Side → ℤ → Type 0
-Claimed type_id len before number p q code =
-    MatchOption p.claim (((code ≡ pos 0) × MadeClaim type_id len p q number)
-    ⊎ ClaimRefused type_id len p q before number code)
-    (λ _. Declined (pos 103) p q code × (number ≡ before))
+Claimed type_id len before number p q code = ((code ≡ pos 0) × MadeClaim type_id len p q number)
+    ⊎ (ClaimRefused type_id len p q before number code ⊎ (Declined (pos 3) p q code × (number ≡ before)))
 
 -- the claim of this number is open, and P tells; else 104
 abbrev pub WithClaim : ℕ → (ClaimAt → Type 0) → Side → Side → ℤ → Type 0
-WithClaim number P p q code = MatchOption p.claim (Declined (pos 104) p q code)
-    (λ t. ((t.place ≡ number) × P t) ⊎ ((t.place ≢ number) × Declined (pos 104) p q code))
+WithClaim number P p q code = MatchOption (claim_numbered number p.claims) (Declined (pos 104) p q code) P
 
--- bytes were put into the open claim, or do not lie inside it
+-- bytes were put into the claim of this number, or do not lie inside it
 abbrev pub Put : ℕ → ℕ → List ℕ → Side → Side → ℤ → Type 0
 Put number offset bytes p q code =
     WithClaim number (λ t. ((code ≡ pos 0) × (q ≡ knowing q.view p) × PutsBytes t.place offset bytes p.view q.view)
     ⊎ ((t.len < offset + length bytes) × Declined (pos 9) p q code)) p q code
 
--- the producer whose claim was settled so
-abbrev pub settling : ClaimState → ClaimAt → Side → Side
-settling state t p =
-    record (knowing (with_claims (changed t.place (staged (Stored state)) p.view.producer.claims) p.view) p) {
-      claim = None;
-    }
+-- the producer whose claim t of this number was settled so
+abbrev pub settling : ClaimState → ℕ → ClaimAt → Side → Side
+settling state number t p = holding (without number p.claims)
+    (knowing (with_claims (changed t.place (staged (Stored state)) p.view.producer.claims) p.view) p)
 
--- the open claim was settled
+-- the claim of this number was settled
 abbrev pub Settled : ClaimState → ℕ → Side → Side → ℤ → Type 0
-Settled state number p q code = WithClaim number (λ t. (code ≡ pos 0) × (q ≡ settling state t p)) p q code
+Settled state number p q code = WithClaim number (λ t. (code ≡ pos 0) × (q ≡ settling state number t p)) p q code
 
--- the claim was aborted, if one was open
-abbrev pub Closes : Side → Side → Type 0
-Closes p q = MatchOption p.claim (q ≡ p) (λ t. q ≡ settling Aborted t p)
+-- the producer whose open claims were all aborted
+abbrev pub closing : Side → Side
+closing p = holding [] (knowing (with_claims (aborted p.claims p.view.producer.claims) p.view) p)
 
 -- What producers load and draw ---------------------------------------------------
 
@@ -121,7 +120,7 @@ Counted shares p q code = (code ≡ pos 0) × (q ≡ p) × (shares ≡ p.view.pr
 
 -- the other producer of the ring, with one share
 abbrev pub other_of : Side → Side
-other_of p = record { many = true; table = p.table; capacity = p.capacity; view = producer_alone p.view; claim = None }
+other_of p = record { many = true; table = p.table; capacity = p.capacity; view = producer_alone p.view; claims = [] }
 
 -- a share was moved to another producer
 pub record Splits (p q other : Side) : Type 0 where
@@ -130,18 +129,17 @@ pub record Splits (p q other : Side) : Type 0 where
   pub left : q ≡ knowing (without_share p.view) p
   pub right : other ≡ other_of p
 
--- why a producer is not split: its ring has one producer, a claim of it is open, it has one share, or memory is wanting
+-- why a producer is not split: its ring has one producer, it has one share, or memory is wanting
 abbrev pub IsWhole : Side → ℤ → Type 0
 IsWhole p code = ((code ≡ pos 101) × (p.many ≡ false))
-    ⊎ (((code ≡ pos 103) × (p.claim ≢ None)) ⊎ (((code ≡ pos 12) × (p.view.producer.shares ≡ 1)) ⊎ (code ≡ pos 3)))
+    ⊎ (((code ≡ pos 12) × (p.view.producer.shares ≡ 1)) ⊎ (code ≡ pos 3))
 
--- the other one was taken in, with its shares
+-- the other one was taken in, with its shares and its open claims
 pub record TakesIn (p other q : Side) : Type 0 where
   pub view : Joins p.capacity p.view other.view q.view
-  pub rest : q ≡ knowing q.view p
+  pub rest : q ≡ holding (p.claims ++ other.claims) (knowing q.view p)
 
--- why it was not: a ring has one producer, the capacities differ, or a claim is open
+-- why it was not: a ring has one producer, the capacities differ, or memory is wanting
 abbrev pub IsApart : Side → Side → ℤ → Type 0
 IsApart p other code = ((code ≡ pos 101) × ((p.many ≡ false) ⊎ (other.many ≡ false)))
-    ⊎ (((code ≡ pos 108) × (p.capacity ≢ other.capacity))
-    ⊎ ((code ≡ pos 103) × ((p.claim ≢ None) ⊎ (other.claim ≢ None))))
+    ⊎ (((code ≡ pos 108) × (p.capacity ≢ other.capacity)) ⊎ (code ≡ pos 3))

@@ -1,13 +1,14 @@
 -- A producer or a consumer with its ring, of either kind.
-use Rattle.std.specs.Prelude.{◌≡◌, ℕ, IfSome, Bool, true, false}
+use Rattle.std.specs.Prelude.{◌≡◌, ℕ, List, Bool, true, false}
 use Rattle.std.specs.Arc.{arc_value}
-use Rattle.std.specs.declared.option.Option.{Option}
 use Rattle.atomic_table.specs.Seated.{TableId}
 use Rattle.ring_table.specs.declared.view.View.{View}
 use Rattle.ring_words.specs.Open.{ClaimAt}
+use Rattle.ring_rings.specs.declared.ring.Ring.{Ring}
 use Rattle.ring_rings.specs.declared.ring.Producer.{Producer}
 use Rattle.ring_rings.specs.declared.ring.Consumer.{Consumer}
-use Rattle.ring_rings.specs.Seats.{capacity_of, shares_of, IsConsumerOf, IsOpenClaimOf, IsProducerOf}
+use Rattle.ring_rings.specs.Seats.{capacity_of, shares_of, view_of, IsConsumerOf, IsProducerOf}
+use Rattle.ring_c.specs.Claims.{AreOpen}
 use Rattle.ring_c.specs.declared.ring.AnyRing.{AnyRing}
 use Rattle.ring_c.specs.declared.ring.AnyRing.TheVariants.{Many, One}
 
@@ -33,9 +34,10 @@ abbrev pub IsProducerIn : AnyRing → Producer → Type 0
 IsProducerIn (Many ring) p = IsProducerOf (arc_value ring) p
 IsProducerIn (One ring) p = IsProducerOf (arc_value ring) p × (shares_of p ≡ 65536)
 
-abbrev pub IsClaimIn : AnyRing → Producer → ClaimAt → Type 0
-IsClaimIn (Many ring) p t = IsOpenClaimOf (arc_value ring) p t
-IsClaimIn (One ring) p t = IsOpenClaimOf (arc_value ring) p t
+-- these are open claims of its producer
+abbrev pub AreClaimsIn : AnyRing → Producer → List ClaimAt → Type 0
+AreClaimsIn (Many ring) p claims = AreOpen (arc_value ring) p claims
+AreClaimsIn (One ring) p claims = AreOpen (arc_value ring) p claims
 
 abbrev pub IsConsumerIn : AnyRing → Consumer → Type 0
 IsConsumerIn (Many ring) c = IsConsumerOf (arc_value ring) c
@@ -52,13 +54,23 @@ pub record Side : Type 0 where
   pub capacity : ℕ
   -- what the producer knows
   pub view : View
-  -- the claim that is open
-  pub claim : Option ClaimAt
+  -- the claims that are open, the oldest first
+  pub claims : List ClaimAt
 
--- the producer and the claim are the ring's
-pub record IsSide (ring : AnyRing) (producer : Producer) (claim : Option ClaimAt) : Type 0 where
+-- the producer of a ring of this kind, with these open claims
+abbrev pub side : {K : Type 0} → Bool → Ring K → Producer → List ClaimAt → Side
+side many ring p claims = record {
+  many = many;
+  table = ring.table.shared.table_id;
+  capacity = capacity_of ring;
+  view = view_of p;
+  claims = claims;
+}
+
+-- the producer and the claims are the ring's
+pub record IsSide (ring : AnyRing) (producer : Producer) (claims : List ClaimAt) : Type 0 where
   pub of : IsProducerIn ring producer
-  pub claimed : IfSome claim (IsClaimIn ring producer)
+  pub claimed : AreClaimsIn ring producer claims
 
 -- the producer that knows this
 abbrev pub knowing : View → Side → Side

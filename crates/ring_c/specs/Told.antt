@@ -14,10 +14,11 @@ use Rattle.ring_counters.specs.Codes.{make_code as counters_code}
 use Rattle.ring_c.specs.declared.counters.CountersSide.{CountersSide}
 use Rattle.ring_c.specs.declared.counters.ReaderSide.{ReaderSide}
 use Rattle.ring_c.specs.Boards.{Listening, Sending}
-use Rattle.ring_c.specs.Producing.{Closes, IsApart, TakesIn}
+use Rattle.ring_c.specs.Producing.{closing, IsApart, TakesIn}
+use Rattle.ring_c.specs.Raw.{Watching}
 use Rattle.ring_c.specs.Side.{Reading, Side}
 use Rattle.ring_c.specs.declared.held.Held.{Held}
-use Rattle.ring_c.specs.declared.held.Held.TheVariants.{Producer, Consumer, Transmitter, Receiver, Counters, Reader}
+use Rattle.ring_c.specs.declared.held.Held.TheVariants.{Producer, Consumer, Transmitter, Receiver, RawReceiver, Counters, Reader}
 
 -- What a handle holds, where it is of one kind ---------------------------------------
 
@@ -36,6 +37,10 @@ a_transmitter _ = None
 abbrev pub a_receiver : Held → Option Listening
 a_receiver (Receiver r) = Some r
 a_receiver _ = None
+
+abbrev pub a_raw_receiver : Held → Option Watching
+a_raw_receiver (RawReceiver r) = Some r
+a_raw_receiver _ = None
 
 abbrev pub some_counters : Held → Option CountersSide
 some_counters (Counters c) = Some c
@@ -56,9 +61,9 @@ abbrev pub Uses : {S : Type 0} → (Held → Option S) → (S → S → ℤ → 
 Uses kind P before after code = MatchOption before ((code ≡ pos 100) × (after ≡ None))
     (λ h. MatchOption (kind h) ((code ≡ pos 101) × (after ≡ Some h)) (λ s. Holds kind (λ t. P s t code) after))
 
--- of a producer the open claim was aborted, and nothing else changed
+-- of a producer the open claims were aborted, and nothing else changed
 abbrev pub ClosesHeld : Held → Held → Type 0
-ClosesHeld h k = MatchOption (a_producer h) (k ≡ h) (λ p. MatchOption (a_producer k) ⊥ (Closes p))
+ClosesHeld h k = MatchOption (a_producer h) (k ≡ h) (λ p. MatchOption (a_producer k) ⊥ (λ q. q ≡ closing p))
 
 -- Rings that are made ------------------------------------------------------------
 
@@ -69,7 +74,7 @@ IsMakeCode C start code =
 
 -- a producer and the consumer of one ring, which know this
 pub record ArePaired (many : Bool) (C : ℕ) (v w : View) (p : Side) (c : Reading) : Type 0 where
-  pub producer : p ≡ record { many = many; table = p.table; capacity = C; view = v; claim = None }
+  pub producer : p ≡ record { many = many; table = p.table; capacity = C; view = v; claims = [] }
   pub consumer : c ≡ record { many = many; table = p.table; capacity = C; view = w }
 
 abbrev pub HoldPair : Bool → ℕ → View → View → Option Held → Option Held → Type 0

@@ -22,8 +22,6 @@ pub(crate) const NO_HANDLE: i32 = 100;
 pub(crate) const WRONG_HANDLE: i32 = 101;
 /// The handle that was to be filled is not empty.
 pub(crate) const HANDLE_IN_USE: i32 = 102;
-/// A claim of the producer is open.
-pub(crate) const CLAIM_OPEN: i32 = 103;
 /// No claim of this number is open.
 pub(crate) const NO_CLAIM: i32 = 104;
 /// Nothing is there yet.

@@ -6,5 +6,6 @@ pub(crate) mod counting_new;
 pub(crate) mod joining;
 pub(crate) mod opening;
 pub(crate) mod producing;
+pub(crate) mod raw;
 pub(crate) mod reading;
 pub(crate) mod sharing;

@@ -3,6 +3,7 @@ use crate::boards::{ReceiverSide, TransmitterSide};
 use crate::consumer::ConsumerSide;
 use crate::counters::{CountersSide, ReaderSide};
 use crate::producer::ProducerSide;
+use crate::raw::RawReceiverSide;
 
 /// What a handle can stand for.
 #[derive(Drop)]
@@ -13,6 +14,7 @@ pub enum Held {
     Consumer(ConsumerSide),
     Transmitter(TransmitterSide),
     Receiver(ReceiverSide),
+    RawReceiver(RawReceiverSide),
     Counters(CountersSide),
     Reader(ReaderSide),
 }

@@ -3,6 +3,7 @@
 
 mod batch;
 mod boards;
+mod claims;
 mod code;
 mod consumer;
 mod copying;
@@ -13,6 +14,7 @@ mod handle;
 mod held;
 mod loose;
 mod producer;
+mod raw;
 mod reading;
 mod ring;
 mod work_on;
@@ -37,6 +39,10 @@ pub use exports::opening::{
 pub use exports::producing::{
     felter_abort, felter_claim, felter_commit, felter_heartbeat, felter_next_id, felter_positions,
     felter_put, felter_shares, felter_write,
+};
+pub use exports::raw::{
+    felter_load_body, felter_raw_lapped_count, felter_receive_next, felter_subscribe_raw,
+    felter_validate,
 };
 pub use exports::reading::{felter_counters_reader, felter_reader_value};
 pub use exports::sharing::{felter_free, felter_split};

@@ -1,13 +1,13 @@
 //! A producer in a handle.
 ghost use Rattle.std.specs.Prelude.{◌≡◌, IfErr, IfOk, OnOk};
 ghost use Rattle.ring_layout.specs.declared.message.ClaimState.TheVariants.{Aborted, Committed};
-ghost use Rattle.ring_c.specs.Producing.{Claimed, Closes, Counted, Drew, HeardBeat, IsApart, IsWhole, Positioned, Put, Settled, Splits, TakesIn, Wrote};
+ghost use Rattle.ring_c.specs.Producing.{closing, Claimed, Counted, Drew, HeardBeat, IsApart, IsWhole, Positioned, Put, Settled, Splits, TakesIn, Wrote};
 
-use crate::code::{
-    CLAIM_OPEN, DONE, NO_CLAIM, NO_SHARES, OTHER_RING, OUT_OF_MEMORY, PUT_RANGE, WRONG_HANDLE,
-};
+use crate::claims::{abort_all, abort_in, claim_alone, claim_many, commit_in, put_in};
+use crate::code::{DONE, NO_SHARES, OTHER_RING, OUT_OF_MEMORY, WRONG_HANDLE};
 use crate::ring::AnyRing;
 use ring_rings::{Claim, Producer};
+use std::alloc::Global;
 use std::marker::Model;
 use std::sync::Arc;
 
@@ -16,8 +16,8 @@ use std::sync::Arc;
 pub struct ProducerSide {
     pub(crate) ring: AnyRing,
     pub(crate) producer: Producer,
-    /// The claim that is open, if one is.
-    pub(crate) claim: Option<Claim>,
+    /// The claims that are open, the oldest first.
+    pub(crate) claims: Vec<Claim>,
 }
 
 impl Model for ProducerSide {
@@ -32,10 +32,10 @@ impl Model for ProducerSide {
       capacity = capacity_in a.ring;
       view =
           view_of a.producer;
-      claim = a.claim;
+      claims = a.claims.items;
     } };
 
-    ghost invariant = { λ a. IsSide a.ring a.producer a.claim };
+    ghost invariant = { λ a. IsSide a.ring a.producer a.claims.items };
 }
 
 impl ProducerSide {
@@ -55,98 +55,81 @@ impl ProducerSide {
         }
     }
 
-    /// Claims room for a message, where no claim is open.
+    /// Claims room for a message, and keeps the claim.
     pub(crate) fn claim(&mut self, type_id: i32, len: usize, number: &mut u64) -> i32
         ensures { Claimed type_id len number.old number.new self.old self.new result }
     {
-        if let Some(_) = &self.claim {
-            return CLAIM_OPEN;
-        }
         match &self.ring {
-            AnyRing::Many(ring) => match ring.claim_once(&mut self.producer, type_id, len) {
-                Ok(claim) => {
-                    *number = claim.place();
-                    self.claim = Some(claim);
-                    DONE
-                }
-                Err(fault) => fault.code(),
-            },
-            AnyRing::One(ring) => match ring.claim(&mut self.producer, type_id, len) {
-                Ok(claim) => {
-                    *number = claim.place();
-                    self.claim = Some(claim);
-                    DONE
-                }
-                Err(fault) => fault.code(),
-            },
+            AnyRing::Many(ring) => claim_many(
+                ring,
+                &mut self.producer,
+                &mut self.claims,
+                type_id,
+                len,
+                number,
+            ),
+            AnyRing::One(ring) => claim_alone(
+                ring,
+                &mut self.producer,
+                &mut self.claims,
+                type_id,
+                len,
+                number,
+            ),
         }
     }
 
-    /// Puts bytes into the open claim.
+    /// Puts bytes into the open claim of this number.
     pub(crate) fn put(&mut self, number: u64, offset: usize, bytes: &[u8]) -> i32
         ensures { Put number offset bytes.now self.old self.new result }
     {
-        let Some(claim) = &mut self.claim else {
-            return NO_CLAIM;
-        };
-        if claim.place() != number {
-            return NO_CLAIM;
-        }
-        let put = match &self.ring {
-            AnyRing::Many(ring) => ring.put(&mut self.producer, claim, offset, bytes),
-            AnyRing::One(ring) => ring.put(&mut self.producer, claim, offset, bytes),
-        };
-        match put {
-            Ok(()) => DONE,
-            Err(_) => PUT_RANGE,
+        match &self.ring {
+            AnyRing::Many(ring) => put_in(
+                ring,
+                &mut self.producer,
+                &mut self.claims,
+                number,
+                offset,
+                bytes,
+            ),
+            AnyRing::One(ring) => put_in(
+                ring,
+                &mut self.producer,
+                &mut self.claims,
+                number,
+                offset,
+                bytes,
+            ),
         }
     }
 
-    /// Commits the open claim.
+    /// Commits the open claim of this number.
     pub(crate) fn commit(&mut self, number: u64) -> i32
         ensures { Settled Committed number self.old self.new result }
     {
-        let Some(claim) = self.claim.take() else {
-            return NO_CLAIM;
-        };
-        if claim.place() != number {
-            self.claim = Some(claim);
-            return NO_CLAIM;
-        }
         match &self.ring {
-            AnyRing::Many(ring) => ring.commit(&mut self.producer, claim),
-            AnyRing::One(ring) => ring.commit(&mut self.producer, claim),
+            AnyRing::Many(ring) => commit_in(ring, &mut self.producer, &mut self.claims, number),
+            AnyRing::One(ring) => commit_in(ring, &mut self.producer, &mut self.claims, number),
         }
-        DONE
     }
 
-    /// Aborts the open claim.
+    /// Aborts the open claim of this number.
     pub(crate) fn abort(&mut self, number: u64) -> i32
         ensures { Settled Aborted number self.old self.new result }
     {
-        let Some(claim) = self.claim.take() else {
-            return NO_CLAIM;
-        };
-        if claim.place() != number {
-            self.claim = Some(claim);
-            return NO_CLAIM;
-        }
         match &self.ring {
-            AnyRing::Many(ring) => ring.abort(&mut self.producer, claim),
-            AnyRing::One(ring) => ring.abort(&mut self.producer, claim),
+            AnyRing::Many(ring) => abort_in(ring, &mut self.producer, &mut self.claims, number),
+            AnyRing::One(ring) => abort_in(ring, &mut self.producer, &mut self.claims, number),
         }
-        DONE
     }
 
-    /// Aborts the open claim, if one is.
+    /// Aborts all open claims.
     pub(crate) fn abort_open(&mut self)
-        ensures { Closes self.old self.new }
+        ensures { self.new ≡ closing self.old }
     {
-        if let Some(claim) = self.claim.take() {
-            match &self.ring {
-                AnyRing::Many(ring) => ring.abort(&mut self.producer, claim),
-                AnyRing::One(ring) => ring.abort(&mut self.producer, claim),
-            }
+        match &self.ring {
+            AnyRing::Many(ring) => abort_all(ring, &mut self.producer, &mut self.claims),
+            AnyRing::One(ring) => abort_all(ring, &mut self.producer, &mut self.claims),
         }
     }
 
@@ -193,17 +176,14 @@ impl ProducerSide {
         DONE
     }
 
-    /// Makes another producer of the same ring, where no claim is open.
-    pub(crate) fn split(&mut self) -> Result<ProducerSide, i32>
+    /// Makes another producer of the same ring. Claims that are open stay this one's.
+    pub(crate) fn split(&mut self, alloc: Global) -> Result<ProducerSide, i32>
         ensures split { IfOk result (Splits self.old self.new) }
         ensures refused { IfErr result (λ code. (self.new ≡ self.old) × IsWhole self.old code) }
     {
         let AnyRing::Many(ring) = &self.ring else {
             return Err(WRONG_HANDLE);
         };
-        if self.claim.is_some() {
-            return Err(CLAIM_OPEN);
-        }
         let Ok(same) = Arc::try_clone(ring) else {
             return Err(OUT_OF_MEMORY);
         };
@@ -211,14 +191,13 @@ impl ProducerSide {
             Ok(producer) => Ok(ProducerSide {
                 ring: AnyRing::Many(same),
                 producer,
-                claim: None,
+                claims: Vec::new(alloc),
             }),
             Err(_) => Err(NO_SHARES),
         }
     }
 
-    /// Takes another producer of the same ring in, with its shares, where no claim of either is open. Else it comes
-    /// back.
+    /// Takes another producer of the same ring in, with its shares and its open claims. Else it comes back.
     pub(crate) fn join(&mut self, other: ProducerSide) -> Result<(), (i32, ProducerSide)>
         requires { (self.old.table ≡ other.table) × (self.old.capacity ≡ other.capacity) }
         ensures joined { OnOk result (TakesIn self.old other self.new) }
@@ -233,17 +212,21 @@ impl ProducerSide {
         if ring.capacity() != same.capacity() {
             return Err((OTHER_RING, other));
         }
-        if let Some(_) = &self.claim {
-            return Err((CLAIM_OPEN, other));
-        }
-        if let Some(_) = &other.claim {
-            return Err((CLAIM_OPEN, other));
-        }
         let ProducerSide {
-            ring: _,
+            ring: same,
             producer,
-            claim: _,
+            mut claims,
         } = other;
+        let Ok(()) = self.claims.append(&mut claims) else {
+            return Err((
+                OUT_OF_MEMORY,
+                ProducerSide {
+                    ring: same,
+                    producer,
+                    claims,
+                },
+            ));
+        };
         ring.join(&mut self.producer, producer);
         Ok(())
     }

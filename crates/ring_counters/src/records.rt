@@ -1,5 +1,6 @@
 //! The counters over vectors of records, and the queue of freed ids.
 pub(crate) mod bytes;
+mod freed;
 pub(crate) mod metadata;
 pub(crate) mod value;
 pub(crate) mod wanted;
@@ -14,10 +15,10 @@ ghost use Rattle.ring_counters.specs.Registry.{id_refusal_of, is_allocated, is_d
 ghost use Rattle.ring_counters.specs.Registry.{next_id, owned_ids, range_refusal_of, reclaimed_in, registered_id};
 ghost use Rattle.ring_counters.specs.Registry.{status_at, unused_id, with_value};
 ghost use Rattle.ring_counters.specs.Infos.{IsInfoOf, AreInfos};
-ghost use Rattle.ring_counters.specs.Kept.{last_deadline};
 
 use crate::fault::IdFault;
 use crate::info::CounterInfo;
+use crate::records::freed::{stays_in_order, take_freed};
 use crate::records::metadata::MetadataRecord;
 use crate::records::value::ValueRecord;
 use crate::records::wanted::Wanted;
@@ -95,43 +96,6 @@ fn fill(metadata: &mut MetadataRecord, values: &mut ValueRecord, wanted: Wanted<
     } = wanted;
     metadata.allocate(type_id, key, label);
     values.allocate(registration, owner);
-}
-
-/// Takes the id at this place out of the queue. The first one, which it mostly is, leaves without a look at which way
-/// is shorter.
-fn take_freed(freed: &mut VecDeque<u32>, at: usize) -> u32
-    requires { at < length freed.old.items }
-    ensures id { result ≡ slice_index freed.old.items at }
-    ensures items { freed.new.items ≡ remove freed.old.items at }
-    ensures capacity { deque_capacity freed.new ≡ deque_capacity freed.old }
-{
-    if at > 0 {
-        let Some(id) = freed.remove(at) else {
-            unreachable!()
-        };
-        return id;
-    }
-    let Some(id) = freed.pop_front() else {
-        unreachable!()
-    };
-    id
-}
-
-/// Whether the deadlines along the queue still never fall after one more with this deadline.
-fn stays_in_order(
-    in_order: bool,
-    freed: &VecDeque<u32>,
-    metadata: &[MetadataRecord],
-    deadline: u64,
-) -> bool
-    requires { (k : ℕ) → k < length freed.now.items → slice_index freed.now.items k < length metadata.now }
-    ensures { result ≡ true → 0 < length freed.now.items → (in_order ≡ true)
-        × (last_deadline metadata.now freed.now.items ≤ deadline) }
-{
-    match freed.back() {
-        Some(last) => in_order && metadata[*last as usize].deadline() <= deadline,
-        None => true,
-    }
 }
 
 impl Records {

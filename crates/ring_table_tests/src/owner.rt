@@ -1,4 +1,6 @@
 //! A ring of 128 bytes whose shares and consumer's part are in one seat, with steps that test what they need of it.
+mod finding;
+
 ghost use Rattle.std.specs.Prelude.{◌≡◌, ◌+◌, ◌%◌, ◌≤◌, ◌<◌, ◌==◌, [], pos, true, IfOk, IfSome};
 ghost use Rattle.std.specs.Slots.{slots_len, IsFull};
 ghost use Rattle.ring_layout.specs.Headers.{header, padding_type};
@@ -10,6 +12,7 @@ ghost use Rattle.ring_table.specs.ProducerSteps.{HasClaimAt, IsClaimable, IsOpen
 ghost use Rattle.ring_table.specs.ConsumerSteps.{FindsMessage, PassesPadding};
 ghost use Rattle.ring_table.specs.Seats.{IsSameSeat, IsSeatOf};
 
+use crate::owner::finding::{find_aborted, find_first, find_next};
 use atomic_table::Closed;
 use ring_layout::ring_buffer_descriptor::MAX_POSITION;
 use ring_layout::{fits, pad_and_span, word_index};
@@ -72,48 +75,6 @@ pub fn fresh_ring(alloc: Global) -> Result<(RingTable, RingSeat), AllocError>
     };
     let (table, seat) = open(alloc, key)?;
     Ok((table, seat))
-}
-
-/// Loads the header at the head, which is that of a message of 16 bytes.
-fn find_first(rt: &impl Abort, ring: &SharedRing, seat: &mut RingSeat, head: u64)
-    requires seat { IsSeatOf ring.now.table_id ring.now.key 128 seat.old }
-    requires consumes { seat.old.me.0.consumes ≡ true }
-    requires head { seat.old.me.0.consumer.head ≡ head }
-    requires nothing_cleared { seat.old.me.0.consumer.cleared ≡ head }
-    ensures seat { IsSameSeat seat.old seat.new }
-    ensures found { FindsMessage 128 head seat.old.me.0.consumer.taken seat.old.me.0 (header (pos 24) (pos 1)) 24
-        (pos 1) seat.new.me.0 }
-{
-    let header = load_first_header(ring, seat, 128, head);
-    assert!(rt; header == 0x0000_0001_0000_0018);
-}
-
-/// Loads the header at the head, which is that of an aborted record of 24 bytes.
-fn find_aborted(rt: &impl Abort, ring: &SharedRing, seat: &mut RingSeat, head: u64)
-    requires seat { IsSeatOf ring.now.table_id ring.now.key 128 seat.old }
-    requires consumes { seat.old.me.0.consumes ≡ true }
-    requires head { seat.old.me.0.consumer.head ≡ head }
-    requires nothing_cleared { seat.old.me.0.consumer.cleared ≡ head }
-    ensures seat { IsSameSeat seat.old seat.new }
-    ensures passed { PassesPadding 128 head seat.old.me.0.consumer.taken seat.old.me.0
-        (header (pos 24) padding_type) 24 seat.new.me.0 }
-{
-    let header = load_first_header(ring, seat, 128, head);
-    assert!(rt; header == 0xffff_ffff_0000_0018);
-}
-
-/// Loads the header where the read has come to, which is that of a message of 16 bytes.
-fn find_next(rt: &impl Abort, ring: &SharedRing, seat: &mut RingSeat, scan: u64)
-    requires seat { IsSeatOf ring.now.table_id ring.now.key 128 seat.old }
-    requires consumes { seat.old.me.0.consumes ≡ true }
-    requires scan { seat.old.me.0.consumer.scan ≡ scan }
-    requires near { scan < seat.old.me.0.consumer.head + 128 }
-    ensures seat { IsSameSeat seat.old seat.new }
-    ensures found { FindsMessage 128 scan seat.old.me.0.consumer.got seat.old.me.0 (header (pos 24) (pos 1)) 24
-        (pos 1) seat.new.me.0 }
-{
-    let header = load_next_header(ring, seat, 128, scan);
-    assert!(rt; header == 0x0000_0001_0000_0018);
 }
 
 #[tactic(auto, using(crate::proofs::TestLemmas::stays_seat))]

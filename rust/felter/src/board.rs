@@ -57,6 +57,27 @@ impl Transmitter {
         done(unsafe { raw::felter_subscribe(self.handle.raw(), handle.raw()) })?;
         Ok(Receiver { handle })
     }
+
+    /// Makes a raw receiver, which answers each record unread; else as [`subscribe`](Transmitter::subscribe).
+    ///
+    /// ```
+    /// let mut transmitter = felter::Transmitter::new(4096)?;
+    /// let mut receiver = transmitter.subscribe_raw()?;
+    /// transmitter.transmit(3, b"looked at")?;
+    /// let record = receiver.receive_next()?.expect("it was transmitted");
+    /// assert_eq!((record.type_id, record.len), (3, 9));
+    /// let mut body = vec![0; record.len];
+    /// receiver.load_body(&mut body)?;
+    /// assert!(receiver.validate()?);
+    /// assert_eq!(body, b"looked at");
+    /// # Ok::<(), felter::Error>(())
+    /// ```
+    pub fn subscribe_raw(&mut self) -> Result<RawReceiver, Error> {
+        let mut handle = Handle::empty();
+        // SAFETY: two handles, the second empty.
+        done(unsafe { raw::felter_subscribe_raw(self.handle.raw(), handle.raw()) })?;
+        Ok(RawReceiver { handle })
+    }
 }
 
 /// Receives what is transmitted on a board.
@@ -87,6 +108,70 @@ impl Receiver {
         let mut count = 0;
         // SAFETY: our handle, and a number of ours.
         done(unsafe { raw::felter_lapped_count(self.handle.raw(), &mut count) })?;
+        Ok(count)
+    }
+}
+
+/// What a raw receiver says of a record, whose body it has not read.
+#[derive(Clone, Copy, Debug, PartialEq, Eq)]
+pub struct RawRecord {
+    /// Its type id, at least 1.
+    pub type_id: i32,
+    /// How many bytes its body has.
+    pub len: usize,
+}
+
+/// Receives what is transmitted on a board, each record unread.
+#[derive(Debug)]
+pub struct RawReceiver {
+    handle: Handle,
+}
+
+impl RawReceiver {
+    /// Goes behind the next record, and says its type id and length; `None` where nothing is there yet.
+    ///
+    /// Errors: [`Error::Lapped`] where the transmitter overtook the receiver; the next call goes on with the record
+    /// that was transmitted last.
+    pub fn receive_next(&mut self) -> Result<Option<RawRecord>, Error> {
+        let (mut type_id, mut len, mut lapped) = (0, 0, 0);
+        // SAFETY: our handle, and three numbers of ours.
+        let code = unsafe { raw::felter_receive_next(self.handle.raw(), &mut type_id, &mut len, &mut lapped) };
+        match done(code) {
+            Ok(()) => Ok(Some(RawRecord { type_id, len })),
+            Err(Error::NoMessage) => Ok(None),
+            Err(Error::Lapped { .. }) => Err(Error::Lapped { count: lapped }),
+            Err(other) => Err(other),
+        }
+    }
+
+    /// Copies the body of the record that was answered last to the front of a buffer. The bytes may be those of another
+    /// record, unless [`validate`](RawReceiver::validate) then says true.
+    ///
+    /// Errors: [`Error::NoMessage`] where none was answered yet; [`Error::ShortBuffer`], whose `wanted` is 0: the
+    /// record says its length.
+    pub fn load_body(&mut self, buffer: &mut [u8]) -> Result<(), Error> {
+        // SAFETY: our handle, and a slice's pointer and length.
+        done(unsafe { raw::felter_load_body(self.handle.raw(), buffer.as_mut_ptr(), buffer.len()) })
+    }
+
+    /// Tests whether the record that was answered last was not yet overwritten. If so, each body of it that was loaded
+    /// before is the one that was transmitted.
+    ///
+    /// Errors: [`Error::NoMessage`] where none was answered yet.
+    pub fn validate(&mut self) -> Result<bool, Error> {
+        // SAFETY: our handle.
+        match done(unsafe { raw::felter_validate(self.handle.raw()) }) {
+            Ok(()) => Ok(true),
+            Err(Error::Lapped { .. }) => Ok(false),
+            Err(other) => Err(other),
+        }
+    }
+
+    /// How often [`receive_next`](RawReceiver::receive_next) answered that it was lapped.
+    pub fn lapped_count(&mut self) -> Result<u64, Error> {
+        let mut count = 0;
+        // SAFETY: our handle, and a number of ours.
+        done(unsafe { raw::felter_raw_lapped_count(self.handle.raw(), &mut count) })?;
         Ok(count)
     }
 }

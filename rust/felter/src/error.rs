@@ -52,8 +52,6 @@ pub enum Error {
     WrongHandle,
     /// The handle that was to be filled is not empty. No call of this crate brings it about.
     HandleInUse,
-    /// A claim of the producer is open.
-    ClaimOpen,
     /// No claim of this number is open.
     NoClaim,
     /// Nothing is there yet. This crate answers `None` in its place.
@@ -97,7 +95,6 @@ impl Error {
             Error::NoHandle => 100,
             Error::WrongHandle => 101,
             Error::HandleInUse => 102,
-            Error::ClaimOpen => 103,
             Error::NoClaim => 104,
             Error::NoMessage => 105,
             Error::ShortBuffer { .. } => 106,
@@ -109,7 +106,7 @@ impl Error {
 
     /// The error of a number that is not 0.
     pub(crate) fn of(number: i32) -> Error {
-        const KNOWN: [Error; 26] = [
+        const KNOWN: [Error; 25] = [
             Error::BadCapacity,
             Error::BadStart,
             Error::OutOfMemory,
@@ -131,7 +128,6 @@ impl Error {
             Error::NoHandle,
             Error::WrongHandle,
             Error::HandleInUse,
-            Error::ClaimOpen,
             Error::NoClaim,
             Error::NoMessage,
             Error::BadMoment,

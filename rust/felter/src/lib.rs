@@ -39,8 +39,10 @@ mod message;
 mod raw;
 mod ring;
 
-pub use board::{Receiver, Transmitter};
+pub use board::{RawReceiver, RawRecord, Receiver, Transmitter};
 pub use counters::{Counters, Reader, MAX_KEY};
 pub use error::{Error, Refused};
 pub use message::{Batch, Message};
-pub use ring::{many_to_one, many_to_one_at, one_to_one, one_to_one_at, Claim, Consumer, Positions, Producer};
+pub use ring::{
+    many_to_one, many_to_one_at, one_to_one, one_to_one_at, Claim, Consumer, KeptClaim, Positions, Producer,
+};

@@ -70,6 +70,11 @@ extern "C" {
         room: usize,
     ) -> i32;
     pub(crate) fn felter_lapped_count(receiver: *mut Raw, count: *mut u64) -> i32;
+    pub(crate) fn felter_subscribe_raw(transmitter: *mut Raw, receiver: *mut Raw) -> i32;
+    pub(crate) fn felter_receive_next(receiver: *mut Raw, type_id: *mut i32, len: *mut usize, lapped: *mut u64) -> i32;
+    pub(crate) fn felter_load_body(receiver: *mut Raw, buffer: *mut u8, room: usize) -> i32;
+    pub(crate) fn felter_validate(receiver: *mut Raw) -> i32;
+    pub(crate) fn felter_raw_lapped_count(receiver: *mut Raw, count: *mut u64) -> i32;
 }
 
 // Counters.

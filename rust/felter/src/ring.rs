@@ -73,7 +73,7 @@ impl Producer {
 
     /// Claims room for a message of `len` bytes, which are 0 until they are put. The consumer passes no open claim.
     ///
-    /// Errors: as [`write`](Producer::write); [`Error::ClaimOpen`] where a claim was forgotten (`mem::forget`).
+    /// Errors: as [`write`](Producer::write); [`Error::OutOfMemory`], before anything is tried.
     ///
     /// ```
     /// let (mut producer, mut consumer) = felter::many_to_one(128)?;
@@ -88,7 +88,8 @@ impl Producer {
     /// # Ok::<(), felter::Error>(())
     /// ```
     ///
-    /// A claim does not outlive its producer, which can do nothing else meanwhile:
+    /// A claim does not outlive its producer, which can do nothing else meanwhile ([`keep`](Claim::keep) it to have
+    /// several open at once):
     ///
     /// ```compile_fail,E0499
     /// let (mut producer, _consumer) = felter::many_to_one(128).expect("a power of two");
@@ -103,10 +104,9 @@ impl Producer {
         Ok(Claim { producer: self, number, is_open: true })
     }
 
-    /// Makes another producer of a many-to-one ring, with one share.
+    /// Makes another producer of a many-to-one ring, with one share. Claims that are kept stay this one's.
     ///
-    /// Errors: [`Error::NoShares`], [`Error::OutOfMemory`]; [`Error::WrongHandle`] of a one-to-one ring;
-    /// [`Error::ClaimOpen`] where a claim was forgotten.
+    /// Errors: [`Error::NoShares`], [`Error::OutOfMemory`]; [`Error::WrongHandle`] of a one-to-one ring.
     pub fn split(&mut self) -> Result<Producer, Error> {
         let mut other = Handle::empty();
         // SAFETY: two handles, the second empty.
@@ -114,9 +114,10 @@ impl Producer {
         Ok(Producer { handle: other, ring: self.ring })
     }
 
-    /// Takes another producer of the same ring in, with its shares.
+    /// Takes another producer of the same ring in, with its shares and the claims of it that are kept.
     ///
-    /// Errors: [`Error::OtherRing`], [`Error::ClaimOpen`]; both producers are then as they were.
+    /// Errors: [`Error::OtherRing`], [`Error::OutOfMemory`], and [`Error::WrongHandle`] of a one-to-one ring; both
+    /// producers are then as they were.
     pub fn join(&mut self, mut other: Producer) -> Result<(), Refused<Producer>> {
         let joined = self.ring.must_be(other.ring).and_then(|()| {
             // SAFETY: two handles of one ring, as their numbers tell.
@@ -158,7 +159,8 @@ impl Producer {
     }
 }
 
-/// Room in a ring for one message. It is aborted where it is dropped: the consumer then passes it.
+/// Room in a ring for one message. It is aborted where it is dropped: the consumer then passes it. One that is
+/// forgotten (`mem::forget`) stays open until its producer is dropped.
 #[derive(Debug)]
 pub struct Claim<'a> {
     producer: &'a mut Producer,
@@ -182,6 +184,76 @@ impl Claim<'_> {
         let code = unsafe { raw::felter_commit(self.producer.handle.raw(), self.number) };
         debug_assert_eq!(code, raw::OK);
         self.is_open = false;
+    }
+
+    /// Keeps it open, and gives its producer back, so that several can be open at once.
+    ///
+    /// ```
+    /// let (mut producer, mut consumer) = felter::many_to_one(256)?;
+    /// let first = producer.claim(1, 2)?.keep();
+    /// let second = producer.claim(2, 2)?.keep();
+    /// second.put(&mut producer, 0, b"22")?;
+    /// first.put(&mut producer, 0, b"11")?;
+    /// second.commit(&mut producer)?;
+    /// let mut room = [0; 32];
+    /// assert_eq!(consumer.read(&mut room)?, None);
+    /// first.commit(&mut producer)?;
+    /// assert_eq!(consumer.read(&mut room)?.map(|message| message.body), Some(&b"11"[..]));
+    /// assert_eq!(consumer.read(&mut room)?.map(|message| message.body), Some(&b"22"[..]));
+    /// # Ok::<(), felter::Error>(())
+    /// ```
+    pub fn keep(mut self) -> KeptClaim {
+        self.is_open = false;
+        KeptClaim { number: self.number, ring: self.producer.ring }
+    }
+}
+
+/// A claim that stays open until it is committed or aborted, or its producer is dropped, which aborts it. The consumer
+/// does not pass it before.
+///
+/// Its calls take its producer, or the one that took that producer in ([`Producer::join`]). Another producer of its
+/// ring refuses it with [`Error::NoClaim`], and one of another ring with [`Error::OtherRing`].
+#[derive(Debug)]
+#[must_use = "the consumer does not pass it before it is settled"]
+pub struct KeptClaim {
+    number: u64,
+    ring: Number,
+}
+
+impl KeptClaim {
+    /// Puts bytes into the message, from a byte on.
+    ///
+    /// Errors: [`Error::PutRange`], and those of another producer.
+    pub fn put(&self, producer: &mut Producer, offset: usize, bytes: &[u8]) -> Result<(), Error> {
+        self.ring.must_be(producer.ring)?;
+        let raw = producer.handle.raw();
+        // SAFETY: a producer's handle, and a slice's pointer and length.
+        done(unsafe { raw::felter_put(raw, self.number, offset, bytes.as_ptr(), bytes.len()) })
+    }
+
+    /// Shows the message to the consumer.
+    ///
+    /// Errors: those of another producer; the claim then comes back.
+    pub fn commit(self, producer: &mut Producer) -> Result<(), Refused<KeptClaim>> {
+        // SAFETY: a producer's handle.
+        self.settle(producer, |raw, number| unsafe { raw::felter_commit(raw, number) })
+    }
+
+    /// Lets the consumer pass it.
+    ///
+    /// Errors: those of another producer; the claim then comes back.
+    pub fn abort(self, producer: &mut Producer) -> Result<(), Refused<KeptClaim>> {
+        // SAFETY: a producer's handle.
+        self.settle(producer, |raw, number| unsafe { raw::felter_abort(raw, number) })
+    }
+
+    fn settle(
+        self,
+        producer: &mut Producer,
+        call: impl FnOnce(*mut raw::Raw, u64) -> i32,
+    ) -> Result<(), Refused<KeptClaim>> {
+        let settled = self.ring.must_be(producer.ring).and_then(|()| done(call(producer.handle.raw(), self.number)));
+        settled.map_err(|reason| Refused { reason, back: self })
     }
 }
 

@@ -1,7 +1,7 @@
 //! Boards on threads, from safe code.
 #![forbid(unsafe_code)]
 
-use felter::{Error, Message, Receiver, Transmitter};
+use felter::{Error, Message, RawRecord, Receiver, Transmitter};
 use std::thread;
 
 const CAPACITY: u32 = 4096;
@@ -77,4 +77,26 @@ fn refusals_have_their_numbers_and_change_nothing() {
     assert_eq!((lapped.number(), lapped.to_string().as_str()), (13, "13 Lapped 1"));
     assert_eq!(receiver.receive(&mut room), Ok(Some(Message { type_id: 16, body: &[6; 26] })));
     assert_eq!(receiver.receive(&mut room), Ok(None));
+}
+
+#[test]
+fn a_raw_receiver_loads_and_validates_until_it_is_lapped() {
+    let mut transmitter = Transmitter::new(256).unwrap();
+    let mut receiver = transmitter.subscribe_raw().unwrap();
+    let mut room = [0xEE; 16];
+    assert_eq!(receiver.receive_next(), Ok(None));
+    assert_eq!(receiver.load_body(&mut room), Err(Error::NoMessage));
+    assert_eq!(receiver.validate(), Err(Error::NoMessage));
+    transmitter.transmit(3, b"body").unwrap();
+    assert_eq!(receiver.receive_next(), Ok(Some(RawRecord { type_id: 3, len: 4 })));
+    assert_eq!(receiver.load_body(&mut room[..3]), Err(Error::ShortBuffer { wanted: 0 }));
+    receiver.load_body(&mut room).unwrap();
+    assert_eq!((receiver.validate(), &room[..5]), (Ok(true), &b"body\xEE"[..]));
+    for _ in 0..16 {
+        transmitter.transmit(4, b"sixteen bytes...").unwrap();
+    }
+    assert_eq!(receiver.validate(), Ok(false));
+    assert_eq!(receiver.receive_next(), Err(Error::Lapped { count: 1 }));
+    assert_eq!(receiver.lapped_count(), Ok(1));
+    assert_eq!(receiver.receive_next(), Ok(Some(RawRecord { type_id: 4, len: 16 })));
 }

@@ -163,3 +163,40 @@ fn batches_have_all_messages_in_order() {
     let batch: Vec<_> = consumer.read_batch(1, &mut room[..56]).unwrap().collect();
     assert_eq!(batch, [Message { type_id: 5, body: &[1; 33] }]);
 }
+
+#[test]
+fn claims_that_are_kept_are_settled_in_any_order_by_the_producer_that_has_them() {
+    let (mut producer, mut consumer) = many_to_one(512).unwrap();
+    let (mut foreign, _of_foreign) = many_to_one(512).unwrap();
+    let mut other = producer.split().unwrap();
+    let first = producer.claim(1, 1).unwrap().keep();
+    let second = other.claim(2, 1).unwrap().keep();
+    let third = producer.claim(3, 1).unwrap().keep();
+    drop(producer.claim(4, 1).unwrap());
+    assert_eq!(second.put(&mut producer, 0, b"b"), Err(Error::NoClaim));
+    assert_eq!(first.put(&mut foreign, 0, b"a"), Err(Error::OtherRing));
+    assert_eq!(first.put(&mut producer, 0, b"ab"), Err(Error::PutRange));
+    let refused = second.commit(&mut producer).unwrap_err();
+    assert_eq!(refused.reason, Error::NoClaim);
+    let second = refused.back;
+    let refused = third.abort(&mut foreign).unwrap_err();
+    assert_eq!(refused.reason, Error::OtherRing);
+    refused.back.abort(&mut producer).unwrap();
+    producer.join(other).unwrap();
+    second.put(&mut producer, 0, b"b").unwrap();
+    second.commit(&mut producer).unwrap();
+    let mut room = [0; 64];
+    assert_eq!(consumer.read(&mut room), Ok(None));
+    first.put(&mut producer, 0, b"a").unwrap();
+    first.commit(&mut producer).unwrap();
+    for (type_id, body) in [(1, b"a"), (2, b"b")] {
+        assert_eq!(consumer.read(&mut room), Ok(Some(Message { type_id, body })));
+    }
+    // What is still kept is aborted with its producer.
+    let _kept = producer.claim(5, 1).unwrap().keep();
+    let mut last = producer.split().unwrap();
+    last.write(6, b"last").unwrap();
+    assert_eq!(consumer.read(&mut room), Ok(None));
+    drop(producer);
+    assert_eq!(consumer.read(&mut room), Ok(Some(Message { type_id: 6, body: b"last" })));
+}

@@ -7,7 +7,7 @@ use crate::held::Held;
 use std::alloc::Global;
 use std::mem;
 
-/// Takes another producer of the same ring in, with its shares, and empties its handle.
+/// Takes another producer of the same ring in, with its shares and its open claims, and empties its handle.
 #[unsafe(no_mangle)]
 pub extern "C" fn felter_join(alloc: Global, producer: &mut Handle, other: &mut Handle) -> i32
     requires { AreOfOneRing producer.old.held other.old.held }

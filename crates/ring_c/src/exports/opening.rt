@@ -38,7 +38,7 @@ fn box_both(
     let one = Held::Producer(ProducerSide {
         ring,
         producer,
-        claim: None,
+        claims: Vec::new(alloc),
     });
     let two = Held::Consumer(ConsumerSide {
         ring: same,

@@ -34,7 +34,7 @@ pub extern "C" fn felter_claim(
     work_on!(producer, alloc, Producer(side) => side.claim(type_id, len, claim))
 }
 
-/// Puts bytes into the open claim, from the byte `offset` on.
+/// Puts bytes into an open claim, from the byte `offset` on.
 #[unsafe(no_mangle)]
 pub extern "C" fn felter_put(
     alloc: Global,
@@ -48,7 +48,7 @@ pub extern "C" fn felter_put(
     work_on!(producer, alloc, Producer(side) => side.put(claim, offset, bytes))
 }
 
-/// Settles the open claim: the consumer is shown its message.
+/// Settles an open claim: the consumer is shown its message.
 #[unsafe(no_mangle)]
 pub extern "C" fn felter_commit(alloc: Global, producer: &mut Handle, claim: u64) -> i32
     ensures { Uses a_producer (Settled Committed claim) producer.old.held producer.new.held result }
@@ -56,7 +56,7 @@ pub extern "C" fn felter_commit(alloc: Global, producer: &mut Handle, claim: u64
     work_on!(producer, alloc, Producer(side) => side.commit(claim))
 }
 
-/// Settles the open claim: the consumer passes it.
+/// Settles an open claim: the consumer passes it.
 #[unsafe(no_mangle)]
 pub extern "C" fn felter_abort(alloc: Global, producer: &mut Handle, claim: u64) -> i32
     ensures { Uses a_producer (Settled Aborted claim) producer.old.held producer.new.held result }

@@ -15,10 +15,10 @@ fn split_off(alloc: Global, producer: &mut Handle, other: &mut Handle) -> i32
     requires { other.old.held ≡ None }
     ensures { Gives a_producer a_producer Splits IsWhole producer.old.held producer.new.held other.new.held result }
 {
-    make_into!(producer, alloc, Producer(side) => side.split(), other, Producer)
+    make_into!(producer, alloc, Producer(side) => side.split(alloc), other, Producer)
 }
 
-/// Makes another producer of the same ring, with one share.
+/// Makes another producer of the same ring, with one share. Claims that are open stay the first one's.
 #[unsafe(no_mangle)]
 pub extern "C" fn felter_split(alloc: Global, producer: &mut Handle, other: &mut Handle) -> i32
     ensures { GivesInto a_producer a_producer Splits IsWhole producer.old.held other.old.held producer.new.held
@@ -30,7 +30,7 @@ pub extern "C" fn felter_split(alloc: Global, producer: &mut Handle, other: &mut
     split_off(alloc, producer, other)
 }
 
-/// Aborts the open claim of what is to be let go.
+/// Aborts the open claims of what is to be let go.
 fn close(held: &mut Held)
     ensures { ClosesHeld held.old held.new }
 {
@@ -39,7 +39,7 @@ fn close(held: &mut Held)
     }
 }
 
-/// Lets go of what a handle stands for, and empties it. An open claim is aborted.
+/// Lets go of what a handle stands for, and empties it. Open claims are aborted.
 #[unsafe(no_mangle)]
 pub extern "C" fn felter_free(alloc: Global, handle: &mut Handle)
     ensures { handle.new.held ≡ None }
