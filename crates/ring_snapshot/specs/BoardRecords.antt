@@ -94,9 +94,13 @@ listed_from b position =
 abbrev pub lap_of : ℕ → ℕ → ℕ
 lap_of C latest = latest - latest % C
 
--- the begin of the running lap, or the last record where the intent is more than the buffer beyond that
+-- the intent is not beyond the buffer's end behind the begin of the running lap, so nothing of the lap is overwritten
+abbrev pub is_lap_whole : ℕ → ℕ → ℕ → Bool
+is_lap_whole C intent latest = nat_le intent (lap_of C latest + C)
+
+-- the begin of the running lap where the lap is whole, and else the last record
 abbrev pub first_whole : ℕ → ℕ → ℕ → ℕ
-first_whole C intent latest = let lap = lap_of C latest in if nat_le intent (lap + C) then lap else latest
+first_whole C intent latest = if is_lap_whole C intent latest then lap_of C latest else latest
 
 -- what is wrong with the positions, in the order of the tests
 abbrev pub positions_finding : ℕ → ℕ → ℕ → ℕ → Option BoardFinding

@@ -43,7 +43,7 @@ impl<'a> BoardSnapshot<'a> {
     ghost use Rattle.ring_board.specs.Refusals.{IsRefusedBy};
     ghost use Rattle.ring_snapshot.specs.declared.board_finding.BoardFinding.TheVariants.{BadSize};
     ghost use Rattle.ring_snapshot.specs.Listing.{up_to_eight};
-    ghost use Rattle.ring_snapshot.specs.BoardRecords.{intent_in, tail_in, latest_in, records_left, listing, listed_from, first_whole, positions_finding, from_finding, HaveTransmitted, Begins, lap_of, transmitted_from};
+    ghost use Rattle.ring_snapshot.specs.BoardRecords.{intent_in, tail_in, latest_in, records_left, listing, listed_from, first_whole, is_lap_whole, positions_finding, from_finding, HaveTransmitted, Begins, lap_of, transmitted_from};
 
     /// Takes the words of a board. `BadSize` where no board has so many.
     pub fn new(words: &'a [u64]) -> Result<Self, BoardFinding>
@@ -92,6 +92,15 @@ impl<'a> BoardSnapshot<'a> {
         self.words[self.capacity as usize / 8 + LATEST_COUNTER_WORD]
     }
 
+    /// Tests whether the running lap is there from its begin on: the intent has overwritten none of it.
+    pub fn is_lap_whole(&self) -> bool
+        ensures { result ≡ is_lap_whole self.now.capacity (intent_in self.now) (latest_in self.now) }
+    {
+        let latest = self.latest();
+        let lap = latest - byte_index(self.capacity, latest);
+        self.intent().saturating_sub(lap) <= u64::from(self.capacity)
+    }
+
     /// The records of the running lap; the last one alone, where the intent has begun to overwrite the first of them.
     /// It refuses positions that make no sense, in this order: `UnalignedPosition`, `TailBeforeLatest`,
     /// `IntentBeforeTail`, `TailTooFar`, `IntentTooFar`.
@@ -110,7 +119,7 @@ impl<'a> BoardSnapshot<'a> {
         let (intent, tail, latest) = (self.intent(), self.tail(), self.latest());
         self.check_positions(intent, tail, latest)?;
         let lap = latest - byte_index(self.capacity, latest);
-        let whole = intent - lap <= u64::from(self.capacity);
+        let whole = self.is_lap_whole();
         let first = if whole { lap } else { latest };
         Ok(self.listing(intent, tail, latest, first))
     }

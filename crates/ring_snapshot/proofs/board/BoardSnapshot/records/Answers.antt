@@ -1,5 +1,6 @@
-use Rattle.std.proofs.Common.{rules, ◌≡◌, ℕ, ◌%◌, ap, ◌∙◌, arith}
-use Rattle.ring_snapshot.specs.BoardRecords.{latest_in, lap_of}
+use Rattle.std.proofs.Common.{rules, ◌≡◌, ℕ, ◌+◌, ◌%◌, true≢false, sym, ap, ◌∙◌, arith}
+use Rattle.std.proofs.lemmas.Bool.{le-leb}
+use Rattle.ring_snapshot.specs.BoardRecords.{intent_in, latest_in, lap_of}
 use Rattle.ring_snapshot.proofs.ClosedLemmas.{never_refused, closed_listing, at_rest, lap_near, lap_begins}
 use Rattle.ring_board.proofs.OpeningLemmas.{capacity_whole}
 use Rattle.ring_layout.proofs.Laps.{mod_aligned}
@@ -40,10 +41,7 @@ returns-clause-exact c = λ sent h.
     let m : c.latest-latest.result % C ≡ latest_in b % C = ap (λ x. x % C) la in
     let first : c.if-whole.first ≡ L = elim c.if-whole.branch as (λ _. c.if-whole.first ≡ L) [
       | then-whole w ↦ omega (arith, w.first-is, bi, la, m)
-      | else-whole w ↦ absurd (let f = w.if-whole.false in let fr = c.from.ensures in
-          first_of (
-            omega (arith, f, fr, bi, la, m, it, tl, rest, near),
-            grind (arith, f, fr, bi, la, m, it, tl, rest, near),
-          ))
+      | else-whole w ↦ absurd (true≢false (sym (le-leb (intent_in b) (L + C) (omega (arith, rest, near)))
+          ∙ sym c.is_lap_whole-whole.ensures ∙ w.if-whole.false))
     ] in
     c.listing.ensures ∙ closed_listing C b.lawful b.words.now sent h L begins _ _ _ _ it tl la first near
