@@ -76,6 +76,31 @@ fn run_service<R: Threads + Wait + Sync>(
     )
 }
 
+/// Runs callers, conductor and monitor, each on a thread of its own, until the callers are done.
+fn run_all<R: Threads + Wait + Sync>(
+    rt: &R,
+    on: &Shared,
+    callers: Callers,
+    conductor: Conductor,
+    reader: ValueReader,
+) -> (Callers, (Conductor, (ValueReader, bool)))
+    requires { AreCallersOf on.now callers × IsConductorAt on.now conductor × IsReaderOf on.now.values reader }
+    ensures { AreCallersOf on.now result.0 × IsConductorAt on.now result.1.0
+        × IsReaderOf on.now.values result.1.1.0 }
+{
+    join(
+        rt,
+        move || -> Callers
+            requires { AreCallersOf on.now callers }
+            ensures { AreCallersOf on.entry.now result }
+        { run_callers(rt, on, callers) },
+        move || -> (Conductor, (ValueReader, bool))
+            requires { IsConductorAt on.now conductor × IsReaderOf on.now.values reader }
+            ensures { IsConductorAt on.entry.now result.0 × IsReaderOf on.entry.now.values result.1.0 }
+        { run_service(rt, on, conductor, reader) },
+    )
+}
+
 /// Prints the client's counter by its label, with its last value.
 fn print_counter(rt: &impl Print, label: &str, counters: &[CounterInfo]) -> io::Result<()> {
     let found = counters
@@ -112,20 +137,9 @@ fn main(rt: HostRuntime) -> anyhow::Result<()> {
         values,
         stop,
     };
-    let ((one, two), (mut conductor, (reader, saw_fall))) = {
-        let (rt, on) = (&rt, &shared);
-        join(
-            rt,
-            move || -> Callers
-                requires { AreCallersOf on.now callers }
-                ensures { AreCallersOf on.entry.now result }
-            { run_callers(rt, on, callers) },
-            move || -> (Conductor, (ValueReader, bool))
-                requires { IsConductorAt on.now conductor × IsReaderOf on.now.values reader }
-                ensures { IsConductorAt on.entry.now result.0 × IsReaderOf on.entry.now.values result.1.0 }
-            { run_service(rt, on, conductor, reader) },
-        )
-    };
+    let ((one, two), (mut conductor, (reader, saw_fall))) = run_all(
+        &rt, &shared, callers, conductor, reader,
+    );
 
     // All seats are taken back, and then the conductor can finish.
     let Shared {
