@@ -42,6 +42,7 @@ reclaimed c =
 pub invariant_of-self : goal.invariant_of-self
 invariant_of-self c =
     let s = shows c.self.view_is c.self.invariant in
+    let is = reclaimed (goal.at.invariant_of-self c).After-push_back_reserved in
     let freed : List ℕ = c.self.inside.freed.items in
     let last : ℕ = get_or freed (length freed - 1) 0 in
     let same : deadline_of (get_or c.deref.result.now last unused_metadata).status
@@ -54,17 +55,18 @@ invariant_of-self c =
     λ o some. (let h = c.stays_in_order-self-inside.ensures o
     some in (h.0, omega (arith, h.1, same, c.from.ensures))) in
     let kept = reclaimed_kept s _ c.requires.allocated _ _ c.args.now
-    c.stays_in_order-self-inside.result still (reclaimed c) c.push_back_reserved.ensures.items in (
+    c.stays_in_order-self-inside.result still is c.push_back_reserved.ensures.items in (
       kept.0,
       kept_room _ _ _ _ _ c.push_back_reserved.ensures.capacity kept.1,
       flags_stored _ _ c.self.invariant.2 _ _ _
-          (sym (ap (λ (m : Metadata). is_allocated m.status) (reclaimed c))),
+          (sym (ap (λ (m : Metadata). is_allocated m.status) is)),
     )
 
 pub returns : goal.returns
 returns c =
     let s = shows c.self.view_is c.self.invariant in
-    reclaimed_shown s _ c.requires.allocated _ _ c.args.now (reclaimed c) c.push_back_reserved.ensures.items
+    let is = reclaimed (goal.at.returns c).After-push_back_reserved in
+    reclaimed_shown s _ c.requires.allocated _ _ c.args.now is c.push_back_reserved.ensures.items
 
 pub stays_in_order-self-inside-requires : goal.stays_in_order-self-inside-requires
 stays_in_order-self-inside-requires c =
