@@ -8,7 +8,7 @@ use Rattle.std.proofs.lemmas.List.{get_or_default, length-replicate}
 use Rattle.std.proofs.lemmas.List.Sums.{position_or_len_is}
 use Rattle.ring_counters.specs.Counter.{Status, Unused, Allocated, Reclaimed, Metadata, Values, Counter, unused_metadata, unused_values, deadline_of}
 use Rattle.ring_counters.specs.Registry.{Registry, count_of, counter_at, status_at, is_allocated, is_reclaimed, is_due, unused_id, next_id, or_else, without, allocated_in, reclaimed_in, with_value, fresh_registry}
-use Rattle.ring_counters.specs.Kept.{counters_of, deadline_at, IsKept}
+use Rattle.ring_counters.specs.Kept.{counters_of, deadline_at, live_flags, IsKept}
 use Rattle.ring_counters.proofs.QueueLemmas.{absent_from_status, at, counter, counters_of-at, counters_of-replicate, counters_of-set, counters_of-set_metadata, counters_of-set_values, first_found, first_is_least, inside_from_status, length-counters_of, none_found, reclaimed_at, used_from_allocated, used_from_reclaimed, without_absent}
 use Rattle.ring_counters.proofs.KeptLemmas.{kept_begun, kept_changed, kept_fresh, kept_reclaimed, kept_reused, room_for_one, unused_id-kept}
 
@@ -23,8 +23,15 @@ pub record Shows (r : Registry) (ms : List Metadata) (vs : List Values) (queue :
   pub same : length vs ≡ length ms
   pub kept : IsKept (registry ms vs queue timeout) room used ordered
 
-module _ (r : Registry) (ms : List Metadata) (vs : List Values) (queue : List ℕ) (timeout room used : ℕ)
-    (ordered : Bool) (s : Shows r ms vs queue timeout room used ordered) where
+-- of opened records, by what they are and the first two parts of their invariant
+pub shows : {r : Registry} {ms : List Metadata} {vs : List Values} {queue : List ℕ} {timeout room used : ℕ}
+    {ordered : Bool} {live : List Bool} → registry ms vs queue timeout ≡ r
+    → (length vs ≡ length ms) × IsKept (registry ms vs queue timeout) room used ordered × (live ≡ live_flags ms)
+    → Shows r ms vs queue timeout room used ordered
+shows view invariant = record { view = view; same = invariant.0; kept = invariant.1 }
+
+module _ {r : Registry} {ms : List Metadata} {vs : List Values} {queue : List ℕ} {timeout room used : ℕ}
+    {ordered : Bool} (s : Shows r ms vs queue timeout room used ordered) where
   pub shown_kept : IsKept r room used ordered
   shown_kept = subst (λ (x : Registry). IsKept x room used ordered) s.view s.kept
 
@@ -236,24 +243,22 @@ later_not_due now (Reclaimed d) t r e h =
     let after : now < d = leb-false d now e in not_due_from_deadline now t (omega arith)
 
 -- a freed id is that of a reclaimed counter
-module _ (r : Registry) (ms : List Metadata) (vs : List Values) (queue : List ℕ) (timeout room used : ℕ)
-    (ordered : Bool) (s : Shows r ms vs queue timeout room used ordered) (i id : ℕ) (less : i < length queue)
-    (is : id ≡ get_or queue i 0) where
+module _ {r : Registry} {ms : List Metadata} {vs : List Values} {queue : List ℕ} {timeout room used : ℕ}
+    {ordered : Bool} (s : Shows r ms vs queue timeout room used ordered) (i id : ℕ) (less : i < length r.freed)
+    (read : id ≡ get_or queue i id) where
   queued : id ≡ get_or r.freed i 0
-  queued = is ∙ ap (λ l. get_or l i 0) (shown_queue r ms vs queue timeout room used ordered s)
+  queued = read ∙ ap (λ l. get_or l i id) (shown_queue s) ∙ get_or_default r.freed i id 0 less
 
   pub queued_reclaimed : is_reclaimed (status_at r id) ≡ true
   queued_reclaimed =
       ap (λ k. is_reclaimed (status_at r k)) queued
-      ∙ reclaimed_at r.counters r.freed i (omega
-      (arith, ap length (shown_queue r ms vs queue timeout room used ordered s)))
-      (shown_kept r ms vs queue timeout room used ordered s).reclaimed
+      ∙ reclaimed_at r.counters r.freed i less (shown_kept s).reclaimed
 
   pub queued_inside : id < length ms
   queued_inside =
       omega (
         arith,
-        shown_size r ms vs queue timeout room used ordered s,
+        shown_size s,
         inside_from_status r.counters id
             (used_from_reclaimed (status_at r id) queued_reclaimed),
       )
@@ -262,7 +267,7 @@ module _ (r : Registry) (ms : List Metadata) (vs : List Values) (queue : List �
     queued_status : m.status ≡ status_at r (get_or r.freed i 0)
     queued_status =
         ap (λ (x : Metadata). x.status) (here ∙ get_or_default ms id m unused_metadata queued_inside)
-        ∙ ap (λ (c : Counter). c.metadata.status) (shown_at r ms vs queue timeout room used ordered s id)
+        ∙ ap (λ (c : Counter). c.metadata.status) (shown_at s id)
         ∙ ap (status_at r) queued
 
     pub queued_due : deadline_of m.status ≤ now → is_due now (status_at r (get_or r.freed i 0)) ≡ true
@@ -335,17 +340,19 @@ module _ (count reuse_ms : ℕ) (ms : List Metadata) (vs : List Values) (queue :
   )
 
 -- the queue's ids lie within the records
-module _ (r : Registry) (ms : List Metadata) (vs : List Values) (queue : List ℕ) (timeout room used : ℕ)
-    (ordered : Bool) (s : Shows r ms vs queue timeout room used ordered) where
+module _ {r : Registry} {ms : List Metadata} {vs : List Values} {queue : List ℕ} {timeout room used : ℕ}
+    {ordered : Bool} (s : Shows r ms vs queue timeout room used ordered) where
   pub all_inside : (k : ℕ) → k < length queue → get_or queue k 0 < length ms
-  all_inside k less = queued_inside r ms vs queue timeout room used ordered s k (get_or queue k 0) less refl
+  all_inside k less =
+      queued_inside s k (get_or queue k 0) (omega (arith, ap length (shown_queue s)))
+      (get_or_default queue k 0 (get_or queue k 0) less)
 
   -- no deadline is before the first, where the queue is in order
   pub first_deadline : ordered ≡ true → (k : ℕ) → k < length queue
       → deadline_of (status_at r (get_or r.freed 0 0)) ≤ deadline_of (status_at r (get_or r.freed k 0))
   first_deadline o k less =
-      let kept = shown_kept r ms vs queue timeout room used ordered s in
-      let size = ap length (shown_queue r ms vs queue timeout room used ordered s) in
+      let kept = shown_kept s in
+      let size = ap length (shown_queue s) in
       first_is_least r.counters r.freed k (omega arith) (kept.order o)
 
   pub rest_not_due : (now end : ℕ) → (0 < length queue → 0 < end)
@@ -354,8 +361,8 @@ module _ (r : Registry) (ms : List Metadata) (vs : List Values) (queue : List �
       → ((k : ℕ) → k < end → is_due now (status_at r (get_or r.freed k 0)) ≡ false) → (k : ℕ) → k < length r.freed
       → is_due now (status_at r (get_or r.freed k 0)) ≡ false
   rest_not_due now end some later before k less =
-      let kept = shown_kept r ms vs queue timeout room used ordered s in
-      let size = ap length (shown_queue r ms vs queue timeout room used ordered s) in
+      let kept = shown_kept s in
+      let size = ap length (shown_queue s) in
       elim (cases_lt k end) as (λ _. is_due now (status_at r (get_or r.freed k 0)) ≡ false) [
         | inl near ↦ before k near
         | inr far ↦

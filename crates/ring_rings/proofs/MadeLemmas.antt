@@ -13,16 +13,20 @@ use Rattle.ring_table.specs.OpenClaims.{open_count}
 use Rattle.ring_table.specs.Views.{with_claim, with_claims}
 use Rattle.ring_table.specs.Staged.{AreRising, AreStored}
 use Rattle.ring_table.specs.ProducerSteps.{HasClaimAt, IsOpen}
+use Rattle.ring_words.specs.Open.{ClaimAt}
 use Rattle.ring_layout.specs.declared.admission.Admission.{Admission}
+use Rattle.ring_rings.specs.declared.ring.Producer.{Producer}
+use Rattle.ring_rings.specs.declared.ring.Ring.{Ring}
 use Rattle.ring_rings.specs.Claiming.{claim_behind, looked, record_behind, tail_refusal_of}
 use Rattle.ring_rings.specs.Making.{HasJustMade, IsJustMade, Makes}
 use Rattle.ring_rings.specs.Matching.{Matches}
+use Rattle.ring_rings.specs.Seats.{IsOpenClaimOf, KeepsClaims}
 use Rattle.ring_rings.proofs.CountLemmas.{open_count-more, open_few, stored_more}
 use Rattle.ring_rings.proofs.NewestLemmas.{has_last}
 use Rattle.ring_rings.proofs.RisingLemmas.{rising_more}
 
 -- a claim stays where others come behind it
-pub has_more : (v w : View) (c : StagedClaim) (place : ℕ) (P : StagedClaim → Type 0)
+has_more : (v w : View) (c : StagedClaim) (place : ℕ) (P : StagedClaim → Type 0)
     → w.producer.claims ≡ v.producer.claims ++ c ∷ [] → HasClaimAt v place P → HasClaimAt w place P
 has_more v w c place P more h = record {
   nth = h.nth;
@@ -31,6 +35,16 @@ has_more v w c place P more h = record {
   at_place = h.at_place;
   holds = h.holds;
 }
+
+-- an open claim is still one, where it stands as before
+pub still_open : {K : Type 0} {ring : Ring K} {p q : Producer} {t : ClaimAt} → IsOpenClaimOf ring p t
+    → HasClaimAt q.seat.me.0 t.place (IsOpen t.type_id t.len) → IsOpenClaimOf ring q t
+still_open h claim = record { index = h.index; message = h.message; limit = h.limit; claim = claim }
+
+pub keeps_claims : {K : Type 0} {ring : Ring K} {p q : Producer} (c : StagedClaim)
+    → q.seat.me.0.producer.claims ≡ p.seat.me.0.producer.claims ++ c ∷ [] → KeepsClaims ring p q
+keeps_claims {K} {ring} {p} {q} c more t h =
+    still_open h (has_more p.seat.me.0 q.seat.me.0 c t.place (IsOpen t.type_id t.len) more h.claim)
 
 module _ (C tail : ℕ) (type_id : ℤ) (len : ℕ) (front : List (ℕ × ℕ)) (v : View) (a : Admission) (w : View)
     (made : Makes C tail type_id len front v a w) where

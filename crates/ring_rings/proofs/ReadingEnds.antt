@@ -78,6 +78,19 @@ settles_more {y = y} p q = record {
   heartbeats = q.heartbeats ∙ p.heartbeats;
 }
 
+-- the count, told otherwise
+counted_as : {S : Type 0} {step : S → Message → S → Action → Type 0} {limit : ℕ} {v w : View} {s t : S} {n m : ℕ}
+    → Reads step limit v w s t n → m ≡ n → Reads step limit v w s t m
+counted_as r is = record {
+  messages = r.messages;
+  actions = r.actions;
+  handled = r.handled;
+  counted = is ∙ r.counted;
+  taken = r.taken;
+  moves = r.moves;
+  tight = λ h. r.tight (sym is ∙ h);
+}
+
 module _ {S : Type 0} (step : S → Message → S → Action → Type 0) where
   -- a message that was shown, before it is passed
   pub shown_left : (C scan : ℕ) (got : List PlacedMessage) (w x : View) (s t : S) (n : ℕ) (a : Action) → IsAt scan got w
@@ -130,21 +143,12 @@ module _ {S : Type 0} (step : S → Message → S → Action → Type 0) where
       (loads : List (ℕ × ℕ)) → Ends scan (v.consumer.taken ++ r.0.messages) w x loads
       → (end : ReadEnd) → end.messages ≡ count → end.stopped ≡ stop_of v.capacity limit count scan end.bytes
       → WentOn step limit (at_rest v) (at_rest x) s t end
-  unfolding reads_end
+  unfolding reads_end counted_as
   went_on limit v w x s t scan count r loads e end counted stopped =
       let d = reads_end limit v w x s t scan count r.0 loads e in
       let same = same_capacity limit v w x s t scan count r.0 loads e in
       record {
-        reads = record {
-          messages = d.messages;
-          actions = d.actions;
-          handled = d.handled;
-          counted = counted
-              ∙ d.counted;
-          taken = d.taken;
-          moves = d.moves;
-          tight = λ h. d.tight (sym counted ∙ h);
-        };
+        reads = counted_as d counted;
         went_on = r.1;
         stopped = stopped ∙ (λ i. stop_of (sym same i) limit (sym counted i) (sym e.head i) end.bytes);
       }
@@ -156,20 +160,11 @@ module _ {S : Type 0} (step : S → Message → S → Action → Type 0) where
       → Settles scan (v.consumer.taken ++ r.messages) x y
       → (end : ReadEnd) → end.messages ≡ count → end.stopped ≡ Stop.Action
       → Broke step limit (at_rest v) (at_rest y) s u end
-  unfolding reads_end
+  unfolding reads_end counted_as
   broke limit v x y s u scan count r before goes is tight p end counted stopped =
       let d = reads_end limit v x y s u scan count r [] (ends_now scan (v.consumer.taken ++ r.messages) x y p) in
       record {
-        reads = record {
-          messages = d.messages;
-          actions = d.actions;
-          handled = d.handled;
-          counted = counted
-              ∙ d.counted;
-          taken = d.taken;
-          moves = d.moves;
-          tight = λ h. d.tight (sym counted ∙ h);
-        };
+        reads = counted_as d counted;
         before = before;
         went_on = goes;
         broke = is;
@@ -185,7 +180,7 @@ module _ {S : Type 0} (step : S → Message → S → Action → Type 0) where
       → Settles scan (v.consumer.taken ++ r.0.messages) x y
       → (end : ReadEnd) → end.messages ≡ count → a ≡ Abort → end.stopped ≡ Stop.Action
       → Aborts step limit (at_rest v) (at_rest y) s u end
-  unfolding reads_end
+  unfolding reads_end counted_as
   aborts limit v w x y s t u scan count n a r below inside f p end counted is stopped =
       let m : PlacedMessage = f.message in
       let e = ends_left v.capacity scan (v.consumer.taken ++ r.0.messages) w x y t u n a f p in
@@ -194,16 +189,7 @@ module _ {S : Type 0} (step : S → Message → S → Action → Type 0) where
       let there : m.place ≡ y.consumer.head = f.place ∙ sym e.head in
       record {
         before = t;
-        reads = record {
-          messages = d.messages;
-          actions = d.actions;
-          handled = d.handled;
-          counted = counted
-              ∙ d.counted;
-          taken = d.taken;
-          moves = d.moves;
-          tight = λ h. d.tight (sym counted ∙ h);
-        };
+        reads = counted_as d counted;
         went_on = r.1;
         message = m.message;
         aborted = subst (λ (b : Action). step t m.message u b) is f.shown;

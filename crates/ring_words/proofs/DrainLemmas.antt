@@ -1,11 +1,11 @@
 -- A read over the end of the buffer drains a ring: it stops where no settled record lies.
-use Rattle.std.proofs.Common.{◌≡◌, ◌≢◌, ℕ, ◌+◌, ◌-◌, ◌*◌, ◌/◌, ◌%◌, ◌^◌, ◌<◌, ◌≤◌, ◌⊎◌, ◌&&◌, ◌==◌, nat_lt, if◌then◌else◌, slice_index, List, [], ◌∷◌, ◌++◌, length, All, true, false, refl, ap, sym, ◌∙◌, subst, arith, inl, inr}
+use Rattle.std.proofs.Common.{◌≡◌, ◌≢◌, ℕ, ◌+◌, ◌-◌, ◌*◌, ◌%◌, ◌^◌, ◌<◌, ◌≤◌, ◌⊎◌, ◌&&◌, ◌==◌, nat_lt, if◌then◌else◌, slice_index, List, [], ◌∷◌, ◌++◌, length, refl, ap, sym, ◌∙◌, subst, arith, inl, inr}
 use Rattle.std.proofs.lemmas.Bool.{and_parts, cases_Bool, cases_lt, cond-true, cond-false, eqb-true, ltb-true, ne_eqb}
 use Rattle.std.proofs.lemmas.List.{append-nil, append_assoc, length-append}
 use Rattle.std.proofs.lemmas.List.Elements.{All-append, All-head, All-tail}
 use Rattle.ring_layout.specs.declared.message.Claim.{Claim}
 use Rattle.ring_layout.specs.declared.message.Message.{Message}
-use Rattle.ring_layout.specs.declared.message.ClaimState.TheVariants.{Open, Committed, Aborted}
+use Rattle.ring_layout.specs.declared.message.ClaimState.TheVariants.{Open}
 use Rattle.ring_layout.specs.History.{committed_of, shown, span_of}
 use Rattle.ring_layout.specs.Layout.{tail_index}
 use Rattle.ring_layout.specs.Places.{end_after, end_of}
@@ -17,7 +17,7 @@ use Rattle.ring_words.specs.declared.read.end.Stop.{Stop}
 use Rattle.ring_words.specs.declared.read.end.Stop.TheVariants.{Limit, Block, Unpublished}
 use Rattle.ring_words.specs.Across.{ReadsAcross, ReadsOnce, ReadsTwice}
 use Rattle.ring_words.specs.Drain.{AllSettled, Drains}
-use Rattle.ring_words.specs.Read.{Passes, ReadsTo, stop_of}
+use Rattle.ring_words.specs.Read.{ReadsTo, stop_of}
 use Rattle.ring_words.specs.Reading.{IsBlocked, MovesHead}
 use Rattle.ring_words.specs.Ring.{Has, IsRing, Ring, head_of, tail_of}
 use Rattle.ring_words.proofs.HeadLemmas.{state_cases}

@@ -6,6 +6,7 @@ pub mod HeadLemmas
 pub mod TakeLemmas
 pub mod BodyLemmas
 pub mod ReadLemmas
+pub mod ReadTurns
 pub mod UniqueLemmas
 pub mod MiddleLemmas
 pub mod OpenLemmas

@@ -255,6 +255,18 @@ module _ {S : Type 0} (step : S → Message → S → Action → Type 0) (limit 
           (passes_last limit old mid new h reads.messages settled ok same p (left p.rest p.left) m loud shows).0;
     }
 
+-- the count, told otherwise
+counted_as : {S : Type 0} {step : S → Message → S → Action → Type 0} {limit : ℕ} {old new : Ring} {s u : S} {n m : ℕ}
+    → Reads step limit old new s u n → m ≡ n → Reads step limit old new s u m
+counted_as r is = record {
+  messages = r.messages;
+  actions = r.actions;
+  handled = r.handled;
+  counted = is ∙ r.counted;
+  moves = r.moves;
+  passes = r.passes;
+}
+
 -- the same of a read that the handler lets go on
 module _ {S : Type 0} (step : S → Message → S → Action → Type 0) (limit : ℕ) where
   abbrev pub ReadsOn : Ring → Ring → S → S → ℕ → Type 0
@@ -286,20 +298,12 @@ module _ {S : Type 0} (step : S → Message → S → Action → Type 0) (limit 
       -- the message was the last
       pub broke : (end : ReadEnd) → a ≡ Break → end.messages ≡ count + 1 → end.stopped ≡ Stop.Action
           → Broke step limit old new s u end
-      unfolding reads_message
+      unfolding reads_message counted_as
       broke end is n stop =
           let r = reads_message step limit old mid new s t count settled ok reads.0 below inside moved left m a u loud
           stepped shows in
           record {
-            reads = record {
-              messages = r.messages;
-              actions = r.actions;
-              handled = r.handled;
-              counted = n
-                  ∙ r.counted;
-              moves = r.moves;
-              passes = r.passes;
-            };
+            reads = counted_as r n;
             before = reads.0.actions;
             went_on = reads.1;
             broke = ap (λ x. reads.0.actions ++ x ∷ []) is;
@@ -344,9 +348,9 @@ short_all C (c ∷ h) low lawful =
     (short_all C h low (All-tail (λ (x : Claim). IsMessage C x.message) c h lawful))
 
 -- open claims stay
-pub reads_keeps : {S : Type 0} (step : S → Message → S → Action → Type 0) (limit : ℕ) (old new : Ring) (s u : S)
-    (count : ℕ) → IsRing old → Reads step limit old new s u count → (t : ClaimAt) → IsOpen old t → IsOpen new t
-reads_keeps step limit old new s u count ok reads t o =
+pub reads_keeps : {S : Type 0} {step : S → Message → S → Action → Type 0} {limit : ℕ} {old new : Ring} {s u : S}
+    {count : ℕ} → IsRing old → Reads step limit old new s u count → (t : ClaimAt) → IsOpen old t → IsOpen new t
+reads_keeps {S} {step} {limit} {old} {new} {s} {u} {count} ok reads t o =
     let p = reads.passes o.history o.has in
     let C : ℕ = old.capacity in
     let same : new.capacity ≡ old.capacity = reads.moves.capacity in
@@ -370,51 +374,29 @@ goes_on Commit na nb = tt
 goes_on Continue na nb = tt
 
 -- the handler let each message go
-pub went_on : {S : Type 0} (step : S → Message → S → Action → Type 0) (limit : ℕ) (old new : Ring) (s u : S) (n : ℕ)
-    (end : ReadEnd) → ReadsOn step limit old new s u n → end.messages ≡ n
+pub went_on : {S : Type 0} {step : S → Message → S → Action → Type 0} {limit : ℕ} {old new : Ring} {s u : S} {n : ℕ}
+    {end : ReadEnd} → ReadsOn step limit old new s u n → end.messages ≡ n
     → end.stopped ≡ stop_of new.capacity limit end.messages (head_of new) end.bytes → WentOn step limit old new s u end
-went_on step limit old new s u n end on is stop =
-    let r = on.0 in
-    record {
-      reads = record {
-        messages = r.messages;
-        actions = r.actions;
-        handled = r.handled;
-        counted = is
-            ∙ r.counted;
-        moves = r.moves;
-        passes = r.passes;
-      };
-      went_on = on.1;
-      stopped = stop;
-    }
+unfolding counted_as
+went_on on is stop = record { reads = counted_as on.0 is; went_on = on.1; stopped = stop }
 
 -- or it left one more
-pub aborts : {S : Type 0} (step : S → Message → S → Action → Type 0) (limit : ℕ) (old new : Ring) (s u v : S) (n : ℕ)
-    (m : Message) (a : Action) (end : ReadEnd) → ReadsOn step limit old new s u n → end.messages ≡ n
+pub aborts : {S : Type 0} {step : S → Message → S → Action → Type 0} {limit : ℕ} {old new : Ring} {s u v : S} {n : ℕ}
+    {m : Message} {a : Action} {end : ReadEnd} → ReadsOn step limit old new s u n → end.messages ≡ n
     → a ≡ Abort → step u m v a → IsNext new m → n < limit → (head_of old < head_of new → head_of new % new.capacity ≢ 0)
     → end.stopped ≡ Stop.Action → Aborts step limit old new s v end
-aborts step limit old new s u v n m a end on is abort stepped next below inside stop =
-    let r = on.0 in
-    record {
-      before = u;
-      reads = record {
-        messages = r.messages;
-        actions = r.actions;
-        handled = r.handled;
-        counted = is
-            ∙ r.counted;
-        moves = r.moves;
-        passes = r.passes;
-      };
-      went_on = on.1;
-      message = m;
-      aborted = subst (λ (x : Action). step u m v x) abort stepped;
-      next = next;
-      before_limit = omega (arith, is, below);
-      before_end = inside;
-      stopped = stop;
-    }
+unfolding counted_as
+aborts {S} {step} {limit} {old} {new} {s} {u} {v} {n} {m} on is abort stepped next below inside stop = record {
+  before = u;
+  reads = counted_as on.0 is;
+  went_on = on.1;
+  message = m;
+  aborted = subst (λ (x : Action). step u m v x) abort stepped;
+  next = next;
+  before_limit = omega (arith, is, below);
+  before_end = inside;
+  stopped = stop;
+}
 
 -- what the test for the end of the buffer tells
 pub inside_from : (C start head : ℕ) → (nat_lt start head && (head % C == 0)) ≡ false → start < head → head % C ≢ 0

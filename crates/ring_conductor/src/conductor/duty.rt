@@ -1,11 +1,12 @@
 //! The conductor at work.
 
 ghost use Rattle.std.specs.Prelude.{◌≡◌, ◌^◌, ◌≤◌, []};
-ghost use Rattle.ring_rings.specs.Seats.{taken_of};
+ghost use Rattle.ring_rings.specs.Seats.{consumer_view, taken_of};
 ghost use Rattle.ring_board.specs.Seats.{heard_by, transmitted};
 ghost use Rattle.ring_conductor.specs.Conducting.{AreUnused, Begins, IsConductorOf, Works, work_stop};
 ghost use Rattle.ring_conductor.specs.Conducting.{consumer_of, counters_of, ledger_of, ring_view};
 ghost use Rattle.ring_conductor.specs.Conducting.{transmitter_of, value_shares_of};
+ghost use Rattle.ring_conductor.specs.Serving.{IsReady, IsSameHandler, ledger_of as served_of};
 
 use crate::conductor::serve::Serving;
 use crate::conductor::{Conductor, Work, WorkStop};
@@ -22,6 +23,28 @@ fn work_stop(stopped: Stop) -> WorkStop
         Stop::Block => WorkStop::Block,
         Stop::Unpublished => WorkStop::Unpublished,
         Stop::Action => WorkStop::BoardEnd,
+    }
+}
+
+// Has the commands of one read served.
+fn take<R: CommandSource>(
+    ring: &R,
+    consumer: &mut Consumer,
+    limit: u32,
+    serving: &mut Serving,
+) -> Work
+    requires consumer { R.is_consumer ring.now consumer.old }
+    requires ready { IsReady serving.old }
+    ensures consumer { R.is_consumer ring.now consumer.new }
+    ensures ready { IsReady serving.new }
+    ensures same { IsSameHandler serving.old serving.new }
+    ensures works { Works serving.old.now limit (consumer_view consumer.old) (consumer_view consumer.new)
+        (served_of serving.old) (served_of serving.new) result }
+{
+    let end = ring.controlled_read(consumer, limit, serving);
+    Work {
+        messages: u64::from(end.messages),
+        stopped: work_stop(end.stopped),
     }
 }
 
@@ -88,12 +111,8 @@ impl Conductor {
             board,
             values,
         };
-        let end = ring.controlled_read(consumer, limit, &mut serving);
-        let messages = u64::from(end.messages);
-        *received += messages;
-        Work {
-            messages,
-            stopped: work_stop(end.stopped),
-        }
+        let work = take(ring, consumer, limit, &mut serving);
+        *received += work.messages;
+        work
     }
 }

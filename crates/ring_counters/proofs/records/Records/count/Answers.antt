@@ -1,42 +1,23 @@
-use Rattle.std.proofs.Common.{arith}
-use Rattle.ring_counters.proofs.ShownLemmas.{Shows, shown_size, shown_kept}
+use Rattle.std.proofs.Common.{◌≡◌, ◌≤◌, arith}
+use Rattle.ring_counters.specs.Registry.{count_of}
+use Rattle.ring_counters.proofs.ShownLemmas.{shows, shown_size, shown_kept}
+use Rattle.ring_counters.proofs.records.Records.count.Goals.{After-len}
 use Rattle.ring_counters.proofs.records.Records.count.Goals as goal
 
+-- there are as many records as counters
+counted : (c : After-len) → (c.len.result ≡ count_of c.args.self.now) × (c.len.result ≤ 4096)
+counted c =
+    let s = shows c.self.view_is c.self.invariant in
+    let size = shown_size s in
+    let few = (shown_kept s).few in
+    let len = c.self.inside.metadata.ok.0 in
+    (omega (arith, c.len.ensures), omega (arith, c.len.ensures))
+
 pub overflow_cast-result : goal.overflow_cast-result
-overflow_cast-result c =
-    let s : Shows c.args.self.now _ _ _ _ _ _ _ =
-    record { view = c.self.view_is; same = c.self.invariant.0; kept = c.self.invariant.1 } in
-    record {
-      fits =
-          omega (
-            arith,
-            shown_size _ _ _ _ _ _ _ _ s,
-            c.self.inside.metadata.ok.0,
-            c.len.ensures,
-            (shown_kept _ _ _ _ _ _ _ _ s).few,
-          );
-    }
+overflow_cast-result c = record { fits = omega (arith, (counted c).1) }
 
 pub returns-clause-count : goal.returns-clause-count
-returns-clause-count c =
-    let s : Shows c.args.self.now _ _ _ _ _ _ _ =
-    record { view = c.self.view_is; same = c.self.invariant.0; kept = c.self.invariant.1 } in
-    omega (
-      arith,
-      shown_size _ _ _ _ _ _ _ _ s,
-      c.self.inside.metadata.ok.0,
-      c.len.ensures,
-      (shown_kept _ _ _ _ _ _ _ _ s).few,
-    )
+returns-clause-count c = (counted c).0
 
 pub returns-clause-most : goal.returns-clause-most
-returns-clause-most c =
-    let s : Shows c.args.self.now _ _ _ _ _ _ _ =
-    record { view = c.self.view_is; same = c.self.invariant.0; kept = c.self.invariant.1 } in
-    omega (
-      arith,
-      shown_size _ _ _ _ _ _ _ _ s,
-      c.self.inside.metadata.ok.0,
-      c.len.ensures,
-      (shown_kept _ _ _ _ _ _ _ _ s).few,
-    )
+returns-clause-most c = (counted c).1

@@ -4,44 +4,45 @@ use Rattle.ring_counters.specs.Counter.{Metadata, Reclaimed, deadline_of, unused
 use Rattle.ring_counters.specs.Registry.{is_allocated}
 use Rattle.ring_counters.proofs.FlagLemmas.{flags_size, flags_stored}
 use Rattle.ring_counters.proofs.KeptLemmas.{kept_room}
-use Rattle.ring_counters.proofs.ShownLemmas.{Shows, all_inside, allocated_below, room_left, reclaimed_shown, reclaimed_kept}
+use Rattle.ring_counters.proofs.ShownLemmas.{shows, all_inside, allocated_below, room_left, reclaimed_shown, reclaimed_kept}
+use Rattle.ring_counters.proofs.records.Records.reclaim.Goals.{After-push_back_reserved}
 use Rattle.ring_counters.proofs.records.Records.reclaim.Goals as goal
 
 pub index_mut-record-requires : goal.index_mut-record-requires
 index_mut-record-requires c =
-    let s : Shows c.args.self.now _ _ _ _ _ _ _ =
-    record { view = c.self.view_is; same = c.self.invariant.0; kept = c.self.invariant.1 } in
-    omega (arith, allocated_below _ _ _ _ _ _ _ _ s _ c.requires.allocated, c.self.inside.metadata.ok.0)
+    let s = shows c.self.view_is c.self.invariant in
+    omega (arith, allocated_below s _ c.requires.allocated, c.self.inside.metadata.ok.0)
 
 pub index_mut-requires : goal.index_mut-requires
 index_mut-requires c =
-    let s : Shows c.args.self.now _ _ _ _ _ _ _ =
-    record { view = c.self.view_is; same = c.self.invariant.0; kept = c.self.invariant.1 } in
+    let s = shows c.self.view_is c.self.invariant in
     omega (
       arith,
-      allocated_below _ _ _ _ _ _ _ _ s _ c.requires.allocated,
+      allocated_below s _ c.requires.allocated,
       flags_size _ _ c.self.invariant.2,
       c.self.inside.live.ok.0,
     )
 
 pub push_back_reserved-requires : goal.push_back_reserved-requires
 push_back_reserved-requires c =
-    let s : Shows c.args.self.now _ _ _ _ _ _ _ =
-    record { view = c.self.view_is; same = c.self.invariant.0; kept = c.self.invariant.1 } in
-    omega (arith, room_left _ _ _ _ _ _ _ _ s _ c.requires.allocated, c.self.inside.freed.ok.0)
+    let s = shows c.self.view_is c.self.invariant in
+    omega (arith, room_left s _ c.requires.allocated, c.self.inside.freed.ok.0)
+
+-- the record that is stored
+reclaimed : (c : After-push_back_reserved)
+    → c.reclaim.new.self
+    ≡ record (get_or c.self.inside.metadata.items c.args.id unused_metadata) {
+      status = Reclaimed (c.args.now + c.self.inside.reuse_ms);
+    }
+reclaimed c =
+    let less = allocated_below (shows c.self.view_is c.self.invariant) _ c.requires.allocated in
+    let was = c.index_mut-record.ensures.value ∙ get_or_default _ _ _ unused_metadata less in
+    c.reclaim.ensures ∙ (λ i. record (was i) { status = Reclaimed (c.args.now + c.from.ensures i) })
 
 pub invariant_of-self : goal.invariant_of-self
 invariant_of-self c =
-    let s : Shows c.args.self.now _ _ _ _ _ _ _ =
-    record { view = c.self.view_is; same = c.self.invariant.0; kept = c.self.invariant.1 } in
-    let less : c.args.id < length c.self.inside.metadata.items =
-    allocated_below _ _ _ _ _ _ _ _ s _ c.requires.allocated in
-    let was = c.index_mut-record.ensures.value ∙ get_or_default _ _ _ unused_metadata less in
-    let is : c.reclaim.new.self ≡ record (get_or c.self.inside.metadata.items c.args.id unused_metadata) {
-      status =
-          Reclaimed (c.args.now + c.self.inside.reuse_ms);
-    } =
-    c.reclaim.ensures ∙ (λ i. record (was i) { status = Reclaimed (c.args.now + c.from.ensures i) }) in
+    let s = shows c.self.view_is c.self.invariant in
+    let is = reclaimed (goal.at.invariant_of-self c).After-push_back_reserved in
     let freed : List ℕ = c.self.inside.freed.items in
     let last : ℕ = get_or freed (length freed - 1) 0 in
     let same : deadline_of (get_or c.deref.result.now last unused_metadata).status
@@ -53,7 +54,7 @@ invariant_of-self c =
     ≤ c.args.now + c.self.inside.reuse_ms) =
     λ o some. (let h = c.stays_in_order-self-inside.ensures o
     some in (h.0, omega (arith, h.1, same, c.from.ensures))) in
-    let kept = reclaimed_kept _ _ _ _ _ _ _ _ s _ c.requires.allocated _ _ c.args.now
+    let kept = reclaimed_kept s _ c.requires.allocated _ _ c.args.now
     c.stays_in_order-self-inside.result still is c.push_back_reserved.ensures.items in (
       kept.0,
       kept_room _ _ _ _ _ c.push_back_reserved.ensures.capacity kept.1,
@@ -63,20 +64,11 @@ invariant_of-self c =
 
 pub returns : goal.returns
 returns c =
-    let s : Shows c.args.self.now _ _ _ _ _ _ _ =
-    record { view = c.self.view_is; same = c.self.invariant.0; kept = c.self.invariant.1 } in
-    let less : c.args.id < length c.self.inside.metadata.items =
-    allocated_below _ _ _ _ _ _ _ _ s _ c.requires.allocated in
-    let was = c.index_mut-record.ensures.value ∙ get_or_default _ _ _ unused_metadata less in
-    let is : c.reclaim.new.self ≡ record (get_or c.self.inside.metadata.items c.args.id unused_metadata) {
-      status =
-          Reclaimed (c.args.now + c.self.inside.reuse_ms);
-    } =
-    c.reclaim.ensures ∙ (λ i. record (was i) { status = Reclaimed (c.args.now + c.from.ensures i) }) in
-    reclaimed_shown _ _ _ _ _ _ _ _ s _ c.requires.allocated _ _ c.args.now is c.push_back_reserved.ensures.items
+    let s = shows c.self.view_is c.self.invariant in
+    let is = reclaimed (goal.at.returns c).After-push_back_reserved in
+    reclaimed_shown s _ c.requires.allocated _ _ c.args.now is c.push_back_reserved.ensures.items
 
 pub stays_in_order-self-inside-requires : goal.stays_in_order-self-inside-requires
 stays_in_order-self-inside-requires c =
-    let s : Shows c.args.self.now _ _ _ _ _ _ _ =
-    record { view = c.self.view_is; same = c.self.invariant.0; kept = c.self.invariant.1 } in
-    λ k h. omega (arith, all_inside _ _ _ _ _ _ _ _ s k h, ap length c.deref.ensures.value)
+    let s = shows c.self.view_is c.self.invariant in
+    λ k h. omega (arith, all_inside s k h, ap length c.deref.ensures.value)

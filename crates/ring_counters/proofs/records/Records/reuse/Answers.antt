@@ -3,36 +3,33 @@ use Rattle.ring_counters.specs.Counter.{Metadata, Allocated}
 use Rattle.ring_counters.specs.Registry.{Registry, is_allocated}
 use Rattle.ring_counters.proofs.FlagLemmas.{flags_size, flags_stored}
 use Rattle.ring_counters.proofs.KeptLemmas.{kept_room}
-use Rattle.ring_counters.proofs.ShownLemmas.{Shows, shown_size, reused_inside, reused_kept, stored}
+use Rattle.ring_counters.proofs.ShownLemmas.{shows, shown_size, reused_inside, reused_kept, stored}
 use Rattle.ring_counters.proofs.records.Records.reuse.Goals as goal
 
 pub index_mut-metadata-requires : goal.index_mut-metadata-requires
 index_mut-metadata-requires c =
-    let s : Shows c.args.self.now _ _ _ _ _ _ _ =
-    record { view = c.self.view_is; same = c.self.invariant.0; kept = c.self.invariant.1 } in
+    let s = shows c.self.view_is c.self.invariant in
     let found = c.take_freed-id.ensures in
-    omega (arith, reused_inside _ _ _ _ _ _ _ _ s _ _ _ c.requires.at found.id found.items, c.self.inside.metadata.ok.0)
+    omega (arith, reused_inside s _ _ _ c.requires.at found.id found.items, c.self.inside.metadata.ok.0)
 
 pub index_mut-values-requires : goal.index_mut-values-requires
 index_mut-values-requires c =
-    let s : Shows c.args.self.now _ _ _ _ _ _ _ =
-    record { view = c.self.view_is; same = c.self.invariant.0; kept = c.self.invariant.1 } in
+    let s = shows c.self.view_is c.self.invariant in
     let found = c.take_freed-id.ensures in
     omega (
       arith,
-      reused_inside _ _ _ _ _ _ _ _ s _ _ _ c.requires.at found.id found.items,
+      reused_inside s _ _ _ c.requires.at found.id found.items,
       s.same,
       c.self.inside.values.ok.0,
     )
 
 pub index_mut-requires : goal.index_mut-requires
 index_mut-requires c =
-    let s : Shows c.args.self.now _ _ _ _ _ _ _ =
-    record { view = c.self.view_is; same = c.self.invariant.0; kept = c.self.invariant.1 } in
+    let s = shows c.self.view_is c.self.invariant in
     let found = c.take_freed-id.ensures in
     omega (
       arith,
-      reused_inside _ _ _ _ _ _ _ _ s _ _ _ c.requires.at found.id found.items,
+      reused_inside s _ _ _ c.requires.at found.id found.items,
       flags_size _ _
           c.self.invariant.2,
       c.self.inside.live.ok.0,
@@ -40,11 +37,10 @@ index_mut-requires c =
 
 pub invariant_of-self : goal.invariant_of-self
 invariant_of-self c =
-    let s : Shows c.args.self.now _ _ _ _ _ _ _ =
-    record { view = c.self.view_is; same = c.self.invariant.0; kept = c.self.invariant.1 } in
+    let s = shows c.self.view_is c.self.invariant in
     let found = c.take_freed-id.ensures in
     let status : c.fill.new.metadata.status ≡ Allocated = ap (λ (m : Metadata). m.status) c.fill.ensures.metadata in
-    let kept = reused_kept _ _ _ _ _ _ _ _ s _ _ _ c.requires.at found.id found.items _ _ status in (
+    let kept = reused_kept s _ _ _ c.requires.at found.id found.items _ _ status in (
       kept.0,
       kept_room _ _ _ _ _ found.capacity kept.1,
       flags_stored _ _ c.self.invariant.2 _ _ _
@@ -53,20 +49,17 @@ invariant_of-self c =
 
 pub returns-clause-changes : goal.returns-clause-changes
 returns-clause-changes c =
-    let s : Shows c.args.self.now _ _ _ _ _ _ _ =
-    record { view = c.self.view_is; same = c.self.invariant.0; kept = c.self.invariant.1 } in
-    ap (λ (r : Registry). r.counters) (stored _ _ _ _ _ _ _ _ s _ _ _ c.take_freed-id.new.freed.items)
+    let s = shows c.self.view_is c.self.invariant in
+    ap (λ (r : Registry). r.counters) (stored s _ _ _ c.take_freed-id.new.freed.items)
     ∙ (λ i. set c.args.self.now.counters c.take_freed-id.result
     record { metadata = c.fill.ensures.metadata i; values = c.fill.ensures.values i })
 
 pub returns-clause-inside : goal.returns-clause-inside
 returns-clause-inside c =
-    let s : Shows c.args.self.now _ _ _ _ _ _ _ =
-    record { view = c.self.view_is; same = c.self.invariant.0; kept = c.self.invariant.1 } in
+    let s = shows c.self.view_is c.self.invariant in
     let found = c.take_freed-id.ensures in
     omega (
       arith,
-      reused_inside _ _ _ _ _ _ _ _ s _ _ _ c.requires.at found.id found.items,
-      shown_size _ _ _ _ _ _ _ _
-          s,
+      reused_inside s _ _ _ c.requires.at found.id found.items,
+      shown_size s,
     )

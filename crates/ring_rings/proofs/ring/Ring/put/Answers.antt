@@ -6,6 +6,7 @@ use Rattle.ring_table.specs.ProducerSteps.{HasClaimAt, IsOpen}
 use Rattle.ring_table.specs.OpenClaims.{open_count}
 use Rattle.ring_table.specs.Staged.{AreRising, AreStored}
 use Rattle.ring_rings.specs.Bodies.{loaded, put_at}
+use Rattle.ring_rings.proofs.MadeLemmas.{still_open}
 use Rattle.ring_rings.proofs.CountLemmas.{count_kept, stored_kept}
 use Rattle.ring_rings.proofs.RisingLemmas.{rising_kept}
 use Rattle.ring_rings.proofs.PutLemmas.{has_changed, has_other}
@@ -71,11 +72,6 @@ returns-clause-is_open g c =
 pub returns-clause-others : goal.returns-clause-others
 returns-clause-others g c t h other =
     let put = c.put_bytes.ensures.put in
-    record {
-      index = h.index;
-      message = h.message;
-      limit = h.limit;
-      claim = has_other c.args.producer.now.seat.me.0 c.put_bytes.new.seat.me.0 c.place.result t.place
-          (put_at c.args.offset c.args.bytes.now) (IsOpen t.type_id t.len)
-          (ap (λ (v : View). v.producer.claims) put.view) h.claim (λ here. other (here ∙ c.place.ensures));
-    }
+    still_open h (has_other c.args.producer.now.seat.me.0 c.put_bytes.new.seat.me.0 c.place.result t.place
+    (put_at c.args.offset c.args.bytes.now) (IsOpen t.type_id t.len)
+    (ap (λ (v : View). v.producer.claims) put.view) h.claim (λ here. other (here ∙ c.place.ensures)))

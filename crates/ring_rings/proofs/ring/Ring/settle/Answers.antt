@@ -3,6 +3,7 @@ use Rattle.ring_table.specs.declared.view.View.{View}
 use Rattle.ring_table.specs.declared.claim.Stage.TheVariants.{Stored}
 use Rattle.ring_table.specs.Changes.{staged}
 use Rattle.ring_table.specs.ProducerSteps.{IsOpen}
+use Rattle.ring_rings.proofs.MadeLemmas.{still_open}
 use Rattle.ring_rings.proofs.PutLemmas.{has_other}
 use Rattle.ring_rings.proofs.CountLemmas.{none_open, settles_one, matches_settled}
 use Rattle.ring_rings.proofs.ring.Ring.settle.Goals as goal
@@ -30,11 +31,6 @@ invariant_of-producer g c =
 pub returns-clause-others : goal.returns-clause-others
 returns-clause-others g c t h other =
     let e = c.store_settled_header.ensures in
-    record {
-      index = h.index;
-      message = h.message;
-      limit = h.limit;
-      claim = has_other c.args.producer.now.seat.me.0 c.store_settled_header.new.seat.me.0 c.place.result t.place
-          (staged (Stored c.args.state)) (IsOpen t.type_id t.len) (ap (λ (v : View). v.producer.claims) e.view) h.claim
-          (λ here. other (here ∙ c.place.ensures));
-    }
+    still_open h (has_other c.args.producer.now.seat.me.0 c.store_settled_header.new.seat.me.0 c.place.result t.place
+    (staged (Stored c.args.state)) (IsOpen t.type_id t.len) (ap (λ (v : View). v.producer.claims) e.view) h.claim
+    (λ here. other (here ∙ c.place.ensures)))

@@ -79,14 +79,11 @@ turns-smaller g c =
 
 pub returns-then-messages-limit-clause-claims : goal.returns-then-messages-limit-clause-claims
 returns-then-messages-limit-clause-claims g c =
-    reads_keeps g.H.Handler.step c.args.limit c.args.self.now c.turns.self c.args.handler.now c.turns.handler
-    c.turns.messages c.positions-start.ensures.ring c.turns.invariant.0
+    reads_keeps c.positions-start.ensures.ring c.turns.invariant.0
 
 pub returns-then-is_at_end-clause-claims : goal.returns-then-is_at_end-clause-claims
 returns-then-is_at_end-clause-claims g c =
-    reads_keeps g.H.Handler.step c.args.limit c.args.self.now c.turns.self c.args.handler.now c.turns.handler
-    c.turns.messages c.positions-start.ensures.ring c.turns.invariant.0
+    reads_keeps c.positions-start.ensures.ring c.turns.invariant.0
 
 pub returns-in_default-clause-claims : goal.returns-in_default-clause-claims
-returns-in_default-clause-claims g c = reads_keeps g.H.Handler.step c.args.limit c.args.self.now c.turns.self
-    c.args.handler.now c.turns.handler c.turns.messages c.positions-start.ensures.ring c.turns.invariant.0
+returns-in_default-clause-claims g c = reads_keeps c.positions-start.ensures.ring c.turns.invariant.0

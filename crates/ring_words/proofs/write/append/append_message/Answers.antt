@@ -1,10 +1,10 @@
-use Rattle.std.proofs.Common.{◌≡◌, ℕ, List, length, arith, ap, ◌∙◌}
+use Rattle.std.proofs.Common.{◌≡◌, length, arith, ap, ◌∙◌}
 use Rattle.std.specs.Int.{w32}
 use Rattle.std.proofs.lemmas.Int.{to_z-of_z}
 use Rattle.ring_layout.specs.History.{span}
 use Rattle.ring_layout.specs.Headers.{committed_header, header_of}
 use Rattle.ring_layout.proofs.PlaceLemmas.{next_le}
-use Rattle.ring_words.specs.Ring.{Ring, ring, tail_of}
+use Rattle.ring_words.specs.Ring.{ring, tail_of}
 use Rattle.ring_words.specs.Change.{written}
 use Rattle.ring_words.proofs.AppendLemmas.{appended_with, headed_is, inside, written_lawful}
 use Rattle.ring_words.proofs.write.append.append_message.Goals as goal
@@ -21,33 +21,25 @@ store_headers-requires-clause-order c =
 
 pub store_body-requires : goal.store_body-requires
 store_body-requires c =
-    let r : Ring = ring c.args.capacity c.args.words.now in
-    let body : List ℕ = c.args.body.now in
-    let claim = written c.args.type_id body in
-    let place : ℕ = c.args.admission.place in
-    let end : ℕ = c.args.admission.end in
     let ok = c.requires.ring in
-    let lawful = written_lawful c.args.capacity c.args.type_id body c.requires.type_id c.ranges.type_id
+    let claim = written c.args.type_id c.args.body.now in
+    let lawful = written_lawful c.args.capacity c.args.type_id c.args.body.now c.requires.type_id c.ranges.type_id
     c.requires.admitted.short (λ k. omega (arith, c.type_inv.body k)) in
-    let within = inside r claim place end ok lawful c.requires.admitted in
+    let within = inside _ claim _ _ ok lawful c.requires.admitted in
     omega (arith, c.word_index-at.ensures, within, c.store_headers.auto.words, ok.length)
 
 pub returns : goal.returns
 returns c =
-    let r : Ring = ring c.args.capacity c.args.words.now in
-    let body : List ℕ = c.args.body.now in
-    let claim = written c.args.type_id body in
-    let place : ℕ = c.args.admission.place in
-    let end : ℕ = c.args.admission.end in
     let ok = c.requires.ring in
-    let lawful = written_lawful c.args.capacity c.args.type_id body c.requires.type_id c.ranges.type_id
+    let claim = written c.args.type_id c.args.body.now in
+    let lawful = written_lawful c.args.capacity c.args.type_id c.args.body.now c.requires.type_id c.ranges.type_id
     c.requires.admitted.short (λ k. omega (arith, c.type_inv.body k)) in
     let word : c.committed_header-header.result ≡ header_of claim =
-    c.committed_header-header.ensures ∙ ap (λ t. committed_header t (length body))
+    c.committed_header-header.ensures ∙ ap (λ t. committed_header t (length c.args.body.now))
     (to_z-of_z w32 c.args.type_id c.ranges.type_id) in
-    let words = c.store_headers.ensures ∙ headed_is r claim place end ok lawful c.requires.admitted
+    let words = c.store_headers.ensures ∙ headed_is _ claim _ _ ok lawful c.requires.admitted
     c.args.admission.tail c.committed_header-header.result c.requires.tail word in
     let stored = rw (c.word_index-at.ensures, words) at c.store_body.ensures in
-    let both = appended_with r claim place end ok lawful c.requires.admitted c.store_body.new.words
+    let both = appended_with _ claim _ _ ok lawful c.requires.admitted c.store_body.new.words
     (c.store_body.auto.words ∙ ap length words) stored.inside stored.below stored.above in
     record { claimed = both.0; ring = both.1 }

@@ -1,4 +1,4 @@
-use Rattle.std.proofs.Common.{ℕ, ◌<◌, arith}
+use Rattle.std.proofs.Common.{◌<◌, arith}
 use Rattle.ring_counters.proofs.ValueSteps.{splits}
 use Rattle.ring_counters.proofs.values.seats.CounterValues.split.Goals as goal
 

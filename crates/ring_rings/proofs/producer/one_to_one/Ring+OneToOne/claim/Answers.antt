@@ -2,7 +2,7 @@ use Rattle.std.proofs.Common.{refl, ap, ◌∙◌, arith}
 use Rattle.ring_words.specs.Open.{ClaimAt}
 use Rattle.ring_table.specs.declared.view.View.{View}
 use Rattle.ring_table.specs.ProducerSteps.{IsOpen}
-use Rattle.ring_rings.proofs.MadeLemmas.{has_more, made_apart, made_claims, made_few, made_matches, made_open}
+use Rattle.ring_rings.proofs.MadeLemmas.{keeps_claims, made_apart, made_claims, made_few, made_matches, made_open}
 use Rattle.ring_rings.proofs.producer.one_to_one.Ring+OneToOne.claim.Goals as goal
 
 pub overflow_add-producer : goal.overflow_add-producer
@@ -37,16 +37,7 @@ returns-clause-is_open c =
     }
 
 pub returns-clause-claims : goal.returns-clause-claims
-returns-clause-claims c t h =
-    let told = c.in_ok-admission.ensures.told in
-    record {
-      index = h.index;
-      message = h.message;
-      limit = h.limit;
-      claim =
-          has_more c.args.producer.now.seat.me.0 c.claim_alone.new.seat.me.0 _ t.place (IsOpen t.type_id t.len)
-          (made_claims _ _ _ _ _ _ _ _ told) h.claim;
-    }
+returns-clause-claims c = keeps_claims _ (made_claims _ _ _ _ _ _ _ _ c.in_ok-admission.ensures.told)
 
 pub returns-clause-apart : goal.returns-clause-apart
 returns-clause-apart c t h same = made_apart _ _ _ _ _ _ _ _ c.in_ok-admission.ensures.told t.place

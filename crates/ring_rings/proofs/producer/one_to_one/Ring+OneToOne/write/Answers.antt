@@ -1,7 +1,6 @@
 use Rattle.std.proofs.Common.{refl, ap, ◌∙◌}
 use Rattle.ring_table.specs.declared.view.View.{View}
-use Rattle.ring_table.specs.ProducerSteps.{IsOpen}
-use Rattle.ring_rings.proofs.MadeLemmas.{has_more, just_made, written_claims, written_matches}
+use Rattle.ring_rings.proofs.MadeLemmas.{just_made, keeps_claims, written_claims, written_matches}
 use Rattle.ring_rings.proofs.producer.one_to_one.Ring+OneToOne.write.Goals as goal
 
 pub invariant_of-producer-2 : goal.invariant_of-producer-2
@@ -20,14 +19,7 @@ invariant_of-producer-2 c =
     }
 
 pub returns-clause-claims : goal.returns-clause-claims
-returns-clause-claims c t h =
+returns-clause-claims c =
     let told = c.in_ok-admission.ensures.told in
     let stored = c.store_message.ensures.stored _ _ (just_made _ _ _ _ _ _ _ _ told) in
-    record {
-      index = h.index;
-      message = h.message;
-      limit = h.limit;
-      claim =
-          has_more c.args.producer.now.seat.me.0 c.store_message.new.seat.me.0 _ t.place (IsOpen t.type_id t.len)
-          (written_claims _ _ _ _ _ _ _ _ told c.args.body.now refl c.store_message.new.seat.me.0 stored) h.claim;
-    }
+    keeps_claims _ (written_claims _ _ _ _ _ _ _ _ told c.args.body.now refl c.store_message.new.seat.me.0 stored)
