@@ -1,0 +1,118 @@
+//! The report of a board.
+use crate::picture::Mark;
+use crate::records::{Listed, Shown, Tally};
+use crate::report::Report;
+use crate::view::View;
+use ring_layout::byte_index;
+use ring_snapshot::{BoardRecord, BoardSnapshot};
+use std::alloc::{AllocError, Global};
+
+fn state_name(is_padding: bool, is_valid: bool) -> &'static str {
+    match (is_padding, is_valid) {
+        (false, true) => "valid",
+        (false, false) => "lapped",
+        (true, true) => "padding",
+        (true, false) => "lapped padding",
+    }
+}
+
+fn mark_of(is_padding: bool, is_valid: bool) -> Mark {
+    if is_padding {
+        Mark::AbortedOrPadding
+    } else if is_valid {
+        Mark::Committed
+    } else {
+        Mark::Lapped
+    }
+}
+
+impl<'a> From<BoardRecord<'a>> for Shown<'a> {
+    fn from(record: BoardRecord<'a>) -> Shown<'a> {
+        let (is_padding, is_valid) = (record.is_padding, record.is_valid);
+        Shown {
+            place: record.place,
+            index: record.index,
+            state: state_name(is_padding, is_valid),
+            mark: mark_of(is_padding, is_valid),
+            type_id: record.type_id,
+            length: record.length,
+            body: if is_padding { None } else { Some(record.body) },
+        }
+    }
+}
+
+/// Tests whether the intent goes beyond the begin of the running lap, so that the lap is not listed from there.
+fn is_overwritten(board: &BoardSnapshot<'_>) -> bool {
+    let capacity = board.capacity();
+    let latest = board.latest();
+    let lap = latest.saturating_sub(byte_index(capacity, latest));
+    board.intent().saturating_sub(lap) > u64::from(capacity)
+}
+
+fn summary(alloc: Global, board: &BoardSnapshot<'_>, tally: Tally) -> Result<String, AllocError> {
+    let Tally {
+        committed: valid,
+        lapped,
+        passed: padding,
+        ..
+    } = tally;
+    let mut text = format!(in alloc; "{valid} valid, {lapped} lapped, {padding} padding")?;
+    let (intent, tail) = (board.intent(), board.tail());
+    if intent > tail {
+        text.push_str(format!(in alloc; "; transmitting from {tail} to {intent}")?.as_str())?;
+    }
+    if is_overwritten(board) {
+        text.push_str("; the begin of the lap is overwritten")?;
+    }
+    Ok(text)
+}
+
+/// The numbers of the whole, with their names.
+fn numbers(board: &BoardSnapshot<'_>) -> [(&'static str, u64); 4] {
+    [
+        ("capacity", u64::from(board.capacity())),
+        ("tail_intent", board.intent()),
+        ("tail", board.tail()),
+        ("latest", board.latest()),
+    ]
+}
+
+/// Letters, and the byte indexes before which they stand.
+fn signs(board: &BoardSnapshot<'_>) -> [(char, u64); 3] {
+    let capacity = board.capacity();
+    [
+        ('L', byte_index(capacity, board.latest())),
+        ('T', byte_index(capacity, board.tail())),
+        ('I', byte_index(capacity, board.intent())),
+    ]
+}
+
+/// The records of the running lap, or those from a position on.
+fn list(alloc: Global, board: &BoardSnapshot<'_>, view: View) -> Result<Listed, AllocError> {
+    let mut listed = Listed::new(alloc, board.capacity(), view.bodies)?;
+    let begun = match view.from {
+        Some(position) => board.records_from(position),
+        None => board.records(),
+    };
+    match begun {
+        Ok(records) => listed.gather(alloc, records)?,
+        Err(finding) => listed.find(alloc, finding)?,
+    }
+    Ok(listed)
+}
+
+impl Report {
+    /// What lies in the words of a board: the running lap, or what is listed from the position that is asked for. Its
+    /// findings are as those of `of_ring`.
+    pub fn of_board(alloc: Global, words: &[u64], view: View) -> Result<Report, AllocError> {
+        let board = match BoardSnapshot::new(words) {
+            Ok(board) => board,
+            Err(finding) => {
+                return Report::refused(alloc, "board", "records", "not a board", finding);
+            }
+        };
+        let listed = list(alloc, &board, view)?;
+        let summary = summary(alloc, &board, listed.tally())?;
+        listed.report(alloc, "board", &numbers(&board), &signs(&board), summary)
+    }
+}

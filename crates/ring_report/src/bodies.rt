@@ -1,0 +1,27 @@
+//! Bytes as text.
+use crate::report::Cell;
+use crate::view::Bodies;
+use std::alloc::{AllocError, Global};
+
+/// Printable ASCII as it is, and a dot for every other byte.
+fn as_text(alloc: Global, bytes: &[u8]) -> Result<String, AllocError> {
+    let mut text = String::new(alloc);
+    for byte in bytes {
+        text.push(if *byte >= 32 && *byte < 127 {
+            char::from(*byte)
+        } else {
+            '.'
+        })?;
+    }
+    Ok(text)
+}
+
+/// Bytes as they are to be shown: `-` for no bytes in hexadecimal digits.
+pub fn cell(alloc: Global, bodies: Bodies, bytes: &[u8]) -> Result<Cell, AllocError> {
+    Ok(match bodies {
+        Bodies::None => Cell::Nothing,
+        Bodies::Text => Cell::Text(as_text(alloc, bytes)?),
+        Bodies::Hex if bytes.is_empty() => Cell::Text(String::from_str(alloc, "-")?),
+        Bodies::Hex => Cell::Text(hex::encode(alloc, bytes)?),
+    })
+}

@@ -1,0 +1,86 @@
+//! A buffer as one line.
+use std::alloc::{AllocError, Global};
+
+/// The most characters of a buffer.
+const MAX_WIDTH: u32 = 64;
+
+/// What a piece of the buffer is shown as, the weakest first: of two the stronger one is shown.
+#[derive(Clone, Copy, Debug, PartialEq, Eq, PartialOrd, Ord)]
+pub enum Mark {
+    Free,
+    AbortedOrPadding,
+    Aborted,
+    Lapped,
+    Committed,
+    Unstored,
+    Open,
+}
+
+impl Mark {
+    fn letter(self) -> char {
+        match self {
+            Mark::Free => '.',
+            Mark::AbortedOrPadding => '-',
+            Mark::Aborted => 'x',
+            Mark::Lapped => '~',
+            Mark::Committed => '=',
+            Mark::Unstored => '?',
+            Mark::Open => 'O',
+        }
+    }
+}
+
+/// A buffer in equal pieces.
+#[derive(Debug, Drop)]
+pub struct Picture {
+    capacity: u32,
+    width: u32,
+    marks: Vec<Mark>,
+}
+
+impl Picture {
+    /// A buffer with nothing in it.
+    pub fn new(alloc: Global, capacity: u32) -> Result<Picture, AllocError> {
+        let width = (capacity / 8).min(MAX_WIDTH);
+        let marks = vec![in alloc; Mark::Free; width as usize]?;
+        Ok(Picture {
+            capacity,
+            width,
+            marks,
+        })
+    }
+
+    /// The piece of a byte index.
+    fn piece(&self, index: u64) -> usize {
+        let capacity = u64::from(self.capacity.max(1));
+        (index.min(capacity) * u64::from(self.width) / capacity) as usize
+    }
+
+    /// Marks bytes from a byte index on, as far as the buffer goes.
+    pub fn mark(&mut self, index: u32, bytes: u64, mark: Mark) {
+        let first = self.piece(u64::from(index));
+        let end = u64::from(index).saturating_add(bytes.max(1) - 1);
+        let last = self.piece(end.min(u64::from(self.capacity.max(1)) - 1));
+        for (k, own) in self.marks.iter_mut().enumerate() {
+            if k >= first && k <= last && *own < mark {
+                *own = mark;
+            }
+        }
+    }
+
+    /// The line, with letters before the pieces of these byte indexes.
+    pub fn line(&self, alloc: Global, signs: &[(char, u64)]) -> Result<String, AllocError> {
+        let mut line = String::new(alloc);
+        line.push('[')?;
+        for (k, mark) in self.marks.iter().enumerate() {
+            for (letter, index) in signs {
+                if self.piece(*index) == k {
+                    line.push(*letter)?;
+                }
+            }
+            line.push(mark.letter())?;
+        }
+        line.push(']')?;
+        Ok(line)
+    }
+}

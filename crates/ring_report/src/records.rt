@@ -1,0 +1,186 @@
+//! A list of records: what rings and boards have in common.
+ghost use Rattle.std.specs.Iterator.{IsFinite};
+
+use crate::bodies;
+use crate::picture::{Mark, Picture};
+use crate::report::{Cell, Report, columns, fields};
+use crate::view::Bodies;
+use ring_layout::align8;
+use ring_snapshot::Body;
+use std::alloc::{AllocError, Global};
+use std::fmt::Display;
+
+/// The columns of a list of records, each with whether it has numbers.
+static COLUMNS: [(&str, bool); 5] = [
+    ("place", true),
+    ("index", true),
+    ("state", false),
+    ("type", true),
+    ("length", true),
+];
+
+/// A record as it is shown.
+#[derive(Drop)]
+pub struct Shown<'a> {
+    pub place: u64,
+    pub index: u32,
+    pub state: &'static str,
+    pub mark: Mark,
+    pub type_id: i32,
+    pub length: u32,
+    /// Its message, where it has one.
+    pub body: Option<Body<'a>>,
+}
+
+fn body_cell(alloc: Global, bodies: Bodies, body: Option<Body<'_>>) -> Result<Cell, AllocError> {
+    let Some(body) = body else {
+        return Ok(Cell::Nothing);
+    };
+    let bytes: Vec<u8> = body.collect(alloc)?;
+    bodies::cell(alloc, bodies, bytes.as_slice())
+}
+
+impl<'a> Shown<'a> {
+    /// Its cells, one for each column.
+    fn row(self, alloc: Global, bodies: Bodies) -> Result<Vec<Cell>, AllocError> {
+        let state = String::from_str(alloc, self.state)?;
+        let mut row = vec![in alloc;
+            Cell::Unsigned(self.place),
+            Cell::Unsigned(u64::from(self.index)),
+            Cell::Text(state),
+            Cell::Signed(i64::from(self.type_id)),
+            Cell::Unsigned(u64::from(self.length)),
+        ]?;
+        if bodies != Bodies::None {
+            row.push(body_cell(alloc, bodies, self.body)?)?;
+        }
+        Ok(row)
+    }
+}
+
+/// How many records there are of each mark.
+#[derive(Clone, Copy, Debug, Default)]
+pub struct Tally {
+    pub committed: u32,
+    pub lapped: u32,
+    pub open: u32,
+    /// Aborted ones, and padding.
+    pub passed: u32,
+    pub unstored: bool,
+    /// The place of the first record at which a reader stops.
+    pub blocked: Option<u64>,
+}
+
+impl Tally {
+    fn add(&mut self, mark: Mark, place: u64) {
+        match mark {
+            Mark::Committed => self.committed = self.committed.saturating_add(1),
+            Mark::Lapped => self.lapped = self.lapped.saturating_add(1),
+            Mark::Aborted | Mark::AbortedOrPadding => self.passed = self.passed.saturating_add(1),
+            Mark::Open => {
+                self.open = self.open.saturating_add(1);
+                self.blocked = self.blocked.or(Some(place));
+            }
+            Mark::Unstored => {
+                self.unstored = true;
+                self.blocked = self.blocked.or(Some(place));
+            }
+            Mark::Free => {}
+        }
+    }
+}
+
+/// What is gathered of the records of a buffer.
+#[derive(Drop)]
+pub struct Listed {
+    capacity: u32,
+    bodies: Bodies,
+    picture: Picture,
+    tally: Tally,
+    rows: Vec<Vec<Cell>>,
+    findings: Vec<String>,
+}
+
+impl Listed {
+    /// Nothing yet of a buffer.
+    pub fn new(alloc: Global, capacity: u32, bodies: Bodies) -> Result<Listed, AllocError> {
+        Ok(Listed {
+            capacity,
+            bodies,
+            picture: Picture::new(alloc, capacity)?,
+            tally: Tally::default(),
+            rows: Vec::new(alloc),
+            findings: Vec::new(alloc),
+        })
+    }
+
+    /// Marks the bytes of a record. Where headers are not yet stored they may go on at the buffer's start.
+    fn mark(&mut self, index: u32, length: u32, mark: Mark) {
+        let span = align8(u64::from(length));
+        let room = u64::from(self.capacity.saturating_sub(index));
+        self.picture.mark(index, span.min(room), mark);
+        if span > room {
+            self.picture.mark(0, span - room, mark);
+        }
+    }
+
+    /// Adds a record.
+    fn add(&mut self, alloc: Global, shown: Shown<'_>) -> Result<(), AllocError> {
+        self.mark(shown.index, shown.length, shown.mark);
+        self.tally.add(shown.mark, shown.place);
+        let row = shown.row(alloc, self.bodies)?;
+        self.rows.push(row)?;
+        Ok(())
+    }
+
+    /// Adds what is wrong with the words.
+    pub fn find<F: Display + Drop>(&mut self, alloc: Global, finding: F) -> Result<(), AllocError> {
+        self.findings.push(format!(in alloc; "{finding}")?)?;
+        Ok(())
+    }
+
+    /// Adds the records of a listing, and what it finds wrong.
+    pub fn gather<
+        'a,
+        R: Into<Shown<'a>> + Drop,
+        F: Display + Drop,
+        I: Iterator<Item = Result<R, F>> + Drop,
+    >(&mut self, alloc: Global, records: I) -> Result<(), AllocError>
+        requires can { I.can_next records }
+        requires ends { IsFinite (I.remaining records) }
+    {
+        for entry in records {
+            match entry {
+                Ok(record) => self.add(alloc, record.into())?,
+                Err(finding) => self.find(alloc, finding)?,
+            }
+        }
+        Ok(())
+    }
+
+    /// How many records were added.
+    pub fn tally(&self) -> Tally {
+        self.tally
+    }
+
+    /// The report of it: numbers with their names, and letters before the pieces of these byte indexes.
+    pub fn report(
+        self,
+        alloc: Global,
+        kind: &'static str,
+        named: &[(&'static str, u64)],
+        signs: &[(char, u64)],
+        summary: String,
+    ) -> Result<Report, AllocError> {
+        Ok(Report {
+            kind,
+            fields: fields(alloc, named)?,
+            picture: self.picture.line(alloc, signs)?,
+            list: "records",
+            columns: columns(alloc, COLUMNS.as_slice(), self.bodies, "body")?,
+            rows: self.rows,
+            summary,
+            findings: self.findings,
+        })
+    }
+}

@@ -1,0 +1,115 @@
+//! What is shown, whatever it is and however it is printed.
+use crate::view::Bodies;
+use std::alloc::{AllocError, Global};
+use std::fmt::Display;
+
+/// A value in a table.
+#[derive(Debug, Drop)]
+pub enum Cell {
+    /// No value: an empty place in a table, `null` in JSON.
+    Nothing,
+    /// A number that is never negative.
+    Unsigned(u64),
+    /// A number.
+    Signed(i64),
+    /// A text.
+    Text(String),
+}
+
+/// A value with a name.
+#[derive(Debug, Drop)]
+pub struct Field {
+    /// Its name.
+    pub name: &'static str,
+    /// The value.
+    pub value: Cell,
+}
+
+/// A column of the list.
+#[derive(Clone, Copy, Debug, PartialEq, Eq)]
+pub struct Column {
+    /// Its name, which is that of its cells in JSON.
+    pub name: &'static str,
+    /// Whether it has numbers, which stand at its right.
+    pub is_number: bool,
+}
+
+/// What lies in a copy of memory.
+#[derive(Debug, Drop)]
+pub struct Report {
+    /// What it is: `ring`, `board` or `counters`.
+    pub kind: &'static str,
+    /// What holds of the whole.
+    pub fields: Vec<Field>,
+    /// The buffer as one line, empty where there is none.
+    pub picture: String,
+    /// The list's name: `records` or `counters`.
+    pub list: &'static str,
+    /// The list's columns.
+    pub columns: Vec<Column>,
+    /// The list's rows, each with a cell for each column.
+    pub rows: Vec<Vec<Cell>>,
+    /// How many of each kind there are, in one line.
+    pub summary: String,
+    /// What is wrong with the memory, one text each.
+    pub findings: Vec<String>,
+}
+
+impl Report {
+    /// The report of memory that is not what it is said to be.
+    pub(crate) fn refused<F: Display + Drop>(
+        alloc: Global,
+        kind: &'static str,
+        list: &'static str,
+        summary: &str,
+        finding: F,
+    ) -> Result<Report, AllocError> {
+        let mut findings = Vec::new(alloc);
+        findings.push(format!(in alloc; "{finding}")?)?;
+        Ok(Report {
+            kind,
+            fields: Vec::new(alloc),
+            picture: String::new(alloc),
+            list,
+            columns: Vec::new(alloc),
+            rows: Vec::new(alloc),
+            summary: String::from_str(alloc, summary)?,
+            findings,
+        })
+    }
+}
+
+/// Numbers, each with its name.
+pub fn fields(alloc: Global, named: &[(&'static str, u64)]) -> Result<Vec<Field>, AllocError> {
+    let mut fields = Vec::new(alloc);
+    for (name, value) in named {
+        fields.push(Field {
+            name: *name,
+            value: Cell::Unsigned(*value),
+        })?;
+    }
+    Ok(fields)
+}
+
+/// The columns of these names, each with whether it has numbers; and a last one for bytes, where these are shown.
+pub fn columns(
+    alloc: Global,
+    named: &[(&'static str, bool)],
+    bodies: Bodies,
+    last: &'static str,
+) -> Result<Vec<Column>, AllocError> {
+    let mut columns = Vec::new(alloc);
+    for (name, is_number) in named {
+        columns.push(Column {
+            name: *name,
+            is_number: *is_number,
+        })?;
+    }
+    if bodies != Bodies::None {
+        columns.push(Column {
+            name: last,
+            is_number: false,
+        })?;
+    }
+    Ok(columns)
+}

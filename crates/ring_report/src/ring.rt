@@ -1,0 +1,113 @@
+//! The report of a ring.
+use crate::picture::Mark;
+use crate::records::{Listed, Shown, Tally};
+use crate::report::Report;
+use crate::view::View;
+use ring_layout::byte_index;
+use ring_snapshot::{Record, RecordState, RingSnapshot};
+use std::alloc::{AllocError, Global};
+
+fn state_name(state: RecordState) -> &'static str {
+    match state {
+        RecordState::Open => "open",
+        RecordState::Committed => "committed",
+        RecordState::Aborted => "aborted",
+        RecordState::AbortedOrPadding => "aborted or padding",
+        RecordState::Unstored => "not stored yet",
+    }
+}
+
+fn mark_of(state: RecordState) -> Mark {
+    match state {
+        RecordState::Open => Mark::Open,
+        RecordState::Committed => Mark::Committed,
+        RecordState::Aborted => Mark::Aborted,
+        RecordState::AbortedOrPadding => Mark::AbortedOrPadding,
+        RecordState::Unstored => Mark::Unstored,
+    }
+}
+
+impl<'a> From<Record<'a>> for Shown<'a> {
+    fn from(record: Record<'a>) -> Shown<'a> {
+        let has_message = matches!(record.state, RecordState::Open | RecordState::Committed);
+        Shown {
+            place: record.place,
+            index: record.index,
+            state: state_name(record.state),
+            mark: mark_of(record.state),
+            type_id: record.type_id,
+            length: record.length,
+            body: if has_message { Some(record.body) } else { None },
+        }
+    }
+}
+
+fn summary(alloc: Global, ring: &RingSnapshot<'_>, tally: Tally) -> Result<String, AllocError> {
+    let Tally {
+        committed,
+        open,
+        passed,
+        unstored,
+        blocked,
+        ..
+    } = tally;
+    let mut text = format!(in alloc;
+        "{committed} committed, {open} open, {passed} aborted or padding"
+    )?;
+    if unstored {
+        text.push_str(", then headers not yet stored")?;
+    }
+    let used = ring.tail().checked_sub(ring.head());
+    if let Some(free) = used.and_then(|used| u64::from(ring.capacity()).checked_sub(used)) {
+        text.push_str(format!(in alloc; "; {free} of {} bytes free", ring.capacity())?.as_str())?;
+    }
+    if let Some(place) = blocked {
+        text.push_str(format!(in alloc; "; blocked at {place}")?.as_str())?;
+    }
+    Ok(text)
+}
+
+/// The numbers of the whole, with their names.
+fn numbers(ring: &RingSnapshot<'_>) -> [(&'static str, u64); 6] {
+    [
+        ("capacity", u64::from(ring.capacity())),
+        ("head", ring.head()),
+        ("tail", ring.tail()),
+        ("head_cache", ring.head_cache()),
+        ("correlation", ring.correlation()),
+        ("heartbeat", ring.heartbeat()),
+    ]
+}
+
+/// Letters, and the byte indexes before which they stand.
+fn signs(ring: &RingSnapshot<'_>) -> [(char, u64); 2] {
+    let capacity = ring.capacity();
+    [
+        ('H', byte_index(capacity, ring.head())),
+        ('T', byte_index(capacity, ring.tail())),
+    ]
+}
+
+/// The records from the head on, or from a position on.
+fn list(alloc: Global, ring: &RingSnapshot<'_>, view: View) -> Result<Listed, AllocError> {
+    let mut listed = Listed::new(alloc, ring.capacity(), view.bodies)?;
+    match ring.records_from(view.from.unwrap_or(ring.head())) {
+        Ok(records) => listed.gather(alloc, records)?,
+        Err(finding) => listed.find(alloc, finding)?,
+    }
+    Ok(listed)
+}
+
+impl Report {
+    /// What lies in the words of a ring, from its head on, or from the position that is asked for. Words that are not
+    /// those of a ring, positions that make no sense, and what is wrong with the records are its findings.
+    pub fn of_ring(alloc: Global, words: &[u64], view: View) -> Result<Report, AllocError> {
+        let ring = match RingSnapshot::new(words) {
+            Ok(ring) => ring,
+            Err(finding) => return Report::refused(alloc, "ring", "records", "not a ring", finding),
+        };
+        let listed = list(alloc, &ring, view)?;
+        let summary = summary(alloc, &ring, listed.tally())?;
+        listed.report(alloc, "ring", &numbers(&ring), &signs(&ring), summary)
+    }
+}
