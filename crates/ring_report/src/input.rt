@@ -94,8 +94,8 @@ pub fn words_of_bytes(alloc: Global, bytes: &[u8]) -> Result<Vec<u64>, InputFaul
 
 /// The words of a section of a file, little-endian.
 ///
-/// `Unread` comes where the file cannot be opened or a read fails, `TooLarge` where the section has more than 16,777,984
-/// bytes, `TooShort` where the file ends before it does, and `NotWords` as for `words_of_bytes`.
+/// `Unread` comes where the file cannot be opened or a read fails, `TooLarge` where the section has more than
+/// 16,777,984 bytes, `TooShort` where the file ends before it does, and `NotWords` as for `words_of_bytes`.
 pub fn section_words<R: AllocGlobal + Files>(
     rt: &R,
     section: Section<'_>,

@@ -120,8 +120,8 @@ fn push_list(alloc: Global, text: &mut String, report: &Report) -> Result<(), Al
 }
 
 impl Report {
-    /// The report as a table: a line of what holds of the whole, the picture of a buffer, the list with the names of its
-    /// columns, and the summary. The findings are not in it.
+    /// The report as a table: a line of what holds of the whole, the picture of a buffer, the list with the names of
+    /// its columns, and the summary. The findings are not in it.
     pub fn to_table(&self, alloc: Global) -> Result<String, AllocError> {
         let mut text = String::new(alloc);
         push_fields(alloc, &mut text, self)?;
