@@ -2,27 +2,13 @@
 //! and prints a table that a person reads, or JSON.
 #![tactic(auto)]
 
-mod board;
-mod bodies;
-mod counters;
 mod fault;
 mod help;
-mod input;
-mod json;
 mod options;
-mod picture;
-mod records;
-mod report;
-mod ring;
-#[cfg(test)]
-mod stored_tests;
-mod table;
-#[cfg(test)]
-mod tests;
 
 use fault::ShowFault;
 use options::{Format, Options, Subject};
-use report::Report;
+use ring_report::{Report, section_words};
 use std::env::Env;
 use std::io::Write;
 use std::process::ExitCode;
@@ -57,10 +43,18 @@ fn run<R: AllocGlobal + Env + Files + Print + Eprint>(rt: &R) -> Result<ExitCode
             return Ok(ExitCode::from(error.exit_code() as u8));
         }
     };
-    let report = report_of(rt, &options)?;
+    show(rt, &options)
+}
+
+/// Prints what lies in the files, and then what is wrong with it.
+fn show<R: AllocGlobal + Files + Print + Eprint>(
+    rt: &R,
+    options: &Options<'_>,
+) -> Result<ExitCode, ShowFault> {
+    let report = report_of(rt, options)?;
     let text = match options.format {
-        Format::Table => table::text(alloc, &report)?,
-        Format::Json => json::text(alloc, &report)?,
+        Format::Table => report.to_table(rt.alloc())?,
+        Format::Json => report.to_json(rt.alloc())?,
     };
     let mut output = io::writer(rt);
     let written = output.write_all(text.as_bytes());
@@ -77,20 +71,20 @@ fn run<R: AllocGlobal + Env + Files + Print + Eprint>(rt: &R) -> Result<ExitCode
 
 /// Reads the files, and says what lies in them.
 fn report_of<R: AllocGlobal + Files>(rt: &R, options: &Options<'_>) -> Result<Report, ShowFault> {
-    let alloc = rt.alloc();
+    let (alloc, view) = (rt.alloc(), options.view);
     Ok(match options.subject {
         Subject::Ring(section) => {
-            let words = input::words(rt, section)?;
-            ring::report(alloc, words.as_slice(), options)?
+            let words = section_words(rt, section)?;
+            Report::of_ring(alloc, words.as_slice(), view)?
         }
         Subject::Board(section) => {
-            let words = input::words(rt, section)?;
-            board::report(alloc, words.as_slice(), options)?
+            let words = section_words(rt, section)?;
+            Report::of_board(alloc, words.as_slice(), view)?
         }
         Subject::Counters { metadata, values } => {
-            let metadata = input::words(rt, metadata)?;
-            let values = input::words(rt, values)?;
-            counters::report(alloc, metadata.as_slice(), values.as_slice(), options)?
+            let metadata = section_words(rt, metadata)?;
+            let values = section_words(rt, values)?;
+            Report::of_counters(alloc, metadata.as_slice(), values.as_slice(), view)?
         }
     })
 }

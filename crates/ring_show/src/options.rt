@@ -1,15 +1,8 @@
 //! The command line.
 use crate::help;
 use clap::{Arg, ArgAction, ArgMatches, Command, Error, value_parser};
+use ring_report::{Bodies, Section, View};
 use std::alloc::Global;
-
-/// A section of a file, in bytes. Without a length it goes to the file's end.
-#[derive(Clone, Copy, Debug)]
-pub struct Section<'a> {
-    pub file: &'a str,
-    pub at: u64,
-    pub length: Option<u64>,
-}
 
 /// What is shown, and where its memory lies.
 #[derive(Clone, Copy, Debug)]
@@ -20,14 +13,6 @@ pub enum Subject<'a> {
         metadata: Section<'a>,
         values: Section<'a>,
     },
-}
-
-/// How the bytes of messages, keys and labels are shown.
-#[derive(Clone, Copy, Debug, PartialEq, Eq)]
-pub enum Bodies {
-    Hex,
-    Text,
-    None,
 }
 
 /// What is printed.
@@ -41,8 +26,7 @@ pub enum Format {
 #[derive(Clone, Copy, Debug)]
 pub struct Options<'a> {
     pub subject: Subject<'a>,
-    pub from: Option<u64>,
-    pub bodies: Bodies,
+    pub view: View,
     pub format: Format,
 }
 
@@ -141,11 +125,13 @@ fn options_of<'a>(name: &str, matches: &ArgMatches<'a>) -> Options<'a> {
             },
             _ => Subject::Ring(named_section(matches, "FILE", "at", "length")),
         },
-        from: matches.get_one("from"),
-        bodies: match matches.get_str("bodies") {
-            Some("text") => Bodies::Text,
-            Some("none") => Bodies::None,
-            _ => Bodies::Hex,
+        view: View {
+            from: matches.get_one("from"),
+            bodies: match matches.get_str("bodies") {
+                Some("text") => Bodies::Text,
+                Some("none") => Bodies::None,
+                _ => Bodies::Hex,
+            },
         },
         format: match matches.get_str("format") {
             Some("json") => Format::Json,

@@ -26,10 +26,3 @@ pub use record::{Record, RecordState};
 pub use ring::{Records, RingSnapshot};
 pub use ring_finding::RingFinding;
 pub use write::{CounterMetadata, CounterValueWords, Words, write_words};
-
-#[cfg(test)]
-mod counters_tests;
-#[cfg(test)]
-mod tests;
-#[cfg(test)]
-mod write_tests;

@@ -1,8 +1,8 @@
 //! The report of a board.
-use crate::options::Options;
 use crate::picture::Mark;
 use crate::records::{Listed, Shown, Tally};
 use crate::report::Report;
+use crate::view::View;
 use ring_layout::byte_index;
 use ring_snapshot::{BoardRecord, BoardSnapshot};
 use std::alloc::{AllocError, Global};
@@ -67,15 +67,30 @@ fn summary(alloc: Global, board: &BoardSnapshot<'_>, tally: Tally) -> Result<Str
     Ok(text)
 }
 
-/// What lies in the words of a board: the running lap, or what is listed from the position that was asked for.
-pub fn report(alloc: Global, words: &[u64], options: &Options<'_>) -> Result<Report, AllocError> {
-    let board = match BoardSnapshot::new(words) {
-        Ok(board) => board,
-        Err(finding) => return Report::refused(alloc, "board", "records", "not a board", finding),
-    };
+/// The numbers of the whole, with their names.
+fn numbers(board: &BoardSnapshot<'_>) -> [(&'static str, u64); 4] {
+    [
+        ("capacity", u64::from(board.capacity())),
+        ("tail_intent", board.intent()),
+        ("tail", board.tail()),
+        ("latest", board.latest()),
+    ]
+}
+
+/// Letters, and the byte indexes before which they stand.
+fn signs(board: &BoardSnapshot<'_>) -> [(char, u64); 3] {
     let capacity = board.capacity();
-    let mut listed = Listed::new(alloc, capacity, options.bodies)?;
-    let begun = match options.from {
+    [
+        ('L', byte_index(capacity, board.latest())),
+        ('T', byte_index(capacity, board.tail())),
+        ('I', byte_index(capacity, board.intent())),
+    ]
+}
+
+/// The records of the running lap, or those from a position on.
+fn list(alloc: Global, board: &BoardSnapshot<'_>, view: View) -> Result<Listed, AllocError> {
+    let mut listed = Listed::new(alloc, board.capacity(), view.bodies)?;
+    let begun = match view.from {
         Some(position) => board.records_from(position),
         None => board.records(),
     };
@@ -83,17 +98,21 @@ pub fn report(alloc: Global, words: &[u64], options: &Options<'_>) -> Result<Rep
         Ok(records) => listed.gather(alloc, records)?,
         Err(finding) => listed.find(alloc, finding)?,
     }
-    let summary = summary(alloc, &board, listed.tally())?;
-    let named = [
-        ("capacity", u64::from(capacity)),
-        ("tail_intent", board.intent()),
-        ("tail", board.tail()),
-        ("latest", board.latest()),
-    ];
-    let signs = [
-        ('L', byte_index(capacity, board.latest())),
-        ('T', byte_index(capacity, board.tail())),
-        ('I', byte_index(capacity, board.intent())),
-    ];
-    listed.report(alloc, "board", &named, &signs, summary)
+    Ok(listed)
+}
+
+impl Report {
+    /// What lies in the words of a board: the running lap, or what is listed from the position that is asked for. Its
+    /// findings are as those of `of_ring`.
+    pub fn of_board(alloc: Global, words: &[u64], view: View) -> Result<Report, AllocError> {
+        let board = match BoardSnapshot::new(words) {
+            Ok(board) => board,
+            Err(finding) => {
+                return Report::refused(alloc, "board", "records", "not a board", finding);
+            }
+        };
+        let listed = list(alloc, &board, view)?;
+        let summary = summary(alloc, &board, listed.tally())?;
+        listed.report(alloc, "board", &numbers(&board), &signs(&board), summary)
+    }
 }

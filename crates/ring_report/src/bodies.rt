@@ -1,6 +1,6 @@
 //! Bytes as text.
-use crate::options::Bodies;
 use crate::report::Cell;
+use crate::view::Bodies;
 use std::alloc::{AllocError, Global};
 
 /// Printable ASCII as it is, and a dot for every other byte.

@@ -1,8 +1,8 @@
 //! The report of a ring.
-use crate::options::Options;
 use crate::picture::Mark;
 use crate::records::{Listed, Shown, Tally};
 use crate::report::Report;
+use crate::view::View;
 use ring_layout::byte_index;
 use ring_snapshot::{Record, RecordState, RingSnapshot};
 use std::alloc::{AllocError, Global};
@@ -67,30 +67,47 @@ fn summary(alloc: Global, ring: &RingSnapshot<'_>, tally: Tally) -> Result<Strin
     Ok(text)
 }
 
-/// What lies in the words of a ring, from its head on, or from the position that was asked for.
-pub fn report(alloc: Global, words: &[u64], options: &Options<'_>) -> Result<Report, AllocError> {
-    let ring = match RingSnapshot::new(words) {
-        Ok(ring) => ring,
-        Err(finding) => return Report::refused(alloc, "ring", "records", "not a ring", finding),
-    };
-    let capacity = ring.capacity();
-    let mut listed = Listed::new(alloc, capacity, options.bodies)?;
-    match ring.records_from(options.from.unwrap_or(ring.head())) {
-        Ok(records) => listed.gather(alloc, records)?,
-        Err(finding) => listed.find(alloc, finding)?,
-    }
-    let summary = summary(alloc, &ring, listed.tally())?;
-    let named = [
-        ("capacity", u64::from(capacity)),
+/// The numbers of the whole, with their names.
+fn numbers(ring: &RingSnapshot<'_>) -> [(&'static str, u64); 6] {
+    [
+        ("capacity", u64::from(ring.capacity())),
         ("head", ring.head()),
         ("tail", ring.tail()),
         ("head_cache", ring.head_cache()),
         ("correlation", ring.correlation()),
         ("heartbeat", ring.heartbeat()),
-    ];
-    let signs = [
+    ]
+}
+
+/// Letters, and the byte indexes before which they stand.
+fn signs(ring: &RingSnapshot<'_>) -> [(char, u64); 2] {
+    let capacity = ring.capacity();
+    [
         ('H', byte_index(capacity, ring.head())),
         ('T', byte_index(capacity, ring.tail())),
-    ];
-    listed.report(alloc, "ring", &named, &signs, summary)
+    ]
+}
+
+/// The records from the head on, or from a position on.
+fn list(alloc: Global, ring: &RingSnapshot<'_>, view: View) -> Result<Listed, AllocError> {
+    let mut listed = Listed::new(alloc, ring.capacity(), view.bodies)?;
+    match ring.records_from(view.from.unwrap_or(ring.head())) {
+        Ok(records) => listed.gather(alloc, records)?,
+        Err(finding) => listed.find(alloc, finding)?,
+    }
+    Ok(listed)
+}
+
+impl Report {
+    /// What lies in the words of a ring, from its head on, or from the position that is asked for. Words that are not
+    /// those of a ring, positions that make no sense, and what is wrong with the records are its findings.
+    pub fn of_ring(alloc: Global, words: &[u64], view: View) -> Result<Report, AllocError> {
+        let ring = match RingSnapshot::new(words) {
+            Ok(ring) => ring,
+            Err(finding) => return Report::refused(alloc, "ring", "records", "not a ring", finding),
+        };
+        let listed = list(alloc, &ring, view)?;
+        let summary = summary(alloc, &ring, listed.tally())?;
+        listed.report(alloc, "ring", &numbers(&ring), &signs(&ring), summary)
+    }
 }

@@ -2,9 +2,9 @@
 ghost use Rattle.std.specs.Iterator.{IsFinite};
 
 use crate::bodies;
-use crate::options::Bodies;
 use crate::picture::{Mark, Picture};
 use crate::report::{Cell, Report, columns, fields};
+use crate::view::Bodies;
 use ring_layout::align8;
 use ring_snapshot::Body;
 use std::alloc::{AllocError, Global};
@@ -32,23 +32,27 @@ pub struct Shown<'a> {
     pub body: Option<Body<'a>>,
 }
 
+fn body_cell(alloc: Global, bodies: Bodies, body: Option<Body<'_>>) -> Result<Cell, AllocError> {
+    let Some(body) = body else {
+        return Ok(Cell::Nothing);
+    };
+    let bytes: Vec<u8> = body.collect(alloc)?;
+    bodies::cell(alloc, bodies, bytes.as_slice())
+}
+
 impl<'a> Shown<'a> {
     /// Its cells, one for each column.
     fn row(self, alloc: Global, bodies: Bodies) -> Result<Vec<Cell>, AllocError> {
-        let mut row = Vec::new(alloc);
-        row.push(Cell::Unsigned(self.place))?;
-        row.push(Cell::Unsigned(u64::from(self.index)))?;
-        row.push(Cell::Text(String::from_str(alloc, self.state)?))?;
-        row.push(Cell::Signed(i64::from(self.type_id)))?;
-        row.push(Cell::Unsigned(u64::from(self.length)))?;
+        let state = String::from_str(alloc, self.state)?;
+        let mut row = vec![in alloc;
+            Cell::Unsigned(self.place),
+            Cell::Unsigned(u64::from(self.index)),
+            Cell::Text(state),
+            Cell::Signed(i64::from(self.type_id)),
+            Cell::Unsigned(u64::from(self.length)),
+        ]?;
         if bodies != Bodies::None {
-            row.push(match self.body {
-                Some(body) => {
-                    let bytes: Vec<u8> = body.collect(alloc)?;
-                    bodies::cell(alloc, bodies, bytes.as_slice())?
-                }
-                None => Cell::Nothing,
-            })?;
+            row.push(body_cell(alloc, bodies, self.body)?)?;
         }
         Ok(row)
     }
@@ -110,14 +114,19 @@ impl Listed {
         })
     }
 
-    /// Adds a record. Where headers are not yet stored its bytes may go on at the buffer's start.
-    fn add(&mut self, alloc: Global, shown: Shown<'_>) -> Result<(), AllocError> {
-        let span = align8(u64::from(shown.length));
-        let room = u64::from(self.capacity.saturating_sub(shown.index));
-        self.picture.mark(shown.index, span.min(room), shown.mark);
+    /// Marks the bytes of a record. Where headers are not yet stored they may go on at the buffer's start.
+    fn mark(&mut self, index: u32, length: u32, mark: Mark) {
+        let span = align8(u64::from(length));
+        let room = u64::from(self.capacity.saturating_sub(index));
+        self.picture.mark(index, span.min(room), mark);
         if span > room {
-            self.picture.mark(0, span - room, shown.mark);
+            self.picture.mark(0, span - room, mark);
         }
+    }
+
+    /// Adds a record.
+    fn add(&mut self, alloc: Global, shown: Shown<'_>) -> Result<(), AllocError> {
+        self.mark(shown.index, shown.length, shown.mark);
         self.tally.add(shown.mark, shown.place);
         let row = shown.row(alloc, self.bodies)?;
         self.rows.push(row)?;

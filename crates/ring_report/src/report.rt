@@ -1,27 +1,34 @@
 //! What is shown, whatever it is and however it is printed.
-use crate::options::Bodies;
+use crate::view::Bodies;
 use std::alloc::{AllocError, Global};
 use std::fmt::Display;
 
 /// A value in a table.
 #[derive(Debug, Drop)]
 pub enum Cell {
+    /// No value: an empty place in a table, `null` in JSON.
     Nothing,
+    /// A number that is never negative.
     Unsigned(u64),
+    /// A number.
     Signed(i64),
+    /// A text.
     Text(String),
 }
 
 /// A value with a name.
 #[derive(Debug, Drop)]
 pub struct Field {
+    /// Its name.
     pub name: &'static str,
+    /// The value.
     pub value: Cell,
 }
 
 /// A column of the list.
 #[derive(Clone, Copy, Debug, PartialEq, Eq)]
 pub struct Column {
+    /// Its name, which is that of its cells in JSON.
     pub name: &'static str,
     /// Whether it has numbers, which stand at its right.
     pub is_number: bool,
@@ -38,15 +45,19 @@ pub struct Report {
     pub picture: String,
     /// The list's name: `records` or `counters`.
     pub list: &'static str,
+    /// The list's columns.
     pub columns: Vec<Column>,
+    /// The list's rows, each with a cell for each column.
     pub rows: Vec<Vec<Cell>>,
+    /// How many of each kind there are, in one line.
     pub summary: String,
+    /// What is wrong with the memory, one text each.
     pub findings: Vec<String>,
 }
 
 impl Report {
     /// The report of memory that is not what it is said to be.
-    pub fn refused<F: Display + Drop>(
+    pub(crate) fn refused<F: Display + Drop>(
         alloc: Global,
         kind: &'static str,
         list: &'static str,

@@ -1,0 +1,163 @@
+//! The report of counters.
+use crate::bodies;
+use crate::report::{Cell, Report, columns, fields};
+use crate::view::{Bodies, View};
+use ring_layout::counter_descriptor::NOT_FREE_FOR_REUSE;
+use ring_snapshot::{Body, Counter, CounterState, CountersFinding, CountersSnapshot};
+use std::alloc::{AllocError, Global};
+
+/// The columns of a list of counters, each with whether it has numbers.
+static COLUMNS: [(&str, bool); 8] = [
+    ("id", true),
+    ("state", false),
+    ("type", true),
+    ("value", true),
+    ("registration", true),
+    ("owner", true),
+    ("deadline", true),
+    ("label", false),
+];
+
+fn state_name(state: CounterState) -> &'static str {
+    match state {
+        CounterState::Allocated => "in use",
+        CounterState::Reclaimed => "freed",
+    }
+}
+
+/// A key without the zeros at its end: memory does not tell how long it is.
+fn key_cell(alloc: Global, bodies: Bodies, key: Body<'_>) -> Result<Cell, AllocError> {
+    let bytes: Vec<u8> = key.collect(alloc)?;
+    let mut len = 0;
+    for (k, byte) in bytes.iter().enumerate() {
+        if *byte != 0 {
+            len = k + 1;
+        }
+    }
+    bodies::cell(alloc, bodies, &bytes[..len.min(bytes.len())])
+}
+
+/// The moment from which an id may be given again, of one that was freed.
+fn deadline_cell(deadline: u64) -> Cell {
+    if deadline == NOT_FREE_FOR_REUSE {
+        Cell::Nothing
+    } else {
+        Cell::Unsigned(deadline)
+    }
+}
+
+fn label_cell(alloc: Global, label: Body<'_>) -> Result<Cell, AllocError> {
+    let bytes: Vec<u8> = label.collect(alloc)?;
+    bodies::cell(alloc, Bodies::Text, bytes.as_slice())
+}
+
+/// Its cells, one for each column.
+fn row(alloc: Global, bodies: Bodies, counter: Counter<'_>) -> Result<Vec<Cell>, AllocError> {
+    let state = String::from_str(alloc, state_name(counter.state))?;
+    let label = label_cell(alloc, counter.label)?;
+    let mut row = vec![in alloc;
+        Cell::Unsigned(u64::from(counter.id)),
+        Cell::Text(state),
+        Cell::Signed(i64::from(counter.type_id)),
+        Cell::Signed(counter.value),
+        Cell::Unsigned(counter.registration),
+        Cell::Unsigned(counter.owner),
+        deadline_cell(counter.deadline),
+        label,
+    ]?;
+    if bodies != Bodies::None {
+        row.push(key_cell(alloc, bodies, counter.key)?)?;
+    }
+    Ok(row)
+}
+
+/// What is gathered of counters.
+#[derive(Drop)]
+struct Gathered {
+    rows: Vec<Vec<Cell>>,
+    findings: Vec<String>,
+    in_use: u32,
+    freed: u32,
+}
+
+impl Gathered {
+    /// Counts a counter.
+    fn count(&mut self, state: CounterState) {
+        match state {
+            CounterState::Allocated => self.in_use = self.in_use.saturating_add(1),
+            CounterState::Reclaimed => self.freed = self.freed.saturating_add(1),
+        }
+    }
+
+    /// Adds a counter.
+    fn add(
+        &mut self,
+        alloc: Global,
+        bodies: Bodies,
+        counter: Counter<'_>,
+    ) -> Result<(), AllocError> {
+        self.count(counter.state);
+        let row = row(alloc, bodies, counter)?;
+        self.rows.push(row)?;
+        Ok(())
+    }
+
+    /// Adds what is wrong with an id.
+    fn find(&mut self, alloc: Global, finding: CountersFinding) -> Result<(), AllocError> {
+        self.findings.push(format!(in alloc; "{finding}")?)?;
+        Ok(())
+    }
+}
+
+/// The counters from the first id on, or from the one that is asked for.
+fn gather(
+    alloc: Global,
+    counters: &CountersSnapshot<'_>,
+    view: View,
+) -> Result<Gathered, AllocError> {
+    let mut gathered = Gathered {
+        rows: Vec::new(alloc),
+        findings: Vec::new(alloc),
+        in_use: 0,
+        freed: 0,
+    };
+    let first = u32::try_from(view.from.unwrap_or(0)).unwrap_or(u32::MAX);
+    for entry in counters.counters_from(first) {
+        match entry {
+            Ok(counter) => gathered.add(alloc, view.bodies, counter)?,
+            Err(finding) => gathered.find(alloc, finding)?,
+        }
+    }
+    Ok(gathered)
+}
+
+impl Report {
+    /// What lies in the words of counters, their metadata and their values, from the first id on, or from the one that
+    /// is asked for. Words that are not those of counters, and ids with a record that no counter has, are its findings.
+    pub fn of_counters(
+        alloc: Global,
+        metadata: &[u64],
+        values: &[u64],
+        view: View,
+    ) -> Result<Report, AllocError> {
+        let counters = match CountersSnapshot::new(metadata, values) {
+            Ok(counters) => counters,
+            Err(finding) => {
+                return Report::refused(alloc, "counters", "counters", "not counters", finding);
+            }
+        };
+        let ids = counters.count();
+        let gathered = gather(alloc, &counters, view)?;
+        let (in_use, freed) = (gathered.in_use, gathered.freed);
+        Ok(Report {
+            kind: "counters",
+            fields: fields(alloc, &[("ids", u64::from(ids))])?,
+            picture: String::new(alloc),
+            list: "counters",
+            columns: columns(alloc, COLUMNS.as_slice(), view.bodies, "key")?,
+            rows: gathered.rows,
+            summary: format!(in alloc; "{in_use} in use, {freed} freed, of {ids} ids")?,
+            findings: gathered.findings,
+        })
+    }
+}

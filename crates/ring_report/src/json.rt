@@ -1,0 +1,67 @@
+//! A report as JSON.
+use crate::report::{Cell, Column, Field, Report};
+use serde_json::{Map, Value, put};
+use std::alloc::{AllocError, Global};
+
+fn value_of(alloc: Global, cell: &Cell) -> Result<Value, AllocError> {
+    Ok(match cell {
+        Cell::Nothing => Value::Null,
+        Cell::Unsigned(value) => Value::from(*value),
+        Cell::Signed(value) => Value::from(*value),
+        Cell::Text(text) => Value::try_from_str(alloc, text.as_str())?,
+    })
+}
+
+fn row_value(alloc: Global, columns: &[Column], row: &[Cell]) -> Result<Value, AllocError> {
+    let mut object = Map::new(alloc);
+    for (column, cell) in columns.iter().zip(row) {
+        put(&mut object, alloc, column.name, value_of(alloc, cell)?)?;
+    }
+    Ok(Value::from(object))
+}
+
+fn rows_value(alloc: Global, columns: &[Column], rows: &[Vec<Cell>]) -> Result<Value, AllocError> {
+    let mut values = Vec::new(alloc);
+    for row in rows {
+        values.push(row_value(alloc, columns, row.as_slice())?)?;
+    }
+    Ok(Value::from(values))
+}
+
+fn texts_value(alloc: Global, texts: &[String]) -> Result<Value, AllocError> {
+    let mut values = Vec::new(alloc);
+    for text in texts {
+        values.push(Value::try_from_str(alloc, text.as_str())?)?;
+    }
+    Ok(Value::from(values))
+}
+
+/// An object with the fields.
+fn object_of(alloc: Global, fields: &[Field]) -> Result<Map<String, Value>, AllocError> {
+    let mut object = Map::new(alloc);
+    for field in fields {
+        put(
+            &mut object,
+            alloc,
+            field.name,
+            value_of(alloc, &field.value)?,
+        )?;
+    }
+    Ok(object)
+}
+
+impl Report {
+    /// The report as an object of JSON, on lines of its own: what it is, its fields, the list and the findings.
+    pub fn to_json(&self, alloc: Global) -> Result<String, AllocError> {
+        let kind = Value::try_from_str(alloc, self.kind)?;
+        let rows = rows_value(alloc, self.columns.as_slice(), self.rows.as_slice())?;
+        let findings = texts_value(alloc, self.findings.as_slice())?;
+        let mut object = object_of(alloc, self.fields.as_slice())?;
+        put(&mut object, alloc, "kind", kind)?;
+        put(&mut object, alloc, self.list, rows)?;
+        put(&mut object, alloc, "findings", findings)?;
+        let mut text = Value::from(object).to_string_pretty(alloc)?;
+        text.push('\n')?;
+        Ok(text)
+    }
+}

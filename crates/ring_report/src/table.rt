@@ -1,0 +1,139 @@
+//! A report as a table that a person reads.
+use crate::report::{Cell, Column, Field, Report};
+use std::alloc::{AllocError, Global};
+
+/// The text of a value.
+fn cell_text(alloc: Global, cell: &Cell) -> Result<String, AllocError> {
+    match cell {
+        Cell::Nothing => Ok(String::new(alloc)),
+        Cell::Unsigned(value) => format!(in alloc; "{value}"),
+        Cell::Signed(value) => format!(in alloc; "{value}"),
+        Cell::Text(text) => String::from_str(alloc, text.as_str()),
+    }
+}
+
+fn push_spaces(text: &mut String, count: usize) -> Result<(), AllocError> {
+    for _ in 0..count {
+        text.push(' ')?;
+    }
+    Ok(())
+}
+
+/// Pushes a line without the spaces at its end.
+fn end_line(text: &mut String, line: &str) -> Result<(), AllocError> {
+    text.push_str(line.trim_end())?;
+    text.push('\n')
+}
+
+/// The line of what holds of the whole.
+fn push_fields(alloc: Global, text: &mut String, report: &Report) -> Result<(), AllocError> {
+    let mut line = String::from_str(alloc, report.kind)?;
+    for field in report.fields.iter() {
+        push_field(alloc, &mut line, field)?;
+    }
+    end_line(text, line.as_str())
+}
+
+fn push_field(alloc: Global, line: &mut String, field: &Field) -> Result<(), AllocError> {
+    let value = cell_text(alloc, &field.value)?;
+    push_spaces(line, 2)?;
+    line.push_str(field.name)?;
+    line.push(' ')?;
+    line.push_str(value.as_str())
+}
+
+/// The texts of the list: its names, and then its rows.
+fn lines(alloc: Global, report: &Report) -> Result<Vec<Vec<String>>, AllocError> {
+    let mut lines = Vec::new(alloc);
+    lines.push(names(alloc, report.columns.as_slice())?)?;
+    for row in report.rows.iter() {
+        lines.push(row_texts(alloc, row.as_slice())?)?;
+    }
+    Ok(lines)
+}
+
+fn names(alloc: Global, columns: &[Column]) -> Result<Vec<String>, AllocError> {
+    let mut names = Vec::new(alloc);
+    for column in columns {
+        names.push(String::from_str(alloc, column.name)?)?;
+    }
+    Ok(names)
+}
+
+fn row_texts(alloc: Global, row: &[Cell]) -> Result<Vec<String>, AllocError> {
+    let mut texts = Vec::new(alloc);
+    for cell in row {
+        texts.push(cell_text(alloc, cell)?)?;
+    }
+    Ok(texts)
+}
+
+/// How wide each column is.
+fn widths(alloc: Global, lines: &[Vec<String>], columns: usize) -> Result<Vec<usize>, AllocError> {
+    let mut widths = vec![in alloc; 0usize; columns]?;
+    for line in lines {
+        for (width, text) in widths.iter_mut().zip(line.iter()) {
+            *width = text.len().max(*width);
+        }
+    }
+    Ok(widths)
+}
+
+/// Pushes a word, with spaces up to the width of its column and two behind it.
+fn push_word(
+    line: &mut String,
+    is_number: bool,
+    word: &str,
+    width: usize,
+) -> Result<(), AllocError> {
+    let spaces = width.saturating_sub(word.len());
+    push_spaces(line, if is_number { spaces } else { 0 })?;
+    line.push_str(word)?;
+    push_spaces(line, if is_number { 0 } else { spaces })?;
+    push_spaces(line, 2)
+}
+
+/// One line of the list, each text in its column.
+fn push_line(
+    alloc: Global,
+    text: &mut String,
+    columns: &[Column],
+    words: &[String],
+    widths: &[usize],
+) -> Result<(), AllocError> {
+    let mut line = String::new(alloc);
+    for (column, (word, width)) in columns.iter().zip(words.iter().zip(widths)) {
+        push_word(&mut line, column.is_number, word.as_str(), *width)?;
+    }
+    end_line(text, line.as_str())
+}
+
+/// The lines of the list.
+fn push_list(alloc: Global, text: &mut String, report: &Report) -> Result<(), AllocError> {
+    let lines = lines(alloc, report)?;
+    let columns = report.columns.as_slice();
+    let widths = widths(alloc, lines.as_slice(), columns.len())?;
+    for line in lines.iter() {
+        push_line(alloc, text, columns, line.as_slice(), widths.as_slice())?;
+    }
+    Ok(())
+}
+
+impl Report {
+    /// The report as a table: a line of what holds of the whole, the picture of a buffer, the list with the names of
+    /// its columns, and the summary. The findings are not in it.
+    pub fn to_table(&self, alloc: Global) -> Result<String, AllocError> {
+        let mut text = String::new(alloc);
+        push_fields(alloc, &mut text, self)?;
+        if !self.picture.is_empty() {
+            text.push_str(self.picture.as_str())?;
+            text.push('\n')?;
+        }
+        if !self.rows.is_empty() {
+            push_list(alloc, &mut text, self)?;
+        }
+        text.push_str(self.summary.as_str())?;
+        text.push('\n')?;
+        Ok(text)
+    }
+}

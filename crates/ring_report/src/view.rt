@@ -1,0 +1,22 @@
+//! What is wanted of a report.
+
+/// How the bytes of messages, keys and labels are shown.
+#[derive(Clone, Copy, Debug, PartialEq, Eq)]
+pub enum Bodies {
+    /// As hexadecimal digits, `-` for no bytes.
+    Hex,
+    /// As ASCII, with a dot for each byte that is not printable.
+    Text,
+    /// Not at all: the column is left out.
+    None,
+}
+
+/// What is wanted of a report.
+#[derive(Clone, Copy, Debug)]
+pub struct View {
+    /// The position, or of counters the id, from which on it lists. Without one a ring is listed from its head, a board
+    /// from its running lap, and counters from the first.
+    pub from: Option<u64>,
+    /// How bytes are shown. Labels are shown as text all the same.
+    pub bodies: Bodies,
+}

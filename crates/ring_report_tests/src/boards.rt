@@ -1,0 +1,123 @@
+//! Boards as tables and as JSON.
+use crate::snapshots::{bytes_of, lapped};
+use ring_report::{Bodies, Report, View, words_of_bytes};
+use std::alloc::Global;
+use std::test::Fail;
+
+/// The report of the board that lapped, where its intent is this, from a position on. Its tail is 360.
+fn report_of(alloc: Global, intent: u64, from: Option<u64>) -> Result<Report, Fail> {
+    let bytes = bytes_of(alloc, &lapped(alloc)?)?;
+    let mut words = words_of_bytes(alloc, bytes.as_slice())?;
+    // The intent stands behind the 32 words of the buffer.
+    if let Some(word) = words.as_mut_slice().get_mut(32) {
+        *word = intent;
+    }
+    let view = View {
+        from,
+        bodies: Bodies::Text,
+    };
+    Ok(Report::of_board(alloc, words.as_slice(), view)?)
+}
+
+#[test]
+fn shows_tables(rt: HostRuntime) -> Result<(), Fail> {
+    for (what, intent, from, wanted) in [
+        (
+            "the running lap",
+            360,
+            None,
+            "\
+board  capacity 256  tail_intent 360  tail 360  latest 336
+[==========L===TI...................]
+place  index  state  type  length  body
+  256      0  valid     4      28  traded 300 at 100.00
+  288     32  valid     2      17  bid 99.90
+  312     56  valid     3      18  ask 100.15
+  336     80  valid     5      22  session closed
+4 valid, 0 lapped, 0 padding
+",
+        ),
+        (
+            "the lap before, from a place",
+            360,
+            Some(112),
+            "\
+board  capacity 256  tail_intent 360  tail 360  latest 336
+[==========L===TI.===============---]
+place  index  state    type  length  body
+  112    112  valid       2      17  bid 99.85
+  136    136  valid       3      18  ask 100.05
+  160    160  valid       4      28  traded 200 at 100.05
+  192    192  valid       3      33  ask 100.00 for 300 pieces
+  232    232  padding    -1      24
+  256      0  valid       4      28  traded 300 at 100.00
+  288     32  valid       2      17  bid 99.90
+  312     56  valid       3      18  ask 100.15
+  336     80  valid       5      22  session closed
+8 valid, 0 lapped, 1 padding
+",
+        ),
+        (
+            "16 bytes of the running lap's first record are overwritten",
+            528,
+            None,
+            "\
+board  capacity 256  tail_intent 528  tail 360  latest 336
+[..I........L===T...................]
+place  index  state  type  length  body
+  336     80  valid     5      22  session closed
+1 valid, 0 lapped, 0 padding; transmitting from 360 to 528; the begin of the lap is overwritten
+",
+        ),
+    ] {
+        let text = report_of(rt.alloc(), intent, from)?.to_table(rt.alloc())?;
+        assert_eq!(rt; text.as_str(), wanted, "{what}");
+    }
+    Ok(())
+}
+
+#[test]
+fn finds_no_record_within_one(rt: HostRuntime) -> Result<(), Fail> {
+    let report = report_of(rt.alloc(), 360, Some(96))?;
+    assert!(rt; report.rows.is_empty());
+    assert_eq!(rt; report.findings.len(), 1);
+    Ok(())
+}
+
+#[test]
+fn sums_up_a_transmission_that_runs(rt: HostRuntime) -> Result<(), Fail> {
+    let report = report_of(rt.alloc(), 512, None)?;
+    assert_eq!(rt;
+        report.summary.as_str(),
+        "3 valid, 1 lapped, 0 padding; transmitting from 360 to 512"
+    );
+    Ok(())
+}
+
+#[test]
+fn shows_json(rt: HostRuntime) -> Result<(), Fail> {
+    let text = report_of(rt.alloc(), 360, Some(336))?.to_json(rt.alloc())?;
+    assert_eq!(rt;
+        text.as_str(),
+        r#"{
+  "capacity": 256,
+  "findings": [],
+  "kind": "board",
+  "latest": 336,
+  "records": [
+    {
+      "body": "session closed",
+      "index": 80,
+      "length": 22,
+      "place": 336,
+      "state": "valid",
+      "type": 5
+    }
+  ],
+  "tail": 360,
+  "tail_intent": 360
+}
+"#
+    );
+    Ok(())
+}

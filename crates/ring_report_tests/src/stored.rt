@@ -1,0 +1,118 @@
+//! Snapshots are written as those of `examples/snapshots` are stored.
+use crate::snapshots::{blocked, bytes_of, lapped, reused, wrapped};
+use ring_snapshot::{CounterMetadata, CounterValueWords};
+use std::alloc::{AllocError, Global};
+use std::test::Fail;
+
+/// A file's name, its bytes in lines of 32 but for lines of zeros, each behind its index, and how many bytes there are.
+fn lines_of(alloc: Global, name: &str, bytes: &[u8]) -> Result<String, AllocError> {
+    let mut text = format!(in alloc; "{name}\n")?;
+    for k in 0..bytes.len() / 32 {
+        let line = &bytes[32 * k..32 * k + 32];
+        if line.iter().any(|byte| *byte != 0) {
+            let digits = hex::encode(alloc, line)?;
+            let row = format!(in alloc; "{} {digits}\n", 32 * k)?;
+            text.push_str(row.as_str())?;
+        }
+    }
+    let end = format!(in alloc; "{}\n", bytes.len())?;
+    text.push_str(end.as_str())?;
+    Ok(text)
+}
+
+#[test]
+fn rings_are_written_as_stored(rt: HostRuntime) -> Result<(), Fail> {
+    let (blocked, wrapped) = (blocked(rt.alloc())?, wrapped(rt.alloc())?);
+    for (name, bytes, wanted) in [
+        (
+            "blocked.ring",
+            bytes_of(rt.alloc(), &blocked)?,
+            "\
+blocked.ring
+0 0d0000000300000073686f776e000000110000000400000073686f776e20746f
+32 6f00000000000000e4ffffff0500000000000000000000000000000000000000
+64 00000000000000000d0000000600000077616974730000001500000007000000
+96 77616974732061732077656c6c00000000000000000000000000000000000000
+384 7000000000000000000000000000000000000000000000000000000000000000
+1024
+",
+        ),
+        (
+            "wrapped.ring",
+            bytes_of(rt.alloc(), &wrapped)?,
+            "\
+wrapped.ring
+0 e8ffffff0600000068616c660000000000000000000000001200000007000000
+32 6c61737420776f72647300000000000000000000000000000000000000000000
+64 00000000000000001800000004000000666f75727468206d6573736167652121
+96 18000000ffffffff0000000000000000000000000000000008000000ffffffff
+256 b000000000000000000000000000000000000000000000000000000000000000
+512 4800000000000000000000000000000000000000000000000000000000000000
+896
+",
+        ),
+    ] {
+        let text = lines_of(rt.alloc(), name, bytes.as_slice())?;
+        assert_eq!(rt; text.as_str(), wanted);
+    }
+    Ok(())
+}
+
+#[test]
+fn a_board_is_written_as_stored(rt: HostRuntime) -> Result<(), Fail> {
+    let bytes = bytes_of(rt.alloc(), &lapped(rt.alloc())?)?;
+    let text = lines_of(rt.alloc(), "lapped.board", bytes.as_slice())?;
+    assert_eq!(rt;
+        text.as_str(),
+        "\
+lapped.board
+0 1c0000000400000074726164656420333030206174203130302e303000000000
+32 11000000020000006269642039392e3930000000000000001200000003000000
+64 61736b203130302e3135000000000000160000000500000073657373696f6e20
+96 636c6f7365640000730000000000000011000000020000006269642039392e38
+128 3500000000000000120000000300000061736b203130302e3035000000000000
+160 1c0000000400000074726164656420323030206174203130302e303500000000
+192 210000000300000061736b203130302e303020666f7220333030207069656365
+224 730000000000000018000000ffffffff00000000000000000000000000000000
+256 6801000000000000680100000000000050010000000000000000000000000000
+384
+"
+    );
+    Ok(())
+}
+
+#[test]
+fn counters_are_written_as_stored(rt: HostRuntime) -> Result<(), Fail> {
+    let manager = reused(rt.alloc())?;
+    for (name, bytes, wanted) in [
+        (
+            "reused.metadata",
+            bytes_of(rt.alloc(), &CounterMetadata(&manager))?,
+            "\
+reused.metadata
+0 0100000001000000ffffffffffffff7f696e0000000000000000000000000000
+128 0d0000006d657373616765732073656e74000000000000000000000000000000
+512 0100000003000000ffffffffffffff7f6469736b000000000000000000000000
+640 0d0000006279746573206f6e206469736b000000000000000000000000000000
+1024 ffffffff02000000fc0800000000000000000000000000000000000000000000
+1152 040000006c617073000000000000000000000000000000000000000000000000
+2048
+",
+        ),
+        (
+            "reused.values",
+            bytes_of(rt.alloc(), &CounterValueWords(&manager))?,
+            "\
+reused.values
+0 40420f00000000000b0000000000000007000000000000000000000000000000
+128 00100000000000000e0000000000000009000000000000000000000000000000
+256 00000000000000000d0000000000000000000000000000000000000000000000
+512
+",
+        ),
+    ] {
+        let text = lines_of(rt.alloc(), name, bytes.as_slice())?;
+        assert_eq!(rt; text.as_str(), wanted);
+    }
+    Ok(())
+}

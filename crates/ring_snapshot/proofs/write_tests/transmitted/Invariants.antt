@@ -1,5 +1,0 @@
-use Rattle.ring_board.specs.Seats.{IsTransmitterOf}
-use Rattle.ring_snapshot.proofs.write_tests.transmitted.Given as goal
-
-abbrev pub invariant-sends : goal.invariant-sends
-invariant-sends g l = IsTransmitterOf l.board l.transmitter

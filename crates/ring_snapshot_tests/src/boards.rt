@@ -1,0 +1,168 @@
+//! What is listed of boards.
+use crate::random::Numbers;
+use crate::words::words_of;
+use ring_board::{Board, ClosedBoard};
+use ring_snapshot::{BoardFinding, BoardRecord, BoardSnapshot};
+use std::alloc::Global;
+use std::test::Fail;
+
+/// A closed board of 256 bytes, on which so many messages of lengths that look random were transmitted: message k has
+/// the type id k and bytes k - 1 modulo 256.
+fn transmitted(alloc: Global, numbers: &mut Numbers, sent: i32) -> Result<ClosedBoard, Fail> {
+    let (board, mut transmitter) = Board::new(alloc, 256)?;
+    'sends: for type_id in 0..sent {
+        let len = (numbers.next() % 33) as usize;
+        let body = [type_id.to_le_bytes()[0]; 32];
+        board.transmit(&mut transmitter, type_id + 1, &body[..len])?;
+    }
+    let closed = board.close(transmitter).map_err(|refused| refused.reason)?;
+    Ok(closed)
+}
+
+/// What a listing has come to.
+#[derive(Clone, Copy, Default)]
+struct Lap {
+    place: u64,
+    last: i32,
+    listed: u64,
+}
+
+impl Lap {
+    /// Goes on by a record, which has to be the message behind the last one.
+    fn goes_on(&mut self, record: BoardRecord<'_>) -> bool {
+        let follows = self.listed == 0 || record.type_id.wrapping_sub(self.last) == 1;
+        if record.place != self.place || record.is_padding || !follows {
+            return false;
+        }
+        let span = record.length.div_ceil(8).wrapping_mul(8);
+        self.place = self.place.wrapping_add(span.into());
+        self.last = record.type_id;
+        self.listed = self.listed.wrapping_add(1);
+        for byte in record.body {
+            if i32::from(byte) != self.last.wrapping_sub(1) & 255 {
+                return false;
+            }
+        }
+        true
+    }
+}
+
+/// How many records are listed, which have to be the last messages.
+fn listed_of(alloc: Global, closed: &ClosedBoard, sent: i32) -> Result<u64, Fail> {
+    let words = words_of(alloc, closed)?;
+    let board = BoardSnapshot::new(words.as_slice())?;
+    let mut lap = Lap::default();
+    lap.place = closed.latest() & !255;
+    for entry in board.records()? {
+        if !lap.goes_on(entry?) {
+            return Err(Fail::from("another record"));
+        }
+    }
+    if (lap.place, lap.last) != (closed.tail(), sent) {
+        return Err(Fail::from("it does not end with the last message"));
+    }
+    Ok(lap.listed)
+}
+
+#[test]
+fn lists_the_running_lap(rt: HostRuntime) -> Result<(), Fail> {
+    let mut numbers = Numbers(0x2545_f491_4f6c_dd1d);
+    let mut listed = 0u64;
+    for sent in 0..100 {
+        let closed = transmitted(rt.alloc(), &mut numbers, sent)?;
+        listed = listed.wrapping_add(listed_of(rt.alloc(), &closed, sent)?);
+    }
+    assert!(rt; listed > 200);
+    Ok(())
+}
+
+/// The words of a board of 256 bytes with these positions: words 0, 1 and 2 of the trailer.
+fn words_with(intent: u64, tail: u64, latest: u64) -> [u64; 48] {
+    let mut words = [0; 48];
+    words[32] = intent;
+    words[33] = tail;
+    words[34] = latest;
+    words
+}
+
+/// Why words list no records.
+fn refusal(words: &[u64]) -> Option<BoardFinding> {
+    let made = BoardSnapshot::new(words);
+    made.and_then(|board| board.records()).err()
+}
+
+#[test]
+fn names_what_is_wrong(rt: HostRuntime) {
+    let too_few = BoardFinding::BadSize { words: 47 };
+    assert_eq!(rt; refusal(&[0; 47]), Some(too_few));
+    let before_tail = BoardFinding::IntentBeforeTail {
+        intent: 16,
+        tail: 24,
+    };
+    assert_eq!(rt; refusal(&words_with(16, 24, 0)), Some(before_tail));
+    let before_latest = BoardFinding::TailBeforeLatest {
+        tail: 24,
+        latest: 32,
+    };
+    assert_eq!(rt; refusal(&words_with(24, 24, 32)), Some(before_latest));
+}
+
+#[test]
+fn nothing_comes_behind_a_finding(rt: HostRuntime) -> Result<(), Fail> {
+    let words = words_with(24, 24, 0);
+    let board = BoardSnapshot::new(&words)?;
+    let mut records = board.records()?;
+    let Some(Err(found)) = records.next() else {
+        return Err(Fail::from("nothing is found"));
+    };
+    let finding = BoardFinding::BadLength {
+        index: 0,
+        length: 0,
+    };
+    assert_eq!(rt; found, finding);
+    assert!(rt; records.next().is_none());
+    let outside = BoardFinding::OutsideOfRecords { position: 8 };
+    assert_eq!(rt; board.records_from(8).err(), Some(outside));
+    Ok(())
+}
+
+/// What came of words.
+#[derive(Clone, Copy, Default)]
+struct Sum {
+    bytes: u64,
+    found: u64,
+    refused: u64,
+}
+
+impl Sum {
+    /// Reads all that lies in some words.
+    fn add(&mut self, words: &[u64]) {
+        let Ok(records) = BoardSnapshot::new(words).and_then(|board| board.records()) else {
+            self.refused = self.refused.wrapping_add(1);
+            return;
+        };
+        for entry in records {
+            match entry {
+                Ok(record) => self.bytes = self.bytes.wrapping_add(record.body.len() as u64),
+                Err(_finding) => self.found = self.found.wrapping_add(1),
+            }
+        }
+    }
+}
+
+#[test]
+fn ends_on_any_bytes(rt: HostRuntime) {
+    let mut numbers = Numbers(0x9e37_79b9_7f4a_7c15);
+    let mut words = [0u64; 48];
+    let mut sum = Sum::default();
+    for _ in 0..100_000 {
+        for word in words.iter_mut().take(32) {
+            *word = numbers.next_header();
+        }
+        words[34] = numbers.next() % 512 & !7;
+        words[33] = words[34].wrapping_add(numbers.next() % 40 & !3);
+        words[32] = words[33].wrapping_add(numbers.next() % 100 & !7);
+        sum.add(&words);
+    }
+    assert!(rt; sum.bytes > 0 && sum.found > 0 && sum.refused > 0);
+}

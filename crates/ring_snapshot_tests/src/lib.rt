@@ -1,0 +1,15 @@
+//! Tests of snapshots.
+#![tactic(auto)]
+
+#[cfg(test)]
+mod boards;
+#[cfg(test)]
+mod counters;
+#[cfg(test)]
+mod random;
+#[cfg(test)]
+mod rings;
+#[cfg(test)]
+mod words;
+#[cfg(test)]
+mod writing;

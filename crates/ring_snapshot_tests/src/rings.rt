@@ -1,0 +1,202 @@
+//! What is listed of rings.
+use crate::random::Numbers;
+use crate::words::{has_bytes, words_of};
+use ring_snapshot::{RecordState, RingFinding, RingSnapshot};
+use ring_words::{Action, Handler, SoloRing};
+use std::alloc::Global;
+use std::test::Fail;
+
+/// The words of a ring with a committed record, an open one, and one without a message.
+fn claimed_words(alloc: Global) -> Result<Vec<u64>, Fail> {
+    let mut ring = SoloRing::new(alloc, 128)?;
+    ring.write(7, b"hello")?;
+    let _claim = ring.claim(8, 3)?;
+    ring.write(9, b"")?;
+    Ok(words_of(alloc, &ring)?)
+}
+
+#[test]
+fn lists_what_is_claimed(rt: HostRuntime) -> Result<(), Fail> {
+    let words = claimed_words(rt.alloc())?;
+    let ring = RingSnapshot::new(words.as_slice())?;
+    assert_eq!(rt; (ring.capacity(), ring.head(), ring.tail()), (128, 0, 40));
+    let mut records = ring.records()?;
+    for (place, index, state, type_id, length, body) in [
+        (0, 0, RecordState::Committed, 7, 13, b"hello".as_slice()),
+        (16, 16, RecordState::Open, 8, 11, b"\0\0\0".as_slice()),
+        (32, 32, RecordState::Committed, 9, 8, b"".as_slice()),
+    ] {
+        let Some(Ok(record)) = records.next() else {
+            return Err(Fail::from("a record is missing"));
+        };
+        assert_eq!(rt; (record.place, record.index), (place, index));
+        assert_eq!(rt; record.state, state);
+        assert_eq!(rt; (record.type_id, record.length), (type_id, length));
+        assert!(rt; has_bytes(record.body, body));
+    }
+    assert!(rt; records.next().is_none());
+    Ok(())
+}
+
+/// The words of a ring of 128 bytes with these positions. The tail is word 16 of the trailer, the head word 48.
+fn words_between(head: u64, tail: u64) -> [u64; 112] {
+    let mut words = [0; 112];
+    words[16 + 48] = head;
+    words[16 + 16] = tail;
+    words
+}
+
+/// Why words list no records.
+fn refusal(words: &[u64]) -> Option<RingFinding> {
+    let made = RingSnapshot::new(words);
+    made.and_then(|ring| ring.records()).err()
+}
+
+#[test]
+fn names_what_is_wrong(rt: HostRuntime) {
+    let too_few = RingFinding::BadSize { words: 111 };
+    assert_eq!(rt; refusal(&[0; 111]), Some(too_few));
+    for (head, tail, finding) in [
+        (8, 0, RingFinding::TailBeforeHead { head: 8, tail: 0 }),
+        (8, 144, RingFinding::TailTooFar { head: 8, tail: 144 }),
+    ] {
+        assert_eq!(rt; refusal(&words_between(head, tail)), Some(finding));
+    }
+}
+
+#[test]
+fn nothing_comes_behind_a_finding(rt: HostRuntime) -> Result<(), Fail> {
+    let mut words = words_between(8, 24);
+    words[1] = 0x0000_0007_0000_0019;
+    let ring = RingSnapshot::new(&words)?;
+    let mut records = ring.records()?;
+    let Some(Err(found)) = records.next() else {
+        return Err(Fail::from("nothing is found"));
+    };
+    let finding = RingFinding::BadLength {
+        index: 8,
+        length: 25,
+    };
+    assert_eq!(rt; found, finding);
+    assert!(rt; records.next().is_none());
+    let outside = RingFinding::OutsideOfRecords { position: 20 };
+    assert_eq!(rt; ring.records_from(20).err(), Some(outside));
+    Ok(())
+}
+
+/// What came of words.
+#[derive(Clone, Copy, Default)]
+struct Sum {
+    listed: u64,
+    found: u64,
+    refused: u64,
+    bytes: u64,
+}
+
+impl Sum {
+    /// Reads all that lies in some words.
+    fn add(&mut self, words: &[u64]) {
+        let Ok(records) = RingSnapshot::new(words).and_then(|ring| ring.records()) else {
+            self.refused = self.refused.wrapping_add(1);
+            return;
+        };
+        for entry in records {
+            match entry {
+                Ok(record) => {
+                    self.listed = self.listed.wrapping_add(1);
+                    for byte in record.body {
+                        self.bytes = self.bytes.wrapping_add(u64::from(byte));
+                    }
+                }
+                Err(_finding) => self.found = self.found.wrapping_add(1),
+            }
+        }
+    }
+}
+
+#[test]
+fn ends_on_any_bytes(rt: HostRuntime) {
+    let mut numbers = Numbers(0x9e37_79b9_7f4a_7c15);
+    let mut words = [0u64; 112];
+    let mut sum = Sum::default();
+    for _ in 0..100_000 {
+        for word in words.iter_mut().take(16) {
+            *word = numbers.next_header();
+        }
+        words[16 + 48] = numbers.next() % 512 & !7;
+        words[16 + 16] = words[16 + 48] + (numbers.next() % 136 & !3);
+        sum.add(&words);
+    }
+    assert!(rt; sum.listed > 0 && sum.found > 0 && sum.refused > 0 && sum.bytes > 0);
+}
+
+/// Keeps the type ids that it is shown.
+#[derive(Drop)]
+struct Seen {
+    last: Option<i32>,
+}
+
+impl Handler for Seen {
+    ghost step = { λ _ _ _ _. Unit {0} };
+
+    fn on_message(&mut self, type_id: i32, _body: &[u8]) -> Action {
+        self.last = Some(type_id);
+        Action::Continue
+    }
+}
+
+/// The type id of the message that a read of one gives. The first read may end at the end of the buffer.
+fn next_read(ring: &mut SoloRing) -> Option<i32> {
+    let mut seen = Seen { last: None };
+    if ring.read(1, &mut seen).messages == 0 {
+        let _ = ring.read(1, &mut seen);
+    }
+    seen.last
+}
+
+/// The type id of the first record that a reader would be shown, up to an open one.
+fn first_committed(words: &[u64]) -> Option<i32> {
+    let ring = RingSnapshot::new(words).ok()?;
+    for entry in ring.records().ok()? {
+        let Ok(record) = entry else {
+            return None;
+        };
+        match record.state {
+            RecordState::Committed => return Some(record.type_id),
+            RecordState::Open | RecordState::Unstored => return None,
+            RecordState::Aborted | RecordState::AbortedOrPadding => {}
+        }
+    }
+    None
+}
+
+/// Writes a message, or aborts a claim, where there is room.
+fn write_or_abort(ring: &mut SoloRing, numbers: &mut Numbers, type_id: i32) {
+    let body = [7u8; 16];
+    let len = (numbers.next() % 17) as usize;
+    if numbers.next() % 3 == 0 {
+        if let Ok(claim) = ring.claim(type_id, len) {
+            ring.abort(claim);
+        }
+    } else {
+        let _ = ring.write(type_id, &body[..len]);
+    }
+}
+
+#[test]
+fn shows_what_a_read_gives_next(rt: HostRuntime) -> Result<(), Fail> {
+    let mut numbers = Numbers(0x2545_f491_4f6c_dd1d);
+    let mut ring = SoloRing::new(rt.alloc(), 128)?;
+    let mut compared = 0u64;
+    for type_id in 1..2000 {
+        write_or_abort(&mut ring, &mut numbers, type_id);
+        if numbers.next() % 2 == 0 {
+            let words = words_of(rt.alloc(), &ring)?;
+            let next = first_committed(words.as_slice());
+            assert_eq!(rt; next_read(&mut ring), next);
+            compared = compared.wrapping_add(1);
+        }
+    }
+    assert!(rt; compared > 500);
+    Ok(())
+}

@@ -1,0 +1,28 @@
+//! Words and bytes of a list of words.
+use ring_snapshot::{Body, Words};
+use std::alloc::{AllocError, Global};
+
+/// All words of a list, of 10,000 at the most.
+pub fn words_of<S: Words>(alloc: Global, source: &S) -> Result<Vec<u64>, AllocError> {
+    let mut words = Vec::new(alloc);
+    for index in 0..10_000 {
+        let Some(word) = source.word_at(index) else {
+            break;
+        };
+        words.push(word)?;
+    }
+    Ok(words)
+}
+
+/// Tests whether these are the bytes, and are as many as is told.
+pub fn has_bytes(body: Body<'_>, wanted: &[u8]) -> bool {
+    if body.len() != wanted.len() || body.is_empty() != wanted.is_empty() {
+        return false;
+    }
+    for (byte, own) in body.zip(wanted) {
+        if byte != *own {
+            return false;
+        }
+    }
+    true
+}
