@@ -149,22 +149,16 @@ pub fn write_often(
 
 #[test]
 fn a_lost_producer_keeps_the_ring_open(rt: HostRuntime) -> Result<(), Fail> {
-    let (mut ring, mut first, mut consumer) = ManyToOneRing::new(rt.alloc(), 128)?;
+    let (ring, mut first, mut consumer) = ManyToOneRing::new(rt.alloc(), 128)?;
     let mut second = ring.split(&mut first)?;
     let _kept_aside = ring.claim_once(&mut second, 1, 0)?;
     write_often(&ring, &mut first, 15)?;
     let full = TryFault::Refused(ClaimFault::InsufficientCapacity { tail: 128, head: 0 });
-    assert_eq!(rt; ring.write_once(&mut first, 1, &[]), Err(full));
+    assert_eq!(rt; write_often(&ring, &mut first, 1), Err(full));
     let read = ring.read(&mut consumer, 9, &mut Script::new(&[]));
     assert_eq!(rt; read, end(0, 0, Stop::Unpublished));
-    for _ in 0..3 {
-        let Err(refused) = ring.close(first, consumer) else {
-            return Err(Fail::from("closed with a producer out"));
-        };
-        assert_eq!(rt; refused.reason, CloseFault::ProducersOut { shares: 1 });
-        ring = refused.ring;
-        first = refused.producer;
-        consumer = refused.consumer;
-    }
+    let out = CloseFault::ProducersOut { shares: 1 };
+    let back = refused(ring, first, consumer, out)?;
+    refused(back.ring, back.producer, back.consumer, out)?;
     Ok(())
 }
