@@ -145,36 +145,19 @@ fn lays_out_words_closes_owners_and_is_read(rt: HostRuntime) -> Result<(), Fail>
 }
 
 #[test]
-fn lists_counters_in_use(rt: HostRuntime) -> Result<(), Fail> {
-    let mut desk = Desk::new(rt.alloc(), 4, 50)?;
-    for id in 0..3u32 {
-        assert_eq!(rt; desk.allocate_with(&[7], b"name"), Ok(id));
-    }
-    desk.free(100, 1)?;
-    let live = desk.live(rt.alloc())?;
-    assert_eq!(rt; live.len(), 2);
-    for (info, id) in live.iter().zip([0, 2]) {
-        let facts = (info.id, info.type_id, info.registration, info.owner);
-        assert_eq!(rt; facts, (id, 5, 9, 0));
-        assert_eq!(rt; info.key[0], 7);
-        assert_eq!(rt; info.label.as_slice(), b"name".as_slice());
-    }
-    Ok(())
-}
-
-#[test]
 fn copies_key_and_label(rt: HostRuntime) -> Result<(), Fail> {
     let mut desk = Desk::new(rt.alloc(), 4, 50)?;
-    assert_eq!(rt; desk.allocate_with(&[1, 2], b"ab"), Ok(0));
-    let mut label = [9; 380];
-    assert_eq!(rt; desk.counters.label_into(0, &mut label), Ok(2));
-    assert_eq!(rt; label[0], b'a');
-    assert_eq!(rt; label[1], b'b');
-    assert!(rt; label[2..].iter().all(|byte| *byte == 0));
-    let mut key = [9; 112];
-    assert_eq!(rt; desk.counters.key_into(0, &mut key), Ok(()));
-    assert_eq!(rt; key[1], 2);
-    assert!(rt; key[2..].iter().all(|byte| *byte == 0));
+    desk.allocate_with(&[1, 2], b"ab")?;
+    let (mut key, mut label) = ([9; 112], [9; 380]);
+    let copied = (
+        desk.counters.key_into(0, &mut key),
+        desk.counters.label_into(0, &mut label),
+    );
+    let (mut all_key, mut all_label) = ([0; 112], [0; 380]);
+    (all_key[0], all_key[1]) = (1, 2);
+    (all_label[0], all_label[1]) = (b'a', b'b');
+    assert_eq!(rt; copied, (Ok(()), Ok(2)));
+    assert!(rt; key == all_key && label == all_label);
     Ok(())
 }
 
@@ -213,17 +196,20 @@ fn value_of(id: u32) -> i64 {
     i64::from(u32::MAX - id)
 }
 
+/// But a freed one.
 #[test]
 fn lists_all_counters(rt: HostRuntime) -> Result<(), Fail> {
     let mut desk = Desk::new(rt.alloc(), 4096, 0)?;
     for id in 0..4096u32 {
-        assert_eq!(rt; desk.allocate_with(&[], &label_of(id)), Ok(id));
+        assert_eq!(rt; desk.allocate_with(&[7], &label_of(id)), Ok(id));
         desk.set(id, value_of(id))?;
     }
+    desk.free(100, 0)?;
     let live = desk.live(rt.alloc())?;
-    assert_eq!(rt; live.len(), 4096);
-    for (id, info) in (0..4096u32).zip(live.iter()) {
-        assert_eq!(rt; (info.id, info.value), (id, value_of(id)));
+    assert_eq!(rt; live.len(), 4095);
+    for (id, info) in (1..4096u32).zip(live.iter()) {
+        assert_eq!(rt; (info.id, info.value, info.key[0]), (id, value_of(id), 7));
+        assert_eq!(rt; (info.type_id, info.registration, info.owner), (5, 9, 0));
         assert_eq!(rt; info.label.as_slice(), label_of(id).as_slice());
     }
     Ok(())

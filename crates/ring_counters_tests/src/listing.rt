@@ -1,16 +1,19 @@
 //! Looks at the counters in use.
-use crate::desk::Call::{Allocate, AllocateWith, Count, Find, Free, Registration, Set, TypeId};
+use crate::desk::Call::{
+    Allocate, AllocateOwned, AllocateWith, Count, Find, Free, Registration, Set, TypeId,
+};
 use crate::desk::Said::{Bad, Done, Id, Number, Signed};
 use crate::desk::{Call, Desk, Said};
 use ring_counters::{IdFault, LiveCounter};
 use std::test::*;
 
-/// Five ids, of which 0, 2 and 3 are in use: all of type 5, and with the registration ids 9, 9 and 0.
+/// Five ids, of which 0, 2 and 3 are in use: all of type 5, with the registration ids 9, 9 and 0 and the owners 0, 0
+/// and 7.
 const FIVE_IDS: [(Call<'static>, Said); 7] = [
     (AllocateWith(&[7], b"first"), Id(0)),
     (Allocate(0), Id(1)),
     (AllocateWith(&[7, 8], b"second"), Id(2)),
-    (Allocate(0), Id(3)),
+    (AllocateOwned(7), Id(3)),
     (Set(0, 40), Done),
     (Set(2, -42), Done),
     (Free(100, 1), Done),
@@ -36,10 +39,10 @@ fn goes_over_counters_in_use(rt: HostRuntime) -> Result<(), Fail> {
     let mut desk = Desk::new(rt.alloc(), 5, 50)?;
     desk.goes(&rt, &FIVE_IDS);
     let mut counters = desk.counters.iter();
-    for (id, value, registration, key, label) in [
-        (0, 40, 9, b"\x07".as_slice(), b"first".as_slice()),
-        (2, -42, 9, b"\x07\x08".as_slice(), b"second".as_slice()),
-        (3, 0, 0, b"".as_slice(), b"".as_slice()),
+    for (id, value, registration, owner, key, label) in [
+        (0, 40, 9, 0, b"\x07".as_slice(), b"first".as_slice()),
+        (2, -42, 9, 0, b"\x07\x08".as_slice(), b"second".as_slice()),
+        (3, 0, 0, 7, b"".as_slice(), b"".as_slice()),
     ] {
         let Some(counter) = counters.next() else {
             return Err(Fail::from("a counter is missing"));
@@ -48,28 +51,11 @@ fn goes_over_counters_in_use(rt: HostRuntime) -> Result<(), Fail> {
         assert_eq!(rt; numbers, (id, 5, value));
         assert_eq!(rt;
             (counter.registration(), counter.owner()),
-            (registration, 0)
+            (registration, owner)
         );
-        assert!(rt; has_key(&counter, key));
-        assert!(rt; has_label(&counter, label));
+        assert!(rt; has_key(&counter, key) && has_label(&counter, label));
     }
     assert!(rt; counters.next().is_none());
-    assert!(rt; counters.next().is_none());
-    Ok(())
-}
-
-#[test]
-fn goes_over_owned_counters(rt: HostRuntime) -> Result<(), Fail> {
-    let mut desk = Desk::new(rt.alloc(), 3, 50)?;
-    desk.allocate_owned(6)?;
-    desk.allocate_owned(7)?;
-    let mut counters = desk.counters.iter();
-    for owner in [6, 7] {
-        let Some(counter) = counters.next() else {
-            return Err(Fail::from("a counter is missing"));
-        };
-        assert_eq!(rt; counter.owner(), owner);
-    }
     assert!(rt; counters.next().is_none());
     Ok(())
 }
