@@ -18,19 +18,19 @@ const OUTSIDE: [Fill<'static>; 3] = [
     (8, &[], true),
 ];
 
-/// The place of the second of two claims, and what is read when it was committed, and then when the first one was.
+/// Place and index of the second of two claims, and what is read when it was committed, and then when the first one was.
 fn settles_the_second_first<K: Kind>(
     alloc: Global,
     script: &mut Script<'_>,
-) -> Result<(u64, ReadEnd, ReadEnd), Fail> {
+) -> Result<((u64, u32), [ReadEnd; 2]), Fail> {
     let (ring, mut producer, mut consumer) = Ring::<K>::new_at(alloc, 128, 0)?;
     let first = K::claim(&ring, &mut producer, 1, 0)?;
     let second = K::claim(&ring, &mut producer, 2, 0)?;
-    let place = second.place();
+    let lies = (second.place(), second.index());
     ring.commit(&mut producer, second);
     let before = ring.read(&mut consumer, 9, script);
     ring.commit(&mut producer, first);
-    Ok((place, before, ring.read(&mut consumer, 9, script)))
+    Ok((lies, [before, ring.read(&mut consumer, 9, script)]))
 }
 
 #[test]
@@ -40,7 +40,7 @@ fn claims_are_settled_in_any_order(rt: HostRuntime) -> Result<(), Fail> {
     let both = end(2, 16, Stop::Unpublished);
     let one = settles_the_second_first::<OneToOne>(rt.alloc(), &mut script)?;
     let many = settles_the_second_first::<ManyToOne>(rt.alloc(), &mut script)?;
-    assert_eq!(rt; [one, many], [(8, none, both); 2]);
+    assert_eq!(rt; [one, many], [((8, 16), [none, both]); 2]);
     was_shown(&rt, &script, &[(1, &[]), (2, &[]), (1, &[]), (2, &[])]);
     Ok(())
 }

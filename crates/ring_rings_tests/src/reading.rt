@@ -24,9 +24,20 @@ const COMMITTED: Play<'static> = Play {
     ..PLAY
 };
 
+/// A body of three bytes, which nothing was put into.
+const SHORT: Play<'static> = Play {
+    calls: &[
+        (Commit(4, 3, &[]), Made(8)),
+        (Read(9), Said::Read(1, 16, Stop::Unpublished)),
+    ],
+    shown: &[(4, &[0; 3])],
+    ends: (16, 16),
+    ..PLAY
+};
+
 #[test]
 fn reads_what_was_committed(rt: HostRuntime) -> Result<(), Fail> {
-    plays(&rt, rt.alloc(), &[COMMITTED])
+    plays(&rt, rt.alloc(), &[COMMITTED, SHORT])
 }
 
 const LIMITED: Play<'static> = Play {
