@@ -78,6 +78,17 @@ impl<K: Kind> Bench<K> {
         hears(&self.board, &mut self.listener, replies)
     }
 
+    /// The heartbeat before and after the conductor sets it.
+    pub fn beats(&mut self, value: u64) -> (u64, u64) {
+        let before = self.ring.heartbeat(&mut self.producer);
+        self.conductor.set_heartbeat(&self.ring, value);
+        (before, self.ring.heartbeat(&mut self.producer))
+    }
+
+    pub fn value(&self, id: u32) -> Result<i64, IdFault> {
+        self.conductor.counters().value(id)
+    }
+
     pub fn state(&self, id: u32) -> Result<i32, IdFault> {
         self.conductor.counters().state(id)
     }

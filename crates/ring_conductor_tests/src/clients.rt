@@ -1,117 +1,122 @@
 //! What a client sends, and what it is told.
-use crate::sending::{refused, work};
-use crate::talk::Talk;
+use crate::talk::Call::{Poll, Send, SendAs, Work};
+use crate::talk::Said::{Full, Id, Sent, TooLong};
+use crate::talk::{Call, Said, Talk};
 use ring_board::{Board, Lapped};
-use ring_conductor::{
-    Client, Command, Polled, Reply, Request, SendFault, WorkStop, encode_command,
-};
-use ring_rings::{ClaimFault, ManyToOneRing, TryFault};
+use ring_conductor::Polled::{Another, Answered, Nothing};
+use ring_conductor::{Client, Command, Polled, Reply, Request, WorkStop, encode_command};
+use ring_rings::ManyToOneRing;
 use std::test::Fail;
 
-/// A counter of type 5 with neither key nor label.
-const ALLOCATE: Request<'static> = Request::Allocate {
-    type_id: 5,
-    key: &[],
-    label: &[],
-};
+const ASKED: [(Call<'static>, Said); 14] = [
+    (Poll(0), Said::Polled(Nothing)),
+    (
+        Send(Request::Allocate {
+            type_id: 5,
+            key: &[],
+            label: &[],
+        }),
+        Id(0),
+    ),
+    (
+        Send(Request::AllocateOwned {
+            type_id: 1,
+            owner: 9,
+            key: &[7],
+            label: &[b'c'],
+        }),
+        Id(1),
+    ),
+    (Send(Request::Set { id: 0, value: -3 }), Id(2)),
+    (Send(Request::Close { owner: 9 }), Id(3)),
+    (Send(Request::Free { id: 1 }), Id(4)),
+    (Work(9), Said::Worked(5, WorkStop::Unpublished)),
+    (
+        Poll(0),
+        Said::Polled(Answered(Reply::Allocated {
+            correlation: 0,
+            id: 0,
+        })),
+    ),
+    (
+        Poll(0),
+        Said::Polled(Another(Reply::Allocated {
+            correlation: 1,
+            id: 1,
+        })),
+    ),
+    (
+        Poll(2),
+        Said::Polled(Answered(Reply::Done { correlation: 2 })),
+    ),
+    (
+        Poll(3),
+        Said::Polled(Answered(Reply::Closed {
+            correlation: 3,
+            freed: 1,
+        })),
+    ),
+    (
+        Poll(4),
+        Said::Polled(Answered(Reply::Refused {
+            correlation: 4,
+            code: 21,
+        })),
+    ),
+    (Poll(4), Said::Polled(Nothing)),
+    (Call::Value(0), Said::Value(Ok(-3))),
+];
 
 #[test]
 fn each_request_is_the_command_with_the_drawn_id(rt: HostRuntime) -> Result<(), Fail> {
     let mut talk = Talk::new(rt.alloc(), 1024, 256)?;
-
-    assert_eq!(rt; talk.poll(0), Polled::Nothing);
-    assert_eq!(rt; talk.send(ALLOCATE), Ok(0));
-    let owned = Request::AllocateOwned {
-        type_id: 1,
-        owner: 9,
-        key: &[7],
-        label: b"c",
-    };
-    assert_eq!(rt; talk.send(owned), Ok(1));
-    let set = Request::Set { id: 0, value: -3 };
-    assert_eq!(rt; talk.send(set), Ok(2));
-    assert_eq!(rt; talk.send(Request::Close { owner: 9 }), Ok(3));
-    assert_eq!(rt; talk.send(Request::Free { id: 1 }), Ok(4));
-    let five = talk.work(9);
-    assert_eq!(rt; five, work(5, WorkStop::Unpublished));
-    let first = Reply::Allocated {
-        correlation: 0,
-        id: 0,
-    };
-    let second = Reply::Allocated {
-        correlation: 1,
-        id: 1,
-    };
-    let closed = Reply::Closed {
-        correlation: 3,
-        freed: 1,
-    };
-    assert_eq!(rt; talk.poll(0), Polled::Answered(first));
-    assert_eq!(rt; talk.poll(0), Polled::Another(second));
-    assert_eq!(rt;
-        talk.poll(2),
-        Polled::Answered(Reply::Done { correlation: 2 })
-    );
-    assert_eq!(rt; talk.poll(3), Polled::Answered(closed));
-    assert_eq!(rt; talk.poll(4), Polled::Answered(refused(4, 21)));
-    assert_eq!(rt; talk.poll(4), Polled::Nothing);
-    assert_eq!(rt; talk.conductor.counters().value(0), Ok(-3));
-
+    talk.goes(&rt, &ASKED);
     assert_eq!(rt; talk.finish()?.received, 5);
     Ok(())
 }
 
+/// A command to set, whose record takes 32 bytes of the ring.
+const SET: Request<'static> = Request::Set { id: 0, value: 1 };
+
+const FULL: Said = Full(8, 256, 0);
+
+/// The ring is full at the ninth command.
+const AGAIN: [(Call<'static>, Said); 5] = [
+    (Send(SET), FULL),
+    (SendAs(8, SET), FULL),
+    (Work(1), Said::Worked(1, WorkStop::Limit)),
+    (SendAs(8, SET), Sent),
+    (Work(9), Said::Worked(7, WorkStop::Block)),
+];
+
+const LAST: [(Call<'static>, Said); 3] = [
+    (
+        Poll(8),
+        Said::Polled(Answered(Reply::Refused {
+            correlation: 8,
+            code: 21,
+        })),
+    ),
+    (Poll(8), Said::Polled(Nothing)),
+    (Call::NextId, Id(9)),
+];
+
 #[test]
 fn a_refused_command_can_be_sent_again_with_its_id(rt: HostRuntime) -> Result<(), Fail> {
     let mut talk = Talk::new(rt.alloc(), 256, 1024)?;
-
-    // A record of a command to set takes 32 bytes.
-    let set = Request::Set { id: 0, value: 1 };
-    let sent = [
-        talk.send(set),
-        talk.send(set),
-        talk.send(set),
-        talk.send(set),
-        talk.send(set),
-        talk.send(set),
-        talk.send(set),
-        talk.send(set),
-    ];
-    assert_eq!(rt;
-        sent,
-        [Ok(0), Ok(1), Ok(2), Ok(3), Ok(4), Ok(5), Ok(6), Ok(7)]
-    );
-    let full = SendFault::Refused {
-        correlation: 8,
-        reason: TryFault::Refused(ClaimFault::InsufficientCapacity { tail: 256, head: 0 }),
-    };
-    assert_eq!(rt; talk.send(set), Err(full));
-    assert_eq!(rt; talk.send_as(8, set), Err(full));
-    let one = talk.work(1);
-    assert_eq!(rt; one, work(1, WorkStop::Limit));
-    assert_eq!(rt; talk.send_as(8, set), Ok(()));
-    let seven = talk.work(9);
-    assert_eq!(rt; seven, work(7, WorkStop::Block));
-    let last = talk.work(9);
-    assert_eq!(rt; last, work(1, WorkStop::Unpublished));
-    let told = [
-        talk.poll(8),
-        talk.poll(8),
-        talk.poll(8),
-        talk.poll(8),
-        talk.poll(8),
-        talk.poll(8),
-        talk.poll(8),
-        talk.poll(8),
-    ];
-    let others = [0, 1, 2, 3, 4, 5, 6, 7].map(|id| Polled::Another(refused(id, 21)));
-    assert_eq!(rt; told, others);
-    let reply = Reply::Refused {
-        correlation: 8,
-        code: 21,
-    };
-    assert_eq!(rt; talk.poll(8), Polled::Answered(reply));
-    assert_eq!(rt; talk.next_correlation_id(), 9);
+    for id in 0..8 {
+        assert_eq!(rt; talk.made(Send(SET)), Id(id));
+    }
+    talk.goes(&rt, &AGAIN);
+    assert_eq!(rt; talk.made(Work(9)), Said::Worked(1, WorkStop::Unpublished));
+    for correlation in 0..8 {
+        let refused = Reply::Refused {
+            correlation,
+            code: 21,
+        };
+        assert_eq!(rt; talk.made(Poll(8)), Said::Polled(Another(refused)));
+    }
+    talk.goes(&rt, &LAST);
     Ok(())
 }
 
@@ -129,54 +134,56 @@ fn no_id_is_drawn_for_a_command_that_is_too_long(rt: HostRuntime) -> Result<(), 
     let mut talk = Talk::new(rt.alloc(), 8192, 256)?;
     let (key, label) = ([1; 112], [b'l'; 381]);
     let long = owned(&key, &label);
-
-    assert_eq!(rt; talk.send(long), Err(SendFault::TooLong));
-    assert_eq!(rt; talk.send_as(7, long), Err(SendFault::TooLong));
-    assert_eq!(rt; talk.send(owned(&key, &label[..380])), Ok(0));
-    let one = talk.work(9);
-    assert_eq!(rt; one, work(1, WorkStop::Unpublished));
+    let said = [
+        talk.made(Send(long)),
+        talk.made(SendAs(7, long)),
+        talk.made(Send(owned(&key, &label[..380]))),
+        talk.made(Work(9)),
+        talk.made(Poll(0)),
+    ];
     let made = Reply::Allocated {
         correlation: 0,
         id: 0,
     };
-    assert_eq!(rt; talk.poll(0), Polled::Answered(made));
+    let all = [
+        TooLong,
+        TooLong,
+        Id(0),
+        Said::Worked(1, WorkStop::Unpublished),
+        Said::Polled(Answered(made)),
+    ];
+    assert_eq!(rt; said, all);
     Ok(())
 }
+
+/// A refusal takes 24 bytes of the board.
+const LAPPED: [(Call<'static>, Said); 4] = [
+    (Work(20), Said::Worked(11, WorkStop::Unpublished)),
+    (
+        Poll(0),
+        Said::Polled(Polled::Lapped(Lapped {
+            count: 1,
+            place: 0,
+            intent: 280,
+        })),
+    ),
+    (
+        Poll(0),
+        Said::Polled(Another(Reply::Refused {
+            correlation: 10,
+            code: 21,
+        })),
+    ),
+    (Poll(0), Said::Polled(Nothing)),
+];
 
 #[test]
 fn a_client_is_told_that_it_was_lapped(rt: HostRuntime) -> Result<(), Fail> {
     let mut talk = Talk::new(rt.alloc(), 1024, 256)?;
-
-    // A refusal takes 24 bytes of the board.
-    let free = Request::Free { id: 0 };
-    let sent = [
-        talk.send(free),
-        talk.send(free),
-        talk.send(free),
-        talk.send(free),
-        talk.send(free),
-        talk.send(free),
-        talk.send(free),
-        talk.send(free),
-        talk.send(free),
-        talk.send(free),
-        talk.send(free),
-    ];
-    assert_eq!(rt; sent[10], Ok(10));
-    let all = talk.work(20);
-    assert_eq!(rt; all, work(11, WorkStop::Unpublished));
-    let lapped = Lapped {
-        count: 1,
-        place: 0,
-        intent: 280,
-    };
-    assert_eq!(rt; talk.poll(0), Polled::Lapped(lapped));
-    let last = Reply::Refused {
-        correlation: 10,
-        code: 21,
-    };
-    assert_eq!(rt; talk.poll(0), Polled::Another(last));
-    assert_eq!(rt; talk.poll(0), Polled::Nothing);
+    for id in 0..11 {
+        assert_eq!(rt; talk.made(Send(Request::Free { id: 0 })), Id(id));
+    }
+    talk.goes(&rt, &LAPPED);
     Ok(())
 }
 

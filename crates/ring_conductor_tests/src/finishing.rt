@@ -29,13 +29,14 @@ fn finished(back: FinishRefused<ManyToOneRing>) -> Result<Finished, FinishFault>
     }
 }
 
-/// The refusal of a conductor that is not to finish yet.
+/// A conductor that is not to finish yet, for this reason.
 fn refusal(
     ring: ManyToOneRing,
     board: Board,
     values: CounterValues,
     conductor: Conductor,
     producer: Producer,
+    reason: FinishFault,
 ) -> Result<FinishRefused<ManyToOneRing>, Fail>
     requires conductor { IsConductorOf IsConsumerOf ring board values conductor }
     requires producer { IsProducerOf ring producer }
@@ -44,53 +45,51 @@ fn refusal(
         IsConductorOf IsConsumerOf back.ring back.board back.values back.conductor) }
     ensures producer { IfOk result (λ back. back.producer ≡ producer) }
 {
-    match finish(ring, board, values, conductor, producer) {
-        Ok(_finished) => Err(Fail::from("finished")),
-        Err(back) => Ok(back),
+    let Err(back) = finish(ring, board, values, conductor, producer) else {
+        return Err(Fail::from("finished"));
+    };
+    if back.reason != reason {
+        return Err(Fail::from("refused for another reason"));
     }
+    Ok(back)
 }
 
-#[test]
-fn finishes_once_producers_are_back(rt: HostRuntime) -> Result<(), Fail> {
-    let (ring, mut producer, consumer) = ManyToOneRing::new(rt.alloc(), 1024)?;
-    let (board, transmitter) = Board::new(rt.alloc(), 256)?;
-    let (values, counters) = CountersManager::new(rt.alloc(), 4, 50)?;
-    let conductor = Conductor::new(consumer, transmitter, counters);
-    let other = ring.split(&mut producer)?;
-    let mut back = refusal(ring, board, values, conductor, producer)?;
-    assert_eq!(rt; back.reason, FinishFault::ProducersOut { shares: 1 });
-    back.ring.join(&mut back.producer, other);
-    let finished = finished(back)?;
-    assert_eq!(rt; finished.received, 0);
-    Ok(())
+/// The same of one that did not finish before.
+fn again(
+    back: FinishRefused<ManyToOneRing>,
+    reason: FinishFault,
+) -> Result<FinishRefused<ManyToOneRing>, Fail>
+    requires conductor { IsConductorOf IsConsumerOf back.ring back.board back.values back.conductor }
+    requires producer { IsProducerOf back.ring back.producer }
+    ensures ring { IfOk result (λ now. now.ring ≡ back.ring) }
+    ensures conductor { IfOk result (λ now.
+        IsConductorOf IsConsumerOf now.ring now.board now.values now.conductor) }
+    ensures producer { IfOk result (λ now. now.producer ≡ back.producer) }
+{
+    let FinishRefused {
+        reason: _,
+        ring,
+        board,
+        values,
+        conductor,
+        producer,
+    } = back;
+    refusal(ring, board, values, conductor, producer, reason)
 }
 
-/// Open claims are told before producers that are out.
+/// Open claims are told before producers that are out, and the conductor works on after it did not finish.
 #[test]
-fn finishes_once_claims_are_settled(rt: HostRuntime) -> Result<(), Fail> {
-    let (ring, mut producer, consumer) = ManyToOneRing::new(rt.alloc(), 1024)?;
-    let (board, transmitter) = Board::new(rt.alloc(), 256)?;
-    let (values, counters) = CountersManager::new(rt.alloc(), 4, 50)?;
-    let conductor = Conductor::new(consumer, transmitter, counters);
-    let other = ring.split(&mut producer)?;
-    let claim = ring.claim_once(&mut producer, 2, 12)?;
-    let mut back = refusal(ring, board, values, conductor, producer)?;
-    assert_eq!(rt; back.reason, FinishFault::ClaimsOpen { claims: 1 });
-    back.ring.abort(&mut back.producer, claim);
-    back.ring.join(&mut back.producer, other);
-    let finished = finished(back)?;
-    assert_eq!(rt; finished.received, 0);
-    Ok(())
-}
-
-#[test]
-fn goes_on_after_it_did_not_finish(rt: HostRuntime) -> Result<(), Fail> {
+fn finishes_once_claims_are_settled_and_producers_back(rt: HostRuntime) -> Result<(), Fail> {
     let (ring, mut producer, consumer) = ManyToOneRing::new(rt.alloc(), 1024)?;
     let (board, transmitter) = Board::new(rt.alloc(), 256)?;
     let (values, counters) = CountersManager::new(rt.alloc(), 4, 50)?;
     let conductor = Conductor::new(consumer, transmitter, counters);
     let mut other = ring.split(&mut producer)?;
-    let mut back = refusal(ring, board, values, conductor, producer)?;
+    let claim = ring.claim_once(&mut producer, 2, 12)?;
+    let open = FinishFault::ClaimsOpen { claims: 1 };
+    let mut back = refusal(ring, board, values, conductor, producer, open)?;
+    back.ring.abort(&mut back.producer, claim);
+    let mut back = again(back, FinishFault::ProducersOut { shares: 1 })?;
     back.ring.write_once(&mut other, 2, &[])?;
     back.ring.join(&mut back.producer, other);
     let one = back

@@ -1,101 +1,89 @@
 //! Numbers and lengths of the protocol, as clients name them.
 use ring_conductor::{
-    Bad, Command, LONGEST_COMMAND, LONGEST_REPLY, RefusalCode, Reply, UnknownCode,
-    command_type_ids, encode_command, reply_type_ids,
+    Bad, Command, LONGEST_COMMAND, LONGEST_REPLY, RefusalCode, UnknownCode, command_type_ids,
+    encode_command, reply_type_ids,
 };
 use ring_counters::{AllocateRefused, BadOwner, IdFault};
-use std::process::Abort;
+use std::alloc::{AllocError, Global};
+use std::fmt;
 use std::test::Fail;
 
 #[test]
 fn commands_and_replies_have_these_type_ids(rt: HostRuntime) {
-    assert_eq!(rt; command_type_ids::ALLOCATE, 1);
-    assert_eq!(rt; command_type_ids::FREE, 2);
-    assert_eq!(rt; command_type_ids::SET, 3);
-    assert_eq!(rt; command_type_ids::ALLOCATE_OWNED, 4);
-    assert_eq!(rt; command_type_ids::CLOSE, 5);
-    assert_eq!(rt; reply_type_ids::ALLOCATED, 101);
-    assert_eq!(rt; reply_type_ids::DONE, 102);
-    assert_eq!(rt; reply_type_ids::REFUSED, 103);
-    assert_eq!(rt; reply_type_ids::CLOSED, 104);
+    let commands = [
+        command_type_ids::ALLOCATE,
+        command_type_ids::FREE,
+        command_type_ids::SET,
+        command_type_ids::ALLOCATE_OWNED,
+        command_type_ids::CLOSE,
+    ];
+    assert_eq!(rt; commands, [1, 2, 3, 4, 5]);
+    let replies = [
+        reply_type_ids::ALLOCATED,
+        reply_type_ids::DONE,
+        reply_type_ids::REFUSED,
+        reply_type_ids::CLOSED,
+    ];
+    assert_eq!(rt; replies, [101, 102, 103, 104]);
 }
 
-/// A command tells its correlation id and its length, and is spelled by so many bytes.
-fn tells(rt: &impl Abort, command: &Command<'_>, correlation: u64, len: usize) {
-    let mut out = [0; 64];
-    assert_eq!(rt; command.correlation(), correlation);
-    assert_eq!(rt; command.encoded_len(), Some(len));
-    assert_eq!(rt; encode_command(command, &mut out), Some(len));
-}
+/// Commands with their correlation ids, and how many bytes spell them.
+const COMMANDS: [(Command<'static>, u64, usize); 5] = [
+    (
+        Command::Allocate {
+            correlation: 11,
+            type_id: -1,
+            key: &[1; 3],
+            label: &[b'a'; 5],
+        },
+        11,
+        28,
+    ),
+    (
+        Command::Free {
+            correlation: 12,
+            id: 1,
+        },
+        12,
+        12,
+    ),
+    (
+        Command::Set {
+            correlation: 13,
+            id: 1,
+            value: -1,
+        },
+        13,
+        20,
+    ),
+    (
+        Command::AllocateOwned {
+            correlation: 14,
+            type_id: 1,
+            owner: 2,
+            key: &[1; 3],
+            label: &[b'a'; 5],
+        },
+        14,
+        36,
+    ),
+    (
+        Command::Close {
+            correlation: u64::MAX,
+            owner: 2,
+        },
+        u64::MAX,
+        16,
+    ),
+];
 
 #[test]
 fn commands_tell_their_correlation_and_their_length(rt: HostRuntime) {
-    let (key, label) = ([1u8; 3], [b'a'; 5]);
-    let allocate = Command::Allocate {
-        correlation: 11,
-        type_id: -1,
-        key: &key,
-        label: &label,
-    };
-    let free = Command::Free {
-        correlation: 12,
-        id: 1,
-    };
-    let set = Command::Set {
-        correlation: 13,
-        id: 1,
-        value: -1,
-    };
-    let own = Command::AllocateOwned {
-        correlation: 14,
-        type_id: 1,
-        owner: 2,
-        key: &key,
-        label: &label,
-    };
-    let close = Command::Close {
-        correlation: u64::MAX,
-        owner: 2,
-    };
-    tells(&rt, &allocate, 11, 28);
-    tells(&rt, &free, 12, 12);
-    tells(&rt, &set, 13, 20);
-    tells(&rt, &own, 14, 36);
-    tells(&rt, &close, u64::MAX, 16);
-}
-
-#[test]
-fn replies_tell_their_correlation_and_their_length(rt: HostRuntime) {
-    let replies = [
-        (
-            Reply::Allocated {
-                correlation: 21,
-                id: 1,
-            },
-            21,
-            12,
-        ),
-        (Reply::Done { correlation: 22 }, 22, 8),
-        (
-            Reply::Refused {
-                correlation: 23,
-                code: 22,
-            },
-            23,
-            12,
-        ),
-        (
-            Reply::Closed {
-                correlation: 24,
-                freed: 1,
-            },
-            24,
-            LONGEST_REPLY,
-        ),
-    ];
-    for (reply, correlation, len) in replies {
-        assert_eq!(rt; reply.correlation(), correlation);
-        assert_eq!(rt; reply.encoded_len(), len);
+    for (command, correlation, len) in COMMANDS.iter() {
+        let mut out = [0; 64];
+        let written = encode_command(command, &mut out);
+        let told = (command.correlation(), command.encoded_len(), written);
+        assert_eq!(rt; told, (*correlation, Some(*len), Some(*len)));
     }
 }
 
@@ -110,10 +98,14 @@ fn the_longest_key_and_label_make_the_longest_command(rt: HostRuntime) {
         label: &label,
     };
     let (mut out, mut short) = ([0; LONGEST_COMMAND], [0; 519]);
-    assert_eq!(rt; LONGEST_COMMAND, 520);
-    assert_eq!(rt; longest.encoded_len(), Some(LONGEST_COMMAND));
-    assert_eq!(rt; encode_command(&longest, &mut out), Some(LONGEST_COMMAND));
+    let lengths = [
+        Some(LONGEST_COMMAND),
+        longest.encoded_len(),
+        encode_command(&longest, &mut out),
+    ];
+    assert_eq!(rt; lengths, [Some(520); 3]);
     assert_eq!(rt; encode_command(&longest, &mut short), None);
+    assert_eq!(rt; LONGEST_REPLY, 12);
 }
 
 #[test]
@@ -143,30 +135,35 @@ fn refusals_have_these_numbers_and_texts(rt: HostRuntime) -> Result<(), Fail> {
     Ok(())
 }
 
+/// Tests whether a refusal is told as the fault is.
+fn are_alike(
+    alloc: Global,
+    fault: impl fmt::Display + Drop,
+    refusal: RefusalCode,
+) -> Result<bool, AllocError> {
+    let told = fault.to_string(alloc)?;
+    Ok(refusal.to_string(alloc)?.as_str() == told.as_str())
+}
+
 #[test]
 fn refusals_tell_what_the_faults_tell(rt: HostRuntime) -> Result<(), Fail> {
-    let allocations = [
+    for fault in [
         AllocateRefused::KeyTooLong,
         AllocateRefused::LabelTooLong,
         AllocateRefused::LabelNotAscii,
         AllocateRefused::NoFreeCounter,
-    ];
-    for fault in allocations {
-        let told = format!(in rt.alloc(); "{}", fault)?;
-        let code = format!(in rt.alloc(); "{}", RefusalCode::from(fault))?;
-        assert_eq!(rt; code.as_str(), told.as_str());
+    ] {
+        assert!(rt; are_alike(rt.alloc(), fault, RefusalCode::from(fault))?);
     }
     for fault in [IdFault::BadId, IdFault::NotAllocated] {
-        let told = format!(in rt.alloc(); "{}", fault)?;
-        let code = format!(in rt.alloc(); "{}", RefusalCode::from(fault))?;
-        assert_eq!(rt; code.as_str(), told.as_str());
+        assert!(rt; are_alike(rt.alloc(), fault, RefusalCode::from(fault))?);
     }
-    let told = format!(in rt.alloc(); "{}", BadOwner)?;
-    let code = format!(in rt.alloc(); "{}", RefusalCode::from(BadOwner))?;
-    assert_eq!(rt; code.as_str(), told.as_str());
-    let malformed = RefusalCode::from(Bad::Malformed { correlation: 1 });
-    assert_eq!(rt; malformed, RefusalCode::Malformed);
-    let unknown = RefusalCode::from(Bad::UnknownType { correlation: 1 });
-    assert_eq!(rt; unknown, RefusalCode::UnknownType);
+    for fault in [
+        Bad::Malformed { correlation: 1 },
+        Bad::UnknownType { correlation: 1 },
+    ] {
+        assert!(rt; are_alike(rt.alloc(), fault, RefusalCode::from(fault))?);
+    }
+    assert!(rt; are_alike(rt.alloc(), BadOwner, RefusalCode::from(BadOwner))?);
     Ok(())
 }

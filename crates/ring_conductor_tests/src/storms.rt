@@ -41,30 +41,18 @@ fn two_clients_report() -> StormReport {
 }
 
 #[test]
-fn four_clients_send_a_hundred_commands_each(rt: HostRuntime) -> Result<(), Fail> {
-    let report = storm(&rt, rt.alloc(), &plan(4, 100), &OpenGate)?;
-    let all = StormReport {
-        received: 400,
-        left: 0,
-        seen: 400,
-        live: 4,
-        sum: 400,
-    };
-    assert_eq!(rt; report, all);
-    Ok(())
-}
-
-#[test]
-fn sixty_four_clients_send_a_hundred_commands_each(rt: HostRuntime) -> Result<(), Fail> {
-    let report = storm(&rt, rt.alloc(), &plan(64, 100), &OpenGate)?;
-    let all = StormReport {
-        received: 6_400,
-        left: 0,
-        seen: 6_400,
-        live: 64,
-        sum: 6_400,
-    };
-    assert_eq!(rt; report, all);
+fn clients_send_a_hundred_commands_each(rt: HostRuntime) -> Result<(), Fail> {
+    for (clients, all, sum) in [(4, 400, 400), (64, 6_400, 6_400)] {
+        let report = storm(&rt, rt.alloc(), &plan(clients, 100), &OpenGate)?;
+        let wanted = StormReport {
+            received: all,
+            left: 0,
+            seen: all,
+            live: clients,
+            sum,
+        };
+        assert_eq!(rt; report, wanted);
+    }
     Ok(())
 }
 

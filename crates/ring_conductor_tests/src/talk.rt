@@ -6,12 +6,49 @@ ghost use Rattle.ring_conductor.specs.Conducting.{IsConductorOf};
 
 use ring_board::Board;
 use ring_conductor::{
-    Client, Conductor, FinishFault, Finished, Polled, Request, SendFault, Work, finish,
+    Client, Conductor, FinishFault, Finished, Polled, Request, SendFault, Work, WorkStop, finish,
 };
-use ring_counters::{CounterValues, CountersManager};
-use ring_rings::ManyToOneRing;
+use ring_counters::{CounterValues, CountersManager, IdFault};
+use ring_rings::{ClaimFault, ManyToOneRing, TryFault};
 use std::alloc::Global;
+use std::process::Abort;
 use std::test::Fail;
+
+/// A call of a client, or of its conductor.
+#[derive(Clone, Copy)]
+pub enum Call<'a> {
+    Send(Request<'a>),
+    SendAs(u64, Request<'a>),
+    Poll(u64),
+    NextId,
+    Work(u32),
+    Value(u32),
+}
+
+/// What a call answers.
+#[derive(Clone, Copy, Debug, PartialEq, Eq)]
+pub enum Said {
+    Id(u64),
+    Sent,
+    /// The command with this id does not fit into the ring, with its tail and its head.
+    Full(u64, u64, u64),
+    TooLong,
+    Other(SendFault),
+    Polled(Polled),
+    Worked(u64, WorkStop),
+    Value(Result<i64, IdFault>),
+}
+
+fn refused(fault: SendFault) -> Said {
+    match fault {
+        SendFault::TooLong => Said::TooLong,
+        SendFault::Refused {
+            correlation,
+            reason: TryFault::Refused(ClaimFault::InsufficientCapacity { tail, head }),
+        } => Said::Full(correlation, tail, head),
+        other => Said::Other(other),
+    }
+}
 
 /// A client and a conductor of four counters, whose ids are given again after 50 ms.
 #[derive(Drop)]
@@ -19,7 +56,7 @@ pub struct Talk {
     ring: ManyToOneRing,
     board: Board,
     values: CounterValues,
-    pub conductor: Conductor,
+    conductor: Conductor,
     client: Client,
     ghost conducts: { IsConductorOf IsConsumerOf ring board values conductor },
     ghost sends: { IsProducerOf ring (producer_of client) },
@@ -43,26 +80,45 @@ impl Talk {
         })
     }
 
-    pub fn next_correlation_id(&mut self) -> u64 {
-        self.client.next_correlation_id(&self.ring)
+    fn send(&mut self, request: Request<'_>) -> Said {
+        match self.client.send(&self.ring, request) {
+            Ok(correlation) => Said::Id(correlation),
+            Err(fault) => refused(fault),
+        }
     }
 
-    pub fn send(&mut self, request: Request<'_>) -> Result<u64, SendFault> {
-        self.client.send(&self.ring, request)
-    }
-
-    pub fn send_as(&mut self, correlation: u64, request: Request<'_>) -> Result<(), SendFault> {
-        self.client.send_as(&self.ring, correlation, request)
-    }
-
-    pub fn poll(&mut self, correlation: u64) -> Polled {
-        self.client.poll(&self.board, correlation)
+    fn send_as(&mut self, correlation: u64, request: Request<'_>) -> Said {
+        match self.client.send_as(&self.ring, correlation, request) {
+            Ok(()) => Said::Sent,
+            Err(fault) => refused(fault),
+        }
     }
 
     /// Works at the moment 0.
-    pub fn work(&mut self, limit: u32) -> Work {
-        self.conductor
-            .do_work(&self.ring, &self.board, &self.values, 0, limit)
+    fn work(&mut self, limit: u32) -> Said {
+        let Work { messages, stopped } = self
+            .conductor
+            .do_work(&self.ring, &self.board, &self.values, 0, limit);
+        Said::Worked(messages, stopped)
+    }
+
+    /// Makes a call.
+    pub fn made(&mut self, call: Call<'_>) -> Said {
+        match call {
+            Call::Send(request) => self.send(request),
+            Call::SendAs(correlation, request) => self.send_as(correlation, request),
+            Call::Poll(correlation) => Said::Polled(self.client.poll(&self.board, correlation)),
+            Call::NextId => Said::Id(self.client.next_correlation_id(&self.ring)),
+            Call::Work(limit) => self.work(limit),
+            Call::Value(id) => Said::Value(self.conductor.counters().value(id)),
+        }
+    }
+
+    /// Makes the calls, and tests that each answers so.
+    pub fn goes(&mut self, rt: &impl Abort, calls: &[(Call<'_>, Said)]) {
+        for (at, (call, said)) in calls.iter().enumerate() {
+            assert_eq!(rt; self.made(*call), *said, "call {at}");
+        }
     }
 
     /// Finishes once the client is back.

@@ -1,128 +1,145 @@
 //! Worked examples of the manager.
-use crate::desk::Desk;
-use ring_counters::{AllocateRefused, BadId, BadOwner, IdFault, MakeFault};
+use crate::desk::Call::{
+    Allocate, AllocateOwned, AllocateWith, CloseOwner, Deadline, Free, Owner, Read, Set, State,
+    Value, Words,
+};
+use crate::desk::Said::{Bad, Done, Id, NoOwner, Number, Refused, Signed};
+use crate::desk::{Call, Desk, Said};
+use ring_counters::{AllocateRefused, IdFault, MakeFault};
 use std::test::*;
 
-#[test]
-fn gives_freed_id_again_from_its_deadline_on(rt: HostRuntime) -> Result<(), Fail> {
-    let mut desk = Desk::new(rt.alloc(), 4, 50)?;
-    assert_eq!(rt; desk.allocate(0), Ok(0));
-    desk.set(0, 7)?;
-    assert_eq!(rt; desk.value(0), Ok(7));
-    desk.free(100, 0)?;
-    assert_eq!(rt; desk.allocate(149), Ok(1));
-    assert_eq!(rt; desk.allocate(150), Ok(0));
-    assert_eq!(rt; desk.value(0), Ok(0));
-    Ok(())
-}
+type Row = (Call<'static>, Said);
+
+/// An id is given again from its deadline on.
+const AGAIN: [Row; 7] = [
+    (Allocate(0), Id(0)),
+    (Set(0, 7), Done),
+    (Value(0), Signed(7)),
+    (Free(100, 0), Done),
+    (Allocate(149), Id(1)),
+    (Allocate(150), Id(0)),
+    (Value(0), Signed(0)),
+];
+
+/// The only id is freed, and not due yet.
+const NONE_DUE: [Row; 3] = [
+    (Allocate(0), Id(0)),
+    (Free(100, 0), Done),
+    (Allocate(149), Refused(AllocateRefused::NoFreeCounter)),
+];
+
+/// The id that was freed later is due earlier.
+const DUE_EARLIER: [Row; 6] = [
+    (Allocate(0), Id(0)),
+    (Allocate(0), Id(1)),
+    (Free(100, 0), Done),
+    (Free(50, 1), Done),
+    (Allocate(120), Id(1)),
+    (Allocate(150), Id(0)),
+];
+
+/// Ids that are due are given in order of freeing.
+const IN_ORDER: [Row; 8] = [
+    (Allocate(0), Id(0)),
+    (Allocate(0), Id(1)),
+    (Allocate(0), Id(2)),
+    (Free(5, 2), Done),
+    (Free(5, 0), Done),
+    (Allocate(5), Id(2)),
+    (Allocate(5), Id(0)),
+    (Allocate(5), Id(3)),
+];
 
 #[test]
-fn refuses_while_no_id_is_due(rt: HostRuntime) -> Result<(), Fail> {
-    let mut desk = Desk::new(rt.alloc(), 1, 50)?;
-    assert_eq!(rt; desk.allocate(0), Ok(0));
-    desk.free(100, 0)?;
-    assert_eq!(rt; desk.allocate(149), Err(AllocateRefused::NoFreeCounter));
-    Ok(())
-}
-
-#[test]
-fn refuses_bad_counts(rt: HostRuntime) {
-    for count in [0, 4097] {
-        assert!(rt; matches!(Desk::new(rt.alloc(), count, 50), Err(MakeFault::BadCount)));
-    }
-}
-
-#[test]
-fn lays_out_words(rt: HostRuntime) -> Result<(), Fail> {
-    let mut desk = Desk::new(rt.alloc(), 4, 50)?;
-    assert_eq!(rt; desk.allocate_with(&[1, 2], b"ab"), Ok(0));
-    for (k, word) in [
-        (0, 0x0000_0005_0000_0001),
-        (1, 0x7FFF_FFFF_FFFF_FFFF),
-        (2, 0x0000_0000_0000_0201),
-        (16, 0x0000_6261_0000_0002),
+fn gives_ids_again_once_they_are_due(rt: HostRuntime) -> Result<(), Fail> {
+    for (count, reuse_ms, rows) in [
+        (4, 50, AGAIN.as_slice()),
+        (1, 50, NONE_DUE.as_slice()),
+        (4, 50, DUE_EARLIER.as_slice()),
+        (4, 0, IN_ORDER.as_slice()),
     ] {
-        assert_eq!(rt; desk.metadata_word(0, k), Some(word));
-    }
-    assert_eq!(rt; desk.value_word(0, 1), Some(9));
-    desk.free(100, 0)?;
-    for (k, word) in [(0, 0x0000_0005_FFFF_FFFF), (1, 150)] {
-        assert_eq!(rt; desk.metadata_word(0, k), Some(word));
+        Desk::new(rt.alloc(), count, reuse_ms)?.goes(&rt, rows);
     }
     Ok(())
 }
 
+const REFUSALS: [Row; 7] = [
+    (
+        AllocateWith(&[0; 113], &[0; 381]),
+        Refused(AllocateRefused::KeyTooLong),
+    ),
+    (
+        AllocateWith(&[], &[0; 381]),
+        Refused(AllocateRefused::LabelTooLong),
+    ),
+    (
+        AllocateWith(&[], &[128]),
+        Refused(AllocateRefused::LabelNotAscii),
+    ),
+    (Set(4, 1), Bad(IdFault::BadId)),
+    (Allocate(0), Id(0)),
+    (Free(100, 0), Done),
+    (Free(100, 0), Bad(IdFault::NotAllocated)),
+];
+
 #[test]
-fn lists_counters_in_use(rt: HostRuntime) -> Result<(), Fail> {
-    let mut desk = Desk::new(rt.alloc(), 4, 50)?;
-    for id in 0..3u32 {
-        assert_eq!(rt; desk.allocate_with(&[7], b"name"), Ok(id));
+fn refuses_counts_texts_and_ids(rt: HostRuntime) -> Result<(), Fail> {
+    for count in [0, 4097] {
+        let refused = Desk::new(rt.alloc(), count, 50).err();
+        assert_eq!(rt; refused, Some(MakeFault::BadCount));
     }
-    desk.free(100, 1)?;
-    let live = desk.live(rt.alloc())?;
-    assert_eq!(rt; live.len(), 2);
-    for (info, id) in live.iter().zip([0, 2]) {
-        let facts = (info.id, info.type_id, info.registration, info.owner);
-        assert_eq!(rt; facts, (id, 5, 9, 0));
-        assert_eq!(rt; info.key[0], 7);
-        assert_eq!(rt; info.label.as_slice(), b"name".as_slice());
-    }
+    Desk::new(rt.alloc(), 4, 50)?.goes(&rt, &REFUSALS);
     Ok(())
 }
 
-#[test]
-fn refuses_texts_in_order(rt: HostRuntime) -> Result<(), Fail> {
-    let mut desk = Desk::new(rt.alloc(), 4, 50)?;
-    let long_key = [0; 113];
-    let long_label = [0; 381];
-    assert_eq!(rt;
-        desk.allocate_with(&long_key, &long_label),
-        Err(AllocateRefused::KeyTooLong)
-    );
-    assert_eq!(rt;
-        desk.allocate_with(&[], &long_label),
-        Err(AllocateRefused::LabelTooLong)
-    );
-    assert_eq!(rt;
-        desk.allocate_with(&[], &[128]),
-        Err(AllocateRefused::LabelNotAscii)
-    );
-    Ok(())
-}
+const WORDS: [Row; 8] = [
+    (AllocateWith(&[1, 2], &[b'a', b'b']), Id(0)),
+    (Words(0, 0, 1), Said::Words(0x0000_0005_0000_0001, 9)),
+    (Words(0, 1, 1), Said::Words(0x7FFF_FFFF_FFFF_FFFF, 9)),
+    (Words(0, 2, 1), Said::Words(0x0000_0000_0000_0201, 9)),
+    (Words(0, 16, 1), Said::Words(0x0000_6261_0000_0002, 9)),
+    (Free(100, 0), Done),
+    (Words(0, 0, 1), Said::Words(0x0000_0005_FFFF_FFFF, 9)),
+    (Words(0, 1, 1), Said::Words(150, 9)),
+];
+
+const OWNERS: [Row; 15] = [
+    (AllocateOwned(9), Id(0)),
+    (AllocateOwned(8), Id(1)),
+    (AllocateOwned(9), Id(2)),
+    (Owner(1), Number(8)),
+    (CloseOwner(100, 9), Number(2)),
+    (CloseOwner(100, 0), NoOwner),
+    (State(0), Signed(-1)),
+    (State(1), Signed(1)),
+    (State(2), Signed(-1)),
+    (State(3), Signed(0)),
+    (Deadline(2), Number(150)),
+    (Words(0, 1, 2), Said::Words(150, 9)),
+    (Allocate(150), Id(0)),
+    (Allocate(150), Id(2)),
+    (Allocate(150), Id(3)),
+];
+
+/// What readers load, which go back with their shares.
+const READS: [Row; 9] = [
+    (Read(0), Signed(0)),
+    (Read(4), Bad(IdFault::BadId)),
+    (Allocate(0), Id(0)),
+    (Set(0, -42), Done),
+    (Read(0), Signed(-42)),
+    (Free(100, 0), Done),
+    (Read(0), Signed(-42)),
+    (Allocate(150), Id(0)),
+    (Read(0), Signed(0)),
+];
 
 #[test]
-fn refuses_ids_of_no_counter(rt: HostRuntime) -> Result<(), Fail> {
-    let mut desk = Desk::new(rt.alloc(), 4, 50)?;
-    assert_eq!(rt; desk.set(4, 1), Err(IdFault::BadId));
-    assert_eq!(rt; desk.allocate(0), Ok(0));
-    assert_eq!(rt; desk.free(100, 0), Ok(()));
-    assert_eq!(rt; desk.free(100, 0), Err(IdFault::NotAllocated));
-    Ok(())
-}
-
-#[test]
-fn gives_later_freed_id_that_is_due_earlier(rt: HostRuntime) -> Result<(), Fail> {
-    let mut desk = Desk::new(rt.alloc(), 4, 50)?;
-    for id in 0..2u32 {
-        assert_eq!(rt; desk.allocate(0), Ok(id));
-    }
-    desk.free(100, 0)?;
-    desk.free(50, 1)?;
-    assert_eq!(rt; desk.allocate(120), Ok(1));
-    assert_eq!(rt; desk.allocate(150), Ok(0));
-    Ok(())
-}
-
-#[test]
-fn gives_ids_in_order_of_freeing(rt: HostRuntime) -> Result<(), Fail> {
-    let mut desk = Desk::new(rt.alloc(), 4, 0)?;
-    for id in 0..3u32 {
-        assert_eq!(rt; desk.allocate(0), Ok(id));
-    }
-    desk.free(5, 2)?;
-    desk.free(5, 0)?;
-    for id in [2, 0, 3] {
-        assert_eq!(rt; desk.allocate(5), Ok(id));
+fn lays_out_words_closes_owners_and_is_read(rt: HostRuntime) -> Result<(), Fail> {
+    for rows in [WORDS.as_slice(), OWNERS.as_slice(), READS.as_slice()] {
+        let mut desk = Desk::new(rt.alloc(), 4, 50)?;
+        desk.goes(&rt, rows);
+        assert_eq!(rt; desk.counters.value_shares(), 65536);
     }
     Ok(())
 }
@@ -130,54 +147,17 @@ fn gives_ids_in_order_of_freeing(rt: HostRuntime) -> Result<(), Fail> {
 #[test]
 fn copies_key_and_label(rt: HostRuntime) -> Result<(), Fail> {
     let mut desk = Desk::new(rt.alloc(), 4, 50)?;
-    assert_eq!(rt; desk.allocate_with(&[1, 2], b"ab"), Ok(0));
-    let mut label = [9; 380];
-    assert_eq!(rt; desk.counters.label_into(0, &mut label), Ok(2));
-    assert_eq!(rt; label[0], b'a');
-    assert_eq!(rt; label[1], b'b');
-    assert!(rt; label[2..].iter().all(|byte| *byte == 0));
-    let mut key = [9; 112];
-    assert_eq!(rt; desk.counters.key_into(0, &mut key), Ok(()));
-    assert_eq!(rt; key[1], 2);
-    assert!(rt; key[2..].iter().all(|byte| *byte == 0));
-    Ok(())
-}
-
-#[test]
-fn closes_owner(rt: HostRuntime) -> Result<(), Fail> {
-    let mut desk = Desk::new(rt.alloc(), 4, 50)?;
-    for (id, owner) in [(0u32, 9u64), (1, 8), (2, 9)] {
-        assert_eq!(rt; desk.allocate_owned(owner), Ok(id));
-    }
-    assert_eq!(rt; desk.owner(1), Ok(8));
-    let closed = [desk.close_owner(100, 9), desk.close_owner(100, 0)];
-    assert_eq!(rt; closed, [Ok(2), Err(BadOwner)]);
-    for (id, state) in [(0u32, -1i32), (1, 1), (2, -1), (3, 0)] {
-        assert_eq!(rt; desk.state(id), Ok(state));
-    }
-    assert_eq!(rt;
-        (desk.deadline(2), desk.value_word(0, 2)),
-        (Ok(150), Some(9))
+    desk.allocate_with(&[1, 2], b"ab")?;
+    let (mut key, mut label) = ([9; 112], [9; 380]);
+    let copied = (
+        desk.counters.key_into(0, &mut key),
+        desk.counters.label_into(0, &mut label),
     );
-    for id in [0, 2, 3] {
-        assert_eq!(rt; desk.allocate(150), Ok(id));
-    }
-    Ok(())
-}
-
-#[test]
-fn readers_load_values(rt: HostRuntime) -> Result<(), Fail> {
-    let mut desk = Desk::new(rt.alloc(), 4, 50)?;
-    assert_eq!(rt; desk.read(0), Ok(Ok(0)));
-    assert_eq!(rt; desk.read(4), Ok(Err(BadId)));
-    assert_eq!(rt; desk.allocate(0), Ok(0));
-    desk.set(0, -42)?;
-    assert_eq!(rt; desk.read(0), Ok(Ok(-42)));
-    desk.free(100, 0)?;
-    assert_eq!(rt; desk.read(0), Ok(Ok(-42)));
-    assert_eq!(rt; desk.allocate(150), Ok(0));
-    assert_eq!(rt; desk.read(0), Ok(Ok(0)));
-    assert_eq!(rt; desk.counters.value_shares(), 65536);
+    let (mut all_key, mut all_label) = ([0; 112], [0; 380]);
+    (all_key[0], all_key[1]) = (1, 2);
+    (all_label[0], all_label[1]) = (b'a', b'b');
+    assert_eq!(rt; copied, (Ok(()), Ok(2)));
+    assert!(rt; key == all_key && label == all_label);
     Ok(())
 }
 
@@ -216,17 +196,20 @@ fn value_of(id: u32) -> i64 {
     i64::from(u32::MAX - id)
 }
 
+/// But a freed one.
 #[test]
 fn lists_all_counters(rt: HostRuntime) -> Result<(), Fail> {
     let mut desk = Desk::new(rt.alloc(), 4096, 0)?;
     for id in 0..4096u32 {
-        assert_eq!(rt; desk.allocate_with(&[], &label_of(id)), Ok(id));
+        assert_eq!(rt; desk.allocate_with(&[7], &label_of(id)), Ok(id));
         desk.set(id, value_of(id))?;
     }
+    desk.free(100, 0)?;
     let live = desk.live(rt.alloc())?;
-    assert_eq!(rt; live.len(), 4096);
-    for (id, info) in (0..4096u32).zip(live.iter()) {
-        assert_eq!(rt; (info.id, info.value), (id, value_of(id)));
+    assert_eq!(rt; live.len(), 4095);
+    for (id, info) in (1..4096u32).zip(live.iter()) {
+        assert_eq!(rt; (info.id, info.value, info.key[0]), (id, value_of(id), 7));
+        assert_eq!(rt; (info.type_id, info.registration, info.owner), (5, 9, 0));
         assert_eq!(rt; info.label.as_slice(), label_of(id).as_slice());
     }
     Ok(())

@@ -2,20 +2,22 @@
 use ring_counters::{AllocateRefused, BadId, BadOwner, IdFault, MakeFault, NoShares, OutOfMemory};
 use std::alloc::{AllocError, Global};
 use std::fmt;
-use std::test::Fail;
 
 /// Tests whether this is how the fault is told.
-fn tells(alloc: Global, fault: impl fmt::Display + Drop, text: &str) -> Result<bool, AllocError> {
-    Ok(fault.to_string(alloc)?.as_str() == text)
+fn tells(alloc: Global, fault: impl fmt::Display + Drop, text: &str) -> bool {
+    match fault.to_string(alloc) {
+        Ok(told) => told.as_str() == text,
+        Err(AllocError) => false,
+    }
 }
 
 #[test]
-fn tells_why_none_is_made_or_allocated(rt: HostRuntime) -> Result<(), Fail> {
+fn tells_why_none_is_made_or_allocated(rt: HostRuntime) {
     for (fault, text) in [
         (MakeFault::BadCount, "15 BadCount"),
         (MakeFault::OutOfMemory, "3 OutOfMemory"),
     ] {
-        assert!(rt; tells(rt.alloc(), fault, text)?, "{text}");
+        assert!(rt; tells(rt.alloc(), fault, text), "{text}");
     }
     for (fault, text) in [
         (AllocateRefused::KeyTooLong, "16 KeyTooLong"),
@@ -23,22 +25,20 @@ fn tells_why_none_is_made_or_allocated(rt: HostRuntime) -> Result<(), Fail> {
         (AllocateRefused::LabelNotAscii, "18 LabelNotAscii"),
         (AllocateRefused::NoFreeCounter, "19 NoFreeCounter"),
     ] {
-        assert!(rt; tells(rt.alloc(), fault, text)?, "{text}");
+        assert!(rt; tells(rt.alloc(), fault, text), "{text}");
     }
-    Ok(())
 }
 
 #[test]
-fn tells_why_ids_and_readers_are_refused(rt: HostRuntime) -> Result<(), Fail> {
+fn tells_why_ids_and_readers_are_refused(rt: HostRuntime) {
     for (fault, text) in [
         (IdFault::BadId, "20 BadId"),
         (IdFault::NotAllocated, "21 NotAllocated"),
     ] {
-        assert!(rt; tells(rt.alloc(), fault, text)?, "{text}");
+        assert!(rt; tells(rt.alloc(), fault, text), "{text}");
     }
-    assert!(rt; tells(rt.alloc(), BadId, "20 BadId")?);
-    assert!(rt; tells(rt.alloc(), BadOwner, "28 BadOwner")?);
-    assert!(rt; tells(rt.alloc(), NoShares, "12 NoShares")?);
-    assert!(rt; tells(rt.alloc(), OutOfMemory, "3 OutOfMemory")?);
-    Ok(())
+    assert!(rt; tells(rt.alloc(), BadId, "20 BadId"));
+    assert!(rt; tells(rt.alloc(), BadOwner, "28 BadOwner"));
+    assert!(rt; tells(rt.alloc(), NoShares, "12 NoShares"));
+    assert!(rt; tells(rt.alloc(), OutOfMemory, "3 OutOfMemory"));
 }

@@ -1,25 +1,9 @@
 //! Values that are added to and raised.
+use crate::desk::Call::{Add, Allocate, ProposeMax, Read, Set, Value};
 use crate::desk::Desk;
+use crate::desk::Said::{Bad, Done, Id, Raised, Signed};
 use ring_counters::IdFault;
 use std::test::*;
-
-impl Desk {
-    fn add(&mut self, id: u32, delta: i64) -> Result<i64, IdFault> {
-        self.counters.add(&self.values, id, delta)
-    }
-
-    fn propose_max(&mut self, id: u32, value: i64) -> Result<bool, IdFault> {
-        self.counters.propose_max(&self.values, id, value)
-    }
-}
-
-/// A counter with the id 0 and this value.
-fn with_value(rt: HostRuntime, value: i64) -> Result<Desk, Fail> {
-    let mut desk = Desk::new(rt.alloc(), 2, 50)?;
-    desk.allocate(0)?;
-    desk.set(0, value)?;
-    Ok(desk)
-}
 
 #[test]
 fn adds_and_gives_value_before(rt: HostRuntime) -> Result<(), Fail> {
@@ -31,10 +15,16 @@ fn adds_and_gives_value_before(rt: HostRuntime) -> Result<(), Fail> {
         (i64::MIN, -1, i64::MAX),
         (i64::MIN, i64::MIN, 0),
     ] {
-        let mut desk = with_value(rt, before)?;
-        assert_eq!(rt; desk.add(0, delta), Ok(before));
-        assert_eq!(rt; desk.value(0), Ok(after));
-        assert_eq!(rt; desk.read(0)?, Ok(after));
+        let rows = [
+            (Allocate(0), Id(0)),
+            (Set(0, before), Done),
+            (Add(0, delta), Signed(before)),
+            (Value(0), Signed(after)),
+            (Read(0), Signed(after)),
+            (Add(1, 1), Bad(IdFault::NotAllocated)),
+            (Add(2, 1), Bad(IdFault::BadId)),
+        ];
+        Desk::new(rt.alloc(), 2, 50)?.goes(&rt, &rows);
     }
     Ok(())
 }
@@ -48,21 +38,16 @@ fn raises_smaller_value_alone(rt: HostRuntime) -> Result<(), Fail> {
         (-1, 0, true, 0),
         (i64::MAX, i64::MIN, false, i64::MAX),
     ] {
-        let mut desk = with_value(rt, before)?;
-        assert_eq!(rt; desk.propose_max(0, proposed), Ok(raised));
-        assert_eq!(rt; desk.value(0), Ok(after));
-        assert_eq!(rt; desk.read(0)?, Ok(after));
+        let rows = [
+            (Allocate(0), Id(0)),
+            (Set(0, before), Done),
+            (ProposeMax(0, proposed), Raised(raised)),
+            (Value(0), Signed(after)),
+            (Read(0), Signed(after)),
+            (ProposeMax(1, 1), Bad(IdFault::NotAllocated)),
+            (ProposeMax(2, 1), Bad(IdFault::BadId)),
+        ];
+        Desk::new(rt.alloc(), 2, 50)?.goes(&rt, &rows);
     }
-    Ok(())
-}
-
-#[test]
-fn refuses_ids_of_no_counter(rt: HostRuntime) -> Result<(), Fail> {
-    let mut desk = with_value(rt, 6)?;
-    for (id, fault) in [(1, IdFault::NotAllocated), (2, IdFault::BadId)] {
-        assert_eq!(rt; desk.add(id, 1), Err(fault));
-        assert_eq!(rt; desk.propose_max(id, 1), Err(fault));
-    }
-    assert_eq!(rt; desk.value(0), Ok(6));
     Ok(())
 }

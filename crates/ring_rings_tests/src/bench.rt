@@ -5,8 +5,8 @@ ghost use Rattle.ring_rings.specs.Seats.{shares_of, IsConsumerOf, IsOpenClaimOf,
 
 use crate::script::Script;
 use ring_rings::{
-    Claim, CloseFault, CloseRefused, Consumer, MakeFault, ManyToOne, OneToOne, Positions, Producer,
-    PutRange, ReadEnd, Ring, TryFault,
+    Claim, ClaimFault, CloseFault, CloseRefused, Consumer, MakeFault, ManyToOne, OneToOne,
+    Positions, Producer, PutRange, ReadEnd, Ring, Stop, TryFault,
 };
 use ring_words::SoloRing;
 use std::alloc::Global;
@@ -82,7 +82,45 @@ impl Kind for ManyToOne {
     }
 }
 
-/// A ring with all its seats, on which the ring's calls are made with them.
+/// Bytes that are put at an offset into a claim, and whether they fit.
+pub type Fill<'a> = (usize, &'a [u8], bool);
+
+/// A call on a ring.
+#[derive(Clone, Copy)]
+pub enum Call<'a> {
+    Write(i32, &'a [u8]),
+    /// A claim is made, filled and committed.
+    Commit(i32, usize, &'a [Fill<'a>]),
+    /// A claim is made and aborted.
+    Abort(i32, usize),
+    Read(u32),
+    ControlledRead(u32),
+    ReadAcross(u32),
+    Positions,
+    CorrelationId,
+    Heartbeat,
+    SetHeartbeat(u64),
+    Capacity,
+    MaxMessage,
+}
+
+/// What a call answers.
+#[derive(Clone, Copy, Debug, PartialEq, Eq)]
+pub enum Said {
+    Done,
+    /// A claim was made with its body at this index.
+    Made(u32),
+    Refused(ClaimFault),
+    Contended,
+    /// Bytes did not fit that should, or fitted.
+    Misfilled,
+    Read(u32, u64, Stop),
+    /// Head and tail.
+    At(u64, u64),
+    Number(u64),
+}
+
+/// A ring with all its seats on which the ring's calls are made with them.
 #[derive(Drop)]
 pub struct Bench<K> {
     pub ring: Ring<K>,
@@ -93,13 +131,36 @@ pub struct Bench<K> {
     ghost reads: { IsConsumerOf ring consumer },
 }
 
-impl<K: Kind> Bench<K> {
-    /// A ring of 128 bytes that begins at 0.
-    pub fn new(alloc: Global) -> Result<Self, MakeFault> {
-        Self::new_at(alloc, 0)
+/// Puts bytes into a claim, and tests whether those fit that should, and no others.
+fn fill<K>(ring: &Ring<K>, producer: &mut Producer, claim: &mut Claim, fills: &[Fill<'_>]) -> bool
+    requires producer { IsProducerOf ring.now producer.old }
+    requires sole { shares_of producer.old ≡ 65536 }
+    requires claim { IsOpenClaimOf ring.now producer.old claim.old }
+    ensures producer { IsProducerOf ring.now producer.new }
+    ensures sole { shares_of producer.new ≡ 65536 }
+    ensures claim { IsOpenClaimOf ring.now producer.new claim.new }
+{
+    let mut right = true;
+    for (offset, bytes, fits) in fills {
+        right = ring.put(producer, claim, *offset, bytes).is_ok() == *fits && right;
     }
+    right
+}
 
-    pub fn new_at(alloc: Global, start: u64) -> Result<Self, MakeFault> {
+fn refused(fault: TryFault) -> Said {
+    match fault {
+        TryFault::Refused(fault) => Said::Refused(fault),
+        TryFault::Contended { .. } => Said::Contended,
+    }
+}
+
+fn read(end: ReadEnd) -> Said {
+    Said::Read(end.messages, end.bytes, end.stopped)
+}
+
+impl<K: Kind> Bench<K> {
+    /// A ring of 128 bytes that begins at this position.
+    pub fn new(alloc: Global, start: u64) -> Result<Self, MakeFault> {
         let (ring, producer, consumer) = Ring::new_at(alloc, 128, start)?;
         Ok(Bench {
             ring,
@@ -108,80 +169,74 @@ impl<K: Kind> Bench<K> {
         })
     }
 
-    pub fn write(&mut self, type_id: i32, body: &[u8]) -> Result<(), TryFault>
-        ensures claims { (t : ClaimAt) → IsOpenClaimOf self.old.ring self.old.producer t
-            → IsOpenClaimOf self.new.ring self.new.producer t }
-    {
-        K::write(&self.ring, &mut self.producer, type_id, body)
+    fn commit(&mut self, type_id: i32, len: usize, fills: &[Fill<'_>]) -> Said {
+        match K::claim(&self.ring, &mut self.producer, type_id, len) {
+            Ok(mut claim) => {
+                let index = claim.index();
+                let filled = fill(&self.ring, &mut self.producer, &mut claim, fills);
+                self.ring.commit(&mut self.producer, claim);
+                if filled {
+                    Said::Made(index)
+                } else {
+                    Said::Misfilled
+                }
+            }
+            Err(fault) => refused(fault),
+        }
     }
 
-    pub fn claim(&mut self, type_id: i32, len: usize) -> Result<Claim, TryFault>
-        ensures is_open { IfOk result (IsOpenClaimOf self.new.ring self.new.producer) }
-        ensures claims { (t : ClaimAt) → IsOpenClaimOf self.old.ring self.old.producer t
-            → IsOpenClaimOf self.new.ring self.new.producer t }
-        ensures apart { IfOk result (λ new. (t : ClaimAt) → IsOpenClaimOf self.old.ring self.old.producer t
-            → t.place ≢ new.place) }
-    {
-        K::claim(&self.ring, &mut self.producer, type_id, len)
+    fn abort(&mut self, type_id: i32, len: usize) -> Said {
+        match K::claim(&self.ring, &mut self.producer, type_id, len) {
+            Ok(claim) => {
+                let index = claim.index();
+                self.ring.abort(&mut self.producer, claim);
+                Said::Made(index)
+            }
+            Err(fault) => refused(fault),
+        }
     }
 
-    pub fn put(&mut self, claim: &mut Claim, offset: usize, bytes: &[u8]) -> Result<(), PutRange>
-        requires { IsOpenClaimOf self.old.ring self.old.producer claim.old }
-        ensures { IsOpenClaimOf self.new.ring self.new.producer claim.new }
-    {
-        self.ring.put(&mut self.producer, claim, offset, bytes)
+    fn write(&mut self, type_id: i32, body: &[u8]) -> Said {
+        match K::write(&self.ring, &mut self.producer, type_id, body) {
+            Ok(()) => Said::Done,
+            Err(fault) => refused(fault),
+        }
     }
 
-    pub fn commit(&mut self, claim: Claim)
-        requires { IsOpenClaimOf self.old.ring self.old.producer claim }
-        ensures others { (t : ClaimAt) → IsOpenClaimOf self.old.ring self.old.producer t → t.place ≢ claim.place
-            → IsOpenClaimOf self.new.ring self.new.producer t }
-    {
-        self.ring.commit(&mut self.producer, claim);
-    }
-
-    pub fn abort(&mut self, claim: Claim)
-        requires { IsOpenClaimOf self.old.ring self.old.producer claim }
-        ensures others { (t : ClaimAt) → IsOpenClaimOf self.old.ring self.old.producer t → t.place ≢ claim.place
-            → IsOpenClaimOf self.new.ring self.new.producer t }
-    {
-        self.ring.abort(&mut self.producer, claim);
-    }
-
-    pub fn read(&mut self, limit: u32, script: &mut Script<'_>) -> ReadEnd
-        ensures ring { self.new.ring ≡ self.old.ring }
-        ensures producer { self.new.producer ≡ self.old.producer }
-    {
-        self.ring.read(&mut self.consumer, limit, script)
-    }
-
-    pub fn controlled_read(&mut self, limit: u32, script: &mut Script<'_>) -> ReadEnd
-        ensures ring { self.new.ring ≡ self.old.ring }
-        ensures producer { self.new.producer ≡ self.old.producer }
-    {
-        self.ring.controlled_read(&mut self.consumer, limit, script)
-    }
-
-    pub fn positions(&mut self) -> Positions {
-        self.ring.positions(&mut self.producer)
-    }
-
-    pub fn next_correlation_id(&mut self) -> u64 {
-        self.ring.next_correlation_id(&mut self.producer)
-    }
-
-    pub fn heartbeat(&mut self) -> u64 {
-        self.ring.heartbeat(&mut self.producer)
-    }
-
-    pub fn set_heartbeat(&mut self, value: u64) {
+    fn set_heartbeat(&mut self, value: u64) -> Said {
         self.ring.set_heartbeat(&mut self.consumer, value);
+        Said::Done
+    }
+
+    fn positions(&mut self) -> Said {
+        let Positions { head, tail } = self.ring.positions(&mut self.producer);
+        Said::At(head, tail)
+    }
+
+    /// Makes a call.
+    pub fn made(&mut self, call: Call<'_>, script: &mut Script<'_>) -> Said {
+        match call {
+            Call::Write(type_id, body) => self.write(type_id, body),
+            Call::Commit(type_id, len, fills) => self.commit(type_id, len, fills),
+            Call::Abort(type_id, len) => self.abort(type_id, len),
+            Call::Read(limit) => read(self.ring.read(&mut self.consumer, limit, script)),
+            Call::ControlledRead(limit) => {
+                read(self.ring.controlled_read(&mut self.consumer, limit, script))
+            }
+            Call::ReadAcross(limit) => {
+                read(self.ring.read_across(&mut self.consumer, limit, script))
+            }
+            Call::Positions => self.positions(),
+            Call::CorrelationId => Said::Number(self.ring.next_correlation_id(&mut self.producer)),
+            Call::Heartbeat => Said::Number(self.ring.heartbeat(&mut self.producer)),
+            Call::SetHeartbeat(value) => self.set_heartbeat(value),
+            Call::Capacity => Said::Number(u64::from(self.ring.capacity())),
+            Call::MaxMessage => Said::Number(u64::from(self.ring.max_message())),
+        }
     }
 
     /// The ring's content, or the reason why it can't be had, and all as it was.
-    pub fn close(self) -> Result<SoloRing, (CloseFault, Self)>
-        ensures { IfErr result (λ back. back.1 ≡ self) }
-    {
+    pub fn close(self) -> Result<SoloRing, (CloseFault, Self)> {
         let Bench {
             ring,
             producer,

@@ -14,6 +14,8 @@ mod faults;
 #[cfg(test)]
 mod joining;
 #[cfg(test)]
+mod play;
+#[cfg(test)]
 mod reading;
 #[cfg(test)]
 mod script;

@@ -1,225 +1,198 @@
-ghost use Rattle.ring_rings.specs.Seats.{IsProducerOf};
-
-use ring_rings::{Action, Handler, ManyToOneRing, Producer, ReadEnd, Stop, TryFault};
+//! How far reads go, and what the handler's actions do.
+use crate::bench::Call::{Abort, Commit, ControlledRead, Positions, Read, Write};
+use crate::bench::Said::{At, Done, Made};
+use crate::bench::{Call, Said};
+use crate::closing::write_often;
+use crate::play::{PLAY, Play, plays};
+use crate::script::{BODY, end};
+use ring_rings::{Action, ClaimFault, Handler, ManyToOneRing, Producer, Stop, TryFault};
 use std::test::Fail;
 
-/// Notes type id and length of the first messages that it is shown, and answers them by a script; behind the script it
-/// goes on.
-#[derive(Drop)]
-struct Script<'a> {
-    actions: &'a [Action],
-    shown: usize,
-    notes: [(i32, usize); 8],
-}
+const WRITE: (Call<'static>, Said) = (Write(1, &BODY), Done);
 
-impl<'a> Script<'a> {
-    fn new(actions: &'a [Action]) -> Self {
-        Script {
-            actions,
-            shown: 0,
-            notes: [(0, 0); 8],
-        }
-    }
+const EIGHT: [u8; 8] = [0, 1, 2, 3, 4, 5, 6, 7];
 
-    fn note(&self, index: usize) -> Option<(i32, usize)> {
-        self.notes.get(index).copied()
-    }
-}
+const COMMITTED: Play<'static> = Play {
+    calls: &[
+        (Commit(7, 5, &[]), Made(8)),
+        (Commit(9, 0, &[]), Made(24)),
+        (Read(9), Said::Read(2, 24, Stop::Unpublished)),
+        (Read(9), Said::Read(0, 0, Stop::Unpublished)),
+    ],
+    shown: &[(7, &[0; 5]), (9, &[])],
+    ends: (24, 24),
+    ..PLAY
+};
 
-impl Handler for Script<'_> {
-    ghost step = { λ s m t action. Unit {0} };
-
-    fn on_message(&mut self, type_id: i32, body: &[u8]) -> Action {
-        let index = self.shown;
-        if let Some(slot) = self.notes.get_mut(index) {
-            *slot = (type_id, body.len());
-        }
-        self.shown = index.saturating_add(1);
-        self.actions.get(index).copied().unwrap_or(Action::Continue)
-    }
-}
-
-/// Sends a message of zero bytes.
-fn send(
-    ring: &ManyToOneRing,
-    producer: &mut Producer,
-    type_id: i32,
-    len: usize,
-) -> Result<(), TryFault>
-    requires { IsProducerOf ring.now producer.old }
-    ensures { IsProducerOf ring.now producer.new }
-{
-    let claim = ring.claim_once(producer, type_id, len)?;
-    ring.commit(producer, claim);
-    Ok(())
-}
-
-/// Sends the same message several times.
-fn send_often(
-    ring: &ManyToOneRing,
-    producer: &mut Producer,
-    times: u32,
-    len: usize,
-) -> Result<(), TryFault>
-    requires { IsProducerOf ring.now producer.old }
-    ensures { IsProducerOf ring.now producer.new }
-{
-    for _ in 0..times {
-        send(ring, producer, 1, len)?;
-    }
-    Ok(())
-}
-
-/// Claims room for a message and aborts the claim.
-fn give_up(ring: &ManyToOneRing, producer: &mut Producer, len: usize) -> Result<(), TryFault>
-    requires { IsProducerOf ring.now producer.old }
-    ensures { IsProducerOf ring.now producer.new }
-{
-    let claim = ring.claim_once(producer, 1, len)?;
-    ring.abort(producer, claim);
-    Ok(())
-}
-
-fn end(messages: u32, bytes: u64, stopped: Stop) -> ReadEnd {
-    ReadEnd {
-        messages,
-        bytes,
-        stopped,
-    }
-}
+/// A body of three bytes, which nothing was put into.
+const SHORT: Play<'static> = Play {
+    calls: &[
+        (Commit(4, 3, &[]), Made(8)),
+        (Read(9), Said::Read(1, 16, Stop::Unpublished)),
+    ],
+    shown: &[(4, &[0; 3])],
+    ends: (16, 16),
+    ..PLAY
+};
 
 #[test]
 fn reads_what_was_committed(rt: HostRuntime) -> Result<(), Fail> {
-    let (ring, mut producer, mut consumer) = ManyToOneRing::new(rt.alloc(), 128)?;
-    send(&ring, &mut producer, 7, 5)?;
-    send(&ring, &mut producer, 9, 0)?;
-    let mut script = Script::new(&[]);
-    let first = ring.read(&mut consumer, 9, &mut script);
-    assert_eq!(rt; first, end(2, 24, Stop::Unpublished));
-    assert_eq!(rt; script.note(0), Some((7, 5)));
-    assert_eq!(rt; script.note(1), Some((9, 0)));
-    let second = ring.read(&mut consumer, 9, &mut script);
-    assert_eq!(rt; second, end(0, 0, Stop::Unpublished));
-    assert_eq!(rt; script.shown, 2);
-    Ok(())
+    plays(&rt, rt.alloc(), &[COMMITTED, SHORT])
 }
+
+const LIMITED: Play<'static> = Play {
+    calls: &[
+        (Write(1, &[]), Done),
+        (Write(2, &[]), Done),
+        (Write(3, &[]), Done),
+        (Read(0), Said::Read(0, 0, Stop::Limit)),
+        (Read(2), Said::Read(2, 16, Stop::Limit)),
+        (ControlledRead(1), Said::Read(1, 8, Stop::Limit)),
+    ],
+    shown: &[(1, &[]), (2, &[]), (3, &[])],
+    ends: (24, 24),
+    ..PLAY
+};
 
 #[test]
 fn stops_at_the_limit(rt: HostRuntime) -> Result<(), Fail> {
-    let (ring, mut producer, mut consumer) = ManyToOneRing::new(rt.alloc(), 128)?;
-    send(&ring, &mut producer, 1, 0)?;
-    send(&ring, &mut producer, 2, 0)?;
-    send(&ring, &mut producer, 3, 0)?;
-    let mut script = Script::new(&[]);
-    let none = ring.read(&mut consumer, 0, &mut script);
-    assert_eq!(rt; none, end(0, 0, Stop::Limit));
-    let two = ring.read(&mut consumer, 2, &mut script);
-    assert_eq!(rt; two, end(2, 16, Stop::Limit));
-    let one = ring.controlled_read(&mut consumer, 1, &mut script);
-    assert_eq!(rt; one, end(1, 8, Stop::Limit));
-    assert_eq!(rt; script.note(2), Some((3, 0)));
-    assert_eq!(rt; script.shown, 3);
-    Ok(())
+    plays(&rt, rt.alloc(), &[LIMITED])
 }
 
+const AROUND: Play<'static> = Play {
+    calls: &[
+        WRITE,
+        WRITE,
+        WRITE,
+        WRITE,
+        (Write(2, &EIGHT), Done),
+        (Read(9), Said::Read(5, 112, Stop::Unpublished)),
+        (Write(3, &BODY), Done),
+        (Read(9), Said::Read(0, 16, Stop::Block)),
+        (Read(9), Said::Read(1, 24, Stop::Unpublished)),
+    ],
+    shown: &[
+        (1, &BODY),
+        (1, &BODY),
+        (1, &BODY),
+        (1, &BODY),
+        (2, &EIGHT),
+        (3, &BODY),
+    ],
+    ends: (152, 152),
+    ..PLAY
+};
+
+/// Up to the padding, up to the end of the buffer, and on from its beginning.
 #[test]
-fn wraps_with_padding(rt: HostRuntime) -> Result<(), Fail> {
-    let (ring, mut producer, mut consumer) = ManyToOneRing::new(rt.alloc(), 128)?;
-    send_often(&ring, &mut producer, 4, 16)?;
-    send(&ring, &mut producer, 2, 8)?;
-    let mut script = Script::new(&[]);
-    let lap = ring.read(&mut consumer, 9, &mut script);
-    assert_eq!(rt; lap, end(5, 112, Stop::Unpublished));
-    send(&ring, &mut producer, 3, 16)?;
-    let padding = ring.read(&mut consumer, 9, &mut script);
-    assert_eq!(rt; padding, end(0, 16, Stop::Block));
-    let next = ring.read(&mut consumer, 9, &mut script);
-    assert_eq!(rt; next, end(1, 24, Stop::Unpublished));
-    assert_eq!(rt; script.note(4), Some((2, 8)));
-    assert_eq!(rt; script.note(5), Some((3, 16)));
-    Ok(())
+fn reads_up_to_the_end_and_then_on(rt: HostRuntime) -> Result<(), Fail> {
+    plays(&rt, rt.alloc(), &[AROUND])
 }
 
-#[test]
-fn waits_for_an_open_claim(rt: HostRuntime) -> Result<(), Fail> {
-    let (ring, mut producer, mut consumer) = ManyToOneRing::new(rt.alloc(), 128)?;
-    let claim = ring.claim_once(&mut producer, 4, 3)?;
-    let mut script = Script::new(&[]);
-    let waiting = ring.read(&mut consumer, 9, &mut script);
-    assert_eq!(rt; waiting, end(0, 0, Stop::Unpublished));
-    ring.commit(&mut producer, claim);
-    let settled = ring.read(&mut consumer, 9, &mut script);
-    assert_eq!(rt; settled, end(1, 16, Stop::Unpublished));
-    assert_eq!(rt; script.note(0), Some((4, 3)));
-    Ok(())
-}
+const LEFT_FIRST: Play<'static> = Play {
+    actions: &[Action::Abort, Action::Continue, Action::Abort],
+    calls: &[
+        (Abort(1, 0), Made(8)),
+        (Write(1, &[0]), Done),
+        (Write(2, &[]), Done),
+        (ControlledRead(9), Said::Read(0, 8, Stop::Action)),
+        (ControlledRead(9), Said::Read(1, 16, Stop::Action)),
+        (Read(9), Said::Read(1, 8, Stop::Unpublished)),
+    ],
+    shown: &[(1, &[0]), (1, &[0]), (2, &[]), (2, &[])],
+    ends: (32, 32),
+    ..PLAY
+};
 
-#[test]
-fn passes_an_aborted_claim(rt: HostRuntime) -> Result<(), Fail> {
-    let (ring, mut producer, mut consumer) = ManyToOneRing::new(rt.alloc(), 128)?;
-    give_up(&ring, &mut producer, 9)?;
-    send(&ring, &mut producer, 2, 0)?;
-    let mut script = Script::new(&[]);
-    let read = ring.read(&mut consumer, 9, &mut script);
-    assert_eq!(rt; read, end(1, 32, Stop::Unpublished));
-    assert_eq!(rt; script.note(0), Some((2, 0)));
-    Ok(())
-}
+const LEFT_LAST: Play<'static> = Play {
+    actions: &[Action::Continue, Action::Commit, Action::Abort],
+    calls: &[
+        (Write(1, &[]), Done),
+        (Write(2, &[]), Done),
+        (Write(3, &[]), Done),
+        (ControlledRead(9), Said::Read(2, 16, Stop::Action)),
+        (Read(0), Said::Read(0, 0, Stop::Limit)),
+        (Read(9), Said::Read(1, 8, Stop::Unpublished)),
+    ],
+    shown: &[(1, &[]), (2, &[]), (3, &[]), (3, &[])],
+    ends: (24, 24),
+    ..PLAY
+};
+
+const LEFT_BEHIND: Play<'static> = Play {
+    actions: &[Action::Abort],
+    calls: &[
+        (Abort(1, 0), Made(8)),
+        (Write(2, &[]), Done),
+        (ControlledRead(9), Said::Read(0, 8, Stop::Action)),
+        (Read(9), Said::Read(1, 8, Stop::Unpublished)),
+        (Abort(1, 9), Made(24)),
+        (Commit(2, 0, &[]), Made(48)),
+        (Read(9), Said::Read(1, 32, Stop::Unpublished)),
+    ],
+    shown: &[(2, &[]), (2, &[]), (2, &[])],
+    ends: (48, 48),
+    ..PLAY
+};
 
 #[test]
 fn leaves_a_message_at_abort(rt: HostRuntime) -> Result<(), Fail> {
-    let (ring, mut producer, mut consumer) = ManyToOneRing::new(rt.alloc(), 128)?;
-    give_up(&ring, &mut producer, 0)?;
-    send(&ring, &mut producer, 1, 1)?;
-    send(&ring, &mut producer, 2, 0)?;
-    let mut script = Script::new(&[Action::Abort, Action::Continue, Action::Abort]);
-    let left = ring.controlled_read(&mut consumer, 9, &mut script);
-    assert_eq!(rt; left, end(0, 8, Stop::Action));
-    let one = ring.controlled_read(&mut consumer, 9, &mut script);
-    assert_eq!(rt; one, end(1, 16, Stop::Action));
-    let last = ring.read(&mut consumer, 9, &mut script);
-    assert_eq!(rt; last, end(1, 8, Stop::Unpublished));
-    assert_eq!(rt;
-        script.notes,
-        [
-            (1, 1),
-            (1, 1),
-            (2, 0),
-            (2, 0),
-            (0, 0),
-            (0, 0),
-            (0, 0),
-            (0, 0)
-        ]
-    );
-    Ok(())
+    plays(&rt, rt.alloc(), &[LEFT_FIRST, LEFT_LAST, LEFT_BEHIND])
 }
+
+const BROKEN: Play<'static> = Play {
+    actions: &[Action::Break],
+    calls: &[
+        (Write(1, &[]), Done),
+        (Write(2, &[]), Done),
+        (ControlledRead(9), Said::Read(1, 8, Stop::Action)),
+        (ControlledRead(9), Said::Read(1, 8, Stop::Unpublished)),
+    ],
+    shown: &[(1, &[]), (2, &[])],
+    ends: (16, 16),
+    ..PLAY
+};
+
+const BROKEN_AFTER_COMMIT: Play<'static> = Play {
+    actions: &[Action::Commit, Action::Abort, Action::Break],
+    calls: &[
+        (Write(1, &[]), Done),
+        (Write(2, &[]), Done),
+        (ControlledRead(9), Said::Read(1, 8, Stop::Action)),
+        (Positions, At(8, 16)),
+        (ControlledRead(1), Said::Read(1, 8, Stop::Action)),
+        (Read(0), Said::Read(0, 0, Stop::Limit)),
+        (Positions, At(16, 16)),
+    ],
+    shown: &[(1, &[]), (2, &[]), (2, &[])],
+    ends: (16, 16),
+    ..PLAY
+};
 
 #[test]
 fn takes_a_message_at_break(rt: HostRuntime) -> Result<(), Fail> {
-    let (ring, mut producer, mut consumer) = ManyToOneRing::new(rt.alloc(), 128)?;
-    send(&ring, &mut producer, 1, 0)?;
-    send(&ring, &mut producer, 2, 0)?;
-    let mut script = Script::new(&[Action::Break]);
-    let broke = ring.controlled_read(&mut consumer, 9, &mut script);
-    assert_eq!(rt; broke, end(1, 8, Stop::Action));
-    let rest = ring.controlled_read(&mut consumer, 9, &mut script);
-    assert_eq!(rt; rest, end(1, 8, Stop::Unpublished));
-    assert_eq!(rt; script.note(1), Some((2, 0)));
-    Ok(())
+    plays(&rt, rt.alloc(), &[BROKEN, BROKEN_AFTER_COMMIT])
 }
+
+const ALL_ACTIONS: Play<'static> = Play {
+    actions: &[Action::Abort, Action::Break, Action::Commit],
+    calls: &[
+        (Write(1, &[]), Done),
+        (Write(1, &[]), Done),
+        (Write(1, &[]), Done),
+        (Read(9), Said::Read(3, 24, Stop::Unpublished)),
+    ],
+    shown: &[(1, &[]), (1, &[]), (1, &[])],
+    ends: (24, 24),
+    ..PLAY
+};
 
 #[test]
 fn read_takes_each_action_as_continue(rt: HostRuntime) -> Result<(), Fail> {
-    let (ring, mut producer, mut consumer) = ManyToOneRing::new(rt.alloc(), 128)?;
-    send_often(&ring, &mut producer, 3, 0)?;
-    let mut script = Script::new(&[Action::Abort, Action::Break, Action::Commit]);
-    let read = ring.read(&mut consumer, 9, &mut script);
-    assert_eq!(rt; read, end(3, 24, Stop::Unpublished));
-    Ok(())
+    plays(&rt, rt.alloc(), &[ALL_ACTIONS])
 }
 
-/// Answers `Commit` to the first message, and at the second one tries to send.
+/// Answers `Commit`, and at the second message tries to write.
 #[derive(Drop)]
 struct Sender<'a> {
     ring: &'a ManyToOneRing,
@@ -238,7 +211,7 @@ impl Handler for Sender<'_> {
     fn on_message(&mut self, _type_id: i32, _body: &[u8]) -> Action {
         self.shown = self.shown.saturating_add(1);
         if self.shown == 2 {
-            self.sent = send(self.ring, &mut self.producer, 5, 0).is_ok();
+            self.sent = self.ring.write_once(&mut self.producer, 5, &[]).is_ok();
         }
         Action::Commit
     }
@@ -247,8 +220,9 @@ impl Handler for Sender<'_> {
 #[test]
 fn commit_gives_room_at_once(rt: HostRuntime) -> Result<(), Fail> {
     let (ring, mut producer, mut consumer) = ManyToOneRing::new(rt.alloc(), 128)?;
-    send_often(&ring, &mut producer, 16, 0)?;
-    assert!(rt; send(&ring, &mut producer, 1, 0).is_err());
+    write_often(&ring, &mut producer, 16)?;
+    let full = TryFault::Refused(ClaimFault::InsufficientCapacity { tail: 128, head: 0 });
+    assert_eq!(rt; write_often(&ring, &mut producer, 1), Err(full));
     let mut sender = Sender {
         ring: &ring,
         producer,
@@ -256,7 +230,6 @@ fn commit_gives_room_at_once(rt: HostRuntime) -> Result<(), Fail> {
         sent: false,
     };
     let read = ring.controlled_read(&mut consumer, 9, &mut sender);
-    assert_eq!(rt; read, end(9, 72, Stop::Limit));
-    assert!(rt; sender.sent);
+    assert_eq!(rt; (read, sender.sent), (end(9, 72, Stop::Limit), true));
     Ok(())
 }

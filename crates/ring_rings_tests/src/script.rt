@@ -11,7 +11,7 @@ pub type Note = (i32, usize, [u8; 16]);
 pub struct Script<'a> {
     actions: &'a [Action],
     pub shown: usize,
-    notes: [Note; 8],
+    notes: [Note; 10],
 }
 
 impl<'a> Script<'a> {
@@ -19,7 +19,7 @@ impl<'a> Script<'a> {
         Script {
             actions,
             shown: 0,
-            notes: [(0, 0, [0; 16]); 8],
+            notes: [(0, 0, [0; 16]); 10],
         }
     }
 

@@ -1,47 +1,32 @@
-use crate::bench::{Bench, Kind, closed};
+//! Ids, heartbeats and positions.
+use crate::bench::Call::{Capacity, CorrelationId, Heartbeat, Positions, SetHeartbeat};
+use crate::bench::Kind;
+use crate::bench::Said::{At, Done, Number};
+use crate::play::{PLAY, Play, plays};
 use crate::script::end;
 use ring_rings::{
-    Action, Handler, ManyToOne, ManyToOneRing, OneToOne, Positions, Producer, Ring, Stop,
+    Action, Handler, ManyToOne, ManyToOneRing, OneToOne, Producer, ReadEnd, Ring, Stop,
 };
 use std::alloc::Global;
-use std::process::Abort;
 use std::test::Fail;
 
-fn serves<K: Kind>(rt: &impl Abort, alloc: Global) -> Result<(), Fail> {
-    let mut bench = Bench::<K>::new(alloc)?;
-    assert_eq!(rt; bench.next_correlation_id(), 0);
-    assert_eq!(rt; bench.next_correlation_id(), 1);
-    assert_eq!(rt; bench.heartbeat(), 0);
-    bench.set_heartbeat(77);
-    assert_eq!(rt; bench.heartbeat(), 77);
-    assert_eq!(rt; bench.positions(), Positions { head: 0, tail: 0 });
-    assert_eq!(rt; bench.ring.capacity(), 128);
-    Ok(())
-}
+const SERVED: Play<'static> = Play {
+    calls: &[
+        (CorrelationId, Number(0)),
+        (CorrelationId, Number(1)),
+        (Heartbeat, Number(0)),
+        (SetHeartbeat(77), Done),
+        (Heartbeat, Number(77)),
+        (Positions, At(0, 0)),
+        (Capacity, Number(128)),
+    ],
+    words: &[(32, Some(0)), (80, Some(2)), (96, Some(77)), (112, None)],
+    ..PLAY
+};
 
 #[test]
 fn draws_ids_and_beats(rt: HostRuntime) -> Result<(), Fail> {
-    serves::<OneToOne>(&rt, rt.alloc())?;
-    serves::<ManyToOne>(&rt, rt.alloc())
-}
-
-fn leaves_service_words<K: Kind>(rt: &impl Abort, alloc: Global) -> Result<(), Fail> {
-    let mut bench = Bench::<K>::new(alloc)?;
-    bench.next_correlation_id();
-    bench.next_correlation_id();
-    bench.set_heartbeat(77);
-    let rest = closed(bench)?;
-    assert_eq!(rt; rest.word(32), Some(0));
-    assert_eq!(rt; rest.word(80), Some(2));
-    assert_eq!(rt; rest.word(96), Some(77));
-    assert_eq!(rt; rest.word(112), None);
-    Ok(())
-}
-
-#[test]
-fn service_words_outlive_the_ring(rt: HostRuntime) -> Result<(), Fail> {
-    leaves_service_words::<OneToOne>(&rt, rt.alloc())?;
-    leaves_service_words::<ManyToOne>(&rt, rt.alloc())
+    plays(&rt, rt.alloc(), &[SERVED])
 }
 
 /// Answers always the same, and notes the head at each message.
@@ -71,17 +56,12 @@ impl<K> Handler for HeadNotes<'_, K> {
     }
 }
 
-/// The heads that a handler sees that always answers this.
-fn heads_seen<K: Kind>(rt: &impl Abort, alloc: Global, action: Action) -> Result<[u64; 3], Fail> {
-    let mut bench = Bench::<K>::new(alloc)?;
-    for _ in 0..3 {
-        bench.write(1, &[])?;
-    }
-    let Bench {
-        ring,
-        producer,
-        mut consumer,
-    } = bench;
+/// What a handler sees of the head that always answers this.
+fn heads_seen<K: Kind>(alloc: Global, action: Action) -> Result<(ReadEnd, usize, [u64; 3]), Fail> {
+    let (ring, mut producer, mut consumer) = Ring::<K>::new_at(alloc, 128, 0)?;
+    K::write(&ring, &mut producer, 1, &[])?;
+    K::write(&ring, &mut producer, 1, &[])?;
+    K::write(&ring, &mut producer, 1, &[])?;
     let mut notes = HeadNotes {
         ring: &ring,
         producer,
@@ -90,34 +70,16 @@ fn heads_seen<K: Kind>(rt: &impl Abort, alloc: Global, action: Action) -> Result
         heads: [u64::MAX; 3],
     };
     let read = ring.controlled_read(&mut consumer, 9, &mut notes);
-    assert_eq!(rt; read, end(3, 24, Stop::Unpublished));
-    assert_eq!(rt; notes.shown, 3);
-    Ok(notes.heads)
+    Ok((read, notes.shown, notes.heads))
 }
 
 #[test]
-fn commit_moves_the_head_at_once(rt: HostRuntime) -> Result<(), Fail> {
-    assert_eq!(rt;
-        heads_seen::<OneToOne>(&rt, rt.alloc(), Action::Commit)?,
-        [0, 8, 16]
-    );
-    assert_eq!(rt;
-        heads_seen::<ManyToOne>(&rt, rt.alloc(), Action::Commit)?,
-        [0, 8, 16]
-    );
-    Ok(())
-}
-
-#[test]
-fn continue_moves_the_head_at_the_end(rt: HostRuntime) -> Result<(), Fail> {
-    assert_eq!(rt;
-        heads_seen::<OneToOne>(&rt, rt.alloc(), Action::Continue)?,
-        [0, 0, 0]
-    );
-    assert_eq!(rt;
-        heads_seen::<ManyToOne>(&rt, rt.alloc(), Action::Continue)?,
-        [0, 0, 0]
-    );
+fn commit_moves_the_head_at_once_and_continue_at_the_end(rt: HostRuntime) -> Result<(), Fail> {
+    for (action, heads) in [(Action::Commit, [0, 8, 16]), (Action::Continue, [0, 0, 0])] {
+        let one = heads_seen::<OneToOne>(rt.alloc(), action)?;
+        let many = heads_seen::<ManyToOne>(rt.alloc(), action)?;
+        assert_eq!(rt; [one, many], [(end(3, 24, Stop::Unpublished), 3, heads); 2]);
+    }
     Ok(())
 }
 
@@ -125,12 +87,15 @@ fn continue_moves_the_head_at_the_end(rt: HostRuntime) -> Result<(), Fail> {
 fn ids_are_drawn_once_over_producers(rt: HostRuntime) -> Result<(), Fail> {
     let (ring, mut first, mut consumer) = ManyToOneRing::new(rt.alloc(), 128)?;
     let mut second = ring.split(&mut first)?;
-    assert_eq!(rt; ring.next_correlation_id(&mut first), 0);
-    assert_eq!(rt; ring.next_correlation_id(&mut second), 1);
-    assert_eq!(rt; ring.next_correlation_id(&mut first), 2);
     ring.set_heartbeat(&mut consumer, 77);
-    assert_eq!(rt; ring.heartbeat(&mut second), 77);
+    let drawn = [
+        ring.next_correlation_id(&mut first),
+        ring.next_correlation_id(&mut second),
+        ring.next_correlation_id(&mut first),
+        ring.heartbeat(&mut second),
+    ];
     ring.join(&mut first, second);
-    assert_eq!(rt; ring.next_correlation_id(&mut first), 3);
+    let last = ring.next_correlation_id(&mut first);
+    assert_eq!(rt; (drawn, last), ([0, 1, 2, 77], 3));
     Ok(())
 }
