@@ -1,6 +1,6 @@
 -- Seats that a conductor gives and takes back: c is the conductor before, d after, k is a client, r a receiver or a
 -- reader, and the code is what is answered.
-use Rattle.std.specs.Prelude.{◌≡◌, ◌⊎◌, ◌≤◌, ◌+◌, ℤ, pos, [], MatchOption, IfSome, Option, Some}
+use Rattle.std.specs.Prelude.{◌≡◌, ◌⊎◌, ◌≤◌, ◌+◌, ℤ, pos, [], IfSome, Option, Some}
 use Rattle.std.specs.Arc.{arc_value}
 use Rattle.ring_rings.specs.Joining.{Joins}
 use Rattle.ring_rings.specs.Seats.{capacity_of as ring_bytes, view_of}

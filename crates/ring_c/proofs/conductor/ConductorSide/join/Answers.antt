@@ -1,4 +1,4 @@
-use Rattle.std.proofs.Common.{◌≡◌, ◌∙◌, ◌+◌, ap, arith}
+use Rattle.std.proofs.Common.{◌∙◌, ap, arith}
 use Rattle.ring_rings.specs.Seats.{open_claims_of}
 use Rattle.ring_conductor.proofs.SendingLemmas.{gathered}
 use Rattle.ring_c.proofs.conductor.ConductorSide.join.Goals as goal
