@@ -1,4 +1,4 @@
-/* felter: rings, boards and counters for the threads of one process.
+/* felter: rings, boards, counters and conductors for the threads of one process.
  *
  * The library behind this header is proved; this header, and what a caller keeps, is not.
  *
@@ -18,7 +18,9 @@
  *      during a call: a handle that a call was working on is empty then.
  *   5. malloc, realloc and free are one allocator, and align to 16 bytes. The processor has x86-64-v2.
  *   6. The producers of one felter_join are of one ring. It compares the capacities, and answers FELTER_OTHER_RING
- *      where they differ. Two rings of one capacity are not told apart: what is proved does not hold then.
+ *      where they differ. Two rings of one capacity are not told apart: what is proved does not hold then. So it is of
+ *      a conductor and the client, the receiver or the reader that felter_conductor_join, .._join_receiver or
+ *      .._join_reader takes back: those were made by this conductor.
  *
  * Answers. Each call but felter_free answers a code of enum felter_code; FELTER_OK is 0. A call that refuses leaves
  * every handle as it was. Out numbers are written on FELTER_OK alone, unless a call says otherwise. Nothing waits:
@@ -47,13 +49,15 @@ enum felter_code {
     FELTER_BAD_START = 2,             /* no multiple of the capacity, or above 2^62 */
     FELTER_OUT_OF_MEMORY = 3,         /* there was no memory */
     FELTER_BAD_TYPE = 4,              /* the type id is below 1 */
-    FELTER_TOO_LONG = 5,              /* the message is longer than an eighth of the capacity */
+    FELTER_TOO_LONG = 5,              /* more than an eighth of the capacity, or a command of more than 520 bytes */
     FELTER_POSITION_LIMIT = 6,        /* the record would end above 2^62 */
     FELTER_INSUFFICIENT_CAPACITY = 7, /* the ring is full */
     FELTER_CONTENDED = 8,             /* another producer was faster */
     FELTER_PUT_RANGE = 9,             /* the bytes do not lie inside the claim */
+    FELTER_PRODUCERS_OUT = 11,        /* a client was not taken back */
     FELTER_NO_SHARES = 12,            /* one share is left, and is needed */
     FELTER_LAPPED = 13,               /* the transmitter overtook the receiver */
+    FELTER_RECEIVERS_OUT = 14,        /* a receiver of the conductor's was not taken back */
     FELTER_BAD_COUNT = 15,            /* the number of counters is 0 or above 4096 */
     FELTER_KEY_TOO_LONG = 16,         /* the key has more than 112 bytes */
     FELTER_LABEL_TOO_LONG = 17,       /* the label has more than 380 bytes */
@@ -70,7 +74,9 @@ enum felter_code {
     FELTER_NO_MESSAGE = 105,          /* nothing is there yet */
     FELTER_SHORT_BUFFER = 106,        /* the message is longer than the buffer, and stays */
     FELTER_BAD_MOMENT = 107,          /* the moment is above 2^62 */
-    FELTER_OTHER_RING = 108           /* the two handles are of two rings */
+    FELTER_OTHER_RING = 108,          /* the two handles are of two rings, boards or sets of counters */
+    FELTER_OTHER_REPLY = 109,         /* what came is the reply to another command, or none */
+    FELTER_IN_USE = 110               /* another handle holds what was to be closed */
 };
 
 /* What a handle is inside. */
@@ -83,6 +89,8 @@ typedef struct felter_receiver { felter_handle handle; } felter_receiver;
 typedef struct felter_raw_receiver { felter_handle handle; } felter_raw_receiver;
 typedef struct felter_counters { felter_handle handle; } felter_counters;
 typedef struct felter_reader { felter_handle handle; } felter_reader;
+typedef struct felter_conductor { felter_handle handle; } felter_conductor;
+typedef struct felter_client { felter_handle handle; } felter_client;
 
 /* The first value of a handle of any kind. */
 #define FELTER_EMPTY {{0}}
@@ -238,6 +246,91 @@ int32_t felter_counters_reader(felter_counters *counters, felter_reader *reader)
 /* Loads a value: of an id that was never used 0, of a freed one its last. No value that the reader has seen comes back
  * once a later one was loaded. FELTER_BAD_ID. */
 int32_t felter_reader_value(felter_reader *reader, uint32_t id, int64_t *value);
+
+/* Conductors ----------------------------------------------------------------------------------------------------- */
+
+/* A conductor owns counters. Clients, on threads of their own, send it commands through a many-to-one ring; it applies
+ * each to the counters and answers it by one reply on a board, which carries the command's correlation id.
+ *
+ * Makes one with a ring of `capacity` bytes for the commands, a board of `replies` bytes for the replies, and counters
+ * with the ids below `counters`, of which a freed one rests for `reuse_ms`. FELTER_HANDLE_IN_USE;
+ * FELTER_BAD_CAPACITY of the ring, then of the board, FELTER_BAD_COUNT, and then FELTER_OUT_OF_MEMORY. */
+int32_t felter_conductor_new(uint32_t capacity, uint32_t replies, uint32_t counters, uint32_t reuse_ms,
+                             felter_conductor *conductor);
+/* Makes a client, with one share of the ring's 65,536 and one of the board's, which starts with the reply that was
+ * transmitted last. FELTER_HANDLE_IN_USE, FELTER_NO_SHARES of either, FELTER_OUT_OF_MEMORY: nothing is lost then. Both
+ * shares are lost when the client is freed without felter_conductor_join, and the conductor cannot finish any more. */
+int32_t felter_conductor_client(felter_conductor *conductor, felter_client *client);
+
+/* Why felter_conductor_work stopped. */
+enum felter_stop {
+    FELTER_STOP_LIMIT = 0,       /* as many commands were taken as were wanted */
+    FELTER_STOP_BLOCK = 1,       /* at the end of the ring's buffer: the next call goes on behind it */
+    FELTER_STOP_UNPUBLISHED = 2, /* no further command was there */
+    FELTER_STOP_BOARD_END = 3    /* a reply might end above 2^62 on the board: the command stays, not applied */
+};
+
+/* Takes up to `limit` commands, applies each at the moment `now`, and transmits its reply. Says how many it took, which
+ * may be 0, and why it stopped (enum felter_stop). FELTER_BAD_MOMENT, where nothing is taken. */
+int32_t felter_conductor_work(felter_conductor *conductor, uint64_t now, uint32_t limit, uint64_t *messages,
+                              int32_t *stopped);
+/* Stores the heartbeat that clients load: any number, 0 before the first. */
+int32_t felter_conductor_set_heartbeat(felter_conductor *conductor, uint64_t value);
+int32_t felter_client_heartbeat(felter_client *client, uint64_t *value);
+
+/* Makes a receiver of the replies, for felter_receive and felter_lapped_count; else as felter_subscribe. */
+int32_t felter_conductor_subscribe(felter_conductor *conductor, felter_receiver *receiver);
+/* Makes a reader of the counters' values, for felter_reader_value; else as felter_counters_reader. */
+int32_t felter_conductor_reader(felter_conductor *conductor, felter_reader *reader);
+
+/* Take back a client, a receiver or a reader of this conductor's (rule 6) with its shares, and empty its handle. What a
+ * client did not hear by then it does not hear. FELTER_OTHER_RING where the receiver or the reader was made by no
+ * conductor (felter_subscribe, felter_counters_reader), or by one whose ring or board has another capacity. */
+int32_t felter_conductor_join(felter_conductor *conductor, felter_client *client);
+int32_t felter_conductor_join_receiver(felter_conductor *conductor, felter_receiver *receiver);
+int32_t felter_conductor_join_reader(felter_conductor *conductor, felter_reader *reader);
+
+/* Ends a conductor whose clients and receivers were all taken back, and empties its handle. Says how many commands it
+ * received in all, and how many still lay in the ring, which get no reply. Where it refuses, the handle stays, and the
+ * call can be made again: FELTER_PRODUCERS_OUT where a client was not taken back, then FELTER_RECEIVERS_OUT where a
+ * receiver was not, and then FELTER_IN_USE where another handle holds what the conductor shares, such as a reader that
+ * was neither taken back nor freed. */
+int32_t felter_conductor_finish(felter_conductor *conductor, uint64_t *received, uint64_t *left);
+
+/* Each of these sends one command, by one try, and says the correlation id that was drawn for it. FELTER_TOO_LONG where
+ * the command takes more than 520 bytes, for which no id is drawn, or more than an eighth of the ring's capacity;
+ * FELTER_POSITION_LIMIT, FELTER_INSUFFICIENT_CAPACITY, FELTER_CONTENDED: the id that was drawn is given to no command
+ * then. Whether the conductor obeys or refuses the command, its reply tells.
+ *
+ * Allocates a counter of value 0, whose registration id is the correlation id. A command takes 24 bytes and those of
+ * key and label at the most. */
+int32_t felter_send_allocate(felter_client *client, int32_t type_id, const uint8_t *key, size_t key_len,
+                             const uint8_t *label, size_t label_len, uint64_t *id);
+/* The same with an owner; 0 stands for none. 8 bytes more. */
+int32_t felter_send_allocate_owned(felter_client *client, int32_t type_id, uint64_t owner, const uint8_t *key,
+                                   size_t key_len, const uint8_t *label, size_t label_len, uint64_t *id);
+/* Frees a counter. */
+int32_t felter_send_free(felter_client *client, uint32_t counter, uint64_t *id);
+/* Sets a counter's value. */
+int32_t felter_send_set(felter_client *client, uint32_t counter, int64_t value, uint64_t *id);
+/* Frees each counter of an owner. */
+int32_t felter_send_close_owner(felter_client *client, uint64_t owner, uint64_t *id);
+
+/* The kinds of replies: the type ids of their messages. */
+enum felter_reply {
+    FELTER_REPLY_ALLOCATED = 101, /* a counter was made; the number is its id */
+    FELTER_REPLY_DONE = 102,      /* the counter was freed or set; the number is 0 */
+    FELTER_REPLY_REFUSED = 103,   /* nothing was done; the number is that of the refusal: enum felter_code, or 22 where
+                                   * the command could not be read, 23 where its type id is none */
+    FELTER_REPLY_CLOSED = 104     /* the owner's counters were freed; the number is how many */
+};
+
+/* Takes the next message of the board, for one who waits for the reply to the command with this correlation id.
+ * FELTER_OK where it is that reply: its kind (enum felter_reply) and its number. FELTER_NO_MESSAGE where none is there
+ * yet. FELTER_OTHER_REPLY where it is the reply to another command, or no reply: it is passed over, so poll again.
+ * FELTER_LAPPED where the conductor overtook the client: *lapped says how often by now, the next call goes on with the
+ * reply that was transmitted last, and what became of the commands that were on their way is not known. */
+int32_t felter_poll(felter_client *client, uint64_t correlation, int32_t *kind, int64_t *number, uint64_t *lapped);
 
 #ifdef __cplusplus
 }
