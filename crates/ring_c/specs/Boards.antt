@@ -1,6 +1,6 @@
 -- What calls of a board's handles do: p is the transmitter before, q after, r is the receiver before, s after, and the
 -- code is what is answered.
-use Rattle.std.specs.Prelude.{◌≡◌, ◌⊎◌, ℕ, ◌/◌, ◌<◌, ◌≤◌, ℤ, pos, List, length, take, MatchOption, None, Some}
+use Rattle.std.specs.Prelude.{◌≡◌, ◌⊎◌, ℕ, ◌/◌, ◌<◌, ◌≤◌, ℤ, pos, List, length, take, MatchOption, Option, None, Some}
 use Rattle.atomic_table.specs.Seated.{TableId}
 use Rattle.ring_layout.specs.History.{overwritten}
 use Rattle.ring_board.specs.declared.board.Board.{Board}
@@ -12,6 +12,7 @@ use Rattle.ring_board.specs.Records.{end_of}
 use Rattle.ring_board.specs.Refusals.{subscribe_refusal_of, transmit_code, transmit_refusal_of}
 use Rattle.ring_board.specs.Seats.{next_record}
 use Rattle.ring_board.specs.Steps.{Sat, fewer, newcomer, sent_on}
+use Rattle.ring_c.specs.declared.lending.Shared.{Shared}
 
 -- which board it is
 abbrev pub table_of : Board → TableId
@@ -48,6 +49,8 @@ pub record Listening : Type 0 where
   pub table : TableId
   -- the bytes of the board's buffer
   pub capacity : ℕ
+  -- what a conductor shares, where it is a receiver of one's
+  pub lender : Option Shared
   -- what the receiver knows, with the slots of its seat, which has none
   pub seat : Sat
 
@@ -59,7 +62,7 @@ seated m r = record r { seat = m }
 pub record Subscribes (p q : Sending) (r : Listening) : Type 0 where
   pub allowed : subscribe_refusal_of p.view.shares ≡ None
   pub left : q ≡ knowing (fewer p.view) p
-  pub right : r ≡ record { table = p.table; capacity = p.capacity; seat = r.seat }
+  pub right : r ≡ record { table = p.table; capacity = p.capacity; lender = None; seat = r.seat }
   pub knows : r.seat.0 ≡ newcomer p.view
 
 -- why a receiver is not made: the transmitter needs its last share, or memory is wanting

@@ -1,6 +1,6 @@
 -- What calls of readers of values do: c are the counters before, d after, r is the reader before, s after, and the code
 -- is what is answered.
-use Rattle.std.specs.Prelude.{◌≡◌, ◌⊎◌, ◌<◌, ◌≤◌, ℕ, ◌+◌, ℤ, pos, [], ◌∷◌, ◌++◌}
+use Rattle.std.specs.Prelude.{◌≡◌, ◌⊎◌, ◌<◌, ◌≤◌, ℕ, ◌+◌, ℤ, pos, [], ◌∷◌, ◌++◌, None}
 use Rattle.std.specs.Arc.{arc_value}
 use Rattle.ring_counters.specs.Manager.{registry_of, shares_of, writes_of}
 use Rattle.ring_counters.specs.Seats.{loads_of, made_of, seen_by, values_count}
@@ -8,6 +8,7 @@ use Rattle.ring_counters.specs.ValueWrites.{value_after, Begins}
 use Rattle.ring_counters.specs.Views.{value_load}
 use Rattle.ring_c.specs.declared.counters.CountersSide.{CountersSide}
 use Rattle.ring_c.specs.declared.counters.ReaderSide.{ReaderSide}
+use Rattle.ring_c.specs.Serving.{lends_values, values_in}
 
 -- a share was moved to a reader of these counters, which has seen every write so far
 pub record Lends (c d : CountersSide) (r : ReaderSide) : Type 0 where
@@ -15,7 +16,8 @@ pub record Lends (c d : CountersSide) (r : ReaderSide) : Type 0 where
   pub registry : registry_of d.manager ≡ registry_of c.manager
   pub writes : writes_of d.manager ≡ writes_of c.manager
   pub same : arc_value d.values ≡ arc_value c.values
-  pub values : arc_value r.values ≡ arc_value c.values
+  pub values : values_in r.values ≡ arc_value c.values
+  pub own : lends_values r.values ≡ None
   pub made : made_of r.reader ≡ writes_of c.manager
   pub seen : seen_by r.reader ≡ writes_of c.manager
   pub loads : loads_of r.reader ≡ []
@@ -26,8 +28,8 @@ IsLast c code = ((code ≡ pos 12) × (shares_of c.manager ≤ 1)) ⊎ (code ≡
 
 -- a value was loaded, and is put out: it is the id's after some writes, and none that the reader has seen is missing
 pub record Loads (id : ℕ) (value : ℤ) (r s : ReaderSide) : Type 0 where
-  pub in_range : id < values_count (arc_value r.values)
-  pub values : arc_value s.values ≡ arc_value r.values
+  pub in_range : id < values_count (values_in r.values)
+  pub values : s.values ≡ r.values
   pub made : made_of s.reader ≡ made_of r.reader
   pub later : Begins (seen_by r.reader) (seen_by s.reader)
   pub after : value ≡ value_after id (seen_by s.reader)
@@ -35,4 +37,4 @@ pub record Loads (id : ℕ) (value : ℤ) (r s : ReaderSide) : Type 0 where
 
 abbrev pub Loaded : ℕ → ℤ → ℤ → ReaderSide → ReaderSide → ℤ → Type 0
 Loaded id before value r s code = ((code ≡ pos 0) × Loads id value r s)
-    ⊎ ((values_count (arc_value r.values) ≤ id) × (code ≡ pos 20) × (s ≡ r) × (value ≡ before))
+    ⊎ ((values_count (values_in r.values) ≤ id) × (code ≡ pos 20) × (s ≡ r) × (value ≡ before))

@@ -1,6 +1,10 @@
 pub mod Batch
 pub mod Boards
+pub mod Calling
 pub mod Claims
+pub mod Closing
+pub mod Concluding
+pub mod Conducting
 pub mod Consuming
 pub mod Copying
 pub mod Counting
@@ -8,5 +12,6 @@ pub mod Lending
 pub mod Owned
 pub mod Producing
 pub mod Raw
+pub mod Serving
 pub mod Side
 pub mod Told

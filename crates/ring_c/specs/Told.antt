@@ -11,14 +11,16 @@ use Rattle.ring_counters.specs.Manager.{registry_of, shares_of, writes_of}
 use Rattle.ring_counters.specs.Registry.{fresh_registry}
 use Rattle.ring_counters.specs.Registry.{make_refusal_of as counters_refusal_of}
 use Rattle.ring_counters.specs.Codes.{make_code as counters_code}
+use Rattle.ring_c.specs.declared.client.ClientSide.{ClientSide}
+use Rattle.ring_c.specs.declared.conductor.ConductorSide.{ConductorSide}
 use Rattle.ring_c.specs.declared.counters.CountersSide.{CountersSide}
 use Rattle.ring_c.specs.declared.counters.ReaderSide.{ReaderSide}
 use Rattle.ring_c.specs.Boards.{Listening, Sending}
-use Rattle.ring_c.specs.Producing.{closing, IsApart, TakesIn}
+use Rattle.ring_c.specs.Producing.{closing}
 use Rattle.ring_c.specs.Raw.{Watching}
 use Rattle.ring_c.specs.Side.{Reading, Side}
 use Rattle.ring_c.specs.declared.held.Held.{Held}
-use Rattle.ring_c.specs.declared.held.Held.TheVariants.{Producer, Consumer, Transmitter, Receiver, RawReceiver, Counters, Reader}
+use Rattle.ring_c.specs.declared.held.Held.TheVariants.{Producer, Consumer, Transmitter, Receiver, RawReceiver, Counters, Reader, Conductor, Client}
 
 -- What a handle holds, where it is of one kind ---------------------------------------
 
@@ -49,6 +51,14 @@ some_counters _ = None
 abbrev pub a_reader : Held → Option ReaderSide
 a_reader (Reader r) = Some r
 a_reader _ = None
+
+abbrev pub a_conductor : Held → Option ConductorSide
+a_conductor (Conductor c) = Some c
+a_conductor _ = None
+
+abbrev pub a_client : Held → Option ClientSide
+a_client (Client c) = Some c
+a_client _ = None
 
 -- the handle holds one of this kind, of which P holds
 abbrev pub Holds : {S : Type 0} → (Held → Option S) → (S → Type 0) → Option Held → Type 0
@@ -157,14 +167,17 @@ abbrev pub AreOfOneRing : Option Held → Option Held → Type 0
 AreOfOneRing p o =
     IfHolds a_producer (λ s. IfHolds a_producer (λ t. (s.table ≡ t.table) × (s.capacity ≡ t.capacity)) o) p
 
--- the second producer was taken in by the first, or both stay as they were
-abbrev pub Joined : Side → Side → Option Held → Option Held → ℤ → Type 0
-Joined s t p' o' code = ((code ≡ pos 0) × Holds a_producer (λ u. TakesIn s t u) p' × (o' ≡ None))
-    ⊎ (IsApart s t code × Holds a_producer (λ u. u ≡ s) p' × Holds a_producer (λ u. u ≡ t) o')
+-- the second was taken in by the first, or both stay as they were
+abbrev pub Joined : {S T : Type 0} → (Held → Option S) → (Held → Option T) → (S → T → S → Type 0)
+    → (S → T → ℤ → Type 0) → S → T → Option Held → Option Held → ℤ → Type 0
+Joined kind other Takes Keeps s t p' o' code = ((code ≡ pos 0) × Holds kind (λ u. Takes s t u) p' × (o' ≡ None))
+    ⊎ (Keeps s t code × Holds kind (λ u. u ≡ s) p' × Holds other (λ u. u ≡ t) o')
 
-abbrev pub JoinsInto : Option Held → Option Held → Option Held → Option Held → ℤ → Type 0
-JoinsInto p o p' o' code = MatchOption p ((code ≡ pos 100) × (p' ≡ None) × (o' ≡ o))
+-- a handle that is empty, or of another kind, is answered by that, and both stay; else the second is taken in, or not
+abbrev pub JoinsInto : {S T : Type 0} → (Held → Option S) → (Held → Option T) → (S → T → S → Type 0)
+    → (S → T → ℤ → Type 0) → Option Held → Option Held → Option Held → Option Held → ℤ → Type 0
+JoinsInto kind other Takes Keeps p o p' o' code = MatchOption p ((code ≡ pos 100) × (p' ≡ None) × (o' ≡ o))
     (λ h. MatchOption o ((code ≡ pos 100) × (p' ≡ Some h) × (o' ≡ None))
-    (λ k. MatchOption (a_producer h) ((code ≡ pos 101) × (p' ≡ Some h) × (o' ≡ Some k))
-    (λ s. MatchOption (a_producer k) ((code ≡ pos 101) × (p' ≡ Some h) × (o' ≡ Some k))
-    (λ t. Joined s t p' o' code))))
+    (λ k. MatchOption (kind h) ((code ≡ pos 101) × (p' ≡ Some h) × (o' ≡ Some k))
+    (λ s. MatchOption (other k) ((code ≡ pos 101) × (p' ≡ Some h) × (o' ≡ Some k))
+    (λ t. Joined kind other Takes Keeps s t p' o' code))))

@@ -6,6 +6,7 @@ ghost use Rattle.ring_c.specs.Boards.{heard, Hears, IsUnheard, Received, SaysLap
 
 use crate::code::{DONE, LAPPED, NO_MESSAGE, NO_SHARES, OUT_OF_MEMORY, SHORT_BUFFER};
 use crate::copying::copy_at;
+use crate::lending::AnyBoard;
 use ring_board::{Board, CopyReceiver, SubscribeFault, Transmitter};
 use std::alloc::Global;
 use std::marker::Model;
@@ -38,25 +39,26 @@ impl Model for TransmitterSide {
 /// A receiver, with its board.
 #[derive(Drop)]
 pub struct ReceiverSide {
-    pub(crate) board: Arc<Board>,
+    pub(crate) board: AnyBoard,
     pub(crate) receiver: CopyReceiver,
 }
 
 impl Model for ReceiverSide {
-    ghost use Rattle.std.specs.Arc.{arc_value};
     ghost use Rattle.ring_board.specs.Seats.{capacity_of, receiver_seat, IsReceiverOf};
     ghost use Rattle.ring_c.specs.Boards.{table_of, Listening};
+    ghost use Rattle.ring_c.specs.Serving.{board_in, lends_board};
 
     ghost Value = { Listening };
 
     ghost view = { λ a. record {
-      table = table_of (arc_value a.board);
-      capacity = capacity_of (arc_value a.board);
+      table = table_of (board_in a.board);
+      capacity = capacity_of (board_in a.board);
+      lender = lends_board a.board;
       seat =
           receiver_seat a.receiver;
     } };
 
-    ghost invariant = { λ a. IsReceiverOf (arc_value a.board) a.receiver };
+    ghost invariant = { λ a. IsReceiverOf (board_in a.board) a.receiver };
 }
 
 impl TransmitterSide {
@@ -79,7 +81,10 @@ impl TransmitterSide {
             return Err(OUT_OF_MEMORY);
         };
         match self.board.subscribe(alloc, &mut self.transmitter) {
-            Ok(receiver) => Ok(ReceiverSide { board, receiver }),
+            Ok(receiver) => Ok(ReceiverSide {
+                board: AnyBoard::Own(board),
+                receiver,
+            }),
             Err(SubscribeFault::NoShares) => Err(NO_SHARES),
             Err(SubscribeFault::OutOfMemory) => Err(OUT_OF_MEMORY),
         }
@@ -136,13 +141,13 @@ impl ReceiverSide {
         ensures { Received (heard type_id.old len.old lapped.old buffer.old)
             (heard type_id.new len.new lapped.new buffer.new) self.old self.new result }
     {
-        let longest = self.board.max_message() as usize;
+        let longest = self.board.get().max_message() as usize;
         if buffer.len() < longest {
             *len = longest;
             return SHORT_BUFFER;
         }
         hear(
-            &self.board,
+            self.board.get(),
             &mut self.receiver,
             type_id,
             len,

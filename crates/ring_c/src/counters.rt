@@ -3,7 +3,9 @@ ghost use Rattle.std.specs.Prelude.{◌≡◌};
 ghost use Rattle.std.specs.Arc.{arc_value};
 ghost use Rattle.ring_counters.specs.Manager.{IsManagerOf};
 ghost use Rattle.ring_counters.specs.Seats.{IsReaderOf};
+ghost use Rattle.ring_c.specs.Serving.{values_in};
 
+use crate::lending::AnyValues;
 use ring_counters::{CounterValues, CountersManager, ValueReader};
 use std::sync::Arc;
 
@@ -18,7 +20,7 @@ pub struct CountersSide {
 /// A reader of the values of counters, with those.
 #[derive(Drop)]
 pub struct ReaderSide {
-    pub(crate) values: Arc<CounterValues>,
+    pub(crate) values: AnyValues,
     pub(crate) reader: ValueReader,
-    ghost of: { IsReaderOf (arc_value values) reader },
+    ghost of: { IsReaderOf (values_in values) reader },
 }

@@ -9,7 +9,7 @@ use crate::counters::CountersSide;
 use ring_layout::counter_descriptor::{MAX_KEY_LENGTH, MAX_LABEL_LENGTH};
 
 /// The greatest moment, in milliseconds.
-const LAST_MOMENT: u64 = 1 << 62;
+pub(crate) const LAST_MOMENT: u64 = 1 << 62;
 
 /// What a counter is allocated with.
 #[derive(Drop)]

@@ -1,5 +1,8 @@
 //! What C calls.
 pub(crate) mod boards;
+pub(crate) mod calling;
+pub(crate) mod concluding;
+pub(crate) mod conducting;
 pub(crate) mod consuming;
 pub(crate) mod counting;
 pub(crate) mod counting_new;

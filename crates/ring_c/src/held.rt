@@ -1,5 +1,7 @@
 //! What a handle can stand for.
 use crate::boards::{ReceiverSide, TransmitterSide};
+use crate::client::ClientSide;
+use crate::conductor::ConductorSide;
 use crate::consumer::ConsumerSide;
 use crate::counters::{CountersSide, ReaderSide};
 use crate::producer::ProducerSide;
@@ -17,4 +19,6 @@ pub enum Held {
     RawReceiver(RawReceiverSide),
     Counters(CountersSide),
     Reader(ReaderSide),
+    Conductor(ConductorSide),
+    Client(ClientSide),
 }

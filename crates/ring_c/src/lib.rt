@@ -4,14 +4,18 @@
 mod batch;
 mod boards;
 mod claims;
+mod client;
 mod code;
+mod conductor;
 mod consumer;
 mod copying;
 mod counters;
 mod counting;
 mod exports;
+mod finishing;
 mod handle;
 mod held;
+mod lending;
 mod loose;
 mod producer;
 mod raw;
@@ -22,6 +26,15 @@ mod work_on;
 pub use exports::boards::{
     felter_board_new, felter_board_new_at, felter_lapped_count, felter_receive, felter_subscribe,
     felter_transmit,
+};
+pub use exports::calling::{
+    felter_client_heartbeat, felter_poll, felter_send_allocate, felter_send_allocate_owned,
+    felter_send_close_owner, felter_send_free, felter_send_set,
+};
+pub use exports::concluding::felter_conductor_finish;
+pub use exports::conducting::{
+    felter_conductor_client, felter_conductor_new, felter_conductor_set_heartbeat,
+    felter_conductor_work,
 };
 pub use exports::consuming::{felter_read, felter_read_batch, felter_set_heartbeat};
 pub use exports::counting::{

@@ -4,6 +4,7 @@ ghost use Rattle.ring_c.specs.Lending.{IsLast, Lends, Loaded};
 
 use crate::code::{BAD_ID, DONE, NO_SHARES, OUT_OF_MEMORY};
 use crate::counters::{CountersSide, ReaderSide};
+use crate::lending::AnyValues;
 use std::sync::Arc;
 
 impl CountersSide {
@@ -16,7 +17,10 @@ impl CountersSide {
             return Err(OUT_OF_MEMORY);
         };
         match self.manager.reader(&self.values) {
-            Ok(reader) => Ok(ReaderSide { values, reader }),
+            Ok(reader) => Ok(ReaderSide {
+                values: AnyValues::Own(values),
+                reader,
+            }),
             Err(_) => Err(NO_SHARES),
         }
     }
@@ -27,7 +31,7 @@ impl ReaderSide {
     pub(crate) fn load(&mut self, id: u32, value: &mut i64) -> i32
         ensures { Loaded id value.old value.new self.old self.new result }
     {
-        match self.values.load(&mut self.reader, id) {
+        match self.values.get().load(&mut self.reader, id) {
             Ok(loaded) => {
                 *value = loaded;
                 DONE

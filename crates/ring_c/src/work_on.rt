@@ -48,6 +48,49 @@ macro_rules! make_into {
     };
 }
 
+/// Takes what another handle stands for in, where both are of these kinds, empties that handle, and gives the code. What
+/// is not taken in comes back into its room.
+macro_rules! join_into {
+    ($handle:ident, $other:ident, $alloc:ident, $kind:ident($side:ident), $second:ident($joining:ident) => $join:expr) => {
+        match ($handle.take($alloc), $other.take($alloc)) {
+            (Some(mut held), Some(mut room)) => {
+                let code = match &mut *held {
+                    $crate::held::Held::$kind($side) => {
+                        match std::mem::replace(&mut *room, $crate::held::Held::Vacant) {
+                            $crate::held::Held::$second($joining) => match $join {
+                                Ok(()) => $crate::code::DONE,
+                                Err((code, back)) => {
+                                    $other.refill(room, $crate::held::Held::$second(back));
+                                    code
+                                }
+                            },
+                            back => {
+                                $other.refill(room, back);
+                                $crate::code::WRONG_HANDLE
+                            }
+                        }
+                    }
+                    _ => {
+                        $other.put(room);
+                        $crate::code::WRONG_HANDLE
+                    }
+                };
+                $handle.put(held);
+                code
+            }
+            (Some(held), None) => {
+                $handle.put(held);
+                $crate::code::NO_HANDLE
+            }
+            (None, Some(room)) => {
+                $other.put(room);
+                $crate::code::NO_HANDLE
+            }
+            (None, None) => $crate::code::NO_HANDLE,
+        }
+    };
+}
+
 /// Fills an empty handle with what is made, and gives the code: 102 for one in use, for which nothing is made.
 macro_rules! fill {
     ($handle:ident, $alloc:ident, $make:expr) => {
@@ -85,5 +128,6 @@ macro_rules! fill_both {
 
 pub(crate) use fill;
 pub(crate) use fill_both;
+pub(crate) use join_into;
 pub(crate) use make_into;
 pub(crate) use work_on;

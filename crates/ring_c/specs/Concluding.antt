@@ -1,0 +1,34 @@
+-- What the answers of exports say of handles of conductors, where they are made and where they end.
+use Rattle.std.specs.Prelude.{◌≡◌, ◌≢◌, ◌⊎◌, ℕ, ℤ, pos, MatchOption}
+use Rattle.std.specs.declared.option.Option.{Option}
+use Rattle.std.specs.declared.option.Option.TheVariants.{None, Some}
+use Rattle.ring_c.specs.Closing.{Concludes, IsKept}
+use Rattle.ring_c.specs.Conducting.{IsConductorCode, IsFresh}
+use Rattle.ring_c.specs.Told.{a_conductor, Holds}
+use Rattle.ring_c.specs.declared.held.Held.{Held}
+
+-- a conductor of these sizes, to which nothing was sent
+abbrev pub HoldNewConductor : ℕ → ℕ → ℕ → ℕ → Option Held → Type 0
+HoldNewConductor C R count reuse_ms h = Holds a_conductor (IsFresh C R count reuse_ms) h
+
+-- a handle in use answers 102 and stays as it is; else a conductor is made for it, or refused
+abbrev pub OpensConductor : ℕ → ℕ → ℕ → ℕ → Option Held → Option Held → ℤ → Type 0
+OpensConductor C R count reuse_ms h h' code = ((h ≢ None) × (code ≡ pos 102) × (h' ≡ h))
+    ⊎ ((h ≡ None) × IsConductorCode C R count code
+    × (((code ≡ pos 0) × HoldNewConductor C R count reuse_ms h') ⊎ ((code ≢ pos 0) × (h' ≡ None))))
+
+-- what an end puts out: how many commands were received, and how many were left
+pub record Counts : Type 0 where
+  pub received : ℕ
+  pub left : ℕ
+
+abbrev pub counts : ℕ → ℕ → Counts
+counts received left = record { received = received; left = left }
+
+-- an empty handle answers 100 and stays empty, and another kind's 101 and stays as it is; a conductor's is emptied once
+-- the conductor ended, or it stays as it is
+abbrev pub Ends : Counts → Counts → Option Held → Option Held → ℤ → Type 0
+Ends before after h h' code = MatchOption h ((code ≡ pos 100) × (h' ≡ None))
+    (λ k. MatchOption (a_conductor k) ((code ≡ pos 101) × (h' ≡ Some k))
+    (λ c. ((code ≡ pos 0) × (h' ≡ None) × Concludes c after.received after.left)
+    ⊎ (IsKept c code × Holds a_conductor (λ d. d ≡ c) h' × (after ≡ before))))

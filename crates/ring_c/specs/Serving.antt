@@ -1,0 +1,36 @@
+-- What a conductor shares with its handles, and what of it they hold.
+use Rattle.std.specs.Prelude.{◌≡◌, Option, None, Some}
+use Rattle.std.specs.Arc.{arc_value}
+use Rattle.ring_rings.specs.Seats.{capacity_of as ring_bytes}
+use Rattle.ring_board.specs.declared.board.Board.{Board}
+use Rattle.ring_board.specs.Seats.{capacity_of as board_bytes}
+use Rattle.ring_counters.specs.declared.values.seats.CounterValues.{CounterValues}
+use Rattle.ring_c.specs.declared.lending.Shared.{Shared}
+use Rattle.ring_c.specs.declared.lending.AnyBoard.{AnyBoard}
+use Rattle.ring_c.specs.declared.lending.AnyBoard.TheVariants as board
+use Rattle.ring_c.specs.declared.lending.AnyValues.{AnyValues}
+use Rattle.ring_c.specs.declared.lending.AnyValues.TheVariants as values
+
+-- the board that a receiver listens to
+abbrev pub board_in : AnyBoard → Board
+board_in (board.Own own) = arc_value own
+board_in (board.Lent shared) = (arc_value shared).board
+
+-- what a conductor shares, where the board is one's
+abbrev pub lends_board : AnyBoard → Option Shared
+lends_board (board.Own own) = None
+lends_board (board.Lent shared) = Some (arc_value shared)
+
+-- the values that a reader reads
+abbrev pub values_in : AnyValues → CounterValues
+values_in (values.Own own) = arc_value own
+values_in (values.Lent shared) = (arc_value shared).values
+
+-- what a conductor shares, where the values are one's
+abbrev pub lends_values : AnyValues → Option Shared
+lends_values (values.Own own) = None
+lends_values (values.Lent shared) = Some (arc_value shared)
+
+-- rings and boards of two conductors have the same capacities
+abbrev pub AreOfOneSize : Shared → Shared → Type 0
+AreOfOneSize s t = (ring_bytes s.ring ≡ ring_bytes t.ring) × (board_bytes s.board ≡ board_bytes t.board)

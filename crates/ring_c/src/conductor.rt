@@ -1,0 +1,29 @@
+//! A conductor in a handle.
+pub(crate) mod calls;
+pub(crate) mod making;
+
+ghost use Rattle.std.specs.Prelude.{◌≡◌};
+ghost use Rattle.std.specs.Arc.{arc_value};
+ghost use Rattle.ring_rings.specs.Seats.{open_claims_of, IsConsumerOf, IsProducerOf};
+ghost use Rattle.ring_board.specs.Seats.{shares_of as board_shares_of};
+ghost use Rattle.ring_conductor.specs.Conducting.{transmitter_of, IsConductorOf};
+
+use crate::lending::Shared;
+use ring_conductor::Conductor;
+use ring_rings::Producer;
+use std::sync::Arc;
+
+/// A conductor, with what it shares with its handles, and the producer that those of clients are split from.
+#[derive(Drop)]
+pub struct ConductorSide {
+    pub(crate) shared: Arc<Shared>,
+    pub(crate) conductor: Conductor,
+    pub(crate) producer: Producer,
+    /// How many shares of the board are not with receivers.
+    pub(crate) shares: u32,
+    ghost conducts: { IsConductorOf IsConsumerOf (arc_value shared).ring (arc_value shared).board
+        (arc_value shared).values conductor },
+    ghost produces: { IsProducerOf (arc_value shared).ring producer },
+    ghost settled: { open_claims_of producer ≡ 0 },
+    ghost counted: { shares ≡ board_shares_of (transmitter_of conductor) },
+}

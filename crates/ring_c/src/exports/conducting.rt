@@ -1,0 +1,102 @@
+//! What handles of conductors do.
+ghost use Rattle.std.specs.Prelude.{◌≡◌, ◌≢◌, pos, IfOk, MatchResult};
+ghost use Rattle.std.specs.declared.option.Option.TheVariants.{None, Some};
+ghost use Rattle.ring_c.specs.Concluding.{HoldNewConductor, OpensConductor};
+ghost use Rattle.ring_c.specs.Conducting.{report, ConductorBeat, Hires, IsConductorCode, IsUnhired, Worked};
+ghost use Rattle.ring_c.specs.Told.{a_client, a_conductor, Gives, GivesInto, Uses};
+
+use crate::code::{HANDLE_IN_USE, OUT_OF_MEMORY};
+use crate::conductor::ConductorSide;
+use crate::conductor::making::Sizes;
+use crate::handle::Handle;
+use crate::held::Held;
+use crate::work_on::{fill, make_into, work_on};
+use std::alloc::Global;
+
+/// Makes a conductor.
+fn make_conductor(alloc: Global, sizes: Sizes) -> Result<Box<Held>, i32>
+    ensures made { IfOk result (λ made.
+        HoldNewConductor sizes.capacity sizes.replies sizes.counters sizes.reuse_ms (Some made.value)) }
+    ensures code { MatchResult result (λ _. IsConductorCode sizes.capacity sizes.replies sizes.counters (pos 0))
+        (λ code. IsConductorCode sizes.capacity sizes.replies sizes.counters code × (code ≢ pos 0)) }
+{
+    let side = ConductorSide::new(alloc, sizes)?;
+    match Box::new(alloc, Held::Conductor(side)) {
+        Ok(made) => Ok(made),
+        Err(_) => Err(OUT_OF_MEMORY),
+    }
+}
+
+/// Makes a conductor, with a ring for the commands, a board for the replies and counters.
+#[unsafe(no_mangle)]
+pub extern "C" fn felter_conductor_new(
+    alloc: Global,
+    capacity: u32,
+    replies: u32,
+    counters: u32,
+    reuse_ms: u32,
+    conductor: &mut Handle,
+) -> i32
+    ensures { OpensConductor capacity replies counters reuse_ms conductor.old.held conductor.new.held result }
+{
+    let sizes = Sizes {
+        capacity,
+        replies,
+        counters,
+        reuse_ms,
+    };
+    fill!(conductor, alloc, make_conductor(alloc, sizes))
+}
+
+/// Makes a client for an empty handle. The room for it is taken first.
+fn hire_into(alloc: Global, conductor: &mut Handle, client: &mut Handle) -> i32
+    requires { client.old.held ≡ None }
+    ensures { Gives a_conductor a_client Hires IsUnhired conductor.old.held conductor.new.held client.new.held result }
+{
+    make_into!(conductor, alloc, Conductor(side) => side.client(alloc), client, Client)
+}
+
+/// Makes a client, with one share of the ring and one of the board.
+#[unsafe(no_mangle)]
+pub extern "C" fn felter_conductor_client(
+    alloc: Global,
+    conductor: &mut Handle,
+    client: &mut Handle,
+) -> i32
+    ensures { GivesInto a_conductor a_client Hires IsUnhired conductor.old.held client.old.held conductor.new.held
+        client.new.held result }
+{
+    if !client.is_empty(alloc) {
+        return HANDLE_IN_USE;
+    }
+    hire_into(alloc, conductor, client)
+}
+
+/// Takes up to `limit` commands at the moment `now`, and says how many it took and why it stopped.
+#[unsafe(no_mangle)]
+pub extern "C" fn felter_conductor_work(
+    alloc: Global,
+    conductor: &mut Handle,
+    now: u64,
+    limit: u32,
+    messages: &mut u64,
+    stopped: &mut i32,
+) -> i32
+    ensures { Uses a_conductor
+        (Worked now limit (report messages.old stopped.old) (report messages.new stopped.new))
+        conductor.old.held conductor.new.held result }
+{
+    work_on!(conductor, alloc, Conductor(side) => side.work(now, limit, messages, stopped))
+}
+
+/// Stores the heartbeat that clients load.
+#[unsafe(no_mangle)]
+pub extern "C" fn felter_conductor_set_heartbeat(
+    alloc: Global,
+    conductor: &mut Handle,
+    value: u64,
+) -> i32
+    ensures { Uses a_conductor (ConductorBeat value) conductor.old.held conductor.new.held result }
+{
+    work_on!(conductor, alloc, Conductor(side) => side.set_heartbeat(value))
+}

@@ -1,0 +1,69 @@
+//! What a conductor shares with its handles.
+ghost use Rattle.std.specs.Prelude.{◌≡◌, false};
+ghost use Rattle.ring_c.specs.Serving.{board_in, values_in, AreOfOneSize};
+
+use ring_board::Board;
+use ring_counters::CounterValues;
+use ring_rings::ManyToOneRing;
+use std::sync::Arc;
+
+/// What the handles of one conductor share: the ring of its commands, the board of its replies, and the values of its
+/// counters.
+#[derive(Drop)]
+pub struct Shared {
+    pub(crate) ring: ManyToOneRing,
+    pub(crate) board: Board,
+    pub(crate) values: CounterValues,
+}
+
+impl Shared {
+    /// Tests whether others are of the same sizes.
+    pub(crate) fn fits(&self, other: &Shared) -> bool
+        ensures { result ≡ false → AreOfOneSize self.now other.now → ⊥ }
+    {
+        self.ring.capacity() == other.ring.capacity()
+            && self.board.capacity() == other.board.capacity()
+    }
+}
+
+/// A board that a handle listens to.
+#[derive(Drop)]
+pub enum AnyBoard {
+    /// Handles of the board alone share it.
+    Own(Arc<Board>),
+    /// It is a conductor's.
+    Lent(Arc<Shared>),
+}
+
+impl AnyBoard {
+    /// The board.
+    pub(crate) fn get(&self) -> &Board
+        ensures { result.now ≡ board_in self.now }
+    {
+        match self {
+            AnyBoard::Own(board) => board,
+            AnyBoard::Lent(shared) => &shared.board,
+        }
+    }
+}
+
+/// Values of counters that a handle reads.
+#[derive(Drop)]
+pub enum AnyValues {
+    /// Handles of the counters alone share them.
+    Own(Arc<CounterValues>),
+    /// They are a conductor's.
+    Lent(Arc<Shared>),
+}
+
+impl AnyValues {
+    /// The values.
+    pub(crate) fn get(&self) -> &CounterValues
+        ensures { result.now ≡ values_in self.now }
+    {
+        match self {
+            AnyValues::Own(values) => values,
+            AnyValues::Lent(shared) => &shared.values,
+        }
+    }
+}
