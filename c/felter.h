@@ -49,7 +49,7 @@ enum felter_code {
     FELTER_BAD_START = 2,             /* no multiple of the capacity, or above 2^62 */
     FELTER_OUT_OF_MEMORY = 3,         /* there was no memory */
     FELTER_BAD_TYPE = 4,              /* the type id is below 1 */
-    FELTER_TOO_LONG = 5,              /* the message is longer than an eighth of the capacity */
+    FELTER_TOO_LONG = 5,              /* more than an eighth of the capacity, or a command of more than 520 bytes */
     FELTER_POSITION_LIMIT = 6,        /* the record would end above 2^62 */
     FELTER_INSUFFICIENT_CAPACITY = 7, /* the ring is full */
     FELTER_CONTENDED = 8,             /* another producer was faster */
@@ -283,9 +283,9 @@ int32_t felter_conductor_subscribe(felter_conductor *conductor, felter_receiver 
 /* Makes a reader of the counters' values, for felter_reader_value; else as felter_counters_reader. */
 int32_t felter_conductor_reader(felter_conductor *conductor, felter_reader *reader);
 
-/* Take back a client, a receiver or a reader of this conductor's (rule 6) with its shares, and empty its handle. Of a
- * felter_subscribe's receiver or a felter_counters_reader's reader the same rule speaks. FELTER_OTHER_RING where the
- * capacities, or the numbers of counters, differ. */
+/* Take back a client, a receiver or a reader of this conductor's (rule 6) with its shares, and empty its handle. What a
+ * client did not hear by then it does not hear. FELTER_OTHER_RING where the receiver or the reader was made by no
+ * conductor (felter_subscribe, felter_counters_reader), or by one whose ring or board has another capacity. */
 int32_t felter_conductor_join(felter_conductor *conductor, felter_client *client);
 int32_t felter_conductor_join_receiver(felter_conductor *conductor, felter_receiver *receiver);
 int32_t felter_conductor_join_reader(felter_conductor *conductor, felter_reader *reader);

@@ -1,5 +1,5 @@
 -- What a finished conductor's messages add up to.
-use Rattle.std.proofs.Common.{◌≡◌, ◌∙◌, ℕ, ◌+◌, List, ◌++◌, length, length-append, refl, sym, ap, arith, Option, Some, None, Result, Ok, Err}
+use Rattle.std.proofs.Common.{◌≡◌, ℕ, ◌+◌, List, ◌++◌, length, length-append, refl, ap, arith, Option, Some, None, Result, Ok}
 use Rattle.ring_layout.specs.Refusals.{IsRefusedAs}
 use Rattle.ring_layout.specs.declared.message.Message.{Message}
 use Rattle.ring_table.specs.declared.claim.PlacedMessage.{PlacedMessage}

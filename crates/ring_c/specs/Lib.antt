@@ -12,6 +12,7 @@ pub mod Lending
 pub mod Owned
 pub mod Producing
 pub mod Raw
+pub mod Seating
 pub mod Serving
 pub mod Side
 pub mod Told

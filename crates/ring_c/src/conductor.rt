@@ -1,5 +1,7 @@
 //! A conductor in a handle.
 pub(crate) mod calls;
+pub(crate) mod joining;
+pub(crate) mod lending;
 pub(crate) mod making;
 
 ghost use Rattle.std.specs.Prelude.{◌≡◌};

@@ -7,6 +7,7 @@ pub(crate) mod consuming;
 pub(crate) mod counting;
 pub(crate) mod counting_new;
 pub(crate) mod joining;
+pub(crate) mod lending;
 pub(crate) mod opening;
 pub(crate) mod producing;
 pub(crate) mod raw;

@@ -1,6 +1,6 @@
 //! What a conductor shares with its handles.
-ghost use Rattle.std.specs.Prelude.{◌≡◌, false};
-ghost use Rattle.ring_c.specs.Serving.{board_in, values_in, AreOfOneSize};
+ghost use Rattle.std.specs.Prelude.{◌≡◌, false, true, IfSome, IsSome};
+ghost use Rattle.ring_c.specs.Serving.{board_in, lends_board, lends_values, values_in, AreOfOneSize};
 
 use ring_board::Board;
 use ring_counters::CounterValues;
@@ -23,6 +23,28 @@ impl Shared {
     {
         self.ring.capacity() == other.ring.capacity()
             && self.board.capacity() == other.board.capacity()
+    }
+
+    /// Tests whether a board is a conductor's of the same sizes.
+    pub(crate) fn lends_board(&self, board: &AnyBoard) -> bool
+        ensures lent { result ≡ true → IsSome (lends_board board.now) }
+        ensures foreign { result ≡ false → IfSome (lends_board board.now) (λ s. AreOfOneSize self.now s → ⊥) }
+    {
+        match board {
+            AnyBoard::Own(_) => false,
+            AnyBoard::Lent(shared) => self.fits(shared),
+        }
+    }
+
+    /// Tests whether values are a conductor's of the same sizes.
+    pub(crate) fn lends_values(&self, values: &AnyValues) -> bool
+        ensures lent { result ≡ true → IsSome (lends_values values.now) }
+        ensures foreign { result ≡ false → IfSome (lends_values values.now) (λ s. AreOfOneSize self.now s → ⊥) }
+    {
+        match values {
+            AnyValues::Own(_) => false,
+            AnyValues::Lent(shared) => self.fits(shared),
+        }
     }
 }
 

@@ -45,6 +45,10 @@ pub use exports::counting::{
 };
 pub use exports::counting_new::felter_counters_new;
 pub use exports::joining::felter_join;
+pub use exports::lending::{
+    felter_conductor_join, felter_conductor_join_reader, felter_conductor_join_receiver,
+    felter_conductor_reader, felter_conductor_subscribe,
+};
 pub use exports::opening::{
     felter_many_to_one_new, felter_many_to_one_new_at, felter_one_to_one_new,
     felter_one_to_one_new_at,

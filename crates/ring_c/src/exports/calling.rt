@@ -46,13 +46,13 @@ pub extern "C" fn felter_send_allocate_owned(
     ensures { Uses a_client (WasSent (AllocateOwned type_id owner key.entry label.entry) id.old id.new)
         client.old.held client.new.held result }
 {
-    let request = Request::AllocateOwned {
+    let owned = Request::AllocateOwned {
         type_id,
         owner,
         key,
         label,
     };
-    work_on!(client, alloc, Client(side) => side.send(request, id))
+    work_on!(client, alloc, Client(side) => side.send(owned, id))
 }
 
 /// Sends a command that frees a counter, and says its correlation id.

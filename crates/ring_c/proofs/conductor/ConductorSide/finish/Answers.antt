@@ -1,5 +1,4 @@
-use Rattle.std.proofs.Common.{◌≡◌, ◌∙◌, sym, subst}
-use Rattle.std.specs.Arc.{arc_value}
+use Rattle.std.proofs.Common.{◌∙◌, subst}
 use Rattle.ring_layout.specs.History.{committed_of}
 use Rattle.ring_table.specs.Staged.{claims_of as history_of}
 use Rattle.ring_table.proofs.LawLemmas.{none_open}

@@ -1,0 +1,104 @@
+//! What conductors lend and take back.
+ghost use Rattle.std.specs.Prelude.{◌≡◌};
+ghost use Rattle.std.specs.declared.option.Option.TheVariants.{None};
+ghost use Rattle.ring_c.specs.Seating.{lends_client, lends_reader, lends_receiver, AreOfOneConductor};
+ghost use Rattle.ring_c.specs.Seating.{IsForeign, IsUnheard, IsUnread, LendsReader, LendsReceiver};
+ghost use Rattle.ring_c.specs.Seating.{TakesClient, TakesReader, TakesReceiver};
+ghost use Rattle.ring_c.specs.Told.{a_client, a_conductor, a_reader, a_receiver, Gives, GivesInto, JoinsInto};
+
+use crate::code::HANDLE_IN_USE;
+use crate::handle::Handle;
+use crate::work_on::{join_into, make_into};
+use std::alloc::Global;
+
+/// Makes a receiver for an empty handle. The room for it is taken first.
+fn listen_into(alloc: Global, conductor: &mut Handle, receiver: &mut Handle) -> i32
+    requires { receiver.old.held ≡ None }
+    ensures { Gives a_conductor a_receiver LendsReceiver IsUnheard conductor.old.held conductor.new.held
+        receiver.new.held result }
+{
+    make_into!(conductor, alloc, Conductor(side) => side.subscribe(alloc), receiver, Receiver)
+}
+
+/// Makes a receiver of the replies, which starts with the one at latest.
+#[unsafe(no_mangle)]
+pub extern "C" fn felter_conductor_subscribe(
+    alloc: Global,
+    conductor: &mut Handle,
+    receiver: &mut Handle,
+) -> i32
+    ensures { GivesInto a_conductor a_receiver LendsReceiver IsUnheard conductor.old.held receiver.old.held
+        conductor.new.held receiver.new.held result }
+{
+    if !receiver.is_empty(alloc) {
+        return HANDLE_IN_USE;
+    }
+    listen_into(alloc, conductor, receiver)
+}
+
+/// Makes a reader for an empty handle. The room for it is taken first.
+fn read_into(alloc: Global, conductor: &mut Handle, reader: &mut Handle) -> i32
+    requires { reader.old.held ≡ None }
+    ensures { Gives a_conductor a_reader LendsReader IsUnread conductor.old.held conductor.new.held reader.new.held
+        result }
+{
+    make_into!(conductor, alloc, Conductor(side) => side.reader(), reader, Reader)
+}
+
+/// Makes a reader of the counters' values, for another thread, with one share.
+#[unsafe(no_mangle)]
+pub extern "C" fn felter_conductor_reader(
+    alloc: Global,
+    conductor: &mut Handle,
+    reader: &mut Handle,
+) -> i32
+    ensures { GivesInto a_conductor a_reader LendsReader IsUnread conductor.old.held reader.old.held
+        conductor.new.held reader.new.held result }
+{
+    if !reader.is_empty(alloc) {
+        return HANDLE_IN_USE;
+    }
+    read_into(alloc, conductor, reader)
+}
+
+/// Takes a client of this conductor's back, with its shares, and empties its handle.
+#[unsafe(no_mangle)]
+pub extern "C" fn felter_conductor_join(
+    alloc: Global,
+    conductor: &mut Handle,
+    client: &mut Handle,
+) -> i32
+    requires { AreOfOneConductor a_client lends_client conductor.old.held client.old.held }
+    ensures { JoinsInto a_conductor a_client TakesClient (λ c k code. IsForeign c (lends_client k) code)
+        conductor.old.held client.old.held conductor.new.held client.new.held result }
+{
+    join_into!(conductor, client, alloc, Conductor(side), Client(joining) => side.join(joining))
+}
+
+/// Takes a receiver of this conductor's back, with its share, and empties its handle.
+#[unsafe(no_mangle)]
+pub extern "C" fn felter_conductor_join_receiver(
+    alloc: Global,
+    conductor: &mut Handle,
+    receiver: &mut Handle,
+) -> i32
+    requires { AreOfOneConductor a_receiver lends_receiver conductor.old.held receiver.old.held }
+    ensures { JoinsInto a_conductor a_receiver TakesReceiver (λ c r code. IsForeign c (lends_receiver r) code)
+        conductor.old.held receiver.old.held conductor.new.held receiver.new.held result }
+{
+    join_into!(conductor, receiver, alloc, Conductor(side), Receiver(joining) => side.join_receiver(joining))
+}
+
+/// Takes a reader of this conductor's back, with its share, and empties its handle.
+#[unsafe(no_mangle)]
+pub extern "C" fn felter_conductor_join_reader(
+    alloc: Global,
+    conductor: &mut Handle,
+    reader: &mut Handle,
+) -> i32
+    requires { AreOfOneConductor a_reader lends_reader conductor.old.held reader.old.held }
+    ensures { JoinsInto a_conductor a_reader TakesReader (λ c r code. IsForeign c (lends_reader r) code)
+        conductor.old.held reader.old.held conductor.new.held reader.new.held result }
+{
+    join_into!(conductor, reader, alloc, Conductor(side), Reader(joining) => side.join_reader(joining))
+}
