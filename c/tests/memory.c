@@ -67,6 +67,10 @@ static struct {
     felter_raw_receiver raw;
     felter_counters counters;
     felter_reader reader;
+    felter_conductor conductor;
+    felter_client client, other_client;
+    felter_receiver replies;
+    felter_reader values;
     uint64_t claims[8];
     size_t claimed;
 } all;
@@ -145,17 +149,58 @@ static int32_t receive(void) {
     return code;
 }
 
+static int32_t make_conductor(void) { return felter_conductor_new(256, 256, 2, 0, &all.conductor); }
+static int32_t hire(void) { return felter_conductor_client(&all.conductor, &all.client); }
+static int32_t hire_other(void) { return felter_conductor_client(&all.conductor, &all.other_client); }
+static int32_t listen(void) { return felter_conductor_subscribe(&all.conductor, &all.replies); }
+static int32_t lend_values(void) { return felter_conductor_reader(&all.conductor, &all.values); }
+/* Allocates a counter by a command, and hears its reply, for which no memory is taken. */
+static int32_t command(void) {
+    uint64_t id = 99, took = 0, lapped = 0;
+    int32_t why = 77, kind = 0;
+    int64_t number = -1;
+    EXPECT(FELTER_OK, felter_send_allocate(&all.client, 1, BYTES("k"), BYTES("l"), &id));
+    CHECK(id == 0);
+    EXPECT(FELTER_OK, felter_conductor_work(&all.conductor, 0, 9, &took, &why));
+    CHECK(took == 1);
+    int32_t code = felter_poll(&all.client, id, &kind, &number, &lapped);
+    CHECK(kind == FELTER_REPLY_ALLOCATED && number == 0);
+    return code;
+}
+static int32_t give_back(void) { return felter_conductor_join(&all.conductor, &all.other_client); }
+static int32_t give_replies_back(void) { return felter_conductor_join_receiver(&all.conductor, &all.replies); }
+static int32_t give_values_back(void) { return felter_conductor_join_reader(&all.conductor, &all.values); }
+/* A finish that is refused, since a client is out. */
+static int32_t finish_early(void) {
+    uint64_t received = 77, left = 77;
+    int32_t code = felter_conductor_finish(&all.conductor, &received, &left);
+    CHECK(received == 77 && left == 77);
+    return code == FELTER_PRODUCERS_OUT ? FELTER_OK : code;
+}
+static int32_t finish(void) {
+    uint64_t received = 77, left = 77;
+    EXPECT(FELTER_OK, felter_conductor_join(&all.conductor, &all.client));
+    int32_t code = felter_conductor_finish(&all.conductor, &received, &left);
+    CHECK(received == 1 && left == 0);
+    return code;
+}
+
+/* One conductor is finished, and another one is freed, after what it gave out. */
 static int32_t (*const steps[])(void) = {
-    make_many, make_one,  split,     claim_one, claim_other, claim_one, claim_one,  claim_one,
-    join,      abort_all, write_one, read_one,  claim_one,   make_board, subscribe, subscribe_raw,
-    transmit,  receive,   look,      make_counters, allocate, add_one,   see_one,    lend,      load,
+    make_many,      make_one,    split,     claim_one,  claim_other,       claim_one,        claim_one,
+    claim_one,      join,        abort_all, write_one,  read_one,          claim_one,        make_board,
+    subscribe,      subscribe_raw, transmit, receive,   look,              make_counters,    allocate,
+    add_one,        see_one,     lend,      load,       make_conductor,    hire,             hire_other,
+    listen,         lend_values, command,   give_back,  give_replies_back, give_values_back, finish_early,
+    finish,         make_conductor, hire,   hire_other, listen,            lend_values,      command,
 };
 
 static void free_all(void) {
     felter_handle *handles[] = {&all.producer.handle,  &all.other.handle,     &all.single.handle,
                                 &all.consumer.handle,  &all.of_single.handle, &all.transmitter.handle,
                                 &all.receiver.handle,  &all.raw.handle,       &all.counters.handle,
-                                &all.reader.handle};
+                                &all.reader.handle,    &all.client.handle,    &all.other_client.handle,
+                                &all.values.handle,    &all.replies.handle,   &all.conductor.handle};
     for (size_t i = 0; i < sizeof handles / sizeof *handles; i++) felter_free(handles[i]);
     all.claimed = 0;
 }

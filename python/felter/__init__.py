@@ -1,4 +1,4 @@
-"""Rings, boards and counters for the threads of one process, by ctypes alone.
+"""Rings, boards, counters and conductors for the threads of one process, by ctypes alone.
 
     producer, consumer = felter.many_to_one(65536)
     producer.write(7, b"hello")
@@ -11,11 +11,12 @@ puts it. Nothing waits: reads answer None where nothing is there, and a full rin
 clock of the caller.
 
 A handle may be used by any thread: a lock in each lets one call at a time work on it. Handles are context managers, and
-free what they own at the end. This module is tested and not proved; that handles of two rings are not mixed is compared
-here, by a number that each ring has.
+free what they own at the end. This module is tested and not proved; that handles of two rings, or of two conductors,
+are not mixed is compared here, by a number that each has.
 """
 
 from felter.boards import RawReceiver, RawRecord, Receiver, Transmitter
+from felter.conductor import Client, Conductor, Finished, Reply, ReplyKind, Work, WorkStop
 from felter.counters import Counters, Reader
 from felter.errors import Error, Lapped, Number
 from felter.message import Message
@@ -23,9 +24,12 @@ from felter.rings import Claim, Consumer, Positions, Producer, many_to_one, one_
 
 __all__ = [
     "Claim",
+    "Client",
+    "Conductor",
     "Consumer",
     "Counters",
     "Error",
+    "Finished",
     "Lapped",
     "Message",
     "Number",
@@ -35,7 +39,11 @@ __all__ = [
     "RawRecord",
     "Reader",
     "Receiver",
+    "Reply",
+    "ReplyKind",
     "Transmitter",
+    "Work",
+    "WorkStop",
     "many_to_one",
     "one_to_one",
 ]

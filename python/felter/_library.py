@@ -84,6 +84,23 @@ felter_counters_count *Handle *u32
 felter_counters_close_owner *Handle u64 u64 *u32
 felter_counters_reader *Handle *Handle
 felter_reader_value *Handle u32 *i64
+felter_conductor_new u32 u32 u32 u32 *Handle
+felter_conductor_client *Handle *Handle
+felter_conductor_work *Handle u64 u32 *u64 *i32
+felter_conductor_set_heartbeat *Handle u64
+felter_conductor_subscribe *Handle *Handle
+felter_conductor_reader *Handle *Handle
+felter_conductor_join *Handle *Handle
+felter_conductor_join_receiver *Handle *Handle
+felter_conductor_join_reader *Handle *Handle
+felter_conductor_finish *Handle *u64 *u64
+felter_client_heartbeat *Handle *u64
+felter_send_allocate *Handle i32 bytes usize bytes usize *u64
+felter_send_allocate_owned *Handle i32 u64 bytes usize bytes usize *u64
+felter_send_free *Handle u32 *u64
+felter_send_set *Handle u32 i64 *u64
+felter_send_close_owner *Handle u64 *u64
+felter_poll *Handle u64 *i32 *i64 *u64
 """
 
 

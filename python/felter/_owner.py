@@ -1,13 +1,17 @@
 """A handle, and what is done with it."""
 
+import itertools
 import threading
 
 from felter._library import Handle, call, library
 from felter.errors import Error, Number
 
+# A number for each ring and each conductor.
+numbers = itertools.count()
+
 
 class Owner:
-    """A handle that owns something, and frees it. `number` tells its ring."""
+    """A handle that owns something, and frees it. `number` tells its ring, or its conductor."""
 
     def __init__(self, number=None):
         self._handle = Handle()
@@ -41,7 +45,7 @@ class Owner:
         return out.value
 
     def _with(self, name, other, *parameters):
-        """A call of two handles, which have to be of one ring."""
+        """A call of two handles, which have to be of one ring, or of one conductor."""
         if self is other or self._number != other._number:
             raise Error(Number.OTHER_RING)
         one, two = sorted((self, other), key=id)

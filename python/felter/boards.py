@@ -38,8 +38,8 @@ class Transmitter(Owner):
 class Receiver(Owner):
     """Receives what is transmitted on a board."""
 
-    def __init__(self, capacity):
-        super().__init__()
+    def __init__(self, capacity, number=None):
+        super().__init__(number)
         self._buffer = ctypes.create_string_buffer(capacity // 8)
 
     def receive(self):

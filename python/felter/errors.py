@@ -15,8 +15,10 @@ class Number(enum.IntEnum):
     INSUFFICIENT_CAPACITY = 7
     CONTENDED = 8
     PUT_RANGE = 9
+    PRODUCERS_OUT = 11
     NO_SHARES = 12
     LAPPED = 13
+    RECEIVERS_OUT = 14
     BAD_COUNT = 15
     KEY_TOO_LONG = 16
     LABEL_TOO_LONG = 17
@@ -33,6 +35,8 @@ class Number(enum.IntEnum):
     SHORT_BUFFER = 106
     BAD_MOMENT = 107
     OTHER_RING = 108
+    OTHER_REPLY = 109
+    IN_USE = 110
 
 
 class Error(Exception):

@@ -2,16 +2,13 @@
 
 import contextlib
 import ctypes
-import itertools
 import struct
 import typing
 
 from felter._library import call, is_there
-from felter._owner import Owner
+from felter._owner import Owner, numbers
 from felter.errors import Error, Number
 from felter.message import Message
-
-_numbers = itertools.count()
 
 
 class Positions(typing.NamedTuple):
@@ -139,7 +136,7 @@ class Producer(Owner):
 
 
 def _ring(name, capacity, start):
-    number = next(_numbers)
+    number = next(numbers)
     producer, consumer = Producer(number), Consumer(number)
     call(name, capacity, start, producer._handle, consumer._handle)
     return producer, consumer

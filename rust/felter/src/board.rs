@@ -1,6 +1,6 @@
 //! Boards: one transmitter, and receivers that learn when they missed something.
 use crate::error::Error;
-use crate::handle::{done, Handle};
+use crate::handle::{done, Handle, Number};
 use crate::message::{message_of, Message};
 use crate::raw;
 
@@ -19,6 +19,7 @@ use crate::raw;
 #[derive(Debug)]
 pub struct Transmitter {
     handle: Handle,
+    board: Number,
 }
 
 impl Transmitter {
@@ -36,7 +37,7 @@ impl Transmitter {
         let mut handle = Handle::empty();
         // SAFETY: an empty handle.
         done(unsafe { raw::felter_board_new_at(capacity, start, handle.raw()) })?;
-        Ok(Transmitter { handle })
+        Ok(Transmitter { handle, board: Number::next() })
     }
 
     /// Transmits a message.
@@ -55,7 +56,7 @@ impl Transmitter {
         let mut handle = Handle::empty();
         // SAFETY: two handles, the second empty.
         done(unsafe { raw::felter_subscribe(self.handle.raw(), handle.raw()) })?;
-        Ok(Receiver { handle })
+        Ok(Receiver { handle, board: self.board })
     }
 
     /// Makes a raw receiver, which answers each record unread; else as [`subscribe`](Transmitter::subscribe).
@@ -83,7 +84,9 @@ impl Transmitter {
 /// Receives what is transmitted on a board.
 #[derive(Debug)]
 pub struct Receiver {
-    handle: Handle,
+    pub(crate) handle: Handle,
+    /// That of the board's transmitter, or of the conductor that transmits on it.
+    pub(crate) board: Number,
 }
 
 impl Receiver {

@@ -1,6 +1,6 @@
 //! Counters.
 use crate::error::Error;
-use crate::handle::{done, Handle};
+use crate::handle::{done, Handle, Number};
 use crate::raw::{self, Raw};
 
 /// The most bytes of a label.
@@ -21,6 +21,7 @@ pub const MAX_KEY: usize = 112;
 #[derive(Debug)]
 pub struct Counters {
     handle: Handle,
+    number: Number,
 }
 
 impl Counters {
@@ -31,7 +32,7 @@ impl Counters {
         let mut handle = Handle::empty();
         // SAFETY: an empty handle.
         done(unsafe { raw::felter_counters_new(count, reuse_ms, handle.raw()) })?;
-        Ok(Counters { handle })
+        Ok(Counters { handle, number: Number::next() })
     }
 
     /// Allocates a counter of value 0 at a moment, and says its id.
@@ -204,7 +205,7 @@ impl Counters {
         let mut reader = Handle::empty();
         // SAFETY: two handles, the second empty.
         done(unsafe { raw::felter_counters_reader(self.handle.raw(), reader.raw()) })?;
-        Ok(Reader { handle: reader })
+        Ok(Reader { handle: reader, counters: self.number })
     }
 }
 
@@ -221,7 +222,9 @@ impl Counters {
 /// ```
 #[derive(Debug)]
 pub struct Reader {
-    handle: Handle,
+    pub(crate) handle: Handle,
+    /// That of the counters, or of the conductor that owns them.
+    pub(crate) counters: Number,
 }
 
 impl Reader {

@@ -23,6 +23,8 @@ pub enum Error {
     Contended,
     /// The bytes do not lie inside the claim.
     PutRange,
+    /// A client was not taken back: it is out, or was dropped, and then for good.
+    ProducersOut,
     /// One share is left, and is needed.
     NoShares,
     /// The transmitter overtook the receiver.
@@ -30,6 +32,8 @@ pub enum Error {
         /// How often by now.
         count: u64,
     },
+    /// A receiver of the conductor's was not taken back: it is out, or was dropped, and then for good.
+    ReceiversOut,
     /// The number of counters is 0 or above 4096.
     BadCount,
     /// The key has more than 112 bytes.
@@ -63,8 +67,12 @@ pub enum Error {
     },
     /// The moment is above 2^62.
     BadMoment,
-    /// The two handles are of two rings.
+    /// The two handles are of two rings, or of two conductors.
     OtherRing,
+    /// What came is the reply to another command. This crate answers [`Polled::Another`](crate::Polled) in its place.
+    OtherReply,
+    /// Another handle holds what was to be closed: a reader that is out.
+    InUse,
     /// A number that this crate does not know.
     Unknown(i32),
 }
@@ -82,8 +90,10 @@ impl Error {
             Error::InsufficientCapacity => 7,
             Error::Contended => 8,
             Error::PutRange => 9,
+            Error::ProducersOut => 11,
             Error::NoShares => 12,
             Error::Lapped { .. } => 13,
+            Error::ReceiversOut => 14,
             Error::BadCount => 15,
             Error::KeyTooLong => 16,
             Error::LabelTooLong => 17,
@@ -100,13 +110,15 @@ impl Error {
             Error::ShortBuffer { .. } => 106,
             Error::BadMoment => 107,
             Error::OtherRing => 108,
+            Error::OtherReply => 109,
+            Error::InUse => 110,
             Error::Unknown(number) => number,
         }
     }
 
     /// The error of a number that is not 0.
     pub(crate) fn of(number: i32) -> Error {
-        const KNOWN: [Error; 25] = [
+        const KNOWN: [Error; 29] = [
             Error::BadCapacity,
             Error::BadStart,
             Error::OutOfMemory,
@@ -116,7 +128,9 @@ impl Error {
             Error::InsufficientCapacity,
             Error::Contended,
             Error::PutRange,
+            Error::ProducersOut,
             Error::NoShares,
+            Error::ReceiversOut,
             Error::BadCount,
             Error::KeyTooLong,
             Error::LabelTooLong,
@@ -132,6 +146,8 @@ impl Error {
             Error::NoMessage,
             Error::BadMoment,
             Error::OtherRing,
+            Error::OtherReply,
+            Error::InUse,
         ];
         let found = KNOWN.into_iter().find(|it| it.number() == number);
         found.unwrap_or(match number {

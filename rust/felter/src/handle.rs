@@ -1,4 +1,4 @@
-//! A handle that frees itself, and the numbers of rings.
+//! A handle that frees itself, and the numbers that tell what a handle belongs to.
 use crate::error::Error;
 use crate::raw::{self, Raw};
 use std::cell::Cell;
@@ -49,7 +49,7 @@ pub(crate) fn done(code: i32) -> Result<(), Error> {
     }
 }
 
-/// Which ring a handle belongs to. No two have the same number in one process.
+/// Which ring, board, counters or conductor a handle belongs to. No two have the same number in one process.
 #[derive(Clone, Copy, Debug, PartialEq, Eq)]
 pub(crate) struct Number(u64);
 
@@ -60,7 +60,7 @@ impl Number {
         Number(NEXT.fetch_add(1, Ordering::Relaxed))
     }
 
-    /// Refuses another ring's handle.
+    /// Refuses the handle of another.
     pub(crate) fn must_be(self, other: Number) -> Result<(), Error> {
         if self == other {
             Ok(())

@@ -1,4 +1,4 @@
-//! Rings, boards and counters for the threads of one process, proved for every interleaving.
+//! Rings, boards, counters and conductors for the threads of one process, proved for every interleaving.
 //!
 //! ```
 //! let (mut producer, mut consumer) = felter::many_to_one(65_536)?;
@@ -14,8 +14,8 @@
 //! Nothing waits: a full ring, a faster producer and an empty ring are answers, and the caller tries again in a way of
 //! its own. Capacities, lengths and positions are bytes; moments are milliseconds by a clock of the caller.
 //!
-//! Each handle owns what it stands for together with its ring, board or counters, so no lifetime ties them, and they
-//! may be dropped in any order. A handle may go to another thread, and one thread uses it at a time: handles are
+//! Each handle owns what it stands for together with its ring, board, counters or conductor, so no lifetime ties them,
+//! and they may be dropped in any order. A handle may go to another thread, and one thread uses it at a time: handles are
 //! [`Send`] and not [`Sync`].
 //!
 //! ```compile_fail,E0277
@@ -27,11 +27,13 @@
 //!
 //! What the proved library asks of its callers is kept by this crate, so that its users need no `unsafe`: a call takes
 //! its handle by `&mut`, which is one call at a time and two handles in a call of two; handles cannot be copied;
-//! buffers are slices; and each handle has the number of its ring, so that handles of two are refused
+//! buffers are slices; and each handle has the number of its ring or its conductor, so that handles of two are refused
 //! ([`Error::OtherRing`]). What is left to users is the process: no call from a signal handler or in a forked child,
 //! and a processor of x86-64-v2 or later. This crate itself, its declarations among it, is tested and not proved.
 
 mod board;
+mod client;
+mod conductor;
 mod counters;
 mod error;
 mod handle;
@@ -40,6 +42,8 @@ mod raw;
 mod ring;
 
 pub use board::{RawReceiver, RawRecord, Receiver, Transmitter};
+pub use client::{Client, Polled, Reply};
+pub use conductor::{Conductor, Finished, Work, WorkStop};
 pub use counters::{Counters, Reader, MAX_KEY};
 pub use error::{Error, Refused};
 pub use message::{Batch, Message};

@@ -113,3 +113,63 @@ extern "C" {
     pub(crate) fn felter_counters_reader(counters: *mut Raw, reader: *mut Raw) -> i32;
     pub(crate) fn felter_reader_value(reader: *mut Raw, id: u32, value: *mut i64) -> i32;
 }
+
+// Conductors.
+extern "C" {
+    pub(crate) fn felter_conductor_new(
+        capacity: u32,
+        replies: u32,
+        counters: u32,
+        reuse_ms: u32,
+        conductor: *mut Raw,
+    ) -> i32;
+    pub(crate) fn felter_conductor_client(conductor: *mut Raw, client: *mut Raw) -> i32;
+    pub(crate) fn felter_conductor_work(
+        conductor: *mut Raw,
+        now: u64,
+        limit: u32,
+        messages: *mut u64,
+        stopped: *mut i32,
+    ) -> i32;
+    pub(crate) fn felter_conductor_set_heartbeat(conductor: *mut Raw, value: u64) -> i32;
+    pub(crate) fn felter_conductor_subscribe(conductor: *mut Raw, receiver: *mut Raw) -> i32;
+    pub(crate) fn felter_conductor_reader(conductor: *mut Raw, reader: *mut Raw) -> i32;
+    pub(crate) fn felter_conductor_join(conductor: *mut Raw, client: *mut Raw) -> i32;
+    pub(crate) fn felter_conductor_join_receiver(conductor: *mut Raw, receiver: *mut Raw) -> i32;
+    pub(crate) fn felter_conductor_join_reader(conductor: *mut Raw, reader: *mut Raw) -> i32;
+    pub(crate) fn felter_conductor_finish(conductor: *mut Raw, received: *mut u64, left: *mut u64) -> i32;
+}
+
+// Clients.
+extern "C" {
+    pub(crate) fn felter_client_heartbeat(client: *mut Raw, value: *mut u64) -> i32;
+    pub(crate) fn felter_send_allocate(
+        client: *mut Raw,
+        type_id: i32,
+        key: *const u8,
+        key_len: usize,
+        label: *const u8,
+        label_len: usize,
+        id: *mut u64,
+    ) -> i32;
+    pub(crate) fn felter_send_allocate_owned(
+        client: *mut Raw,
+        type_id: i32,
+        owner: u64,
+        key: *const u8,
+        key_len: usize,
+        label: *const u8,
+        label_len: usize,
+        id: *mut u64,
+    ) -> i32;
+    pub(crate) fn felter_send_free(client: *mut Raw, counter: u32, id: *mut u64) -> i32;
+    pub(crate) fn felter_send_set(client: *mut Raw, counter: u32, value: i64, id: *mut u64) -> i32;
+    pub(crate) fn felter_send_close_owner(client: *mut Raw, owner: u64, id: *mut u64) -> i32;
+    pub(crate) fn felter_poll(
+        client: *mut Raw,
+        correlation: u64,
+        kind: *mut i32,
+        number: *mut i64,
+        lapped: *mut u64,
+    ) -> i32;
+}
