@@ -2,7 +2,9 @@
 """Writes what sets of bench/run gave into a page and a picture: page.py PAGE PICTURE SET..
 
 Each SET is a file of `bench/run --json SET`. The tables go between the two marks of PAGE; PICTURE is an SVG with the
-ratios of each row. A ratio is the median over the rounds of a set; its bar goes over all rounds of all sets."""
+ratios of each row. A ratio is the median over the rounds of a set; its bar goes over all rounds of all sets.
+
+page.py --c PAGE SET.. writes what programs in C got, from sets measured with FELTER, between two marks of its own."""
 import json
 import math
 import statistics
@@ -10,6 +12,7 @@ import sys
 import textwrap
 
 BEGIN, END = "<!-- the tables: begin -->", "<!-- the tables: end -->"
+BEGIN_C, END_C = "<!-- from C: begin -->", "<!-- from C: end -->"
 RINGS = (("one owner", "ours-solo", "o2o"), ("one-to-one", "ours-o2o", "o2o"), ("many-to-one", "ours-m2o", "m2o"))
 SIZES = (8, 32, 128, 1024)
 
@@ -40,6 +43,19 @@ SECTIONS = (
      [("%d client%s%s" % (n, "" if n == 1 else "s", said), "W7", "ours-storm", "storm", 20, n, metric)
       for said, metric in (("", "ns"), (", whole call", "whole")) for n in (1, 2, 4, 16, 64)]),
 )
+# The same through felter.h: label, workload, who calls it, the plain calls, bytes, threads, metric
+C_RINGS = tuple(("%s, %s" % (name, said), "felter-%s%s" % (ring, ending), "ours-%s" % ring)
+                for name, ring in (("one-to-one", "o2o"), ("many-to-one", "m2o"))
+                for said, ending in (("read", ""), ("read in batches", "-batch")))
+C_ROWS = (
+    [("one thread, %s, %d bytes" % (name, size), "W1", c, plain, size, 1, "ns")
+     for name, c, plain in C_RINGS for size in SIZES]
+    + [("two threads, %s, %d bytes" % (name, size), "W2", c, plain, size, 1, "ns")
+       for name, c, plain in C_RINGS for size in SIZES]
+    + [("4 producers, %s, %d bytes" % (name, size), "W3", c, plain, size, 4, "ns")
+       for name, c, plain in C_RINGS[2:] for size in (8, 64)]
+    + [("a command and its reply, %s" % said, "W4", "felter-m2o", "ours-m2o", 20, 1, metric)
+       for said, metric in (("mean", "mean"), ("p50", "p50"), ("p99", "p99"))])
 # What ours alone is measured by, and what of the twins stands beside it
 BESIDE = {"whole": "ns"}
 
@@ -91,6 +107,27 @@ def table(rows, sets):
         yield "| %s |" % " | ".join(cells)
 
 
+def against(it, row, other):
+    """A row's contender by another, round by round."""
+    _, workload, mine, _, size, threads, metric = row
+    its = [it.values.get((workload, who, size, threads, metric)) for who in (mine, other)]
+    return [a / b for a, b in zip(*its)] if all(its) else []
+
+
+def table_c(sets):
+    yield "|  | from C | plain | from C / plain, set by set | from C / `sc` | from C / `ar` |"
+    yield "|---|---|---|---|---|---|"
+    for row in C_ROWS:
+        name, _, mine, plain = row[:4]
+        if not any(against(it, row, plain) for it in sets):
+            continue
+        cells = [name] + [number(middle(it.median(row, who) for it in sets)) for who in (mine, plain)]
+        for other in (plain, plain.replace("ours-", "") + "-sc", plain.replace("ours-", "") + "-ar"):
+            ratios = [against(it, row, other) for it in sets]
+            cells.append(", ".join("%.2f" % statistics.median(it) for it in ratios if it))
+        yield "| %s |" % " | ".join(cells)
+
+
 def about(sets):
     first = sets[0].about
     taken = ", ".join("%s and %s" % (it.about["others_median"], it.about["others_worst"]) for it in sets)
@@ -136,19 +173,29 @@ def picture(sets):
     return "\n".join([head, '<rect width="100%" height="100%" fill="#fff"/>', *grid, *lines, key, "</svg>"]) + "\n"
 
 
-def main():
-    if len(sys.argv) < 4:
-        sys.exit(__doc__)
-    page, drawing, sets = sys.argv[1], sys.argv[2], [Set(it) for it in sys.argv[3:]]
+def put(page, begin, end, made):
+    """Puts lines between two marks of a page."""
     with open(page) as it:
-        before, rest = it.read().split(BEGIN)
-    behind = rest.split(END)[1]
+        before, rest = it.read().split(begin)
+    behind = rest.split(end)[1]
+    with open(page, "w") as it:
+        it.write(before + begin + "\n\n" + "\n".join(made) + "\n" + end + behind)
+
+
+def main():
+    is_c = sys.argv[1:2] == ["--c"]
+    words = sys.argv[1 + is_c:]
+    if len(words) < 3 - is_c:
+        sys.exit(__doc__)
+    page, sets = words[0], [Set(it) for it in words[2 - is_c:]]
     made = [textwrap.fill(about(sets), 120), ""]
+    if is_c:
+        put(page, BEGIN_C, END_C, made + [*table_c(sets), ""])
+        return
     for title, rows in SECTIONS:
         made += ["## " + title, "", *table(rows, sets), ""]
-    with open(page, "w") as it:
-        it.write(before + BEGIN + "\n\n" + "\n".join(made) + "\n" + END + behind)
-    with open(drawing, "w") as it:
+    put(page, BEGIN, END, made)
+    with open(words[1], "w") as it:
         it.write(picture(sets))
 
 
