@@ -41,14 +41,6 @@ impl<'a> From<BoardRecord<'a>> for Shown<'a> {
     }
 }
 
-/// Tests whether the intent goes beyond the begin of the running lap, so that the lap is not listed from there.
-fn is_overwritten(board: &BoardSnapshot<'_>) -> bool {
-    let capacity = board.capacity();
-    let latest = board.latest();
-    let lap = latest.saturating_sub(byte_index(capacity, latest));
-    board.intent().saturating_sub(lap) > u64::from(capacity)
-}
-
 fn summary(alloc: Global, board: &BoardSnapshot<'_>, tally: Tally) -> Result<String, AllocError> {
     let Tally {
         committed: valid,
@@ -61,7 +53,7 @@ fn summary(alloc: Global, board: &BoardSnapshot<'_>, tally: Tally) -> Result<Str
     if intent > tail {
         text.push_str(format!(in alloc; "; transmitting from {tail} to {intent}")?.as_str())?;
     }
-    if is_overwritten(board) {
+    if !board.is_lap_whole() {
         text.push_str("; the begin of the lap is overwritten")?;
     }
     Ok(text)
