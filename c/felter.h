@@ -302,11 +302,11 @@ int32_t felter_conductor_finish(felter_conductor *conductor, uint64_t *received,
  * FELTER_POSITION_LIMIT, FELTER_INSUFFICIENT_CAPACITY, FELTER_CONTENDED: the id that was drawn is given to no command
  * then. Whether the conductor obeys or refuses the command, its reply tells.
  *
- * Allocates a counter of value 0, whose registration id is the correlation id. A command takes 24 bytes and those of
- * key and label at the most. */
+ * Allocates a counter of value 0, whose registration id is the correlation id. The command takes 20 bytes and those of
+ * key and label. */
 int32_t felter_send_allocate(felter_client *client, int32_t type_id, const uint8_t *key, size_t key_len,
                              const uint8_t *label, size_t label_len, uint64_t *id);
-/* The same with an owner; 0 stands for none. 8 bytes more. */
+/* The same with an owner; 0 stands for none. The command takes 8 bytes more. */
 int32_t felter_send_allocate_owned(felter_client *client, int32_t type_id, uint64_t owner, const uint8_t *key,
                                    size_t key_len, const uint8_t *label, size_t label_len, uint64_t *id);
 /* Frees a counter. */

@@ -225,7 +225,8 @@ int main(int argc, char **argv) {
     }
     CHECK(laps > 0 || heard == house.received);
     end(&house, callers, clients);
-    printf("clients: %d sent %" PRIu64 " commands, heard %" PRIu64 " replies, lapped %" PRIu64 " times; the monitor saw %"
-           PRIu64 " values\n", clients, house.received, heard, laps, house.seen);
+    printf("clients: %d sent %" PRIu64 " commands, heard %" PRIu64 " replies, lapped %" PRIu64 " times, saw %" PRIu64
+           " values\n",
+           clients, house.received, heard, laps, house.seen);
     return 0;
 }

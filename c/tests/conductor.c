@@ -57,58 +57,62 @@ static void answers(felter_conductor *conductor, uint64_t now, felter_client *cl
     poll_refuses(client, id, 0, FELTER_NO_MESSAGE);
 }
 
-/* Each command, obeyed or refused. */
-static void commands(void) {
-    felter_conductor conductor = FELTER_EMPTY;
-    felter_client client = FELTER_EMPTY;
-    uint8_t key[113], label[389];
+/* The longest command has 520 bytes: 20 besides key and label, and 28 with an owner. A longer one draws no id. */
+static void longest(felter_conductor *conductor, felter_client *client, const uint8_t *key, const uint8_t *label) {
     uint64_t id = 99;
-    memset(key, 0xA5, sizeof key);
-    memset(label, 'x', sizeof label);
-    EXPECT(FELTER_OK, felter_conductor_new(8192, 65536, 3, 100, &conductor));
-    EXPECT(FELTER_OK, felter_conductor_client(&conductor, &client));
-    /* With 20 bytes besides, and 28 with an owner, the longest command has 520; and a longer one draws no id. */
-    EXPECT(FELTER_TOO_LONG, felter_send_allocate(&client, 1, key, 112, label, 389, &id));
-    EXPECT(FELTER_TOO_LONG, felter_send_allocate_owned(&client, 1, 5, key, 112, label, 381, &id));
+    EXPECT(FELTER_TOO_LONG, felter_send_allocate(client, 1, key, 112, label, 389, &id));
+    EXPECT(FELTER_TOO_LONG, felter_send_allocate_owned(client, 1, 5, key, 112, label, 381, &id));
     CHECK(id == 99);
-    EXPECT(FELTER_OK, felter_send_allocate(&client, 1, key, 112, label, 388, &id));
+    EXPECT(FELTER_OK, felter_send_allocate(client, 1, key, 112, label, 388, &id));
     CHECK(id == 0);
-    answers(&conductor, 0, &client, id, FELTER_REPLY_REFUSED, FELTER_LABEL_TOO_LONG);
-    EXPECT(FELTER_OK, felter_send_allocate(&client, 1, key, 113, NULL, 0, &id));
+    answers(conductor, 0, client, id, FELTER_REPLY_REFUSED, FELTER_LABEL_TOO_LONG);
+    EXPECT(FELTER_OK, felter_send_allocate(client, 1, key, 113, NULL, 0, &id));
     CHECK(id == 1);
-    answers(&conductor, 0, &client, id, FELTER_REPLY_REFUSED, FELTER_KEY_TOO_LONG);
-    label[379] = 128;
-    EXPECT(FELTER_OK, felter_send_allocate_owned(&client, 1, 5, key, 112, label, 380, &id));
-    answers(&conductor, 0, &client, id, FELTER_REPLY_REFUSED, FELTER_LABEL_NOT_ASCII);
-    label[379] = 'y';
-    EXPECT(FELTER_OK, felter_send_allocate_owned(&client, 1, 5, key, 112, label, 380, &id));
-    answers(&conductor, 0, &client, id, FELTER_REPLY_ALLOCATED, 0);
-    EXPECT(FELTER_OK, felter_send_allocate(&client, -3, NULL, 0, BYTES("of nobody"), &id));
-    answers(&conductor, 0, &client, id, FELTER_REPLY_ALLOCATED, 1);
-    EXPECT(FELTER_OK, felter_send_allocate_owned(&client, 1, 5, NULL, 0, NULL, 0, &id));
-    answers(&conductor, 0, &client, id, FELTER_REPLY_ALLOCATED, 2);
-    EXPECT(FELTER_OK, felter_send_allocate(&client, 1, NULL, 0, NULL, 0, &id));
-    answers(&conductor, 0, &client, id, FELTER_REPLY_REFUSED, FELTER_NO_FREE_COUNTER);
+    answers(conductor, 0, client, id, FELTER_REPLY_REFUSED, FELTER_KEY_TOO_LONG);
+}
 
-    EXPECT(FELTER_OK, felter_send_set(&client, 1, INT64_MIN, &id));
-    answers(&conductor, 0, &client, id, FELTER_REPLY_DONE, 0);
-    EXPECT(FELTER_OK, felter_send_set(&client, 3, 1, &id));
-    answers(&conductor, 0, &client, id, FELTER_REPLY_REFUSED, FELTER_BAD_ID);
-    EXPECT(FELTER_OK, felter_send_free(&client, UINT32_MAX, &id));
-    answers(&conductor, 0, &client, id, FELTER_REPLY_REFUSED, FELTER_BAD_ID);
-    EXPECT(FELTER_OK, felter_send_close_owner(&client, 0, &id));
-    answers(&conductor, 0, &client, id, FELTER_REPLY_REFUSED, FELTER_BAD_OWNER);
-    EXPECT(FELTER_OK, felter_send_close_owner(&client, 6, &id));
-    answers(&conductor, 0, &client, id, FELTER_REPLY_CLOSED, 0);
-    EXPECT(FELTER_OK, felter_send_close_owner(&client, 5, &id));
-    answers(&conductor, 900, &client, id, FELTER_REPLY_CLOSED, 2);
-    EXPECT(FELTER_OK, felter_send_set(&client, 2, 1, &id));
-    answers(&conductor, 900, &client, id, FELTER_REPLY_REFUSED, FELTER_NOT_ALLOCATED);
-    EXPECT(FELTER_OK, felter_send_free(&client, 1, &id));
-    answers(&conductor, 950, &client, id, FELTER_REPLY_DONE, 0);
-    EXPECT(FELTER_OK, felter_send_free(&client, 1, &id));
-    answers(&conductor, 950, &client, id, FELTER_REPLY_REFUSED, FELTER_NOT_ALLOCATED);
-    /* A freed id rests for 100 ms. */
+/* Counters 0 and 2 of the owner 5, and 1 of nobody. */
+static void allocates(felter_conductor *conductor, felter_client *client, const uint8_t *key, uint8_t *label) {
+    uint64_t id = 99;
+    label[379] = 128;
+    EXPECT(FELTER_OK, felter_send_allocate_owned(client, 1, 5, key, 112, label, 380, &id));
+    answers(conductor, 0, client, id, FELTER_REPLY_REFUSED, FELTER_LABEL_NOT_ASCII);
+    label[379] = 'y';
+    EXPECT(FELTER_OK, felter_send_allocate_owned(client, 1, 5, key, 112, label, 380, &id));
+    answers(conductor, 0, client, id, FELTER_REPLY_ALLOCATED, 0);
+    EXPECT(FELTER_OK, felter_send_allocate(client, -3, NULL, 0, BYTES("of nobody"), &id));
+    answers(conductor, 0, client, id, FELTER_REPLY_ALLOCATED, 1);
+    EXPECT(FELTER_OK, felter_send_allocate_owned(client, 1, 5, NULL, 0, NULL, 0, &id));
+    answers(conductor, 0, client, id, FELTER_REPLY_ALLOCATED, 2);
+    EXPECT(FELTER_OK, felter_send_allocate(client, 1, NULL, 0, NULL, 0, &id));
+    answers(conductor, 0, client, id, FELTER_REPLY_REFUSED, FELTER_NO_FREE_COUNTER);
+}
+
+/* Sets and frees: 0 and 2 at the moment 900, and 1 at 950. */
+static void frees(felter_conductor *conductor, felter_client *client) {
+    uint64_t id = 99;
+    EXPECT(FELTER_OK, felter_send_set(client, 1, INT64_MIN, &id));
+    answers(conductor, 0, client, id, FELTER_REPLY_DONE, 0);
+    EXPECT(FELTER_OK, felter_send_set(client, 3, 1, &id));
+    answers(conductor, 0, client, id, FELTER_REPLY_REFUSED, FELTER_BAD_ID);
+    EXPECT(FELTER_OK, felter_send_free(client, UINT32_MAX, &id));
+    answers(conductor, 0, client, id, FELTER_REPLY_REFUSED, FELTER_BAD_ID);
+    EXPECT(FELTER_OK, felter_send_close_owner(client, 0, &id));
+    answers(conductor, 0, client, id, FELTER_REPLY_REFUSED, FELTER_BAD_OWNER);
+    EXPECT(FELTER_OK, felter_send_close_owner(client, 6, &id));
+    answers(conductor, 0, client, id, FELTER_REPLY_CLOSED, 0);
+    EXPECT(FELTER_OK, felter_send_close_owner(client, 5, &id));
+    answers(conductor, 900, client, id, FELTER_REPLY_CLOSED, 2);
+    EXPECT(FELTER_OK, felter_send_set(client, 2, 1, &id));
+    answers(conductor, 900, client, id, FELTER_REPLY_REFUSED, FELTER_NOT_ALLOCATED);
+    EXPECT(FELTER_OK, felter_send_free(client, 1, &id));
+    answers(conductor, 950, client, id, FELTER_REPLY_DONE, 0);
+    EXPECT(FELTER_OK, felter_send_free(client, 1, &id));
+    answers(conductor, 950, client, id, FELTER_REPLY_REFUSED, FELTER_NOT_ALLOCATED);
+}
+
+/* A freed id rests for 100 ms. */
+static void reuses(felter_conductor *conductor, felter_client *client) {
     static const struct {
         uint64_t now;
         int32_t kind;
@@ -119,9 +123,25 @@ static void commands(void) {
                  {1049, FELTER_REPLY_REFUSED, FELTER_NO_FREE_COUNTER},
                  {1050, FELTER_REPLY_ALLOCATED, 1}};
     for (size_t i = 0; i < sizeof later / sizeof *later; i++) {
-        EXPECT(FELTER_OK, felter_send_allocate(&client, 1, NULL, 0, NULL, 0, &id));
-        answers(&conductor, later[i].now, &client, id, later[i].kind, later[i].number);
+        uint64_t id = 99;
+        EXPECT(FELTER_OK, felter_send_allocate(client, 1, NULL, 0, NULL, 0, &id));
+        answers(conductor, later[i].now, client, id, later[i].kind, later[i].number);
     }
+}
+
+/* Each command, obeyed or refused. */
+static void commands(void) {
+    felter_conductor conductor = FELTER_EMPTY;
+    felter_client client = FELTER_EMPTY;
+    uint8_t key[113], label[389];
+    memset(key, 0xA5, sizeof key);
+    memset(label, 'x', sizeof label);
+    EXPECT(FELTER_OK, felter_conductor_new(8192, 65536, 3, 100, &conductor));
+    EXPECT(FELTER_OK, felter_conductor_client(&conductor, &client));
+    longest(&conductor, &client, key, label);
+    allocates(&conductor, &client, key, label);
+    frees(&conductor, &client);
+    reuses(&conductor, &client);
     felter_free(&client.handle);
     felter_free(&conductor.handle);
 }
@@ -236,6 +256,25 @@ static void expect_bytes(felter_receiver *receiver, int32_t type_id, const uint8
     CHECK(type_read == type_id && len_read == len && memcmp(buffer, body, len) == 0);
 }
 
+/* What a conductor made outlives it: its client hears the replies to three commands, and fills the ring. */
+static void outlive(felter_client *client, felter_receiver *receiver, felter_reader *reader) {
+    uint64_t id = 99;
+    int64_t value = 99;
+    EXPECT(FELTER_OK, felter_lapped_count(receiver, &id));
+    CHECK(id == 0);
+    felter_free(&receiver->handle);
+    EXPECT(FELTER_OK, felter_reader_value(reader, 0, &value));
+    CHECK(value == -9);
+    felter_free(&reader->handle);
+    expect_reply(client, 0, FELTER_REPLY_ALLOCATED, 0);
+    expect_reply(client, 1, FELTER_REPLY_DONE, 0);
+    expect_reply(client, 2, FELTER_REPLY_REFUSED, FELTER_NOT_ALLOCATED);
+    while (felter_send_free(client, 0, &id) == FELTER_OK) CHECK(id < 20);
+    CHECK(id > 2);
+    EXPECT(FELTER_INSUFFICIENT_CAPACITY, felter_send_free(client, 0, &id));
+    felter_free(&client->handle);
+}
+
 /* Receivers of the replies, and readers of the values. */
 static void listens(void) {
     felter_conductor conductor = FELTER_EMPTY;
@@ -266,19 +305,8 @@ static void listens(void) {
     expect_bytes(&receiver, FELTER_REPLY_ALLOCATED, BYTES("\0\0\0\0\0\0\0\0\0\0\0\0"));
     expect_bytes(&receiver, FELTER_REPLY_DONE, BYTES("\1\0\0\0\0\0\0\0"));
     expect_bytes(&receiver, FELTER_REPLY_REFUSED, BYTES("\2\0\0\0\0\0\0\0\25\0\0\0"));
-    /* What was made outlives its conductor. */
     felter_free(&conductor.handle);
-    EXPECT(FELTER_OK, felter_lapped_count(&receiver, &id));
-    CHECK(id == 0);
-    felter_free(&receiver.handle);
-    EXPECT(FELTER_OK, felter_reader_value(&reader, 0, &value));
-    CHECK(value == -9);
-    felter_free(&reader.handle);
-    for (uint64_t n = 0; n < 3; n++)
-        expect_reply(&client, n, n == 0 ? 101 : n == 1 ? 102 : 103, n == 2 ? FELTER_NOT_ALLOCATED : 0);
-    while (felter_send_free(&client, 0, &id) == FELTER_OK) CHECK(id < 20);
-    EXPECT(FELTER_INSUFFICIENT_CAPACITY, felter_send_free(&client, 0, &id));
-    felter_free(&client.handle);
+    outlive(&client, &receiver, &reader);
 }
 
 /* What the calls of a conductor answer where the handle is none; nothing is written then. */

@@ -107,37 +107,35 @@ static void loses(void) {
     felter_free(&it.conductor.handle);
 }
 
-/* What is of another conductor is refused where a capacity, or the number of counters, tells. */
+/* What another conductor made is refused where the capacity of its ring or board tells, and what none made always. */
 static void others(void) {
-    struct party it = NO_PARTY, ring = NO_PARTY, board = NO_PARTY, values = NO_PARTY;
+    struct party it = NO_PARTY, ring = NO_PARTY, board = NO_PARTY;
     felter_transmitter transmitter = FELTER_EMPTY;
     felter_receiver receiver = FELTER_EMPTY;
     felter_counters counters = FELTER_EMPTY;
     felter_reader reader = FELTER_EMPTY;
-    int64_t value = 0;
-    uint64_t count = 0;
+    int64_t value = 99;
+    uint64_t count = 99;
     make(&it, 256, 512, 2);
     make(&ring, 512, 512, 2);
     make(&board, 256, 256, 2);
-    make(&values, 256, 512, 3);
-    EXPECT(FELTER_OTHER_RING, felter_conductor_join(&it.conductor, &ring.client));
-    EXPECT(FELTER_OTHER_RING, felter_conductor_join(&it.conductor, &board.client));
-    EXPECT(FELTER_OTHER_RING, felter_conductor_join_receiver(&it.conductor, &board.receiver));
-    EXPECT(FELTER_OTHER_RING, felter_conductor_join_reader(&it.conductor, &values.reader));
-    EXPECT(FELTER_OK, felter_board_new(256, &transmitter));
+    struct party *all[] = {&it, &ring, &board};
+    for (int i = 1; i < 3; i++) {
+        EXPECT(FELTER_OTHER_RING, felter_conductor_join(&it.conductor, &all[i]->client));
+        EXPECT(FELTER_OTHER_RING, felter_conductor_join_receiver(&it.conductor, &all[i]->receiver));
+        EXPECT(FELTER_OTHER_RING, felter_conductor_join_reader(&it.conductor, &all[i]->reader));
+    }
+    EXPECT(FELTER_OK, felter_board_new(512, &transmitter));
     EXPECT(FELTER_OK, felter_subscribe(&transmitter, &receiver));
     EXPECT(FELTER_OTHER_RING, felter_conductor_join_receiver(&it.conductor, &receiver));
-    EXPECT(FELTER_OK, felter_counters_new(1, 0, &counters));
+    EXPECT(FELTER_OK, felter_counters_new(2, 0, &counters));
     EXPECT(FELTER_OK, felter_counters_reader(&counters, &reader));
     EXPECT(FELTER_OTHER_RING, felter_conductor_join_reader(&it.conductor, &reader));
     EXPECT(FELTER_OK, felter_lapped_count(&receiver, &count));
-    EXPECT(FELTER_OK, felter_reader_value(&reader, 0, &value));
-    works_together(&it, 2);
-    works_together(&ring, 2);
-    works_together(&board, 2);
-    works_together(&values, 3);
-    struct party *all[] = {&it, &ring, &board, &values};
-    for (int i = 0; i < 4; i++) {
+    EXPECT(FELTER_OK, felter_reader_value(&reader, 1, &value));
+    CHECK(count == 0 && value == 0);
+    for (int i = 0; i < 3; i++) {
+        works_together(all[i], 2);
         EXPECT(FELTER_OK, felter_conductor_join(&all[i]->conductor, &all[i]->client));
         EXPECT(FELTER_OK, felter_conductor_join_receiver(&all[i]->conductor, &all[i]->receiver));
         EXPECT(FELTER_OK, felter_conductor_join_reader(&all[i]->conductor, &all[i]->reader));

@@ -195,6 +195,19 @@ static int32_t (*const steps[])(void) = {
     finish,         make_conductor, hire,   hire_other, listen,            lend_values,      command,
 };
 
+#define STEPS (sizeof steps / sizeof *steps)
+
+/* The calls of a conductor that take memory, each of which has to be refused some. */
+static int32_t (*const taking[])(void) = {make_conductor, hire, hire_other, listen, lend_values};
+
+static void check_taking(const int *refusals_of) {
+    for (size_t i = 0; i < sizeof taking / sizeof *taking; i++) {
+        int refusals = 0;
+        for (size_t k = 0; k < STEPS; k++) refusals += steps[k] == taking[i] ? refusals_of[k] : 0;
+        CHECK(refusals > 0);
+    }
+}
+
 static void free_all(void) {
     felter_handle *handles[] = {&all.producer.handle,  &all.other.handle,     &all.single.handle,
                                 &all.consumer.handle,  &all.of_single.handle, &all.transmitter.handle,
@@ -206,19 +219,20 @@ static void free_all(void) {
 }
 
 int main(void) {
-    int refusals = 0;
+    int refusals = 0, refusals_of[STEPS] = {0};
     setvbuf(stdout, NULL, _IONBF, 0);
     for (long at = 0; at < 1000; at++) {
         long before = live;
         left = at;
         refused = 0;
         int met = 0;
-        for (size_t i = 0; i < sizeof steps / sizeof *steps; i++) {
+        for (size_t i = 0; i < STEPS; i++) {
             int32_t code = steps[i]();
             if (refused) {
                 refused = 0;
                 met = 1;
                 refusals++;
+                refusals_of[i]++;
                 if (code != FELTER_OUT_OF_MEMORY) {
                     fprintf(stderr, "request %ld, step %zu: %d where memory was refused\n", at, i, (int)code);
                     return 1;
@@ -235,6 +249,7 @@ int main(void) {
         CHECK(live == before);
         if (!met) {
             CHECK(refusals >= 21);
+            check_taking(refusals_of);
             printf("memory: %d requests refused in turn, none leaked\n", refusals);
             return 0;
         }
