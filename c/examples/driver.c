@@ -1,5 +1,5 @@
-/* A conductor, two clients and a monitor, each on a thread of its own. It does and prints what crates/ring_example does:
- * cc -pthread -o driver c/examples/driver.c -Ic/out c/out/libfelter.a */
+/* A conductor, two clients and a monitor, each on a thread of its own. It does and prints what crates/ring_example
+ * does: cc -pthread -o driver c/examples/driver.c -Ic/out c/out/libfelter.a */
 #include "felter.h"
 
 #include <inttypes.h>

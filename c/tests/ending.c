@@ -81,12 +81,25 @@ static void ends(void) {
     EXPECT(FELTER_OK, felter_conductor_join_reader(&it.conductor, &it.reader));
     EXPECT(FELTER_NO_HANDLE, felter_reader_value(&it.reader, 1, &value));
     finishes(&it.conductor, 4, 2);
+}
+
+/* A reader that is freed is in nobody's way. In a ring of 128 bytes the sixth command lies behind padding, which is no
+ * command that was left. */
+static void leaves(void) {
+    struct party it = NO_PARTY;
+    uint64_t id = 99, took = 0;
+    int32_t why = 77;
     make(&it, 128, 256, 1);
+    for (int n = 0; n < 5; n++) EXPECT(FELTER_OK, felter_send_free(&it.client, 0, &id));
+    EXPECT(FELTER_OK, felter_conductor_work(&it.conductor, 0, 9, &took, &why));
+    CHECK(took == 5 && why == FELTER_STOP_UNPUBLISHED);
+    for (int n = 0; n < 3; n++) EXPECT(FELTER_OK, felter_send_free(&it.client, 0, &id));
     EXPECT(FELTER_OK, felter_conductor_join_receiver(&it.conductor, &it.receiver));
     EXPECT(FELTER_OK, felter_conductor_join(&it.conductor, &it.client));
     finish_refuses(&it.conductor, FELTER_IN_USE);
-    /* A reader that is freed is in nobody's way. */
     felter_free(&it.reader.handle);
+    finishes(&it.conductor, 5, 3);
+    EXPECT(FELTER_OK, felter_conductor_new(128, 256, 1, 0, &it.conductor));
     finishes(&it.conductor, 0, 0);
 }
 
@@ -214,6 +227,7 @@ static void shares(void) {
 
 int main(void) {
     ends();
+    leaves();
     loses();
     others();
     kinds();
