@@ -16,5 +16,6 @@ pub mod ReadingRuns
 pub mod ReadingEnds
 pub mod ReadingHeeds
 pub mod ReadingTurns
+pub mod AcrossLemmas
 pub mod WaitLemmas
 pub mod IndexLemmas

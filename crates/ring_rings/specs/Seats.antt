@@ -63,10 +63,6 @@ taken_of c = c.seat.me.0.consumer.taken
 abbrev pub head_of : Consumer → ℕ
 head_of c = c.seat.me.0.consumer.head
 
--- the heartbeats that it stored, the oldest first
-abbrev pub heartbeats_of : Consumer → List ℕ
-heartbeats_of c = c.seat.me.0.consumer.heartbeats
-
 pub record IsConsumerOf {K : Type 0} (ring : Ring K) (c : Consumer) : Type 0 where
   pub table : c.seat.table_id ≡ ring.table.shared.table_id
   pub capacity : c.seat.me.0.capacity ≡ ring.capacity

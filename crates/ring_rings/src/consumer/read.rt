@@ -153,6 +153,8 @@ impl<K> Ring<K> {
             handler.old handler.new result }
         ensures within { result.messages ≤ limit }
         ensures bytes { head_of consumer.old + result.bytes ≡ head_of consumer.new }
+        ensures blocked { result.stopped ≡ Stop.Unpublished
+            → IsBlocked (consumer_view consumer.old) (consumer_view consumer.new) }
     {
         let first = self.read(consumer, limit, handler);
         if first.stopped != Stop::Block {
