@@ -7,7 +7,7 @@ use Rattle.std.proofs.lemmas.Bool.{cases_lt}
 use Rattle.std.specs.List.{count_by}
 use Rattle.std.proofs.lemmas.List.Sums.{sum_by-append, sum_by-set}
 use Rattle.std.proofs.lemmas.List.{get_or_append_left, get_or_push, get_or_past, length-append, length-set, set-get_or, set-set}
-use Rattle.ring_loose.specs.Held.{Comes, Goes, HasAt, IsFree, IsHeld, IsVacant, Stays}
+use Rattle.ring_loose.specs.Held.{Comes, Goes, HasAt, IsFree, IsVacant, Stays}
 
 module _ {A : Type 0} where
   -- what is held lies in the list

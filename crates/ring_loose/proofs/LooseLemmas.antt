@@ -1,5 +1,5 @@
 -- How the claims that a producer holds are aborted, one after another.
-use Rattle.std.proofs.Common.{Result, IsOk, ◌≡◌, ℕ, suc, ◌+◌, ◌-◌, ◌<◌, List, ◌∷◌, drop, length, set, Option, Some, None, MatchOption, IfNone, slice_index_or, refl, sym, ap, ◌∙◌, subst, arith, inl, inr, get_or-set_same, get_or-set_other}
+use Rattle.std.proofs.Common.{Result, IsOk, ◌≡◌, ℕ, ◌+◌, ◌-◌, ◌<◌, List, ◌∷◌, drop, length, set, Option, Some, None, MatchOption, IfNone, slice_index_or, sym, ap, ◌∙◌, subst, arith, inl, inr, get_or-set_same, get_or-set_other}
 use Rattle.std.proofs.lemmas.Bool.{cases_lt}
 use Rattle.std.proofs.lemmas.List.{drop-set-lt, length-set}
 use Rattle.ring_layout.specs.declared.message.ClaimState.TheVariants.{Aborted}

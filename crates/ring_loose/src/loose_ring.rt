@@ -1,11 +1,11 @@
 //! The ring of a run, with its numbered claims.
-ghost use Rattle.std.specs.Prelude.{◌≡◌, ◌+◌, IfErr, IfNone, IfOk, IfSome, MatchOption, OnErr, OnOk, OnSome, length};
+ghost use Rattle.std.specs.Prelude.{◌≡◌, ◌+◌, ◌≤◌, IfErr, IfNone, IfOk, IfSome, MatchOption, OnErr, OnOk, OnSome, length};
 ghost use Rattle.ring_layout.specs.declared.message.ClaimState.TheVariants.{Committed, Aborted};
 ghost use Rattle.ring_layout.specs.Places.{is_capacity};
 ghost use Rattle.ring_layout.specs.Refusals.{make_refusal_of, IsMadeUnless};
 ghost use Rattle.ring_rings.specs.Closing.{HandsOut, Serves};
 ghost use Rattle.ring_rings.specs.Joining.{LoadsPositions};
-ghost use Rattle.ring_rings.specs.Reading.{Controls, Reads};
+ghost use Rattle.ring_rings.specs.Reading.{Controls, IsBlocked, Reads};
 ghost use Rattle.ring_rings.specs.Seats.{capacity_of, shares_of, IsProducerOf};
 ghost use Rattle.ring_loose.specs.Claims.{AreOpen, Declines, HoldsNothing, Puts, SettlesAt, Tries, WritesAfter, holder_of};
 ghost use Rattle.ring_loose.specs.Held.{IsFree, held_in};
@@ -13,6 +13,7 @@ ghost use Rattle.ring_loose.specs.Loose.{aborted_view, beaten_view, fresh_loose,
 ghost use Rattle.ring_table.specs.Passing.{AreSettled};
 ghost use Rattle.ring_table.specs.ServiceSteps.{DrawsId, LoadsHeartbeat};
 ghost use Rattle.ring_words.specs.Read.{stop_of};
+ghost use Rattle.ring_words.specs.declared.read.end.Stop.{Stop};
 
 use crate::numbered::Numbered;
 use ring_rings::{Claim, Consumer, ManyToOneRing, Producer};
@@ -251,6 +252,8 @@ impl LooseRing {
         ensures bytes { head_in self.old + result.bytes ≡ head_in self.new }
         ensures stopped { result.stopped
             ≡ stop_of self.old.capacity limit result.messages (head_in self.new) result.bytes }
+        ensures within { result.messages ≤ limit }
+        ensures blocked { result.stopped ≡ Stop.Unpublished → IsBlocked self.old.consumer self.new.consumer }
         ensures rest { self.new ≡ with_reader self.new.consumer self.old }
     {
         self.ring.read(&mut self.consumer, limit, handler)
@@ -262,6 +265,8 @@ impl LooseRing {
         ensures ready { H.ready handler.new }
         ensures controls { Controls H.step limit self.old.consumer self.new.consumer handler.old handler.new result }
         ensures bytes { head_in self.old + result.bytes ≡ head_in self.new }
+        ensures within { result.messages ≤ limit }
+        ensures blocked { result.stopped ≡ Stop.Unpublished → IsBlocked self.old.consumer self.new.consumer }
         ensures rest { self.new ≡ with_reader self.new.consumer self.old }
     {
         self.ring
@@ -270,6 +275,7 @@ impl LooseRing {
 
     /// Loads the head, and then the tail.
     pub fn positions(&mut self) -> Positions
+        ensures order { result.head ≤ result.tail }
         ensures loads { LoadsPositions self.old.capacity self.old.holder.view result.head result.tail
             self.new.holder.view }
         ensures rest { self.new ≡ with_view self.new.holder.view self.old }

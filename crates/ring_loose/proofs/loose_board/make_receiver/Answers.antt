@@ -1,4 +1,4 @@
-use Rattle.std.proofs.Common.{sym, subst, ap, ◌∙◌}
+use Rattle.std.proofs.Common.{subst}
 use Rattle.ring_board.specs.Seats.{IsReceiverOf}
 use Rattle.ring_loose.specs.Held.{Comes, held_in}
 use Rattle.ring_loose.proofs.HeldLemmas.{of_comes}

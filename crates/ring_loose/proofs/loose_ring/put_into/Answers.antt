@@ -1,4 +1,4 @@
-use Rattle.std.proofs.Common.{◌≡◌, ◌-◌, ◌∙◌, Some, ap, slice_set, subst, sym}
+use Rattle.std.proofs.Common.{◌-◌, subst, sym}
 use Rattle.ring_rings.specs.Seats.{IsOpenClaimOf}
 use Rattle.ring_loose.specs.Claims.{AreOpen}
 use Rattle.ring_loose.specs.Held.{held_in}

@@ -1,7 +1,6 @@
 use Rattle.std.proofs.Common.{◌-◌}
 use Rattle.std.proofs.lemmas.Result.{IfOk-weaker}
 use Rattle.ring_board.specs.Seats.{IsReceiverOf}
-use Rattle.ring_loose.specs.Held.{Stays, held_in}
 use Rattle.ring_loose.proofs.HeldLemmas.{count_stays, of_stays, stays, vacated}
 use Rattle.ring_loose.proofs.receiving.receive_at.Goals as goal
 
