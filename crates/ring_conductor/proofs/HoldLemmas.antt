@@ -95,14 +95,15 @@ told_is all once client number counter c step r spelled answers has =
 abbrev at : List Counter → ℕ → Counter
 at cs id = slice_index_or cs id unused_counter
 
--- a counter in use, with the last number set by so many commands
-pub record IsOwn (cs : List Counter) (id sent : ℕ) : Type 0 where
+-- a counter in use, with the client's label and the last number that it set by so many commands
+pub record IsOwn (cs : List Counter) (client id sent : ℕ) : Type 0 where
   pub live : is_live (at cs id) ≡ true
+  pub label : (at cs id).metadata.label ≡ label_of client
   pub value : (at cs id).values.value ≡ pos (last_set sent)
 
 -- the counters in use are those of the clients that sent a command, each its own
 pub record Holds (clients : ℕ) (cs : List Counter) (sent counters : ℕ → ℕ) : Type 0 where
-  pub own : (c : ℕ) → c < clients → 1 ≤ sent c → IsOwn cs (counters c) (sent c)
+  pub own : (c : ℕ) → c < clients → 1 ≤ sent c → IsOwn cs c (counters c) (sent c)
   pub apart : (c d : ℕ) → c < clients → d < clients → 1 ≤ sent c → 1 ≤ sent d → counters c ≡ counters d → c ≡ d
   pub owned : (id : ℕ) → is_live (at cs id) ≡ true → (c : ℕ) × (c < clients) × (1 ≤ sent c) × (counters c ≡ id)
 
@@ -115,7 +116,7 @@ inside cs id live = elim (cases_lt id (length cs)) as (λ _. id < length cs) [
 -- one client's counter becomes another, and nothing else
 module _ (clients : ℕ) (cs : List Counter) (p q p' q' : ℕ → ℕ) (holds : Holds clients cs p q) (c id : ℕ) (new : Counter)
     (below : c < clients) (less : id < length cs) (live : is_live new ≡ true)
-    (value : new.values.value ≡ pos (last_set (p' c))) (sent : 1 ≤ p' c) (here : q' c ≡ id)
+    (label : new.metadata.label ≡ label_of c) (value : new.values.value ≡ pos (last_set (p' c))) (sent : 1 ≤ p' c) (here : q' c ≡ id)
     (apart : (d : ℕ) → d < clients → 1 ≤ p d → (d ≡ c → ⊥) → q d ≡ id → ⊥) (before : 1 ≤ p c → q c ≡ id)
     (same_sent : (d : ℕ) → (d ≡ c → ⊥) → p' d ≡ p d) (same_counter : (d : ℕ) → (d ≡ c → ⊥) → q' d ≡ q d) where
   at_new : at (slice_set cs id new) id ≡ new
@@ -124,12 +125,13 @@ module _ (clients : ℕ) (cs : List Counter) (p q p' q' : ℕ → ℕ) (holds : 
   at_other : (k : ℕ) → (k ≡ id → ⊥) → at (slice_set cs id new) k ≡ at cs k
   at_other k ne = get_or-set_other cs id k new unused_counter ne
 
-  own_new : (d : ℕ) → d < clients → 1 ≤ p' d → (d ≡ c) ⊎ (d ≡ c → ⊥) → IsOwn (slice_set cs id new) (q' d) (p' d)
+  own_new : (d : ℕ) → d < clients → 1 ≤ p' d → (d ≡ c) ⊎ (d ≡ c → ⊥) → IsOwn (slice_set cs id new) d (q' d) (p' d)
   own_new d low some (inl e) =
       let at_it : at (slice_set cs id new) (q' d) ≡ new =
       ap (at (slice_set cs id new)) (ap q' e ∙ here) ∙ at_new in
       record {
         live = ap is_live at_it ∙ live;
+        label = ap (λ (k : Counter). k.metadata.label) at_it ∙ (label ∙ ap label_of (sym e));
         value = ap (λ (k : Counter). k.values.value) at_it ∙ (value ∙ ap (λ n. pos (last_set (p' n))) (sym e));
       }
   own_new d low some (inr e) =
@@ -139,6 +141,7 @@ module _ (clients : ℕ) (cs : List Counter) (p q p' q' : ℕ → ℕ) (holds : 
       ap (at (slice_set cs id new)) (same_counter d e) ∙ at_other (q d) (apart d low was e) in
       record {
         live = ap is_live at_it ∙ old.live;
+        label = ap (λ (k : Counter). k.metadata.label) at_it ∙ old.label;
         value = ap (λ (k : Counter). k.values.value) at_it
             ∙ (old.value ∙ ap (λ n. pos (last_set n)) (sym (same_sent d e)));
       }
@@ -222,12 +225,12 @@ module _ (clients : ℕ) (few : clients ≤ 64) (all : List Message) (once : (x 
 
   -- the counter of the client becomes this one
   becomes : (id : ℕ) (new : Counter) → id < count_of r → is_live new ≡ true
-      → new.values.value ≡ pos (last_set (suc (p client))) → counter_told step.told (q client) ≡ id
+      → new.metadata.label ≡ label_of client → new.values.value ≡ pos (last_set (suc (p client))) → counter_told step.told (q client) ≡ id
       → ((d : ℕ) → d < clients → 1 ≤ p d → (d ≡ client → ⊥) → q d ≡ id → ⊥) → (1 ≤ p client → q client ≡ id)
       → Holds clients (slice_set r.counters id new) sent_then counters_then
-  becomes id new less is value told apart before =
+  becomes id new less is label value told apart before =
       let now_sent = put_here client (suc (p client)) p client refl in
-      still_holds clients r.counters p q sent_then counters_then holds client id new below less is
+      still_holds clients r.counters p q sent_then counters_then holds client id new below less is label
       (value ∙ ap (λ n. pos (last_set n)) (sym now_sent)) (omega arith)
       (put_here client (counter_told step.told (q client)) q client refl ∙ told) apart before
       (put_there client (suc (p client)) p) (put_there client (counter_told step.told (q client)) q)
@@ -274,7 +277,7 @@ module _ (clients : ℕ) (few : clients ≤ 64) (all : List Message) (once : (x 
           let count = alive.counted in
           let told = told_is all once client (suc (p client)) (q client) c step (told.Allocated step.correlation id)
           (known, omega arith) refl has in
-          becomes id (new_counter (pos 1) [] (label_of client) step.correlation 0) found.0 refl
+          becomes id (new_counter (pos 1) [] (label_of client) step.correlation 0) found.0 refl refl
           (ap (λ n. pos (last_set (suc n))) (sym none)) (ap (λ t. counter_told t (q client)) told)
           (λ d low some other same. apart_from_free id found.1 d low some same) (λ some. absurd (omega arith))
 
@@ -293,7 +296,7 @@ module _ (clients : ℕ) (few : clients ≤ 64) (all : List Message) (once : (x 
       ap (λ b. pos (cond b 0 (suc (p client)))) (sym (ne_eqb (suc (p client)) 1 (λ e. omega arith))) in
       subst Does (sym o) (becomes (q client)
       (let k = counter_at r (q client) in record k { values = record k.values { value = pos (suc (p client)) } })
-      less own.live value (ap (λ t. counter_told t (q client)) told)
+      less own.live own.label value (ap (λ t. counter_told t (q client)) told)
       (λ d low some_too other same. other (holds.apart d client low below some_too some same)) (λ s. refl))
 
   pub one_done : Holds clients (applied now r c.message).registry.counters sent_then counters_then

@@ -15,7 +15,7 @@ use Rattle.ring_board.specs.declared.shared.view.Taken.{Taken}
 use Rattle.ring_board.specs.Runs.{AreAllRuns}
 use Rattle.ring_protocol.specs.declared.reply.Reply.{Reply}
 use Rattle.ring_protocol.specs.declared.reply.Reply.TheVariants as told
-use Rattle.ring_protocol.specs.Command.{Allocate, Instruction, Set}
+use Rattle.ring_protocol.specs.Command.{Allocate, Set}
 use Rattle.ring_protocol.specs.Command as command
 use Rattle.ring_protocol.specs.Reply as reply
 use Rattle.ring_conductor.specs.Account.{messages_in}

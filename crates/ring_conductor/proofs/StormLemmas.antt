@@ -1,6 +1,6 @@
 -- What a storm counts.
-use Rattle.std.proofs.Common.{◌≡◌, ℕ, ◌+◌, ◌*◌, ◌≤◌, List, [], ◌∷◌, ◌++◌, ◌/◌, ◌<◌, length, length-append, max, ℤ, ◌+ℤ◌, ◌==◌, Bool, true, false, if◌then◌else◌, fold, Option, Some, None, Result, Ok, Err, IfOk, suc, refl, sym, ap, ◌∙◌, subst, inl, inr, arith}
-use Rattle.std.specs.Int.{IsPowerOfTwo, saturate_signed, w64}
+use Rattle.std.proofs.Common.{◌≡◌, ℕ, ◌+◌, ◌*◌, ◌≤◌, List, [], ◌∷◌, ◌++◌, ◌/◌, ◌<◌, length, length-append, max, ◌==◌, Bool, true, false, if◌then◌else◌, fold, Option, Some, None, Result, Ok, Err, refl, sym, ap, ◌∙◌, subst, inl, inr, arith}
+use Rattle.std.specs.Int.{IsPowerOfTwo}
 use Rattle.std.proofs.lemmas.List.{append-nil, length-map, length-replicate, length-set}
 use Rattle.std.proofs.lemmas.List.FromFn.{length-range_with_len}
 use Rattle.std.proofs.lemmas.List.Sums.{count_by-le-length, length-filter}
@@ -29,16 +29,13 @@ use Rattle.ring_board.specs.Runs.{AreAllRuns}
 use Rattle.ring_rings.specs.Reading.{messages_of}
 use Rattle.ring_counters.specs.declared.fault.AllocateRefused.{AllocateRefused}
 use Rattle.ring_counters.specs.declared.fault.IdFault.{IdFault}
-use Rattle.ring_counters.specs.declared.info.CounterInfo.{CounterInfo}
 use Rattle.ring_counters.specs.declared.values.rule.ValueWrite.{ValueWrite}
 use Rattle.ring_counters.specs.Counter.{Counter, unused_counter}
-use Rattle.ring_counters.specs.Infos.{AreInfos}
 use Rattle.ring_counters.specs.Registry.{Registry, allocation_of, closed_in, count_of, counter_at, fresh_registry, id_refusal_of, ids_of, is_allocated, live_ids, live_of, new_counter, owned_ids, reclaimed_in, status_at, with_value}
 use Rattle.ring_counters.specs.Views.{value_write}
 use Rattle.ring_conductor.specs.declared.conductor.Work.{Work}
 use Rattle.ring_protocol.specs.declared.fault.Bad.{Bad}
 use Rattle.ring_protocol.specs.declared.reply.Reply.TheVariants.{Closed}
-use Rattle.ring_conductor.specs.declared.storming.plan.StormFault.{StormFault}
 use Rattle.ring_conductor.specs.declared.storming.plan.StormPlan.{StormPlan}
 use Rattle.ring_conductor.specs.declared.storming.plan.StormReport.{StormReport}
 use Rattle.ring_conductor.specs.Applied.{allocated, applied, done_unless, obeyed, obeyed_if_read, refused}
@@ -48,14 +45,14 @@ use Rattle.ring_conductor.specs.Account.{IsFoldOf, messages_in}
 use Rattle.ring_conductor.specs.Conducting.{Works}
 use Rattle.ring_conductor.specs.Finishing.{IsWhole}
 use Rattle.ring_conductor.specs.Turns.{AreAllTurns, drawn_in}
-use Rattle.ring_conductor.specs.Storming.{IsBoardFor, IsPlan, IsReportOf, all_commands, counters_after, storm_counters, sum_of, with_value_of}
+use Rattle.ring_conductor.specs.Storming.{IsBoardFor, IsPlan, IsReportOf, all_commands, counters_after, storm_counters, sum_of}
 use Rattle.ring_conductor.specs.Fold.{Ledger, fold_of, at_moment, served}
 use Rattle.ring_protocol.specs.Reading.{command_of}
 use Rattle.ring_conductor.proofs.FinishLemmas.{drained, messages_of-append}
 use Rattle.ring_conductor.proofs.FoldLemmas.{lengths}
 use Rattle.ring_conductor.proofs.DrawLemmas.{all_drawn}
 use Rattle.ring_conductor.proofs.LiveLemmas.{storm_live}
-use Rattle.ring_conductor.proofs.SumLemmas.{all_draws, storm_sum}
+use Rattle.ring_conductor.proofs.SumLemmas.{all_draws, storm_own, storm_sum}
 use Rattle.ring_conductor.proofs.TurnLemmas.{nothing}
 
 -- What the conductor does ------------------------------------------------------
@@ -151,7 +148,7 @@ after_count r (m ∷ ms) = after_count (applied 0 r m).registry ms ∙ read_coun
 pub storm_count : (p : StormPlan) (ms : List Message) → count_of (storm_counters p ms) ≡ p.clients
 storm_count p ms = after_count (fresh_registry p.clients 0) ms ∙ length-replicate p.clients unused_counter
 
-few_live : (r : Registry) → length (live_of r) ≤ count_of r
+pub few_live : (r : Registry) → length (live_of r) ≤ count_of r
 few_live r =
     let entry : ℕ → ℕ × Counter = λ id. (id, counter_at r id) in
     let is_live : ℕ → Bool = λ id. is_allocated (status_at r id) in
@@ -160,32 +157,6 @@ few_live r =
     let few = count_by-le-length is_live (ids_of r) in
     let all = length-range_with_len 0 (count_of r) in
     omega arith
-
--- What a listing counts --------------------------------------------------------
-
-pub infos_length : (infos : List CounterInfo) (counters : List (ℕ × Counter)) → AreInfos infos counters
-    → length infos ≡ length counters
-infos_length [] [] are = refl
-infos_length [] (c ∷ cs) are = absurd are
-infos_length (i ∷ is) [] are = absurd are
-infos_length (i ∷ is) (c ∷ cs) are = ap suc (infos_length is cs are.1)
-
-pub few_infos : (r : Registry) (infos : List CounterInfo) → AreInfos infos (live_of r) → length infos ≤ count_of r
-few_infos r infos are =
-    let same = infos_length infos (live_of r) are in
-    let few = few_live r in
-    omega arith
-
-abbrev pub with_info : ℤ → CounterInfo → ℤ
-with_info sum info = saturate_signed w64 (sum +ℤ info.value)
-
-pub infos_sum : (sum : ℤ) (infos : List CounterInfo) (counters : List (ℕ × Counter)) → AreInfos infos counters
-    → fold with_info sum infos ≡ fold with_value_of sum counters
-infos_sum sum [] [] are = refl
-infos_sum sum [] (c ∷ cs) are = absurd are
-infos_sum sum (i ∷ is) [] are = absurd are
-infos_sum sum (i ∷ is) (c ∷ cs) are = ap (λ v. fold with_info (saturate_signed w64 (sum +ℤ v)) is) are.0.value
-    ∙ infos_sum (with_value_of sum c) is cs are.1
 
 -- What is left -----------------------------------------------------------------
 
@@ -258,6 +229,8 @@ module _ (p : StormPlan) (C start : ℕ) (v w : View) (rest : Ring) (counters : 
       ∙ all_draws p.commands p.clients v.producer.claims heard services ended.turns in
       let folded = subst (λ r. ∥ IsFoldOf messages r ended.writes (messages_in sent) ∥₁) ended.counters_are
       ended.folded in
+      let claimed = subst (λ ms. ∥ IsFoldOf ms (storm_counters p messages) ended.writes (messages_in sent) ∥₁)
+      all_taken folded in
       record {
         received = omega arith;
         left = omega arith;
@@ -281,23 +254,21 @@ module _ (p : StormPlan) (C start : ℕ) (v w : View) (rest : Ring) (counters : 
             ∙ (ap (λ ms. length (live_of (storm_counters p ms))) all_taken
             ∙ storm_live p v.producer.claims heard services lawful.commands.0 lawful.clients.1 ended.turns));
         sum = sum ∙ ap (λ c. sum_of (live_of c)) ended.counters_are;
+        own = storm_own p.clients p.commands v.producer.claims heard services sent lawful.clients.1 lawful.commands.0
+            lawful.commands.1 ended.turns ended.runs ended.drawn ended.once (storm_counters p messages) ended.writes
+            (storm_count p messages) claimed;
         total = sum ∙ (ap (λ c. sum_of (live_of c)) ended.counters_are
             ∙ storm_sum p.clients p.commands v.producer.claims heard services sent lawful.clients.1 lawful.commands.0
             lawful.commands.1 ended.turns ended.runs ended.drawn ended.once (storm_counters p messages) ended.writes
-            (storm_count p messages)
-            (subst (λ ms. ∥ IsFoldOf ms (storm_counters p messages) ended.writes (messages_in sent) ∥₁) all_taken
-            folded));
+            (storm_count p messages) claimed);
       }
 
   -- the report of a storm that took all commands
-  pub reported : (result : Result StormReport StormFault) (n m : ℕ) → n ≡ length w.consumer.taken → m ≡ all_commands p
-      → IfOk result (λ r. (r.received ≡ n) × (r.seen ≡ m))
-      → IfOk result (λ r. (h : List Claim) → Has rest h → AllSettled h → r.left ≡ length (committed_of h))
-      → IfOk result (λ r. r.live ≡ length (live_of counters)) → IfOk result (λ r. r.sum ≡ sum_of (live_of counters))
-      → IfOk result (IsReportOf p)
-  reported (Ok r) n m n_is m_is counts left live sum =
-      report_of r (counts.0 ∙ n_is) (counts.1 ∙ m_is) left live sum
-  reported (Err fault) n m n_is m_is counts left live sum = counts
+  pub reported : (r : StormReport) (n m : ℕ) → n ≡ length w.consumer.taken → m ≡ all_commands p
+      → (r.received ≡ n) × (r.seen ≡ m)
+      → ((h : List Claim) → Has rest h → AllSettled h → r.left ≡ length (committed_of h))
+      → r.live ≡ length (live_of counters) → r.sum ≡ sum_of (live_of counters) → IsReportOf p r
+  reported r n m n_is m_is counts left live sum = report_of r (counts.0 ∙ n_is) (counts.1 ∙ m_is) left live sum
 
 -- The board --------------------------------------------------------------------
 

@@ -3,7 +3,7 @@ use Rattle.std.proofs.Common.{◌≡◌, ◌∙◌, ℕ, zero, suc, ◌+◌, ◌
 use Rattle.std.specs.Prelude.{filter, slice_index_or}
 use Rattle.std.specs.Int.{saturate_signed, w64}
 use Rattle.std.proofs.Math.IntN.{ℤ_set}
-use Rattle.std.proofs.Math.Logic.{∥∥₁_elim}
+use Rattle.std.proofs.Math.Logic.{∥∥₁_elim, ∥∥₁_map}
 use Rattle.std.proofs.lemmas.Bool.{cases_lt}
 use Rattle.std.proofs.lemmas.List.{get_or-replicate, get_or_past, length-map, length-replicate}
 use Rattle.ring_layout.specs.declared.message.Message.{Message}
@@ -18,10 +18,10 @@ use Rattle.ring_board.specs.Runs.{AreAllRuns}
 use Rattle.ring_counters.specs.declared.values.rule.ValueWrite.{ValueWrite}
 use Rattle.ring_counters.specs.Counter.{Counter, unused_counter}
 use Rattle.ring_counters.specs.Registry.{Registry, count_of, counter_at, fresh_registry, ids_of, live_ids, live_of, value_at}
-use Rattle.ring_protocol.specs.Command.{Allocate, Instruction, Set}
+use Rattle.ring_protocol.specs.Command.{Allocate, Set}
 use Rattle.ring_protocol.specs.Command as command
 use Rattle.ring_conductor.specs.Account.{Account, IsFoldOf, account_of, fresh_account, messages_in, untimed}
-use Rattle.ring_conductor.specs.Storming.{sum_of, with_value_of}
+use Rattle.ring_conductor.specs.Storming.{sum_of, with_value_of, HasOwnCounter}
 use Rattle.ring_conductor.specs.Turns.{AreAllTurns, AreTurns, Deeds, drawn_in, label_of, last_set, turn_of}
 use Rattle.ring_conductor.proofs.DrawLemmas.{all_drawn, drawn_below, drawn_reduced, draws_in, none_reduced, one_at_most, reduced, reduced-append, total-append}
 use Rattle.ring_conductor.proofs.HoldLemmas.{Ends, Holds, all_done}
@@ -202,10 +202,11 @@ module _ (clients commands : ℕ) (claims : List StagedClaim) (receivers : List 
       let is = once x in
       omega arith
 
-  folded_sum : (registry : Registry) (writes : List ValueWrite) → count_of registry ≡ clients
+  -- what all commands made of the counters
+  folded_ends : (registry : Registry) (writes : List ValueWrite) → count_of registry ≡ clients
       → IsFoldOf (messages_of (placed_committed_of claims)) registry writes (messages_in sent)
-      → sum_of (live_of registry) ≡ pos (clients * last_set commands)
-  folded_sum registry writes counted f =
+      → Ends clients commands (0 + clients) registry
+  folded_ends registry writes counted f =
       let a = fresh_account (count_of registry) registry.reuse_ms in
       let replies : (account_of a f.timed).replies ≡ messages_in sent = ap (λ (b : Account). b.replies) f.folded in
       let after : (account_of a f.timed).registry ≡ registry = ap (λ (b : Account). b.registry) f.folded in
@@ -219,20 +220,42 @@ module _ (clients commands : ℕ) (claims : List StagedClaim) (receivers : List 
       alive (all_ask commands clients claims receivers services some few turns) (omega arith)
       (none_held clients (count_of registry) registry.reuse_ms)
       (λ m h. subst (Has m) replies h) in
-      let over = subst (Ends clients commands (0 + clients)) after ends in
+      subst (Ends clients commands (0 + clients)) after ends
+
+  ended_sum : (r : Registry) → Ends clients commands (0 + clients) r
+      → sum_of (live_of r) ≡ pos (clients * last_set commands)
+  ended_sum r over =
       let in_use = over.live_are.in_use in
-      let live = live_counted registry in
+      let live = live_counted r in
       let product = few_in_all clients (last_set commands) few (small_last commands short) in
-      all_sum registry (last_set commands) (last_value registry over) clients (omega arith) (omega arith)
+      all_sum r (last_set commands) last_value clients (omega arith) (omega arith)
     where
-      last_value : (r : Registry) → Ends clients commands (0 + clients) r → (id : ℕ) → is_live (counter_at r id) ≡ true
-          → value_at r id ≡ pos (last_set commands)
-      last_value r over id live =
+      last_value : (id : ℕ) → is_live (counter_at r id) ≡ true → value_at r id ≡ pos (last_set commands)
+      last_value id live =
           let mine = over.holds.owned id live in
           let own = over.holds.own mine.0 mine.1 mine.2 in
           ap (λ k. value_at r k) (sym mine.3) ∙ (own.value ∙ ap (λ k. pos (last_set k)) (over.all_were mine.0 mine.1))
 
+  ended_own : (r : Registry) → Ends clients commands (0 + clients) r → (c : ℕ) → c < clients
+      → HasOwnCounter c (last_set commands) r
+  ended_own r over c low =
+      let sent = over.all_were c low in
+      let own = over.holds.own c low (subst (λ n. 1 ≤ n) (sym sent) some) in
+      record {
+        id = over.counters c;
+        in_use = own.live;
+        label = own.label;
+        value = own.value ∙ ap (λ k. pos (last_set k)) sent;
+      }
+
   pub storm_sum : (registry : Registry) (writes : List ValueWrite) → count_of registry ≡ clients
       → ∥ IsFoldOf (messages_of (placed_committed_of claims)) registry writes (messages_in sent) ∥₁
       → sum_of (live_of registry) ≡ pos (clients * last_set commands)
-  storm_sum registry writes counted f = ∥∥₁_elim f (ℤ_set _ _) (folded_sum registry writes counted)
+  storm_sum registry writes counted f =
+      ∥∥₁_elim f (ℤ_set _ _) (λ g. ended_sum registry (folded_ends registry writes counted g))
+
+  pub storm_own : (registry : Registry) (writes : List ValueWrite) → count_of registry ≡ clients
+      → ∥ IsFoldOf (messages_of (placed_committed_of claims)) registry writes (messages_in sent) ∥₁
+      → (c : ℕ) → c < clients → ∥ HasOwnCounter c (last_set commands) registry ∥₁
+  storm_own registry writes counted f c low =
+      ∥∥₁_map f (λ g. ended_own registry (folded_ends registry writes counted g) c low)

@@ -22,7 +22,7 @@ use Rattle.ring_counters.specs.declared.values.rule.ValueWrite.{ValueWrite}
 use Rattle.ring_counters.specs.declared.values.seats.CounterValues.{CounterValues}
 use Rattle.ring_counters.specs.Counter.{Counter}
 use Rattle.ring_counters.specs.Manager.{registry_of}
-use Rattle.ring_counters.specs.Registry.{Registry, fresh_registry, live_of}
+use Rattle.ring_counters.specs.Registry.{Registry, counter_at, fresh_registry, is_allocated, live_of, status_at, value_at}
 use Rattle.ring_conductor.specs.declared.conductor.Conductor.{Conductor}
 use Rattle.ring_conductor.specs.declared.storming.plan.StormFault.{StormFault}
 use Rattle.ring_conductor.specs.declared.storming.plan.StormFault.TheVariants.{BadPlan, OutOfMemory, TurnsSpent}
@@ -37,7 +37,7 @@ use Rattle.ring_conductor.specs.Asking.{draws_of, producer_of, receiver_of, serv
 use Rattle.ring_conductor.specs.Conducting.{IsConductorOf, counters_of, received_of, transmitter_of}
 use Rattle.ring_conductor.specs.Finishing.{joined_by}
 use Rattle.ring_conductor.specs.Account.{IsFoldOf, messages_in}
-use Rattle.ring_conductor.specs.Turns.{AreAllTurns, Deeds, claims_by, copies_by, drawn_in, draws_by, last_set}
+use Rattle.ring_conductor.specs.Turns.{AreAllTurns, Deeds, claims_by, copies_by, drawn_in, draws_by, label_of, last_set}
 
 -- The plan ---------------------------------------------------------------------
 
@@ -83,6 +83,13 @@ with_value_of sum c = saturate_signed w64 (sum +ℤ c.1.values.value)
 -- the sum of the values of these counters
 abbrev pub sum_of : List (ℕ × Counter) → ℤ
 sum_of counters = fold with_value_of (pos 0) counters
+
+-- a counter in use has the label of this client, and this value
+pub record HasOwnCounter (client last : ℕ) (r : Registry) : Type 0 where
+  pub id : ℕ
+  pub in_use : IsTrue (is_allocated (status_at r id))
+  pub label : (counter_at r id).metadata.label ≡ label_of client
+  pub value : value_at r id ≡ pos last
 
 -- The seats --------------------------------------------------------------------
 
@@ -175,8 +182,8 @@ pub record HasAll (hub : Hub) : Type 0 where
 -- the exchanges, are the clients' commands, and what was taken is their messages; each command has its reply among the
 -- copies of its client's receiver, which are runs of all replies; and these are the ones that the messages have. The
 -- commands' correlation ids are the numbers below that of all commands, each once. The live counters, and the sum of
--- their values, are those that the messages make of fresh counters: one for each client, at the last number that it
--- set, which the plan determines
+-- their values, are those that the messages make of fresh counters: one for each client, which has its label and the
+-- last number that it set, which the plan determines
 pub record IsReportOf (p : StormPlan) (r : StormReport) : Type 0 where
   pub received : r.received ≡ all_commands p
   pub left : r.left ≡ 0
@@ -197,4 +204,5 @@ pub record IsReportOf (p : StormPlan) (r : StormReport) : Type 0 where
   pub live : r.live ≡ length (live_of (storm_counters p messages))
   pub clients : r.live ≡ p.clients
   pub sum : r.sum ≡ sum_of (live_of (storm_counters p messages))
+  pub own : (c : ℕ) → c < p.clients → ∥ HasOwnCounter c (last_set p.commands) (storm_counters p messages) ∥₁
   pub total : r.sum ≡ pos (p.clients * last_set p.commands)

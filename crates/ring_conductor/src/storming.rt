@@ -76,7 +76,7 @@ pub fn storm<R: Threads + Wait, G: Gate + Sync>(
     };
     match failure {
         Some(failure) => Err(StormFault::from(failure)),
-        None => report::report(alloc, finished, seen),
+        None => Ok(report::report(finished, seen)),
     }
 }
 

@@ -2,7 +2,7 @@
 
 ghost use Rattle.std.specs.Prelude.{◌≡◌, IfErr, IfOk, OnOk};
 ghost use Rattle.ring_words.specs.Open.{ClaimAt};
-ghost use Rattle.ring_table.specs.ServiceSteps.{DrawsId};
+ghost use Rattle.ring_table.specs.ServiceSteps.{DrawsId, LoadsHeartbeat};
 ghost use Rattle.ring_rings.specs.Seats.{capacity_of, open_claims_of, shares_of, IsOpenClaimOf, IsProducerOf};
 ghost use Rattle.ring_board.specs.Seats.{IsReceiverOf};
 ghost use Rattle.ring_conductor.specs.Asking.{IsHeard, IsSendable, RefusesAs, RefusesSend, Sends, SendsAs};
@@ -50,6 +50,20 @@ impl Client {
         ensures receiver { receiver_of self.new ≡ receiver_of self.old }
     {
         ring.next_correlation_id(&mut self.producer)
+    }
+
+    /// Loads the heartbeat that the conductor stores, by one step: 0 where it stored none, and no value before one that
+    /// this client loaded. What was sent and heard stays as it was. Whether a conductor that stores none any more lives
+    /// is the caller's to judge.
+    pub fn heartbeat(&mut self, ring: &ManyToOneRing) -> u64
+        requires { IsProducerOf ring.now (producer_of self.old) }
+        ensures producer { IsProducerOf ring.now (producer_of self.new) }
+        ensures loads { LoadsHeartbeat (capacity_of ring.now) (client_view self.old) result (client_view self.new) }
+        ensures shares { shares_of (producer_of self.new) ≡ shares_of (producer_of self.old) }
+        ensures open_claims { open_claims_of (producer_of self.new) ≡ open_claims_of (producer_of self.old) }
+        ensures receiver { receiver_of self.new ≡ receiver_of self.old }
+    {
+        ring.heartbeat(&mut self.producer)
     }
 
     /// Makes one try to send a command with a correlation id that was drawn for it. It never waits, and takes no

@@ -1,9 +1,13 @@
-use Rattle.std.proofs.Common.{◌≡◌, pos, drop, fold}
-use Rattle.ring_conductor.proofs.StormLemmas.{with_info}
+use Rattle.std.proofs.Common.{◌≡◌, ◌+◌, fold, length}
+use Rattle.ring_counters.specs.Manager.{registry_of}
+use Rattle.ring_counters.specs.Registry.{live_of}
+use Rattle.ring_conductor.specs.Storming.{sum_of, with_value_of}
 use Rattle.ring_conductor.proofs.storming.report.count_live.Given as goal
 
-abbrev pub invariant-loop-info : goal.invariant-loop-info
-invariant-loop-info l = record {
-  live : l.live ≡ l.info-index;
-  sum : fold with_info l.sum (drop l.info-index l.info-items) ≡ fold with_info (pos 0) l.info-items;
+abbrev pub invariant-loop-counter : goal.invariant-loop-counter
+invariant-loop-counter l = record {
+  goes : (goal.iterator-loop-counter).can_next l.counter-iterator;
+  ends : (goal.iterator-loop-counter).is_finite l.counter-iterator;
+  live : l.live + length l.counter-iterator ≡ length (live_of (registry_of l.counters));
+  sum : fold with_value_of l.sum l.counter-iterator ≡ sum_of (live_of (registry_of l.counters));
 }
