@@ -1,11 +1,16 @@
 -- What a run hands out at its end.
-use Rattle.std.specs.Prelude.{◌≡◌, ◌+◌, length}
+use Rattle.std.specs.Prelude.{◌≡◌, ℕ, ◌+◌, ◌-◌, ◌^◌, length, min}
 use Rattle.ring_table.specs.Passing.{placed_committed_of}
 use Rattle.ring_rings.specs.Seats.{claims_of}
+use Rattle.ring_loose.specs.Loose.{Loose}
 use Rattle.ring_counters.specs.Manager.{registry_of, shares_of}
 use Rattle.ring_conductor.specs.Conducting.{counters_of, received_of}
 use Rattle.ring_scenario.specs.declared.service.CommandService.{CommandService}
 use Rattle.ring_scenario.specs.declared.service.closing.Served.{Served}
+
+-- how many messages the reads of a ring took, held within 64 bits
+abbrev pub read_count : Loose → ℕ
+read_count l = min (length l.consumer.consumer.taken) (2 ^ 64 - 1)
 
 -- the commands that the conductor took, and how many it left of the committed messages of its ring, with its counters,
 -- which have all shares of the values

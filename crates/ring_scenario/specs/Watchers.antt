@@ -3,7 +3,7 @@ use Rattle.std.specs.Prelude.{◌≡◌, ℕ, ◌++◌, ◌∷◌, ℤ, List, []
 use Rattle.ring_counters.specs.declared.values.seats.CounterValues.{CounterValues}
 use Rattle.ring_counters.specs.declared.values.seats.ValueReader.{ValueReader}
 use Rattle.ring_counters.specs.declared.values.rule.ValueWrite.{ValueWrite}
-use Rattle.ring_counters.specs.Seats.{IsReaderOf, loads_of, made_of, seen_by}
+use Rattle.ring_counters.specs.Seats.{IsReaderOf, loads_of, seen_by}
 use Rattle.ring_counters.specs.ValueWrites.{Begins, value_after}
 use Rattle.ring_counters.specs.Views.{value_load}
 use Rattle.ring_loose.specs.Held.{Comes, Goes, HasAt, Stays, held_in}

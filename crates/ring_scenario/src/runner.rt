@@ -2,7 +2,7 @@
 ghost use Rattle.std.specs.Prelude.{◌≡◌, ◌+◌, ◌↔◌, None, IfSome, IsOkUnless, IsSome, IsTrue, length};
 ghost use Rattle.ring_table.specs.Passing.{placed_committed_of};
 ghost use Rattle.ring_loose.specs.Loose.{aborted_view};
-ghost use Rattle.ring_scenario.specs.Closing.{IsServed};
+ghost use Rattle.ring_scenario.specs.Closing.{read_count, IsServed};
 ghost use Rattle.ring_scenario.specs.Sizes.{size_fault_of};
 
 mod serving;
@@ -32,6 +32,7 @@ pub struct Runner {
     messages: u64,
     /// Whether a line asked something of the conductor's side.
     serves: bool,
+    ghost counted: { messages ≡ read_count loose },
 }
 
 /// What `end` tells.
@@ -139,18 +140,19 @@ impl Runner {
     fn read(&mut self, limit: u32) -> Result<String, AllocError> {
         let mut printer = Printer::new(self.alloc, &[]);
         let end = self.loose.read(limit, &mut printer);
+        self.messages = self.messages.saturating_add(u64::from(end.messages));
         self.read_text(printer, end)
     }
 
     fn control(&mut self, limit: u32, actions: &[Action]) -> Result<String, AllocError> {
         let mut printer = Printer::new(self.alloc, actions);
         let end = self.loose.controlled_read(limit, &mut printer);
+        self.messages = self.messages.saturating_add(u64::from(end.messages));
         self.read_text(printer, end)
     }
 
-    /// Counts the messages of a read, and gives its lines.
-    fn read_text(&mut self, printer: Printer, end: ReadEnd) -> Result<String, AllocError> {
-        self.messages = self.messages.saturating_add(u64::from(end.messages));
+    /// Gives the lines of a read.
+    fn read_text(&self, printer: Printer, end: ReadEnd) -> Result<String, AllocError> {
         let stop = stop_name(end.stopped);
         let last = format!(in self.alloc;
             "read {} bytes {} stopped {stop}\n",
@@ -216,7 +218,7 @@ impl Runner {
     /// Aborts the open claims, joins receivers, listeners and watchers, closes all, and counts the messages that are
     /// left.
     pub fn close(self) -> Ended
-        ensures messages { result.messages ≡ self.messages }
+        ensures messages { result.messages ≡ read_count self.loose }
         ensures left { length self.loose.consumer.consumer.taken + result.left
             ≡ length (placed_committed_of (aborted_view self.loose.holder).producer.claims) }
         ensures served { IsSome result.served ↔ IsTrue self.serves }

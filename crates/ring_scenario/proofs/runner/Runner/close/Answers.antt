@@ -1,4 +1,4 @@
-use Rattle.std.proofs.Common.{◌+◌, arith}
+use Rattle.std.proofs.Common.{arith}
 use Rattle.ring_conductor.proofs.FinishLemmas.{drained}
 use Rattle.ring_scenario.proofs.runner.Runner.close.Goals as goal
 

@@ -1,4 +1,4 @@
-use Rattle.std.proofs.Common.{◌≡◌, ◌∙◌, ◌+◌, length, ap, arith}
+use Rattle.std.proofs.Common.{◌∙◌, length, ap, arith}
 use Rattle.ring_table.specs.Passing.{placed_committed_of}
 use Rattle.ring_table.proofs.LawLemmas.{none_open}
 use Rattle.ring_rings.specs.declared.ring.Consumer.{Consumer}
