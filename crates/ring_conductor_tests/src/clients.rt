@@ -120,6 +120,25 @@ fn a_refused_command_can_be_sent_again_with_its_id(rt: HostRuntime) -> Result<()
     Ok(())
 }
 
+/// A heartbeat is the last that was stored, and neither a command nor a reply changes it.
+const BEATS: [(Call<'static>, Said); 8] = [
+    (Call::Heartbeat, Said::Heartbeat(0)),
+    (Call::Beat(7), Said::Beaten),
+    (Call::Heartbeat, Said::Heartbeat(7)),
+    (Send(SET), Id(0)),
+    (Work(9), Said::Worked(1, WorkStop::Unpublished)),
+    (Call::Heartbeat, Said::Heartbeat(7)),
+    (Call::Beat(u64::MAX), Said::Beaten),
+    (Call::Heartbeat, Said::Heartbeat(u64::MAX)),
+];
+
+#[test]
+fn a_client_loads_the_last_heartbeat(rt: HostRuntime) -> Result<(), Fail> {
+    let mut talk = Talk::new(rt.alloc(), 256, 256)?;
+    talk.goes(&rt, &BEATS);
+    Ok(())
+}
+
 fn owned<'a>(key: &'a [u8], label: &'a [u8]) -> Request<'a> {
     Request::AllocateOwned {
         type_id: 1,

@@ -21,6 +21,9 @@ pub enum Call<'a> {
     SendAs(u64, Request<'a>),
     Poll(u64),
     NextId,
+    Heartbeat,
+    /// The conductor stores its heartbeat.
+    Beat(u64),
     Work(u32),
     Value(u32),
 }
@@ -33,6 +36,8 @@ pub enum Said {
     /// The command with this id does not fit into the ring, with its tail and its head.
     Full(u64, u64, u64),
     TooLong,
+    Beaten,
+    Heartbeat(u64),
     Other(SendFault),
     Polled(Polled),
     Worked(u64, WorkStop),
@@ -94,6 +99,11 @@ impl Talk {
         }
     }
 
+    fn beat(&mut self, value: u64) -> Said {
+        self.conductor.set_heartbeat(&self.ring, value);
+        Said::Beaten
+    }
+
     /// Works at the moment 0.
     fn work(&mut self, limit: u32) -> Said {
         let Work { messages, stopped } = self
@@ -109,6 +119,8 @@ impl Talk {
             Call::SendAs(correlation, request) => self.send_as(correlation, request),
             Call::Poll(correlation) => Said::Polled(self.client.poll(&self.board, correlation)),
             Call::NextId => Said::Id(self.client.next_correlation_id(&self.ring)),
+            Call::Heartbeat => Said::Heartbeat(self.client.heartbeat(&self.ring)),
+            Call::Beat(value) => self.beat(value),
             Call::Work(limit) => self.work(limit),
             Call::Value(id) => Said::Value(self.conductor.counters().value(id)),
         }

@@ -204,6 +204,7 @@ fn lists_all_counters(rt: HostRuntime) -> Result<(), Fail> {
         assert_eq!(rt; desk.allocate_with(&[7], &label_of(id)), Ok(id));
         desk.set(id, value_of(id))?;
     }
+    assert_eq!(rt; desk.live(rt.alloc())?.len(), 4096);
     desk.free(100, 0)?;
     let live = desk.live(rt.alloc())?;
     assert_eq!(rt; live.len(), 4095);

@@ -13,7 +13,7 @@ use client::Caller;
 use ring_board::Board;
 use ring_conductor::{Client, Conductor, finish};
 use ring_counters::{CounterInfo, CountersManager, ValueReader};
-use ring_rings::{ManyToOneRing, Positions};
+use ring_rings::ManyToOneRing;
 use service::{COUNTERS, conduct, watch};
 use shared::Shared;
 use std::io;
@@ -161,12 +161,12 @@ fn main(rt: HostRuntime) -> anyhow::Result<()> {
         |refused| refused.reason,
     )?;
     let live = finished.counters.live(alloc)?;
-    let Positions { head, tail } = finished.rest.positions();
+    let left = finished.rest.positions().used();
     print_counter(&rt, one.label, live.as_slice())?;
     print_counter(&rt, two.label, live.as_slice())?;
     let received = finished.received;
     println!(rt; "commands {received} replies {replies} laps {laps}")?;
     println!(rt; "values {}", if saw_fall { "fell" } else { "never fell" })?;
-    println!(rt; "left {}", tail - head)?;
+    println!(rt; "left {left}")?;
     Ok(())
 }

@@ -101,7 +101,7 @@ fn main(rt: HostRuntime) -> anyhow::Result<()> {
     let rest = ring
         .close(producer, consumer)
         .map_err(|refused| refused.reason)?;
-    let left = rest.positions().tail - rest.positions().head;
+    let left = rest.positions().used();
     println!(rt; "numbers {} sum {} left {left}", sum.count, sum.sum)?;
     Ok(())
 }

@@ -3,7 +3,7 @@ ghost use Rattle.std.specs.Thread.{IsSync};
 ghost use Rattle.ring_rings.specs.Seats.{shares_of, IsConsumerOf, IsProducerOf};
 
 use ring_rings::{
-    Action, ClaimFault, Consumer, Handler, ManyToOneRing, OneToOneRing, Positions, Producer,
+    Action, ClaimFault, Consumer, Handler, ManyToOneRing, OneToOneRing, Positions, Producer, Stop,
     TryFault,
 };
 use std::test::Fail;
@@ -69,7 +69,7 @@ fn read_numbers(ring: &OneToOneRing, mut consumer: Consumer) -> (Consumer, Numbe
         if numbers.next >= NUMBERS {
             break;
         }
-        if ring.read(&mut consumer, 9, &mut numbers).messages == 0 {
+        if ring.read(&mut consumer, 9, &mut numbers).stopped == Stop::Unpublished {
             yield_now();
         }
     }
@@ -190,7 +190,7 @@ fn read_shares(ring: &ManyToOneRing, mut consumer: Consumer) -> (Consumer, Tally
         if tally.received >= 4 * SHARE {
             break;
         }
-        if ring.read(&mut consumer, 9, &mut tally).messages == 0 {
+        if ring.read(&mut consumer, 9, &mut tally).stopped == Stop::Unpublished {
             yield_now();
         }
     }
