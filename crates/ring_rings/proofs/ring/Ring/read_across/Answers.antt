@@ -8,5 +8,5 @@ pub returns-clause-blocked : goal.returns-clause-blocked
 returns-clause-blocked g c =
     let moves = c.read-first.ensures.reads.moves in
     λ stopped. blocked_on (consumer_view c.args.consumer.now) (consumer_view c.read-first.new.consumer)
-        (consumer_view c.read-second.new.consumer) moves.loads (ap (λ (x : View). x.log) moves.view)
-        (c.read-second.ensures.blocked stopped)
+    (consumer_view c.read-second.new.consumer) moves.loads (ap (λ (x : View). x.log) moves.view)
+    (c.read-second.ensures.blocked stopped)
