@@ -116,7 +116,8 @@ inside cs id live = elim (cases_lt id (length cs)) as (λ _. id < length cs) [
 -- one client's counter becomes another, and nothing else
 module _ (clients : ℕ) (cs : List Counter) (p q p' q' : ℕ → ℕ) (holds : Holds clients cs p q) (c id : ℕ) (new : Counter)
     (below : c < clients) (less : id < length cs) (live : is_live new ≡ true)
-    (label : new.metadata.label ≡ label_of c) (value : new.values.value ≡ pos (last_set (p' c))) (sent : 1 ≤ p' c) (here : q' c ≡ id)
+    (label : new.metadata.label ≡ label_of c) (value : new.values.value ≡ pos (last_set (p' c)))
+    (sent : 1 ≤ p' c) (here : q' c ≡ id)
     (apart : (d : ℕ) → d < clients → 1 ≤ p d → (d ≡ c → ⊥) → q d ≡ id → ⊥) (before : 1 ≤ p c → q c ≡ id)
     (same_sent : (d : ℕ) → (d ≡ c → ⊥) → p' d ≡ p d) (same_counter : (d : ℕ) → (d ≡ c → ⊥) → q' d ≡ q d) where
   at_new : at (slice_set cs id new) id ≡ new
@@ -225,7 +226,8 @@ module _ (clients : ℕ) (few : clients ≤ 64) (all : List Message) (once : (x 
 
   -- the counter of the client becomes this one
   becomes : (id : ℕ) (new : Counter) → id < count_of r → is_live new ≡ true
-      → new.metadata.label ≡ label_of client → new.values.value ≡ pos (last_set (suc (p client))) → counter_told step.told (q client) ≡ id
+      → new.metadata.label ≡ label_of client → new.values.value ≡ pos (last_set (suc (p client)))
+      → counter_told step.told (q client) ≡ id
       → ((d : ℕ) → d < clients → 1 ≤ p d → (d ≡ client → ⊥) → q d ≡ id → ⊥) → (1 ≤ p client → q client ≡ id)
       → Holds clients (slice_set r.counters id new) sent_then counters_then
   becomes id new less is label value told apart before =
