@@ -71,6 +71,14 @@ abbrev pub Uses : {S : Type 0} → (Held → Option S) → (S → S → ℤ → 
 Uses kind P before after code = MatchOption before ((code ≡ pos 100) × (after ≡ None))
     (λ h. MatchOption (kind h) ((code ≡ pos 101) × (after ≡ Some h)) (λ s. Holds kind (λ t. P s t code) after))
 
+-- the same of a call that puts something out: of this kind P tells of what is out before and after, else it stays
+abbrev pub Yields : {S O : Type 0} → (Held → Option S) → (O → O → S → S → ℤ → Type 0) → O → O → Option Held
+    → Option Held → ℤ → Type 0
+Yields kind P old new before after code =
+    MatchOption before ((code ≡ pos 100) × (after ≡ None) × (new ≡ old))
+    (λ h. MatchOption (kind h) ((code ≡ pos 101) × (after ≡ Some h) × (new ≡ old))
+    (λ s. Holds kind (λ t. P old new s t code) after))
+
 -- of a producer the open claims were aborted, and nothing else changed
 abbrev pub ClosesHeld : Held → Held → Type 0
 ClosesHeld h k = MatchOption (a_producer h) (k ≡ h) (λ p. MatchOption (a_producer k) ⊥ (λ q. q ≡ closing p))
