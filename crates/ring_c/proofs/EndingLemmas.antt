@@ -1,7 +1,8 @@
 -- What a finished conductor's messages add up to.
-use Rattle.std.proofs.Common.{◌≡◌, ℕ, ◌+◌, List, ◌++◌, length, length-append, refl, ap, arith, Option, Some, None, Result, Ok}
+use Rattle.std.proofs.Common.{◌≡◌, ℕ, zero, suc, ◌+◌, List, ◌++◌, length, length-append, refl, ap, arith, Option, Some, None, Result, Ok}
 use Rattle.ring_layout.specs.Refusals.{IsRefusedAs}
 use Rattle.ring_layout.specs.declared.message.Message.{Message}
+use Rattle.ring_rings.specs.Closing.{close_refusal_of}
 use Rattle.ring_table.specs.declared.claim.PlacedMessage.{PlacedMessage}
 use Rattle.ring_rings.specs.Reading.{messages_of}
 use Rattle.ring_conductor.specs.declared.finishing.fault.FinishFault.{FinishFault}
@@ -22,3 +23,7 @@ rest_counts received all rest count whole counted =
     let parts = length-append (messages_of received) rest in
     let sum = ap length whole in
     omega arith
+
+-- where a producer may close its ring, none of its claims is open
+pub none_is_open : (open_claims shares : ℕ) → close_refusal_of open_claims shares ≡ None → open_claims ≡ 0
+none_is_open open_claims shares e = grind arith

@@ -4,7 +4,7 @@ use Rattle.std.specs.declared.option.Option.{Option}
 use Rattle.std.specs.declared.option.Option.TheVariants.{None, Some}
 use Rattle.ring_c.specs.Closing.{Concludes, IsKept}
 use Rattle.ring_c.specs.Conducting.{IsConductorCode, IsFresh}
-use Rattle.ring_c.specs.Told.{a_conductor, Holds}
+use Rattle.ring_c.specs.Told.{a_conductor, EndsAs, Holds}
 use Rattle.ring_c.specs.declared.held.Held.{Held}
 
 -- a conductor of these sizes, to which nothing was sent
@@ -25,10 +25,6 @@ pub record Counts : Type 0 where
 abbrev pub counts : ℕ → ℕ → Counts
 counts received left = record { received = received; left = left }
 
--- an empty handle answers 100 and stays empty, and another kind's 101 and stays as it is; a conductor's is emptied once
--- the conductor ended, or it stays as it is
+-- a conductor's handle is emptied once the conductor ended, or it stays as it is
 abbrev pub Ends : Counts → Counts → Option Held → Option Held → ℤ → Type 0
-Ends before after h h' code = MatchOption h ((code ≡ pos 100) × (h' ≡ None))
-    (λ k. MatchOption (a_conductor k) ((code ≡ pos 101) × (h' ≡ Some k))
-    (λ c. ((code ≡ pos 0) × (h' ≡ None) × Concludes c after.received after.left)
-    ⊎ (IsKept c code × Holds a_conductor (λ d. d ≡ c) h' × (after ≡ before))))
+Ends = EndsAs a_conductor (λ c ended. Concludes c ended.received ended.left) IsKept

@@ -1,10 +1,11 @@
 -- What calls of counters do: c are the counters before, d after, and the code is what is answered.
 use Rattle.std.specs.Prelude.{◌≡◌, ◌≢◌, ◌⊎◌, ◌<◌, ◌≤◌, ◌^◌, ℕ, ℤ, pos, List, [], ◌∷◌, ◌++◌, length, Some, None, Ok, Err}
+use Rattle.std.specs.Arc.{arc_value}
 use Rattle.ring_layout.specs.History.{overwritten}
 use Rattle.ring_counters.specs.declared.fault.AllocateRefused.{AllocateRefused}
 use Rattle.ring_counters.specs.declared.fault.IdFault.{IdFault}
 use Rattle.ring_counters.specs.Codes.{allocate_code, id_code}
-use Rattle.ring_counters.specs.Manager.{registry_of, writes_of}
+use Rattle.ring_counters.specs.Manager.{registry_of, shares_of, writes_of}
 use Rattle.ring_counters.specs.Registry.{Registry, allocated_in, allocation_of, answer, closed_in, counter_at, count_of, id_refusal_of, new_counter, owned_ids, reclaimed_in, registered_id, value_at, value_plus, with_value}
 use Rattle.ring_counters.specs.Views.{value_write}
 use Rattle.ring_c.specs.declared.counters.CountersSide.{CountersSide}
@@ -22,10 +23,16 @@ Asked ask id before after c d code = ((code ≡ pos 0)
     × (answer (id_refusal_of (registry_of c.manager) id) (ask (registry_of c.manager)) ≡ Ok after) × (d ≡ c))
     ⊎ (IdRefused (ask (registry_of c.manager)) id c d code × (after ≡ before))
 
+-- they are of the same values, and no share was given or taken
+pub record KeepsShares (c d : CountersSide) : Type 0 where
+  pub shares : shares_of d.manager ≡ shares_of c.manager
+  pub values : arc_value d.values ≡ arc_value c.values
+
 -- a counter in use got this value
 pub record Stores (id : ℕ) (value : ℤ) (c d : CountersSide) : Type 0 where
   pub registry : registry_of d.manager ≡ with_value (registry_of c.manager) id value
   pub writes : writes_of d.manager ≡ writes_of c.manager ++ value_write id value ∷ []
+  pub keeps : KeepsShares c d
 
 abbrev pub WasSet : ℕ → ℤ → CountersSide → CountersSide → ℤ → Type 0
 WasSet id value c d code = ((code ≡ pos 0) × Stores id value c d) ⊎ IdRefused {T = Unit {0}} tt id c d code
@@ -37,22 +44,28 @@ WasAdded id delta before after c d code =
     × Stores id (value_plus (registry_of c.manager) id delta) c d)
     ⊎ (IdRefused (value_at (registry_of c.manager) id) id c d code × (after ≡ before))
 
--- the moment is above 2^62, and nothing changed; else P tells
-abbrev pub AtMoment : ℕ → Type 0 → CountersSide → CountersSide → ℤ → Type 0
-AtMoment now P c d code = ((2 ^ 62 < now) × (code ≡ pos 107) × (d ≡ c)) ⊎ ((now ≤ 2 ^ 62) × P)
+-- the moment is above 2^62, and nothing changed, as Same says; else P tells
+abbrev pub AtMoment : ℕ → Type 0 → Type 0 → ℤ → Type 0
+AtMoment now Same P code = ((2 ^ 62 < now) × (code ≡ pos 107) × Same) ⊎ ((now ≤ 2 ^ 62) × P)
+
+-- counters were freed, which makes this registry, and no value was written
+pub record Frees (freed : Registry) (c d : CountersSide) : Type 0 where
+  pub registry : registry_of d.manager ≡ freed
+  pub writes : writes_of d.manager ≡ writes_of c.manager
+  pub keeps : KeepsShares c d
 
 -- a counter was freed
 abbrev pub WasFreed : ℕ → ℕ → CountersSide → CountersSide → ℤ → Type 0
-WasFreed now id c d code =
-    AtMoment now (((code ≡ pos 0) × (registry_of d.manager ≡ reclaimed_in (registry_of c.manager) now id)
-    × (writes_of d.manager ≡ writes_of c.manager)) ⊎ IdRefused {T = Unit {0}} tt id c d code) c d code
+WasFreed now id c d code = AtMoment now (d ≡ c)
+    (((code ≡ pos 0) × Frees (reclaimed_in (registry_of c.manager) now id) c d)
+    ⊎ IdRefused {T = Unit {0}} tt id c d code) code
 
 -- an owner's counters were freed, and their number is put out
 abbrev pub OwnerClosed : ℕ → ℕ → ℕ → ℕ → CountersSide → CountersSide → ℤ → Type 0
-OwnerClosed now owner before freed c d code = AtMoment now
+OwnerClosed now owner before freed c d code = AtMoment now ((d ≡ c) × (freed ≡ before))
     (((code ≡ pos 0) × (owner ≢ 0) × (freed ≡ length (owned_ids (registry_of c.manager) owner))
-    × (registry_of d.manager ≡ closed_in (registry_of c.manager) now owner))
-    ⊎ ((code ≡ pos 28) × (owner ≡ 0) × (d ≡ c))) c d code
+    × Frees (closed_in (registry_of c.manager) now owner) c d)
+    ⊎ ((code ≡ pos 28) × (owner ≡ 0) × (d ≡ c) × (freed ≡ before))) code
 
 -- a counter was allocated
 pub record Allocates (now : ℕ) (type_id : ℤ) (key label : List ℕ) (registration owner id : ℕ)
@@ -61,6 +74,7 @@ pub record Allocates (now : ℕ) (type_id : ℤ) (key label : List ℕ) (registr
   pub registry : registry_of d.manager ≡ allocated_in (registry_of c.manager) id
       (new_counter type_id key label registration owner)
   pub writes : writes_of d.manager ≡ writes_of c.manager ++ value_write id (pos 0) ∷ []
+  pub keeps : KeepsShares c d
 
 -- or not
 pub record NotAllocates (now : ℕ) (key label : List ℕ) (c d : CountersSide) (code : ℤ) : Type 0 where
@@ -92,12 +106,20 @@ Fills bytes before after code =
 abbrev pub label_at : CountersSide → ℕ → List ℕ
 label_at c id = (counter_at (registry_of c.manager) id).metadata.label
 
+-- what a look at a label puts out: its length, and the buffer
+pub record LabelOut : Type 0 where
+  pub len : ℕ
+  pub buffer : List ℕ
+
+abbrev pub label_out : ℕ → List ℕ → LabelOut
+label_out len buffer = record { len = len; buffer = buffer }
+
 -- the label's length is put out, and the label where there is room for it
-abbrev pub SaysLabel : ℕ → ℕ → ℕ → List ℕ → List ℕ → CountersSide → CountersSide → ℤ → Type 0
-SaysLabel id len len' before after c d code =
-    ((answer (id_refusal_of (registry_of c.manager) id) (length (label_at c id)) ≡ Ok len') × (d ≡ c)
-    × Fills (label_at c id) before after code)
-    ⊎ (IdRefused (length (label_at c id)) id c d code × (len' ≡ len) × (after ≡ before))
+abbrev pub SaysLabel : ℕ → LabelOut → LabelOut → CountersSide → CountersSide → ℤ → Type 0
+SaysLabel id before after c d code =
+    ((answer (id_refusal_of (registry_of c.manager) id) (length (label_at c id)) ≡ Ok after.len) × (d ≡ c)
+    × Fills (label_at c id) before.buffer after.buffer code)
+    ⊎ (IdRefused (length (label_at c id)) id c d code × (after ≡ before))
 
 -- the key of 112 bytes is put out, where there is room for it
 abbrev pub SaysKey : ℕ → List ℕ → List ℕ → CountersSide → CountersSide → ℤ → Type 0

@@ -8,10 +8,12 @@ pub mod Conducting
 pub mod Consuming
 pub mod Copying
 pub mod Counting
+pub mod Finishing
 pub mod Lending
 pub mod Owned
 pub mod Producing
 pub mod Raw
+pub mod Returning
 pub mod Seating
 pub mod Serving
 pub mod Side

@@ -103,9 +103,17 @@ closing p = holding [] (knowing (with_claims (aborted p.claims p.view.producer.c
 
 -- What producers load and draw ---------------------------------------------------
 
-abbrev pub Positioned : ℕ → ℕ → Side → Side → ℤ → Type 0
-Positioned head tail p q code =
-    (code ≡ pos 0) × (q ≡ knowing q.view p) × LoadsPositions p.capacity p.view head tail q.view
+-- what a look at the positions puts out
+pub record Positions : Type 0 where
+  pub head : ℕ
+  pub tail : ℕ
+
+abbrev pub positions : ℕ → ℕ → Positions
+positions head tail = record { head = head; tail = tail }
+
+abbrev pub Positioned : Positions → Side → Side → ℤ → Type 0
+Positioned at p q code =
+    (code ≡ pos 0) × (q ≡ knowing q.view p) × LoadsPositions p.capacity p.view at.head at.tail q.view
 
 abbrev pub Drew : ℕ → Side → Side → ℤ → Type 0
 Drew id p q code = (code ≡ pos 0) × (q ≡ knowing q.view p) × DrawsId p.view id q.view

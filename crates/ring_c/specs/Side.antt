@@ -1,9 +1,12 @@
 -- A producer or a consumer with its ring, of either kind.
-use Rattle.std.specs.Prelude.{◌≡◌, ℕ, List, Bool, true, false}
+use Rattle.std.specs.Prelude.{◌≡◌, ℕ, List, Bool, true, false, Option, None, Some}
 use Rattle.std.specs.Arc.{arc_value}
 use Rattle.atomic_table.specs.Seated.{TableId}
+use Rattle.ring_table.specs.OpenClaims.{open_count}
 use Rattle.ring_table.specs.declared.view.View.{View}
 use Rattle.ring_words.specs.Open.{ClaimAt}
+use Rattle.ring_rings.specs.Closing.{close_refusal_of}
+use Rattle.ring_rings.specs.declared.fault.CloseFault.{CloseFault}
 use Rattle.ring_rings.specs.declared.ring.Ring.{Ring}
 use Rattle.ring_rings.specs.declared.ring.Producer.{Producer}
 use Rattle.ring_rings.specs.declared.ring.Consumer.{Consumer}
@@ -78,13 +81,28 @@ knowing v s = record s { view = v }
 
 -- Consumers ----------------------------------------------------------------------
 
+-- why a producer that knows this does not close its ring
+abbrev pub close_refusal : View → Option CloseFault
+close_refusal v = close_refusal_of (open_count v.producer.claims) v.producer.shares
+
+-- a producer that was taken in is the ring's, with all shares and no open claim
+abbrev pub IsLastIn : AnyRing → Option Producer → Type 0
+IsLastIn ring None = Unit {0}
+IsLastIn ring (Some p) = IsProducerIn ring p × (close_refusal (view_of p) ≡ None)
+
 pub record Reading : Type 0 where
   pub many : Bool
   pub table : TableId
   pub capacity : ℕ
   -- what the consumer knows
   pub view : View
+  -- what the ring's producer knows, where it was taken in and nothing is written any more
+  pub last : Option View
 
 -- the consumer that knows this
 abbrev pub having_read : View → Reading → Reading
 having_read v r = record r { view = v }
+
+-- the producer is of the consumer's ring
+abbrev pub IsOfThisRing : Reading → Side → Type 0
+IsOfThisRing r p = (r.table ≡ p.table) × (r.capacity ≡ p.capacity)

@@ -71,6 +71,14 @@ abbrev pub Uses : {S : Type 0} → (Held → Option S) → (S → S → ℤ → 
 Uses kind P before after code = MatchOption before ((code ≡ pos 100) × (after ≡ None))
     (λ h. MatchOption (kind h) ((code ≡ pos 101) × (after ≡ Some h)) (λ s. Holds kind (λ t. P s t code) after))
 
+-- the same of a call that puts something out: of this kind P tells of what is out before and after, else it stays
+abbrev pub Yields : {S O : Type 0} → (Held → Option S) → (O → O → S → S → ℤ → Type 0) → O → O → Option Held
+    → Option Held → ℤ → Type 0
+Yields kind P old new before after code =
+    MatchOption before ((code ≡ pos 100) × (after ≡ None) × (new ≡ old))
+    (λ h. MatchOption (kind h) ((code ≡ pos 101) × (after ≡ Some h) × (new ≡ old))
+    (λ s. Holds kind (λ t. P old new s t code) after))
+
 -- of a producer the open claims were aborted, and nothing else changed
 abbrev pub ClosesHeld : Held → Held → Type 0
 ClosesHeld h k = MatchOption (a_producer h) (k ≡ h) (λ p. MatchOption (a_producer k) ⊥ (λ q. q ≡ closing p))
@@ -85,7 +93,7 @@ IsMakeCode C start code =
 -- a producer and the consumer of one ring, which know this
 pub record ArePaired (many : Bool) (C : ℕ) (v w : View) (p : Side) (c : Reading) : Type 0 where
   pub producer : p ≡ record { many = many; table = p.table; capacity = C; view = v; claims = [] }
-  pub consumer : c ≡ record { many = many; table = p.table; capacity = C; view = w }
+  pub consumer : c ≡ record { many = many; table = p.table; capacity = C; view = w; last = None }
 
 abbrev pub HoldPair : Bool → ℕ → View → View → Option Held → Option Held → Type 0
 HoldPair many C v w p c = Holds a_producer (λ s. Holds a_consumer (λ r. ArePaired many C v w s r) c) p
@@ -167,6 +175,11 @@ abbrev pub AreOfOneRing : Option Held → Option Held → Type 0
 AreOfOneRing p o =
     IfHolds a_producer (λ s. IfHolds a_producer (λ t. (s.table ≡ t.table) × (s.capacity ≡ t.capacity)) o) p
 
+-- where the first holds one of this kind and the second one of that, P holds of the two
+abbrev pub WhereBoth : {S T : Type 0} → (Held → Option S) → (Held → Option T) → (S → T → Type 0) → Option Held
+    → Option Held → Type 0
+WhereBoth kind other P p o = IfHolds kind (λ s. IfHolds other (P s) o) p
+
 -- the second was taken in by the first, or both stay as they were
 abbrev pub Joined : {S T : Type 0} → (Held → Option S) → (Held → Option T) → (S → T → S → Type 0)
     → (S → T → ℤ → Type 0) → S → T → Option Held → Option Held → ℤ → Type 0
@@ -181,3 +194,15 @@ JoinsInto kind other Takes Keeps p o p' o' code = MatchOption p ((code ≡ pos 1
     (λ k. MatchOption (kind h) ((code ≡ pos 101) × (p' ≡ Some h) × (o' ≡ Some k))
     (λ s. MatchOption (other k) ((code ≡ pos 101) × (p' ≡ Some h) × (o' ≡ Some k))
     (λ t. Joined kind other Takes Keeps s t p' o' code))))
+
+-- Ending -------------------------------------------------------------------------
+
+-- an empty handle answers 100 and stays empty, and another kind's 101 and stays as it is; one of this kind is emptied
+-- where what it held ended, or it stays as it is. Numbers are put out at an end alone
+abbrev pub EndsAs : {S O : Type 0} → (Held → Option S) → (S → O → Type 0) → (S → ℤ → Type 0) → O → O → Option Held
+    → Option Held → ℤ → Type 0
+EndsAs kind Done Keeps before after h h' code =
+    MatchOption h ((code ≡ pos 100) × (h' ≡ None) × (after ≡ before))
+    (λ k. MatchOption (kind k) ((code ≡ pos 101) × (h' ≡ Some k) × (after ≡ before))
+    (λ s. ((code ≡ pos 0) × (h' ≡ None) × Done s after)
+    ⊎ (Keeps s code × Holds kind (λ t. t ≡ s) h' × (after ≡ before))))

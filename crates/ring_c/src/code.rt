@@ -10,6 +10,8 @@ pub(crate) const OUT_OF_MEMORY: i32 = 3;
 pub(crate) const TOO_LONG: i32 = 5;
 /// Bytes do not lie inside a claim.
 pub(crate) const PUT_RANGE: i32 = 9;
+/// Claims of the producer are open.
+pub(crate) const CLAIMS_OPEN: i32 = 10;
 /// Shares of the ring are with other producers.
 pub(crate) const PRODUCERS_OUT: i32 = 11;
 /// One share is left, and is needed.

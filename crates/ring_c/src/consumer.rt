@@ -6,7 +6,7 @@ ghost use Rattle.ring_c.specs.Consuming.{out, Beat, RanOut, ReadOne, ReadsOn, Re
 use crate::code::{DONE, NO_MESSAGE};
 use crate::copying::Copying;
 use crate::ring::AnyRing;
-use ring_rings::{Consumer, Ring, Stop};
+use ring_rings::{Consumer, Producer, Ring, Stop};
 use std::marker::Model;
 
 /// A consumer, with the ring that it reads.
@@ -14,11 +14,14 @@ use std::marker::Model;
 pub struct ConsumerSide {
     pub(crate) ring: AnyRing,
     pub(crate) consumer: Consumer,
+    /// The ring's producer, once nothing is written any more.
+    pub(crate) last: Option<Producer>,
 }
 
 impl Model for ConsumerSide {
-    ghost use Rattle.ring_rings.specs.Seats.{consumer_view};
-    ghost use Rattle.ring_c.specs.Side.{capacity_in, is_many, table_in, IsConsumerIn, Reading};
+    ghost use Rattle.std.specs.Option.{option_map};
+    ghost use Rattle.ring_rings.specs.Seats.{consumer_view, view_of};
+    ghost use Rattle.ring_c.specs.Side.{capacity_in, is_many, table_in, IsConsumerIn, IsLastIn, Reading};
 
     ghost Value = { Reading };
 
@@ -26,11 +29,12 @@ impl Model for ConsumerSide {
       many = is_many a.ring;
       table = table_in a.ring;
       capacity = capacity_in a.ring;
-      view =
-          consumer_view a.consumer;
+      view = consumer_view a.consumer;
+      last =
+          option_map view_of a.last;
     } };
 
-    ghost invariant = { λ a. IsConsumerIn a.ring a.consumer };
+    ghost invariant = { λ a. IsConsumerIn a.ring a.consumer × IsLastIn a.ring a.last };
 }
 
 /// Reads up to one message, as far as the end of the ring's buffer, and says why it stopped.

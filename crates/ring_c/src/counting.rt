@@ -1,7 +1,7 @@
 //! What a handle's counters do.
 ghost use Rattle.std.specs.Prelude.{◌≡◌};
 ghost use Rattle.ring_counters.specs.Registry.{counter_at};
-ghost use Rattle.ring_c.specs.Counting.{Asked, OwnerClosed, SaysKey, SaysLabel, WasAdded, WasAllocated, WasCounted, WasFound, WasFreed, WasSet};
+ghost use Rattle.ring_c.specs.Counting.{label_out, Asked, OwnerClosed, SaysKey, SaysLabel, WasAdded, WasAllocated, WasCounted, WasFound, WasFreed, WasSet};
 
 use crate::code::{BAD_MOMENT, BAD_OWNER, DONE, NOT_ALLOCATED, SHORT_BUFFER};
 use crate::copying::copy_at;
@@ -161,7 +161,8 @@ impl CountersSide {
 
     /// Says a counter's label.
     pub(crate) fn label(&mut self, id: u32, len: &mut usize, buffer: &mut [u8]) -> i32
-        ensures { SaysLabel id len.old len.new buffer.old buffer.new self.old self.new result }
+        ensures { SaysLabel id (label_out len.old buffer.old) (label_out len.new buffer.new) self.old self.new
+            result }
     {
         let mut label = [0; MAX_LABEL_LENGTH];
         match self.manager.label_into(id, &mut label) {

@@ -6,6 +6,7 @@ pub(crate) mod conducting;
 pub(crate) mod consuming;
 pub(crate) mod counting;
 pub(crate) mod counting_new;
+pub(crate) mod ending;
 pub(crate) mod joining;
 pub(crate) mod lending;
 pub(crate) mod opening;

@@ -2,9 +2,11 @@
 #![tactic(auto)]
 
 mod batch;
+mod board_ending;
 mod boards;
 mod claims;
 mod client;
+mod closing;
 mod code;
 mod conductor;
 mod consumer;
@@ -44,6 +46,10 @@ pub use exports::counting::{
     felter_counter_value, felter_counters_close_owner, felter_counters_count,
 };
 pub use exports::counting_new::felter_counters_new;
+pub use exports::ending::{
+    felter_board_close, felter_board_join, felter_board_join_raw, felter_close,
+    felter_counters_join, felter_finish,
+};
 pub use exports::joining::felter_join;
 pub use exports::lending::{
     felter_conductor_join, felter_conductor_join_reader, felter_conductor_join_receiver,

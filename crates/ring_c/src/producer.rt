@@ -1,7 +1,7 @@
 //! A producer in a handle.
 ghost use Rattle.std.specs.Prelude.{◌≡◌, IfErr, IfOk, OnOk};
 ghost use Rattle.ring_layout.specs.declared.message.ClaimState.TheVariants.{Aborted, Committed};
-ghost use Rattle.ring_c.specs.Producing.{closing, Claimed, Counted, Drew, HeardBeat, IsApart, IsWhole, Positioned, Put, Settled, Splits, TakesIn, Wrote};
+ghost use Rattle.ring_c.specs.Producing.{closing, positions, Claimed, Counted, Drew, HeardBeat, IsApart, IsWhole, Positioned, Put, Settled, Splits, TakesIn, Wrote};
 
 use crate::claims::{abort_all, abort_in, claim_alone, claim_many, commit_in, put_in};
 use crate::code::{DONE, NO_SHARES, OTHER_RING, OUT_OF_MEMORY, WRONG_HANDLE};
@@ -135,7 +135,7 @@ impl ProducerSide {
 
     /// Loads the head, and then the tail.
     pub(crate) fn positions(&mut self, head: &mut u64, tail: &mut u64) -> i32
-        ensures { Positioned head.new tail.new self.old self.new result }
+        ensures { Positioned (positions head.new tail.new) self.old self.new result }
     {
         let found = match &self.ring {
             AnyRing::Many(ring) => ring.positions(&mut self.producer),

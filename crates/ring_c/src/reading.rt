@@ -1,8 +1,9 @@
 //! What readers of counters' values do.
-ghost use Rattle.std.specs.Prelude.{◌≡◌, IfErr, IfOk};
+ghost use Rattle.std.specs.Prelude.{◌≡◌, IfErr, IfOk, OnOk};
 ghost use Rattle.ring_c.specs.Lending.{IsLast, Lends, Loaded};
+ghost use Rattle.ring_c.specs.Returning.{IsLent, IsOfThese, TakesLoads};
 
-use crate::code::{BAD_ID, DONE, NO_SHARES, OUT_OF_MEMORY};
+use crate::code::{BAD_ID, DONE, NO_SHARES, OTHER_RING, OUT_OF_MEMORY};
 use crate::counters::{CountersSide, ReaderSide};
 use crate::lending::AnyValues;
 use std::sync::Arc;
@@ -23,6 +24,20 @@ impl CountersSide {
             }),
             Err(_) => Err(NO_SHARES),
         }
+    }
+
+    /// Takes a reader of the values back, with its share. Else it comes back.
+    pub(crate) fn join(&mut self, reader: ReaderSide) -> Result<(), (i32, ReaderSide)>
+        requires { IsOfThese self.old reader }
+        ensures joined { OnOk result (TakesLoads self.old reader self.new) }
+        ensures refused { IfErr result (λ r. (self.new ≡ self.old) × (r.1 ≡ reader) × IsLent self.old reader r.0) }
+    {
+        if let AnyValues::Lent(_) = &reader.values {
+            return Err((OTHER_RING, reader));
+        }
+        let ReaderSide { values: _, reader } = reader;
+        self.manager.join_reader(&self.values, reader);
+        Ok(())
     }
 }
 

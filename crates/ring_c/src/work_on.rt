@@ -91,6 +91,32 @@ macro_rules! join_into {
     };
 }
 
+/// Ends what a handle stands for, where it is of this kind, puts out what is told of the end, empties the handle, and
+/// gives the code. What does not end comes back into its room.
+macro_rules! end_with {
+    ($handle:ident, $alloc:ident, $kind:ident($side:ident) => $end:expr, $told:ident => $out:expr) => {
+        match $handle.take($alloc) {
+            Some(mut room) => match std::mem::replace(&mut *room, $crate::held::Held::Vacant) {
+                $crate::held::Held::$kind($side) => match $end {
+                    Ok($told) => {
+                        $out;
+                        $crate::code::DONE
+                    }
+                    Err((code, back)) => {
+                        $handle.refill(room, $crate::held::Held::$kind(back));
+                        code
+                    }
+                },
+                back => {
+                    $handle.refill(room, back);
+                    $crate::code::WRONG_HANDLE
+                }
+            },
+            None => $crate::code::NO_HANDLE,
+        }
+    };
+}
+
 /// Fills an empty handle with what is made, and gives the code: 102 for one in use, for which nothing is made.
 macro_rules! fill {
     ($handle:ident, $alloc:ident, $make:expr) => {
@@ -126,6 +152,7 @@ macro_rules! fill_both {
     };
 }
 
+pub(crate) use end_with;
 pub(crate) use fill;
 pub(crate) use fill_both;
 pub(crate) use join_into;

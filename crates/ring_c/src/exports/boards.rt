@@ -2,7 +2,7 @@
 ghost use Rattle.std.specs.Prelude.{◌≡◌, ◌≢◌, pos, IfOk, MatchResult};
 ghost use Rattle.std.specs.declared.option.Option.TheVariants.{None, Some};
 ghost use Rattle.ring_c.specs.Boards.{heard, IsUnheard, Received, SaysLapped, Subscribes, Transmitted};
-ghost use Rattle.ring_c.specs.Told.{a_receiver, a_transmitter, Gives, GivesInto, HoldNewBoard, IsBoardCode, OpensBoard, Uses};
+ghost use Rattle.ring_c.specs.Told.{a_receiver, a_transmitter, Gives, GivesInto, HoldNewBoard, IsBoardCode, OpensBoard, Uses, Yields};
 
 use crate::boards::TransmitterSide;
 use crate::code::{HANDLE_IN_USE, OUT_OF_MEMORY};
@@ -104,8 +104,8 @@ pub extern "C" fn felter_receive(
     lapped: &mut u64,
     buffer: &mut [u8],
 ) -> i32
-    ensures { Uses a_receiver (Received (heard type_id.old len.old lapped.old buffer.old)
-        (heard type_id.new len.new lapped.new buffer.new)) receiver.old.held receiver.new.held result }
+    ensures { Yields a_receiver Received (heard type_id.old len.old lapped.old buffer.old)
+        (heard type_id.new len.new lapped.new buffer.new) receiver.old.held receiver.new.held result }
 {
     work_on!(receiver, alloc, Receiver(side) => side.receive(type_id, len, lapped, buffer))
 }
@@ -113,7 +113,8 @@ pub extern "C" fn felter_receive(
 /// Says how often the receiver was lapped.
 #[unsafe(no_mangle)]
 pub extern "C" fn felter_lapped_count(alloc: Global, receiver: &mut Handle, count: &mut u64) -> i32
-    ensures { Uses a_receiver (SaysLapped count.new) receiver.old.held receiver.new.held result }
+    ensures { Yields a_receiver (λ _ told. SaysLapped told) count.old count.new receiver.old.held receiver.new.held
+        result }
 {
     work_on!(receiver, alloc, Receiver(side) => side.lapped_count(count))
 }

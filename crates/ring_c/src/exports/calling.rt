@@ -1,7 +1,7 @@
 //! What handles of clients do.
 ghost use Rattle.ring_conductor.specs.declared.client.request.Request.TheVariants.{Allocate, AllocateOwned, Close, Free, Set};
 ghost use Rattle.ring_c.specs.Calling.{poll_out, ClientBeat, Polled, WasSent};
-ghost use Rattle.ring_c.specs.Told.{a_client, Uses};
+ghost use Rattle.ring_c.specs.Told.{a_client, Uses, Yields};
 
 use crate::code::{DONE, NO_HANDLE, WRONG_HANDLE};
 use crate::handle::Handle;
@@ -21,7 +21,7 @@ pub extern "C" fn felter_send_allocate(
     label: &[u8],
     id: &mut u64,
 ) -> i32
-    ensures { Uses a_client (WasSent (Allocate type_id key.entry label.entry) id.old id.new)
+    ensures { Yields a_client (WasSent (Allocate type_id key.entry label.entry)) id.old id.new
         client.old.held client.new.held result }
 {
     let request = Request::Allocate {
@@ -43,7 +43,7 @@ pub extern "C" fn felter_send_allocate_owned(
     label: &[u8],
     id: &mut u64,
 ) -> i32
-    ensures { Uses a_client (WasSent (AllocateOwned type_id owner key.entry label.entry) id.old id.new)
+    ensures { Yields a_client (WasSent (AllocateOwned type_id owner key.entry label.entry)) id.old id.new
         client.old.held client.new.held result }
 {
     let owned = Request::AllocateOwned {
@@ -63,7 +63,7 @@ pub extern "C" fn felter_send_free(
     counter: u32,
     id: &mut u64,
 ) -> i32
-    ensures { Uses a_client (WasSent (Free counter) id.old id.new) client.old.held client.new.held result }
+    ensures { Yields a_client (WasSent (Free counter)) id.old id.new client.old.held client.new.held result }
 {
     work_on!(client, alloc, Client(side) => side.send(Request::Free { id: counter }, id))
 }
@@ -77,7 +77,7 @@ pub extern "C" fn felter_send_set(
     value: i64,
     id: &mut u64,
 ) -> i32
-    ensures { Uses a_client (WasSent (Set counter value) id.old id.new) client.old.held client.new.held result }
+    ensures { Yields a_client (WasSent (Set counter value)) id.old id.new client.old.held client.new.held result }
 {
     work_on!(client, alloc, Client(side) => side.send(Request::Set { id: counter, value }, id))
 }
@@ -90,7 +90,7 @@ pub extern "C" fn felter_send_close_owner(
     owner: u64,
     id: &mut u64,
 ) -> i32
-    ensures { Uses a_client (WasSent (Close owner) id.old id.new) client.old.held client.new.held result }
+    ensures { Yields a_client (WasSent (Close owner)) id.old id.new client.old.held client.new.held result }
 {
     work_on!(client, alloc, Client(side) => side.send(Request::Close { owner }, id))
 }
@@ -105,8 +105,8 @@ pub extern "C" fn felter_poll(
     number: &mut i64,
     lapped: &mut u64,
 ) -> i32
-    ensures { Uses a_client (Polled correlation (poll_out kind.old number.old lapped.old)
-        (poll_out kind.new number.new lapped.new)) client.old.held client.new.held result }
+    ensures { Yields a_client (Polled correlation) (poll_out kind.old number.old lapped.old)
+        (poll_out kind.new number.new lapped.new) client.old.held client.new.held result }
 {
     work_on!(client, alloc, Client(side) => side.poll(correlation, kind, number, lapped))
 }

@@ -1,7 +1,7 @@
 //! What a consumer's handle does.
 ghost use Rattle.ring_c.specs.Batch.{batch, ReadBatch};
 ghost use Rattle.ring_c.specs.Consuming.{out, Beat, ReadOne};
-ghost use Rattle.ring_c.specs.Told.{a_consumer, Uses};
+ghost use Rattle.ring_c.specs.Told.{a_consumer, Uses, Yields};
 
 use crate::handle::Handle;
 use crate::work_on::work_on;
@@ -16,7 +16,7 @@ pub extern "C" fn felter_read(
     len: &mut usize,
     buffer: &mut [u8],
 ) -> i32
-    ensures { Uses a_consumer (ReadOne (out type_id.old len.old buffer.old) (out type_id.new len.new buffer.new))
+    ensures { Yields a_consumer ReadOne (out type_id.old len.old buffer.old) (out type_id.new len.new buffer.new)
         consumer.old.held consumer.new.held result }
 {
     work_on!(consumer, alloc, Consumer(side) => side.read(type_id, len, buffer))
@@ -32,9 +32,8 @@ pub extern "C" fn felter_read_batch(
     used: &mut usize,
     buffer: &mut [u8],
 ) -> i32
-    ensures { Uses a_consumer
-        (ReadBatch limit (batch count.old used.old buffer.old) (batch count.new used.new buffer.new))
-        consumer.old.held consumer.new.held result }
+    ensures { Yields a_consumer (ReadBatch limit) (batch count.old used.old buffer.old)
+        (batch count.new used.new buffer.new) consumer.old.held consumer.new.held result }
 {
     work_on!(consumer, alloc, Consumer(side) => side.read_batch(limit, count, used, buffer))
 }

@@ -1,7 +1,7 @@
 //! What a handle of counters does.
 ghost use Rattle.ring_counters.specs.Registry.{counter_at};
-ghost use Rattle.ring_c.specs.Counting.{Asked, OwnerClosed, SaysKey, SaysLabel, WasAdded, WasAllocated, WasCounted, WasFound, WasFreed, WasSet};
-ghost use Rattle.ring_c.specs.Told.{some_counters, Uses};
+ghost use Rattle.ring_c.specs.Counting.{label_out, Asked, OwnerClosed, SaysKey, SaysLabel, WasAdded, WasAllocated, WasCounted, WasFound, WasFreed, WasSet};
+ghost use Rattle.ring_c.specs.Told.{some_counters, Uses, Yields};
 
 use crate::counting::Wanted;
 use crate::handle::Handle;
@@ -20,7 +20,7 @@ pub extern "C" fn felter_counter_allocate(
     registration: u64,
     id: &mut u32,
 ) -> i32
-    ensures { Uses some_counters (WasAllocated now type_id key.now label.now registration 0 id.old id.new)
+    ensures { Yields some_counters (WasAllocated now type_id key.now label.now registration 0) id.old id.new
         counters.old.held counters.new.held result }
 {
     let wanted = Wanted {
@@ -47,7 +47,7 @@ pub extern "C" fn felter_counter_allocate_owned(
     owner: u64,
     id: &mut u32,
 ) -> i32
-    ensures { Uses some_counters (WasAllocated now type_id key.now label.now registration owner id.old id.new)
+    ensures { Yields some_counters (WasAllocated now type_id key.now label.now registration owner) id.old id.new
         counters.old.held counters.new.held result }
 {
     let wanted = Wanted {
@@ -83,7 +83,8 @@ pub extern "C" fn felter_counter_add(
     delta: i64,
     before: &mut i64,
 ) -> i32
-    ensures { Uses some_counters (WasAdded id delta before.old before.new) counters.old.held counters.new.held result }
+    ensures { Yields some_counters (WasAdded id delta) before.old before.new counters.old.held counters.new.held
+        result }
 {
     work_on!(counters, alloc, Counters(side) => side.add(id, delta, before))
 }
@@ -110,7 +111,7 @@ pub extern "C" fn felter_counters_close_owner(
     owner: u64,
     freed: &mut u32,
 ) -> i32
-    ensures { Uses some_counters (OwnerClosed now owner freed.old freed.new) counters.old.held counters.new.held
+    ensures { Yields some_counters (OwnerClosed now owner) freed.old freed.new counters.old.held counters.new.held
         result }
 {
     work_on!(counters, alloc, Counters(side) => side.close_owner(now, owner, freed))
@@ -125,7 +126,7 @@ pub extern "C" fn felter_counter_find(
     registration: u64,
     id: &mut u32,
 ) -> i32
-    ensures { Uses some_counters (WasFound type_id registration id.old id.new) counters.old.held counters.new.held
+    ensures { Yields some_counters (WasFound type_id registration) id.old id.new counters.old.held counters.new.held
         result }
 {
     work_on!(counters, alloc, Counters(side) => side.find(type_id, registration, id))
@@ -138,7 +139,8 @@ pub extern "C" fn felter_counters_count(
     counters: &mut Handle,
     count: &mut u32,
 ) -> i32
-    ensures { Uses some_counters (WasCounted count.new) counters.old.held counters.new.held result }
+    ensures { Yields some_counters (λ _ told. WasCounted told) count.old count.new counters.old.held
+        counters.new.held result }
 {
     work_on!(counters, alloc, Counters(side) => side.count(count))
 }
@@ -151,8 +153,8 @@ pub extern "C" fn felter_counter_value(
     id: u32,
     value: &mut i64,
 ) -> i32
-    ensures { Uses some_counters (Asked (λ r. (counter_at r id).values.value) id value.old value.new) counters.old.held
-        counters.new.held result }
+    ensures { Yields some_counters (Asked (λ r. (counter_at r id).values.value) id) value.old value.new
+        counters.old.held counters.new.held result }
 {
     work_on!(counters, alloc, Counters(side) => side.value(id, value))
 }
@@ -165,7 +167,7 @@ pub extern "C" fn felter_counter_type_id(
     id: u32,
     type_id: &mut i32,
 ) -> i32
-    ensures { Uses some_counters (Asked (λ r. (counter_at r id).metadata.type_id) id type_id.old type_id.new)
+    ensures { Yields some_counters (Asked (λ r. (counter_at r id).metadata.type_id) id) type_id.old type_id.new
         counters.old.held counters.new.held result }
 {
     work_on!(counters, alloc, Counters(side) => side.type_id(id, type_id))
@@ -179,9 +181,8 @@ pub extern "C" fn felter_counter_registration(
     id: u32,
     registration: &mut u64,
 ) -> i32
-    ensures { Uses some_counters
-        (Asked (λ r. (counter_at r id).values.registration) id registration.old registration.new) counters.old.held
-        counters.new.held result }
+    ensures { Yields some_counters (Asked (λ r. (counter_at r id).values.registration) id)
+        registration.old registration.new counters.old.held counters.new.held result }
 {
     work_on!(counters, alloc, Counters(side) => side.registration(id, registration))
 }
@@ -194,8 +195,8 @@ pub extern "C" fn felter_counter_owner(
     id: u32,
     owner: &mut u64,
 ) -> i32
-    ensures { Uses some_counters (Asked (λ r. (counter_at r id).values.owner) id owner.old owner.new) counters.old.held
-        counters.new.held result }
+    ensures { Yields some_counters (Asked (λ r. (counter_at r id).values.owner) id) owner.old owner.new
+        counters.old.held counters.new.held result }
 {
     work_on!(counters, alloc, Counters(side) => side.owner(id, owner))
 }
@@ -209,8 +210,8 @@ pub extern "C" fn felter_counter_label(
     len: &mut usize,
     buffer: &mut [u8],
 ) -> i32
-    ensures { Uses some_counters (SaysLabel id len.old len.new buffer.old buffer.new) counters.old.held
-        counters.new.held result }
+    ensures { Yields some_counters (SaysLabel id) (label_out len.old buffer.old) (label_out len.new buffer.new)
+        counters.old.held counters.new.held result }
 {
     work_on!(counters, alloc, Counters(side) => side.label(id, len, buffer))
 }
@@ -223,7 +224,7 @@ pub extern "C" fn felter_counter_key(
     id: u32,
     buffer: &mut [u8],
 ) -> i32
-    ensures { Uses some_counters (SaysKey id buffer.old buffer.new) counters.old.held counters.new.held result }
+    ensures { Yields some_counters (SaysKey id) buffer.old buffer.new counters.old.held counters.new.held result }
 {
     work_on!(counters, alloc, Counters(side) => side.key(id, buffer))
 }

@@ -43,6 +43,7 @@ fn box_both(
     let two = Held::Consumer(ConsumerSide {
         ring: same,
         consumer,
+        last: None,
     });
     let Ok(one) = Box::new(alloc, one) else {
         return Err(OUT_OF_MEMORY);

@@ -1,7 +1,7 @@
 //! What a producer's handle does.
 ghost use Rattle.ring_layout.specs.declared.message.ClaimState.TheVariants.{Aborted, Committed};
-ghost use Rattle.ring_c.specs.Producing.{Claimed, Counted, Drew, HeardBeat, Positioned, Put, Settled, Wrote};
-ghost use Rattle.ring_c.specs.Told.{a_producer, Uses};
+ghost use Rattle.ring_c.specs.Producing.{positions, Claimed, Counted, Drew, HeardBeat, Positioned, Put, Settled, Wrote};
+ghost use Rattle.ring_c.specs.Told.{a_producer, Uses, Yields};
 
 use crate::handle::Handle;
 use crate::work_on::work_on;
@@ -29,7 +29,7 @@ pub extern "C" fn felter_claim(
     len: usize,
     claim: &mut u64,
 ) -> i32
-    ensures { Uses a_producer (Claimed type_id len claim.old claim.new) producer.old.held producer.new.held result }
+    ensures { Yields a_producer (Claimed type_id len) claim.old claim.new producer.old.held producer.new.held result }
 {
     work_on!(producer, alloc, Producer(side) => side.claim(type_id, len, claim))
 }
@@ -72,7 +72,8 @@ pub extern "C" fn felter_positions(
     head: &mut u64,
     tail: &mut u64,
 ) -> i32
-    ensures { Uses a_producer (Positioned head.new tail.new) producer.old.held producer.new.held result }
+    ensures { Yields a_producer (λ _ told. Positioned told) (positions head.old tail.old)
+        (positions head.new tail.new) producer.old.held producer.new.held result }
 {
     work_on!(producer, alloc, Producer(side) => side.positions(head, tail))
 }
@@ -80,7 +81,7 @@ pub extern "C" fn felter_positions(
 /// Draws the ring's next correlation id.
 #[unsafe(no_mangle)]
 pub extern "C" fn felter_next_id(alloc: Global, producer: &mut Handle, id: &mut u64) -> i32
-    ensures { Uses a_producer (Drew id.new) producer.old.held producer.new.held result }
+    ensures { Yields a_producer (λ _ told. Drew told) id.old id.new producer.old.held producer.new.held result }
 {
     work_on!(producer, alloc, Producer(side) => side.next_id(id))
 }
@@ -88,7 +89,8 @@ pub extern "C" fn felter_next_id(alloc: Global, producer: &mut Handle, id: &mut 
 /// Loads the heartbeat that the consumer stored last, 0 before the first.
 #[unsafe(no_mangle)]
 pub extern "C" fn felter_heartbeat(alloc: Global, producer: &mut Handle, value: &mut u64) -> i32
-    ensures { Uses a_producer (HeardBeat value.new) producer.old.held producer.new.held result }
+    ensures { Yields a_producer (λ _ told. HeardBeat told) value.old value.new producer.old.held producer.new.held
+        result }
 {
     work_on!(producer, alloc, Producer(side) => side.heartbeat(value))
 }
@@ -96,7 +98,8 @@ pub extern "C" fn felter_heartbeat(alloc: Global, producer: &mut Handle, value: 
 /// Says how many of the ring's 65,536 shares the producer holds.
 #[unsafe(no_mangle)]
 pub extern "C" fn felter_shares(alloc: Global, producer: &mut Handle, shares: &mut u32) -> i32
-    ensures { Uses a_producer (Counted shares.new) producer.old.held producer.new.held result }
+    ensures { Yields a_producer (λ _ told. Counted told) shares.old shares.new producer.old.held producer.new.held
+        result }
 {
     work_on!(producer, alloc, Producer(side) => side.shares(shares))
 }

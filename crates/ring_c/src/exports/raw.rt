@@ -2,7 +2,7 @@
 ghost use Rattle.std.specs.Prelude.{◌≡◌};
 ghost use Rattle.std.specs.declared.option.Option.TheVariants.{None};
 ghost use Rattle.ring_c.specs.Raw.{seen, BodyLoaded, IsUnwatched, NextSeen, SaysLaps, SubscribesRaw, Tested};
-ghost use Rattle.ring_c.specs.Told.{a_raw_receiver, a_transmitter, Gives, GivesInto, Uses};
+ghost use Rattle.ring_c.specs.Told.{a_raw_receiver, a_transmitter, Gives, GivesInto, Uses, Yields};
 
 use crate::code::HANDLE_IN_USE;
 use crate::handle::Handle;
@@ -43,8 +43,8 @@ pub extern "C" fn felter_receive_next(
     len: &mut usize,
     lapped: &mut u64,
 ) -> i32
-    ensures { Uses a_raw_receiver (NextSeen (seen type_id.old len.old lapped.old)
-        (seen type_id.new len.new lapped.new)) receiver.old.held receiver.new.held result }
+    ensures { Yields a_raw_receiver NextSeen (seen type_id.old len.old lapped.old)
+        (seen type_id.new len.new lapped.new) receiver.old.held receiver.new.held result }
 {
     work_on!(receiver, alloc, RawReceiver(side) => side.receive_next(type_id, len, lapped))
 }
@@ -52,7 +52,7 @@ pub extern "C" fn felter_receive_next(
 /// Copies the body of the record that was answered last to the front of a buffer, without validation.
 #[unsafe(no_mangle)]
 pub extern "C" fn felter_load_body(alloc: Global, receiver: &mut Handle, buffer: &mut [u8]) -> i32
-    ensures { Uses a_raw_receiver (BodyLoaded buffer.old buffer.new) receiver.old.held receiver.new.held result }
+    ensures { Yields a_raw_receiver BodyLoaded buffer.old buffer.new receiver.old.held receiver.new.held result }
 {
     work_on!(receiver, alloc, RawReceiver(side) => side.load_body(buffer))
 }
@@ -72,7 +72,8 @@ pub extern "C" fn felter_raw_lapped_count(
     receiver: &mut Handle,
     count: &mut u64,
 ) -> i32
-    ensures { Uses a_raw_receiver (SaysLaps count.new) receiver.old.held receiver.new.held result }
+    ensures { Yields a_raw_receiver (λ _ told. SaysLaps told) count.old count.new receiver.old.held receiver.new.held
+        result }
 {
     work_on!(receiver, alloc, RawReceiver(side) => side.lapped_count(count))
 }

@@ -2,7 +2,7 @@
 ghost use Rattle.std.specs.Prelude.{◌≡◌};
 ghost use Rattle.std.specs.declared.option.Option.TheVariants.{None};
 ghost use Rattle.ring_c.specs.Lending.{IsLast, Lends, Loaded};
-ghost use Rattle.ring_c.specs.Told.{a_reader, some_counters, Gives, GivesInto, Uses};
+ghost use Rattle.ring_c.specs.Told.{a_reader, some_counters, Gives, GivesInto, Yields};
 
 use crate::code::HANDLE_IN_USE;
 use crate::handle::Handle;
@@ -41,7 +41,7 @@ pub extern "C" fn felter_reader_value(
     id: u32,
     value: &mut i64,
 ) -> i32
-    ensures { Uses a_reader (Loaded id value.old value.new) reader.old.held reader.new.held result }
+    ensures { Yields a_reader (Loaded id) value.old value.new reader.old.held reader.new.held result }
 {
     work_on!(reader, alloc, Reader(side) => side.load(id, value))
 }

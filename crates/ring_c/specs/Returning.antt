@@ -1,0 +1,80 @@
+-- What boards and counters take back, and how a board ends: p is the transmitter before, q after, c are the counters
+-- before, d after, r is a receiver or a reader, and the code is what is answered.
+use Rattle.std.specs.Prelude.{◌≡◌, ◌≢◌, ℕ, ◌+◌, ℤ, pos, MatchOption, None, IsSome}
+use Rattle.std.specs.Arc.{arc_value}
+use Rattle.atomic_table.specs.Seated.{TableId}
+use Rattle.ring_board.specs.Closing.{close_refusal_of}
+use Rattle.ring_board.specs.Runs.{AreAllRuns, AreRuns}
+use Rattle.ring_board.specs.Steps.{Sat, joined}
+use Rattle.ring_counters.specs.Manager.{registry_of, shares_of, writes_of}
+use Rattle.ring_counters.specs.Seats.{loads_of, made_of}
+use Rattle.ring_counters.specs.ValueWrites.{AreLoads}
+use Rattle.ring_c.specs.declared.counters.CountersSide.{CountersSide}
+use Rattle.ring_c.specs.declared.counters.ReaderSide.{ReaderSide}
+use Rattle.ring_c.specs.Boards.{knowing, tail_in, Listening, Sending}
+use Rattle.ring_c.specs.Raw.{Watching}
+use Rattle.ring_c.specs.Serving.{lends_values, values_in}
+
+-- Receivers ----------------------------------------------------------------------
+
+-- a receiver with this seat was taken back, with its share, and its copies are runs of the transmitted list
+pub record TakesBack (p : Sending) (m : Sat) (q : Sending) : Type 0 where
+  pub joined_is : q ≡ knowing (joined p.view m.0) p
+  pub shares : q.view.shares ≡ p.view.shares + 1
+  pub runs : AreRuns p.view.sent m.0.from m.0.copies
+
+-- a receiver with this seat at such a board is of the transmitter's board
+abbrev pub IsAtBoard : Sending → TableId → ℕ → Sat → Type 0
+IsAtBoard p table capacity m = (p.table ≡ table) × (p.capacity ≡ capacity) × (p.view.start ≡ m.0.start)
+
+-- the receiver is of the transmitter's board, or a conductor's
+abbrev pub IsOfThisBoard : Sending → Listening → Type 0
+IsOfThisBoard p r = MatchOption r.lender (IsAtBoard p r.table r.capacity r.seat) (λ _. Unit {0})
+
+abbrev pub TakesListener : Sending → Listening → Sending → Type 0
+TakesListener p r q = (r.lender ≡ None) × TakesBack p r.seat q
+
+-- it is a conductor's, or the capacities differ
+abbrev pub IsAstray : Sending → Listening → ℤ → Type 0
+IsAstray p r code = (code ≡ pos 108) × MatchOption r.lender (p.capacity ≢ r.capacity) (λ _. Unit {0})
+
+abbrev pub IsRawOfThisBoard : Sending → Watching → Type 0
+IsRawOfThisBoard p r = IsAtBoard p r.table r.capacity r.seat
+
+abbrev pub TakesWatcher : Sending → Watching → Sending → Type 0
+TakesWatcher p r q = TakesBack p r.seat q
+
+abbrev pub IsRawAstray : Sending → Watching → ℤ → Type 0
+IsRawAstray p r code = (code ≡ pos 108) × (p.capacity ≢ r.capacity)
+
+-- The end of a board -------------------------------------------------------------
+
+-- all shares were back, the last transmission ended here, and what each receiver that was taken back copied are runs of
+-- the transmitted list
+pub record EndsAt (p : Sending) (tail : ℕ) : Type 0 where
+  pub ready : close_refusal_of p.view.shares ≡ None
+  pub tail_is : tail ≡ tail_in p
+  pub runs : AreAllRuns p.view.sent p.view.heard
+
+-- shares are with receivers; where none is, another handle holds the board
+abbrev pub IsBoardKept : Sending → ℤ → Type 0
+IsBoardKept p code = MatchOption (close_refusal_of p.view.shares) (code ≡ pos 110) (λ _. code ≡ pos 14)
+
+-- Readers ------------------------------------------------------------------------
+
+-- the reader is of these counters, or a conductor's
+abbrev pub IsOfThese : CountersSide → ReaderSide → Type 0
+IsOfThese c r = MatchOption (lends_values r.values) (values_in r.values ≡ arc_value c.values) (λ _. Unit {0})
+
+-- a reader was taken back, with its share: what it loaded are values after first parts of the writes
+pub record TakesLoads (c : CountersSide) (r : ReaderSide) (d : CountersSide) : Type 0 where
+  pub own : lends_values r.values ≡ None
+  pub shares : shares_of d.manager ≡ shares_of c.manager + 1
+  pub loads : AreLoads (made_of r.reader) (loads_of r.reader) (writes_of d.manager)
+  pub registry : registry_of d.manager ≡ registry_of c.manager
+  pub writes : writes_of d.manager ≡ writes_of c.manager
+  pub values : arc_value d.values ≡ arc_value c.values
+
+-- it is a conductor's
+abbrev pub IsLent : CountersSide → ReaderSide → ℤ → Type 0
+IsLent c r code = (code ≡ pos 108) × IsSome (lends_values r.values)
