@@ -95,6 +95,15 @@ impl Transmitter {
     /// Takes back a raw receiver of this board, with its share.
     ///
     /// Errors: [`Error::OtherRing`], where it is another board's; both are then as they were.
+    ///
+    /// ```
+    /// let mut transmitter = felter::Transmitter::new(256)?;
+    /// let raw = transmitter.subscribe_raw()?;
+    /// let refused = felter::Transmitter::new(256)?.join_raw(raw).unwrap_err();
+    /// assert_eq!(refused.reason, felter::Error::OtherRing);
+    /// transmitter.join_raw(refused.back)?;
+    /// # Ok::<(), felter::Error>(())
+    /// ```
     pub fn join_raw(&mut self, mut receiver: RawReceiver) -> Result<(), Refused<RawReceiver>> {
         let joined = self.board.must_be(receiver.board).and_then(|()| {
             // SAFETY: two handles of one board, as their numbers tell.

@@ -359,6 +359,16 @@ impl Consumer {
     /// Ends a ring that was [closed](Consumer::close), and says how many messages were left unread.
     ///
     /// Errors: [`Error::ProducersOut`], where it was not closed; the consumer comes back, and goes on.
+    ///
+    /// ```
+    /// let (producer, mut consumer) = felter::one_to_one(128)?;
+    /// let refused = consumer.finish().unwrap_err();
+    /// assert_eq!(refused.reason, felter::Error::ProducersOut);
+    /// consumer = refused.back;
+    /// consumer.close(producer)?;
+    /// assert_eq!(consumer.finish()?, 0);
+    /// # Ok::<(), felter::Error>(())
+    /// ```
     pub fn finish(mut self) -> Result<u64, Refused<Consumer>> {
         let mut left = 0;
         // SAFETY: our handle, and a number of ours.
