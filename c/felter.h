@@ -171,8 +171,9 @@ int32_t felter_read_batch(felter_consumer *consumer, uint32_t limit, uint32_t *c
 
 /* Takes the producer of a ring of either kind, which holds all 65,536 shares and has no open claim, into the consumer
  * (rule 6), and empties the producer's handle. Nothing can be written any more. What lies in the ring stays, and the
- * consumer reads on as before. FELTER_OTHER_RING; FELTER_CLAIMS_OPEN, and then FELTER_PRODUCERS_OUT where a producer
- * that was split off was not taken in by felter_join. */
+ * consumer reads on as before. FELTER_OTHER_RING, also of a ring of the other kind, and where the consumer took a
+ * producer in before; then FELTER_CLAIMS_OPEN, and then FELTER_PRODUCERS_OUT where one that was split off was not taken
+ * in by felter_join. */
 int32_t felter_close(felter_consumer *consumer, felter_producer *producer);
 /* Ends the ring of a consumer that took its producer in, and empties the consumer's handle. Says how many messages were
  * left unread, which are lost. FELTER_PRODUCERS_OUT where no felter_close took the producer in; FELTER_IN_USE where

@@ -142,14 +142,21 @@ static void waits(void) {
     felter_free(&consumer.handle);
 }
 
-/* Rings of other capacities and handles of other kinds. */
+/* Rings of other capacities or of the other kind, and handles of other kinds. */
 static void other_rings(void) {
-    felter_producer producer = FELTER_EMPTY, other = FELTER_EMPTY, none = FELTER_EMPTY;
-    felter_consumer consumer = FELTER_EMPTY, of_other = FELTER_EMPTY, no_consumer = FELTER_EMPTY;
+    felter_producer producer = FELTER_EMPTY, other = FELTER_EMPTY, single = FELTER_EMPTY, none = FELTER_EMPTY;
+    felter_consumer consumer = FELTER_EMPTY, of_other = FELTER_EMPTY, of_single = FELTER_EMPTY;
+    felter_consumer no_consumer = FELTER_EMPTY;
+    uint64_t claim = 99;
     make(1, 256, &producer, &consumer);
     make(1, 128, &other, &of_other);
+    make(0, 256, &single, &of_single);
     close_refuses(&consumer, &other, FELTER_OTHER_RING);
     close_refuses(&of_other, &producer, FELTER_OTHER_RING);
+    close_refuses(&consumer, &single, FELTER_OTHER_RING);
+    EXPECT(FELTER_OK, felter_claim(&producer, 3, 16, &claim));
+    close_refuses(&of_single, &producer, FELTER_OTHER_RING);
+    EXPECT(FELTER_OK, felter_abort(&producer, claim));
     close_refuses(&no_consumer, &producer, FELTER_NO_HANDLE);
     close_refuses(&consumer, &none, FELTER_NO_HANDLE);
     close_refuses(&no_consumer, &none, FELTER_NO_HANDLE);
@@ -161,9 +168,11 @@ static void other_rings(void) {
     write_one(&other, 2);
     EXPECT(FELTER_OK, felter_close(&consumer, &producer));
     EXPECT(FELTER_OK, felter_close(&of_other, &other));
+    EXPECT(FELTER_OK, felter_close(&of_single, &single));
     expect_one(&consumer, 1);
     finishes(&consumer, 0);
     finishes(&of_other, 1);
+    finishes(&of_single, 0);
 }
 
 static void board_refuses(felter_transmitter *transmitter, int32_t code) {
