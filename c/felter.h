@@ -19,8 +19,9 @@
  *   5. malloc, realloc and free are one allocator, and align to 16 bytes. The processor has x86-64-v2.
  *   6. The handles of one call are of one ring, board, conductor or set of counters. A call that takes a handle in
  *      (felter_join, felter_close) or back (the others with `join` in their names) answers FELTER_OTHER_RING where the
- *      capacities differ, and where a conductor is behind one of the two handles alone. It tells no more apart: neither
- *      two rings, boards or conductors of one capacity, nor two sets of counters. What is proved does not hold then.
+ *      capacities differ, and where a conductor is behind one of the two handles alone. Two rings of one kind, two
+ *      boards and two conductors of one capacity are not told apart, nor are two sets of counters: what is proved does
+ *      not hold then.
  *
  * Answers. Each call but felter_free answers a code of enum felter_code; FELTER_OK is 0. A call that refuses leaves
  * every handle as it was. Out numbers are written on FELTER_OK alone, unless a call says otherwise. Nothing waits:
