@@ -17,10 +17,11 @@
  *   4. No call from a signal handler or from a forked child of a process with threads, and no asynchronous cancellation
  *      during a call: a handle that a call was working on is empty then.
  *   5. malloc, realloc and free are one allocator, and align to 16 bytes. The processor has x86-64-v2.
- *   6. The producers of one felter_join are of one ring. It compares the capacities, and answers FELTER_OTHER_RING
- *      where they differ. Two rings of one capacity are not told apart: what is proved does not hold then. So it is of
- *      a conductor and the client, the receiver or the reader that felter_conductor_join, .._join_receiver or
- *      .._join_reader takes back: those were made by this conductor.
+ *   6. The handles of one call are of one ring, board, conductor or set of counters. A call that takes a handle in
+ *      (felter_join, felter_close) or back (the others with `join` in their names) answers FELTER_OTHER_RING where the
+ *      capacities differ, and where a conductor is behind one of the two handles alone. Two rings of one kind, two
+ *      boards and two conductors of one capacity are not told apart, nor are two sets of counters: what is proved does
+ *      not hold then.
  *
  * Answers. Each call but felter_free answers a code of enum felter_code; FELTER_OK is 0. A call that refuses leaves
  * every handle as it was. Out numbers are written on FELTER_OK alone, unless a call says otherwise. Nothing waits:
@@ -54,10 +55,11 @@ enum felter_code {
     FELTER_INSUFFICIENT_CAPACITY = 7, /* the ring is full */
     FELTER_CONTENDED = 8,             /* another producer was faster */
     FELTER_PUT_RANGE = 9,             /* the bytes do not lie inside the claim */
-    FELTER_PRODUCERS_OUT = 11,        /* a client was not taken back */
+    FELTER_CLAIMS_OPEN = 10,          /* a claim of the producer is open */
+    FELTER_PRODUCERS_OUT = 11,        /* a producer was not taken in, or a client not taken back */
     FELTER_NO_SHARES = 12,            /* one share is left, and is needed */
     FELTER_LAPPED = 13,               /* the transmitter overtook the receiver */
-    FELTER_RECEIVERS_OUT = 14,        /* a receiver of the conductor's was not taken back */
+    FELTER_RECEIVERS_OUT = 14,        /* a receiver was not taken back */
     FELTER_BAD_COUNT = 15,            /* the number of counters is 0 or above 4096 */
     FELTER_KEY_TOO_LONG = 16,         /* the key has more than 112 bytes */
     FELTER_LABEL_TOO_LONG = 17,       /* the label has more than 380 bytes */
@@ -96,8 +98,9 @@ typedef struct felter_client { felter_handle handle; } felter_client;
 #define FELTER_EMPTY {{0}}
 
 /* Lets go of what a handle owns, and empties it: felter_free(&producer.handle). An empty one stays empty. The open
- * claims of a producer are aborted, so that the consumer passes them. Its share of the ring is lost: after 65,535
- * producers that were split off and freed without felter_join, felter_split of that ring answers FELTER_NO_SHARES. */
+ * claims of a producer are aborted, so that the consumer passes them. Its shares of the ring are lost, so felter_close
+ * of that ring answers FELTER_PRODUCERS_OUT for good, and after 65,535 producers that were split off and freed without
+ * felter_join, felter_split answers FELTER_NO_SHARES. */
 void felter_free(felter_handle *handle);
 
 /* Rings ---------------------------------------------------------------------------------------------------------- */
@@ -167,6 +170,17 @@ typedef struct felter_record {
 int32_t felter_read_batch(felter_consumer *consumer, uint32_t limit, uint32_t *count, size_t *used, uint8_t *buffer,
                           size_t room);
 
+/* Takes the producer of a ring of either kind, which holds all 65,536 shares and has no open claim, into the consumer
+ * (rule 6), and empties the producer's handle. Nothing can be written any more. What lies in the ring stays, and the
+ * consumer reads on as before. FELTER_OTHER_RING, also of a ring of the other kind, and where the consumer took a
+ * producer in before; then FELTER_CLAIMS_OPEN, and then FELTER_PRODUCERS_OUT where one that was split off was not taken
+ * in by felter_join. */
+int32_t felter_close(felter_consumer *consumer, felter_producer *producer);
+/* Ends the ring of a consumer that took its producer in, and empties the consumer's handle. Says how many messages were
+ * left unread, which are lost. FELTER_PRODUCERS_OUT where no felter_close took the producer in; FELTER_IN_USE where
+ * another handle of the ring is there, which is not so where rule 6 was kept. */
+int32_t felter_finish(felter_consumer *consumer, uint64_t *left);
+
 /* Boards --------------------------------------------------------------------------------------------------------- */
 
 /* A board is a broadcast buffer: its one transmitter never waits, and each receiver gets every message, or learns that
@@ -177,8 +191,8 @@ int32_t felter_board_new_at(uint32_t capacity, uint64_t start, felter_transmitte
 /* Transmits a message. FELTER_BAD_TYPE, FELTER_TOO_LONG, FELTER_POSITION_LIMIT. */
 int32_t felter_transmit(felter_transmitter *transmitter, int32_t type_id, const uint8_t *body, size_t len);
 /* Makes a receiver, which starts with the message that was transmitted last, with one share of the transmitter's. The
- * share is lost when the receiver is freed: after 65,535 receivers the answer is FELTER_NO_SHARES.
- * FELTER_OUT_OF_MEMORY, FELTER_HANDLE_IN_USE. */
+ * share is lost when the receiver is freed without felter_board_join: after 65,535 of them the answer is
+ * FELTER_NO_SHARES, and after one the board cannot be closed. FELTER_OUT_OF_MEMORY, FELTER_HANDLE_IN_USE. */
 int32_t felter_subscribe(felter_transmitter *transmitter, felter_receiver *receiver);
 /* Copies the next message into a buffer. FELTER_NO_MESSAGE. FELTER_LAPPED where the transmitter overtook the receiver:
  * *lapped says how often by now, and the next call goes on with the message that was transmitted last.
@@ -203,6 +217,15 @@ int32_t felter_load_body(felter_raw_receiver *receiver, uint8_t *buffer, size_t 
 int32_t felter_validate(felter_raw_receiver *receiver);
 /* How often felter_receive_next answered FELTER_LAPPED. */
 int32_t felter_raw_lapped_count(felter_raw_receiver *receiver, uint64_t *count);
+
+/* Take back a receiver, or a raw one, of this board (rule 6), with its share, and empty its handle. FELTER_OTHER_RING,
+ * also of each receiver that felter_conductor_subscribe made. */
+int32_t felter_board_join(felter_transmitter *transmitter, felter_receiver *receiver);
+int32_t felter_board_join_raw(felter_transmitter *transmitter, felter_raw_receiver *receiver);
+/* Ends a board whose receivers of both kinds were all taken back, and empties the transmitter's handle. Says the tail:
+ * the position where the last transmission ended, in bytes. FELTER_RECEIVERS_OUT where a receiver was not taken back;
+ * FELTER_IN_USE where another handle of the board is there, which is not so where rule 6 was kept. */
+int32_t felter_board_close(felter_transmitter *transmitter, uint64_t *tail);
 
 /* Counters ------------------------------------------------------------------------------------------------------- */
 
@@ -241,11 +264,14 @@ int32_t felter_counters_count(felter_counters *counters, uint32_t *count);
 int32_t felter_counters_close_owner(felter_counters *counters, uint64_t now, uint64_t owner, uint32_t *freed);
 
 /* Makes a reader of the values, for another thread, with one share of the counters' 65,536. The share is lost when the
- * reader is freed. FELTER_NO_SHARES, FELTER_OUT_OF_MEMORY, FELTER_HANDLE_IN_USE. */
+ * reader is freed without felter_counters_join. FELTER_NO_SHARES, FELTER_OUT_OF_MEMORY, FELTER_HANDLE_IN_USE. */
 int32_t felter_counters_reader(felter_counters *counters, felter_reader *reader);
 /* Loads a value: of an id that was never used 0, of a freed one its last. No value that the reader has seen comes back
  * once a later one was loaded. FELTER_BAD_ID. */
 int32_t felter_reader_value(felter_reader *reader, uint32_t id, int64_t *value);
+/* Takes back a reader of these counters (rule 6), with its share, and empties its handle. FELTER_OTHER_RING where
+ * felter_conductor_reader made it; the readers of two sets of counters are not told apart. */
+int32_t felter_counters_join(felter_counters *counters, felter_reader *reader);
 
 /* Conductors ----------------------------------------------------------------------------------------------------- */
 

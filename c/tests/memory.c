@@ -149,6 +149,28 @@ static int32_t receive(void) {
     return code;
 }
 
+/* What ends: the ring with a message that was not read, and the board and the counters without what they gave out. */
+static int32_t claim_single(void) {
+    uint64_t number = 0;
+    return felter_claim(&all.single, 3, 1, &number);
+}
+static int32_t close_ring(void) { return felter_close(&all.consumer, &all.producer); }
+static int32_t finish_ring(void) {
+    uint64_t unread = 77;
+    int32_t code = felter_finish(&all.consumer, &unread);
+    CHECK(unread == (code == FELTER_OK ? 1 : 77));
+    return code;
+}
+static int32_t give_receiver_back(void) { return felter_board_join(&all.transmitter, &all.receiver); }
+static int32_t give_raw_back(void) { return felter_board_join_raw(&all.transmitter, &all.raw); }
+static int32_t close_board(void) {
+    uint64_t tail = 77;
+    int32_t code = felter_board_close(&all.transmitter, &tail);
+    CHECK(tail == (code == FELTER_OK ? 16 : 77));
+    return code;
+}
+static int32_t give_reader_back(void) { return felter_counters_join(&all.counters, &all.reader); }
+
 static int32_t make_conductor(void) { return felter_conductor_new(256, 256, 2, 0, &all.conductor); }
 static int32_t hire(void) { return felter_conductor_client(&all.conductor, &all.client); }
 static int32_t hire_other(void) { return felter_conductor_client(&all.conductor, &all.other_client); }
@@ -185,7 +207,7 @@ static int32_t finish(void) {
     return code;
 }
 
-/* One conductor is finished, and another one is freed, after what it gave out. */
+/* Of two rings, two boards and two conductors one is finished, and the other is freed, after what it gave out. */
 static int32_t (*const steps[])(void) = {
     make_many,      make_one,    split,     claim_one,  claim_other,       claim_one,        claim_one,
     claim_one,      join,        abort_all, write_one,  read_one,          claim_one,        make_board,
@@ -193,6 +215,8 @@ static int32_t (*const steps[])(void) = {
     add_one,        see_one,     lend,      load,       make_conductor,    hire,             hire_other,
     listen,         lend_values, command,   give_back,  give_replies_back, give_values_back, finish_early,
     finish,         make_conductor, hire,   hire_other, listen,            lend_values,      command,
+    abort_all,      write_one,   close_ring, finish_ring, claim_single,    give_receiver_back, give_raw_back,
+    close_board,    make_board,  subscribe, subscribe_raw, give_reader_back, lend,
 };
 
 #define STEPS (sizeof steps / sizeof *steps)

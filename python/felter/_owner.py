@@ -6,14 +6,14 @@ import threading
 from felter._library import Handle, call, library
 from felter.errors import Error, Number
 
-# A number for each ring and each conductor.
+# A number for each ring, board, set of counters and conductor.
 numbers = itertools.count()
 
 
 class Owner:
-    """A handle that owns something, and frees it. `number` tells its ring, or its conductor."""
+    """A handle that owns something, and frees it. `number` tells its ring, board, counters or conductor."""
 
-    def __init__(self, number=None):
+    def __init__(self, number):
         self._handle = Handle()
         self._lock = threading.Lock()
         self._number = number
@@ -45,7 +45,7 @@ class Owner:
         return out.value
 
     def _with(self, name, other, *parameters):
-        """A call of two handles, which have to be of one ring, or of one conductor."""
+        """A call of two handles, which have to be of one ring, board, conductor or set of counters."""
         if self is other or self._number != other._number:
             raise Error(Number.OTHER_RING)
         one, two = sorted((self, other), key=id)

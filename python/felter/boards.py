@@ -4,7 +4,7 @@ import ctypes
 import typing
 
 from felter._library import call, is_there
-from felter._owner import Owner
+from felter._owner import Owner, numbers
 from felter.errors import Error, Lapped, Number
 from felter.message import Message
 
@@ -13,7 +13,7 @@ class Transmitter(Owner):
     """Transmits on a board of a capacity. It never waits: a receiver that is too slow is overtaken, and learns that."""
 
     def __init__(self, capacity, start=0):
-        super().__init__()
+        super().__init__(next(numbers))
         self._capacity = capacity
         call("felter_board_new_at", capacity, start, self._handle)
 
@@ -22,23 +22,36 @@ class Transmitter(Owner):
         self._do("felter_transmit", type_id, body, len(body))
 
     def subscribe(self):
-        """Makes a receiver, which starts with the message that was transmitted last. It has one share of 65,536, which
-        is lost when it is freed."""
-        receiver = Receiver(self._capacity)
+        """Makes a receiver, which starts with the message that was transmitted last. It has one share of 65,536. One
+        that is freed takes its share with it, and the board is then never closed: join it where that matters."""
+        receiver = Receiver(self._capacity, self._number)
         self._do("felter_subscribe", receiver._handle)
         return receiver
 
     def subscribe_raw(self):
         """Makes a raw receiver, which answers each record unread; else as `subscribe`."""
-        receiver = RawReceiver()
+        receiver = RawReceiver(self._number)
         self._do("felter_subscribe_raw", receiver._handle)
         return receiver
+
+    def join(self, receiver):
+        """Takes back a receiver of its board, with its share."""
+        self._with("felter_board_join", receiver)
+
+    def join_raw(self, receiver):
+        """Takes back a raw receiver of its board, with its share."""
+        self._with("felter_board_join_raw", receiver)
+
+    def close(self):
+        """Ends a board whose receivers were all taken back, frees the transmitter, and answers the position where the
+        last transmission ended. Refused with RECEIVERS_OUT, it goes on as before."""
+        return self._say("felter_board_close", ctypes.c_uint64)
 
 
 class Receiver(Owner):
     """Receives what is transmitted on a board."""
 
-    def __init__(self, capacity, number=None):
+    def __init__(self, capacity, number):
         super().__init__(number)
         self._buffer = ctypes.create_string_buffer(capacity // 8)
 

@@ -4,7 +4,7 @@ import contextlib
 import ctypes
 
 from felter._library import call
-from felter._owner import Owner
+from felter._owner import Owner, numbers
 from felter.errors import Error, Number
 
 
@@ -12,7 +12,7 @@ class Counters(Owner):
     """Counters with the ids below `count`. A freed id rests for `reuse_ms` milliseconds."""
 
     def __init__(self, count, reuse_ms=0):
-        super().__init__()
+        super().__init__(next(numbers))
         call("felter_counters_new", count, reuse_ms, self._handle)
 
     def allocate(self, now, type_id, key=b"", label=b"", registration=0, owner=0):
@@ -87,9 +87,13 @@ class Counters(Owner):
     def reader(self):
         """Makes a reader of the values, for another thread. It has one share of 65,536, which is lost when it is
         freed."""
-        reader = Reader()
+        reader = Reader(self._number)
         self._do("felter_counters_reader", reader._handle)
         return reader
+
+    def join(self, reader):
+        """Takes back a reader of these counters, with its share."""
+        self._with("felter_counters_join", reader)
 
 
 class Reader(Owner):

@@ -15,6 +15,7 @@ class Number(enum.IntEnum):
     INSUFFICIENT_CAPACITY = 7
     CONTENDED = 8
     PUT_RANGE = 9
+    CLAIMS_OPEN = 10
     PRODUCERS_OUT = 11
     NO_SHARES = 12
     LAPPED = 13

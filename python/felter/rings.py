@@ -59,6 +59,18 @@ class Consumer(Owner):
         """Stores the heartbeat that producers load."""
         self._do("felter_set_heartbeat", value)
 
+    def close(self, producer):
+        """Takes the producer of its ring in, whose calls are then refused with NO_HANDLE. Nothing can be written any
+        more; what lies in the ring stays to be read. Refused with CLAIMS_OPEN where a claim of the producer is open,
+        and then PRODUCERS_OUT where another producer was not joined (or was freed, and then for good), both go on as
+        before."""
+        self._with("felter_close", producer)
+
+    def finish(self):
+        """Ends a ring that was closed, frees the consumer, and answers how many messages were left unread. Refused with
+        PRODUCERS_OUT where the ring was not closed, it goes on as before."""
+        return self._say("felter_finish", ctypes.c_uint64)
+
 
 class Claim:
     """Room in a ring for one message. As a context manager it is committed at the end, and aborted by an exception."""
@@ -92,7 +104,8 @@ class Claim:
 
 
 class Producer(Owner):
-    """Writes into a ring. One that is freed takes its share of the ring with it: join it where that matters."""
+    """Writes into a ring. One that is freed takes its shares with it, and the ring is then never closed: join it, or
+    close the ring with it, where that matters."""
 
     # The producer that took it in.
     _joined = None

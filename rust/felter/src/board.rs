@@ -1,5 +1,5 @@
 //! Boards: one transmitter, and receivers that learn when they missed something.
-use crate::error::Error;
+use crate::error::{Error, Refused};
 use crate::handle::{done, Handle, Number};
 use crate::message::{message_of, Message};
 use crate::raw;
@@ -49,7 +49,8 @@ impl Transmitter {
     }
 
     /// Makes a receiver, which starts with the message that was transmitted last, with one share of the board's 65,536.
-    /// The share is lost when the receiver is dropped.
+    /// One that is dropped takes its share with it, and the board is then never closed: [`join`](Transmitter::join) it
+    /// instead where that matters.
     ///
     /// Errors: [`Error::NoShares`], [`Error::OutOfMemory`].
     pub fn subscribe(&mut self) -> Result<Receiver, Error> {
@@ -77,7 +78,66 @@ impl Transmitter {
         let mut handle = Handle::empty();
         // SAFETY: two handles, the second empty.
         done(unsafe { raw::felter_subscribe_raw(self.handle.raw(), handle.raw()) })?;
-        Ok(RawReceiver { handle })
+        Ok(RawReceiver { handle, board: self.board })
+    }
+
+    /// Takes back a receiver of this board, with its share.
+    ///
+    /// Errors: [`Error::OtherRing`], where it is another board's, or a conductor's; both are then as they were.
+    pub fn join(&mut self, mut receiver: Receiver) -> Result<(), Refused<Receiver>> {
+        let joined = self.board.must_be(receiver.board).and_then(|()| {
+            // SAFETY: two handles of one board, as their numbers tell.
+            done(unsafe { raw::felter_board_join(self.handle.raw(), receiver.handle.raw()) })
+        });
+        joined.map_err(|reason| Refused { reason, back: receiver })
+    }
+
+    /// Takes back a raw receiver of this board, with its share.
+    ///
+    /// Errors: [`Error::OtherRing`], where it is another board's; both are then as they were.
+    ///
+    /// ```
+    /// let mut transmitter = felter::Transmitter::new(256)?;
+    /// let raw = transmitter.subscribe_raw()?;
+    /// let refused = felter::Transmitter::new(256)?.join_raw(raw).unwrap_err();
+    /// assert_eq!(refused.reason, felter::Error::OtherRing);
+    /// transmitter.join_raw(refused.back)?;
+    /// # Ok::<(), felter::Error>(())
+    /// ```
+    pub fn join_raw(&mut self, mut receiver: RawReceiver) -> Result<(), Refused<RawReceiver>> {
+        let joined = self.board.must_be(receiver.board).and_then(|()| {
+            // SAFETY: two handles of one board, as their numbers tell.
+            done(unsafe { raw::felter_board_join_raw(self.handle.raw(), receiver.handle.raw()) })
+        });
+        joined.map_err(|reason| Refused { reason, back: receiver })
+    }
+
+    /// Ends a board whose receivers of both kinds were all taken back, and says the tail: the position where the last
+    /// transmission ended.
+    ///
+    /// Errors: [`Error::ReceiversOut`]; the transmitter comes back, and goes on or closes later.
+    ///
+    /// ```
+    /// use felter::{Error, Transmitter};
+    ///
+    /// let mut transmitter = Transmitter::new(256)?;
+    /// let receiver = transmitter.subscribe()?;
+    /// transmitter.transmit(3, b"to all")?;
+    /// let refused = transmitter.close().unwrap_err();
+    /// assert_eq!(refused.reason, Error::ReceiversOut);
+    /// transmitter = refused.back;
+    /// transmitter.join(receiver)?;
+    /// // A record has a header of 8 bytes, and begins at a multiple of 8.
+    /// assert_eq!(transmitter.close()?, 16);
+    /// # Ok::<(), felter::Error>(())
+    /// ```
+    pub fn close(mut self) -> Result<u64, Refused<Transmitter>> {
+        let mut tail = 0;
+        // SAFETY: our handle, and a number of ours.
+        match done(unsafe { raw::felter_board_close(self.handle.raw(), &mut tail) }) {
+            Ok(()) => Ok(tail),
+            Err(reason) => Err(Refused { reason, back: self }),
+        }
     }
 }
 
@@ -128,6 +188,7 @@ pub struct RawRecord {
 #[derive(Debug)]
 pub struct RawReceiver {
     handle: Handle,
+    board: Number,
 }
 
 impl RawReceiver {

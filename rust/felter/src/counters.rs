@@ -1,5 +1,5 @@
 //! Counters.
-use crate::error::Error;
+use crate::error::{Error, Refused};
 use crate::handle::{done, Handle, Number};
 use crate::raw::{self, Raw};
 
@@ -197,8 +197,8 @@ impl Counters {
         Ok(freed)
     }
 
-    /// Makes a reader of the values, for another thread, with one of the counters' 65,536 shares. The share is lost
-    /// when the reader is dropped.
+    /// Makes a reader of the values, for another thread, with one of the counters' 65,536 shares. One that is dropped
+    /// takes its share with it: [`join`](Counters::join) it instead where that matters.
     ///
     /// Errors: [`Error::NoShares`], [`Error::OutOfMemory`].
     pub fn reader(&mut self) -> Result<Reader, Error> {
@@ -206,6 +206,26 @@ impl Counters {
         // SAFETY: two handles, the second empty.
         done(unsafe { raw::felter_counters_reader(self.handle.raw(), reader.raw()) })?;
         Ok(Reader { handle: reader, counters: self.number })
+    }
+
+    /// Takes back a reader of these counters, with its share.
+    ///
+    /// Errors: [`Error::OtherRing`], where it is of others, or of a conductor's; both are then as they were.
+    ///
+    /// ```
+    /// let mut counters = felter::Counters::new(8, 0)?;
+    /// let reader = counters.reader()?;
+    /// let refused = felter::Counters::new(8, 0)?.join(reader).unwrap_err();
+    /// assert_eq!(refused.reason, felter::Error::OtherRing);
+    /// counters.join(refused.back)?;
+    /// # Ok::<(), felter::Error>(())
+    /// ```
+    pub fn join(&mut self, mut reader: Reader) -> Result<(), Refused<Reader>> {
+        let joined = self.number.must_be(reader.counters).and_then(|()| {
+            // SAFETY: two handles of one set of counters, as their numbers tell.
+            done(unsafe { raw::felter_counters_join(self.handle.raw(), reader.handle.raw()) })
+        });
+        joined.map_err(|reason| Refused { reason, back: reader })
     }
 }
 

@@ -23,7 +23,9 @@ pub enum Error {
     Contended,
     /// The bytes do not lie inside the claim.
     PutRange,
-    /// A client was not taken back: it is out, or was dropped, and then for good.
+    /// A claim of the producer is open: it was kept, or forgotten.
+    ClaimsOpen,
+    /// A producer or a client was not taken back: it is out, or was dropped, and then for good.
     ProducersOut,
     /// One share is left, and is needed.
     NoShares,
@@ -32,7 +34,7 @@ pub enum Error {
         /// How often by now.
         count: u64,
     },
-    /// A receiver of the conductor's was not taken back: it is out, or was dropped, and then for good.
+    /// A receiver was not taken back: it is out, or was dropped, and then for good.
     ReceiversOut,
     /// The number of counters is 0 or above 4096.
     BadCount,
@@ -67,11 +69,11 @@ pub enum Error {
     },
     /// The moment is above 2^62.
     BadMoment,
-    /// The two handles are of two rings, or of two conductors.
+    /// The two handles are of two rings, boards, conductors or sets of counters.
     OtherRing,
     /// What came is the reply to another command. This crate answers [`Polled::Another`](crate::Polled) in its place.
     OtherReply,
-    /// Another handle holds what was to be closed: a reader that is out.
+    /// Another handle holds what was to be closed: a reader of a conductor's that is out.
     InUse,
     /// A number that this crate does not know.
     Unknown(i32),
@@ -90,6 +92,7 @@ impl Error {
             Error::InsufficientCapacity => 7,
             Error::Contended => 8,
             Error::PutRange => 9,
+            Error::ClaimsOpen => 10,
             Error::ProducersOut => 11,
             Error::NoShares => 12,
             Error::Lapped { .. } => 13,
@@ -118,7 +121,7 @@ impl Error {
 
     /// The error of a number that is not 0.
     pub(crate) fn of(number: i32) -> Error {
-        const KNOWN: [Error; 29] = [
+        const KNOWN: [Error; 30] = [
             Error::BadCapacity,
             Error::BadStart,
             Error::OutOfMemory,
@@ -128,6 +131,7 @@ impl Error {
             Error::InsufficientCapacity,
             Error::Contended,
             Error::PutRange,
+            Error::ClaimsOpen,
             Error::ProducersOut,
             Error::NoShares,
             Error::ReceiversOut,

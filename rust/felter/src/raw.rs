@@ -28,8 +28,8 @@ extern "C" {
     pub(crate) fn felter_put(producer: *mut Raw, claim: u64, offset: usize, bytes: *const u8, len: usize) -> i32;
     pub(crate) fn felter_commit(producer: *mut Raw, claim: u64) -> i32;
     pub(crate) fn felter_abort(producer: *mut Raw, claim: u64) -> i32;
-    pub(crate) fn felter_split(producer: *mut Raw, other: *mut Raw) -> i32;
-    pub(crate) fn felter_join(producer: *mut Raw, other: *mut Raw) -> i32;
+    pub(crate) fn felter_split(producer: *mut Raw, other_producer: *mut Raw) -> i32;
+    pub(crate) fn felter_join(producer: *mut Raw, other_producer: *mut Raw) -> i32;
     pub(crate) fn felter_positions(producer: *mut Raw, head: *mut u64, tail: *mut u64) -> i32;
     pub(crate) fn felter_next_id(producer: *mut Raw, id: *mut u64) -> i32;
     pub(crate) fn felter_heartbeat(producer: *mut Raw, value: *mut u64) -> i32;
@@ -42,10 +42,6 @@ extern "C" {
         buffer: *mut u8,
         room: usize,
     ) -> i32;
-}
-
-// Reads in batches.
-extern "C" {
     pub(crate) fn felter_read_batch(
         consumer: *mut Raw,
         limit: u32,
@@ -54,6 +50,8 @@ extern "C" {
         buffer: *mut u8,
         room: usize,
     ) -> i32;
+    pub(crate) fn felter_close(consumer: *mut Raw, producer: *mut Raw) -> i32;
+    pub(crate) fn felter_finish(consumer: *mut Raw, left: *mut u64) -> i32;
 }
 
 // Boards.
@@ -70,11 +68,19 @@ extern "C" {
         room: usize,
     ) -> i32;
     pub(crate) fn felter_lapped_count(receiver: *mut Raw, count: *mut u64) -> i32;
-    pub(crate) fn felter_subscribe_raw(transmitter: *mut Raw, receiver: *mut Raw) -> i32;
-    pub(crate) fn felter_receive_next(receiver: *mut Raw, type_id: *mut i32, len: *mut usize, lapped: *mut u64) -> i32;
-    pub(crate) fn felter_load_body(receiver: *mut Raw, buffer: *mut u8, room: usize) -> i32;
-    pub(crate) fn felter_validate(receiver: *mut Raw) -> i32;
-    pub(crate) fn felter_raw_lapped_count(receiver: *mut Raw, count: *mut u64) -> i32;
+    pub(crate) fn felter_subscribe_raw(transmitter: *mut Raw, raw_receiver: *mut Raw) -> i32;
+    pub(crate) fn felter_receive_next(
+        raw_receiver: *mut Raw,
+        type_id: *mut i32,
+        len: *mut usize,
+        lapped: *mut u64,
+    ) -> i32;
+    pub(crate) fn felter_load_body(raw_receiver: *mut Raw, buffer: *mut u8, room: usize) -> i32;
+    pub(crate) fn felter_validate(raw_receiver: *mut Raw) -> i32;
+    pub(crate) fn felter_raw_lapped_count(raw_receiver: *mut Raw, count: *mut u64) -> i32;
+    pub(crate) fn felter_board_join(transmitter: *mut Raw, receiver: *mut Raw) -> i32;
+    pub(crate) fn felter_board_join_raw(transmitter: *mut Raw, raw_receiver: *mut Raw) -> i32;
+    pub(crate) fn felter_board_close(transmitter: *mut Raw, tail: *mut u64) -> i32;
 }
 
 // Counters.
@@ -112,6 +118,7 @@ extern "C" {
     pub(crate) fn felter_counters_close_owner(counters: *mut Raw, now: u64, owner: u64, freed: *mut u32) -> i32;
     pub(crate) fn felter_counters_reader(counters: *mut Raw, reader: *mut Raw) -> i32;
     pub(crate) fn felter_reader_value(reader: *mut Raw, id: u32, value: *mut i64) -> i32;
+    pub(crate) fn felter_counters_join(counters: *mut Raw, reader: *mut Raw) -> i32;
 }
 
 // Conductors.

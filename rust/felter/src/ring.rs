@@ -39,7 +39,8 @@ pub fn one_to_one_at(capacity: u32, start: u64) -> Result<(Producer, Consumer), 
 }
 
 fn with_number(producer: Handle, consumer: Handle) -> (Producer, Consumer) {
-    (Producer { handle: producer, ring: Number::next() }, Consumer { handle: consumer })
+    let ring = Number::next();
+    (Producer { handle: producer, ring }, Consumer { handle: consumer, ring })
 }
 
 /// Where a ring's head and tail stand, in bytes that only rise.
@@ -53,8 +54,8 @@ pub struct Positions {
 
 /// Writes into a ring.
 ///
-/// A producer that is dropped takes its share of the ring with it, and there are 65,536: [`join`](Producer::join) it
-/// instead where that matters.
+/// A producer that is dropped takes its shares of the ring with it, of which there are 65,536, and the ring is then
+/// never closed: [`join`](Producer::join) it, or [`close`](Consumer::close) the ring with it, where that matters.
 #[derive(Debug)]
 pub struct Producer {
     handle: Handle,
@@ -271,6 +272,7 @@ impl Drop for Claim<'_> {
 #[derive(Debug)]
 pub struct Consumer {
     handle: Handle,
+    ring: Number,
 }
 
 impl Consumer {
@@ -321,5 +323,58 @@ impl Consumer {
     pub fn set_heartbeat(&mut self, value: u64) -> Result<(), Error> {
         // SAFETY: our handle.
         done(unsafe { raw::felter_set_heartbeat(self.handle.raw(), value) })
+    }
+
+    /// Takes the producer of this ring in, which has to hold all shares and no open claim. Nothing can be written any
+    /// more; what lies in the ring stays to be read.
+    ///
+    /// Errors: [`Error::OtherRing`]; [`Error::ClaimsOpen`], and then [`Error::ProducersOut`], where another producer
+    /// was not joined. Both are then as they were.
+    ///
+    /// ```
+    /// use felter::Error;
+    ///
+    /// let (mut producer, mut consumer) = felter::many_to_one(1024)?;
+    /// let mut other = producer.split()?;
+    /// producer.write(1, b"first")?;
+    /// other.write(2, b"second")?;
+    /// let refused = consumer.close(producer).unwrap_err();
+    /// assert_eq!(refused.reason, Error::ProducersOut);
+    /// producer = refused.back;
+    /// producer.join(other)?;
+    /// consumer.close(producer)?;
+    /// let mut room = [0; 128];
+    /// assert_eq!(consumer.read(&mut room)?.map(|message| message.body), Some(&b"first"[..]));
+    /// assert_eq!(consumer.finish()?, 1);
+    /// # Ok::<(), felter::Error>(())
+    /// ```
+    pub fn close(&mut self, mut producer: Producer) -> Result<(), Refused<Producer>> {
+        let closed = self.ring.must_be(producer.ring).and_then(|()| {
+            // SAFETY: two handles of one ring, as their numbers tell.
+            done(unsafe { raw::felter_close(self.handle.raw(), producer.handle.raw()) })
+        });
+        closed.map_err(|reason| Refused { reason, back: producer })
+    }
+
+    /// Ends a ring that was [closed](Consumer::close), and says how many messages were left unread.
+    ///
+    /// Errors: [`Error::ProducersOut`], where it was not closed; the consumer comes back, and goes on.
+    ///
+    /// ```
+    /// let (producer, mut consumer) = felter::one_to_one(128)?;
+    /// let refused = consumer.finish().unwrap_err();
+    /// assert_eq!(refused.reason, felter::Error::ProducersOut);
+    /// consumer = refused.back;
+    /// consumer.close(producer)?;
+    /// assert_eq!(consumer.finish()?, 0);
+    /// # Ok::<(), felter::Error>(())
+    /// ```
+    pub fn finish(mut self) -> Result<u64, Refused<Consumer>> {
+        let mut left = 0;
+        // SAFETY: our handle, and a number of ours.
+        match done(unsafe { raw::felter_finish(self.handle.raw(), &mut left) }) {
+            Ok(()) => Ok(left),
+            Err(reason) => Err(Refused { reason, back: self }),
+        }
     }
 }

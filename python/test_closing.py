@@ -1,0 +1,158 @@
+"""Tests of how felter's rings, boards and counters take back and end: python3 python/test_closing.py"""
+
+import time
+import unittest
+
+import felter
+from felter import Message, Number
+from test_felter import Case, run
+
+BODY = b"sixteen bytes..."
+
+
+class Closing(Case):
+    def test_a_ring_is_closed_and_read_on_and_says_what_was_left(self):
+        for make in felter.many_to_one, felter.one_to_one:
+            producer, consumer = make(256)
+            for type_id in 1, 2, 3:
+                producer.write(type_id, BODY)
+            self.refuses(Number.PRODUCERS_OUT, consumer.finish)
+            consumer.close(producer)
+            self.refuses(Number.NO_HANDLE, producer.write, 4, b"")
+            self.refuses(Number.NO_HANDLE, consumer.close, producer)
+            self.assertEqual(consumer.read(), Message(1, BODY))
+            consumer.set_heartbeat(5)
+            self.assertEqual(consumer.finish(), 2)
+            self.refuses(Number.NO_HANDLE, consumer.read)
+            self.refuses(Number.NO_HANDLE, consumer.finish)
+        with felter.many_to_one(128)[1] as consumer:
+            self.refuses(Number.PRODUCERS_OUT, consumer.finish)
+
+    def test_padding_and_aborted_claims_are_not_left(self):
+        producer, consumer = felter.many_to_one(128)
+        # Each takes 24 bytes, and the sixth lies behind padding.
+        for type_id in range(1, 6):
+            producer.write(type_id, BODY)
+        self.assertEqual([consumer.read(), consumer.read()], [Message(1, BODY), Message(2, BODY)])
+        producer.write(6, BODY)
+        producer.claim(7, 5).abort()
+        self.assertEqual(producer.positions(), (48, 128 + 24 + 16))
+        consumer.close(producer)
+        self.assertEqual(consumer.finish(), 4)
+
+    def test_a_close_is_refused_until_claims_are_settled_and_producers_joined(self):
+        producer, consumer = felter.many_to_one(256)
+        other = producer.split()
+        claim = producer.claim(1, 3)
+        self.assertEqual(str(self.refuses(Number.CLAIMS_OPEN, consumer.close, producer)), "10 CLAIMS_OPEN")
+        claim.commit()
+        second = other.claim(2, 3)
+        self.refuses(Number.PRODUCERS_OUT, consumer.close, producer)
+        self.refuses(Number.CLAIMS_OPEN, consumer.close, other)
+        producer.join(other)
+        self.refuses(Number.CLAIMS_OPEN, consumer.close, producer)
+        with second:
+            second.put(0, b"abc")
+        self.assertEqual(consumer.read(), Message(1, bytes(3)))
+        consumer.close(producer)
+        self.refuses(Number.NO_HANDLE, second.commit)
+        self.assertEqual(list(consumer), [Message(2, b"abc")])
+        self.assertEqual(consumer.finish(), 0)
+        # One that is freed is missed for good.
+        producer, consumer = felter.many_to_one(256)
+        producer.split().free()
+        self.refuses(Number.PRODUCERS_OUT, consumer.close, producer)
+
+    def test_rings_of_one_capacity_are_not_mixed(self):
+        (one, of_one), (two, of_two) = felter.many_to_one(128), felter.many_to_one(128)
+        one.write(1, BODY)
+        self.refuses(Number.OTHER_RING, of_two.close, one)
+        self.refuses(Number.OTHER_RING, of_one.close, of_one)
+        self.refuses(Number.OTHER_RING, of_one.close, felter.Transmitter(256))
+        of_one.close(one)
+        of_two.close(two)
+        self.assertEqual((of_one.finish(), of_two.finish()), (1, 0))
+
+    def test_what_was_written_on_threads_was_read_or_is_left(self):
+        count, read = 1000, []
+        first, consumer = felter.many_to_one(1024)
+        second = first.split()
+
+        def write(producer):
+            for _ in range(count):
+                while True:
+                    try:
+                        producer.write(9, BODY)
+                        break
+                    except felter.Error as refused:
+                        if not refused.is_passing:
+                            raise
+                        time.sleep(0)
+
+        def collect():
+            # Five messages stay: the ring has room for more.
+            while len(read) < 2 * count - 5:
+                message = consumer.read()
+                read.append(message) if message else time.sleep(0)
+
+        run(lambda: write(first), lambda: write(second), collect)
+        first.join(second)
+        consumer.close(first)
+        self.assertEqual((consumer.finish(), set(read)), (5, {Message(9, BODY)}))
+
+    def test_a_board_is_closed_when_its_receivers_are_back(self):
+        transmitter = felter.Transmitter(256, 512)
+        receiver, raw = transmitter.subscribe(), transmitter.subscribe_raw()
+        # They take 16, 40 and 8 bytes.
+        transmitter.transmit(1, bytes(5))
+        transmitter.transmit(2, bytes(32))
+        self.assertEqual(str(self.refuses(Number.RECEIVERS_OUT, transmitter.close)), "14 RECEIVERS_OUT")
+        transmitter.transmit(3, b"")
+        self.assertEqual(receiver.receive(), Message(1, bytes(5)))
+        transmitter.join(receiver)
+        self.refuses(Number.NO_HANDLE, receiver.receive)
+        self.refuses(Number.NO_HANDLE, transmitter.join, receiver)
+        self.refuses(Number.RECEIVERS_OUT, transmitter.close)
+        transmitter.join_raw(raw)
+        self.refuses(Number.NO_HANDLE, raw.receive_next)
+        self.assertEqual(transmitter.close(), 512 + 16 + 40 + 8)
+        self.refuses(Number.NO_HANDLE, transmitter.close)
+        transmitter = felter.Transmitter(256)
+        transmitter.subscribe().free()
+        self.refuses(Number.RECEIVERS_OUT, transmitter.close)
+
+    def test_boards_of_one_capacity_are_not_mixed(self):
+        one, two, conductor = felter.Transmitter(256), felter.Transmitter(256), felter.Conductor(128, 256, 1)
+        receiver, raw, replies = one.subscribe(), one.subscribe_raw(), conductor.subscribe()
+        self.refuses(Number.OTHER_RING, two.join, receiver)
+        self.refuses(Number.OTHER_RING, two.join_raw, raw)
+        self.refuses(Number.OTHER_RING, one.join, replies)
+        # What is of one board, and of another kind, is the library's to refuse.
+        self.refuses(Number.WRONG_HANDLE, one.join, raw)
+        self.refuses(Number.WRONG_HANDLE, one.join_raw, receiver)
+        one.transmit(4, b"raw")
+        self.assertEqual((raw.receive_next().length, receiver.receive()), (3, Message(4, b"raw")))
+        one.join(receiver)
+        one.join_raw(raw)
+        conductor.join_receiver(replies)
+        self.assertEqual((one.close(), two.close(), conductor.finish()), (16, 0, (0, 0)))
+
+    def test_readers_are_taken_back_by_their_counters(self):
+        one, two, conductor = felter.Counters(1), felter.Counters(1), felter.Conductor(128, 256, 1)
+        counter, reader, values = one.allocate(0, 1), one.reader(), conductor.reader()
+        self.refuses(Number.OTHER_RING, two.join, reader)
+        self.refuses(Number.OTHER_RING, one.join, values)
+        self.refuses(Number.OTHER_RING, one.join, one)
+        one.set(counter, 7)
+        self.assertEqual((reader.value(counter), values.value(0)), (7, 0))
+        one.join(reader)
+        self.refuses(Number.NO_HANDLE, reader.value, counter)
+        conductor.join_reader(values)
+        self.assertEqual((one.value(counter), conductor.finish()), (7, (0, 0)))
+        # Shares that are given back are given again: there are 65,536.
+        for _ in range(65537):
+            two.join(two.reader())
+
+
+if __name__ == "__main__":
+    unittest.main()
