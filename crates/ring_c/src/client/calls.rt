@@ -1,10 +1,10 @@
 //! What a client does.
 ghost use Rattle.std.specs.Prelude.{◌≡◌};
-ghost use Rattle.ring_c.specs.Calling.{number_in, poll_out, send_code, ClientHeard, Polled as WasPolled, WasSent};
+ghost use Rattle.ring_c.specs.Calling.{number_in, poll_out, send_code, ClientBeat, Polled as WasPolled, WasSent};
 
 use crate::client::ClientSide;
 use crate::code::{DONE, LAPPED, NO_MESSAGE, OTHER_REPLY, TOO_LONG};
-use ring_conductor::{Client, Polled, Reply, Request, SendFault};
+use ring_conductor::{Polled, Reply, Request, SendFault};
 
 /// The number of why a command was not sent.
 fn send_number(fault: SendFault) -> i32
@@ -78,14 +78,11 @@ impl ClientSide {
         }
     }
 
-    /// Loads the heartbeat that the conductor stored last, and gives the client back with it.
-    pub(crate) fn heartbeat(self) -> (ClientSide, u64)
-        ensures { ClientHeard result.1 self result.0 }
+    /// Loads the heartbeat that the conductor stored last.
+    pub(crate) fn heartbeat(&mut self, value: &mut u64) -> i32
+        ensures { ClientBeat value.new self.old self.new result }
     {
-        let ClientSide { shared, client } = self;
-        let (mut producer, receiver) = client.into_parts();
-        let value = shared.ring.heartbeat(&mut producer);
-        let client = Client::new(producer, receiver);
-        (ClientSide { shared, client }, value)
+        *value = self.client.heartbeat(&self.shared.ring);
+        DONE
     }
 }

@@ -1,15 +1,12 @@
 //! What handles of clients do.
 ghost use Rattle.ring_conductor.specs.declared.client.request.Request.TheVariants.{Allocate, AllocateOwned, Close, Free, Set};
 ghost use Rattle.ring_c.specs.Calling.{poll_out, ClientBeat, Polled, WasSent};
-ghost use Rattle.ring_c.specs.Told.{a_client, Uses, Yields};
+ghost use Rattle.ring_c.specs.Told.{a_client, Yields};
 
-use crate::code::{DONE, NO_HANDLE, WRONG_HANDLE};
 use crate::handle::Handle;
-use crate::held::Held;
 use crate::work_on::work_on;
 use ring_conductor::Request;
 use std::alloc::Global;
-use std::mem;
 
 /// Sends a command that allocates a counter, and says its correlation id.
 #[unsafe(no_mangle)]
@@ -118,21 +115,8 @@ pub extern "C" fn felter_client_heartbeat(
     client: &mut Handle,
     value: &mut u64,
 ) -> i32
-    ensures { Uses a_client (ClientBeat value.new) client.old.held client.new.held result }
+    ensures { Yields a_client (λ _ told. ClientBeat told) value.old value.new client.old.held client.new.held
+        result }
 {
-    let Some(mut held) = client.take(alloc) else {
-        return NO_HANDLE;
-    };
-    match mem::replace(&mut *held, Held::Vacant) {
-        Held::Client(side) => {
-            let (side, beat) = side.heartbeat();
-            *value = beat;
-            client.refill(held, Held::Client(side));
-            DONE
-        }
-        other => {
-            client.refill(held, other);
-            WRONG_HANDLE
-        }
-    }
+    work_on!(client, alloc, Client(side) => side.heartbeat(value))
 }
