@@ -1,5 +1,5 @@
 -- What a finished conductor's messages add up to.
-use Rattle.std.proofs.Common.{◌≡◌, ℕ, zero, suc, ◌+◌, List, ◌++◌, length, length-append, refl, ap, arith, Option, Some, None, Result, Ok}
+use Rattle.std.proofs.Common.{◌≡◌, ℕ, ◌+◌, List, ◌++◌, length, length-append, refl, ap, arith, Option, Some, None, Result, Ok}
 use Rattle.ring_layout.specs.Refusals.{IsRefusedAs}
 use Rattle.ring_layout.specs.declared.message.Message.{Message}
 use Rattle.ring_rings.specs.Closing.{close_refusal_of}

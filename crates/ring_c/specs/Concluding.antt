@@ -1,7 +1,7 @@
 -- What the answers of exports say of handles of conductors, where they are made and where they end.
-use Rattle.std.specs.Prelude.{◌≡◌, ◌≢◌, ◌⊎◌, ℕ, ℤ, pos, MatchOption}
+use Rattle.std.specs.Prelude.{◌≡◌, ◌≢◌, ◌⊎◌, ℕ, ℤ, pos}
 use Rattle.std.specs.declared.option.Option.{Option}
-use Rattle.std.specs.declared.option.Option.TheVariants.{None, Some}
+use Rattle.std.specs.declared.option.Option.TheVariants.{None}
 use Rattle.ring_c.specs.Closing.{Concludes, IsKept}
 use Rattle.ring_c.specs.Conducting.{IsConductorCode, IsFresh}
 use Rattle.ring_c.specs.Told.{a_conductor, EndsAs, Holds}
