@@ -28,7 +28,8 @@ IsNotLast r p code = ((code ≡ pos 108) × (IsSome r.last ⊎ ((r.many ≢ p.ma
 
 -- The claims lie one behind the other from a start on. What was received, followed by what was left, is their committed
 -- messages, each whole and once
-pub record Leaves (capacity : ℕ) (claims : List StagedClaim) (taken : List PlacedMessage) (left : ℕ) : Type 0 where
+pub record LeavesUnread (capacity : ℕ) (claims : List StagedClaim) (taken : List PlacedMessage)
+    (left : ℕ) : Type 0 where
   pub start : ℕ
   pub ordered : AreOrdered capacity start claims
   pub rest : List Message
@@ -37,7 +38,7 @@ pub record Leaves (capacity : ℕ) (claims : List StagedClaim) (taken : List Pla
 
 -- the claims are those of the producer that was taken in
 abbrev pub Finishes : Reading → ℕ → Type 0
-Finishes r left = MatchOption r.last ⊥ (λ v. Leaves r.capacity v.producer.claims r.view.consumer.taken left)
+Finishes r left = MatchOption r.last ⊥ (λ v. LeavesUnread r.capacity v.producer.claims r.view.consumer.taken left)
 
 -- no producer was taken in, or another handle holds the ring
 abbrev pub IsUnfinished : Reading → ℤ → Type 0

@@ -2,7 +2,7 @@
 ghost use Rattle.std.specs.Prelude.{◌≡◌, IfErr, IfOk, None, OnOk};
 ghost use Rattle.ring_rings.specs.Closing.{close_code, IsRefusedAs};
 ghost use Rattle.ring_rings.specs.Seats.{capacity_of, claims_of, consumer_view, view_of, IsConsumerOf, IsProducerOf};
-ghost use Rattle.ring_c.specs.Finishing.{Finishes, IsNotLast, IsUnfinished, Leaves, TakesLast};
+ghost use Rattle.ring_c.specs.Finishing.{Finishes, IsNotLast, IsUnfinished, LeavesUnread, TakesLast};
 ghost use Rattle.ring_c.specs.Side.{close_refusal, IsOfThisRing};
 
 use crate::code::{CLAIMS_OPEN, IN_USE, OTHER_RING, PRODUCERS_OUT};
@@ -31,7 +31,7 @@ fn end<K>(ring: Ring<K>, producer: Producer, consumer: Consumer) -> u64
     requires producer { IsProducerOf ring producer }
     requires consumer { IsConsumerOf ring consumer }
     requires ready { close_refusal (view_of producer) ≡ None }
-    ensures left { Leaves (capacity_of ring) (claims_of producer) (consumer_view consumer).consumer.taken result }
+    ensures left { LeavesUnread (capacity_of ring) (claims_of producer) (consumer_view consumer).consumer.taken result }
 {
     let mut rest = match ring.close(producer, consumer) {
         Ok(rest) => rest,
