@@ -1,6 +1,6 @@
 /* Measures what felter.h offers: a worker for bench/run, which speaks the line protocol of the folder of peers.
  *
- *     list                                          the workloads and contenders: has W1 felter-m2o
+ *     list                                          the workloads and contenders: has WORKLOAD CONTENDER
  *     run W CONTENDER SIZE CAPACITY THREADS MS      one measurement of some MS milliseconds: ns 42.5
  *
  * `felter-o2o` and `felter-m2o` read one message a call, `felter-o2o-batch` and `felter-m2o-batch` up to 64. A message
@@ -15,6 +15,14 @@
 #include <stdlib.h>
 #include <string.h>
 #include <time.h>
+
+/* The workloads, as the peers name them: batches of one thread, and those of which every other word is 0; two threads;
+ * several producers; a command and its reply. */
+#define BATCHES "W1"
+#define SPARSE "sparse"
+#define PAIR "W2"
+#define CROWD "W3"
+#define TRIPS "W4"
 
 #define MOST_PRODUCERS 16
 #define BATCH 64
@@ -123,7 +131,7 @@ static uint64_t alone(const struct point *of, uint64_t messages) {
     open_ring(&ring, of);
     uint8_t body[4096];
     memset(body, 7, sizeof body);
-    bool is_sparse = strcmp(of->workload, "sparse") == 0;
+    bool is_sparse = strcmp(of->workload, SPARSE) == 0;
     for (uint32_t k = 8; is_sparse && k + 8 < of->size; k += 16) memset(body + k, 0, 8);
     struct sum sum = {0, 0};
     uint64_t began = now_ns(), at = 0;
@@ -180,7 +188,7 @@ static uint64_t flow(const struct point *of, uint64_t messages) {
     atomic_bool go = false;
     struct sender senders[MOST_PRODUCERS];
     memset(senders, 0, sizeof senders);
-    uint32_t count = strcmp(of->workload, "W2") == 0 ? 1 : of->threads;
+    uint32_t count = strcmp(of->workload, PAIR) == 0 ? 1 : of->threads;
     uint64_t each = messages / count + 1;
     for (uint32_t id = 0; id < count; id++) {
         struct sender *it = &senders[id];
@@ -345,7 +353,7 @@ static void answer(const char *line) {
     }
     of.is_one = strncmp(name + 7, "o2o", 3) == 0;
     of.is_batch = strstr(name, "-batch") != NULL;
-    if (strcmp(of.workload, "W4") == 0) {
+    if (strcmp(of.workload, TRIPS) == 0) {
         say_trips(&of, fill(line, run_trips, &of, ms));
         return;
     }
@@ -356,10 +364,10 @@ static void answer(const char *line) {
 static void list(void) {
     static const char *const names[] = {"felter-o2o", "felter-m2o", "felter-o2o-batch", "felter-m2o-batch"};
     for (int k = 0; k < 4; k++) {
-        printf("has W1 %s\nhas sparse %s\nhas W2 %s\n", names[k], names[k], names[k]);
-        if (strstr(names[k], "m2o")) printf("has W3 %s\n", names[k]);
+        printf("has " BATCHES " %s\nhas " SPARSE " %s\nhas " PAIR " %s\n", names[k], names[k], names[k]);
+        if (strstr(names[k], "m2o")) printf("has " CROWD " %s\n", names[k]);
     }
-    printf("has W4 felter-m2o\n");
+    printf("has " TRIPS " felter-m2o\n");
 }
 
 int main(void) {
