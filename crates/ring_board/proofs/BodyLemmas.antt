@@ -17,9 +17,9 @@ use Rattle.ring_board.specs.declared.shared.view.Load.{Load}
 use Rattle.ring_board.specs.declared.shared.view.Load.TheVariants.{Word, Intent}
 use Rattle.ring_board.specs.declared.shared.view.Stage.TheVariants.{Resting}
 use Rattle.ring_board.specs.declared.board.RawRecord.{RawRecord}
-use Rattle.ring_board.specs.Seats.{IsAnswered}
+use Rattle.ring_board.specs.Seats.{IsAnsweredRecord}
 use Rattle.ring_board.specs.Layout.{intent_index}
-use Rattle.ring_board.specs.Records.{end, end_of, words_of, word_count, bytes_of, gap}
+use Rattle.ring_board.specs.Records.{end, end_of, words_of_body, word_count, bytes_of, gap}
 use Rattle.ring_board.specs.Rule.{IsBoard, Holds, intent}
 use Rattle.ring_board.specs.Steps.{Sat, logged}
 use Rattle.ring_board.specs.Bodies.{WasLoaded, WereLoaded, IsLoaded, AreRight, IsRight, GaveBody, Validated, LoadsUnread, ChecksAnswered}
@@ -35,11 +35,11 @@ module _ (C e : ℕ) (s : St) (by : ℕ) (mine : View) (h : IsBoard C e by mine 
     (at : get_elem? s.views id ≡ some v) where
   -- each word of a body that was loaded is the record's, or the intent has passed it
   loaded_right : (r : Record) (k : ℕ) → get_elem? mine.sent k ≡ some r → (j w : ℕ)
-      → j < length (words_of r.message.body)
+      → j < length (words_of_body r.message.body)
       → WasLoaded C v.log (r.place + 8 + 8 * j) w → now C e s by mine h id v at < r.place + C
-      → w ≡ get_or (words_of r.message.body) j 0
+      → w ≡ get_or (words_of_body r.message.body) j 0
   loaded_right r k on j w lt l below =
-      let p : ℕ = r.place + 8 + 8 * j in let y : ℕ × ℕ = (p, get_or (words_of r.message.body) j 0) in
+      let p : ℕ = r.place + 8 + 8 * j in let y : ℕ × ℕ = (p, get_or (words_of_body r.message.body) j 0) in
       let ok = (h.seated.each id v at).log l.0 (Word (index C p) l.1 w) l.2 in
       ok.1 k r on (length (gap r.before r.place) + j) y (word_at r j lt) refl l.3 (omega arith)
 
@@ -47,9 +47,9 @@ module _ (C e : ℕ) (s : St) (by : ℕ) (mine : View) (h : IsBoard C e by mine 
       → length body ≡ length r.message.body
       → IsLoaded C v.log r.place body → now C e s by mine h id v at < r.place + C → body ≡ r.message.body
   body_right r k on body long l lt = let ws : List ℕ = l.0 in let m = r.message in
-      let count : length ws ≡ length (words_of m.body) =
+      let count : length ws ≡ length (words_of_body m.body) =
       l.2 ∙ (ap word_count long ∙ sym (words_long (word_count (length m.body)) m.body)) in
-      let same : ws ≡ words_of m.body = ext_get_or 0 ws (words_of m.body) count
+      let same : ws ≡ words_of_body m.body = ext_get_or 0 ws (words_of_body m.body) count
       (λ j in_ws. loaded_right r k on j (get_or ws j 0) (omega arith) (l.1 j in_ws) lt) in
       l.3 ∙ ((λ i. take (long i) (bytes_of (same i)))
       ∙ body_back C m h.lawful.narrow (entry C e s by mine h id v at r k on).0.lawful)
@@ -211,7 +211,8 @@ pub loaded_stays : (C place : ℕ) (before loads after : List Load) (body : List
 loaded_stays C place before loads after body h = (h.0, λ j lt. word_stays C _ _ before loads after (h.1 j lt), h.2, h.3)
 
 -- a body that was loaded, and then validated, is that of the copy of its record
-pub loaded_whole : (m m1 m2 : Sat) (r : RawRecord) (body : List ℕ) → IsAnswered m1.0 r → GaveBody r.place body m m1
+pub loaded_whole : (m m1 m2 : Sat) (r : RawRecord) (body : List ℕ) → IsAnsweredRecord m1.0 r
+    → GaveBody r.place body m m1
     → IsRight m1.0 r → Validated r true m1 m2
     → length body ≡ r.len → (n : ℕ) × (c : Taken) × (get_elem? m2.0.copies n ≡ some c) × (c.place ≡ r.place)
     × (c.message.body ≡ body)

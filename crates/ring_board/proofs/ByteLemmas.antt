@@ -12,7 +12,7 @@ use Rattle.ring_layout.specs.History.{IsMessage}
 use Rattle.ring_layout.specs.Headers.{padding_header, padding_type}
 use Rattle.ring_layout.proofs.HeaderLemmas.{type_of-header, fits_pos}
 use Rattle.ring_layout.proofs.WordBytes.{from_le_bytes-same}
-use Rattle.ring_board.specs.Records.{first_words, words_of, word_count, bytes_of, announced, body_len, message_in, message_of, header_of}
+use Rattle.ring_board.specs.Records.{first_words, words_of_body, word_count, bytes_of, announced, body_len, message_in, message_of, header_of}
 
 -- Words --------------------------------------------------------------------
 
@@ -90,15 +90,16 @@ module _ (C : ℕ) (m : Message) (narrow : C ≤ 2 ^ 24) (lawful : IsMessage C m
       let t = small_pattern m.type_id lawful.type_id lawful.type_fits in omega arith
 
   -- the body of its words
-  pub body_back : take (length m.body) (bytes_of (words_of m.body)) ≡ m.body
+  pub body_back : take (length m.body) (bytes_of (words_of_body m.body)) ≡ m.body
   body_back = words_back (word_count (length m.body)) m.body
       (λ i. ⊎_elim (λ h. All-get_or (λ (b : ℕ). b < 256) m.body i 0 h lawful.bytes)
       (λ h. let past = get_or_past m.body i 0 h in
       omega arith) (cases_lt i (length m.body))) (omega arith)
 
-  bytes_back : take (body_len (header_of m)) (bytes_of (words_of m.body)) ≡ m.body
+  bytes_back : take (body_len (header_of m)) (bytes_of (words_of_body m.body)) ≡ m.body
   bytes_back = let a = announced_header in
-      ap (λ n. take n (bytes_of (words_of m.body))) (let e : body_len (header_of m) ≡ length m.body = omega arith in e)
+      ap (λ n. take n (bytes_of (words_of_body m.body))) (let e : body_len (header_of m)
+          ≡ length m.body = omega arith in e)
       ∙ body_back
 
   -- a message is the one that its header announces, with its body
@@ -109,7 +110,7 @@ module _ (C : ℕ) (m : Message) (narrow : C ≤ 2 ^ 24) (lawful : IsMessage C m
       λ i. record { type_id = t i; body = m.body }
 
   -- a message is the one that its header and words hold
-  pub message_back : message_in (header_of m) (words_of m.body) ≡ m
+  pub message_back : message_in (header_of m) (words_of_body m.body) ≡ m
   message_back = ap (message_of (header_of m)) bytes_back ∙ message_whole
 
 pub announced_padding : (n : ℕ) → n < 2 ^ 31 → announced (padding_header n) ≡ n

@@ -10,7 +10,7 @@ use Rattle.ring_board.specs.declared.shared.view.Record.{Record}
 use Rattle.ring_board.specs.declared.shared.view.Stage.{Stage}
 use Rattle.ring_board.specs.declared.shared.view.Stage.TheVariants.{Storing, Written}
 use Rattle.ring_board.specs.Records.{Lies}
-use Rattle.ring_board.specs.Steps.{Sat, staged, after_intent, sent_on, after_words, place_before}
+use Rattle.ring_board.specs.Steps.{Sat, at_stage, after_intent, sent_on, after_words, place_before}
 use Rattle.ring_board.proofs.PlaceLemmas.{lies_before}
 
 pub more_words : (st : Stage) (d : Draft) (a b : List ℕ) → st ≡ Storing d
@@ -56,7 +56,7 @@ lawful_message C type_id body low fits short bytes = record {
 
 -- what a whole transmission made of the transmitter
 pub sent_through : (m m1 m2 m3 : Sat) (z : ℕ) (r : Record) → m1 ≡ (after_intent m.0 z, m.1)
-    → m2 ≡ (staged m1.0 (Written r), m1.1)
+    → m2 ≡ (at_stage m1.0 (Written r), m1.1)
     → ((q : Record) → m2.0.stage ≡ Written q → m3 ≡ (sent_on m2.0 q, m2.1)) → m3 ≡ (sent_on m.0 r, m.1)
 sent_through m m1 m2 m3 z r a b c = c r (ap (λ (x : Sat). x.0.stage) b)
-    ∙ ap (λ (x : Sat). (sent_on x.0 r, x.1)) (b ∙ ap (λ (x : Sat). (staged x.0 (Written r), x.1)) a)
+    ∙ ap (λ (x : Sat). (sent_on x.0 r, x.1)) (b ∙ ap (λ (x : Sat). (at_stage x.0 (Written r), x.1)) a)

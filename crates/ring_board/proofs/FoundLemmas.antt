@@ -15,12 +15,12 @@ use Rattle.ring_board.specs.declared.shared.view.Stage.{Stage}
 use Rattle.ring_board.specs.declared.shared.view.Stage.TheVariants.{Resting, Sure, Headed, Padded, Again, Reading, Behind}
 use Rattle.ring_board.specs.declared.receiver.found.Found.TheVariants.{Entry}
 use Rattle.ring_board.specs.Records.{announced, body_len, is_padding, bytes_of, message_of}
-use Rattle.ring_board.specs.Steps.{Sat, staged, logged, copied, tail_loaded, header_loaded, word_loaded, word_load, last_tail, passed, validated, IsSound, IsSoundAt, IsUnread, header_seen, answered, AnswersEntry}
-use Rattle.ring_board.specs.Receiving.{CopiedWords, TookAll, TookNone, GotCopy, GotMiss, GotRecord, IsInside, ComesTo, FoundIs, NearIs}
+use Rattle.ring_board.specs.Steps.{Sat, at_stage, logged, copied, tail_loaded, header_loaded, word_loaded, word_load, last_tail, passed, validated, IsSound, IsSoundAt, IsUnread, header_seen, answered, AnswersEntry}
+use Rattle.ring_board.specs.Receiving.{CopiedWords, TookAll, FailedValidation, GotCopy, GotMiss, GotRecord, IsInBuffer, ComesTo, FoundIs, NearIs}
 
 passed_after : (v : View) (st : Stage) (x : ℕ) → v.stage ≡ st → x < v.at + v.capacity
     → validated v x ≡ logged (passed v st) (Intent x)
-passed_after v st x eq lt = ap (λ (b : Bool). logged (cond b (passed v v.stage) (staged v Behind)) (Intent x))
+passed_after v st x eq lt = ap (λ (b : Bool). logged (cond b (passed v v.stage) (at_stage v Behind)) (Intent x))
     (lt-ltb x (v.at + v.capacity) lt)
     ∙ ap (λ (u : Stage). logged (passed v u) (Intent x)) eq
 
@@ -103,9 +103,9 @@ padding_low m m1 m2 t i w x a b sound lt pads = let v : View = header_loaded (ta
 pub unread_header : (st : Stage) (w : ℕ) → IsUnread w st → header_seen st ≡ w
 unread_header st w un = ⊎_elim (λ t. ap header_seen t.0) (λ t. ap header_seen t) un
 
-unread_read : (v : View) (st : Stage) (w : ℕ) → IsUnread w st → passed v st ≡ staged v (Reading w [])
+unread_read : (v : View) (st : Stage) (w : ℕ) → IsUnread w st → passed v st ≡ at_stage v (Reading w [])
 unread_read v st w un = ⊎_elim (λ t. ap (passed v) t.0
-    ∙ ap (λ (b : Bool). staged v (cond b (Padded w) (Reading w []))) t.1) (λ t. ap (passed v) t) un
+    ∙ ap (λ (b : Bool). at_stage v (cond b (Padded w) (Reading w []))) t.1) (λ t. ap (passed v) t) un
 
 unread_sound : (v : View) (st : Stage) (w : ℕ) → IsUnread w st → IsSoundAt v st → IsSound v.capacity v.at w
 unread_sound v st w un h = ⊎_elim
@@ -135,7 +135,7 @@ unread_answered m m1 m2 p w x body h is lt = let loads : List Load = h.0 in let 
       loads ++ Intent x ∷ [],
       is ∙ (ap (λ (y : Sat). (answered y.0 (header_seen y.0.stage) body x, y.1)) h.2
           ∙ (ap (λ (n : ℕ). (answered v n body x, m.1)) seen
-          ∙ (ap (λ (b : Bool). (logged (cond b (copied v (message_of w body)) (staged v Behind)) (Intent x), m.1))
+          ∙ (ap (λ (b : Bool). (logged (cond b (copied v (message_of w body)) (at_stage v Behind)) (Intent x), m.1))
           (lt-ltb x (p + m.0.capacity) lt)
           ∙ ap (λ (l : List Load). (record (copied (record m.0 { at = p }) (message_of w body)) { log = l }, m.1))
           (append_assoc m.0.log loads (Intent x ∷ []))))),
@@ -156,7 +156,7 @@ pub answered_as : (m m1 m2 : Sat) (p w x len : ℕ) (z : ℤ) → NearIs (Entry 
     → x < p + m.0.capacity
     → z ≡ cast_signed w32 (w / 2 ^ 32) → len ≡ body_len w
     → GotRecord record { place = p; type_id = z; len = len } m m2
-    × IsInside m.0.capacity record { place = p; type_id = z; len = len }
+    × IsInBuffer m.0.capacity record { place = p; type_id = z; len = len }
 answered_as m m1 m2 p w x len z h a lt type_is len_is =
     let body : List ℕ = a.0 in let f = unread_fits m m1 p w x body h a.2 lt in let b = f.1.message in
     let count = b.1 in let n : ℕ = b.0 in let same : n ≡ len = omega arith in
@@ -223,10 +223,11 @@ took_from m m1 m2 p w len out f h = let b : List ℕ = take len out in
       later_loads m.0 f.0 k.0 p f.2,
     )
 
-pub missed_from : (m m1 m2 : Sat) (p w x : ℕ) → (f : FoundIs (Entry p w) m m1) → TookNone x m1 m2 → GotMiss p x m m2
-missed_from m m1 m2 p w x f h = missed_on (subst (λ (u : Sat). TookNone x u m2) f.1 h)
+pub missed_from : (m m1 m2 : Sat) (p w x : ℕ) → (f : FoundIs (Entry p w) m m1) → FailedValidation x m1 m2
+    → GotMiss p x m m2
+missed_from m m1 m2 p w x f h = missed_on (subst (λ (u : Sat). FailedValidation x u m2) f.1 h)
   where
-    missed_on : TookNone x (record m.0 { stage = Reading w []; at = p; log = m.0.log ++ f.0 }, m.1) m2
+    missed_on : FailedValidation x (record m.0 { stage = Reading w []; at = p; log = m.0.log ++ f.0 }, m.1) m2
         → GotMiss p x m m2
     missed_on k = (
       f.0 ++ k.0,

@@ -15,9 +15,9 @@ use Rattle.ring_board.specs.declared.shared.view.Load.{Load}
 use Rattle.ring_board.specs.declared.shared.view.Load.TheVariants.{Intent, Tail, Latest, Word}
 use Rattle.ring_board.specs.declared.shared.view.Stage.{Stage}
 use Rattle.ring_board.specs.declared.shared.view.Stage.TheVariants.{Resting, Sure, Padded, Reading}
-use Rattle.ring_board.specs.Records.{end, Follows, end_of, words_of, word_count, placed_words, header_of, announced, body_len, gap, filled, stores}
+use Rattle.ring_board.specs.Records.{end, Follows, end_of, words_of_body, word_count, placed_words, header_of, announced, body_len, gap, filled, stores}
 use Rattle.ring_board.specs.Runs.{AreRuns}
-use Rattle.ring_board.specs.Rule.{LoadOk, IsSeat, Logged, intent, shown, Running, Before, IsHeader, Next, Knows, IsBoard, Holds}
+use Rattle.ring_board.specs.Rule.{LoadOk, IsSeat, Logged, intent, with_latest, Running, Before, IsHeader, Next, Knows, IsBoard, Holds}
 use Rattle.ring_board.specs.Steps.{logged, tail_loaded, header_loaded, word_load, last_tail}
 use Rattle.ring_board.proofs.PlaceLemmas.{lies_after, lies_needed, chain_at}
 use Rattle.ring_board.proofs.StoreLemmas.{at_behind, placed_at, words_long}
@@ -33,7 +33,7 @@ take_next (x ∷ xs) (suc k) h = ap (λ m. x ∷ m) (take_next xs k (omega arith
 -- Where the stores of a record stand ---------------------------------------
 
 abbrev body_of : Record → List ℕ
-body_of r = words_of r.message.body
+body_of r = words_of_body r.message.body
 
 pub gap_at : (r : Record) → r.before < r.place
     → get_elem? (stores r) 0 ≡ some (r.before, padding_header (r.place - r.before))
@@ -124,7 +124,7 @@ module _ (C e : ℕ) (s : St) (by : ℕ) (mine : View) (h : IsBoard C e by mine 
   knows st eq = subst (Knows C e by mine id v) eq (h.seated.each id v at).knows
 
   abbrev pub all : List Record
-  all = shown mine.sent mine.stage
+  all = with_latest mine.sent mine.stage
 
   abbrev pub now : ℕ
   now = intent e mine.sent mine.stage

@@ -12,7 +12,7 @@ use Rattle.ring_board.specs.declared.shared.view.Stage.TheVariants.{Idle, Restin
 use Rattle.ring_board.specs.Layout.{latest_index}
 use Rattle.ring_board.specs.Records.{Chain, last_of}
 use Rattle.ring_board.specs.Runs.{AreRuns}
-use Rattle.ring_board.specs.Rule.{IsSeat, intent, latest, shown, Before, Fresh, Receives, Knows, total_shares, Holds}
+use Rattle.ring_board.specs.Rule.{IsSeat, intent, latest, with_latest, Before, Fresh, Receives, Knows, total_shares, Holds}
 use Rattle.ring_board.specs.declared.shared.view.Joined.{Joined}
 use Rattle.ring_board.specs.Steps.{Sat, as_joined, fewer, newcomer, joined, spent, Learns}
 use Rattle.ring_board.proofs.PlaceLemmas.{chain_last, last_low}
@@ -57,7 +57,7 @@ module _ (C e : ℕ) where
       let place : last_of v.start v.sent ≡ last_of e v.sent = ap (λ (y : ℕ). last_of y v.sent) start in
       let knows : Knows C e id w id u Resting = (
         h.seated.capacity,
-        subst (λ (l : List Record). Receives e v.sent l u) (ap (shown v.sent) (sym eq)) (record {
+        subst (λ (l : List Record). Receives e v.sent l u) (ap (with_latest v.sent) (sym eq)) (record {
           before = subst (λ (p : ℕ). Before e v.sent p (length v.sent - 1)) (sym place) c.0;
           climbs = omega arith;
           past = λ i y g _. absurd (some-ne-none y (sym g));

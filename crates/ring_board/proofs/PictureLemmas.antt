@@ -11,7 +11,7 @@ use Rattle.ring_board.specs.declared.shared.view.View.{View}
 use Rattle.ring_board.specs.declared.shared.view.Stage.{Stage}
 use Rattle.ring_board.specs.declared.shared.view.Stage.TheVariants.{Idle}
 use Rattle.ring_board.specs.Layout.{intent_index, tail_index, latest_index, board_words}
-use Rattle.ring_board.specs.Records.{end, Chain, stores, stores_of, last_at, IsNewest, IsBoardWord}
+use Rattle.ring_board.specs.Records.{end, Chain, stores, stores_of, last_at, IsNewestAt, IsBoardWord}
 use Rattle.ring_board.specs.Rule.{Holds, intent, latest, so_far}
 use Rattle.ring_board.specs.Runs.{AreAllRuns}
 use Rattle.ring_board.specs.Closing.{IsClosed}
@@ -27,7 +27,8 @@ Rising C (x ∷ xs) =
 
 abbrev Chosen : ℕ → List (ℕ × ℕ) → ℕ → ℕ → ℕ → Type 0
 Chosen C xs i w v =
-    ((x : ℕ × ℕ) × IsNewest C xs i v x) ⊎ (((j : ℕ) (y : ℕ × ℕ) → get_elem? xs j ≡ some y → index C y.0 ≢ i) × (v ≡ w))
+    ((x : ℕ × ℕ) × IsNewestAt C xs i v x) ⊎ (((j : ℕ) (y : ℕ × ℕ) → get_elem? xs j ≡ some y
+        → index C y.0 ≢ i) × (v ≡ w))
 
 none_else : (C i : ℕ) (x : ℕ × ℕ) (xs : List (ℕ × ℕ)) → index C x.0 ≢ i
     → ((j : ℕ) (y : ℕ × ℕ) → get_elem? xs j ≡ some y → index C y.0 ≢ i)
@@ -43,9 +44,9 @@ with_head C i x z xs h rest zero y e = subst (λ (u : ℕ × ℕ). index C u.0 �
 with_head C i x z xs h rest (suc j) y e = rest j y e
 
 -- the newest of the rest is the newest of all, where the first is not above it
-newest_behind : (C : ℕ) (x z : ℕ × ℕ) (xs : List (ℕ × ℕ)) (i w : ℕ) → IsNewest C xs i w z
+newest_behind : (C : ℕ) (x z : ℕ × ℕ) (xs : List (ℕ × ℕ)) (i w : ℕ) → IsNewestAt C xs i w z
     → (index C x.0 ≡ i → x.0 ≤ z.0)
-    → IsNewest C (x ∷ xs) i w z
+    → IsNewestAt C (x ∷ xs) i w z
 newest_behind C x z xs i w h first = let at = h.stored in record {
   stored = (suc at.0, at.1);
   at_index = h.at_index;

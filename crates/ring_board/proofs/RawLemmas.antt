@@ -5,29 +5,30 @@ use Rattle.atomic_table.proofs.Lists.{at_longer, at_last}
 use Rattle.ring_board.specs.declared.shared.view.View.{View}
 use Rattle.ring_board.specs.declared.shared.view.Taken.{Taken}
 use Rattle.ring_board.specs.declared.board.RawRecord.{RawRecord}
-use Rattle.ring_board.specs.Receiving.{GotRecord, IsInside}
-use Rattle.ring_board.specs.Seats.{IsAnswered}
+use Rattle.ring_board.specs.Receiving.{GotRecord, IsInBuffer}
+use Rattle.ring_board.specs.Seats.{IsAnsweredRecord}
 use Rattle.ring_board.specs.Steps.{Sat}
 
 -- What was answered ----------------------------------------------------------
 
 pub answered_more : (v w : View) (more : List Taken) (r : RawRecord) → w.capacity ≡ v.capacity
-    → w.copies ≡ v.copies ++ more → IsAnswered v r → IsAnswered w r
+    → w.copies ≡ v.copies ++ more → IsAnsweredRecord v r → IsAnsweredRecord w r
 answered_more v w more r size longer h = let q = h.copy in record {
   copy =
       (q.0, q.1, ap (λ (l : List Taken). get_elem? l q.0) longer ∙ at_longer v.copies more q.0 q.1 q.2, q.3, q.4, q.5);
-  inside = subst (λ (n : ℕ). IsInside n r) (sym size) h.inside;
+  inside = subst (λ (n : ℕ). IsInBuffer n r) (sym size) h.inside;
 }
 
-pub answered_same : (v w : View) (r : RawRecord) → w.capacity ≡ v.capacity → w.copies ≡ v.copies → IsAnswered v r
-    → IsAnswered w r
+pub answered_same : (v w : View) (r : RawRecord) → w.capacity ≡ v.capacity → w.copies ≡ v.copies → IsAnsweredRecord v r
+    → IsAnsweredRecord w r
 answered_same v w r size same h = let q = h.copy in record {
   copy = (q.0, q.1, ap (λ (l : List Taken). get_elem? l q.0) same ∙ q.2, q.3, q.4, q.5);
-  inside = subst (λ (n : ℕ). IsInside n r) (sym size) h.inside;
+  inside = subst (λ (n : ℕ). IsInBuffer n r) (sym size) h.inside;
 }
 
 -- the record that was answered last
-pub answered_last : (m m' : Sat) (r : RawRecord) → GotRecord r m m' → IsInside m.0.capacity r → IsAnswered m'.0 r
+pub answered_last : (m m' : Sat) (r : RawRecord) → GotRecord r m m' → IsInBuffer m.0.capacity r
+    → IsAnsweredRecord m'.0 r
 answered_last m m' r got inside = let copy = got.1 in
     let taken : Taken = record {
       place = r.place;
@@ -44,5 +45,5 @@ answered_last m m' r got inside = let copy = got.1 in
         refl,
         got.2,
       );
-      inside = subst (λ (n : ℕ). IsInside n r) (sym (ap (λ (s : Sat). s.0.capacity) copy.1)) inside;
+      inside = subst (λ (n : ℕ). IsInBuffer n r) (sym (ap (λ (s : Sat). s.0.capacity) copy.1)) inside;
     }

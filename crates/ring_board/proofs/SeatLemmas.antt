@@ -14,8 +14,8 @@ use Rattle.ring_board.specs.declared.shared.view.Stage.{Stage}
 use Rattle.ring_board.specs.declared.shared.view.Stage.TheVariants.{Spent, Idle, Begun, Storing, Written, Shown, Resting, Sure, Headed, Padded, Again, Reading, Behind}
 use Rattle.ring_board.specs.Records.{end, Follows, end_of, stores}
 use Rattle.ring_board.specs.Runs.{Neighbours, AreAllRuns, AreRuns}
-use Rattle.ring_board.specs.Rule.{intent, latest, shown, Receives, IsSeat, Knows, total_shares, LoadOk, Logged, IsMemory, IsBoard, Holds}
-use Rattle.ring_board.specs.Steps.{staged, sent_on}
+use Rattle.ring_board.specs.Rule.{intent, latest, with_latest, Receives, IsSeat, Knows, total_shares, LoadOk, Logged, IsMemory, IsBoard, Holds}
+use Rattle.ring_board.specs.Steps.{at_stage, sent_on}
 use Rattle.ring_board.proofs.PlaceLemmas.{end_snoc, last_snoc, lies_after, lies_cases, lies_whole}
 use Rattle.ring_board.proofs.StoreLemmas.{stores_where}
 
@@ -106,8 +106,8 @@ sent_more e sent all r v h = record {
 -- Other seats --------------------------------------------------------------
 
 module _ (C e by : ℕ) (mine mine' : View)
-    (grow : (v : View) → Receives e mine.sent (shown mine.sent mine.stage) v
-    → Receives e mine'.sent (shown mine'.sent mine'.stage) v)
+    (grow : (v : View) → Receives e mine.sent (with_latest mine.sent mine.stage) v
+    → Receives e mine'.sent (with_latest mine'.sent mine'.stage) v)
     (more : (k : ℕ) (r : Record) → get_elem? mine.sent k ≡ some r → get_elem? mine'.sent k ≡ some r)
     (later : intent e mine.sent mine.stage ≤ intent e mine'.sent mine'.stage) where
   pub knows_moves : (j : ℕ) (v : View) (st : Stage) → Knows C e by mine j v st → Knows C e by mine' j v st
@@ -175,7 +175,7 @@ pub record AreAlike (v w : View) : Type 0 where
   pub log : w.log ≡ v.log
   pub heard : w.heard ≡ v.heard
 
-pub staged_alike : (v : View) (st : Stage) → AreAlike v (staged v st)
+pub staged_alike : (v : View) (st : Stage) → AreAlike v (at_stage v st)
 staged_alike v st =
     record { capacity = refl; start = refl; from = refl; copies = refl; shares = refl; log = refl; heard = refl }
 

@@ -8,7 +8,7 @@ use Rattle.ring_board.specs.declared.shared.view.Record.{Record}
 use Rattle.ring_board.specs.declared.shared.view.Stage.{Stage}
 use Rattle.ring_board.specs.declared.shared.view.Stage.TheVariants.{Spent, Idle, Begun, Storing, Written, Shown, Resting, Sure, Headed, Padded, Again, Reading, Behind}
 use Rattle.ring_board.specs.Records.{end, Lies, Follows, Chain, end_of, last_of}
-use Rattle.ring_board.specs.Rule.{intent, latest, shown, Running}
+use Rattle.ring_board.specs.Rule.{intent, latest, with_latest, Running}
 use Rattle.ring_board.proofs.PlaceLemmas.{lies_after, lies_needed, chain_at, chain_last, chain_snoc, end_snoc}
 
 module _ (C e : ℕ) (roomy : 256 ≤ C) (whole : C % 64 ≡ 0) (ws : List ℕ) (sent : List Record) where
@@ -33,7 +33,7 @@ module _ (C e : ℕ) (roomy : 256 ≤ C) (whole : C % 64 ≡ 0) (ws : List ℕ) 
 
   -- an entry of what latest shows is sent, or begins at the tail
   pub shown_at : (st : Stage) → Running C (end_of e sent) ws st → (k : ℕ) (q : Record)
-      → get_elem? (shown sent st) k ≡ some q
+      → get_elem? (with_latest sent st) k ≡ some q
       → (get_elem? sent k ≡ some q) ⊎ (Follows C (end_of e sent) q)
   shown_at (Shown r) h k q at =
       ⊎_elim (λ t. inl t) (λ is. inr (subst (Follows C (end_of e sent)) is h.0)) (at_snoc sent r q k at)
@@ -51,7 +51,8 @@ module _ (C e : ℕ) (roomy : 256 ≤ C) (whole : C % 64 ≡ 0) (ws : List ℕ) 
   shown_at Behind h k q at = absurd h
 
   -- what is sent is shown
-  pub shown_has : (st : Stage) (k : ℕ) (q : Record) → get_elem? sent k ≡ some q → get_elem? (shown sent st) k ≡ some q
+  pub shown_has : (st : Stage) (k : ℕ) (q : Record) → get_elem? sent k ≡ some q
+      → get_elem? (with_latest sent st) k ≡ some q
   shown_has (Shown r) k q at = at_longer sent (r ∷ []) k q at
   shown_has Idle k q at = at
   shown_has (Begun d) k q at = at
@@ -66,7 +67,7 @@ module _ (C e : ℕ) (roomy : 256 ≤ C) (whole : C % 64 ≡ 0) (ws : List ℕ) 
   shown_has (Reading w l) k q at = at
   shown_has Behind k q at = at
 
-  pub shown_chain : (st : Stage) → Running C (end_of e sent) ws st → Chain C e sent → Chain C e (shown sent st)
+  pub shown_chain : (st : Stage) → Running C (end_of e sent) ws st → Chain C e sent → Chain C e (with_latest sent st)
   shown_chain (Shown r) h c = chain_snoc C e sent r c h.0
   shown_chain Idle h c = c
   shown_chain (Begun d) h c = c
@@ -81,7 +82,7 @@ module _ (C e : ℕ) (roomy : 256 ≤ C) (whole : C % 64 ≡ 0) (ws : List ℕ) 
   shown_chain (Reading w l) h c = c
   shown_chain Behind h c = c
 
-  pub shown_end : (st : Stage) → Running C (end_of e sent) ws st → end_of e sent ≤ end_of e (shown sent st)
+  pub shown_end : (st : Stage) → Running C (end_of e sent) ws st → end_of e sent ≤ end_of e (with_latest sent st)
   shown_end (Shown r) h = let on = lies_on r.before r.place (end r) h.0.fits in let s = end_snoc e sent r in omega arith
   shown_end Idle h = omega arith
   shown_end (Begun d) h = omega arith
@@ -98,7 +99,7 @@ module _ (C e : ℕ) (roomy : 256 ≤ C) (whole : C % 64 ≡ 0) (ws : List ℕ) 
 
   -- latest shows an entry that the intent has not lapped
   abbrev pub IsLatest : Stage → Type 0
-  IsLatest st = (k : ℕ) × (q : Record) × (get_elem? (shown sent st) k ≡ some q) × (latest e sent st ≡ q.place)
+  IsLatest st = (k : ℕ) × (q : Record) × (get_elem? (with_latest sent st) k ≡ some q) × (latest e sent st ≡ q.place)
       × (intent e sent st < q.place + C) ×
       (q.place ≤ intent e sent st)
 

@@ -9,7 +9,7 @@ use Rattle.atomic_table.proofs.Lists.{at_snoc}
 use Rattle.ring_layout.specs.Places.{index}
 use Rattle.ring_layout.specs.Headers.{padding_header}
 use Rattle.ring_board.specs.declared.shared.view.Record.{Record}
-use Rattle.ring_board.specs.Records.{end, placed_words, gap, filled, stores, stores_of, last_at, words_of, header_of}
+use Rattle.ring_board.specs.Records.{end, placed_words, gap, filled, stores, stores_of, last_at, words_of_body, header_of}
 use Rattle.ring_board.proofs.PlaceLemmas.{index_below}
 
 pub append_nil : {A : Type 0} (l : List A) → l ++ [] ≡ l
@@ -102,7 +102,7 @@ pub stores_where : (r : Record) (j : ℕ) (x : ℕ × ℕ) → r.before % 8 ≡ 
     → (r.before ≤ x.0) × (x.0 < end r) × (x.0 % 8 ≡ 0)
 stores_where r j x b8 p8 le e =
     let body : List ℕ = r.message.body in let long = words_long ((length body + 7) / 8) body in
-    ⊎_elim (λ h. let f = filled_where r.before r.place (words_of body) j x b8 p8 h in
+    ⊎_elim (λ h. let f = filled_where r.before r.place (words_of_body body) j x b8 p8 h in
     ⊎_elim (λ t. let a = t.0 in let b = t.1 in (omega arith, (let z : x.0 < end r = omega arith in z), f.1))
     (λ t. let a = t.0 in let b = t.1 in
     (omega arith, (let z : x.0 < end r = omega arith in z), f.1)) f.0)
@@ -112,4 +112,4 @@ stores_where r j x b8 p8 le e =
       (let z : x.0 < end r = omega arith in z),
       (let z : x.0 % 8 ≡ 0 = omega arith in z),
     ))
-    (at_snoc (filled r.before r.place (words_of body)) (r.place, header_of r.message) x j e)
+    (at_snoc (filled r.before r.place (words_of_body body)) (r.place, header_of r.message) x j e)

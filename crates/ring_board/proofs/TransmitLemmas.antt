@@ -14,10 +14,10 @@ use Rattle.ring_board.specs.declared.shared.view.Draft.{Draft}
 use Rattle.ring_board.specs.declared.shared.view.View.{View}
 use Rattle.ring_board.specs.declared.shared.view.Stage.{Stage}
 use Rattle.ring_board.specs.declared.shared.view.Stage.TheVariants.{Idle, Begun, Storing, Written, Shown}
-use Rattle.ring_board.specs.Records.{end, Lies, end_of, last_of, placed_words, gap, filled, stores, stores_of, last_at, words_of, header_of, message_in}
+use Rattle.ring_board.specs.Records.{end, Lies, end_of, last_of, placed_words, gap, filled, stores, stores_of, last_at, words_of_body, header_of, message_in}
 use Rattle.ring_board.specs.Layout.{IsUnnamed}
-use Rattle.ring_board.specs.Rule.{LoadOk, intent, latest, shown, so_far, Stand, Running, Receives, Knows, IsBoard, Holds}
-use Rattle.ring_board.specs.Steps.{Sat, staged, sent_on, place_before, draft, after_intent, with_words, after_padding, after_words, written, after_header, after_latest, after_tail, StoresIntent, StoresPadding, StoresWord, StoresHeader, StoresLatest, StoresTail}
+use Rattle.ring_board.specs.Rule.{LoadOk, intent, latest, with_latest, so_far, Stand, Running, Receives, Knows, IsBoard, Holds}
+use Rattle.ring_board.specs.Steps.{Sat, at_stage, sent_on, place_before, draft, after_intent, with_words, after_padding, after_words, with_entry, after_header, after_latest, after_tail, StoresIntent, StoresPadding, StoresWord, StoresHeader, StoresLatest, StoresTail}
 use Rattle.ring_board.proofs.PlaceLemmas.{lies_after, lies_near, lies_whole, a_lap_on, apart, index_below, chain_at, chain_snoc, end_snoc, last_snoc, last_low}
 use Rattle.ring_board.proofs.StoreLemmas.{append_nil, stores_one, placed_snoc, stores_of_snoc, filled_where, stores_where}
 use Rattle.ring_board.proofs.ByteLemmas.{message_back}
@@ -39,9 +39,9 @@ module _ (C : ℕ) (roomy : 256 ≤ C) (whole : C % 64 ≡ 0) (ws ws' : List ℕ
   stand_kept xs old j x e = same (index C x.0) (index_below C x.0 roomy whole) ∙ old j x e
 
 -- what a draft becomes when its header is stored
-pub written_as : (C : ℕ) (d : Draft) (m : Message) (x : ℕ) → C ≤ 2 ^ 24 → IsMessage C m → words_of m.body ≡ d.words
+pub written_as : (C : ℕ) (d : Draft) (m : Message) (x : ℕ) → C ≤ 2 ^ 24 → IsMessage C m → words_of_body m.body ≡ d.words
     → x ≡ header_of m
-    → written d x ≡ record { before = d.before; place = d.place; message = m }
+    → with_entry d x ≡ record { before = d.before; place = d.place; message = m }
 written_as C d m x narrow lawful words num =
     let F : Message → Record = λ (q : Message). record { before = d.before; place = d.place; message = q } in
     (λ k. F (message_in (num k) (sym words k))) ∙ ap F (message_back C m narrow lawful)
@@ -59,16 +59,17 @@ module _ (C e : ℕ) where
     -- a store into the buffer
     word_stored_at : (st : Stage) (p x : ℕ) → p % 8 ≡ 0 → end_of e me.sent ≤ p → p < intent e me.sent me.stage
         → intent e me.sent st ≡ intent e me.sent me.stage → latest e me.sent st ≡ latest e me.sent me.stage
-        → shown me.sent st ≡ shown me.sent me.stage → so_far me.sent st ≡ so_far me.sent me.stage ++ (p, x) ∷ []
+        → with_latest me.sent st ≡ with_latest me.sent me.stage
+            → so_far me.sent st ≡ so_far me.sent me.stage ++ (p, x) ∷ []
         → Running C (end_of e me.sent) (set s.words (index C p) x) st
-        → Knows C e id (staged me st) id (staged me st) st → Kept (index C p) x (staged me st)
+        → Knows C e id (at_stage me st) id (at_stage me st) st → Kept (index C p) x (at_stage me st)
     word_stored_at st p x p8 after below i l sh grows running mine =
         let wide = h.memory.wide in let roomy = h.lawful.roomy in let whole = h.lawful.whole in
         let lt : index C p < C / 8 = index_below C p roomy whole in
         let out : (c : ℕ) → C / 8 ≤ c → get_or (set s.words (index C p) x) c 0 ≡ get_or s.words c 0 =
         λ c le. get_or-set_other s.words
         (index C p) c x 0 (λ e. omega arith) in
-        rebuilt C e s id me (staged me st) h (set s.words (index C p) x) (record {
+        rebuilt C e s id me (at_stage me st) h (set s.words (index C p) x) (record {
           wide = length-set s.words (index C p) x ∙ wide;
           chain = h.memory.chain;
           low = subst (λ (y : ℕ). y ≤ max_position) (sym i) h.memory.low;
@@ -90,7 +91,8 @@ module _ (C e : ℕ) where
               λ c lt. stores_one C s.words (so_far me.sent me.stage) p x roomy whole (omega arith) h.memory.exact c lt
               ∙ ap (λ (l : List (ℕ × ℕ)). last_at C l c 0) (sym grows);
         }) h.seated.behind mine
-        (λ j v. knows_moves C e id me (staged me st) (λ u. subst (λ (l : List Record). Receives e me.sent l u) (sym sh))
+        (λ j v. knows_moves C e id me (at_stage me st) (λ u. subst
+            (λ (l : List Record). Receives e me.sent l u) (sym sh))
         (λ k r at. at)
         (subst (λ (y : ℕ). intent e me.sent me.stage ≤ y) (sym i) (omega arith)) j v v.stage)
         (λ v u. u) (loads_rise C e me.sent me.stage st
@@ -126,7 +128,7 @@ module _ (C e : ℕ) where
           (omega arith)) fresh) w.0
 
       word_stored : (x : ℕ) → d.place + 8 + 8 * length d.words < d.end
-          → Kept (index C (d.place + 8 + 8 * length d.words)) x (staged me (Storing (with_words d (x ∷ []))))
+          → Kept (index C (d.place + 8 + 8 * length d.words)) x (at_stage me (Storing (with_words d (x ∷ []))))
       word_stored x room = let p : ℕ = d.place + 8 + 8 * length d.words in let l = ran.0 in let roomy =
           h.lawful.roomy in let whole = h.lawful.whole in
           let a = lies_after C (end_of e me.sent) d.before d.place d.end l roomy whole in let b = l.begins in
@@ -139,7 +141,7 @@ module _ (C e : ℕ) where
           let long : length d'.words ≡ length d.words + 1 = length-append d.words (x ∷ []) in
           word_stored_at (Storing d') p x (omega arith) (omega arith)
           (subst (λ (u : Stage). p < intent e me.sent u) (sym eq) room)
-          (ap (intent e me.sent) (sym eq)) (ap (latest e me.sent) (sym eq)) (ap (shown me.sent) (sym eq))
+          (ap (intent e me.sent) (sym eq)) (ap (latest e me.sent) (sym eq)) (ap (with_latest me.sent) (sym eq))
           (ap (λ m. stores_of me.sent ++ m) grow ∙ (sym (append_assoc (stores_of me.sent) drawn ((p, x) ∷ []))
           ∙ ap (λ (u : Stage). so_far me.sent u ++ (p, x) ∷ []) (sym eq))) (
             l,
@@ -152,18 +154,19 @@ module _ (C e : ℕ) where
       abbrev record_of : Message → Record
       record_of m = record { before = d.before; place = d.place; message = m }
 
-      header_stored : (m : Message) → IsMessage C m → words_of m.body ≡ d.words → d.place + span (length m.body) ≡ d.end
-          → Kept (index C d.place) (header_of m) (staged me (Written (record_of m)))
+      header_stored : (m : Message) → IsMessage C m → words_of_body m.body ≡ d.words
+          → d.place + span (length m.body) ≡ d.end
+          → Kept (index C d.place) (header_of m) (at_stage me (Written (record_of m)))
       header_stored m lawful is full =
           let p : ℕ = d.place in let x : ℕ = header_of m in let r : Record = record_of m in let l = ran.0 in
           let roomy = h.lawful.roomy in let whole = h.lawful.whole in let a =
           lies_after C (end_of e me.sent) d.before d.place d.end l roomy whole in
           let b = l.begins in let so = l.some_room in let wide = h.memory.wide in let lt : index C p < C / 8 =
           index_below C p roomy whole in
-          let same : filled d.before d.place (words_of m.body) ≡ drawn = ap (filled d.before d.place) is in
+          let same : filled d.before d.place (words_of_body m.body) ≡ drawn = ap (filled d.before d.place) is in
           word_stored_at (Written r) p x p_whole (omega arith)
           (subst (λ (u : Stage). p < intent e me.sent u) (sym eq) (omega arith))
-          (full ∙ ap (intent e me.sent) (sym eq)) (ap (latest e me.sent) (sym eq)) (ap (shown me.sent) (sym eq))
+          (full ∙ ap (intent e me.sent) (sym eq)) (ap (latest e me.sent) (sym eq)) (ap (with_latest me.sent) (sym eq))
           (ap (λ m. stores_of me.sent ++ (m ++ (p, x) ∷ [])) same
           ∙ (sym (append_assoc (stores_of me.sent) drawn ((p, x) ∷ []))
           ∙ ap (λ (u : Stage). so_far me.sent u ++ (p, x) ∷ []) (sym eq))) (
@@ -178,7 +181,7 @@ module _ (C e : ℕ) where
           ) refl
 
     padding_stored : (d : Draft) → me.stage ≡ Begun d
-        → Kept (index C d.before) (padding_header (d.place - d.before)) (staged me (Storing d))
+        → Kept (index C d.before) (padding_header (d.place - d.before)) (at_stage me (Storing d))
     padding_stored d eq =
         let run = subst (Running C (end_of e me.sent) s.words) eq h.memory.running in let p : ℕ = d.before in
         let x : ℕ = padding_header (d.place - d.before) in let l = run.0 in let lt0 = run.1 in let roomy =
@@ -191,7 +194,7 @@ module _ (C e : ℕ) where
         (lt-ltb d.before d.place lt0) ∙ ap (λ (ws : List ℕ). (p, x) ∷ placed_words (d.place + 8) ws) run.2 in
         word_stored_at (Storing d) p x l.begins_whole (omega arith)
         (subst (λ (u : Stage). p < intent e me.sent u) (sym eq) (omega arith))
-        (ap (intent e me.sent) (sym eq)) (ap (latest e me.sent) (sym eq)) (ap (shown me.sent) (sym eq))
+        (ap (intent e me.sent) (sym eq)) (ap (latest e me.sent) (sym eq)) (ap (with_latest me.sent) (sym eq))
         (ap (λ m. stores_of me.sent ++ m) is ∙ ap (λ (u : Stage). so_far me.sent u ++ (p, x) ∷ []) (sym eq)) (
           l,
           omega arith,
@@ -216,16 +219,18 @@ module _ (C e : ℕ) where
 
     intent_stored_as : (st : Stage) (z : ℕ) → me.stage ≡ Idle → z ≤ max_position → end_of e me.sent ≤ z
         → intent e me.sent st ≡ z
-        → latest e me.sent st ≡ last_of e me.sent → shown me.sent st ≡ me.sent → so_far me.sent st ≡ stores_of me.sent
-        → Running C (end_of e me.sent) (set s.words (C / 8 + 0) z) st → Knows C e id (staged me st) id (staged me st) st
-        → Kept (C / 8 + 0) z (staged me st)
+        → latest e me.sent st ≡ last_of e me.sent → with_latest me.sent st ≡ me.sent
+            → so_far me.sent st ≡ stores_of me.sent
+        → Running C (end_of e me.sent) (set s.words (C / 8 + 0) z) st
+            → Knows C e id (at_stage me st) id (at_stage me st) st
+        → Kept (C / 8 + 0) z (at_stage me st)
     intent_stored_as st z eq low later i l sh grows running mine =
         let roomy = h.lawful.roomy in let whole = h.lawful.whole in
         let ws : List ℕ = set s.words (C / 8 + 0) z in
         let risen : intent e me.sent me.stage ≤ intent e me.sent st =
         subst (λ (y : ℕ). intent e me.sent me.stage ≤ y) (sym i)
         (subst (λ (u : Stage). intent e me.sent u ≤ z) (sym eq) later) in
-        rebuilt C e s id me (staged me st) h ws (record {
+        rebuilt C e s id me (at_stage me st) h ws (record {
           wide = length-set s.words (C / 8 + 0) z ∙ h.memory.wide;
           chain = h.memory.chain;
           low = subst (λ (y : ℕ). y ≤ max_position) (sym i) low;
@@ -242,8 +247,8 @@ module _ (C e : ℕ) where
           exact = λ c lt. inner 0 z c lt
               ∙ (h.memory.exact c lt ∙ ap (λ (l : List (ℕ × ℕ)). last_at C l c 0) (ap (so_far me.sent) eq ∙ sym grows));
         }) h.seated.behind mine
-        (λ j v. knows_moves C e id me (staged me st)
-        (λ u. subst (λ (l : List Record). Receives e me.sent l u) (ap (shown me.sent) eq ∙ sym sh))
+        (λ j v. knows_moves C e id me (at_stage me st)
+        (λ u. subst (λ (l : List Record). Receives e me.sent l u) (ap (with_latest me.sent) eq ∙ sym sh))
         (λ k r at. at) risen j v v.stage)
         (λ v u. u) (loads_rise C e me.sent me.stage st risen (let same = ap (latest e me.sent) eq in omega arith))
         (staged_alike me st)
@@ -255,7 +260,7 @@ module _ (C e : ℕ) where
         draft me.at p z [] in let roomy = h.lawful.roomy in
         let a = lies_after C (end_of e me.sent) me.at p z l roomy h.lawful.whole in
         let b = l.begins in let so = l.some_room in let later : end_of e me.sent ≤ z = omega arith in
-        cond_both (ltb me.at p) (Begun d) (Storing d) (λ (st : Stage). Kept (C / 8 + 0) z (staged me st))
+        cond_both (ltb me.at p) (Begun d) (Storing d) (λ (st : Stage). Kept (C / 8 + 0) z (at_stage me st))
         (λ t. intent_stored_as (Begun d) z eq low later refl refl refl refl (l, ltb-true me.at p t, refl) refl)
         (λ f. let none : filled me.at p [] ≡ [] =
         ap (λ (c : Bool). cond c ((me.at, padding_header (p - me.at)) ∷ []) [] ++ []) f in
@@ -267,12 +272,12 @@ module _ (C e : ℕ) where
               (λ j y on. absurd (some-ne-none y (sym on))),
         ) refl)
 
-    latest_stored : (r : Record) → me.stage ≡ Written r → Kept (C / 8 + 2) r.place (staged me (Shown r))
+    latest_stored : (r : Record) → me.stage ≡ Written r → Kept (C / 8 + 2) r.place (at_stage me (Shown r))
     latest_stored r eq =
         let run = subst (Running C (end_of e me.sent) s.words) eq h.memory.running in let x : ℕ = r.place in
         let ws : List ℕ = set s.words (C / 8 + 2) x in let roomy = h.lawful.roomy in let whole = h.lawful.whole in
         let same : intent e me.sent me.stage ≡ end r = ap (intent e me.sent) eq in
-        rebuilt C e s id me (staged me (Shown r)) h ws (record {
+        rebuilt C e s id me (at_stage me (Shown r)) h ws (record {
           wide = length-set s.words (C / 8 + 2) x ∙ h.memory.wide;
           chain = h.memory.chain;
           low = subst (λ (u : ℕ). u ≤ max_position) same h.memory.low;
@@ -286,9 +291,9 @@ module _ (C e : ℕ) where
           exact =
               λ c lt. inner 2 x c lt ∙ (h.memory.exact c lt ∙ ap (λ (u : Stage). last_at C (so_far me.sent u) c 0) eq);
         }) h.seated.behind refl
-        (λ j v. knows_moves C e id me (staged me (Shown r))
+        (λ j v. knows_moves C e id me (at_stage me (Shown r))
         (λ u k. receives_more C e me.sent r roomy whole h.lawful.aligned run.0 u
-        (subst (λ (l : Stage). Receives e me.sent (shown me.sent l) u) eq k)) (λ k r at. at) (let le = same in
+        (subst (λ (l : Stage). Receives e me.sent (with_latest me.sent l) u) eq k)) (λ k r at. at) (let le = same in
         omega arith) j v v.stage)
         (λ v u. u) (loads_rise C e me.sent me.stage (Shown r) (let le = same in
         omega arith) (subst (λ (u : Stage). latest e me.sent u ≤ r.place) (sym eq)
@@ -323,7 +328,7 @@ module _ (C e : ℕ) where
               ∙ ap (λ (l : List (ℕ × ℕ)). last_at C l c 0) (sym (stores_of_snoc me.sent r))));
         }) (sym ends) refl
         (λ j v. knows_moves C e id me (sent_on me r) (λ u k. sent_more e me.sent (me.sent ++ r ∷ []) r u
-        (subst (λ (l : Stage). Receives e me.sent (shown me.sent l) u) eq k))
+        (subst (λ (l : Stage). Receives e me.sent (with_latest me.sent l) u) eq k))
         (λ k q at. at_longer me.sent (r ∷ []) k q at) (let le = same in
         omega arith) j v v.stage)
         (λ v u. runs_more me.sent r v.from v.copies u)
@@ -359,13 +364,13 @@ module _ (C e : ℕ) where
         → x ≡ padding_header (d.place - d.before)
         → Allows (Holds C e) slots id me i (λ _. x) (λ _. StoresPadding me x)
     stores_padding d eq is num s b _ at _ = let h = owner C e s b id me.0 (Begun d) (λ by mine k. k) at eq in
-        let w : View = staged me.0 (after_padding me.0.stage) in (
+        let w : View = at_stage me.0 (after_padding me.0.stage) in (
           w,
           keeps,
           tt,
           moved s id me.1 i (index C d.before) x (padding_header (d.place - d.before)) w
-              (staged me.0 (Storing d)) is num
-              (ap (λ (u : Stage). staged me.0 (after_padding u)) eq) (padding_stored s id me.0 h d eq),
+              (at_stage me.0 (Storing d)) is num
+              (ap (λ (u : Stage). at_stage me.0 (after_padding u)) eq) (padding_stored s id me.0 h d eq),
           refl,
         )
 
@@ -373,32 +378,32 @@ module _ (C e : ℕ) where
         → d.place + 8 + 8 * length d.words < d.end
         → Allows (Holds C e) slots id me i (λ _. x) (λ _. StoresWord me x)
     stores_word d eq is room s b _ at _ = let h = owner C e s b id me.0 (Storing d) (λ by mine k. k) at eq in
-        let w : View = staged me.0 (after_words me.0.stage (x ∷ [])) in (
+        let w : View = at_stage me.0 (after_words me.0.stage (x ∷ [])) in (
           w,
           keeps,
           tt,
           moved s id me.1 i (index C (d.place + 8 + 8 * length d.words)) x x w
-              (staged me.0 (Storing (with_words d (x ∷ [])))) is refl
-              (ap (λ (u : Stage). staged me.0 (after_words u (x ∷ []))) eq) (word_stored s id me.0 h d eq x room),
+              (at_stage me.0 (Storing (with_words d (x ∷ [])))) is refl
+              (ap (λ (u : Stage). at_stage me.0 (after_words u (x ∷ []))) eq) (word_stored s id me.0 h d eq x room),
           refl,
         )
 
     pub stores_header : (d : Draft) (m : Message) → me.0.stage ≡ Storing d → i ≡ index C d.place → IsMessage C m
-        → words_of m.body ≡ d.words
+        → words_of_body m.body ≡ d.words
         → d.place + span (length m.body) ≡ d.end → x ≡ header_of m
         → Allows (Holds C e) slots id me i (λ _. x) (λ _. StoresHeader me x)
     stores_header d m eq is lawful words full num s b _ at _ =
         let h = owner C e s b id me.0 (Storing d) (λ by mine k. k) at eq in
-        let w : View = staged me.0 (after_header me.0.stage x) in
-        let held : written d x ≡ record { before = d.before; place = d.place; message = m } =
+        let w : View = at_stage me.0 (after_header me.0.stage x) in
+        let held : with_entry d x ≡ record { before = d.before; place = d.place; message = m } =
         written_as C d m x h.lawful.narrow lawful words num in (
           w,
           keeps,
           tt,
           moved s id me.1 i (index C d.place) x (header_of m) w
-              (staged me.0 (Written (record { before = d.before; place = d.place; message = m }))) is num
-              (ap (λ (u : Stage). staged me.0 (after_header u x)) eq
-              ∙ ap (λ (r : Record). staged me.0 (Written r)) held)
+              (at_stage me.0 (Written (record { before = d.before; place = d.place; message = m }))) is num
+              (ap (λ (u : Stage). at_stage me.0 (after_header u x)) eq
+              ∙ ap (λ (r : Record). at_stage me.0 (Written r)) held)
               (header_stored s id me.0 h d eq m lawful words full),
           refl,
         )
@@ -406,12 +411,12 @@ module _ (C e : ℕ) where
     pub stores_latest : (r : Record) → me.0.stage ≡ Written r → i ≡ C / 8 + 2 → x ≡ r.place
         → Allows (Holds C e) slots id me i (λ _. x) (λ _. StoresLatest me x)
     stores_latest r eq is num s b _ at _ = let h = owner C e s b id me.0 (Written r) (λ by mine k. k) at eq in
-        let w : View = staged me.0 (after_latest me.0.stage) in (
+        let w : View = at_stage me.0 (after_latest me.0.stage) in (
           w,
           keeps,
           tt,
-          moved s id me.1 i (C / 8 + 2) x r.place w (staged me.0 (Shown r)) is num
-              (ap (λ (u : Stage). staged me.0 (after_latest u)) eq)
+          moved s id me.1 i (C / 8 + 2) x r.place w (at_stage me.0 (Shown r)) is num
+              (ap (λ (u : Stage). at_stage me.0 (after_latest u)) eq)
               (latest_stored s id me.0 h r eq),
           refl,
         )

@@ -16,10 +16,10 @@ use Rattle.ring_board.specs.declared.shared.view.Load.{Load}
 use Rattle.ring_board.specs.declared.shared.view.Load.TheVariants.{Intent, Latest}
 use Rattle.ring_board.specs.declared.shared.view.Stage.{Stage}
 use Rattle.ring_board.specs.declared.shared.view.Stage.TheVariants.{Spent, Idle, Begun, Storing, Written, Shown, Resting, Sure, Headed, Padded, Again, Reading, Behind}
-use Rattle.ring_board.specs.Records.{end, words_of, word_count, header_of, announced, body_len, is_padding, message_in, message_of}
+use Rattle.ring_board.specs.Records.{end, words_of_body, word_count, header_of, announced, body_len, is_padding, message_in, message_of}
 use Rattle.ring_board.specs.Runs.{IsCopy, Neighbours, AreRuns}
 use Rattle.ring_board.specs.Rule.{Logged, latest, Receives, IsHeader, Knows, IsBoard, Holds}
-use Rattle.ring_board.specs.Steps.{staged, logged, copy_of, copied, passed, validated, IsSound, IsSoundAt, IsUnread, answered, latest_loaded}
+use Rattle.ring_board.specs.Steps.{at_stage, logged, copy_of, copied, passed, validated, IsSound, IsSoundAt, IsUnread, answered, latest_loaded}
 use Rattle.ring_board.proofs.PlaceLemmas.{lies_needed, lies_inside, lies_whole, chain_next, chain_last}
 use Rattle.ring_board.proofs.StoreLemmas.{words_long}
 use Rattle.ring_board.proofs.ByteLemmas.{announced_header, header_not_padding, padding_kind, message_whole, message_back}
@@ -149,9 +149,9 @@ module _ (C e : ℕ) (s : St) (by : ℕ) (mine : View) (h : IsBoard C e by mine 
 
   checked : (u : View) (x i : ℕ) (cs : List (ℕ × (Unit {0}))) → x ≡ here_now → v.capacity ≡ C
       → (here_now < v.at + C → Passes x i cs u)
-      → (v.at + C ≤ here_now → Passes x i cs (staged v Behind))
-      → Kept i cs (logged (cond (ltb x (v.at + v.capacity)) u (staged v Behind)) (Intent x))
-  checked u x i cs is capacity good bad = cond_both (ltb x (v.at + v.capacity)) u (staged v Behind) (Passes x i cs)
+      → (v.at + C ≤ here_now → Passes x i cs (at_stage v Behind))
+      → Kept i cs (logged (cond (ltb x (v.at + v.capacity)) u (at_stage v Behind)) (Intent x))
+  checked u x i cs is capacity good bad = cond_both (ltb x (v.at + v.capacity)) u (at_stage v Behind) (Passes x i cs)
       (λ t. good (let f = ltb-true x (v.at + v.capacity) t in omega arith))
       (λ t. bad (let f = ltb-false x (v.at + v.capacity) t in omega arith))
 
@@ -216,7 +216,7 @@ module _ (C e : ℕ) (s : St) (by : ℕ) (mine : View) (h : IsBoard C e by mine 
       let ne = other_seat C e s by mine h id v at (Headed w) eq (λ b. b) in let logs =
       seen_intent x is in checked (passed v v.stage) x i cs is k.0
       (λ lt. subst (λ (st : Stage). Passes x i cs (passed v st)) (sym eq) (
-      cond_both (is_padding w) (Padded w) (Reading w []) (λ (st : Stage). Passes x i cs (staged v st))
+      cond_both (is_padding w) (Padded w) (Reading w []) (λ (st : Stage). Passes x i cs (at_stage v st))
       (λ pads. let u : View = record v { stage = Padded w; log = v.log ++ Intent x ∷ [] } in
       looked C e s by mine h id v at u ne (
         k.0,
@@ -303,14 +303,14 @@ module _ (C e : ℕ) (s : St) (by : ℕ) (mine : View) (h : IsBoard C e by mine 
       let k = knows C e s by mine h id v at (Reading w ws) eq in let t = k.2 in let r : Record = t.0 in
       let ne = other_seat C e s by mine h id v at (Reading w ws) eq (λ b. b) in let logs = seen_intent x is in
       let f = (entry C e s by mine h id v at r v.next t.1).0 in
-      let whole : length ws ≡ length (words_of r.message.body) = long
+      let whole : length ws ≡ length (words_of_body r.message.body) = long
       ∙ (ap (λ (y : ℕ). word_count (body_len y)) t.2.1
       ∙ (ap word_count (body_announced C e s by mine h id v at r v.next t.1)
       ∙ sym (words_long (word_count (length r.message.body)) r.message.body))) in
       checked (passed v v.stage) x i cs is k.0
       (λ lt. subst (λ (st : Stage). Passes x i cs (passed v st)) (sym eq)
       (copy_kept (message_in w ws) (v.log ++ Intent x ∷ []) ne k.0 k.1 r t.1 t.2.0
-      ((λ j. message_in (t.2.1 j) ((t.2.2 lt ∙ take_whole (words_of r.message.body) (length ws) whole) j))
+      ((λ j. message_in (t.2.1 j) ((t.2.2 lt ∙ take_whole (words_of_body r.message.body) (length ws) whole) j))
       ∙ message_back C r.message h.lawful.narrow f.lawful) logs i cs))
       (λ far. behind_kept ne k.1 k.0 r t.1 (v.log ++ Intent x ∷ []) far logs i cs)
 

@@ -60,8 +60,8 @@ TookAll w len out m m' = (loads : List Load)
     × (m' ≡ (record (copied m.0 (message_of w (take len out))) { log = m.0.log ++ loads }, m.1)) × (len ≤ length out)
 
 -- a validation failed at the intent x
-abbrev pub TookNone : ℕ → Sat → Sat → Type 0
-TookNone x m m' = (loads : List Load)
+abbrev pub FailedValidation : ℕ → Sat → Sat → Type 0
+FailedValidation x m m' = (loads : List Load)
     × (m' ≡ (record m.0 { stage = Behind; log = m.0.log ++ (loads ++ Intent x ∷ []) }, m.1))
     × (m.0.at + m.0.capacity ≤ x)
 
@@ -114,5 +114,5 @@ abbrev pub GotRecord : RawRecord → Sat → Sat → Type 0
 GotRecord r m m' = (body : List ℕ) × GotCopy r.place r.type_id body m m' × (length body ≡ r.len)
 
 -- where a record lies in a buffer of C bytes
-abbrev pub IsInside : ℕ → RawRecord → Type 0
-IsInside C r = (r.place % 8 ≡ 0) × (r.place % C + span r.len ≤ C) × (r.place + span r.len ≤ max_position)
+abbrev pub IsInBuffer : ℕ → RawRecord → Type 0
+IsInBuffer C r = (r.place % 8 ≡ 0) × (r.place % C + span r.len ≤ C) × (r.place + span r.len ≤ max_position)

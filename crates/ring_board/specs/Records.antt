@@ -56,8 +56,8 @@ abbrev pub word_count : ℕ → ℕ
 word_count n = (n + 7) / 8
 
 -- the words of a body
-abbrev pub words_of : List ℕ → List ℕ
-words_of body = first_words (word_count (length body)) body
+abbrev pub words_of_body : List ℕ → List ℕ
+words_of_body body = first_words (word_count (length body)) body
 
 -- the bytes of these words
 abbrev pub bytes_of : List ℕ → List ℕ
@@ -103,7 +103,7 @@ filled b p ws = gap b p ++ placed_words (p + 8) ws
 
 -- the words that a record's transmission stores in the buffer, with their positions, in their order
 abbrev pub stores : Record → List (ℕ × ℕ)
-stores r = filled r.before r.place (words_of r.message.body) ++ (r.place, header_of r.message) ∷ []
+stores r = filled r.before r.place (words_of_body r.message.body) ++ (r.place, header_of r.message) ∷ []
 
 abbrev pub stores_of : List Record → List (ℕ × ℕ)
 stores_of [] = []
@@ -115,7 +115,7 @@ last_at C [] i w = w
 last_at C (x ∷ xs) i w = last_at C xs i (if index C x.0 == i then x.1 else w)
 
 -- w is the word of the greatest position with the index i among these stores, which is that of x
-pub record IsNewest (C : ℕ) (xs : List (ℕ × ℕ)) (i w : ℕ) (x : ℕ × ℕ) : Type 0 where
+pub record IsNewestAt (C : ℕ) (xs : List (ℕ × ℕ)) (i w : ℕ) (x : ℕ × ℕ) : Type 0 where
   pub stored : (j : ℕ) × (get_elem? xs j ≡ some x)
   pub at_index : index C x.0 ≡ i
   pub word : w ≡ x.1
@@ -124,4 +124,5 @@ pub record IsNewest (C : ℕ) (xs : List (ℕ × ℕ)) (i w : ℕ) (x : ℕ × �
 -- the word at the index i is that of the greatest position stored there, or 0 where none was
 abbrev pub IsBoardWord : ℕ → List (ℕ × ℕ) → ℕ → ℕ → Type 0
 IsBoardWord C xs i w =
-    ((x : ℕ × ℕ) × IsNewest C xs i w x) ⊎ (((j : ℕ) (y : ℕ × ℕ) → get_elem? xs j ≡ some y → index C y.0 ≢ i) × (w ≡ 0))
+    ((x : ℕ × ℕ) × IsNewestAt C xs i w x) ⊎ (((j : ℕ) (y : ℕ × ℕ) → get_elem? xs j ≡ some y
+        → index C y.0 ≢ i) × (w ≡ 0))

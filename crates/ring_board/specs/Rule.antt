@@ -14,7 +14,7 @@ use Rattle.ring_board.specs.declared.shared.view.Load.{Load}
 use Rattle.ring_board.specs.declared.shared.view.Load.TheVariants.{Word, Intent, Tail, Latest}
 use Rattle.ring_board.specs.declared.shared.view.Stage.{Stage}
 use Rattle.ring_board.specs.declared.shared.view.Stage.TheVariants.{Spent, Idle, Begun, Storing, Written, Shown, Resting, Sure, Headed, Padded, Again, Reading, Behind}
-use Rattle.ring_board.specs.Records.{end, Lies, Follows, Chain, end_of, last_of, words_of, header_of, filled, stores, stores_of, last_at}
+use Rattle.ring_board.specs.Records.{end, Lies, Follows, Chain, end_of, last_of, words_of_body, header_of, filled, stores, stores_of, last_at}
 use Rattle.ring_board.specs.Runs.{IsCopy, AreAllRuns, AreRuns}
 
 -- The transmitter ----------------------------------------------------------
@@ -32,9 +32,9 @@ latest e sent (Shown r) = r.place
 latest e sent _ = last_of e sent
 
 -- the list with the record that latest shows
-abbrev pub shown : List Record → Stage → List Record
-shown sent (Shown r) = sent ++ r ∷ []
-shown sent _ = sent
+abbrev pub with_latest : List Record → Stage → List Record
+with_latest sent (Shown r) = sent ++ r ∷ []
+with_latest sent _ = sent
 
 -- all stores in the buffer so far
 abbrev pub so_far : List Record → Stage → List (ℕ × ℕ)
@@ -96,7 +96,7 @@ module _ (C now : ℕ) (sent : List Record) (at next : ℕ) where
   Loaded (Padded w) = Next (λ r. (at ≡ r.before) × (r.before < r.place) × (w ≡ padding_header (r.place - r.before)))
   Loaded (Again w) = Next (λ r. (at ≡ r.place) × (now < at + C → w ≡ header_of r.message))
   Loaded (Reading w ws) = Next (λ r. (at ≡ r.place) × (w ≡ header_of r.message)
-      × (now < at + C → ws ≡ take (length ws) (words_of r.message.body)))
+      × (now < at + C → ws ≡ take (length ws) (words_of_body r.message.body)))
   Loaded Behind = Next (λ r. at + C ≤ now)
   Loaded _ = ⊥
 
@@ -108,7 +108,7 @@ Knows C e by mine j v (Begun d) = j ≡ by
 Knows C e by mine j v (Storing d) = j ≡ by
 Knows C e by mine j v (Written r) = j ≡ by
 Knows C e by mine j v (Shown r) = j ≡ by
-Knows C e by mine j v st = (v.capacity ≡ C) × Receives e mine.sent (shown mine.sent mine.stage) v
+Knows C e by mine j v st = (v.capacity ≡ C) × Receives e mine.sent (with_latest mine.sent mine.stage) v
     × Loaded C (intent e mine.sent mine.stage) mine.sent v.at v.next st
 
 -- What was loaded ----------------------------------------------------------

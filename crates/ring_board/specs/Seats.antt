@@ -21,8 +21,8 @@ use Rattle.ring_board.specs.declared.shared.view.Taken.{Taken}
 use Rattle.ring_board.specs.declared.shared.view.Joined.{Joined}
 use Rattle.ring_board.specs.declared.fault.Lapped.{Lapped}
 use Rattle.ring_board.specs.Rule.{opening_view}
-use Rattle.ring_board.specs.Receiving.{GotNothing, GotCopy, GotLapped, GotRecord, IsInside}
-use Rattle.ring_board.specs.Steps.{Sat, staged, draft, drafted, record_at}
+use Rattle.ring_board.specs.Receiving.{GotNothing, GotCopy, GotLapped, GotRecord, IsInBuffer}
+use Rattle.ring_board.specs.Steps.{Sat, at_stage, draft, drafted, record_at}
 
 -- the seat is one of this board
 abbrev pub IsSeatOf : Board → Seat (Unit {0}) View → Type 0
@@ -108,7 +108,7 @@ begun_len b = b.len
 
 -- the transmitter has begun a transmission of a message of this type id and length
 pub record HasBegun (C : ℕ) (t : Transmitter) (type_id : ℤ) (len : ℕ) (b : Begun) : Type 0 where
-  pub view : begun_view b ≡ staged (view_of t)
+  pub view : begun_view b ≡ at_stage (view_of t)
       (drafted (draft (tail_of t) (next_place C (tail_of t) (span len)) (end_after C (tail_of t) (span len)) []))
   pub tail : begun_tail b ≡ tail_of t
   pub type_id_given : begun_type_id b ≡ type_id
@@ -139,10 +139,10 @@ abbrev pub answered_by : Receiver → List Taken
 answered_by r = r.seat.me.0.copies
 
 -- a record that a receiver with this view answered
-pub record IsAnswered (v : View) (r : RawRecord) : Type 0 where
+pub record IsAnsweredRecord (v : View) (r : RawRecord) : Type 0 where
   pub copy : (n : ℕ) × (c : Taken) × (get_elem? v.copies n ≡ some c) × (c.place ≡ r.place)
       × (c.message.type_id ≡ r.type_id) × (length c.message.body ≡ r.len)
-  pub inside : IsInside v.capacity r
+  pub inside : IsInBuffer v.capacity r
 
 -- where the receiver stands: the record there is looked for next
 abbrev pub raw_stands_at : Receiver → ℕ
@@ -155,12 +155,12 @@ raw_lapped_count_of r = r.seat.me.0.count
 abbrev pub ReceivedNext : Receiver → Receiver → Result (Option RawRecord) Lapped → Type 0
 ReceivedNext old new result = MatchResult result
     (λ o. MatchOption o (GotNothing (raw_seat old) (raw_seat new))
-    (λ r. GotRecord r (raw_seat old) (raw_seat new) × IsAnswered (raw_view new) r))
+    (λ r. GotRecord r (raw_seat old) (raw_seat new) × IsAnsweredRecord (raw_view new) r))
     (λ l. GotLapped l (raw_seat old) (raw_seat new))
 
 -- what the receiver answered stays answered
 abbrev pub StaysAnswered : Receiver → Receiver → Type 0
-StaysAnswered old new = (r : RawRecord) → IsAnswered (raw_view old) r → IsAnswered (raw_view new) r
+StaysAnswered old new = (r : RawRecord) → IsAnsweredRecord (raw_view old) r → IsAnsweredRecord (raw_view new) r
 
 abbrev pub place_of : RawRecord → ℕ
 place_of r = r.place
@@ -189,8 +189,8 @@ subscribed_at r = raw_subscribed_at r.receiver
 abbrev pub copies_of : CopyReceiver → List Taken
 copies_of r = answered_by r.receiver
 
-abbrev pub stands_at : CopyReceiver → ℕ
-stands_at r = raw_stands_at r.receiver
+abbrev pub place_in : CopyReceiver → ℕ
+place_in r = raw_stands_at r.receiver
 
 abbrev pub lapped_count_of : CopyReceiver → ℕ
 lapped_count_of r = raw_lapped_count_of r.receiver

@@ -20,8 +20,8 @@ use Rattle.ring_board.specs.Runs.{AreRuns}
 abbrev pub Sat : Type 0
 Sat = Me (Unit {0}) View
 
-abbrev pub staged : View → Stage → View
-staged v st = record v { stage = st }
+abbrev pub at_stage : View → Stage → View
+at_stage v st = record v { stage = st }
 
 -- The transmitter ----------------------------------------------------------
 
@@ -37,7 +37,7 @@ drafted d = if nat_lt d.before d.place then Begun d else Storing d
 
 -- a transmission begins that is to end at z
 abbrev pub after_intent : View → ℕ → View
-after_intent v z = staged v (drafted (draft v.at (place_before v.capacity v.at z) z []))
+after_intent v z = at_stage v (drafted (draft v.at (place_before v.capacity v.at z) z []))
 
 abbrev pub after_padding : Stage → Stage
 after_padding (Begun d) = Storing d
@@ -51,11 +51,11 @@ after_words (Storing d) ws = Storing (with_words d ws)
 after_words st ws = st
 
 -- the record that a draft becomes with this header
-abbrev pub written : Draft → ℕ → Record
-written d x = record { before = d.before; place = d.place; message = message_in x d.words }
+abbrev pub with_entry : Draft → ℕ → Record
+with_entry d x = record { before = d.before; place = d.place; message = message_in x d.words }
 
 abbrev pub after_header : Stage → ℕ → Stage
-after_header (Storing d) x = Written (written d x)
+after_header (Storing d) x = Written (with_entry d x)
 after_header st x = st
 
 -- the record that is written and not sent, where there is one
@@ -80,16 +80,16 @@ abbrev pub StoresIntent : Sat → ℕ → Sat → Type 0
 StoresIntent m x m' = m' ≡ (after_intent m.0 x, m.1)
 
 abbrev pub StoresPadding : Sat → ℕ → Sat → Type 0
-StoresPadding m x m' = m' ≡ (staged m.0 (after_padding m.0.stage), m.1)
+StoresPadding m x m' = m' ≡ (at_stage m.0 (after_padding m.0.stage), m.1)
 
 abbrev pub StoresWord : Sat → ℕ → Sat → Type 0
-StoresWord m x m' = m' ≡ (staged m.0 (after_words m.0.stage (x ∷ [])), m.1)
+StoresWord m x m' = m' ≡ (at_stage m.0 (after_words m.0.stage (x ∷ [])), m.1)
 
 abbrev pub StoresHeader : Sat → ℕ → Sat → Type 0
-StoresHeader m x m' = m' ≡ (staged m.0 (after_header m.0.stage x), m.1)
+StoresHeader m x m' = m' ≡ (at_stage m.0 (after_header m.0.stage x), m.1)
 
 abbrev pub StoresLatest : Sat → ℕ → Sat → Type 0
-StoresLatest m x m' = m' ≡ (staged m.0 (after_latest m.0.stage), m.1)
+StoresLatest m x m' = m' ≡ (at_stage m.0 (after_latest m.0.stage), m.1)
 
 abbrev pub StoresTail : Sat → ℕ → Sat → Type 0
 StoresTail m x m' = m' ≡ (after_tail m.0 m.0.stage, m.1)
@@ -157,14 +157,14 @@ copied v m = record v {
 
 -- a validation went well
 abbrev pub passed : View → Stage → View
-passed v (Headed w) = staged v (if is_padding w then Padded w else Reading w [])
-passed v (Again w) = staged v (Reading w [])
+passed v (Headed w) = at_stage v (if is_padding w then Padded w else Reading w [])
+passed v (Again w) = at_stage v (Reading w [])
 passed v (Reading w ws) = copied v (message_in w ws)
 passed v st = v
 
 -- an intent was loaded: a place is valid where it lies less than the capacity below
 abbrev pub validated : View → ℕ → View
-validated v x = logged (if nat_lt x (v.at + v.capacity) then passed v v.stage else staged v Behind) (Intent x)
+validated v x = logged (if nat_lt x (v.at + v.capacity) then passed v v.stage else at_stage v Behind) (Intent x)
 
 -- a validated header at a place is of a message that fits the buffer there
 pub record IsSound (C at w : ℕ) : Type 0 where
@@ -197,7 +197,7 @@ header_seen _ = 0
 -- an intent was loaded, to validate the header w of a record with this body, which is answered unread
 abbrev pub answered : View → ℕ → List ℕ → ℕ → View
 answered v w body x =
-    logged (if nat_lt x (v.at + v.capacity) then copied v (message_of w body) else staged v Behind) (Intent x)
+    logged (if nat_lt x (v.at + v.capacity) then copied v (message_of w body) else at_stage v Behind) (Intent x)
 
 abbrev pub AnswersEntry : Sat → ℕ → Sat → Type 0
 AnswersEntry m x m' = (body : List ℕ) × (m' ≡ (answered m.0 (header_seen m.0.stage) body x, m.1))

@@ -1,4 +1,11 @@
 //! A broadcast buffer: one transmitter that never waits, and receivers that learn when they missed something.
+//!
+//! - `board`: a board, its transmitter and its receivers. `open`: from its making to its close.
+//! - `transmitter`: the transmitter's calls. `receiver`: `approach` finds and copies the next record (`found`), for the
+//!   calls of `copying` and `raw` receivers. `seat`: how receivers are made and taken back.
+//! - `shared`: what each seat knows (`view`), what each step tells (`plays`), and a function for each kind of step
+//!   (`store`, `load`).
+//! - `fault`: why calls refuse. `laws`: what stays while others go on.
 #![tactic(auto)]
 
 mod board;

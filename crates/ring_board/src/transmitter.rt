@@ -6,7 +6,7 @@ ghost use Rattle.ring_layout.specs.Places.{max_position, next_place};
 ghost use Rattle.ring_board.specs.declared.shared.view.Record.{Record};
 ghost use Rattle.ring_board.specs.declared.shared.view.Stage.TheVariants.{Storing, Written};
 ghost use Rattle.ring_board.specs.Records.{end, end_of};
-ghost use Rattle.ring_board.specs.Steps.{staged, draft, drafted, sent_on};
+ghost use Rattle.ring_board.specs.Steps.{at_stage, draft, drafted, sent_on};
 ghost use Rattle.ring_board.specs.Refusals.{transmit_refusal_of, IsRefusedBy, IsRefusedAs};
 ghost use Rattle.ring_board.specs.Seats.{IsSeatOf, IsSameSeat, capacity_of, view_of, tail_of, shares_of, transmitted, IsTransmitterOf, next_record, IsBegunOf, IsFilledOf, begun_view, filled_view, filled_record, begun_tail, begun_type_id, begun_len, HasBegun, refused_with};
 
@@ -65,7 +65,7 @@ impl Board {
         requires gap { (tail ≤ place) × (place ≤ tail + self.now.capacity) }
         ensures same { IsSameSeat seat.old seat.new }
         ensures padded { (z : ℕ) → seat.old.me.0.stage ≡ drafted (draft tail place z [])
-            → seat.new.me ≡ (staged seat.old.me.0 (Storing (draft tail place z [])), seat.old.me.1) }
+            → seat.new.me ≡ (at_stage seat.old.me.0 (Storing (draft tail place z [])), seat.old.me.1) }
     {
         if tail < place {
             self.store_padding(seat, tail, padding_header(place - tail));
@@ -81,7 +81,7 @@ impl Board {
         requires whole { (tail % 8 ≡ 0) × (place ≤ max_position) }
         ensures same { IsSameSeat seat.old seat.new }
         ensures written { seat.new.me
-            ≡ (staged seat.old.me.0 (Written (next_record self.now.capacity tail type_id body.now)), seat.old.me.1) }
+            ≡ (at_stage seat.old.me.0 (Written (next_record self.now.capacity tail type_id body.now)), seat.old.me.1) }
     {
         self.store_gap(seat, tail, place);
         self.store_body(seat, place, body);
@@ -189,7 +189,7 @@ impl Board {
         requires board { IsBegunOf self.now begun }
         requires len { length body.now ≡ begun_len begun }
         ensures board { IsFilledOf self.now result }
-        ensures filled { filled_view result ≡ staged (begun_view begun)
+        ensures filled { filled_view result ≡ at_stage (begun_view begun)
             (Written (next_record (capacity_of self.now) (begun_tail begun) (begun_type_id begun) body.now)) }
     {
         let Begun {

@@ -4,7 +4,7 @@ ghost use mathlib.Core.Option.{some};
 ghost use lib.ListN.{get_elem?};
 ghost use Rattle.ring_board.specs.declared.shared.view.Taken.{Taken};
 ghost use Rattle.ring_board.specs.declared.board.RawRecord.{RawRecord};
-ghost use Rattle.ring_board.specs.Seats.{IsTransmitterOf, IsRawOf, IsAnswered, raw_view, answered_by, place_of, len_of};
+ghost use Rattle.ring_board.specs.Seats.{IsTransmitterOf, IsRawOf, IsAnsweredRecord, raw_view, answered_by, place_of, len_of};
 
 use ring_board::{
     Begun, Board, Lapped, NoShares, RawRecord, Receiver, ReceiversOut, SubscribeFault,
@@ -37,8 +37,9 @@ fn begun(board: &Board, transmitter: Transmitter) -> Result<Begun, TransmitFault
 fn next(board: &Board, receiver: &mut Receiver) -> Result<RawRecord, Fail>
     requires { IsRawOf board.now receiver.old }
     ensures board { IsRawOf board.now receiver.new }
-    ensures answered { IfOk result (λ r. IsAnswered (raw_view receiver.new) r) }
-    ensures kept { (r : RawRecord) → IsAnswered (raw_view receiver.old) r → IsAnswered (raw_view receiver.new) r }
+    ensures answered { IfOk result (λ r. IsAnsweredRecord (raw_view receiver.new) r) }
+    ensures kept { (r : RawRecord) → IsAnsweredRecord (raw_view receiver.old) r
+        → IsAnsweredRecord (raw_view receiver.new) r }
 {
     match receiver.receive_next(board) {
         Ok(Some(record)) => Ok(record),
@@ -50,9 +51,10 @@ fn next(board: &Board, receiver: &mut Receiver) -> Result<RawRecord, Fail>
 /// The body of a record, at the front of bytes that are 99.
 fn loaded(board: &Board, receiver: &mut Receiver, raw: &RawRecord) -> [u8; 12]
     requires board { IsRawOf board.now receiver.old }
-    requires raw { IsAnswered (raw_view receiver.old) raw.now }
+    requires raw { IsAnsweredRecord (raw_view receiver.old) raw.now }
     ensures board { IsRawOf board.now receiver.new }
-    ensures kept { (r : RawRecord) → IsAnswered (raw_view receiver.old) r → IsAnswered (raw_view receiver.new) r }
+    ensures kept { (r : RawRecord) → IsAnsweredRecord (raw_view receiver.old) r
+        → IsAnsweredRecord (raw_view receiver.new) r }
 {
     let mut out = [99; 12];
     if raw.len() <= 12 {
@@ -65,7 +67,7 @@ fn loaded(board: &Board, receiver: &mut Receiver, raw: &RawRecord) -> [u8; 12]
 /// record's copy, which `join_raw` says is an entry of the list.
 fn is_loaded_whole(board: &Board, receiver: &mut Receiver, raw: &RawRecord, out: &mut [u8]) -> bool
     requires board { IsRawOf board.now receiver.old }
-    requires raw { IsAnswered (raw_view receiver.old) raw.now }
+    requires raw { IsAnsweredRecord (raw_view receiver.old) raw.now }
     requires room { len_of raw.now ≤ length out.old }
     ensures board { IsRawOf board.now receiver.new }
     ensures whole { result ≡ true → (n : ℕ) × (c : Taken) × (get_elem? (answered_by receiver.new) n ≡ some c)

@@ -12,9 +12,9 @@ use Rattle.ring_words.specs.declared.read.end.Stop.TheVariants.{Block, Unpublish
 use Rattle.ring_words.specs.Read.{GoesOn}
 use Rattle.ring_table.specs.declared.claim.PlacedMessage.{PlacedMessage}
 use Rattle.ring_table.specs.declared.view.View.{View}
-use Rattle.ring_rings.specs.Reading.{Controls, IsBlocked, IsNext, Reads, messages_of}
+use Rattle.ring_rings.specs.Reading.{Controls, FoundUnsettled, IsNext, Reads, messages_of}
 use Rattle.ring_c.specs.declared.batch.Laying.{Laying}
-use Rattle.ring_c.specs.Batch.{Adds, Batch, IsShort, Lays, Leaves, ReadBatch, ReadsBatch, TookBatch, TookSome, batch, laid, laid_end, span_in}
+use Rattle.ring_c.specs.Batch.{LaysIn, Batch, IsShort, Lays, LeavesOut, ReadBatch, ReadsBatch, TookBatch, TookSome, batch, laid, laid_end, span_in}
 use Rattle.ring_c.specs.Consuming.{RanOut, TookNone}
 use Rattle.ring_c.specs.Side.{Reading, having_read}
 use Rattle.ring_c.proofs.EndLemmas.{both, had_none, in_words, next_on, none_once, none_twice, ran_out}
@@ -29,7 +29,7 @@ record WereLaid (s : Laying) (ms : List PlacedMessage) (t : Laying) : Type 0 whe
   pub borrow : t.buffer.ghost_name ≡ s.buffer.ghost_name
 
 -- who goes on added the message
-added : (s u : Laying) (m : Message) (a : Action) → Lays s m u a → GoesOn a → Adds s m u a
+added : (s u : Laying) (m : Message) (a : Action) → Lays s m u a → GoesOn a → LaysIn s m u a
 added s u m a (inl adds) on = adds
 added s u m a (inr leaves) on = absurd (subst GoesOn leaves.action on)
 
@@ -76,7 +76,7 @@ never_broke s t (m ∷ ms) [] handled = no_break s handled.0 m.message handled.1
 never_broke s t (m ∷ ms) (a ∷ before) handled = never_broke handled.0 t ms before handled.2
 
 -- Abort is not Continue
-left : (s t : Laying) (m : Message) → Lays s m t Abort → Leaves s m t Abort
+left : (s t : Laying) (m : Message) → Lays s m t Abort → LeavesOut s m t Abort
 left s t m (inr leaves) = leaves
 left s t m (inl adds) = absurd (subst is_abort adds.action tt)
   where
@@ -205,7 +205,7 @@ none_fits limit v w s t end fresh open_yet controls none is_full =
 
 -- no message came
 pub none_came : (limit : ℕ) (v w : View) (s t : Laying) (end : ReadEnd)
-    → v.consumer.head + end.bytes ≡ w.consumer.head → (end.stopped ≡ Unpublished → IsBlocked v w)
+    → v.consumer.head + end.bytes ≡ w.consumer.head → (end.stopped ≡ Unpublished → FoundUnsettled v w)
     → Controls Lays limit v w s t end → end.messages ≡ 0 → t.is_full ≡ false → RanOut limit end.stopped v w
 unfolding is_yes
 none_came limit v w s t end bytes blocked (inl on) none open_yet = ran_out Lays limit v w s t end on none bytes blocked

@@ -13,7 +13,7 @@ use Rattle.ring_table.specs.ProducerSteps.{with_changed}
 use Rattle.ring_rings.specs.declared.ring.Ring.{Ring}
 use Rattle.ring_rings.specs.declared.ring.Producer.{Producer}
 use Rattle.ring_rings.specs.Seats.{view_of, IsOpenClaimOf, KeepsBoth, KeepsClaims, KeepsOthers, LiesApart}
-use Rattle.ring_c.specs.Claims.{aborted, claim_numbered, without, AreApart, AreOpen, IsNoNumber, StandsAt, Takes}
+use Rattle.ring_c.specs.Claims.{aborted, claim_numbered, without, AreApart, AreOpen, IsNoNumber, HasIndex, Takes}
 use Rattle.ring_c.specs.Producing.{holding, settling, Declined, Settled}
 use Rattle.ring_c.specs.Side.{knowing, side}
 
@@ -54,7 +54,7 @@ module _ (number : ℕ) (claims : List ClaimAt) where
 
   -- the next one has it
   pub found : (i : ℕ) (d : ClaimAt) → i < length claims → eqb (get_or claims i d).place number ≡ true
-      → IsBehind number claims i → StandsAt number claims i
+      → IsBehind number claims i → HasIndex number claims i
   found i d inside on so_far =
       let t = get_or claims i d in
       let front = drop_more claims i d inside in

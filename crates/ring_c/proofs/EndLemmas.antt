@@ -8,7 +8,7 @@ use Rattle.ring_words.specs.declared.read.end.ReadEnd.{ReadEnd}
 use Rattle.ring_words.specs.declared.read.end.Stop.{Stop}
 use Rattle.ring_words.specs.declared.read.end.Stop.TheVariants.{Limit, Block, Unpublished}
 use Rattle.ring_table.specs.declared.view.View.{View}
-use Rattle.ring_rings.specs.Reading.{Controls, IsBlocked, IsNext, MovesHead, WentOn}
+use Rattle.ring_rings.specs.Reading.{Controls, FoundUnsettled, IsNext, MovesHead, WentOn}
 use Rattle.ring_c.specs.Consuming.{HadNone, RanOut, ReadCode, ReadsOn, TookNone}
 
 module _ {S : Type 0} (step : S → Message → S → Action → Type 0) (limit : ℕ) (v w : View) (s t : S)
@@ -32,7 +32,7 @@ module _ {S : Type 0} (step : S → Message → S → Action → Type 0) (limit 
 
   -- below its limit a read that nothing stopped ended where no settled record lay, or at the end of the buffer
   ran_on : WentOn step limit v w s t end → end.messages ≡ 0 → 0 < limit
-      → v.consumer.head + end.bytes ≡ w.consumer.head → (end.stopped ≡ Unpublished → IsBlocked v w)
+      → v.consumer.head + end.bytes ≡ w.consumer.head → (end.stopped ≡ Unpublished → FoundUnsettled v w)
       → RanOut limit end.stopped v w
   ran_on on none some bytes blocked =
       let zero_there = w.consumer.head % w.capacity == 0 in
@@ -54,7 +54,7 @@ module _ {S : Type 0} (step : S → Message → S → Action → Type 0) (limit 
       ]
 
   pub ran_out : WentOn step limit v w s t end → end.messages ≡ 0
-      → v.consumer.head + end.bytes ≡ w.consumer.head → (end.stopped ≡ Unpublished → IsBlocked v w)
+      → v.consumer.head + end.bytes ≡ w.consumer.head → (end.stopped ≡ Unpublished → FoundUnsettled v w)
       → RanOut limit end.stopped v w
   ran_out on none bytes blocked = elim (cases_lt 0 limit) as (λ _. RanOut limit end.stopped v w) [
     | inl some ↦ ran_on on none some bytes blocked
@@ -78,7 +78,7 @@ module _ (v u w : View) (first : ReadsOn v u) where
   pub capacity_on : u.capacity ≡ v.capacity
   capacity_on = ap (λ (x : View). x.capacity) first.view
 
-  pub blocked_on : IsBlocked u w → IsBlocked v w
+  pub blocked_on : FoundUnsettled u w → FoundUnsettled v w
   blocked_on b = record {
     before = first.loads ++ b.before;
     found = b.found;

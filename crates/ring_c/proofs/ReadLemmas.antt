@@ -12,10 +12,10 @@ use Rattle.ring_words.specs.declared.read.end.Stop.TheVariants.{Block, Unpublish
 use Rattle.ring_words.specs.Read.{GoesOn}
 use Rattle.ring_table.specs.declared.claim.PlacedMessage.{PlacedMessage}
 use Rattle.ring_table.specs.declared.view.View.{View}
-use Rattle.ring_rings.specs.Reading.{Controls, IsBlocked, messages_of}
+use Rattle.ring_rings.specs.Reading.{Controls, FoundUnsettled, messages_of}
 use Rattle.ring_c.specs.declared.copying.Copying.{Copying}
-use Rattle.ring_c.specs.Consuming.{Out, RanOut, ReadOne, ReadsOne, Stays, Took, TookNone, TookOne, out}
-use Rattle.ring_c.specs.Copying.{Copies, Exceeds, Fits}
+use Rattle.ring_c.specs.Consuming.{Out, RanOut, ReadOne, ReadsOne, LeavesAtHead, Took, TookNone, TookOne, out}
+use Rattle.ring_c.specs.Copying.{Copies, Exceeds, CopiesIn}
 use Rattle.ring_c.specs.Side.{Reading, having_read}
 use Rattle.ring_c.proofs.EndLemmas.{both, had_none, in_words, next_on, none_once, none_twice, ran_out}
 
@@ -56,7 +56,7 @@ shown_one s t ms actions before handled on is =
         first (m ∷ ms) handled = never_on s handled.0 m.message a handled.1 (All-head GoesOn a before on)
 
 -- Break is not Abort
-broken : (s t : Copying) (m : Message) → Copies s m t Break → Fits s m t Break
+broken : (s t : Copying) (m : Message) → Copies s m t Break → CopiesIn s m t Break
 broken s t m (inl fits) = fits
 broken s t m (inr exceeds) = absurd (subst is_break exceeds.action tt)
   where
@@ -88,7 +88,7 @@ uncounted n ms counted none = counted ∙ ap (λ (ns : List PlacedMessage). leng
 
 -- it took one message, or none, or left one that is too long
 pub took_one : (v w : View) (s t : Copying) (end : ReadEnd) → s.code ≡ pos 105
-    → v.consumer.head + end.bytes ≡ w.consumer.head → (end.stopped ≡ Unpublished → IsBlocked v w)
+    → v.consumer.head + end.bytes ≡ w.consumer.head → (end.stopped ≡ Unpublished → FoundUnsettled v w)
     → Controls Copies 1 v w s t end
     → TookOne (RanOut 1 end.stopped) v w (out s.type_id s.len s.buffer.now) (out t.type_id t.len t.buffer.now) t.code
 took_one v w s t end waits bytes blocked (inl on) =
@@ -188,7 +188,7 @@ read_twice one two o o' o'' r s t first code is ended (same, on, took) (same', o
       outs = k.outs;
     }
 
-    stays : Stays s.view t.view o o'' → Stays r.view t.view o o''
+    stays : LeavesAtHead s.view t.view o o'' → LeavesAtHead r.view t.view o o''
     stays k = record {
       taken = k.taken ∙ none.taken;
       message = k.message;

@@ -35,7 +35,7 @@ laid_end at (m ∷ ms) = laid_end (at + span_in (length m.body)) ms
 -- The handler --------------------------------------------------------------------
 
 -- there was room, and the message stands behind those before it
-pub record Adds (s : Laying) (m : Message) (t : Laying) (a : Action) : Type 0 where
+pub record LaysIn (s : Laying) (m : Message) (t : Laying) (a : Action) : Type 0 where
   pub room : s.used + span_in (length m.body) ≤ length s.buffer.now
   pub action : a ≡ Continue
   pub buffer : t.buffer.now ≡ placed s.used m s.buffer.now
@@ -46,7 +46,7 @@ pub record Adds (s : Laying) (m : Message) (t : Laying) (a : Action) : Type 0 wh
   pub borrow : t.buffer.ghost_name ≡ s.buffer.ghost_name
 
 -- there was not, and the message stays
-pub record Leaves (s : Laying) (m : Message) (t : Laying) (a : Action) : Type 0 where
+pub record LeavesOut (s : Laying) (m : Message) (t : Laying) (a : Action) : Type 0 where
   pub short : length s.buffer.now < s.used + span_in (length m.body)
   pub action : a ≡ Abort
   pub buffer : t.buffer.now ≡ s.buffer.now
@@ -56,7 +56,7 @@ pub record Leaves (s : Laying) (m : Message) (t : Laying) (a : Action) : Type 0 
   pub borrow : t.buffer.ghost_name ≡ s.buffer.ghost_name
 
 abbrev pub Lays : Laying → Message → Laying → Action → Type 0
-Lays s m t a = Adds s m t a ⊎ Leaves s m t a
+Lays s m t a = LaysIn s m t a ⊎ LeavesOut s m t a
 
 -- A batch ------------------------------------------------------------------------
 

@@ -78,8 +78,8 @@ pub record Heard : Type 0 where
   pub lapped : ℕ
   pub buffer : List ℕ
 
-abbrev pub heard : ℤ → ℕ → ℕ → List ℕ → Heard
-heard type_id len lapped buffer = record { type_id = type_id; len = len; lapped = lapped; buffer = buffer }
+abbrev pub heard_out : ℤ → ℕ → ℕ → List ℕ → Heard
+heard_out type_id len lapped buffer = record { type_id = type_id; len = len; lapped = lapped; buffer = buffer }
 
 -- a message was copied, and as much of it as the buffer has room for stands at its front
 pub record Copies (before after : Heard) (m m' : Sat) : Type 0 where
@@ -87,7 +87,7 @@ pub record Copies (before after : Heard) (m m' : Sat) : Type 0 where
   pub type_id : ℤ
   pub body : List ℕ
   pub got : GotCopy place type_id body m m'
-  pub outs : after ≡ heard type_id (length body) before.lapped
+  pub outs : after ≡ heard_out type_id (length body) before.lapped
       (overwritten 0 (take (length before.buffer) body) before.buffer)
 
 -- the receiver was lapped, and how often is put out
@@ -96,15 +96,15 @@ pub record Laps (before after : Heard) (m m' : Sat) : Type 0 where
   pub got : GotLapped lapped m m'
   pub outs : after ≡ record before { lapped = lapped.count }
 
-abbrev pub Hears : Heard → Heard → Sat → Sat → ℤ → Type 0
-Hears before after m m' code = ((code ≡ pos 0) × Copies before after m m')
+abbrev pub TellsHeard : Heard → Heard → Sat → Sat → ℤ → Type 0
+TellsHeard before after m m' code = ((code ≡ pos 0) × Copies before after m m')
     ⊎ (((code ≡ pos 105) × GotNothing m m' × (after ≡ before)) ⊎ ((code ≡ pos 13) × Laps before after m m'))
 
 -- a buffer that has no room for the longest message is refused, and that length is put out; else the receiver hears
 abbrev pub Received : Heard → Heard → Listening → Listening → ℤ → Type 0
 Received before after r s code = ((length before.buffer < r.capacity / 8) × (code ≡ pos 106) × (s ≡ r)
     × (after ≡ record before { len = r.capacity / 8 }))
-    ⊎ ((r.capacity / 8 ≤ length before.buffer) × (s ≡ seated s.seat r) × Hears before after r.seat s.seat code)
+    ⊎ ((r.capacity / 8 ≤ length before.buffer) × (s ≡ seated s.seat r) × TellsHeard before after r.seat s.seat code)
 
 -- how often the receiver was lapped so far is put out
 abbrev pub SaysLapped : ℕ → Listening → Listening → ℤ → Type 0

@@ -23,7 +23,7 @@ without number [] = []
 without number (t ∷ ts) = if t.place == number then ts else t ∷ without number ts
 
 -- the claim of this number stands at this index
-pub record StandsAt (number : ℕ) (claims : List ClaimAt) (index : ℕ) : Type 0 where
+pub record HasIndex (number : ℕ) (claims : List ClaimAt) (index : ℕ) : Type 0 where
   pub inside : index < length claims
   pub claim : (d : ClaimAt) → claim_numbered number claims ≡ Some (slice_index_or claims index d)
   pub rest : without number claims ≡ remove claims index

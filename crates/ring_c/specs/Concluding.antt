@@ -2,14 +2,14 @@
 use Rattle.std.specs.Prelude.{◌≡◌, ◌≢◌, ◌⊎◌, ℕ, ℤ, pos}
 use Rattle.std.specs.declared.option.Option.{Option}
 use Rattle.std.specs.declared.option.Option.TheVariants.{None}
-use Rattle.ring_c.specs.Closing.{Concludes, IsKept}
-use Rattle.ring_c.specs.Conducting.{IsConductorCode, IsFresh}
-use Rattle.ring_c.specs.Told.{a_conductor, EndsAs, Holds}
+use Rattle.ring_c.specs.Closing.{TellsEnd, WhyNotFinished}
+use Rattle.ring_c.specs.Conducting.{IsConductorCode, IsNewConductor}
+use Rattle.ring_c.specs.Told.{a_conductor, EndsAs, HoldsOne}
 use Rattle.ring_c.specs.declared.held.Held.{Held}
 
 -- a conductor of these sizes, to which nothing was sent
 abbrev pub HoldNewConductor : ℕ → ℕ → ℕ → ℕ → Option Held → Type 0
-HoldNewConductor C R count reuse_ms h = Holds a_conductor (IsFresh C R count reuse_ms) h
+HoldNewConductor C R count reuse_ms h = HoldsOne a_conductor (IsNewConductor C R count reuse_ms) h
 
 -- a handle in use answers 102 and stays as it is; else a conductor is made for it, or refused
 abbrev pub OpensConductor : ℕ → ℕ → ℕ → ℕ → Option Held → Option Held → ℤ → Type 0
@@ -27,4 +27,4 @@ counts received left = record { received = received; left = left }
 
 -- a conductor's handle is emptied once the conductor ended, or it stays as it is
 abbrev pub Ends : Counts → Counts → Option Held → Option Held → ℤ → Type 0
-Ends = EndsAs a_conductor (λ c ended. Concludes c ended.received ended.left) IsKept
+Ends = EndsAs a_conductor (λ c ended. TellsEnd c ended.received ended.left) WhyNotFinished

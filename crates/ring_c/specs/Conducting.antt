@@ -18,7 +18,7 @@ use Rattle.ring_conductor.specs.declared.conductor.Work.{Work}
 use Rattle.ring_conductor.specs.declared.conductor.WorkStop.{WorkStop}
 use Rattle.ring_conductor.specs.declared.conductor.WorkStop.TheVariants.{Limit, Block, Unpublished, BoardEnd}
 use Rattle.ring_conductor.specs.Asking.{client_seat, client_view}
-use Rattle.ring_conductor.specs.Conducting.{board_view, counters_of, ledger_of, ring_view, value_shares_of, KeepsTheRest, KeepsWhatItServes, Works}
+use Rattle.ring_conductor.specs.Conducting.{board_view, manager_in, ledger_of, ring_view, value_shares_of, KeepsTheRest, KeepsWhatItServes, Works}
 use Rattle.ring_c.specs.declared.client.ClientSide.{ClientSide}
 use Rattle.ring_c.specs.declared.conductor.ConductorSide.{ConductorSide}
 use Rattle.ring_c.specs.declared.lending.Shared.{Shared}
@@ -45,14 +45,14 @@ IsConductorCode C R count code =
     MatchOption (sizes_refused C R count) ((code ≡ pos 0) ⊎ (code ≡ pos 3)) (λ refused. code ≡ refused)
 
 -- nothing was sent, no reply given and no counter used, and all shares are here
-pub record IsFresh (C R count reuse_ms : ℕ) (c : ConductorSide) : Type 0 where
+pub record IsNewConductor (C R count reuse_ms : ℕ) (c : ConductorSide) : Type 0 where
   pub ring : (capacity_of (shared_by c).ring ≡ C) × (start_of (shared_by c).ring ≡ 0)
   pub board : (board_capacity_of (shared_by c).board ≡ R) × (board_start_of (shared_by c).board ≡ 0)
   pub producer : view_of c.producer ≡ first_producer C 0
   pub consumer : ring_view c.conductor ≡ first_consumer C 0
   pub transmitter : board_view c.conductor ≡ opening_view R 0
-  pub registry : registry_of (counters_of c.conductor) ≡ fresh_registry count reuse_ms
-  pub writes : writes_of (counters_of c.conductor) ≡ []
+  pub registry : registry_of (manager_in c.conductor) ≡ fresh_registry count reuse_ms
+  pub writes : writes_of (manager_in c.conductor) ≡ []
   pub values : value_shares_of c.conductor ≡ 65536
 
 -- Clients ------------------------------------------------------------------------
@@ -86,14 +86,14 @@ pub record Report : Type 0 where
   pub messages : ℕ
   pub stopped : ℤ
 
-abbrev pub report : ℕ → ℤ → Report
-report messages stopped = record { messages = messages; stopped = stopped }
+abbrev pub report_out : ℕ → ℤ → Report
+report_out messages stopped = record { messages = messages; stopped = stopped }
 
 abbrev pub reported : Work → Report
-reported work = report work.messages (stop_number work.stopped)
+reported work = report_out work.messages (stop_number work.stopped)
 
 -- commands were taken at a moment, as the library says of this work
-pub record Serves (now limit : ℕ) (c d : ConductorSide) (after : Report) : Type 0 where
+pub record TakesCommands (now limit : ℕ) (c d : ConductorSide) (after : Report) : Type 0 where
   pub work : Work
   pub works : Works now limit (ring_view c.conductor) (ring_view d.conductor) (ledger_of c.conductor)
       (ledger_of d.conductor) work
@@ -104,7 +104,7 @@ pub record Serves (now limit : ℕ) (c d : ConductorSide) (after : Report) : Typ
 -- the moment is above 2^62, and nothing changed; else commands were taken
 abbrev pub Worked : ℕ → ℕ → Report → Report → ConductorSide → ConductorSide → ℤ → Type 0
 Worked now limit before after c d code = ((2 ^ 62 < now) × (code ≡ pos 107) × (d ≡ c) × (after ≡ before))
-    ⊎ ((now ≤ 2 ^ 62) × (code ≡ pos 0) × Serves now limit c d after)
+    ⊎ ((now ≤ 2 ^ 62) × (code ≡ pos 0) × TakesCommands now limit c d after)
 
 -- the heartbeat was stored
 pub record Beats (value : ℕ) (c d : ConductorSide) : Type 0 where

@@ -7,7 +7,7 @@ use Rattle.ring_words.specs.declared.read.end.Stop.TheVariants.{Block, Unpublish
 use Rattle.ring_table.specs.declared.claim.PlacedMessage.{PlacedMessage}
 use Rattle.ring_table.specs.declared.view.View.{View}
 use Rattle.ring_table.specs.Views.{beaten, with_consumer}
-use Rattle.ring_rings.specs.Reading.{IsAtRest, IsBlocked, IsNext}
+use Rattle.ring_rings.specs.Reading.{IsAtRest, FoundUnsettled, IsNext}
 use Rattle.ring_c.specs.Side.{Reading, having_read}
 
 -- Of what the consumer knows only the log, which is longer by these loads, and its own part change. The head does not
@@ -31,7 +31,7 @@ pub record CameToEnd (v w : View) : Type 0 where
 -- came to the end of the buffer
 abbrev pub RanOut : ℕ → Stop → View → View → Type 0
 RanOut limit stopped v w =
-    (limit ≡ 0) ⊎ (((stopped ≡ Unpublished) × IsBlocked v w) ⊎ ((stopped ≡ Block) × CameToEnd v w))
+    (limit ≡ 0) ⊎ (((stopped ≡ Unpublished) × FoundUnsettled v w) ⊎ ((stopped ≡ Block) × CameToEnd v w))
 
 -- two reads, each of which came to the end of the buffer
 pub record CameTwice (v w : View) : Type 0 where
@@ -43,7 +43,7 @@ pub record CameTwice (v w : View) : Type 0 where
 
 -- none was asked for, no settled record lay at the new head, or from one end of the buffer to the next was no message
 abbrev pub HadNone : ℕ → View → View → Type 0
-HadNone limit v w = (limit ≡ 0) ⊎ (IsBlocked v w ⊎ CameTwice v w)
+HadNone limit v w = (limit ≡ 0) ⊎ (FoundUnsettled v w ⊎ CameTwice v w)
 
 -- none was taken, for this reason, and nothing is put out
 pub record TookNone {O : Type 0} (Why : View → View → Type 0) (v w : View) (before after : O) : Type 0 where
@@ -76,7 +76,7 @@ pub record Took (v w : View) (before after : Out) : Type 0 where
       (overwritten 0 message.message.body before.buffer)
 
 -- the message at the head is longer than the buffer, and stays: its type id and length are put out
-pub record Stays (v w : View) (before after : Out) : Type 0 where
+pub record LeavesAtHead (v w : View) (before after : Out) : Type 0 where
   pub taken : w.consumer.taken ≡ v.consumer.taken
   pub message : Message
   pub next : IsNext v w message
@@ -85,7 +85,7 @@ pub record Stays (v w : View) (before after : Out) : Type 0 where
 
 abbrev pub TookOne : (View → View → Type 0) → View → View → Out → Out → ℤ → Type 0
 TookOne Why v w before after code =
-    ReadCode (Took v w before after) (TookNone Why v w before after) (Stays v w before after) code
+    ReadCode (Took v w before after) (TookNone Why v w before after) (LeavesAtHead v w before after) code
 
 -- a message was read, or not
 abbrev pub ReadsOne : (View → View → Type 0) → Out → Out → Reading → Reading → ℤ → Type 0

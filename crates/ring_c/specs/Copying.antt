@@ -12,7 +12,7 @@ pub record Tells (m : Message) (t : Copying) : Type 0 where
   pub len : t.len ≡ length m.body
 
 -- there was room, and the body stands at the front of the buffer
-pub record Fits (s : Copying) (m : Message) (t : Copying) (a : Action) : Type 0 where
+pub record CopiesIn (s : Copying) (m : Message) (t : Copying) (a : Action) : Type 0 where
   pub room : length m.body ≤ length s.buffer.now
   pub action : a ≡ Break
   pub code : t.code ≡ pos 0
@@ -32,4 +32,4 @@ pub record Exceeds (s : Copying) (m : Message) (t : Copying) (a : Action) : Type
   pub borrow : t.buffer.ghost_name ≡ s.buffer.ghost_name
 
 abbrev pub Copies : Copying → Message → Copying → Action → Type 0
-Copies s m t a = Fits s m t a ⊎ Exceeds s m t a
+Copies s m t a = CopiesIn s m t a ⊎ Exceeds s m t a

@@ -29,19 +29,19 @@ pub record KeepsShares (c d : CountersSide) : Type 0 where
   pub values : arc_value d.values ≡ arc_value c.values
 
 -- a counter in use got this value
-pub record Stores (id : ℕ) (value : ℤ) (c d : CountersSide) : Type 0 where
+pub record StoresValue (id : ℕ) (value : ℤ) (c d : CountersSide) : Type 0 where
   pub registry : registry_of d.manager ≡ with_value (registry_of c.manager) id value
   pub writes : writes_of d.manager ≡ writes_of c.manager ++ value_write id value ∷ []
   pub keeps : KeepsShares c d
 
 abbrev pub WasSet : ℕ → ℤ → CountersSide → CountersSide → ℤ → Type 0
-WasSet id value c d code = ((code ≡ pos 0) × Stores id value c d) ⊎ IdRefused {T = Unit {0}} tt id c d code
+WasSet id value c d code = ((code ≡ pos 0) × StoresValue id value c d) ⊎ IdRefused {T = Unit {0}} tt id c d code
 
 -- so much was added, and the value before is put out
 abbrev pub WasAdded : ℕ → ℤ → ℤ → ℤ → CountersSide → CountersSide → ℤ → Type 0
 WasAdded id delta before after c d code =
     ((code ≡ pos 0) × (after ≡ value_at (registry_of c.manager) id)
-    × Stores id (value_plus (registry_of c.manager) id delta) c d)
+    × StoresValue id (value_plus (registry_of c.manager) id delta) c d)
     ⊎ (IdRefused (value_at (registry_of c.manager) id) id c d code × (after ≡ before))
 
 -- the moment is above 2^62, and nothing changed, as Same says; else P tells

@@ -23,8 +23,8 @@ pub record Lends (c d : CountersSide) (r : ReaderSide) : Type 0 where
   pub loads : loads_of r.reader ≡ []
 
 -- why a reader is not made: the counters need their last share, or memory is wanting
-abbrev pub IsLast : CountersSide → ℤ → Type 0
-IsLast c code = ((code ≡ pos 12) × (shares_of c.manager ≤ 1)) ⊎ (code ≡ pos 3)
+abbrev pub WhyNotLent : CountersSide → ℤ → Type 0
+WhyNotLent c code = ((code ≡ pos 12) × (shares_of c.manager ≤ 1)) ⊎ (code ≡ pos 3)
 
 -- a value was loaded, and is put out: it is the id's after some writes, and none that the reader has seen is missing
 pub record Loads (id : ℕ) (value : ℤ) (r s : ReaderSide) : Type 0 where

@@ -138,8 +138,8 @@ pub record Splits (p q other : Side) : Type 0 where
   pub right : other ≡ other_of p
 
 -- why a producer is not split: its ring has one producer, it has one share, or memory is wanting
-abbrev pub IsWhole : Side → ℤ → Type 0
-IsWhole p code = ((code ≡ pos 101) × (p.many ≡ false))
+abbrev pub WhyNotSplit : Side → ℤ → Type 0
+WhyNotSplit p code = ((code ≡ pos 101) × (p.many ≡ false))
     ⊎ (((code ≡ pos 12) × (p.view.producer.shares ≡ 1)) ⊎ (code ≡ pos 3))
 
 -- the other one was taken in, with its shares and its open claims

@@ -62,31 +62,31 @@ pub record LapsRaw (before after : Seen) (m m' : Sat) : Type 0 where
   pub outs : after ≡ record before { lapped = lapped.count }
 
 -- a record was answered, or there was none, or the receiver was lapped
-abbrev pub Sees : Seen → Seen → Option RawRecord → Option RawRecord → Sat → Sat → ℤ → Type 0
-Sees before after latest latest' m m' code = ((code ≡ pos 0) × Answers before after latest' m m')
+abbrev pub TellsSeen : Seen → Seen → Option RawRecord → Option RawRecord → Sat → Sat → ℤ → Type 0
+TellsSeen before after latest latest' m m' code = ((code ≡ pos 0) × Answers before after latest' m m')
     ⊎ (((code ≡ pos 105) × GotNothing m m' × (latest' ≡ latest) × (after ≡ before))
     ⊎ ((code ≡ pos 13) × LapsRaw before after m m' × (latest' ≡ latest)))
 
 abbrev pub NextSeen : Seen → Seen → Watching → Watching → ℤ → Type 0
 NextSeen before after r s code = (s ≡ record r { seat = s.seat; latest = s.latest })
-    × Sees before after r.latest s.latest r.seat s.seat code
+    × TellsSeen before after r.latest s.latest r.seat s.seat code
 
 -- Bodies -------------------------------------------------------------------------
 
 -- words were loaded where the record's body lies, and their bytes stand at the front of the buffer
-pub record LoadsBody (raw : RawRecord) (before after : List ℕ) (m m' : Sat) : Type 0 where
+pub record LoadsBodyInto (raw : RawRecord) (before after : List ℕ) (m m' : Sat) : Type 0 where
   pub room : len_of raw ≤ length before
   pub gave : GaveBody (place_of raw) (take (len_of raw) after) m m'
   pub rest : drop (len_of raw) after ≡ drop (len_of raw) before
 
 -- of the latest record the body was loaded, or the buffer is too short; 105 where none was answered yet
-abbrev pub LoadsLatest : Option RawRecord → List ℕ → List ℕ → Sat → Sat → ℤ → Type 0
-LoadsLatest latest before after m m' code = MatchOption latest ((code ≡ pos 105) × (m' ≡ m) × (after ≡ before))
-    (λ raw. ((code ≡ pos 0) × LoadsBody raw before after m m')
+abbrev pub LoadsAnswered : Option RawRecord → List ℕ → List ℕ → Sat → Sat → ℤ → Type 0
+LoadsAnswered latest before after m m' code = MatchOption latest ((code ≡ pos 105) × (m' ≡ m) × (after ≡ before))
+    (λ raw. ((code ≡ pos 0) × LoadsBodyInto raw before after m m')
     ⊎ ((length before < len_of raw) × (code ≡ pos 106) × (m' ≡ m) × (after ≡ before)))
 
 abbrev pub BodyLoaded : List ℕ → List ℕ → Watching → Watching → ℤ → Type 0
-BodyLoaded before after r s code = (s ≡ reseated s.seat r) × LoadsLatest r.latest before after r.seat s.seat code
+BodyLoaded before after r s code = (s ≡ reseated s.seat r) × LoadsAnswered r.latest before after r.seat s.seat code
 
 -- an intent was loaded, and 0 answered where it shows that the record was not overwritten, and else 13. Where it was
 -- not, each body of it that was loaded before is the one that was transmitted

@@ -13,7 +13,7 @@ use Rattle.ring_counters.specs.Manager.{registry_of, writes_of}
 use Rattle.ring_counters.specs.Seats.{loads_of, made_of, seen_by}
 use Rattle.ring_counters.specs.ValueWrites.{AreLoads}
 use Rattle.ring_conductor.specs.Asking.{client_seat, client_view}
-use Rattle.ring_conductor.specs.Conducting.{board_view, counters_of, value_shares_of, KeepsSeats, KeepsTheRest}
+use Rattle.ring_conductor.specs.Conducting.{board_view, manager_in, value_shares_of, KeepsSeats, KeepsTheRest}
 use Rattle.ring_c.specs.declared.client.ClientSide.{ClientSide}
 use Rattle.ring_c.specs.declared.conductor.ConductorSide.{ConductorSide}
 use Rattle.ring_c.specs.declared.counters.ReaderSide.{ReaderSide}
@@ -42,8 +42,8 @@ IsUnheard c code = ((code ≡ pos 12) × (subscribe_refusal_of (board_view c.con
 
 -- the counters and their writes are the same
 pub record KeepsCounters (c d : ConductorSide) : Type 0 where
-  pub registry : registry_of (counters_of d.conductor) ≡ registry_of (counters_of c.conductor)
-  pub writes : writes_of (counters_of d.conductor) ≡ writes_of (counters_of c.conductor)
+  pub registry : registry_of (manager_in d.conductor) ≡ registry_of (manager_in c.conductor)
+  pub writes : writes_of (manager_in d.conductor) ≡ writes_of (manager_in c.conductor)
   pub others : KeepsSeats c.conductor d.conductor
   pub rest : KeepsProducer c d
 
@@ -51,14 +51,14 @@ pub record KeepsCounters (c d : ConductorSide) : Type 0 where
 pub record LendsReader (c d : ConductorSide) (r : ReaderSide) : Type 0 where
   pub shares : value_shares_of d.conductor + 1 ≡ value_shares_of c.conductor
   pub lender : lends_values r.values ≡ Some (shared_by c)
-  pub made : made_of r.reader ≡ writes_of (counters_of c.conductor)
-  pub seen : seen_by r.reader ≡ writes_of (counters_of c.conductor)
+  pub made : made_of r.reader ≡ writes_of (manager_in c.conductor)
+  pub seen : seen_by r.reader ≡ writes_of (manager_in c.conductor)
   pub loads : loads_of r.reader ≡ []
   pub keeps : KeepsCounters c d
 
 -- why a reader is not made: the conductor needs its last share, or memory is wanting
-abbrev pub IsUnread : ConductorSide → ℤ → Type 0
-IsUnread c code = ((code ≡ pos 12) × (value_shares_of c.conductor ≤ 1)) ⊎ (code ≡ pos 3)
+abbrev pub WhyNotSeated : ConductorSide → ℤ → Type 0
+WhyNotSeated c code = ((code ≡ pos 12) × (value_shares_of c.conductor ≤ 1)) ⊎ (code ≡ pos 3)
 
 -- Taking back --------------------------------------------------------------------
 
@@ -81,7 +81,7 @@ pub record TakesReceiver (c : ConductorSide) (r : Listening) (d : ConductorSide)
 -- a reader was taken back, with its share: what it loaded are values after first parts of the writes
 pub record TakesReader (c : ConductorSide) (r : ReaderSide) (d : ConductorSide) : Type 0 where
   pub shares : value_shares_of d.conductor ≡ value_shares_of c.conductor + 1
-  pub loads : AreLoads (made_of r.reader) (loads_of r.reader) (writes_of (counters_of d.conductor))
+  pub loads : AreLoads (made_of r.reader) (loads_of r.reader) (writes_of (manager_in d.conductor))
   pub keeps : KeepsCounters c d
 
 -- it is no conductor's, or that of one with other sizes

@@ -61,15 +61,15 @@ a_client (Client c) = Some c
 a_client _ = None
 
 -- the handle holds one of this kind, of which P holds
-abbrev pub Holds : {S : Type 0} → (Held → Option S) → (S → Type 0) → Option Held → Type 0
-Holds kind P held = MatchOption held ⊥ (λ h. MatchOption (kind h) ⊥ P)
+abbrev pub HoldsOne : {S : Type 0} → (Held → Option S) → (S → Type 0) → Option Held → Type 0
+HoldsOne kind P held = MatchOption held ⊥ (λ h. MatchOption (kind h) ⊥ P)
 
 -- Calls of one handle ------------------------------------------------------------
 
 -- an empty handle answers 100 and stays empty, and another kind's 101 and stays as it is; of this kind P tells
 abbrev pub Uses : {S : Type 0} → (Held → Option S) → (S → S → ℤ → Type 0) → Option Held → Option Held → ℤ → Type 0
 Uses kind P before after code = MatchOption before ((code ≡ pos 100) × (after ≡ None))
-    (λ h. MatchOption (kind h) ((code ≡ pos 101) × (after ≡ Some h)) (λ s. Holds kind (λ t. P s t code) after))
+    (λ h. MatchOption (kind h) ((code ≡ pos 101) × (after ≡ Some h)) (λ s. HoldsOne kind (λ t. P s t code) after))
 
 -- the same of a call that puts something out: of this kind P tells of what is out before and after, else it stays
 abbrev pub Yields : {S O : Type 0} → (Held → Option S) → (O → O → S → S → ℤ → Type 0) → O → O → Option Held
@@ -77,7 +77,7 @@ abbrev pub Yields : {S O : Type 0} → (Held → Option S) → (O → O → S �
 Yields kind P old new before after code =
     MatchOption before ((code ≡ pos 100) × (after ≡ None) × (new ≡ old))
     (λ h. MatchOption (kind h) ((code ≡ pos 101) × (after ≡ Some h) × (new ≡ old))
-    (λ s. Holds kind (λ t. P old new s t code) after))
+    (λ s. HoldsOne kind (λ t. P old new s t code) after))
 
 -- of a producer the open claims were aborted, and nothing else changed
 abbrev pub ClosesHeld : Held → Held → Type 0
@@ -96,7 +96,7 @@ pub record ArePaired (many : Bool) (C : ℕ) (v w : View) (p : Side) (c : Readin
   pub consumer : c ≡ record { many = many; table = p.table; capacity = C; view = w; last = None }
 
 abbrev pub HoldPair : Bool → ℕ → View → View → Option Held → Option Held → Type 0
-HoldPair many C v w p c = Holds a_producer (λ s. Holds a_consumer (λ r. ArePaired many C v w s r) c) p
+HoldPair many C v w p c = HoldsOne a_producer (λ s. HoldsOne a_consumer (λ r. ArePaired many C v w s r) c) p
 
 -- the producer holds all shares, and both stand at the start
 abbrev pub HoldFresh : Bool → ℕ → ℕ → Option Held → Option Held → Type 0
@@ -115,8 +115,8 @@ abbrev pub Gives : {S T : Type 0} → (Held → Option S) → (Held → Option T
     → Option Held → Option Held → Option Held → ℤ → Type 0
 Gives kind other Makes Keeps p p' o' code = MatchOption p ((code ≡ pos 100) × (p' ≡ None) × (o' ≡ None))
     (λ h. MatchOption (kind h) (((code ≡ pos 101) ⊎ (code ≡ pos 3)) × (p' ≡ Some h) × (o' ≡ None))
-    (λ s. ((code ≡ pos 0) × Holds kind (λ t. Holds other (λ o. Makes s t o) o') p')
-    ⊎ (Keeps s code × Holds kind (λ t. t ≡ s) p' × (o' ≡ None))))
+    (λ s. ((code ≡ pos 0) × HoldsOne kind (λ t. HoldsOne other (λ o. Makes s t o) o') p')
+    ⊎ (Keeps s code × HoldsOne kind (λ t. t ≡ s) p' × (o' ≡ None))))
 
 -- a handle in use answers 102 and stays as it is; else it is filled, or not
 abbrev pub GivesInto : {S T : Type 0} → (Held → Option S) → (Held → Option T) → (S → S → T → Type 0) → (S → ℤ → Type 0)
@@ -134,7 +134,7 @@ IsBoardCode C start code =
 -- the transmitter holds all shares of a board on which nothing was transmitted
 abbrev pub HoldNewBoard : ℕ → ℕ → Option Held → Type 0
 HoldNewBoard C start h =
-    Holds a_transmitter (λ p. p ≡ record { table = p.table; capacity = C; view = opening_view C start }) h
+    HoldsOne a_transmitter (λ p. p ≡ record { table = p.table; capacity = C; view = opening_view C start }) h
 
 -- a handle in use answers 102 and stays as it is; else a board is made for it, or refused
 abbrev pub OpensBoard : ℕ → ℕ → Option Held → Option Held → ℤ → Type 0
@@ -156,7 +156,7 @@ pub record AreNew (count reuse_ms : ℕ) (c : CountersSide) : Type 0 where
   pub shares : shares_of c.manager ≡ 65536
 
 abbrev pub HoldFreshCounters : ℕ → ℕ → Option Held → Type 0
-HoldFreshCounters count reuse_ms h = Holds some_counters (AreNew count reuse_ms) h
+HoldFreshCounters count reuse_ms h = HoldsOne some_counters (AreNew count reuse_ms) h
 
 -- a handle in use answers 102 and stays as it is; else counters are made for it, or refused
 abbrev pub OpensCounters : ℕ → ℕ → Option Held → Option Held → ℤ → Type 0
@@ -183,8 +183,8 @@ WhereBoth kind other P p o = IfHolds kind (λ s. IfHolds other (P s) o) p
 -- the second was taken in by the first, or both stay as they were
 abbrev pub Joined : {S T : Type 0} → (Held → Option S) → (Held → Option T) → (S → T → S → Type 0)
     → (S → T → ℤ → Type 0) → S → T → Option Held → Option Held → ℤ → Type 0
-Joined kind other Takes Keeps s t p' o' code = ((code ≡ pos 0) × Holds kind (λ u. Takes s t u) p' × (o' ≡ None))
-    ⊎ (Keeps s t code × Holds kind (λ u. u ≡ s) p' × Holds other (λ u. u ≡ t) o')
+Joined kind other Takes Keeps s t p' o' code = ((code ≡ pos 0) × HoldsOne kind (λ u. Takes s t u) p' × (o' ≡ None))
+    ⊎ (Keeps s t code × HoldsOne kind (λ u. u ≡ s) p' × HoldsOne other (λ u. u ≡ t) o')
 
 -- a handle that is empty, or of another kind, is answered by that, and both stay; else the second is taken in, or not
 abbrev pub JoinsInto : {S T : Type 0} → (Held → Option S) → (Held → Option T) → (S → T → S → Type 0)
@@ -205,4 +205,4 @@ EndsAs kind Done Keeps before after h h' code =
     MatchOption h ((code ≡ pos 100) × (h' ≡ None) × (after ≡ before))
     (λ k. MatchOption (kind k) ((code ≡ pos 101) × (h' ≡ Some k) × (after ≡ before))
     (λ s. ((code ≡ pos 0) × (h' ≡ None) × Done s after)
-    ⊎ (Keeps s code × Holds kind (λ t. t ≡ s) h' × (after ≡ before))))
+    ⊎ (Keeps s code × HoldsOne kind (λ t. t ≡ s) h' × (after ≡ before))))

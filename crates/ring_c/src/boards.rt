@@ -2,7 +2,7 @@
 ghost use Rattle.std.specs.Prelude.{◌≡◌, length, take, IfErr, IfOk};
 ghost use Rattle.ring_layout.specs.History.{overwritten};
 ghost use Rattle.ring_board.specs.Seats.{receiver_seat, IsReceiverOf};
-ghost use Rattle.ring_c.specs.Boards.{heard, Hears, IsUnheard, Received, SaysLapped, Subscribes, Transmitted};
+ghost use Rattle.ring_c.specs.Boards.{heard_out, TellsHeard, IsUnheard, Received, SaysLapped, Subscribes, Transmitted};
 
 use crate::code::{DONE, LAPPED, NO_MESSAGE, NO_SHARES, OUT_OF_MEMORY, SHORT_BUFFER};
 use crate::copying::copy_at;
@@ -110,8 +110,8 @@ fn hear(
 ) -> i32
     requires { IsReceiverOf board.now receiver.old }
     ensures receiver { IsReceiverOf board.now receiver.new }
-    ensures heard { Hears (heard type_id.old len.old lapped.old buffer.old)
-        (heard type_id.new len.new lapped.new buffer.new) (receiver_seat receiver.old) (receiver_seat receiver.new)
+    ensures heard { TellsHeard (heard_out type_id.old len.old lapped.old buffer.old)
+        (heard_out type_id.new len.new lapped.new buffer.new) (receiver_seat receiver.old) (receiver_seat receiver.new)
         result }
 {
     match receiver.receive(board) {
@@ -138,8 +138,8 @@ impl ReceiverSide {
         lapped: &mut u64,
         buffer: &mut [u8],
     ) -> i32
-        ensures { Received (heard type_id.old len.old lapped.old buffer.old)
-            (heard type_id.new len.new lapped.new buffer.new) self.old self.new result }
+        ensures { Received (heard_out type_id.old len.old lapped.old buffer.old)
+            (heard_out type_id.new len.new lapped.new buffer.new) self.old self.new result }
     {
         let longest = self.board.get().max_message() as usize;
         if buffer.len() < longest {

@@ -3,7 +3,7 @@ ghost use Rattle.std.specs.Prelude.{◌≡◌, Bool, MatchOption, [], false, tru
 ghost use Rattle.ring_layout.specs.declared.message.ClaimState.TheVariants.{Aborted, Committed};
 ghost use Rattle.ring_table.specs.Views.{with_claims};
 ghost use Rattle.ring_rings.specs.Seats.{claims_of, shares_of, view_of, IsProducerOf};
-ghost use Rattle.ring_c.specs.Claims.{aborted, AreOpen, IsNoNumber, StandsAt, Takes};
+ghost use Rattle.ring_c.specs.Claims.{aborted, AreOpen, IsNoNumber, HasIndex, Takes};
 ghost use Rattle.ring_c.specs.Producing.{Claimed, Put, Settled};
 ghost use Rattle.ring_c.specs.Side.{side};
 
@@ -12,7 +12,7 @@ use ring_rings::{Claim, ManyToOneRing, OneToOneRing, Producer, Ring};
 
 /// The index of the claim of this number.
 fn index_of(claims: &[Claim], number: u64) -> Option<usize>
-    ensures { MatchOption result (IsNoNumber number claims.now) (StandsAt number claims.now) }
+    ensures { MatchOption result (IsNoNumber number claims.now) (HasIndex number claims.now) }
 {
     for (i, claim) in claims.iter().enumerate() {
         if claim.place() == number {

@@ -2,7 +2,7 @@
 ghost use Rattle.std.specs.Prelude.{◌≡◌, IfErr, IfOk};
 ghost use Rattle.ring_rings.specs.Closing.{IsRefusedAs};
 ghost use Rattle.ring_conductor.specs.Finishing.{finish_code, refusal_to};
-ghost use Rattle.ring_c.specs.Closing.{Concludes, IsKept};
+ghost use Rattle.ring_c.specs.Closing.{TellsEnd, WhyNotFinished};
 
 use crate::code::{IN_USE, PRODUCERS_OUT, RECEIVERS_OUT};
 use crate::conductor::ConductorSide;
@@ -34,8 +34,8 @@ impl ConductorSide {
 
     /// Ends the conductor, where all shares are back and nobody else holds what it shares. Else it comes back.
     pub(crate) fn finish(self) -> Result<Ended, (i32, ConductorSide)>
-        ensures ended { IfOk result (λ e. Concludes self e.received e.left) }
-        ensures refused { IfErr result (λ r. (r.1 ≡ self) × IsKept self r.0) }
+        ensures ended { IfOk result (λ e. TellsEnd self e.received e.left) }
+        ensures refused { IfErr result (λ r. (r.1 ≡ self) × WhyNotFinished self r.0) }
     {
         if let Err(code) = self.test() {
             return Err((code, self));

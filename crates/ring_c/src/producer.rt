@@ -1,7 +1,7 @@
 //! A producer in a handle.
 ghost use Rattle.std.specs.Prelude.{◌≡◌, IfErr, IfOk, OnOk};
 ghost use Rattle.ring_layout.specs.declared.message.ClaimState.TheVariants.{Aborted, Committed};
-ghost use Rattle.ring_c.specs.Producing.{closing, positions, Claimed, Counted, Drew, HeardBeat, IsApart, IsWhole, Positioned, Put, Settled, Splits, TakesIn, Wrote};
+ghost use Rattle.ring_c.specs.Producing.{closing, positions, Claimed, Counted, Drew, HeardBeat, IsApart, WhyNotSplit, Positioned, Put, Settled, Splits, TakesIn, Wrote};
 
 use crate::claims::{abort_all, abort_in, claim_alone, claim_many, commit_in, put_in};
 use crate::code::{DONE, NO_SHARES, OTHER_RING, OUT_OF_MEMORY, WRONG_HANDLE};
@@ -179,7 +179,7 @@ impl ProducerSide {
     /// Makes another producer of the same ring. Claims that are open stay this one's.
     pub(crate) fn split(&mut self, alloc: Global) -> Result<ProducerSide, i32>
         ensures split { IfOk result (Splits self.old self.new) }
-        ensures refused { IfErr result (λ code. (self.new ≡ self.old) × IsWhole self.old code) }
+        ensures refused { IfErr result (λ code. (self.new ≡ self.old) × WhyNotSplit self.old code) }
     {
         let AnyRing::Many(ring) = &self.ring else {
             return Err(WRONG_HANDLE);

@@ -1,7 +1,7 @@
 //! What a board's raw receivers do.
 ghost use Rattle.std.specs.Prelude.{◌≡◌, IfErr, IfOk, IfSome};
-ghost use Rattle.ring_board.specs.Seats.{raw_seat, raw_view, IsAnswered, IsRawOf};
-ghost use Rattle.ring_c.specs.Raw.{seen, BodyLoaded, IsUnwatched, LoadsLatest, NextSeen, SaysLaps, Sees, SubscribesRaw, Tested, TestsLatest};
+ghost use Rattle.ring_board.specs.Seats.{raw_seat, raw_view, IsAnsweredRecord, IsRawOf};
+ghost use Rattle.ring_c.specs.Raw.{seen, BodyLoaded, IsUnwatched, LoadsAnswered, NextSeen, SaysLaps, TellsSeen, SubscribesRaw, Tested, TestsLatest};
 
 use crate::boards::TransmitterSide;
 use crate::code::{DONE, LAPPED, NO_MESSAGE, NO_SHARES, OUT_OF_MEMORY, SHORT_BUFFER};
@@ -21,7 +21,7 @@ pub struct RawReceiverSide {
 impl Model for RawReceiverSide {
     ghost use Rattle.std.specs.Arc.{arc_value};
     ghost use Rattle.std.specs.Prelude.{IfSome};
-    ghost use Rattle.ring_board.specs.Seats.{capacity_of, raw_seat, raw_view, IsAnswered, IsRawOf};
+    ghost use Rattle.ring_board.specs.Seats.{capacity_of, raw_seat, raw_view, IsAnsweredRecord, IsRawOf};
     ghost use Rattle.ring_c.specs.Boards.{table_of};
     ghost use Rattle.ring_c.specs.Raw.{Watching};
 
@@ -36,7 +36,7 @@ impl Model for RawReceiverSide {
     } };
 
     ghost invariant = { λ a. IsRawOf (arc_value a.board) a.receiver
-        × IfSome a.latest (IsAnswered (raw_view a.receiver)) };
+        × IfSome a.latest (IsAnsweredRecord (raw_view a.receiver)) };
 }
 
 impl TransmitterSide {
@@ -69,10 +69,10 @@ fn look(
     lapped: &mut u64,
 ) -> i32
     requires receiver { IsRawOf board.now receiver.old }
-    requires latest { IfSome latest.old (IsAnswered (raw_view receiver.old)) }
+    requires latest { IfSome latest.old (IsAnsweredRecord (raw_view receiver.old)) }
     ensures receiver { IsRawOf board.now receiver.new }
-    ensures latest { IfSome latest.new (IsAnswered (raw_view receiver.new)) }
-    ensures sees { Sees (seen type_id.old len.old lapped.old) (seen type_id.new len.new lapped.new) latest.old
+    ensures latest { IfSome latest.new (IsAnsweredRecord (raw_view receiver.new)) }
+    ensures sees { TellsSeen (seen type_id.old len.old lapped.old) (seen type_id.new len.new lapped.new) latest.old
         latest.new (raw_seat receiver.old) (raw_seat receiver.new) result }
 {
     match receiver.receive_next(board) {
@@ -98,10 +98,10 @@ fn load_latest(
     buffer: &mut [u8],
 ) -> i32
     requires receiver { IsRawOf board.now receiver.old }
-    requires latest { IfSome latest (IsAnswered (raw_view receiver.old)) }
+    requires latest { IfSome latest (IsAnsweredRecord (raw_view receiver.old)) }
     ensures receiver { IsRawOf board.now receiver.new }
-    ensures latest { IfSome latest (IsAnswered (raw_view receiver.new)) }
-    ensures loads { LoadsLatest latest buffer.old buffer.new (raw_seat receiver.old) (raw_seat receiver.new) result }
+    ensures latest { IfSome latest (IsAnsweredRecord (raw_view receiver.new)) }
+    ensures loads { LoadsAnswered latest buffer.old buffer.new (raw_seat receiver.old) (raw_seat receiver.new) result }
 {
     match latest {
         Some(raw) => {
@@ -118,9 +118,9 @@ fn load_latest(
 /// Tests whether the latest record was not yet overwritten.
 fn test_latest(board: &Board, receiver: &mut Receiver, latest: Option<RawRecord>) -> i32
     requires receiver { IsRawOf board.now receiver.old }
-    requires latest { IfSome latest (IsAnswered (raw_view receiver.old)) }
+    requires latest { IfSome latest (IsAnsweredRecord (raw_view receiver.old)) }
     ensures receiver { IsRawOf board.now receiver.new }
-    ensures latest { IfSome latest (IsAnswered (raw_view receiver.new)) }
+    ensures latest { IfSome latest (IsAnsweredRecord (raw_view receiver.new)) }
     ensures tests { TestsLatest latest (raw_seat receiver.old) (raw_seat receiver.new) result }
 {
     match latest {

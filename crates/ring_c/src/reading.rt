@@ -1,6 +1,6 @@
 //! What readers of counters' values do.
 ghost use Rattle.std.specs.Prelude.{◌≡◌, IfErr, IfOk, OnOk};
-ghost use Rattle.ring_c.specs.Lending.{IsLast, Lends, Loaded};
+ghost use Rattle.ring_c.specs.Lending.{WhyNotLent, Lends, Loaded};
 ghost use Rattle.ring_c.specs.Returning.{IsLent, IsOfThese, TakesLoads};
 
 use crate::code::{BAD_ID, DONE, NO_SHARES, OTHER_RING, OUT_OF_MEMORY};
@@ -12,7 +12,7 @@ impl CountersSide {
     /// Makes a reader of the values.
     pub(crate) fn reader(&mut self) -> Result<ReaderSide, i32>
         ensures lent { IfOk result (Lends self.old self.new) }
-        ensures refused { IfErr result (λ code. (self.new ≡ self.old) × IsLast self.old code) }
+        ensures refused { IfErr result (λ code. (self.new ≡ self.old) × WhyNotLent self.old code) }
     {
         let Ok(values) = Arc::try_clone(&self.values) else {
             return Err(OUT_OF_MEMORY);

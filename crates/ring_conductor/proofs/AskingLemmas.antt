@@ -6,7 +6,7 @@ use Rattle.ring_rings.specs.Claiming.{RefusesTry, Writes}
 use Rattle.ring_conductor.specs.declared.client.request.Request.{Request}
 use Rattle.ring_conductor.specs.declared.client.request.Request.TheVariants.{Allocate, Free, Set, AllocateOwned, Close}
 use Rattle.ring_conductor.specs.Asking.{asked, IsSendable}
-use Rattle.ring_protocol.specs.Command.{Instruction, HasShortTexts, spelling_of, type_id_of}
+use Rattle.ring_protocol.specs.Command.{Instruction, HasTextLengths, spelling_of, type_id_of}
 use Rattle.ring_protocol.specs.Writing.{Encodes}
 use Rattle.ring_protocol.proofs.Lengths.{free_length, set_length, close_length, allocate_length, allocate_owned_length}
 use Rattle.ring_protocol.proofs.Written.{command_bytes}
@@ -20,7 +20,7 @@ same_length (AllocateOwned type_id owner key label) a b = allocate_owned_length 
     ∙ sym (allocate_owned_length b type_id owner key.now label.now)
 same_length (Close owner) a b = close_length a owner ∙ sym (close_length b owner)
 
-short_texts : (r : Request) (a b : ℕ) → HasShortTexts (asked r a) → HasShortTexts (asked r b)
+short_texts : (r : Request) (a b : ℕ) → HasTextLengths (asked r a) → HasTextLengths (asked r b)
 short_texts (Allocate type_id key label) a b h = h
 short_texts (Free id) a b h = h
 short_texts (Set id value) a b h = h
@@ -36,17 +36,17 @@ same_type (Close owner) a = refl
 
 -- what can be sent fits into the buffer
 pub fits : (r : Request) (a : ℕ) (c : Instruction) (room : ℕ) → c ≡ asked r a → room ≡ 520 → IsSendable r
-    → HasShortTexts c × (length (spelling_of c) ≤ room)
+    → HasTextLengths c × (length (spelling_of c) ≤ room)
 fits r a c room is wide h = (
-  subst HasShortTexts (sym is) (short_texts r 0 a h.texts),
+  subst HasTextLengths (sym is) (short_texts r 0 a h.texts),
   subst (λ n. length (spelling_of c) ≤ n) (sym wide)
       (subst (λ n. n ≤ 520) (same_length r 0 a ∙ sym (ap (λ x. length (spelling_of x)) is)) h.room),
 )
 
 pub sendable : (r : Request) (a : ℕ) (c : Instruction) (room : ℕ) → c ≡ asked r a → room ≡ 520
-    → HasShortTexts c × (length (spelling_of c) ≤ room) → IsSendable r
+    → HasTextLengths c × (length (spelling_of c) ≤ room) → IsSendable r
 sendable r a c room is wide h = record {
-  texts = short_texts r a 0 (subst HasShortTexts is h.0);
+  texts = short_texts r a 0 (subst HasTextLengths is h.0);
   room = subst (λ n. n ≤ 520) (ap (λ x. length (spelling_of x)) is ∙ same_length r a 0)
       (subst (λ n. length (spelling_of c) ≤ n) wide h.1);
 }

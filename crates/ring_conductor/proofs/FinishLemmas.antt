@@ -13,7 +13,7 @@ use Rattle.ring_table.specs.declared.claim.Stage.{Stage}
 use Rattle.ring_table.specs.declared.claim.Stage.TheVariants.{Moved, Padded, Stored}
 use Rattle.ring_table.specs.declared.view.View.{View}
 use Rattle.ring_table.specs.Passing.{AreSettled, IsSettled, placed_committed_of, placed_message, shown_at}
-use Rattle.ring_table.specs.Staged.{claim_of, claims_of, state_of}
+use Rattle.ring_table.specs.Staged.{claim_of, unplaced, stage_state}
 use Rattle.ring_rings.specs.Closing.{HandsOut}
 use Rattle.ring_rings.specs.Reading.{messages_of}
 use Rattle.ring_conductor.specs.Finishing.{IsWhole}
@@ -40,7 +40,7 @@ same_shown from place m (Stored Open) = refl
 same_shown from place m (Stored Committed) = refl
 same_shown from place m (Stored Aborted) = refl
 
-same_committed : (cs : List StagedClaim) → committed_of (claims_of cs) ≡ messages_of (placed_committed_of cs)
+same_committed : (cs : List StagedClaim) → committed_of (unplaced cs) ≡ messages_of (placed_committed_of cs)
 same_committed [] = refl
 same_committed (c ∷ cs) =
     let here = shown_at c.stage (placed_message c) in
@@ -52,7 +52,7 @@ pub whole : (C start : ℕ) (p r : View) (rest : Ring) → HandsOut C start p r 
     → IsWhole p.producer.claims r.consumer.taken rest
 whole C start p r rest out one h has =
     let left = ap (λ l. messages_of r.consumer.taken ++ l)
-    (one h (claims_of out.left) has out.has ∙ same_committed out.left) in
+    (one h (unplaced out.left) has out.has ∙ same_committed out.left) in
     let passed = ap (λ l. messages_of l ++ messages_of (placed_committed_of out.left)) out.messages in
     let all = ap (λ l. messages_of (placed_committed_of l)) out.whole
     ∙ (ap messages_of (placed_committed_of-append out.passed out.left)
@@ -61,7 +61,7 @@ whole C start p r rest out one h has =
 
 -- What is left -----------------------------------------------------------------
 
-not_open : (stage : Stage) → IsSettled stage → state_of stage ≢ Open
+not_open : (stage : Stage) → IsSettled stage → stage_state stage ≢ Open
 not_open Moved h e = absurd h
 not_open Padded h e = absurd h
 not_open (Stored Open) h e = absurd h
@@ -72,9 +72,9 @@ settled_behind : (a b : List StagedClaim) → AreSettled (a ++ b) → AreSettled
 settled_behind [] b h = h
 settled_behind (c ∷ a) b h = settled_behind a b h.1
 
-all_settled : (cs : List StagedClaim) → AreSettled cs → AllSettled (claims_of cs)
+all_settled : (cs : List StagedClaim) → AreSettled cs → AllSettled (unplaced cs)
 all_settled [] h = All-nil (λ (d : Claim). d.state ≢ Open)
-all_settled (c ∷ cs) h = All-cons (λ (d : Claim). d.state ≢ Open) (claim_of c) (claims_of cs) (not_open c.stage h.0)
+all_settled (c ∷ cs) h = All-cons (λ (d : Claim). d.state ≢ Open) (claim_of c) (unplaced cs) (not_open c.stage h.0)
     (all_settled cs h.1)
 
 -- where no claim is open, what was received and what a closed ring shows are all committed messages
@@ -84,7 +84,7 @@ pub drained : (C start : ℕ) (p r : View) (rest : Ring) → HandsOut C start p 
 drained C start p r rest out settled count drains =
     let took = ap length out.messages in
     let here = all_settled out.left (settled_behind out.passed out.left (subst AreSettled out.whole settled)) in
-    let left = drains (claims_of out.left) out.has here ∙ (ap length (same_committed out.left)
+    let left = drains (unplaced out.left) out.has here ∙ (ap length (same_committed out.left)
     ∙ lengths (placed_committed_of out.left)) in
     let all = ap (λ l. length (placed_committed_of l)) out.whole
     ∙ (ap length (placed_committed_of-append out.passed out.left)

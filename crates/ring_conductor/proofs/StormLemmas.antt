@@ -17,7 +17,7 @@ use Rattle.ring_table.specs.declared.claim.Stage.{Stage}
 use Rattle.ring_table.specs.declared.claim.Stage.TheVariants.{Moved, Padded, Stored}
 use Rattle.ring_table.specs.declared.view.View.{View}
 use Rattle.ring_table.specs.Passing.{placed_committed_of, placed_message, shown_at}
-use Rattle.ring_table.specs.Staged.{claims_of}
+use Rattle.ring_table.specs.Staged.{unplaced}
 use Rattle.ring_table.specs.declared.view.Service.{Service}
 use Rattle.ring_table.specs.OpenClaims.{open_count}
 use Rattle.ring_table.specs.Services.{once_below}
@@ -202,8 +202,8 @@ module _ (p : StormPlan) (C start : ℕ) (v w : View) (rest : Ring) (counters : 
   all_taken : messages_of w.consumer.taken ≡ messages_of (placed_committed_of v.producer.claims)
   all_taken =
       let out = ended.out in
-      let left = committed_of (claims_of out.left) in
-      let whole = ended.whole (claims_of out.left) out.has in
+      let left = committed_of (unplaced out.left) in
+      let whole = ended.whole (unplaced out.left) out.has in
       let both = ap length whole in
       let sum = length-append (messages_of w.consumer.taken) left in
       let took = lengths w.consumer.taken in

@@ -6,7 +6,7 @@ use Rattle.ring_words.specs.declared.read.end.Stop.TheVariants.{Limit, Block, Un
 use Rattle.ring_words.specs.Read.{stop_of}
 use Rattle.ring_layout.specs.Handles.{Handles}
 use Rattle.ring_table.specs.declared.view.View.{View}
-use Rattle.ring_rings.specs.Reading.{Controls, WentOn, Broke, Aborts, IsBlocked, messages_of}
+use Rattle.ring_rings.specs.Reading.{Controls, WentOn, Broke, Aborts, FoundUnsettled, messages_of}
 use Rattle.ring_conductor.specs.declared.conductor.serve.Serving.{Serving}
 use Rattle.ring_conductor.specs.declared.conductor.Work.{Work}
 use Rattle.ring_conductor.specs.declared.conductor.WorkStop.TheVariants as work
@@ -49,7 +49,7 @@ pub record Reported (limit : ℕ) (v w : View) (end : ReadEnd) (done : Work) : T
   pub stopped : done.stopped ≡ work_stop end.stopped
   pub within : end.messages ≤ limit
   pub bytes : v.consumer.head + end.bytes ≡ w.consumer.head
-  pub blocked : end.stopped ≡ Unpublished → IsBlocked v w
+  pub blocked : end.stopped ≡ Unpublished → FoundUnsettled v w
 
 module _ (limit : ℕ) (v w : View) (s t : Serving) (end : ReadEnd) (done : Work) (r : Reported limit v w end done) where
   abbrev Done : Type 0

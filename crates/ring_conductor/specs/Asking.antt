@@ -19,7 +19,7 @@ use Rattle.ring_conductor.specs.declared.client.Polled.{Polled}
 use Rattle.ring_conductor.specs.declared.client.Polled.TheVariants.{Answered, Another, NoReply, Nothing, Lapped}
 use Rattle.ring_conductor.specs.declared.client.SendFault.{SendFault}
 use Rattle.ring_conductor.specs.declared.client.SendFault.TheVariants.{TooLong, Refused}
-use Rattle.ring_protocol.specs.Command.{Instruction, Allocate, Free, Set, AllocateOwned, Close, HasShortTexts, spelling_of, type_id_of}
+use Rattle.ring_protocol.specs.Command.{Instruction, Allocate, Free, Set, AllocateOwned, Close, HasTextLengths, spelling_of, type_id_of}
 use Rattle.ring_protocol.specs.Reply as reply
 
 abbrev pub producer_of : Client → Producer
@@ -56,7 +56,7 @@ asked (of.Close owner) correlation = Close correlation owner
 
 -- the command takes at most 520 bytes, whatever its correlation id
 pub record IsSendable (r : Request) : Type 0 where
-  pub texts : HasShortTexts (asked r 0)
+  pub texts : HasTextLengths (asked r 0)
   pub room : length (spelling_of (asked r 0)) ≤ 520
 
 -- Sending ----------------------------------------------------------------------

@@ -7,7 +7,7 @@ use Rattle.ring_layout.specs.declared.message.Message.{Message}
 use Rattle.ring_table.specs.declared.claim.PlacedMessage.{PlacedMessage}
 use Rattle.ring_table.specs.declared.view.View.{View}
 use Rattle.ring_rings.specs.declared.ring.Consumer.{Consumer}
-use Rattle.ring_rings.specs.Reading.{messages_of, MovesHead, IsTight, IsBlocked, IsNext}
+use Rattle.ring_rings.specs.Reading.{messages_of, MovesHead, IsTight, FoundUnsettled, IsNext}
 use Rattle.ring_rings.specs.Seats.{consumer_view}
 use Rattle.ring_board.specs.declared.board.Board.{Board}
 use Rattle.ring_board.specs.declared.board.Transmitter.{Transmitter}
@@ -56,18 +56,18 @@ consumer_of c = c.consumer
 abbrev pub transmitter_of : Conductor → Transmitter
 transmitter_of c = c.transmitter
 
-abbrev pub counters_of : Conductor → CountersManager
-counters_of c = c.counters
+abbrev pub manager_in : Conductor → CountersManager
+manager_in c = c.counters
 
 -- only the transmitter may be another
 pub record KeepsTheRest (old new : Conductor) : Type 0 where
   pub consumer : consumer_of new ≡ consumer_of old
-  pub counters : counters_of new ≡ counters_of old
+  pub counters : manager_in new ≡ manager_in old
 
 -- only the consumer may be another
 pub record KeepsWhatItServes (old new : Conductor) : Type 0 where
   pub transmitter : transmitter_of new ≡ transmitter_of old
-  pub counters : counters_of new ≡ counters_of old
+  pub counters : manager_in new ≡ manager_in old
 
 -- only the counters may be others
 pub record KeepsSeats (old new : Conductor) : Type 0 where
@@ -118,4 +118,4 @@ pub record Works (now limit : ℕ) (v w : View) (l k : Ledger) (done : Work) : T
   pub folded : k ≡ fold_of l (at_moment now (messages_of messages))
   pub had_room : HaveRoom now l (messages_of messages)
   pub stops : IsReadOut limit v w done ⊎ IsCutOff limit v w k.board done
-  pub blocked : done.stopped ≡ work.Unpublished → IsBlocked v w
+  pub blocked : done.stopped ≡ work.Unpublished → FoundUnsettled v w

@@ -34,7 +34,7 @@ use Rattle.ring_conductor.specs.declared.storming.seats.LevelEnd.{LevelEnd}
 use Rattle.ring_conductor.specs.declared.storming.shared.Shared.{Shared}
 use Rattle.ring_conductor.specs.Applied.{applied}
 use Rattle.ring_conductor.specs.Asking.{draws_of, producer_of, receiver_of, services_of}
-use Rattle.ring_conductor.specs.Conducting.{IsConductorOf, counters_of, received_of, transmitter_of}
+use Rattle.ring_conductor.specs.Conducting.{IsConductorOf, manager_in, received_of, transmitter_of}
 use Rattle.ring_conductor.specs.Finishing.{joined_by}
 use Rattle.ring_conductor.specs.Account.{IsFoldOf, messages_in}
 use Rattle.ring_conductor.specs.Turns.{AreAllTurns, Deeds, claims_by, copies_by, drawn_in, draws_by, label_of, last_set}
@@ -141,7 +141,7 @@ taken_by c = length (received_of c)
 
 -- the counters are what the messages that the conductor took make of fresh ones
 abbrev pub HasCounters : StormPlan → Conductor → Type 0
-HasCounters p c = registry_of (counters_of c) ≡ storm_counters p (messages_of (received_of c))
+HasCounters p c = registry_of (manager_in c) ≡ storm_counters p (messages_of (received_of c))
 
 -- producer and conductor belong to this ring, this board and these values, the counters are those of the messages
 -- taken, and the producer drew no number

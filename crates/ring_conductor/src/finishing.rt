@@ -6,7 +6,7 @@ ghost use Rattle.ring_rings.specs.Closing.{AreOrdered, HandsOut, IsRefusedAs, Se
 ghost use Rattle.ring_rings.specs.Seats.{claims_of, open_claims_of, shares_of, view_of};
 ghost use Rattle.ring_board.specs.Runs.{AreAllRuns};
 ghost use Rattle.ring_board.specs.Seats.{shares_of as board_shares_of};
-ghost use Rattle.ring_conductor.specs.Conducting.{IsConductorOf, counters_of, received_of, ring_view, transmitter_of};
+ghost use Rattle.ring_conductor.specs.Conducting.{IsConductorOf, manager_in, received_of, ring_view, transmitter_of};
 ghost use Rattle.ring_conductor.specs.Finishing.{HasAllReplies, HasBack, IsFoldOfReceived, IsWhole};
 ghost use Rattle.ring_conductor.specs.Finishing.{finish_refusal_of, handed_back, joined_by, refusal_to, replies_of};
 
@@ -93,7 +93,7 @@ pub fn finish<R: CommandSource>(
 
     // The counters and the transmitted replies are the fold of the commands received, each applied at a moment.
     ensures folded { IfOk result (λ f. ∥ IsFoldOfReceived conductor f.counters ∥₁) }
-    ensures counters { IfOk result (λ f. f.counters ≡ counters_of conductor) }
+    ensures counters { IfOk result (λ f. f.counters ≡ manager_in conductor) }
     ensures replies { IfOk result (λ f. HasAllReplies board (replies_of conductor) f.board) }
     ensures received { IfOk result (λ f. f.received ≡ length (received_of conductor)) }
 

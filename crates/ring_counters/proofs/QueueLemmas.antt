@@ -94,11 +94,6 @@ not_reclaimed_from_allocated Unused e = refl
 not_reclaimed_from_allocated Allocated e = refl
 not_reclaimed_from_allocated (Reclaimed d) e = absurd (true≢false (sym e))
 
-pub not_reclaimed_from_unused : (s : Status) → is_unused s ≡ true → is_reclaimed s ≡ false
-not_reclaimed_from_unused Unused e = refl
-not_reclaimed_from_unused Allocated e = refl
-not_reclaimed_from_unused (Reclaimed d) e = absurd (true≢false (sym e))
-
 -- ---- the queue
 
 pub absent_from_status : (cs : List Counter) (ids : List ℕ) (id : ℕ) → AreReclaimed cs ids

@@ -9,7 +9,7 @@ use Rattle.std.proofs.lemmas.Nat.{mod_low, shr_high, from_le_bytes-to_le_bytes_4
 use Rattle.std.proofs.lemmas.List.{ext_get_or, length-append, length-replicate, get_or-drop, get_or_past, get_or_append_left, get_or-append_right}
 use Rattle.std.proofs.lemmas.List.Elements.{All-get_or, All-from_get_or}
 use Rattle.std.proofs.lemmas.List.FromFn.{length-map-range_with_len, get_or-map-range_with_len}
-use Rattle.ring_counters.specs.Counter.{Status, Unused, Allocated, Reclaimed, Metadata, Values, padded, unused_metadata, state_of, deadline_of, word_of_bytes, state_word, label_text, metadata_word, value_word}
+use Rattle.ring_counters.specs.Counter.{Status, Unused, Allocated, Reclaimed, Metadata, Values, zero_padded, unused_metadata, state_of, deadline_of, word_of_bytes, state_word, label_text, metadata_word, value_word}
 use Rattle.ring_counters.specs.Records.{byte_at, bytes_at, status_from, metadata_of, IsMetadata, SomeMetadata, IsValues}
 use Rattle.ring_layout.proofs.HeaderLemmas.{pattern_below}
 use Rattle.ring_layout.proofs.WordBytes.{byte_of_word, from_le_bytes-same}
@@ -52,9 +52,9 @@ zero_past (suc m) zero = refl
 zero_past (suc m) (suc i) = zero_past m i
 
 -- zeros behind the bytes change no byte, and no word
-pub slice_index-padded : (n : ℕ) (bytes : List ℕ) (i : ℕ) → slice_index bytes i ≡ slice_index (padded n bytes) i
+pub slice_index-padded : (n : ℕ) (bytes : List ℕ) (i : ℕ) → slice_index bytes i ≡ slice_index (zero_padded n bytes) i
 slice_index-padded n bytes i =
-    elim (cases_lt i (length bytes)) as (λ _. slice_index bytes i ≡ slice_index (padded n bytes) i) [
+    elim (cases_lt i (length bytes)) as (λ _. slice_index bytes i ≡ slice_index (zero_padded n bytes) i) [
       | inl h ↦ sym (get_or_append_left bytes (replicate (n - length bytes) 0) 0 i h)
       | inr h ↦
           get_or_past bytes i 0 h
@@ -69,8 +69,8 @@ word_of-same xs ys same k =
     from_le_bytes-same (drop (8 * k) xs) (drop (8 * k) ys)
     (λ i h. get_or-drop (8 * k) xs i 0 ∙ same (8 * k + i) ∙ sym (get_or-drop (8 * k) ys i 0))
 
-pub word_of-padded : (n : ℕ) (bytes : List ℕ) (k : ℕ) → word_of_bytes bytes k ≡ word_of_bytes (padded n bytes) k
-word_of-padded n bytes = word_of-same bytes (padded n bytes) (slice_index-padded n bytes)
+pub word_of-padded : (n : ℕ) (bytes : List ℕ) (k : ℕ) → word_of_bytes bytes k ≡ word_of_bytes (zero_padded n bytes) k
+word_of-padded n bytes = word_of-same bytes (zero_padded n bytes) (slice_index-padded n bytes)
 
 no_word : (k : ℕ) → word_of_bytes [] k ≡ 0
 no_word zero = refl
@@ -326,11 +326,11 @@ pub allocated_shown : (type_id : ℤ) (key label w0 w1 w2 : List ℕ) (state : �
     → ((k : ℕ) → 8 * k < length label + 4 → slice_index w2 (16 + k) ≡ word_of_bytes (label_text label) k)
     → ((i : ℕ) → i < 16 → slice_index w2 i ≡ slice_index w1 i)
     → ((i : ℕ) → 16 + (length label + 11) / 8 ≤ i → slice_index w2 i ≡ slice_index w1 i)
-    → IsMetadata w2 record { status = Allocated; type_id = type_id; key = padded 112 key; label = label }
+    → IsMetadata w2 record { status = Allocated; type_id = type_id; key = zero_padded 112 key; label = label }
 unfolding AreSmall
 allocated_shown type_id key label w0 w1 w2 state fits small_key small_label few_key few_label is_state is_w0 inside
     below above text_inside text_below text_above =
-    let m : Metadata = record { status = Allocated; type_id = type_id; key = padded 112 key; label = label } in
+    let m : Metadata = record { status = Allocated; type_id = type_id; key = zero_padded 112 key; label = label } in
     record {
       lawful = record {
         type_id = fits;
@@ -340,7 +340,7 @@ allocated_shown type_id key label w0 w1 w2 state fits small_key small_label few_
           length-replicate {A = ℕ}
               (112 - length key) 0,
         );
-        key = All-from_get_or (λ (b : ℕ). b < 256) (padded 112 key) 0
+        key = All-from_get_or (λ (b : ℕ). b < 256) (zero_padded 112 key) 0
             (λ i h. omega (arith, slice_index-padded 112 key i, small_key i));
         label_length = few_label;
         label = All-from_get_or (λ (b : ℕ). b < 256) label 0 (λ i h. small_label i);

@@ -14,7 +14,7 @@ use Rattle.ring_counters.specs.declared.values.rule.ValueLoad.{ValueLoad}
 use Rattle.ring_counters.specs.declared.values.rule.ValuesView.{ValuesView}
 use Rattle.ring_counters.specs.Views.{value_write, value_load, values_view}
 use Rattle.ring_counters.specs.ValueWrites.{value_from, value_after, Begins, AreLoads}
-use Rattle.ring_counters.specs.ValuesRule.{all_shares, Fits, ValuesRule, Loads, Learns, Writes}
+use Rattle.ring_counters.specs.ValuesRule.{sum_of_shares, KnowsWrites, ValuesRule, Loads, Learns, WritesValue}
 
 -- ---- values after writes
 
@@ -51,18 +51,19 @@ loads_snoc made (l ∷ ls) all id h = (h.0, h.1, loads_snoc l.after ls all id h.
 -- ---- shares
 
 shares_set : (views : List ValuesView) (by : ℕ) (v w : ValuesView) → get_elem? views by ≡ some v
-    → all_shares (set views by w) + v.shares ≡ all_shares views + w.shares
+    → sum_of_shares (set views by w) + v.shares ≡ sum_of_shares views + w.shares
 shares_set [] by v w e = absurd (some-ne-none v (sym e))
 shares_set (x ∷ xs) zero v w e =
     let h : x.shares ≡ v.shares = ap (λ (u : ValuesView). u.shares) (some-injective x v e) in omega arith
 shares_set (x ∷ xs) (suc by) v w e = let h = shares_set xs by v w e in omega arith
 
-shares_snoc : (views : List ValuesView) (w : ValuesView) → all_shares (views ++ w ∷ []) ≡ all_shares views + w.shares
+shares_snoc : (views : List ValuesView) (w : ValuesView)
+    → sum_of_shares (views ++ w ∷ []) ≡ sum_of_shares views + w.shares
 shares_snoc [] w = omega arith
 shares_snoc (x ∷ xs) w = let h = shares_snoc xs w in omega arith
 
 shares_at : (views : List ValuesView) (by : ℕ) (v : ValuesView) → get_elem? views by ≡ some v
-    → v.shares ≤ all_shares views
+    → v.shares ≤ sum_of_shares views
 shares_at [] by v e = absurd (some-ne-none v (sym e))
 shares_at (x ∷ xs) zero v e =
     let h : x.shares ≡ v.shares = ap (λ (u : ValuesView). u.shares) (some-injective x v e) in omega arith
@@ -80,11 +81,13 @@ index_set xs i j v h =
     (eqb_tells i j)
 
 fits_set : (writer : ℕ) (all : List ValueWrite) (views : List ValuesView) (by : ℕ) (w : ValuesView)
-    → ((j : ℕ) (u : ValuesView) → j ≢ by → get_elem? views j ≡ some u → Fits writer all j u) → Fits writer all by w
-    → (j : ℕ) (u : ValuesView) → get_elem? (set views by w) j ≡ some u → Fits writer all j u
+    → ((j : ℕ) (u : ValuesView) → j ≢ by → get_elem? views j ≡ some u → KnowsWrites writer all j u)
+        → KnowsWrites writer all by w
+    → (j : ℕ) (u : ValuesView) → get_elem? (set views by w) j ≡ some u → KnowsWrites writer all j u
 fits_set writer all views by w others mine j u e =
     ⊎_elim
-    (λ (x : (j ≡ by) × (w ≡ u)). subst (λ (y : ℕ × ValuesView). Fits writer all y.0 y.1) (λ i. (sym x.0 i, x.1 i)) mine)
+    (λ (x : (j ≡ by) × (w ≡ u)). subst (λ (y : ℕ
+        × ValuesView). KnowsWrites writer all y.0 y.1) (λ i. (sym x.0 i, x.1 i)) mine)
     (λ (x : (j ≢ by) × (get_elem? views j ≡ some u)). others j u x.0 x.1)
     (at_set views by j w u e)
 
@@ -94,12 +97,12 @@ not_writer e = true≢false (sym e)
 -- a load leaves the words as they are
 module _ (count : ℕ) (s : State (Unit {0}) ValuesView) (r : ValuesRule count s.words s.views) (id by : ℕ)
     (v w : ValuesView) (at : get_elem? s.views by ≡ some v) (same : w.shares ≡ v.shares)
-    (fits : Fits r.0 r.1 by w) where
+    (fits : KnowsWrites r.0 r.1 by w) where
   loaded_rule : ValuesRule count (set s.words id (slice_index s.words id)) (set s.views by w)
   loaded_rule =
       let words : set s.words id (slice_index s.words id) ≡ s.words = set-get_or s.words id 0 in
       let p = shares_set s.views by v w at in
-      let total : all_shares s.views ≡ 65536 = r.3 in
+      let total : sum_of_shares s.views ≡ 65536 = r.3 in
       subst (λ l. ValuesRule count l (set s.views by w)) (sym words)
       (r.0, r.1, r.2, omega arith, r.4, r.5, fits_set r.0 r.1 s.views by w (λ j u _ e. r.6 j u e) fits)
 
@@ -126,7 +129,7 @@ pub learns : (count slots by : ℕ) (v : ValuesView) (carried : List (ℕ × Uni
 learns count slots by v carried writes s r homes at small =
     let h = r.6 by v at in
     let most = shares_at s.views by v at in
-    let total : all_shares s.views ≡ 65536 = r.3 in (
+    let total : sum_of_shares s.views ≡ 65536 = r.3 in (
       v,
       keeps,
       tt,
@@ -137,7 +140,7 @@ learns count slots by v carried writes s r homes at small =
 pub stores : (count slots by id word : ℕ) (v : ValuesView) (carried : List (ℕ × Unit {0})) → id < count → word < 2 ^ 64
     → FitsSigned w64 (cast_signed w64 word) → v.writes ≡ true
     → Allows (λ s. ValuesRule count s.words s.views) slots by (v, carried) id (λ _. word)
-    (λ _ w. Writes id word v w.0 × (w.1 ≡ carried))
+    (λ _ w. WritesValue id word v w.0 × (w.1 ≡ carried))
 stores count slots by id word v carried inside whole signed writes s r homes at small =
     let all = r.1 in
     let h = r.6 by v at in
@@ -146,7 +149,7 @@ stores count slots by id word v carried inside whole signed writes s r homes at 
     let more : List ValueWrite = all ++ new ∷ [] in
     let w = values_view v.writes v.shares (v.seen ++ new ∷ []) v.made v.loads in
     let p = shares_set s.views by v w at in
-    let total : all_shares s.views ≡ 65536 = r.3 in
+    let total : sum_of_shares s.views ≡ 65536 = r.3 in
     let size : length s.words ≡ count = r.2 in (
       w,
       keeps,
@@ -198,7 +201,7 @@ splits count by v two s r at =
     let h = r.6 by v at in
     let p = shares_set s.views by v w at in
     let q = shares_snoc (set s.views by w) new in
-    let total : all_shares s.views ≡ 65536 = r.3 in
+    let total : sum_of_shares s.views ≡ 65536 = r.3 in
     let kept = fits_set r.0 r.1 s.views by w (λ j u _ e. r.6 j u e) h in (
       r.0,
       r.1,
@@ -207,7 +210,7 @@ splits count by v two s r at =
       r.4,
       r.5,
       λ j u e. ⊎_elim (λ was. kept j u was)
-          (λ (is : new ≡ u). subst (Fits r.0 r.1 j) is ((λ y. absurd (not_writer y)), h.1, h.1))
+          (λ (is : new ≡ u). subst (KnowsWrites r.0 r.1 j) is ((λ y. absurd (not_writer y)), h.1, h.1))
           (at_snoc (set s.views by w) new u j e),
     )
 
@@ -223,7 +226,7 @@ joins count by v other u s r at apart there =
     let mid = set s.views by w in
     let p = shares_set s.views by v w at in
     let q = shares_set mid other u spent there in
-    let total : all_shares s.views ≡ 65536 = r.3 in
+    let total : sum_of_shares s.views ≡ 65536 = r.3 in
     let kept = fits_set r.0 r.1 s.views by w (λ j x _ e. r.6 j x e) (h.0, h.1, k.2) in (
       r.0,
       r.1,
@@ -244,6 +247,7 @@ begins count =
     zeros (suc n) zero = refl
     zeros (suc n) (suc i) = zeros n i
 
-    one : (by : ℕ) (v : ValuesView) → get_elem? (values_view true 65536 [] [] [] ∷ []) by ≡ some v → Fits 0 [] by v
-    one zero v e = subst (Fits 0 [] 0) (some-injective _ _ e) ((λ _. (refl, refl)), from_none [], from_none [])
+    one : (by : ℕ) (v : ValuesView) → get_elem? (values_view true 65536 [] [] [] ∷ []) by ≡ some v
+        → KnowsWrites 0 [] by v
+    one zero v e = subst (KnowsWrites 0 [] 0) (some-injective _ _ e) ((λ _. (refl, refl)), from_none [], from_none [])
     one (suc by) v e = absurd (some-ne-none v (sym e))

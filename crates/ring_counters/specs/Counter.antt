@@ -25,8 +25,8 @@ pub record Counter : Type 0 where
   pub values : Values
 
 -- n bytes: these, and zeros after them
-abbrev pub padded : ℕ → List ℕ → List ℕ
-padded n bytes = bytes ++ replicate (n - length bytes) 0
+abbrev pub zero_padded : ℕ → List ℕ → List ℕ
+zero_padded n bytes = bytes ++ replicate (n - length bytes) 0
 
 abbrev pub unused_metadata : Metadata
 unused_metadata = record { status = Unused; type_id = pos 0; key = replicate 112 0; label = [] }

@@ -26,7 +26,7 @@ metadata_of words = record {
 }
 
 -- the limits of a metadata record
-pub record IsLawful (m : Metadata) : Type 0 where
+pub record IsWithinLimits (m : Metadata) : Type 0 where
   pub type_id : FitsSigned w32 m.type_id
   pub key_length : length m.key ≡ 112
   pub key : All (λ b. b < 256) m.key
@@ -35,7 +35,7 @@ pub record IsLawful (m : Metadata) : Type 0 where
 
 -- the words are those of a lawful record
 pub record IsMetadata (words : List ℕ) (m : Metadata) : Type 0 where
-  pub lawful : IsLawful m
+  pub lawful : IsWithinLimits m
   pub shows : (k : ℕ) → k < 64 → slice_index words k ≡ metadata_word m k
 
 abbrev pub SomeMetadata : List ℕ → Type 0

@@ -9,7 +9,7 @@ use Rattle.ring_counters.specs.declared.fault.MakeFault.{MakeFault}
 use Rattle.ring_counters.specs.declared.fault.MakeFault.TheVariants.{BadCount}
 use Rattle.ring_counters.specs.declared.fault.IdFault.{IdFault}
 use Rattle.ring_counters.specs.declared.fault.IdFault.TheVariants.{BadId, NotAllocated}
-use Rattle.ring_counters.specs.Counter.{Status, Unused, Allocated, Reclaimed, Counter, padded, unused_counter}
+use Rattle.ring_counters.specs.Counter.{Status, Unused, Allocated, Reclaimed, Counter, zero_padded, unused_counter}
 
 -- a record for each id, the ids that were freed and not given again, in order of freeing, and the reuse timeout
 pub record Registry : Type 0 where
@@ -95,7 +95,7 @@ allocation_of r now key label = given (text_refusal_of key label) (next_id r now
 -- a counter as it is allocated
 abbrev pub new_counter : ℤ → List ℕ → List ℕ → ℕ → ℕ → Counter
 new_counter type_id key label registration owner = record {
-  metadata = record { status = Allocated; type_id = type_id; key = padded 112 key; label = label };
+  metadata = record { status = Allocated; type_id = type_id; key = zero_padded 112 key; label = label };
   values = record { value = pos 0; registration = registration; owner = owner };
 }
 

@@ -8,13 +8,13 @@ use Rattle.ring_counters.specs.declared.values.rule.ValuesView.{ValuesView}
 use Rattle.ring_counters.specs.Views.{value_write, value_load, values_view}
 use Rattle.ring_counters.specs.ValueWrites.{value_after, Begins, AreLoads}
 
-abbrev pub all_shares : List ValuesView → ℕ
-all_shares [] = 0
-all_shares (v ∷ vs) = v.shares + all_shares vs
+abbrev pub sum_of_shares : List ValuesView → ℕ
+sum_of_shares [] = 0
+sum_of_shares (v ∷ vs) = v.shares + sum_of_shares vs
 
 -- the writer has all writes, a reader has seen a first part of them, and its loads are theirs
-abbrev pub Fits : ℕ → List ValueWrite → ℕ → ValuesView → Type 0
-Fits writer all by v =
+abbrev pub KnowsWrites : ℕ → List ValueWrite → ℕ → ValuesView → Type 0
+KnowsWrites writer all by v =
     (v.writes ≡ true → (by ≡ writer) × (v.seen ≡ all)) × Begins v.seen all × AreLoads v.made v.loads all
 
 -- there is one list of writes, each word is its id's value after them, and the shares add up
@@ -22,10 +22,10 @@ abbrev pub ValuesRule : ℕ → List ℕ → List ValuesView → Type 0
 ValuesRule count words views =
     (writer : ℕ) × (all : List ValueWrite)
     × (length words ≡ count)
-    × (all_shares views ≡ 65536)
+    × (sum_of_shares views ≡ 65536)
     × ((id : ℕ) → FitsSigned w64 (value_after id all))
     × ((id : ℕ) → id < count → slice_index words id ≡ cast_unsigned w64 (value_after id all))
-    × ((by : ℕ) (v : ValuesView) → get_elem? views by ≡ some v → Fits writer all by v)
+    × ((by : ℕ) (v : ValuesView) → get_elem? views by ≡ some v → KnowsWrites writer all by v)
 
 -- a load gives the value after some writes, which begin with those that the reader has seen
 abbrev pub Loads : ℕ → ValuesView → ℕ → ValuesView → Type 0
@@ -39,6 +39,6 @@ Loads id v found w =
 abbrev pub Learns : ValuesView → ValuesView → Type 0
 Learns v w = (w ≡ v) × AreLoads v.made v.loads v.seen × (v.shares ≤ 65536)
 
-abbrev pub Writes : ℕ → ℕ → ValuesView → ValuesView → Type 0
-Writes id word v w =
+abbrev pub WritesValue : ℕ → ℕ → ValuesView → ValuesView → Type 0
+WritesValue id word v w =
     w ≡ values_view v.writes v.shares (v.seen ++ value_write id (cast_signed w64 word) ∷ []) v.made v.loads

@@ -1,4 +1,10 @@
 //! Labelled counters that a conductor keeps and monitors read while it works, in records of words.
+//!
+//! - `manager`: the counters of one owner, with their values. `calls`: what it is asked, by kind.
+//! - `records`: the counters' words: `metadata` and `value` records, what a counter is allocated with (`wanted`), and
+//!   the queue of ids that were `freed`.
+//! - `values`: what threads share: the `seats` of writer and readers, and the `rule` between any two steps.
+//! - `fault`, `info`: why calls refuse, and what a listing says of a counter.
 #![tactic(auto)]
 
 mod calls;

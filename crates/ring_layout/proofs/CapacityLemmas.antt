@@ -20,13 +20,6 @@ capacity_blocks c h =
           absurd (omega (arith, h.least))
     ]
 
--- what the test of a capacity tells
-pub lawful_from : (C : ℕ) → is_capacity C ≡ true → IsCapacity C
-lawful_from C h =
-    let outer = and_parts (is_power_of_two C && nat_le 128 C) (nat_le C (2 ^ 24)) h in
-    let inner = and_parts (is_power_of_two C) (nat_le 128 C) outer.0 in
-    record { power = inner.0; least = leb-true 128 C inner.1; most = leb-true C (2 ^ 24) outer.1 }
-
 pub lawful_test : (C : ℕ) → IsCapacity C → is_capacity C ≡ true
 lawful_test C h =
     and_from (is_power_of_two C && nat_le 128 C) (nat_le C (2 ^ 24))
@@ -58,7 +51,3 @@ pub mask_is_mod : (C p : ℕ) → C < 2 ^ 32 → IsTrue (is_power_of_two C) → 
 mask_is_mod C p lt h =
     let power = power_below 32 C lt (eqb-true (count_ones C) 1 h) in
     ap (λ n. bit_and p (n - 1)) power.1 ∙ and_mask p power.0 ∙ sym (ap (λ n. p % n) power.1)
-
-pub power_positive : (C : ℕ) → C < 2 ^ 32 → IsTrue (is_power_of_two C) → 0 < C
-power_positive C lt h =
-    let power = power_below 32 C lt (eqb-true (count_ones C) 1 h) in omega (arith, power.1, pow_pos power.0)

@@ -1,4 +1,8 @@
 //! The lines of a scenario, and what they ask for.
+//!
+//! - `lines`, `line`, `words`, `cut`: an input as lines, and a line as words.
+//! - `call`, `service_call`, `request`, `moment`: what a line asks for.
+//! - `fault`: why a line is not executed.
 #![tactic(auto)]
 
 mod call;

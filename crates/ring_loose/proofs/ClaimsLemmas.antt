@@ -13,7 +13,7 @@ use Rattle.ring_table.specs.declared.claim.Stage.TheVariants.{Stored}
 use Rattle.ring_table.specs.declared.view.View.{View}
 use Rattle.ring_table.specs.Changes.{changed, changed_at, staged}
 use Rattle.ring_table.specs.OpenClaims.{one_if_open, open_count}
-use Rattle.ring_table.specs.Staged.{state_of}
+use Rattle.ring_table.specs.Staged.{stage_state}
 use Rattle.ring_table.proofs.Histories.{changed_at_place, changed_at_other}
 use Rattle.ring_rings.specs.declared.ring.Ring.{Ring}
 use Rattle.ring_rings.specs.declared.ring.Producer.{Producer}
@@ -39,7 +39,7 @@ module _ (P Q : StagedClaim → Type 0) (p : ℕ) (f : StagedClaim → StagedCla
 
 -- one more claim that is not open
 pub held_settled_more : (cs : List StagedClaim) (c : StagedClaim) (claims : List (Option ClaimAt))
-    → state_of c.stage ≢ Open → AreHeld cs claims → AreHeld (cs ++ c ∷ []) claims
+    → stage_state c.stage ≢ Open → AreHeld cs claims → AreHeld (cs ++ c ∷ []) claims
 held_settled_more cs c claims settled all =
     All-push (IsHeldIfOpen claims) cs c all (λ is_open. absurd (settled is_open))
 
@@ -98,7 +98,7 @@ pub none_counted : (cs : List StagedClaim) (claims : List (Option ClaimAt)) → 
     → open_count cs ≡ 0
 none_counted [] claims none all = refl
 none_counted (c ∷ cs) claims none all =
-    let first = counts_nothing (state_of c.stage)
+    let first = counts_nothing (stage_state c.stage)
     (λ is_open. let held = All-head (IsHeldIfOpen claims) c cs all is_open in let clash : None ≡ Some held.claim =
     sym (none held.index) ∙ held.has in absurd cc) in
     let rest = none_counted cs claims none (All-tail (IsHeldIfOpen claims) c cs all) in

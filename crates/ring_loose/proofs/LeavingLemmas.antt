@@ -6,7 +6,7 @@ use Rattle.ring_board.specs.declared.shared.view.View.{View}
 use Rattle.ring_board.specs.Seats.{receiver_view, view_of}
 use Rattle.ring_board.specs.Steps.{joined}
 use Rattle.ring_loose.specs.Held.{HasAt, IsFree}
-use Rattle.ring_loose.specs.Receivers.{Crowd, Leaves, all_left}
+use Rattle.ring_loose.specs.Receivers.{Crowd, LeavesCrowd, all_left}
 use Rattle.ring_loose.proofs.HeldLemmas.{front, none_at}
 
 -- what the transmitter knows once the receivers from an index on have left
@@ -24,7 +24,7 @@ module _ (n : ℕ) (now next : Crowd) (inside : n < length now.receivers) where
       ∙ sym (ap (λ l. all_left l (view_of now.transmitter)) (front now.receivers n None inside none)))
 
   -- the receiver at the index left
-  leaves : Leaves now (n + 1) next → left_from (n + 1) next ≡ left_from n now
+  leaves : LeavesCrowd now (n + 1) next → left_from (n + 1) next ≡ left_from n now
   leaves did =
       let receivers = now.receivers in
       let at : n + 1 - 1 ≡ n = omega arith in
@@ -37,7 +37,8 @@ module _ (n : ℕ) (now next : Crowd) (inside : n < length now.receivers) where
       ∙ sym (ap (λ l. all_left l (view_of now.transmitter)) (front receivers n (Some did.receiver) inside has)))
 
   pub left_on : {T : Type 0} (r : Option T) → IfNone r ((next.transmitter ≡ now.transmitter)
-      × (next.receivers ≡ now.receivers)) → OnSome r (Leaves now (n + 1) next) → IfNone r (IsFree now.receivers (n + 1))
+      × (next.receivers ≡ now.receivers)) → OnSome r (LeavesCrowd now (n + 1) next)
+          → IfNone r (IsFree now.receivers (n + 1))
       → left_from (n + 1) next ≡ left_from n now
   left_on None same did free = passes (ap view_of same.0) same.1 free
   left_on (Some x) same did free = leaves did

@@ -46,7 +46,7 @@ pub record ReceivesAt (told : Received) (old : Numbered CopyReceiver) (number : 
   pub stays : Stays before after (held_in old) number (held_in new)
 
 -- the receiver of this number left, and its number is given up
-pub record Leaves (old : Crowd) (number : ℕ) (new : Crowd) : Type 0 where
+pub record LeavesCrowd (old : Crowd) (number : ℕ) (new : Crowd) : Type 0 where
   pub receiver : CopyReceiver
   pub goes : Goes receiver old.receivers number new.receivers
   pub share : view_of new.transmitter ≡ joined (view_of old.transmitter) (receiver_view receiver)

@@ -1,4 +1,8 @@
 //! A ring with numbered claims and a broadcast buffer with numbered receivers: what a run holds beside its conductor.
+//!
+//! - `numbered`: what is held by number.
+//! - `loose_ring`: a ring with its open claims. `loose_board`: a broadcast buffer with its receivers.
+//! - `receiving`, `received`: a numbered receiver that asks for a message, and what it is told.
 #![tactic(auto)]
 
 mod loose_board;

@@ -10,7 +10,7 @@ ghost use Rattle.ring_board.specs.Seats.{capacity_of, next_record, shares_of, st
 ghost use Rattle.ring_board.specs.Seats.{IsTransmitterOf};
 ghost use Rattle.ring_board.specs.Steps.{sent_on};
 ghost use Rattle.ring_loose.specs.Held.{IsFree, held_count, held_in};
-ghost use Rattle.ring_loose.specs.Receivers.{AreReceivers, Leaves, ReceivesAt, Subscribes, all_left, crowd};
+ghost use Rattle.ring_loose.specs.Receivers.{AreReceivers, LeavesCrowd, ReceivesAt, Subscribes, all_left, crowd};
 
 use crate::numbered::Numbered;
 use crate::received::Received;
@@ -71,7 +71,7 @@ fn join_receiver(
     ensures transmitter { IsTransmitterOf board.now transmitter.new }
     ensures receivers { AreReceivers board.now receivers.new }
     ensures left { OnSome result
-        (Leaves (crowd transmitter.old receivers.old) number (crowd transmitter.new receivers.new)) }
+        (LeavesCrowd (crowd transmitter.old receivers.old) number (crowd transmitter.new receivers.new)) }
     ensures same { IfNone result
         ((transmitter.new ≡ transmitter.old) × (held_in receivers.new ≡ held_in receivers.old)) }
     ensures free { IfNone result (IsFree (held_in receivers.old) number) }
@@ -140,7 +140,7 @@ impl LooseBoard {
 
     /// Joins the receiver of this number; `None` where it is not here.
     pub fn leave(&mut self, number: usize) -> Option<()>
-        ensures left { OnSome result (Leaves
+        ensures left { OnSome result (LeavesCrowd
             (crowd self.old.transmitter self.old.receivers) number (crowd self.new.transmitter self.new.receivers)) }
         ensures same { IfNone result ((self.new.transmitter ≡ self.old.transmitter)
             × (held_in self.new.receivers ≡ held_in self.old.receivers)) }

@@ -5,7 +5,7 @@ ghost use Rattle.ring_layout.specs.Places.{is_capacity};
 ghost use Rattle.ring_layout.specs.Refusals.{make_refusal_of, IsMadeUnless};
 ghost use Rattle.ring_rings.specs.Closing.{HandsOut, Serves};
 ghost use Rattle.ring_rings.specs.Joining.{LoadsPositions};
-ghost use Rattle.ring_rings.specs.Reading.{Controls, IsBlocked, Reads};
+ghost use Rattle.ring_rings.specs.Reading.{Controls, FoundUnsettled, Reads};
 ghost use Rattle.ring_rings.specs.Seats.{capacity_of, shares_of, IsProducerOf};
 ghost use Rattle.ring_loose.specs.Claims.{AreOpen, Declines, HoldsNothing, Puts, SettlesAt, Tries, WritesAfter, holder_of};
 ghost use Rattle.ring_loose.specs.Held.{IsFree, held_in};
@@ -253,7 +253,7 @@ impl LooseRing {
         ensures stopped { result.stopped
             ≡ stop_of self.old.capacity limit result.messages (head_in self.new) result.bytes }
         ensures within { result.messages ≤ limit }
-        ensures blocked { result.stopped ≡ Stop.Unpublished → IsBlocked self.old.consumer self.new.consumer }
+        ensures blocked { result.stopped ≡ Stop.Unpublished → FoundUnsettled self.old.consumer self.new.consumer }
         ensures rest { self.new ≡ with_reader self.new.consumer self.old }
     {
         self.ring.read(&mut self.consumer, limit, handler)
@@ -266,7 +266,7 @@ impl LooseRing {
         ensures controls { Controls H.step limit self.old.consumer self.new.consumer handler.old handler.new result }
         ensures bytes { head_in self.old + result.bytes ≡ head_in self.new }
         ensures within { result.messages ≤ limit }
-        ensures blocked { result.stopped ≡ Stop.Unpublished → IsBlocked self.old.consumer self.new.consumer }
+        ensures blocked { result.stopped ≡ Stop.Unpublished → FoundUnsettled self.old.consumer self.new.consumer }
         ensures rest { self.new ≡ with_reader self.new.consumer self.old }
     {
         self.ring

@@ -11,7 +11,7 @@ pub struct Numbered<T> {
 }
 
 impl<T> Numbered<T> {
-    ghost use Rattle.ring_loose.specs.Held.{Comes, Goes, HasRoom, IsFree, held_in};
+    ghost use Rattle.ring_loose.specs.Held.{Comes, Goes, HasRoomToHold, IsFree, held_in};
 
     /// Nothing is held, and no number was drawn.
     pub fn new(alloc: Global) -> Self
@@ -31,7 +31,7 @@ impl<T> Numbered<T> {
 
     /// Makes room for one more. All that is held stays, also where memory is wanting.
     pub fn reserve(&mut self) -> Result<(), AllocError>
-        ensures room { OnOk result (HasRoom self.new) }
+        ensures room { OnOk result (HasRoomToHold self.new) }
         ensures same { held_in self.new ≡ held_in self.old }
     {
         self.held.reserve(1)
@@ -39,7 +39,7 @@ impl<T> Numbered<T> {
 
     /// Holds one more, for which room was made, under the next number, which is given.
     pub fn hold(&mut self, x: T) -> usize
-        requires { HasRoom self.old }
+        requires { HasRoomToHold self.old }
         ensures { Comes x (held_in self.old) result (held_in self.new) }
     {
         self.held.push_reserved(Some(x));

@@ -8,9 +8,9 @@ use Rattle.std.proofs.lemmas.List.Elements.{All-from_get_or}
 use Rattle.ring_protocol.specs.Field.{AreBytes, u32_field, u64_field, i32_field, i64_field, sized_field}
 use Rattle.ring_protocol.specs.declared.reply.Reply.{Reply}
 use Rattle.ring_protocol.specs.Reply as reply
-use Rattle.ring_protocol.specs.Command.{Instruction, Allocate, Free, Set, AllocateOwned, Close, type_id_of, spelling_of, HasSpelling, HasShortTexts}
+use Rattle.ring_protocol.specs.Command.{Instruction, Allocate, Free, Set, AllocateOwned, Close, type_id_of, spelling_of, HasSpelling, HasTextLengths}
 use Rattle.ring_protocol.specs.Reading.{command_of, reply_of}
-use Rattle.ring_protocol.specs.Writing.{Writes, Encodes, EncodesReply, over_start}
+use Rattle.ring_protocol.specs.Writing.{WritesText, Encodes, EncodesReply, over_start}
 use Rattle.ring_protocol.proofs.ReadCommands as commands
 use Rattle.ring_protocol.proofs.ReadReplies as replies
 
@@ -18,10 +18,10 @@ if_some : {A : Type 0} (o : Option A) (P : Type 0) → P → IfSome o (λ n. P)
 if_some None P p = tt
 if_some (Some x) P p = p
 
-pub encodes : (c : Instruction) (text old new : List ℕ) (result : Option ℕ) → HasShortTexts c → HasSpelling c
-    → text ≡ spelling_of c → Writes text old new result → Encodes c old new result
+pub encodes : (c : Instruction) (text old new : List ℕ) (result : Option ℕ) → HasTextLengths c → HasSpelling c
+    → text ≡ spelling_of c → WritesText text old new result → Encodes c old new result
 encodes c text old new result short has e w =
-    let written : Writes (spelling_of c) old new result = subst (λ (t : List ℕ). Writes t old new result) e w in
+    let written : WritesText (spelling_of c) old new result = subst (λ (t : List ℕ). WritesText t old new result) e w in
     record {
       fits = (λ some. (short, written.fits.0 some), λ h. written.fits.1 h.1);
       spelled = if_some result (HasSpelling c) has;
@@ -95,10 +95,11 @@ allocate_owned_text correlation type_id owner key label a b d n m p q t r s =
 -- ---- replies
 
 pub encodes_reply : (r : Reply) (text old new : List ℕ) (result : Option ℕ) (len : ℕ) → reply.HasSpelling r
-    → text ≡ reply.spelling_of r → result ≡ Some len → Writes text old new result → EncodesReply r old new len
+    → text ≡ reply.spelling_of r → result ≡ Some len → WritesText text old new result → EncodesReply r old new len
 encodes_reply r text old new result len has e is w =
-    let spelled : Writes (reply.spelling_of r) old new (Some len) =
-    subst (λ (t : List ℕ). Writes t old new (Some len)) e (subst (λ (o : Option ℕ). Writes text old new o) is w) in
+    let spelled : WritesText (reply.spelling_of r) old new (Some len) =
+    subst (λ (t : List ℕ). WritesText t old new (Some len)) e (subst
+        (λ (o : Option ℕ). WritesText text old new o) is w) in
     record { has_spelling = has; len = spelled.len; written = spelled.some }
 
 -- ---- what was written is read again

@@ -59,10 +59,10 @@ HasSpelling (AllocateOwned correlation type_id owner key label) =
 HasSpelling (Close correlation owner) = (correlation < 2 ^ 64) × (owner < 2 ^ 64)
 
 -- the key and the label are no longer than a length can say
-abbrev pub HasShortTexts : Instruction → Type 0
-HasShortTexts (Allocate correlation type_id key label) = (length key < 2 ^ 32) × (length label < 2 ^ 32)
-HasShortTexts (AllocateOwned correlation type_id owner key label) = (length key < 2 ^ 32) × (length label < 2 ^ 32)
-HasShortTexts c = Unit {0}
+abbrev pub HasTextLengths : Instruction → Type 0
+HasTextLengths (Allocate correlation type_id key label) = (length key < 2 ^ 32) × (length label < 2 ^ 32)
+HasTextLengths (AllocateOwned correlation type_id owner key label) = (length key < 2 ^ 32) × (length label < 2 ^ 32)
+HasTextLengths c = Unit {0}
 
 -- the key and the label are no longer than those of a counter may be
 abbrev pub HasLawfulTexts : Instruction → Type 0

@@ -1,7 +1,7 @@
 -- What is written over the start of an output.
 use Rattle.std.specs.Prelude.{◌≡◌, ℕ, ◌≤◌, ◌↔◌, List, ◌++◌, length, drop, Option, IsSome, IfSome, IfNone}
 use Rattle.ring_protocol.specs.declared.reply.Reply.{Reply}
-use Rattle.ring_protocol.specs.Command.{Instruction, spelling_of, HasSpelling, HasShortTexts}
+use Rattle.ring_protocol.specs.Command.{Instruction, spelling_of, HasSpelling, HasTextLengths}
 use Rattle.ring_protocol.specs.Reply as reply
 
 -- the output with the text over its start
@@ -9,7 +9,7 @@ abbrev pub over_start : List ℕ → List ℕ → List ℕ
 over_start text old = text ++ drop (length text) old
 
 -- The text stands over the start of an output where it fits. Otherwise nothing was written.
-pub record Writes (text old new : List ℕ) (result : Option ℕ) : Type 0 where
+pub record WritesText (text old new : List ℕ) (result : Option ℕ) : Type 0 where
   pub fits : IsSome result ↔ (length text ≤ length old)
   pub len : IfSome result (λ n. n ≡ length text)
   pub some : IfSome result (λ n. new ≡ over_start text old)
@@ -18,7 +18,7 @@ pub record Writes (text old new : List ℕ) (result : Option ℕ) : Type 0 where
 -- The spelling of a command stands over the start of an output, where it fits and where lengths can say how long
 -- the key and the label are. Otherwise nothing was written.
 pub record Encodes (c : Instruction) (old new : List ℕ) (result : Option ℕ) : Type 0 where
-  pub fits : IsSome result ↔ (HasShortTexts c × (length (spelling_of c) ≤ length old))
+  pub fits : IsSome result ↔ (HasTextLengths c × (length (spelling_of c) ≤ length old))
   pub spelled : IfSome result (λ n. HasSpelling c)
   pub len : IfSome result (λ n. n ≡ length (spelling_of c))
   pub some : IfSome result (λ n. new ≡ over_start (spelling_of c) old)

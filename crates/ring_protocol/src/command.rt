@@ -64,7 +64,7 @@ pub enum Command<'a> {
 }
 
 impl Command<'_> {
-    ghost use Rattle.ring_protocol.specs.Command.{HasShortTexts, content_of, correlation_id_of};
+    ghost use Rattle.ring_protocol.specs.Command.{HasTextLengths, content_of, correlation_id_of};
     ghost use Rattle.ring_protocol.specs.Command.{spelling_of, type_id_of};
 
     /// The type id of the message that spells the command.
@@ -96,7 +96,7 @@ impl Command<'_> {
     /// How many bytes its spelling takes, at most `LONGEST_COMMAND` where the counters could take its key and its
     /// label. `None` where the key or the label is longer than 2^32 - 1 bytes: it has no spelling then.
     pub fn encoded_len(&self) -> Option<usize>
-        ensures fits { IsSome result ↔ HasShortTexts (content_of self.now) }
+        ensures fits { IsSome result ↔ HasTextLengths (content_of self.now) }
         ensures len { IfSome result (λ n. n ≡ length (spelling_of (content_of self.now))) }
     {
         match self {

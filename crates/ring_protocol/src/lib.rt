@@ -1,4 +1,9 @@
 //! Commands and replies, and how they are spelled as bytes and read again.
+//!
+//! - `command`, `reply`: the messages; `encode` and `decode` of each are in its folder.
+//! - `fields`: the fields of a body, read from its front and written over the start of an output.
+//! - `codes`, `fault`: why a command is refused, and why bytes are no message.
+//! - `laws`: each spelling is of one message, and what was encoded is decoded again.
 #![tactic(auto)]
 
 mod codes;

@@ -1,5 +1,9 @@
 //! What lies in a ring, a board or counters, as a report: from a copy of their memory, read
 //! from a file or given as words, to a table that a person reads, or JSON.
+//!
+//! - `ring`, `board`, `counters`: the report of each. `records`: the lists that the first two have in common.
+//! - `report`: what is shown. `table` and `json` print it; `picture` and `bodies` are parts of it.
+//! - `input`, `input_fault`: a section of a file, as words. `view`: what is wanted of a report.
 #![tactic(auto)]
 
 mod board;

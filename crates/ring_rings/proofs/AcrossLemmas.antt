@@ -2,10 +2,11 @@
 use Rattle.std.proofs.Common.{◌≡◌, ℕ, List, [], ◌∷◌, ◌++◌, ap, sym, ◌∙◌, append_assoc}
 use Rattle.ring_table.specs.declared.view.View.{View}
 use Rattle.ring_layout.specs.Places.{index}
-use Rattle.ring_rings.specs.Reading.{IsBlocked}
+use Rattle.ring_rings.specs.Reading.{FoundUnsettled}
 
 -- u's log is v's with these loads behind it
-pub blocked_on : (v u w : View) (loads : List (ℕ × ℕ)) → u.log ≡ v.log ++ loads → IsBlocked u w → IsBlocked v w
+pub blocked_on : (v u w : View) (loads : List (ℕ × ℕ)) → u.log ≡ v.log ++ loads → FoundUnsettled u w
+    → FoundUnsettled v w
 blocked_on v u w loads more b =
     let last : List (ℕ × ℕ) = (index w.capacity w.consumer.head, b.found) ∷ [] in
     record {

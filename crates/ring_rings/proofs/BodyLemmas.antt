@@ -8,15 +8,15 @@ use Rattle.ring_layout.specs.History.{overwritten}
 use Rattle.ring_layout.proofs.WordBytes.{from_le_bytes-same, length-overwritten, overwritten_before, overwritten_behind, overwritten_inside}
 use Rattle.ring_table.proofs.BodyWords.{length-with_word}
 use Rattle.ring_table.proofs.BodyWords as word
-use Rattle.ring_table.specs.Changes.{changed, with_word, written}
+use Rattle.ring_table.specs.Changes.{changed, with_word, with_body_word}
 use Rattle.ring_table.specs.declared.claim.StagedClaim.{StagedClaim}
 use Rattle.ring_table.specs.declared.claim.Stage.TheVariants.{Stored}
 use Rattle.ring_table.specs.declared.view.View.{View}
 use Rattle.ring_layout.specs.declared.message.ClaimState.TheVariants.{Open}
 use Rattle.ring_table.specs.Staged.{AreRising}
 use Rattle.ring_table.specs.Views.{with_claims}
-use Rattle.ring_table.specs.ProducerSteps.{HasClaim, HasClaimAt, TakesWord}
-use Rattle.ring_rings.specs.Bodies.{put_at, IsFresh, TakesFresh}
+use Rattle.ring_table.specs.ProducerSteps.{HasClaim, HasClaimAt, IsWordOfBody}
+use Rattle.ring_rings.specs.Bodies.{put_at, IsFreshClaim, TakesFresh}
 use Rattle.ring_rings.proofs.PutLemmas.{byte_of_new, changed_step, has_changed, rising_back, with_word_new}
 
 -- The first d bytes were put over b0 from the offset on, and the first m are next: the others of these lie in the word
@@ -127,7 +127,7 @@ module _ (c0 : StagedClaim) (is_open : c0.stage ≡ Stored Open) (offset d m k :
     (word : ℕ) (word_is : word ≡ from_le_bytes w64 (drop (8 * k) (overwritten offset (take m bytes) c0.message.body)))
   where
     -- it may be stored
-    pub takes_word : TakesWord (8 * k) word (put_at offset (take d bytes) c0)
+    pub takes_word : IsWordOfBody (8 * k) word (put_at offset (take d bytes) c0)
     takes_word =
         let longs = long_old offset d m k bytes c0.message.body room least more from to inside in
         record {
@@ -139,7 +139,7 @@ module _ (c0 : StagedClaim) (is_open : c0.stage ≡ Stored Open) (offset d m k :
         }
 
     -- and then the first m bytes are put
-    pub writes_word : written (8 * k) word (put_at offset (take d bytes) c0) ≡ put_at offset (take m bytes) c0
+    pub writes_word : with_body_word (8 * k) word (put_at offset (take d bytes) c0) ≡ put_at offset (take m bytes) c0
     writes_word =
         let b0 : List ℕ = c0.message.body in
         let body_is : with_word (8 * k) word (overwritten offset (take d bytes) b0)
@@ -164,20 +164,20 @@ module _ (v0 v : View) (place nth : ℕ) (c0 : StagedClaim) (there : HasClaim v0
     → slice_index (overwritten offset (take m bytes) c0.message.body) j < 256)
     (word : ℕ) (word_is : word ≡ from_le_bytes w64 (drop (8 * k) (overwritten offset (take m bytes) c0.message.body)))
     (before : v ≡ with_claims (changed place (put_at offset (take d bytes)) v0.producer.claims) v0) where
-  pub turn_takes : HasClaimAt v place (TakesWord (8 * k) word)
+  pub turn_takes : HasClaimAt v place (IsWordOfBody (8 * k) word)
   turn_takes =
-      subst (λ (u : View). HasClaimAt u place (TakesWord (8 * k) word)) (sym before)
-      (has_changed place (put_at offset (take d bytes)) (λ c. refl) v0 (λ c. c ≡ c0) (TakesWord (8 * k) word)
+      subst (λ (u : View). HasClaimAt u place (IsWordOfBody (8 * k) word)) (sym before)
+      (has_changed place (put_at offset (take d bytes)) (λ c. refl) v0 (λ c. c ≡ c0) (IsWordOfBody (8 * k) word)
       (record { nth = nth; claim = c0; there = there; at_place = at_place; holds = refl })
-      (λ c same. subst (λ (e : StagedClaim). TakesWord (8 * k) word (put_at offset (take d bytes) e)) (sym same)
+      (λ c same. subst (λ (e : StagedClaim). IsWordOfBody (8 * k) word (put_at offset (take d bytes) e)) (sym same)
       (takes_word c0 is_open offset d m k bytes room least more from to inside small word word_is)))
 
-  pub turn_stores : (w : View) → w ≡ with_claims (changed place (written (8 * k) word) v.producer.claims) v
+  pub turn_stores : (w : View) → w ≡ with_claims (changed place (with_body_word (8 * k) word) v.producer.claims) v
       → AreRising v.producer.claims → w ≡ with_claims
       (changed place (put_at offset (take m bytes)) v0.producer.claims) v0
   turn_stores w after rising =
       let f : StagedClaim → StagedClaim = put_at offset (take d bytes) in
-      let g : StagedClaim → StagedClaim = written (8 * k) word in
+      let g : StagedClaim → StagedClaim = with_body_word (8 * k) word in
       let rose : AreRising v0.producer.claims =
       rising_back place f (λ c. refl) v0.producer.claims
       (subst (λ (u : View). AreRising u.producer.claims) before rising) in
@@ -203,7 +203,7 @@ zeros_left d len bytes b0 zeros same least j behind =
 
 -- a word of zeros over zeros changes nothing
 pub zero_written : (at : ℕ) (c : StagedClaim) → at ≤ length c.message.body
-    → ((j : ℕ) → at ≤ j → slice_index c.message.body j ≡ 0) → written at 0 c ≡ c
+    → ((j : ℕ) → at ≤ j → slice_index c.message.body j ≡ 0) → with_body_word at 0 c ≡ c
 zero_written at c le zeros =
     ap (λ (b : List ℕ). record {
       from = c.from;
@@ -230,7 +230,7 @@ zero_written at c le zeros =
 
 -- A turn of a loop that stores a body into the newest claim c0 of v0. v is the view before it, where k words are stored
 module _ (v0 v : View) (place : ℕ) (body : List ℕ) (small : (j : ℕ) → slice_index body j < 256) (cs : List StagedClaim)
-    (c0 : StagedClaim) (fresh : IsFresh place (length body) cs c0 v0) (k : ℕ) (inside : 8 * k < length body)
+    (c0 : StagedClaim) (fresh : IsFreshClaim place (length body) cs c0 v0) (k : ℕ) (inside : 8 * k < length body)
     (word : ℕ) (word_is : word ≡ from_le_bytes w64
     (drop (8 * k) (overwritten 0 (take (8 * (k + 1)) body) c0.message.body)))
     (before : v ≡ with_claims (cs ++ put_at 0 (take (8 * k) body) c0 ∷ []) v0) where
@@ -261,14 +261,14 @@ module _ (v0 v : View) (place : ℕ) (body : List ℕ) (small : (j : ℕ) → sl
       }
 
   pub fresh_stores : (w : View) → ((ds : List StagedClaim) (d : StagedClaim) → TakesFresh place (8 * k) word ds d v
-      → w ≡ with_claims (ds ++ written (8 * k) word d ∷ []) v)
+      → w ≡ with_claims (ds ++ with_body_word (8 * k) word d ∷ []) v)
       → w ≡ with_claims (cs ++ put_at 0 (take (8 * (k + 1)) body) c0 ∷ []) v0
   fresh_stores w stored =
       let same = same_length in
       let end = in_word in
       let d : StagedClaim = put_at 0 (take (8 * k) body) c0 in
       stored cs d fresh_takes
-      ∙ ap (with_claims (cs ++ written (8 * k) word d ∷ [])) before
+      ∙ ap (with_claims (cs ++ with_body_word (8 * k) word d ∷ [])) before
       ∙ ap (λ (e : StagedClaim). with_claims (cs ++ e ∷ []) v0)
       (writes_word c0 fresh.blank.stage 0 (8 * k) (8 * (k + 1)) k body (omega arith) (omega arith) (omega arith)
       (omega arith) (omega arith) (omega arith) small_word word word_is)

@@ -16,7 +16,7 @@ use Rattle.ring_table.specs.Services.{AreServed, once_below, times_drawn}
 use Rattle.ring_words.specs.Ring.{Has, IsRing, ring}
 use Rattle.ring_table.specs.declared.claim.StagedClaim.{StagedClaim}
 use Rattle.ring_table.specs.declared.view.View.{View}
-use Rattle.ring_table.specs.Staged.{AreAbove, ArePlaced, AreRising, claim_end, claims_of, staged_span}
+use Rattle.ring_table.specs.Staged.{AreAbove, ArePlaced, AreRising, claim_end, unplaced, staged_span}
 use Rattle.ring_table.specs.Closed.{IsClosed, LeavesRest, restarted}
 use Rattle.ring_table.specs.OpenClaims.{open_count}
 use Rattle.ring_table.specs.Views.{with_consumer_of}
@@ -31,9 +31,9 @@ read_at (x ∷ xs) zero a e = some-injective x a e
 read_at (x ∷ xs) (suc i) a e = read_at xs i a e
 
 placed_lawful : (C e : ℕ) (cs : List StagedClaim) → ArePlaced C e cs
-    → All (λ (c : Claim). IsMessage C c.message) (claims_of cs)
+    → All (λ (c : Claim). IsMessage C c.message) (unplaced cs)
 placed_lawful C e [] placed = All-nil (λ (c : Claim). IsMessage C c.message)
-placed_lawful C e (c ∷ cs) placed = All-cons (λ (d : Claim). IsMessage C d.message) _ (claims_of cs) placed.0.message
+placed_lawful C e (c ∷ cs) placed = All-cons (λ (d : Claim). IsMessage C d.message) _ (unplaced cs) placed.0.message
     (placed_lawful C (claim_end c) cs placed.1)
 
 -- placed claims rise
@@ -53,15 +53,15 @@ placed_rising C e (c ∷ cs) placed =
 -- v is the view of the seat that closed the ring, and nothing of a read is cleared beyond the head
 module _ (C start : ℕ) (words : List ℕ) (v : View) (closed : IsClosed C start words v)
     (leaves : LeavesRest C words v) where
-  rest_has : Has (ring C words) (claims_of leaves.rest)
+  rest_has : Has (ring C words) (unplaced leaves.rest)
   rest_has =
       let head = closed.memory.head_is in
       record {
         lawful = subst (λ (h : List Claim). All (λ (c : Claim). IsMessage C c.message) h)
             (claims_of-restarted v.consumer.head leaves.rest)
             (placed_lawful C v.consumer.head (restarted v.consumer.head leaves.rest) leaves.placed);
-        ends = ap (λ (h : ℕ). end_of C h (claims_of leaves.rest)) head ∙ sym leaves.end_is;
-        picture = subst (λ (h : ℕ). IsPicture (λ i. slice_index words i) C h (claims_of leaves.rest))
+        ends = ap (λ (h : ℕ). end_of C h (unplaced leaves.rest)) head ∙ sym leaves.end_is;
+        picture = subst (λ (h : ℕ). IsPicture (λ i. slice_index words i) C h (unplaced leaves.rest))
             (sym head) leaves.picture;
       }
 
@@ -82,7 +82,7 @@ module _ (C start : ℕ) (words : List ℕ) (v : View) (closed : IsClosed C star
         order = omega arith;
         room = omega arith;
         limit = omega arith;
-        history = (claims_of leaves.rest, rest_has);
+        history = (unplaced leaves.rest, rest_has);
       }
 
   -- v is p with the consumer's part of r

@@ -5,11 +5,11 @@ use Rattle.ring_layout.specs.declared.message.ClaimState.TheVariants.{Open, Comm
 use Rattle.ring_table.specs.declared.claim.StagedClaim.{StagedClaim}
 use Rattle.ring_table.specs.declared.claim.Stage.TheVariants.{Stored}
 use Rattle.ring_table.specs.declared.view.View.{View}
-use Rattle.ring_table.specs.Staged.{AreRising, AreStored, IsStored, state_of}
+use Rattle.ring_table.specs.Staged.{AreRising, AreStored, IsStored, stage_state}
 use Rattle.ring_table.specs.Changes.{changed, changed_at, staged}
 use Rattle.ring_table.specs.Owners.{insert_claim, interleaved}
 use Rattle.ring_table.specs.OpenClaims.{one_if_open, open_count}
-use Rattle.ring_table.specs.ProducerSteps.{HasClaimAt, IsOpen}
+use Rattle.ring_table.specs.ProducerSteps.{HasClaimAt, IsStagedOpen}
 use Rattle.ring_table.specs.Views.{with_claims}
 use Rattle.ring_rings.specs.Matching.{Matches}
 use Rattle.ring_table.proofs.LawLemmas.{open_count-changed}
@@ -23,15 +23,15 @@ none_open Aborted ne = refl
 
 -- an open claim that is settled counts no more
 pub settles_one : (v : View) (place at : ℕ) (type_id : ℤ) (len : ℕ) (s : ClaimState)
-    → HasClaimAt v place (IsOpen type_id len) → at ≡ place → AreRising v.producer.claims → one_if_open s ≡ 0
+    → HasClaimAt v place (IsStagedOpen type_id len) → at ≡ place → AreRising v.producer.claims → one_if_open s ≡ 0
     → open_count (changed at (staged (Stored s)) v.producer.claims) + 1 ≡ open_count v.producer.claims
 settles_one v place at type_id len s h same rising settled =
     let f : StagedClaim → StagedClaim = staged (Stored s) in
     let count : ℕ = open_count (changed h.claim.place f v.producer.claims) in
     let old : ℕ = open_count v.producer.claims in
-    let change : count + one_if_open (state_of h.claim.stage) ≡ old + one_if_open s =
+    let change : count + one_if_open (stage_state h.claim.stage) ≡ old + one_if_open s =
     open_count-changed f v.producer.claims h.nth h.claim rising h.there in
-    let was : one_if_open (state_of h.claim.stage) ≡ 1 = ap (λ t. one_if_open (state_of t)) h.holds.stage in
+    let was : one_if_open (stage_state h.claim.stage) ≡ 1 = ap (λ t. one_if_open (stage_state t)) h.holds.stage in
     let done : count + 1 ≡ old = omega arith in
     subst (λ p. open_count (changed p f v.producer.claims) + 1 ≡ old) (h.at_place ∙ sym same) done
 
@@ -61,8 +61,8 @@ module _ (f : StagedClaim → StagedClaim) (p : ℕ) (keeps : (c : StagedClaim) 
   count_kept [] = refl
   count_kept (c ∷ cs) =
       let deeper = count_kept cs in
-      let here : one_if_open (state_of (changed_at p f c).stage) ≡ one_if_open (state_of c.stage) =
-      ap (λ t. one_if_open (state_of t)) (stage_after c) in
+      let here : one_if_open (stage_state (changed_at p f c).stage) ≡ one_if_open (stage_state c.stage) =
+      ap (λ t. one_if_open (stage_state t)) (stage_after c) in
       omega arith
 
 pub stored_more : (cs : List StagedClaim) (c : StagedClaim) → AreStored cs → IsStored c.stage → AreStored (cs ++ c ∷ [])
@@ -84,12 +84,12 @@ stored_interleaved xs [] s t = s
 stored_interleaved xs (y ∷ ys) s t = stored_insert y (interleaved xs ys) t.0 (stored_interleaved xs ys s t.1)
 
 pub open_count-more : (cs : List StagedClaim) (c : StagedClaim)
-    → open_count (cs ++ c ∷ []) ≡ open_count cs + one_if_open (state_of c.stage)
+    → open_count (cs ++ c ∷ []) ≡ open_count cs + one_if_open (stage_state c.stage)
 open_count-more [] c =
-    let one : ℕ = one_if_open (state_of c.stage) in let done : one + 0 ≡ 0 + one = omega arith in done
+    let one : ℕ = one_if_open (stage_state c.stage) in let done : one + 0 ≡ 0 + one = omega arith in done
 open_count-more (d ∷ ds) c =
-    let here : ℕ = one_if_open (state_of d.stage) in
-    let one : ℕ = one_if_open (state_of c.stage) in
+    let here : ℕ = one_if_open (stage_state d.stage) in
+    let one : ℕ = one_if_open (stage_state c.stage) in
     let rest : ℕ = open_count ds in
     let both : ℕ = open_count (ds ++ c ∷ []) in
     let deeper : both ≡ rest + one = open_count-more ds c in
@@ -98,7 +98,7 @@ open_count-more (d ∷ ds) c =
 
 -- what a producer keeps after one of its open claims is settled
 pub matches_settled : (v w : View) (shares open_claims own_tail place at : ℕ) (type_id : ℤ) (len : ℕ) (s : ClaimState)
-    → Matches v shares open_claims own_tail → HasClaimAt v place (IsOpen type_id len) → at ≡ place
+    → Matches v shares open_claims own_tail → HasClaimAt v place (IsStagedOpen type_id len) → at ≡ place
     → AreRising v.producer.claims
     → w ≡ with_claims (changed at (staged (Stored s)) v.producer.claims) v → one_if_open s ≡ 0
     → Matches w shares (open_claims - 1) own_tail
@@ -119,7 +119,7 @@ matches_settled v w shares open_claims own_tail place at type_id len s known h s
 
 pub open_few : (cs : List StagedClaim) → open_count cs ≤ length cs
 open_few [] = omega arith
-open_few (c ∷ cs) = let deeper = open_few cs in let one = at_most_one (state_of c.stage) in omega arith
+open_few (c ∷ cs) = let deeper = open_few cs in let one = at_most_one (stage_state c.stage) in omega arith
   where
     at_most_one : (s : ClaimState) → one_if_open s ≤ 1
     at_most_one Open = omega arith

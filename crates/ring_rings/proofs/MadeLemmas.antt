@@ -12,7 +12,7 @@ use Rattle.ring_layout.proofs.PlaceLemmas.{next_le}
 use Rattle.ring_table.specs.OpenClaims.{open_count}
 use Rattle.ring_table.specs.Views.{with_claim, with_claims}
 use Rattle.ring_table.specs.Staged.{AreRising, AreStored}
-use Rattle.ring_table.specs.ProducerSteps.{HasClaimAt, IsOpen}
+use Rattle.ring_table.specs.ProducerSteps.{HasClaimAt, IsStagedOpen}
 use Rattle.ring_words.specs.Open.{ClaimAt}
 use Rattle.ring_layout.specs.declared.admission.Admission.{Admission}
 use Rattle.ring_rings.specs.declared.ring.Producer.{Producer}
@@ -38,13 +38,13 @@ has_more v w c place P more h = record {
 
 -- an open claim is still one, where it stands as before
 pub still_open : {K : Type 0} {ring : Ring K} {p q : Producer} {t : ClaimAt} → IsOpenClaimOf ring p t
-    → HasClaimAt q.seat.me.0 t.place (IsOpen t.type_id t.len) → IsOpenClaimOf ring q t
+    → HasClaimAt q.seat.me.0 t.place (IsStagedOpen t.type_id t.len) → IsOpenClaimOf ring q t
 still_open h claim = record { index = h.index; message = h.message; limit = h.limit; claim = claim }
 
 pub keeps_claims : {K : Type 0} {ring : Ring K} {p q : Producer} (c : StagedClaim)
     → q.seat.me.0.producer.claims ≡ p.seat.me.0.producer.claims ++ c ∷ [] → KeepsClaims ring p q
 keeps_claims {K} {ring} {p} {q} c more t h =
-    still_open h (has_more p.seat.me.0 q.seat.me.0 c t.place (IsOpen t.type_id t.len) more h.claim)
+    still_open h (has_more p.seat.me.0 q.seat.me.0 c t.place (IsStagedOpen t.type_id t.len) more h.claim)
 
 module _ (C tail : ℕ) (type_id : ℤ) (len : ℕ) (front : List (ℕ × ℕ)) (v : View) (a : Admission) (w : View)
     (made : Makes C tail type_id len front v a w) where
@@ -52,9 +52,9 @@ module _ (C tail : ℕ) (type_id : ℤ) (len : ℕ) (front : List (ℕ × ℕ)) 
   made_claims = ap (λ (u : View). u.producer.claims) made.view
 
   -- the claim is open
-  pub made_open : HasClaimAt w a.place (IsOpen type_id len)
+  pub made_open : HasClaimAt w a.place (IsStagedOpen type_id len)
   made_open = has_last w v.producer.claims (claim_behind C tail type_id len) made_claims a.place
-      (sym made.admitted.place) (IsOpen type_id len)
+      (sym made.admitted.place) (IsStagedOpen type_id len)
       (record { stage = refl; type_is = refl; len_is = length-replicate len 0 })
 
   module _ (shares open_claims own_tail : ℕ) (known : Matches v shares open_claims own_tail) where

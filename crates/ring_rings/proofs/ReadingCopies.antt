@@ -17,12 +17,6 @@ use Rattle.ring_table.specs.ConsumerSteps.{LoadsBody as TellsBody}
 use Rattle.ring_rings.specs.Reading.{body_loads}
 use Rattle.ring_rings.specs.ReadingSteps.{CopiesBody, CopiesWords, HasGotLast}
 
-pub copies_none : (C : ℕ) (m : PlacedMessage) (v : View) (out : List ℕ) → CopiesWords C m 0 v out v
-copies_none C m v out = record {
-  view = ap (λ (l : List (ℕ × ℕ)). record v { log = l }) (sym (append-nil v.log));
-  bytes = λ i low lt. absurd (omega arith);
-}
-
 small_bytes : (body : List ℕ) → All (λ b. b < 256) body → (j : ℕ) → slice_index body j < 256
 small_bytes body small j =
     elim (cases_lt j (length body)) as (λ _. slice_index body j < 256) [

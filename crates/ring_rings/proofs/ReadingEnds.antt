@@ -13,8 +13,8 @@ use Rattle.ring_layout.specs.History.{IsMessage}
 use Rattle.ring_layout.specs.Places.{index, room}
 use Rattle.ring_table.specs.declared.claim.PlacedMessage.{PlacedMessage}
 use Rattle.ring_table.specs.declared.view.View.{View}
-use Rattle.ring_rings.specs.Reading.{at_rest, Aborts, Broke, IsBlocked, IsTight, Reads, WentOn, record_loads}
-use Rattle.ring_rings.specs.ReadingSteps.{FindsNothing, IsAt, IsLeft, Settles, ShowsOne}
+use Rattle.ring_rings.specs.Reading.{at_rest, Aborts, Broke, FoundUnsettled, IsTight, Reads, WentOn, record_loads}
+use Rattle.ring_rings.specs.ReadingSteps.{FindsNothing, IsAt, IsLeft, SettlesUpTo, ShowsOne}
 use Rattle.ring_rings.proofs.ReadingRuns.{LoadsMore, Runs, RunsOn, loads_by, loads_more, loads_quiet}
 
 and_right : (b c : Bool) → c ≡ false → (b && c) ≡ false
@@ -29,7 +29,7 @@ pub record Ends (scan : ℕ) (got : List PlacedMessage) (w x : View) (loads : Li
   pub taken : x.consumer.taken ≡ got
   pub heartbeats : x.consumer.heartbeats ≡ w.consumer.heartbeats
 
-pub ends_now : (scan : ℕ) (got : List PlacedMessage) (w x : View) → Settles scan got w x → Ends scan got w x []
+pub ends_now : (scan : ℕ) (got : List PlacedMessage) (w x : View) → SettlesUpTo scan got w x → Ends scan got w x []
 ends_now scan got w x p = record {
   view = loads_quiet w x p.view;
   head = p.head;
@@ -40,7 +40,7 @@ ends_now scan got w x p = record {
 }
 
 pub ends_more : (scan : ℕ) (got : List PlacedMessage) (w x y : View) (loads : List (ℕ × ℕ)) → LoadsMore w loads x
-    → x.consumer.heartbeats ≡ w.consumer.heartbeats → Settles scan got x y → Ends scan got w y loads
+    → x.consumer.heartbeats ≡ w.consumer.heartbeats → SettlesUpTo scan got x y → Ends scan got w y loads
 ends_more scan got w x y loads p h q = record {
   view = subst (λ (l : List (ℕ × ℕ)). LoadsMore w l y) (append-nil loads)
       (loads_more w x y loads [] p (loads_quiet x y q.view));
@@ -60,16 +60,17 @@ nothing_stands C scan got w x at f = record {
 }
 
 pub ends_nothing : (C scan : ℕ) (got : List PlacedMessage) (w x y : View) (f : FindsNothing C scan got w x)
-    → Settles scan got x y → Ends scan got w y ((index C scan, f.found) ∷ [])
+    → SettlesUpTo scan got x y → Ends scan got w y ((index C scan, f.found) ∷ [])
 ends_nothing C scan got w x y f = ends_more scan got w x y ((index C scan, f.found) ∷ []) (loads_by w x _ _ f.view)
     (ap (λ (z : View). z.consumer.heartbeats) f.view)
 
 -- the head stands where all is taken
-pub settled_stands : {scan : ℕ} {got : List PlacedMessage} {w x : View} → Settles scan got w x → IsAt scan got x
+pub settled_stands : {scan : ℕ} {got : List PlacedMessage} {w x : View} → SettlesUpTo scan got w x → IsAt scan got x
 settled_stands p = record { first = λ _. sym p.taken; later = λ ne. absurd (ne (sym p.head)) }
 
-pub settles_more : {scan : ℕ} {got : List PlacedMessage} {w x y : View} → Settles scan got w x → Settles scan got x y
-    → Settles scan got w y
+pub settles_more : {scan : ℕ} {got : List PlacedMessage} {w x y : View} → SettlesUpTo scan got w x
+    → SettlesUpTo scan got x y
+    → SettlesUpTo scan got w y
 settles_more {y = y} p q = record {
   view = q.view ∙ ap (λ (z : View). record z { consumer = y.consumer }) p.view;
   head = q.head;
@@ -105,7 +106,8 @@ module _ {S : Type 0} (step : S → Message → S → Action → Type 0) where
   }
 
   pub ends_left : (C scan : ℕ) (got : List PlacedMessage) (w x y : View) (s t : S) (n : ℕ) (a : Action)
-      (f : ShowsOne step C scan got w s n a x t) → Settles scan got x y → Ends scan got w y (record_loads C f.message)
+      (f : ShowsOne step C scan got w s n a x t) → SettlesUpTo scan got x y
+          → Ends scan got w y (record_loads C f.message)
   ends_left C scan got w x y s t n a f = ends_more scan got w x y (record_loads C f.message) (loads_by w x _ _ f.view)
       (ap (λ (z : View). z.consumer.heartbeats) f.view)
 
@@ -157,7 +159,7 @@ module _ {S : Type 0} (step : S → Message → S → Action → Type 0) where
   pub broke : (limit : ℕ) (v x y : View) (s u : S) (scan count : ℕ) (r : Runs step limit v x s u scan count)
       (before : List Action) → All GoesOn before → r.actions ≡ before ++ Break ∷ []
       → IsTight v.consumer.head r.messages scan
-      → Settles scan (v.consumer.taken ++ r.messages) x y
+      → SettlesUpTo scan (v.consumer.taken ++ r.messages) x y
       → (end : ReadEnd) → end.messages ≡ count → end.stopped ≡ Stop.Action
       → Broke step limit (at_rest v) (at_rest y) s u end
   unfolding reads_end counted_as
@@ -177,7 +179,7 @@ module _ {S : Type 0} (step : S → Message → S → Action → Type 0) where
       (r : RunsOn step limit v w s t scan count) (below : count < limit)
       (inside : v.consumer.head < scan → scan % v.capacity ≢ 0)
       (f : ShowsOne step v.capacity scan (v.consumer.taken ++ r.0.messages) w t n a x u)
-      → Settles scan (v.consumer.taken ++ r.0.messages) x y
+      → SettlesUpTo scan (v.consumer.taken ++ r.0.messages) x y
       → (end : ReadEnd) → end.messages ≡ count → a ≡ Abort → end.stopped ≡ Stop.Action
       → Aborts step limit (at_rest v) (at_rest y) s u end
   unfolding reads_end counted_as
@@ -210,7 +212,7 @@ module _ {S : Type 0} (step : S → Message → S → Action → Type 0) where
   -- the last load found nothing at the new head
   pub is_blocked : (limit : ℕ) (v w x y : View) (s t : S) (scan count : ℕ) (r : Runs step limit v w s t scan count)
       → FindsNothing v.capacity scan (v.consumer.taken ++ r.messages) w x
-      → Settles scan (v.consumer.taken ++ r.messages) x y → IsBlocked (at_rest v) (at_rest y)
+      → SettlesUpTo scan (v.consumer.taken ++ r.messages) x y → FoundUnsettled (at_rest v) (at_rest y)
   is_blocked limit v w x y s t scan count r f p =
       let e = ends_nothing v.capacity scan (v.consumer.taken ++ r.messages) w x y f p in
       let same = same_capacity limit v w y s t scan count r ((index v.capacity scan, f.found) ∷ []) e in

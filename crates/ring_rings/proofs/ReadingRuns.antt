@@ -15,7 +15,7 @@ use Rattle.ring_table.specs.declared.claim.PlacedMessage.{PlacedMessage}
 use Rattle.ring_table.specs.declared.view.View.{View}
 use Rattle.ring_table.specs.declared.view.ConsumerView.{ConsumerView}
 use Rattle.ring_rings.specs.Reading.{IsTight, messages_of, record_loads}
-use Rattle.ring_rings.specs.ReadingSteps.{FindsQuiet, IsAt, Settles, ShowsOne}
+use Rattle.ring_rings.specs.ReadingSteps.{FindsQuiet, IsAt, SettlesUpTo, ShowsOne}
 
 -- w is v with these loads, and what became of the consumer's part
 abbrev pub LoadsMore : View → List (ℕ × ℕ) → View → Type 0
@@ -187,7 +187,7 @@ module _ {S : Type 0} (step : S → Message → S → Action → Type 0) (limit 
 
   -- the head is stored on the way
   pub runs_settled : (v w x : View) (s t : S) (scan count : ℕ) (r : Runs v w s t scan count)
-      → Settles scan (v.consumer.taken ++ r.messages) w x → Runs v x s t scan count
+      → SettlesUpTo scan (v.consumer.taken ++ r.messages) w x → Runs v x s t scan count
   runs_settled v w x s t scan count r p = record {
     messages = r.messages;
     actions = r.actions;
@@ -245,7 +245,7 @@ module _ {S : Type 0} (step : S → Message → S → Action → Type 0) (limit 
     -- and the head is stored
     pub runs_on_committed : (n : ℕ) (a : Action) (x y : View) (u : S) → GoesOn a
         → (f : ShowsOne step v.capacity scan (v.consumer.taken ++ r.0.messages) w t n a x u)
-        → Settles (scan + n) (v.consumer.taken ++ (r.0.messages ++ f.message ∷ [])) x y
+        → SettlesUpTo (scan + n) (v.consumer.taken ++ (r.0.messages ++ f.message ∷ [])) x y
         → RunsOn v y s u (scan + n) (count + 1)
     unfolding runs_shown runs_settled
     runs_on_committed n a x y u goes f p = (

@@ -12,8 +12,8 @@ use Rattle.ring_layout.specs.declared.message.Message.{Message}
 use Rattle.ring_layout.specs.Places.{index, max_position, room}
 use Rattle.ring_table.specs.declared.claim.PlacedMessage.{PlacedMessage}
 use Rattle.ring_table.specs.declared.view.View.{View}
-use Rattle.ring_rings.specs.Reading.{at_rest, Controls, IsBlocked, WentOn}
-use Rattle.ring_rings.specs.ReadingSteps.{FindsNothing, FindsQuiet, IsAt, IsLeft, Settles, ShowsOne}
+use Rattle.ring_rings.specs.Reading.{at_rest, Controls, FoundUnsettled, WentOn}
+use Rattle.ring_rings.specs.ReadingSteps.{FindsNothing, FindsQuiet, IsAt, IsLeft, SettlesUpTo, ShowsOne}
 use Rattle.ring_rings.proofs.IndexLemmas.{inside_block}
 use Rattle.ring_rings.proofs.ReadingRuns.{Runs, RunsOn, inside_of, runs_on_broken, runs_on_committed, runs_on_quiet, runs_on_shown, runs_quiet, runs_shown, stands_shown, stays_near}
 use Rattle.ring_rings.proofs.ReadingEnds.{aborts, broke, ends_nothing, ends_now, is_blocked, nothing_stands, settles_more, shown_left, stops_block, stops_limit, stops_unpublished, went_on}
@@ -27,7 +27,7 @@ pub record Ended (start scan count : ℕ) (stop : Stop) (end : ReadEnd) : Type 0
 -- a read that may end
 module _ {S : Type 0} {step : S → Message → S → Action → Type 0} {limit start : ℕ} {v w y : View} {s t : S}
     {scan count : ℕ} {end : ReadEnd} (r : RunsOn step limit v w s t scan count)
-    (told : (got : List PlacedMessage) → IsAt scan got w → Settles scan got w y) where
+    (told : (got : List PlacedMessage) → IsAt scan got w → SettlesUpTo scan got w y) where
   pub ends_limit : count ≡ limit → Ended start scan count Limit end
       → Controls step limit (at_rest v) (at_rest y) s t end
   ends_limit full d =
@@ -112,7 +112,7 @@ module _ {S : Type 0} {step : S → Message → S → Action → Type 0} {limit 
     blocked_inside = subst (λ (h : ℕ). h % C + scan ≤ h + C) (sym (ap (λ (z : View). z.consumer.head) told.0.view))
         (runs_inside q.runs.0 q.capacity q.some)
 
-    module _ {y : View} (p : Settles scan got x y) where
+    module _ {y : View} (p : SettlesUpTo scan got x y) where
       pub ends_blocked : {end : ReadEnd} → Ended start scan count Unpublished end
           → Controls step limit (at_rest v) (at_rest y) s u end
       ends_blocked {end} d =
@@ -123,7 +123,7 @@ module _ {S : Type 0} {step : S → Message → S → Action → Type 0} {limit 
           (d.stopped ∙ stops_unpublished v.capacity limit count scan end.bytes apart still) in
           inl (subst (λ (z : S). WentOn step limit (at_rest v) (at_rest y) s z end) (sym told.1) done)
 
-      pub blocked : IsBlocked (at_rest v) (at_rest y)
+      pub blocked : FoundUnsettled (at_rest v) (at_rest y)
       blocked = is_blocked step limit v w x y s t scan count q.runs.0 finds p
 
   -- Padding or an aborted record is passed -------------------------------------
@@ -163,7 +163,7 @@ module _ {S : Type 0} {step : S → Message → S → Action → Type 0} {limit 
     pub runs_on : GoesOn a → RunsOn step limit v x s u (scan + n) (count + 1)
     runs_on goes = runs_on_shown step limit v w s t scan count q.runs q.some apart q.inside n a x u goes shows
 
-    pub runs_committed : {y : View} → GoesOn a → Settles (scan + n) got_more x y
+    pub runs_committed : {y : View} → GoesOn a → SettlesUpTo (scan + n) got_more x y
         → RunsOn step limit v y s u (scan + n) (count + 1)
     unfolding got_more
     runs_committed {y} goes p =
@@ -175,14 +175,15 @@ module _ {S : Type 0} {step : S → Message → S → Action → Type 0} {limit 
         let more = runs_shown step limit v w s t scan count q.runs.0 q.some apart q.inside n a x u shows in
         omega (arith, more.within, shows.passed.some)
 
-    pub ends_broken : {y : View} {end : ReadEnd} → a ≡ Break → Settles (scan + n) got_more x y
+    pub ends_broken : {y : View} {end : ReadEnd} → a ≡ Break → SettlesUpTo (scan + n) got_more x y
         → Ended start (scan + n) (count + 1) Stop.Action end → Controls step limit (at_rest v) (at_rest y) s u end
     unfolding got_more
     ends_broken {y} {end} is p d =
         let more = runs_on_broken step limit v w s t scan count q.runs q.some apart q.inside n a x u shows in
         let last : more.0.actions ≡ q.runs.0.actions ++ Break ∷ [] =
         more.2 ∙ ap (λ (b : Action). q.runs.0.actions ++ b ∷ []) is in
-        let p' = subst (λ (l : List PlacedMessage). Settles (scan + n) (v.consumer.taken ++ l) x y) (sym more.1) p in
+        let p' = subst (λ (l : List PlacedMessage). SettlesUpTo (scan + n) (v.consumer.taken ++ l) x y)
+            (sym more.1) p in
         inr (inl (broke step limit v x y s u (scan + n)
         (count + 1) more.0 q.runs.0.actions q.runs.1 last more.3 p' end d.messages d.stopped))
 
@@ -194,7 +195,7 @@ module _ {S : Type 0} {step : S → Message → S → Action → Type 0} {limit 
     unfolding r
     left_at = shown_left step v.capacity scan got w x t u n a r.stands shows
 
-    module _ {z : View} (p : Settles scan got x z) where
+    module _ {z : View} (p : SettlesUpTo scan got x z) where
       pub left_near : (start ≤ z.consumer.head) × (z.consumer.head ≤ scan) × (scan % 8 ≡ 0) × (scan ≤ max_position)
       unfolding r
       left_near = (omega (arith, p.head, r.from, r.to, q.head), omega (arith, p.head), r.whole, r.low)
@@ -203,7 +204,7 @@ module _ {S : Type 0} {step : S → Message → S → Action → Type 0} {limit 
       left_done =
           let low = mod_below z.consumer.head C (omega (arith, q.capacity, q.some)) in omega (arith, low, p.head)
 
-      pub ends_aborted : {y : View} {end : ReadEnd} → a ≡ Abort → Settles scan got z y
+      pub ends_aborted : {y : View} {end : ReadEnd} → a ≡ Abort → SettlesUpTo scan got z y
           → Ended start scan count Stop.Action end → Controls step limit (at_rest v) (at_rest y) s u end
       ends_aborted {y} {end} is p' d =
           inr (inr (aborts step limit v w x y s t u scan count n a q.runs q.below q.inside shows

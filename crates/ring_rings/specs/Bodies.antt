@@ -7,7 +7,7 @@ use Rattle.ring_layout.specs.Places.{index}
 use Rattle.ring_table.specs.declared.view.View.{View}
 use Rattle.ring_table.specs.Changes.{changed}
 use Rattle.ring_table.specs.Views.{with_claims}
-use Rattle.ring_table.specs.ProducerSteps.{EndBelow, HasClaim, TakesWord}
+use Rattle.ring_table.specs.ProducerSteps.{EndBelow, HasClaim, IsWordOfBody}
 use Rattle.ring_table.specs.declared.claim.StagedClaim.{StagedClaim}
 use Rattle.ring_table.specs.declared.claim.Stage.TheVariants.{Stored}
 
@@ -27,7 +27,7 @@ pub record HasRoom (len : ℕ) (c : StagedClaim) : Type 0 where
   pub room : len ≤ length c.message.body
 
 -- an open claim of so many bytes, which are 0
-pub record IsBlank (len : ℕ) (c : StagedClaim) : Type 0 where
+pub record HasZeroBody (len : ℕ) (c : StagedClaim) : Type 0 where
   pub stage : c.stage ≡ Stored Open
   pub zeros : c.message.body ≡ replicate len 0
 
@@ -38,14 +38,14 @@ pub record IsLast (place : ℕ) (cs : List StagedClaim) (c : StagedClaim) (v : V
   pub place_is : c.place ≡ place
 
 -- and it is open, with so many bytes that are 0
-pub record IsFresh (place len : ℕ) (cs : List StagedClaim) (c : StagedClaim) (v : View) : Type 0 where
+pub record IsFreshClaim (place len : ℕ) (cs : List StagedClaim) (c : StagedClaim) (v : View) : Type 0 where
   pub last : IsLast place cs c v
-  pub blank : IsBlank len c
+  pub blank : HasZeroBody len c
 
 -- or it may take the word at the offset `at`, from which on its bytes are 0
 pub record TakesFresh (place at word : ℕ) (cs : List StagedClaim) (c : StagedClaim) (v : View) : Type 0 where
   pub last : IsLast place cs c v
-  pub takes : TakesWord at word c
+  pub takes : IsWordOfBody at word c
   pub zeros : (j : ℕ) → at ≤ j → slice_index c.message.body j ≡ 0
 
 -- the view with these loads

@@ -12,7 +12,7 @@ use Rattle.ring_words.specs.declared.fault.ClaimFault.TheVariants.{BadType, TooL
 use Rattle.ring_table.specs.declared.claim.StagedClaim.{StagedClaim}
 use Rattle.ring_table.specs.declared.claim.Stage.TheVariants.{Stored}
 use Rattle.ring_table.specs.declared.view.View.{View}
-use Rattle.ring_table.specs.Changes.{fresh, opened}
+use Rattle.ring_table.specs.Changes.{moved_claim, with_header}
 use Rattle.ring_table.specs.Views.{with_claim}
 use Rattle.ring_rings.specs.declared.fault.TryFault.{TryFault}
 use Rattle.ring_rings.specs.declared.fault.TryFault.TheVariants.{Refused, Contended}
@@ -46,7 +46,7 @@ pub record SeesRoom (C tail end : ℕ) (loads : List (ℕ × ℕ)) : Type 0 wher
 
 -- the claim of so many zero bytes that comes next behind a tail
 abbrev pub claim_behind : ℕ → ℕ → ℤ → ℕ → StagedClaim
-claim_behind C tail type_id len = opened type_id len (fresh C tail type_id len)
+claim_behind C tail type_id len = with_header type_id len (moved_claim C tail type_id len)
 
 -- the message that comes next behind a tail, committed
 abbrev pub record_behind : ℕ → ℕ → ℤ → List ℕ → StagedClaim

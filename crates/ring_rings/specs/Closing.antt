@@ -9,7 +9,7 @@ use Rattle.ring_layout.specs.Refusals.{all_shares}
 use Rattle.ring_words.specs.Ring.{Ring, Has, head_of}
 use Rattle.ring_table.specs.declared.claim.StagedClaim.{StagedClaim}
 use Rattle.ring_table.specs.declared.view.View.{View}
-use Rattle.ring_table.specs.Staged.{AreRising, ArePlaced, claims_of}
+use Rattle.ring_table.specs.Staged.{AreRising, ArePlaced, unplaced}
 use Rattle.ring_table.specs.Passing.{AreSettled, placed_committed_of}
 use Rattle.ring_table.specs.Closed.{restarted}
 use Rattle.ring_table.specs.Services.{times_drawn, once_below, AreServed}
@@ -54,7 +54,7 @@ pub record HandsOut (C start : ℕ) (p r : View) (rest : Ring) : Type 0 where
   pub placed : ArePlaced C r.consumer.head (restarted r.consumer.head left)
   pub capacity : rest.capacity ≡ C
   pub head : head_of rest ≡ r.consumer.head
-  pub has : Has rest (claims_of left)
+  pub has : Has rest (unplaced left)
 
 -- The numbers below some number were drawn, each once, and each producer's heartbeats are entries of those stored. The
 -- words of both services follow from that, and the trailer's words without a name are 0

@@ -15,7 +15,7 @@ use Rattle.ring_rings.specs.declared.producer.room.Shortage.TheVariants.{Full, P
 use Rattle.ring_rings.specs.Claiming.{GoesBy, LooksTwice, SeesRoom, claim_behind, looked, tail_refusal_of}
 
 -- a lawful message goes here behind the tail
-pub record IsAdmitted (C tail : ℕ) (type_id : ℤ) (len : ℕ) (a : Admission) : Type 0 where
+pub record GoesBehind (C tail : ℕ) (type_id : ℤ) (len : ℕ) (a : Admission) : Type 0 where
   pub message : IsMessage C (blank type_id len)
   pub tail_is : a.tail ≡ tail
   pub place : a.place ≡ next_place C tail (span len)
@@ -56,7 +56,7 @@ FindsShortage C tail end (Passed seen) v w = FindsPassed C tail end seen v w
 pub record Makes (C tail : ℕ) (type_id : ℤ) (len : ℕ) (front : List (ℕ × ℕ)) (v : View) (a : Admission)
     (w : View) : Type 0 where
   pub refusal : tail_refusal_of C tail type_id len ≡ None
-  pub admitted : IsAdmitted C tail type_id len a
+  pub admitted : GoesBehind C tail type_id len a
   pub whole : a.end % 8 ≡ 0
   pub loads : List (ℕ × ℕ)
   pub room : SeesRoom C tail (end_after C tail (span len)) loads

@@ -78,7 +78,7 @@ pub record IsUnpublished (n : ℕ) : Type 0 where
   pub is : n ≡ header len type_id
 
 -- the last load of the log found such a header at the new head
-pub record IsBlocked (v w : View) : Type 0 where
+pub record FoundUnsettled (v w : View) : Type 0 where
   pub before : List (ℕ × ℕ)
   pub found : ℕ
   pub loads : w.log ≡ v.log ++ (before ++ (index w.capacity w.consumer.head, found) ∷ [])

@@ -43,12 +43,12 @@ abbrev pub HasGotLast : PlacedMessage → View → Type 0
 HasGotLast m v = (front : List PlacedMessage) × (v.consumer.got ≡ front ++ m ∷ []) × All (λ b. b < 256) m.message.body
 
 -- the words of the body of m were loaded
-abbrev pub LoadsBody : ℕ → PlacedMessage → View → View → Type 0
-LoadsBody C m v w = w ≡ record v { log = v.log ++ body_loads C m ((length m.message.body + 7) / 8) }
+abbrev pub LoadsWholeBody : ℕ → PlacedMessage → View → View → Type 0
+LoadsWholeBody C m v w = w ≡ record v { log = v.log ++ body_loads C m ((length m.message.body + 7) / 8) }
 
 -- and its bytes stand at the front of `out`
 pub record CopiesBody (C : ℕ) (m : PlacedMessage) (v : View) (out : List ℕ) (w : View) : Type 0 where
-  pub view : LoadsBody C m v w
+  pub view : LoadsWholeBody C m v w
   pub copy : take (length m.message.body) out ≡ m.message.body
 
 -- the first k words of the body were loaded, and their bytes stand at the front of `out`
@@ -132,7 +132,7 @@ TurnIs step C scan got (Passed n) v s w t = FindsQuiet C scan got v n w × (t �
 TurnIs step C scan got (Shown n a) v s w t = ShowsOne step C scan got v s n a w t
 
 -- all that was passed up to `scan` is cleared and taken, and the head stands there
-pub record Settles (scan : ℕ) (got : List PlacedMessage) (v w : View) : Type 0 where
+pub record SettlesUpTo (scan : ℕ) (got : List PlacedMessage) (v w : View) : Type 0 where
   pub view : w ≡ record v { consumer = w.consumer }
   pub head : w.consumer.head ≡ scan
   pub cleared : w.consumer.cleared ≡ scan
@@ -141,8 +141,8 @@ pub record Settles (scan : ℕ) (got : List PlacedMessage) (v w : View) : Type 0
 
 -- where the read has come to
 abbrev pub SettlesAll : ℕ → View → View → Type 0
-SettlesAll scan v w = (got : List PlacedMessage) → IsAt scan got v → Settles scan got v w
+SettlesAll scan v w = (got : List PlacedMessage) → IsAt scan got v → SettlesUpTo scan got v w
 
 -- up to the message that it got last, which is left
 abbrev pub SettlesBefore : ℕ → View → View → Type 0
-SettlesBefore place v w = (got : List PlacedMessage) → IsLeft place got v → Settles place got v w
+SettlesBefore place v w = (got : List PlacedMessage) → IsLeft place got v → SettlesUpTo place got v w

@@ -4,7 +4,7 @@ use Rattle.ring_layout.specs.History.{IsMessage}
 use Rattle.ring_layout.specs.Places.{max_position}
 use Rattle.ring_words.specs.Open.{ClaimAt}
 use Rattle.ring_table.specs.Changes.{blank}
-use Rattle.ring_table.specs.ProducerSteps.{HasClaimAt, IsOpen}
+use Rattle.ring_table.specs.ProducerSteps.{HasClaimAt, IsStagedOpen}
 use Rattle.ring_table.specs.declared.claim.StagedClaim.{StagedClaim}
 use Rattle.ring_table.specs.declared.claim.PlacedMessage.{PlacedMessage}
 use Rattle.ring_table.specs.OpenClaims.{open_count}
@@ -74,7 +74,7 @@ pub record IsOpenClaimOf {K : Type 0} (ring : Ring K) (p : Producer) (t : ClaimA
   pub index : t.index ≡ t.place % ring.capacity + 8
   pub message : IsMessage ring.capacity (blank t.type_id t.len)
   pub limit : t.place ≤ max_position
-  pub claim : HasClaimAt p.seat.me.0 t.place (IsOpen t.type_id t.len)
+  pub claim : HasClaimAt p.seat.me.0 t.place (IsStagedOpen t.type_id t.len)
 
 -- what was open stays open
 abbrev pub KeepsClaims : {K : Type 0} → Ring K → Producer → Producer → Type 0

@@ -1,4 +1,10 @@
 //! The rings that threads share: any number of producers or one, and one consumer.
+//!
+//! - `ring`: a ring, its producers and its consumer. `open` makes it, `close` takes it apart.
+//! - `producer`: `one_to_one` and `many_to_one` have the calls, `wait` those that try again. A claim is made of
+//!   `admission`, `room`, `claim` (one try), `headers`, `body` and `settle`. `service`: ids, heartbeats and positions.
+//! - `consumer`: `read` has the calls, `turn` one turn of a read, made of `find`, `load` and `pass`. `heartbeat`.
+//! - `source`: what a conductor needs of a ring. `claim`, `fault`: an open claim, and why calls refuse.
 #![tactic(auto)]
 
 mod claim;

@@ -4,7 +4,7 @@ use Rattle.ring_table.specs.Passing.{placed_committed_of}
 use Rattle.ring_rings.specs.Seats.{claims_of}
 use Rattle.ring_loose.specs.Loose.{Loose}
 use Rattle.ring_counters.specs.Manager.{registry_of, shares_of}
-use Rattle.ring_conductor.specs.Conducting.{counters_of, received_of}
+use Rattle.ring_conductor.specs.Conducting.{manager_in, received_of}
 use Rattle.ring_scenario.specs.declared.service.CommandService.{CommandService}
 use Rattle.ring_scenario.specs.declared.service.closing.Served.{Served}
 
@@ -14,8 +14,8 @@ read_count l = min (length l.consumer.consumer.taken) (2 ^ 64 - 1)
 
 -- the commands that the conductor took, and how many it left of the committed messages of its ring, with its counters,
 -- which have all shares of the values
-pub record IsServed (service : CommandService) (served : Served) : Type 0 where
+pub record TookAndLeft (service : CommandService) (served : Served) : Type 0 where
   pub received : served.received ≡ length (received_of service.conductor)
   pub left : served.received + served.left ≡ length (placed_committed_of (claims_of service.producer))
-  pub counters : registry_of served.counters ≡ registry_of (counters_of service.conductor)
+  pub counters : registry_of served.counters ≡ registry_of (manager_in service.conductor)
   pub watchers : shares_of served.counters ≡ 65536

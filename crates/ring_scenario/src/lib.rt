@@ -1,4 +1,9 @@
 //! Runs a scenario on a ring of messages, a broadcast buffer and a conductor of counters.
+//!
+//! - `scenario`: a text, line by line. `input` reads it whole, `options` are the command line.
+//! - `runner`: what a run holds, and what each call prints; `printer` shows messages.
+//! - `service`: the conductor's side of a run, made, working and closed; `commanding`: the commands that lines ask for.
+//! - `fault`: why a line or a run ends early.
 #![tactic(auto)]
 
 mod commanding;

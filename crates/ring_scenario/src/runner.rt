@@ -2,7 +2,7 @@
 ghost use Rattle.std.specs.Prelude.{◌≡◌, ◌+◌, ◌↔◌, None, IfSome, IsOkUnless, IsSome, IsTrue, length};
 ghost use Rattle.ring_table.specs.Passing.{placed_committed_of};
 ghost use Rattle.ring_loose.specs.Loose.{aborted_view};
-ghost use Rattle.ring_scenario.specs.Closing.{read_count, IsServed};
+ghost use Rattle.ring_scenario.specs.Closing.{read_count, TookAndLeft};
 ghost use Rattle.ring_scenario.specs.Sizes.{size_fault_of};
 
 mod serving;
@@ -222,7 +222,7 @@ impl Runner {
         ensures left { length self.loose.consumer.consumer.taken + result.left
             ≡ length (placed_committed_of (aborted_view self.loose.holder).producer.claims) }
         ensures served { IsSome result.served ↔ IsTrue self.serves }
-        ensures finished { IfSome result.served (IsServed self.service) }
+        ensures finished { IfSome result.served (TookAndLeft self.service) }
     {
         let Runner {
             loose,

@@ -3,7 +3,7 @@ ghost use Rattle.std.specs.Prelude.{◌≡◌, ◌+◌};
 ghost use Rattle.ring_rings.specs.Seats.{open_claims_of, shares_of, IsConsumerOf, IsProducerOf};
 ghost use Rattle.ring_board.specs.Seats.{shares_of as board_shares_of, IsTransmitterOf};
 ghost use Rattle.ring_counters.specs.Manager.{IsManagerOf};
-ghost use Rattle.ring_conductor.specs.Conducting.{consumer_of, counters_of, transmitter_of, value_shares_of};
+ghost use Rattle.ring_conductor.specs.Conducting.{consumer_of, manager_in, transmitter_of, value_shares_of};
 ghost use Rattle.ring_loose.specs.Held.{held_count, held_in};
 ghost use Rattle.ring_loose.specs.Receivers.{AreReceivers};
 ghost use Rattle.ring_scenario.specs.Watchers.{AreWatchers};
@@ -37,7 +37,7 @@ pub struct CommandService {
     ghost produces: { IsProducerOf ring producer },
     ghost consumes: { IsConsumerOf ring (consumer_of conductor) },
     ghost replies: { IsTransmitterOf board (transmitter_of conductor) },
-    ghost counts: { IsManagerOf values (counters_of conductor) },
+    ghost counts: { IsManagerOf values (manager_in conductor) },
     ghost whole: { (open_claims_of producer ≡ 0) × (shares_of producer ≡ 65536) },
     ghost listen: { AreReceivers board listeners },
     ghost shares: { board_shares_of (transmitter_of conductor) + held_count (held_in listeners) ≡ 65536 },

@@ -18,7 +18,7 @@ use Rattle.ring_board.proofs.OpeningLemmas.{capacity_whole, multiple}
 use Rattle.ring_snapshot.specs.declared.board_record.BoardRecord.{BoardRecord}
 use Rattle.ring_snapshot.specs.declared.board_finding.BoardFinding.{BoardFinding}
 use Rattle.ring_snapshot.specs.Listing.{ok_records}
-use Rattle.ring_snapshot.specs.BoardRecords.{BoardEntry, entry_at, listing, records_of, from_on, HaveTransmitted, Begins, lap_of, positions_finding}
+use Rattle.ring_snapshot.specs.BoardRecords.{BoardEntry, entry_at, listing, records_of, from_on, HaveTransmitted, BeginsAt, lap_of, positions_finding}
 use Rattle.ring_snapshot.proofs.StepLemmas.{listing_ends}
 use Rattle.ring_snapshot.proofs.StoredLemmas.{padding_stands, header_stands, body_stands}
 use Rattle.ring_snapshot.proofs.BoardLemmas.{Fit, last_fits, last_high, lap_in, from_on_none, AreKept, from_one}
@@ -93,7 +93,7 @@ module _ (C : ℕ) (ok : IsBoardCapacity C) (words : List ℕ) (sent : List Reco
   }
 
   -- where a transmission begins
-  module _ (p : ℕ) (begins : Begins sent tail p) where
+  module _ (p : ℕ) (begins : BeginsAt sent tail p) where
     pub begins_whole : p % 8 ≡ 0
     begins_whole = ⊎_elim (λ at. let e8 = fit.3 in let en = closed.tail in omega (arith, at, e8, en))
         (λ t. let f = (chain_at C ok.least whole start sent closed.places t.0 t.1 t.2).0.fits in
@@ -142,7 +142,7 @@ module _ (C : ℕ) (ok : IsBoardCapacity C) (words : List ℕ) (sent : List Reco
         ∙ closed_listed ((tail - p) / 8) near enough
 
   -- the running lap
-  pub lap_begins : Begins sent tail (lap_of C latest)
+  pub lap_begins : BeginsAt sent tail (lap_of C latest)
   lap_begins = begins_in sent closed.places closed.latest closed.tail
     where
       lap_whole : (x : ℕ) → (x - x % C) % C ≡ 0
@@ -160,7 +160,7 @@ module _ (C : ℕ) (ok : IsBoardCapacity C) (words : List ℕ) (sent : List Reco
           absurd (omega (arith, far, at, L0, lt))) (λ ok'. ok') (cases_lt (x - x % C) s)
 
       begins_in : (l : List Record) → Chain C start l → latest ≡ last_of start l → tail ≡ end_of start l
-          → Begins l tail (lap_of C latest)
+          → BeginsAt l tail (lap_of C latest)
       begins_in [] c la en =
           inl (let at = h.1 in let same : latest % C ≡ start % C = ap (λ x. x % C) la in
           omega (arith, la, en, at, same))

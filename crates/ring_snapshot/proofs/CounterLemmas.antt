@@ -17,7 +17,7 @@ use Rattle.ring_snapshot.specs.declared.counter.CounterState.TheVariants.{Alloca
 use Rattle.ring_snapshot.specs.declared.counters_finding.CountersFinding.TheVariants.{BadLabelLength}
 use Rattle.ring_snapshot.specs.RingRecords.{length_in}
 use Rattle.ring_snapshot.specs.CounterWords.{HaveIds}
-use Rattle.ring_snapshot.specs.CounterRecords.{CounterEntry, state_from, counter_in, with_label, with_state, entry_of, or_none, entries, Show, counter_as, counter_of, given}
+use Rattle.ring_snapshot.specs.CounterRecords.{CounterEntry, state_from, counter_of_records, with_label, with_state, entry_of, or_none, entries, Show, counter_as, counter_of, entries_of}
 
 -- ---- any words
 
@@ -54,7 +54,7 @@ module _ (id : ℕ) (words values : List ℕ) (c : ring_counters.Counter) (m : I
   label_read = sym (ap (bytes_at words 132) (length_decoded words c.metadata m))
       ∙ ap (λ (x : Metadata). x.label) (metadata_decoded words c.metadata m)
 
-  counter_read : (told : CounterState) → counter_in id words values told n ≡ counter_as id told c
+  counter_read : (told : CounterState) → counter_of_records id words values told n ≡ counter_as id told c
   counter_read told = λ i. record {
     id = id;
     state = told;
@@ -72,7 +72,7 @@ module _ (id : ℕ) (words values : List ℕ) (c : ring_counters.Counter) (m : I
   label_passes told =
       ap (λ x. with_label id words values x told)
       (read_short (slice_index words 16) n (length_decoded words c.metadata m) short)
-      ∙ ap (λ b. if b then Err (BadLabelLength id (pos n)) else Ok (counter_in id words values told n))
+      ∙ ap (λ b. if b then Err (BadLabelLength id (pos n)) else Ok (counter_of_records id words values told n))
       (not_bad n short)
       ∙ ap Ok (counter_read told)
 
@@ -118,7 +118,8 @@ module _ (metadata values : List ℕ) (r : Registry) (show : Show metadata value
             ∙ show.value_words id k less lt;
       }
 
-  entries_given : (n first : ℕ) → (0 < n → first + n ≤ count_of r) → entries metadata values n first ≡ given r n first
+  entries_given : (n first : ℕ) → (0 < n → first + n ≤ count_of r)
+      → entries metadata values n first ≡ entries_of r n first
   entries_given zero first inside = refl
   entries_given (suc n) first inside =
       (λ i. or_none (entry_shown first (omega (arith, inside (omega arith))) i)
@@ -128,7 +129,7 @@ module _ (metadata values : List ℕ) (r : Registry) (show : Show metadata value
       told : ℕ → CounterEntry
       told id = Ok (counter_of id (counter_at r id))
 
-      step : (b : Bool) → or_none (if b then Some (told first) else None) (given r n (first + 1))
+      step : (b : Bool) → or_none (if b then Some (told first) else None) (entries_of r n (first + 1))
           ≡ map told (cond b (first ∷ filter (λ id. not (is_unused (status_at r id))) (range_with_len (first + 1) n))
           (filter (λ id. not (is_unused (status_at r id))) (range_with_len (first + 1) n)))
       step true = refl
@@ -136,7 +137,7 @@ module _ (metadata values : List ℕ) (r : Registry) (show : Show metadata value
 
   -- a snapshot has as many ids as the registry
   pub entries_exact : (count first : ℕ) → HaveIds metadata values count
-      → entries metadata values (count - first) first ≡ given r (count_of r - first) first
+      → entries metadata values (count - first) first ≡ entries_of r (count_of r - first) first
   entries_exact count first ids =
       let same : count ≡ count_of r = omega (arith, ids.value_words, show.ids.value_words) in
       ap (λ n. entries metadata values (n - first) first) same

@@ -20,7 +20,7 @@ use Rattle.ring_counters.specs.Records.{bytes_at}
 use Rattle.ring_snapshot.specs.declared.record.Record.{Record}
 use Rattle.ring_snapshot.specs.declared.record.RecordState.TheVariants as shown
 use Rattle.ring_snapshot.specs.Listing.{up_to_eight, followed, ok_records}
-use Rattle.ring_snapshot.specs.RingRecords.{Entry, length_in, type_in, is_length, is_padding_type, passed_at, message_at, entry_for, entry_at, listing, claim_as, state_of, records_of, Lie}
+use Rattle.ring_snapshot.specs.RingRecords.{Entry, length_in, type_in, is_length, is_padding_type, passed_at, message_at, entry_for, entry_at, listing, claim_as, record_of_claim, records_of, Lie}
 use Rattle.ring_snapshot.proofs.EntryLemmas.{not_padding, not_below_one, body_told}
 use Rattle.ring_snapshot.proofs.StepLemmas.{some_suc, listing_ends, listing_step}
 
@@ -80,22 +80,22 @@ for_open C words tail at n type_id lawful fits =
 -- ---- a claim as a record
 
 state_open : (C place : ℕ) (c : Claim) → c.state ≡ Open
-    → state_of C place c ≡ claim_as C place c shown.Open (8 + length c.message.body) c.message.body
+    → record_of_claim C place c ≡ claim_as C place c shown.Open (8 + length c.message.body) c.message.body
 state_open C place c e = rw e refl
 
 state_committed : (C place : ℕ) (c : Claim) → c.state ≡ Committed
-    → state_of C place c ≡ claim_as C place c shown.Committed (8 + length c.message.body) c.message.body
+    → record_of_claim C place c ≡ claim_as C place c shown.Committed (8 + length c.message.body) c.message.body
 state_committed C place c e = rw e refl
 
 state_aborted : (C place : ℕ) (c : Claim) → c.state ≡ Aborted
-    → state_of C place c ≡ passed_at C place (8 + length c.message.body)
+    → record_of_claim C place c ≡ passed_at C place (8 + length c.message.body)
 state_aborted C place c e = rw e refl
 
-length_of_state : (C place : ℕ) (c : Claim) → (state_of C place c).length ≡ 8 + length c.message.body
+length_of_state : (C place : ℕ) (c : Claim) → (record_of_claim C place c).length ≡ 8 + length c.message.body
 length_of_state C place c =
-    elim (state_cases c.state) as (λ _. (state_of C place c).length ≡ 8 + length c.message.body) [
+    elim (state_cases c.state) as (λ _. (record_of_claim C place c).length ≡ 8 + length c.message.body) [
       | inl e ↦ ap (λ (r : Record). r.length) (state_open C place c e)
-      | inr other ↦ elim other as (λ _. (state_of C place c).length ≡ 8 + length c.message.body) [
+      | inr other ↦ elim other as (λ _. (record_of_claim C place c).length ≡ 8 + length c.message.body) [
         | inl e ↦ ap (λ (r : Record). r.length) (state_committed C place c e)
         | inr e ↦ ap (λ (r : Record). r.length) (state_aborted C place c e)
       ]
@@ -199,7 +199,7 @@ module _ (C : ℕ) (words : List ℕ) (tail e : ℕ) (c : Claim) (h : List Claim
 
   -- the entry at the place
   abbrev Told : Type 0
-  Told = entry_at C words tail place ≡ Ok (state_of C place c)
+  Told = entry_at C words tail place ≡ Ok (record_of_claim C place c)
 
   committed_entry : c.state ≡ Committed → Told
   committed_entry e =
@@ -320,7 +320,8 @@ exact C words tail ok (c ∷ h) m e aligned enough lie =
     let b = span_bounds n in
     let whole : place % 8 ≡ 0 = place_aligned C words tail e c h ok aligned lie in
     let behind : List Entry = ok_records (records_of C (place + span n) h) in
-    let from_claim : (k : ℕ) → tail ≤ place + 8 * k → listing C words tail k place ≡ Ok (state_of C place c) ∷ behind =
+    let from_claim : (k : ℕ) → tail ≤ place + 8 * k
+        → listing C words tail k place ≡ Ok (record_of_claim C place c) ∷ behind =
     λ k much.
     let (less, is) = some_suc k (omega (arith, much, end, b)) in
     let rest : listing C words tail less (place + span n) ≡ behind =
@@ -331,8 +332,9 @@ exact C words tail ok (c ∷ h) m e aligned enough lie =
     (omega (arith, end, b))
     ∙ ap (followed (λ (r : Record). r.length) (listing C words tail less) place)
     (claim_entry C words tail e c h ok aligned lie)
-    ∙ ap (λ x. Ok (state_of C place c) ∷ listing C words tail less (place + up_to_eight x)) (length_of_state C place c)
-    ∙ ap (λ xs. Ok (state_of C place c) ∷ xs) rest in
+    ∙ ap (λ x. Ok (record_of_claim C place c) ∷ listing C words tail less (place + up_to_eight x))
+        (length_of_state C place c)
+    ∙ ap (λ xs. Ok (record_of_claim C place c) ∷ xs) rest in
     elim (cases_lt e place) as (λ _. listing C words tail m e ≡ ok_records (records_of C e (c ∷ h))) [
       | inl before ↦
           let (less, is) = some_suc m (omega (arith, enough, end, before, b)) in
@@ -346,12 +348,12 @@ exact C words tail ok (c ∷ h) m e aligned enough lie =
           (pad_entry C words tail e c h ok aligned lie before)
           ∙ ap (λ x. Ok (passed_at C e (place - e)) ∷ listing C words tail less x) pad_end
           ∙ ap (λ xs. Ok (passed_at C e (place - e)) ∷ xs) (from_claim less (omega (arith, enough, is, pb, before)))
-          ∙ sym (ap (λ xs. ok_records (xs ++ state_of C place c ∷ records_of C (place + span n) h))
+          ∙ sym (ap (λ xs. ok_records (xs ++ record_of_claim C place c ∷ records_of C (place + span n) h))
           (cond-true _ (passed_at C e (place - e) ∷ []) [] (lt-ltb e place before)))
       | inr from ↦
           let at : e ≡ place = omega (arith, low, from) in
           ap (listing C words tail m) at
           ∙ from_claim m (omega (arith, enough, at))
-          ∙ sym (ap (λ xs. ok_records (xs ++ state_of C place c ∷ records_of C (place + span n) h))
+          ∙ sym (ap (λ xs. ok_records (xs ++ record_of_claim C place c ∷ records_of C (place + span n) h))
           (cond-false _ (passed_at C e (place - e) ∷ []) [] (le-ltb e place from)))
     ]

@@ -10,7 +10,7 @@ use Rattle.ring_layout.specs.Headers.{padding_header}
 use Rattle.ring_layout.proofs.Laps.{same_index, index_step}
 use Rattle.ring_layout.proofs.PlaceLemmas.{span_bounds}
 use Rattle.ring_board.specs.declared.shared.view.Record.{Record}
-use Rattle.ring_board.specs.Records.{end, Follows, Chain, end_of, first_words, words_of, word_count, header_of, placed_words, gap, filled, stores, stores_of}
+use Rattle.ring_board.specs.Records.{end, Follows, Chain, end_of, first_words, words_of_body, word_count, header_of, placed_words, gap, filled, stores, stores_of}
 use Rattle.ring_board.specs.Closing.{IsClosed}
 use Rattle.ring_board.proofs.PlaceLemmas.{index_below, lies_after, lies_inside, lies_whole, chain_rises, chain_at}
 use Rattle.ring_board.proofs.StoreLemmas.{at_joined, at_behind, stores_where, words_long}
@@ -40,14 +40,14 @@ placed_is p (w ∷ ws) (suc j) x e =
 -- the word that a transmission stores at a position
 abbrev store_at : Record → ℕ → ℕ
 store_at r q = cond (ltb q r.place) (padding_header (r.place - r.before))
-    (cond (eqb q r.place) (header_of r.message) (get_or (words_of r.message.body) ((q - (r.place + 8)) / 8) 0))
+    (cond (eqb q r.place) (header_of r.message) (get_or (words_of_body r.message.body) ((q - (r.place + 8)) / 8) 0))
 
 store_is : (r : Record) (j : ℕ) (x : ℕ × ℕ) → get_elem? (stores r) j ≡ some x → x.1 ≡ store_at r x.0
 store_is r j x on =
     ⊎_elim (λ f. ⊎_elim in_gap in_body
-    (at_joined (gap r.before r.place) (placed_words (r.place + 8) (words_of r.message.body)) j x f))
+    (at_joined (gap r.before r.place) (placed_words (r.place + 8) (words_of_body r.message.body)) j x f))
     (λ h. in_header h.0 h.1)
-    (at_joined (filled r.before r.place (words_of r.message.body)) ((r.place, header_of r.message) ∷ []) j x on)
+    (at_joined (filled r.before r.place (words_of_body r.message.body)) ((r.place, header_of r.message) ∷ []) j x on)
   where
     in_gap : get_elem? (gap r.before r.place) j ≡ some x → x.1 ≡ store_at r x.0
     in_gap e = let g = gap_is r.before r.place j x e in
@@ -59,11 +59,11 @@ store_is r j x on =
         (sym (cond-false _ _ _ (le-ltb r.place r.place (omega arith))
         ∙ cond-true _ _ _ (eq-eqb r.place r.place refl)))
 
-    in_body : (i : ℕ) × (get_elem? (placed_words (r.place + 8) (words_of r.message.body)) i ≡ some x)
+    in_body : (i : ℕ) × (get_elem? (placed_words (r.place + 8) (words_of_body r.message.body)) i ≡ some x)
         → x.1 ≡ store_at r x.0
     in_body h =
-        let p = placed_is (r.place + 8) (words_of r.message.body) h.0 x h.1 in let at = p.1 in
-        p.2 ∙ ap (λ k. get_or (words_of r.message.body) k 0)
+        let p = placed_is (r.place + 8) (words_of_body r.message.body) h.0 x h.1 in let at = p.1 in
+        p.2 ∙ ap (λ k. get_or (words_of_body r.message.body) k 0)
         (let e : p.0 ≡ (x.0 - (r.place + 8)) / 8 = omega (arith, at) in e)
         ∙ sym (cond-false _ _ _ (le-ltb x.0 r.place (omega (arith, at)))
         ∙ cond-false _ _ _ (ne_eqb x.0 r.place (λ z. omega (arith, at, z))))
@@ -144,7 +144,7 @@ module _ (C : ℕ) (roomy : 256 ≤ C) (whole : C % 64 ≡ 0) where
 
     pub header_stands : end_of e sent ≤ r.place + C → slice_index ws (index C r.place) ≡ header_of r.message
     header_stands near =
-        stands (length (filled r.before r.place (words_of r.message.body))) (r.place, header_of r.message)
+        stands (length (filled r.before r.place (words_of_body r.message.body))) (r.place, header_of r.message)
         (header_at r) near
 
     pub body_stands : end_of e sent ≤ r.place + C → (j : ℕ) → 8 * j < length r.message.body
@@ -156,13 +156,13 @@ module _ (C : ℕ) (roomy : 256 ≤ C) (whole : C % 64 ≡ 0) where
         let p8 = lies_whole C r.before r.before r.place (end r) f roomy whole in
         let b = span_bounds n in
         let long = words_long (word_count n) r.message.body in
-        let few : j < length (words_of r.message.body) = omega (arith, long, lt) in
+        let few : j < length (words_of_body r.message.body) = omega (arith, long, lt) in
         let step = index_step C r.place (j + 1) (omega (arith, whole)) p8 (omega (arith, inside, b, lt)) in
         let there : r.place % C / 8 + 1 + j ≡ index C (r.place + 8 + 8 * j) =
         (let e' : r.place % C / 8 + 1 + j ≡ index C (r.place + 8 * (j + 1)) = omega (arith, step) in e')
         ∙ ap (index C) (let e' : r.place + 8 * (j + 1) ≡ r.place + 8 + 8 * j = omega arith in e') in
         ap (slice_index ws) there
-        ∙ stands (length (gap r.before r.place) + j) (r.place + 8 + 8 * j, get_or (words_of r.message.body) j 0)
+        ∙ stands (length (gap r.before r.place) + j) (r.place + 8 + 8 * j, get_or (words_of_body r.message.body) j 0)
         (word_at r j few) (omega (arith, near))
         ∙ first_at (word_count n) j r.message.body (omega (arith, lt))
       where

@@ -154,6 +154,6 @@ abbrev pub transmitted_from : BoardSnapshot → List Record → ℕ → List Boa
 transmitted_from b sent position = ok_records (from_on position (records_of b.capacity (intent_in b) sent))
 
 -- a transmission begins at the position, with its padding or its record, or the last one ends there
-abbrev pub Begins : List Record → ℕ → ℕ → Type 0
-Begins sent tail position = (position ≡ tail)
+abbrev pub BeginsAt : List Record → ℕ → ℕ → Type 0
+BeginsAt sent tail position = (position ≡ tail)
     ⊎ ((k : ℕ) × (r : Record) × (get_elem? sent k ≡ some r) × ((position ≡ r.before) ⊎ (position ≡ r.place)))

@@ -5,7 +5,7 @@ use Rattle.std.specs.Int.{cast_signed, w64}
 use Rattle.std.specs.Ordering.{int_eq}
 use Rattle.ring_counters.specs.Counter.{Metadata, Values, deadline_of, metadata_word, value_word}
 use Rattle.ring_counters.specs.Counter as ring_counters
-use Rattle.ring_counters.specs.Records.{bytes_at, IsLawful}
+use Rattle.ring_counters.specs.Records.{bytes_at, IsWithinLimits}
 use Rattle.ring_counters.specs.Registry.{Registry, count_of, counter_at, status_at, is_unused, is_allocated}
 use Rattle.ring_snapshot.specs.declared.counter.Counter.{Counter}
 use Rattle.ring_snapshot.specs.declared.counter.CounterState.{CounterState}
@@ -27,8 +27,8 @@ state_from state =
     if int_eq state (pos 1) then Some Allocated else (if int_eq state (negsuc 0) then Some Reclaimed else None)
 
 -- what a metadata record and a value record say, where the state and the length of the label are lawful
-abbrev pub counter_in : ℕ → List ℕ → List ℕ → CounterState → ℕ → Counter
-counter_in id metadata values state len = record {
+abbrev pub counter_of_records : ℕ → List ℕ → List ℕ → CounterState → ℕ → Counter
+counter_of_records id metadata values state len = record {
   id = id;
   state = state;
   type_id = type_in (slice_index metadata 0);
@@ -43,7 +43,7 @@ counter_in id metadata values state len = record {
 abbrev pub with_label : ℕ → List ℕ → List ℕ → ℤ → CounterState → CounterEntry
 with_label id metadata values len state =
     if int_lt len (pos 0) || int_lt (pos 380) len then Err (BadLabelLength id len)
-    else Ok (counter_in id metadata values state (nat_abs len))
+    else Ok (counter_of_records id metadata values state (nat_abs len))
 
 abbrev pub with_state : ℕ → List ℕ → List ℕ → ℤ → Option CounterState → CounterEntry
 with_state id metadata values state None = Err (BadState id state)
@@ -79,7 +79,7 @@ counters_left it = counters_in it.counters it.next
 -- the words are those of these counters
 pub record Show (metadata values : List ℕ) (r : Registry) : Type 0 where
   pub ids : HaveIds metadata values (count_of r)
-  pub lawful : (id : ℕ) → id < count_of r → IsLawful (counter_at r id).metadata
+  pub lawful : (id : ℕ) → id < count_of r → IsWithinLimits (counter_at r id).metadata
   pub fits : (id : ℕ) → id < count_of r → FitsSigned w64 (counter_at r id).values.value
   pub metadata_words : (id k : ℕ) → id < count_of r → k < 64
       → slice_index metadata (64 * id + k) ≡ metadata_word (counter_at r id).metadata k
@@ -105,10 +105,10 @@ abbrev pub counter_of : ℕ → ring_counters.Counter → Counter
 counter_of id c = counter_as id (if is_allocated c.metadata.status then Allocated else Reclaimed) c
 
 -- the counters of the n ids from this one on that were ever given, in use or freed, by rising id
-abbrev pub given : Registry → ℕ → ℕ → List CounterEntry
-given r n first = map (λ id. Ok (counter_of id (counter_at r id)))
+abbrev pub entries_of : Registry → ℕ → ℕ → List CounterEntry
+entries_of r n first = map (λ id. Ok (counter_of id (counter_at r id)))
     (filter (λ id. not (is_unused (status_at r id))) (range_with_len first n))
 
 -- the counters from an id on that were ever given
-abbrev pub counters_of : Registry → ℕ → List CounterEntry
-counters_of r first = given r (count_of r - first) first
+abbrev pub entries_from : Registry → ℕ → List CounterEntry
+entries_from r first = entries_of r (count_of r - first) first

@@ -118,8 +118,8 @@ abbrev pub claim_as : ℕ → ℕ → Claim → RecordState → ℕ → List ℕ
 claim_as C place c state n body =
     record { place = place; index = place % C; state = state; type_id = c.message.type_id; length = n; body = body }
 
-abbrev pub state_of : ℕ → ℕ → Claim → Record
-state_of C place c = by_state c.state
+abbrev pub record_of_claim : ℕ → ℕ → Claim → Record
+record_of_claim C place c = by_state c.state
   where
     by_state : ClaimState → Record
     by_state claimed.Open = claim_as C place c Open (8 + length c.message.body) c.message.body
@@ -131,7 +131,7 @@ abbrev pub records_of : ℕ → ℕ → List Claim → List Record
 records_of C e [] = []
 records_of C e (c ∷ h) =
     let place = next_place C e (span_of c) in
-    (if nat_lt e place then passed_at C e (place - e) ∷ [] else []) ++ state_of C place c
+    (if nat_lt e place then passed_at C e (place - e) ∷ [] else []) ++ record_of_claim C place c
     ∷ records_of C (place + span_of c) h
 
 -- the claims lie from e up to the tail, and the words there are theirs

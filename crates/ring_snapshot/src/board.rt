@@ -43,7 +43,7 @@ impl<'a> BoardSnapshot<'a> {
     ghost use Rattle.ring_board.specs.Refusals.{IsRefusedBy};
     ghost use Rattle.ring_snapshot.specs.declared.board_finding.BoardFinding.TheVariants.{BadSize};
     ghost use Rattle.ring_snapshot.specs.Listing.{up_to_eight};
-    ghost use Rattle.ring_snapshot.specs.BoardRecords.{intent_in, tail_in, latest_in, records_left, listing, listed_from, first_whole, is_lap_whole, positions_finding, from_finding, HaveTransmitted, Begins, lap_of, transmitted_from};
+    ghost use Rattle.ring_snapshot.specs.BoardRecords.{intent_in, tail_in, latest_in, records_left, listing, listed_from, first_whole, is_lap_whole, positions_finding, from_finding, HaveTransmitted, BeginsAt, lap_of, transmitted_from};
 
     /// Takes the words of a board. `BadSize` where no board has so many.
     pub fn new(words: &'a [u64]) -> Result<Self, BoardFinding>
@@ -132,7 +132,7 @@ impl<'a> BoardSnapshot<'a> {
             (latest_in self.now) position) result }
         ensures listed { IfOk result (λ r. records_left r ≡ listed_from self.now position) }
         ensures exact { (sent : List Record) → HaveTransmitted self.now.capacity self.now.words.now sent
-            → Begins sent (tail_in self.now) position → tail_in self.now ≤ position + self.now.capacity
+            → BeginsAt sent (tail_in self.now) position → tail_in self.now ≤ position + self.now.capacity
             → IsOkAnd result (λ r. records_left r ≡ transmitted_from self.now sent position) }
     {
         let (intent, tail, latest) = (self.intent(), self.tail(), self.latest());

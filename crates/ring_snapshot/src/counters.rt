@@ -37,7 +37,7 @@ impl<'a> CountersSnapshot<'a> {
     ghost use Rattle.ring_snapshot.specs.declared.counters_finding.CountersFinding.TheVariants.{BadSize};
     ghost use Rattle.ring_snapshot.specs.CounterWords.{HaveIds};
     ghost use Rattle.ring_snapshot.specs.RingRecords.{length_in};
-    ghost use Rattle.ring_snapshot.specs.CounterRecords.{Show, state_from, with_label, entry_of, counters_left, counters_in, counters_of};
+    ghost use Rattle.ring_snapshot.specs.CounterRecords.{Show, state_from, with_label, entry_of, counters_left, counters_in, entries_from};
 
     /// Takes the words of counters. `BadSize` where no counters have so many.
     pub fn new(metadata: &'a [u64], values: &'a [u64]) -> Result<Self, CountersFinding>
@@ -78,7 +78,7 @@ impl<'a> CountersSnapshot<'a> {
     pub fn counters(&self) -> Counters<'a>
         ensures listed { counters_left result ≡ counters_in self.now 0 }
         ensures exact { (r : Registry) → Show self.now.metadata.now self.now.values.now r
-            → counters_left result ≡ counters_of r 0 }
+            → counters_left result ≡ entries_from r 0 }
     {
         self.counters_from(0)
     }
@@ -87,7 +87,7 @@ impl<'a> CountersSnapshot<'a> {
     pub fn counters_from(&self, first: u32) -> Counters<'a>
         ensures listed { counters_left result ≡ counters_in self.now first }
         ensures exact { (r : Registry) → Show self.now.metadata.now self.now.values.now r
-            → counters_left result ≡ counters_of r first }
+            → counters_left result ≡ entries_from r first }
     {
         Counters {
             counters: *self,

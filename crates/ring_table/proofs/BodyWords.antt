@@ -142,6 +142,3 @@ body_word-zeros n at = from_le_bytes-same (drop at (replicate n 0)) (replicate 8
       | inr far ↦ get_or_past (replicate n 0) (at + i) 0 (omega (arith, length-replicate {A = ℕ} n 0))
           ∙ sym (get_or-replicate 8 i 0 0 lt)
     ])
-
-pub bytes_of-zeros : (n : ℕ) → All (λ b. b < 256) (replicate n 0)
-bytes_of-zeros n = All-replicate (λ b. b < 256) n 0 (omega arith)

@@ -11,7 +11,7 @@ use Rattle.ring_layout.specs.Places.{next_place, end_after}
 use Rattle.ring_layout.specs.Layout.{tail_index}
 use Rattle.ring_layout.proofs.PlaceLemmas.{next_le}
 use Rattle.ring_table.specs.Staged.{StagedClaim, claim_end, staged_end}
-use Rattle.ring_table.specs.Changes.{blank, fresh}
+use Rattle.ring_table.specs.Changes.{blank, moved_claim}
 use Rattle.ring_table.specs.Owners.{OwnedHistory, all_of}
 use Rattle.ring_table.specs.Views.{Logs, View, Wanted, logged, with_producer, with_tail, with_claim}
 use Rattle.ring_table.specs.Rule.{Kept}
@@ -29,10 +29,10 @@ module _ (C start : ℕ) where
   appends : (words : List ℕ) (views : List View) (r : Kept C start words views) (id : ℕ) (v : View)
       → get_elem? views id ≡ some v → (type_id : ℤ) (n old new : ℕ) → old ≡ staged_end start (all_of r.hist)
       → 0 < v.producer.shares → IsClaimable C old new type_id n v.producer.seen_head
-      → Kept C start (set words (tail_index C) new) (set views id (with_claim (fresh C old type_id n) new v))
+      → Kept C start (set words (tail_index C) new) (set views id (with_claim (moved_claim C old type_id n) new v))
   appends words views r id v at type_id n old new old_is rich claimable =
       let h : OwnedHistory = r.hist in
-      let c : StagedClaim = fresh C old type_id n in
+      let c : StagedClaim = moved_claim C old type_id n in
       let x : ℕ × StagedClaim = (id, c) in
       let w : View = with_claim c new v in
       let k = r.seated.each id v at in
@@ -118,14 +118,14 @@ module _ (C start : ℕ) where
       ∙ sym (sole_sees_top s.views id v top r.seated.shares r.seated.latest at all) in
       exchanged n old new (May C start s (tail_index C) id me told)
       (λ hit. (
-        with_claim (fresh C old wanted.type_id wanted.len) new v,
+        with_claim (moved_claim C old wanted.type_id wanted.len) new v,
         keeps,
         tt,
         appends s.words s.views r id v at wanted.type_id wanted.len old new (sym hit ∙ is) rich claimable,
         (
           refl,
           λ said same. let e : wanted ≡ said = some-injective wanted said same in record {
-            hit = λ _ i. with_claim (fresh (sym cap i) old (e i).type_id (e i).len) new v;
+            hit = λ _ i. with_claim (moved_claim (sym cap i) old (e i).type_id (e i).len) new v;
             behind = λ _. end_below C start s.words s.views r id v at old (sym hit ∙ is);
             miss = λ other. absurd (other hit);
             later = omega arith;
@@ -165,7 +165,7 @@ module _ (C start : ℕ) where
       let old : ℕ = v.producer.seen_tail in
       let old_is =
       sole_sees_top s.views id v (staged_end start (all_of r.hist)) r.seated.shares r.seated.latest at all in (
-        with_claim (fresh C old type_id n) new v,
+        with_claim (moved_claim C old type_id n) new v,
         keeps,
         tt,
         appends s.words s.views r id v at type_id n old new old_is (omega arith) claimable,
@@ -176,7 +176,7 @@ module _ (C start : ℕ) where
             len = n;
             message = subst (λ c. IsMessage c (blank type_id n)) (sym cap) claimable.message;
             new_tail = subst (λ c. new ≡ end_after c old (span n)) (sym cap) claimable.new_tail;
-            view = λ i. with_claim (fresh (sym cap i) old type_id n) new v;
+            view = λ i. with_claim (moved_claim (sym cap i) old type_id n) new v;
             behind = end_below C start s.words s.views r id v at old old_is;
           },
         ),

@@ -4,7 +4,7 @@ use mathlib.Core.Option.{some, some-injective, some-ne-none}
 use lib.ListN.{get_elem?}
 use Rattle.std.proofs.lemmas.Bool.{cases_lt}
 use Rattle.ring_layout.specs.declared.message.ClaimState.TheVariants.{Open, Committed, Aborted}
-use Rattle.ring_table.specs.Staged.{StagedClaim, Stage, Moved, Padded, Stored, state_of, claim_end, AreAbove, AreRising, AreStored, IsStored}
+use Rattle.ring_table.specs.Staged.{StagedClaim, Stage, Moved, Padded, Stored, stage_state, claim_end, AreAbove, AreRising, AreStored, IsStored}
 use Rattle.ring_table.specs.Changes.{changed}
 use Rattle.ring_table.specs.Owners.{insert_claim, interleaved}
 use Rattle.ring_table.specs.Passing.{IsSettled, AreSettled}
@@ -62,7 +62,7 @@ changed_newest from (d ∷ ds) c f ends le =
 -- ---- open claims
 
 count_of : StagedClaim → ℕ
-count_of c = one_if_open (state_of c.stage)
+count_of c = one_if_open (stage_state c.stage)
 
 insert_count : (c : StagedClaim) (l : List StagedClaim) → open_count (insert_claim c l) ≡ count_of c + open_count l
 unfolding count_of
@@ -108,17 +108,17 @@ above_at p (d ∷ ds) (suc k) c above e = above_at p ds k c above.1 e
 -- where places rise, a change changes one claim, so the open claims change by that one
 pub open_count-changed : (f : StagedClaim → StagedClaim) (cs : List StagedClaim) (k : ℕ) (c : StagedClaim)
     → AreRising cs → get_elem? cs k ≡ some c
-    → open_count (changed c.place f cs) + one_if_open (state_of c.stage)
-    ≡ open_count cs + one_if_open (state_of (f c).stage)
+    → open_count (changed c.place f cs) + one_if_open (stage_state c.stage)
+    ≡ open_count cs + one_if_open (stage_state (f c).stage)
 open_count-changed f [] k c rising e = absurd (some-ne-none c (sym e))
 open_count-changed f (d ∷ ds) zero c rising e =
     let same : d ≡ c = some-injective d c e in
     let alone : changed d.place f (d ∷ ds) ≡ f d ∷ ds =
     λ i. changed_at_place d.place f d refl i ∷ changed_none d.place f ds rising.0 i in
-    subst (λ (z : StagedClaim). open_count (changed z.place f (d ∷ ds)) + one_if_open (state_of z.stage)
-    ≡ open_count (d ∷ ds) + one_if_open (state_of (f z).stage)) same
-    (let old : ℕ = one_if_open (state_of d.stage) in
-    let new : ℕ = one_if_open (state_of (f d).stage) in
+    subst (λ (z : StagedClaim). open_count (changed z.place f (d ∷ ds)) + one_if_open (stage_state z.stage)
+    ≡ open_count (d ∷ ds) + one_if_open (stage_state (f z).stage)) same
+    (let old : ℕ = one_if_open (stage_state d.stage) in
+    let new : ℕ = one_if_open (stage_state (f d).stage) in
     let rest : ℕ = open_count ds in
     let after : ℕ = open_count (changed d.place f (d ∷ ds)) in
     let after_is : after ≡ new + rest = ap open_count alone in
@@ -127,20 +127,20 @@ open_count-changed f (d ∷ ds) zero c rising e =
 open_count-changed f (d ∷ ds) (suc k) c rising e =
     let above = above_at d.place ds k c rising.0 e in
     let other : d.place ≢ c.place = λ same. omega arith in
-    let here : ℕ = one_if_open (state_of d.stage) in
-    let old : ℕ = one_if_open (state_of c.stage) in
-    let new : ℕ = one_if_open (state_of (f c).stage) in
+    let here : ℕ = one_if_open (stage_state d.stage) in
+    let old : ℕ = one_if_open (stage_state c.stage) in
+    let new : ℕ = one_if_open (stage_state (f c).stage) in
     let rest : ℕ = open_count ds in
     let deep : ℕ = open_count (changed c.place f ds) in
     let deeper : deep + old ≡ rest + new = open_count-changed f ds k c rising.1 e in
     let sum : here + deep + old ≡ here + rest + new = omega arith in
-    ap (λ (z : StagedClaim). one_if_open (state_of z.stage) + deep + old) (changed_at_other c.place f d other) ∙ sum
+    ap (λ (z : StagedClaim). one_if_open (stage_state z.stage) + deep + old) (changed_at_other c.place f d other) ∙ sum
 
 -- where no claim is open, all are settled, and their headers are stored
 pub none_open : (cs : List StagedClaim) → open_count cs ≡ 0 → AreSettled cs × AreStored cs
 none_open [] e = (tt, tt)
 none_open (c ∷ cs) e =
-    let here : ℕ = one_if_open (state_of c.stage) in
+    let here : ℕ = one_if_open (stage_state c.stage) in
     let rest : ℕ = open_count cs in
     let sum : here + rest ≡ 0 = e in
     let none_here : here ≡ 0 = omega arith in
@@ -149,7 +149,7 @@ none_open (c ∷ cs) e =
     let settled = by_stage c.stage none_here in
     ((settled.0, t.0), (settled.1, t.1))
   where
-    by_stage : (t : Stage) → one_if_open (state_of t) ≡ 0 → IsSettled t × IsStored t
+    by_stage : (t : Stage) → one_if_open (stage_state t) ≡ 0 → IsSettled t × IsStored t
     by_stage Moved e = absurd (omega arith)
     by_stage Padded e = absurd (omega arith)
     by_stage (Stored Open) e = absurd (omega arith)

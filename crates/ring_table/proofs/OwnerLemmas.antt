@@ -6,10 +6,6 @@ use Rattle.ring_layout.proofs.PlaceLemmas.{next_le}
 use Rattle.ring_table.specs.Staged.{StagedClaim, staged_span, claim_end, ArePlaced, AreAbove, AreRising}
 use Rattle.ring_table.specs.Owners.{OwnedHistory, all_of, owned_by, insert_claim, interleaved, handed_over}
 
-above_less : (p q : ℕ) (cs : List StagedClaim) → p ≤ q → AreAbove q cs → AreAbove p cs
-above_less p q [] le h = tt
-above_less p q (c ∷ cs) le h = let a = h.0 in (omega arith, above_less p q cs le h.1)
-
 above_if : (b : Bool) (p : ℕ) (c : StagedClaim) (cs : List StagedClaim) → p < c.place → AreAbove p cs
     → AreAbove p (cond b (c ∷ cs) cs)
 above_if true p c cs lt h = (lt, h)

@@ -8,7 +8,7 @@ use Rattle.ring_layout.specs.Headers.{padding_header}
 use Rattle.ring_layout.specs.Picture.{claim_word, word_at}
 use Rattle.ring_layout.proofs.PlaceLemmas.{next_fixed}
 use Rattle.ring_layout.proofs.PictureLemmas.{word_at_padding, word_at_padding_header, word_at_record, word_at_rest}
-use Rattle.ring_table.specs.Staged.{StagedClaim, PlacedMessage, Stage, Moved, Padded, Stored, IsStored, AreStored, claim_of, claims_of, claim_end, staged_span, masked_padding, masked_record, staged_word, staged_word_at, ArePlaced, staged_end}
+use Rattle.ring_table.specs.Staged.{StagedClaim, PlacedMessage, Stage, Moved, Padded, Stored, IsStored, AreStored, claim_of, unplaced, claim_end, staged_span, masked_padding, masked_record, staged_word, staged_word_at, ArePlaced, staged_end}
 use Rattle.ring_table.specs.Passing.{AreSettled, placed_message, shown_at, placed_committed_of, Reaches}
 use Rattle.ring_table.specs.Closed.{restarted}
 use Rattle.ring_table.proofs.StagedWords.{staged_word-padding, staged_word-padding_behind, staged_word-record}
@@ -16,9 +16,9 @@ use Rattle.ring_table.proofs.ReachLemmas.{reach_bounds}
 
 -- without their places the claims end where they ended
 pub end_of-claims_of : (C e : ℕ) (cs : List StagedClaim) → ArePlaced C e cs
-    → end_of C e (claims_of cs) ≡ staged_end e cs
+    → end_of C e (unplaced cs) ≡ staged_end e cs
 end_of-claims_of C e [] placed = refl
-end_of-claims_of C e (c ∷ cs) placed = ap (λ k. end_of C (k + staged_span c) (claims_of cs)) (sym placed.0.place)
+end_of-claims_of C e (c ∷ cs) placed = ap (λ k. end_of C (k + staged_span c) (unplaced cs)) (sym placed.0.place)
     ∙ end_of-claims_of C (claim_end c) cs placed.1
 
 stored_padding : (t : Stage) (word : ℕ) → IsStored t → masked_padding t word ≡ word
@@ -36,38 +36,38 @@ here c cs p lt = ap (λ b. cond b (staged_word c p) (staged_word_at cs p)) (lt-l
 
 -- where all headers are stored, the two pictures are one
 pub staged_word_at-claims_of : (C e : ℕ) (cs : List StagedClaim) (p : ℕ) → ArePlaced C e cs → AreStored cs
-    → staged_word_at cs p ≡ word_at C e (claims_of cs) p
+    → staged_word_at cs p ≡ word_at C e (unplaced cs) p
 unfolding word_at
 staged_word_at-claims_of C e [] p placed stored = refl
 staged_word_at-claims_of C e (c ∷ cs) p placed stored =
     let from_is : c.from ≡ e = placed.0.from in
     let place : ℕ = next_place C e (staged_span c) in
     let place_is : c.place ≡ place = placed.0.place in
-    let rest : claims_of (c ∷ cs) ≡ claim_of c ∷ claims_of cs = refl in
-    elim (cases_lt p c.place) as (λ _. staged_word_at (c ∷ cs) p ≡ word_at C e (claim_of c ∷ claims_of cs) p) [
+    let rest : unplaced (c ∷ cs) ≡ claim_of c ∷ unplaced cs = refl in
+    elim (cases_lt p c.place) as (λ _. staged_word_at (c ∷ cs) p ≡ word_at C e (claim_of c ∷ unplaced cs) p) [
       | inl in_padding ↦ here c cs p (omega arith) ∙ dite (ℕ_discrete p c.from)
           (λ same.
           let there : p ≡ e = same ∙ from_is in
           staged_word-padding c p same in_padding ∙ stored_padding c.stage (padding_header (c.place - c.from)) stored.0
           ∙ (λ i. padding_header (place_is i - from_is i))
-          ∙ sym (ap (word_at C e (claim_of c ∷ claims_of cs)) there
-          ∙ word_at_padding_header C e (claim_of c) (claims_of cs) (omega arith)))
+          ∙ sym (ap (word_at C e (claim_of c ∷ unplaced cs)) there
+          ∙ word_at_padding_header C e (claim_of c) (unplaced cs) (omega arith)))
           (λ other. staged_word-padding_behind c p other in_padding
-          ∙ sym (word_at_padding C e p (claim_of c) (claims_of cs) (omega arith)
+          ∙ sym (word_at_padding C e p (claim_of c) (unplaced cs) (omega arith)
           (λ same. other (same ∙ sym from_is))))
       | inr behind_padding ↦
           elim (cases_lt p (claim_end c)) as (λ _. staged_word_at (c ∷ cs) p
-          ≡ word_at C e (claim_of c ∷ claims_of cs) p) [
+          ≡ word_at C e (claim_of c ∷ unplaced cs) p) [
             | inl in_record ↦
                 here c cs p in_record ∙ staged_word-record c p behind_padding
                 ∙ stored_record c.stage (claim_word (claim_of c) (p - c.place)) stored.0
                 ∙ ap (λ k. claim_word (claim_of c) (p - k)) place_is
-                ∙ sym (word_at_record C e p (claim_of c) (claims_of cs) (omega arith) (omega arith))
+                ∙ sym (word_at_record C e p (claim_of c) (unplaced cs) (omega arith) (omega arith))
             | inr behind ↦
                 ap (λ b. cond b (staged_word c p) (staged_word_at cs p)) (le-ltb p (claim_end c) behind)
                 ∙ staged_word_at-claims_of C (claim_end c) cs p placed.1 stored.1
-                ∙ ap (λ k. word_at C (k + staged_span c) (claims_of cs) p) place_is
-                ∙ sym (word_at_rest C e p (claim_of c) (claims_of cs) (omega arith))
+                ∙ ap (λ k. word_at C (k + staged_span c) (unplaced cs) p) place_is
+                ∙ sym (word_at_rest C e p (claim_of c) (unplaced cs) (omega arith))
           ]
     ]
 
@@ -170,6 +170,6 @@ stored_rest s [] [] stored = tt
 stored_rest s [] (c ∷ cs) stored = stored
 stored_rest s (c ∷ cs) rest stored = stored_rest s cs rest stored.1
 
-pub claims_of-restarted : (s : ℕ) (rest : List StagedClaim) → claims_of (restarted s rest) ≡ claims_of rest
+pub claims_of-restarted : (s : ℕ) (rest : List StagedClaim) → unplaced (restarted s rest) ≡ unplaced rest
 claims_of-restarted s [] = refl
 claims_of-restarted s (c ∷ cs) = refl

@@ -63,14 +63,6 @@ times_drawn-more x n p =
 
 -- ---- heartbeats
 
-pub heartbeats_bounded : (low : ℕ) (stored : List ℕ) (xs : List (ℕ × ℕ)) → NeverGoBack low stored xs
-    → low ≤ length stored
-heartbeats_bounded low stored [] h = h
-heartbeats_bounded low stored (x ∷ xs) h =
-    let low_le = h.0 in
-    let below = at_below (0 ∷ stored) x.0 x.1 h.1 in
-    omega arith
-
 pub heartbeats_append : (low : ℕ) (stored : List ℕ) (xs : List (ℕ × ℕ)) (value : ℕ)
     → get_elem? (0 ∷ stored) (length stored) ≡ some value → NeverGoBack low stored xs
     → NeverGoBack low stored (xs ++ (length stored, value) ∷ [])

@@ -11,8 +11,8 @@ use Rattle.ring_layout.specs.History.{span}
 use Rattle.ring_layout.specs.Places.{next_place}
 use Rattle.ring_layout.specs.Headers.{header, header_of, padding_header, padding_type}
 use Rattle.ring_layout.specs.Picture.{claim_word}
-use Rattle.ring_table.specs.Staged.{StagedClaim, Stage, Moved, Padded, Stored, claim_of, state_of, masked_padding, masked_record, staged_word, body_word, IsStored}
-use Rattle.ring_table.specs.Changes.{fresh, fresh_stage, staged, opened, written, with_word}
+use Rattle.ring_table.specs.Staged.{StagedClaim, Stage, Moved, Padded, Stored, claim_of, stage_state, masked_padding, masked_record, staged_word, body_word, IsStored}
+use Rattle.ring_table.specs.Changes.{moved_claim, fresh_stage, staged, with_header, with_body_word, with_word}
 use Rattle.ring_table.proofs.BodyWords.{length-with_word, body_word-with_word_other, body_word-zeros}
 
 pub staged_word-header : (c : StagedClaim) (p : ℕ) → p ≡ c.place
@@ -59,11 +59,11 @@ staged_word-stored c p at stored e = staged_word-body c p at e ∙ unmasked c.st
     unmasked (Stored s) word stored = refl
 
 -- a claim shows nothing while no header is stored
-pub staged_word-fresh : (C e : ℕ) (type_id : ℤ) (n p : ℕ) → staged_word (fresh C e type_id n) p ≡ 0
+pub staged_word-fresh : (C e : ℕ) (type_id : ℤ) (n p : ℕ) → staged_word (moved_claim C e type_id n) p ≡ 0
 unfolding staged_word
 staged_word-fresh C e type_id n p =
     let place : ℕ = next_place C e (span n) in
-    let c : StagedClaim = fresh C e type_id n in
+    let c : StagedClaim = moved_claim C e type_id n in
     elim (cases_lt p place) as (λ _. staged_word c p ≡ 0) [
       | inl in_padding ↦ dite (ℕ_discrete p e)
           (λ at_it. staged_word-padding c p at_it in_padding
@@ -107,14 +107,14 @@ staged_word-staged c t p p8 place8 ne masks pads =
 
 -- a claim whose header is stored at last shows zeros in its body, and elsewhere the same
 pub staged_word-opened : (c : StagedClaim) (type_id : ℤ) (n p : ℕ) → p % 8 ≡ 0 → c.place % 8 ≡ 0 → p ≢ c.place
-    → c.stage ≡ Padded → staged_word (opened type_id n c) p ≡ staged_word c p
+    → c.stage ≡ Padded → staged_word (with_header type_id n c) p ≡ staged_word c p
 staged_word-opened c type_id n p p8 place8 ne is =
-    elim (cases_lt p c.place) as (λ _. staged_word (opened type_id n c) p ≡ staged_word c p) [
-      | inl in_padding ↦ same_padding c (opened type_id n c) p refl refl in_padding
+    elim (cases_lt p c.place) as (λ _. staged_word (with_header type_id n c) p ≡ staged_word c p) [
+      | inl in_padding ↦ same_padding c (with_header type_id n c) p refl refl in_padding
           (λ _. ap (λ t. masked_padding t (padding_header (c.place - c.from))) (sym is))
       | inr in_record ↦
           let at : ℕ = p - c.place - 8 in
-          staged_word-body (opened type_id n c) p at (omega arith) ∙ body_word-zeros n at
+          staged_word-body (with_header type_id n c) p at (omega arith) ∙ body_word-zeros n at
           ∙ sym (staged_word-body c p at (omega arith) ∙ ap (λ t. masked_record t (body_word c.message.body at)) is)
     ]
 
@@ -133,17 +133,17 @@ header_of_length Committed type_id body = refl
 header_of_length Aborted type_id body = refl
 
 pub header_of-written : (c : StagedClaim) (at word : ℕ) → at ≤ length c.message.body
-    → header_of (claim_of (written at word c)) ≡ header_of (claim_of c)
+    → header_of (claim_of (with_body_word at word c)) ≡ header_of (claim_of c)
 header_of-written c at word le =
-    header_of_length (state_of c.stage) c.message.type_id (with_word at word c.message.body)
-    ∙ ap (header_by (state_of c.stage) c.message.type_id) (length-with_word at word c.message.body le)
-    ∙ sym (header_of_length (state_of c.stage) c.message.type_id c.message.body)
+    header_of_length (stage_state c.stage) c.message.type_id (with_word at word c.message.body)
+    ∙ ap (header_by (stage_state c.stage) c.message.type_id) (length-with_word at word c.message.body le)
+    ∙ sym (header_of_length (stage_state c.stage) c.message.type_id c.message.body)
 
 -- a word of the body that is stored leaves the other words
 pub staged_word-written : (c : StagedClaim) (at word p : ℕ) → at ≤ length c.message.body → c.place % 8 ≡ 0 → at % 8 ≡ 0
-    → p % 8 ≡ 0 → p ≢ c.place + 8 + at → staged_word (written at word c) p ≡ staged_word c p
+    → p % 8 ≡ 0 → p ≢ c.place + 8 + at → staged_word (with_body_word at word c) p ≡ staged_word c p
 staged_word-written c at word p le place8 a8 p8 ne =
-    let d : StagedClaim = written at word c in
+    let d : StagedClaim = with_body_word at word c in
     elim (cases_lt p c.place) as (λ _. staged_word d p ≡ staged_word c p) [
       | inl in_padding ↦ same_padding c d p refl refl in_padding (λ _. refl)
       | inr in_record ↦ dite (ℕ_discrete p c.place)

@@ -15,12 +15,12 @@ use Rattle.ring_layout.specs.Places.{index}
 use Rattle.ring_layout.specs.Headers.{header_of, open_header, padding_header}
 use Rattle.ring_layout.proofs.HeaderLemmas.{len_of-header, type_of-header, fits_neg}
 use Rattle.ring_table.specs.Staged.{StagedClaim, Stage, Moved, Padded, Stored, claim_of, claim_end, staged_span, masked_padding, masked_record, staged_word, staged_word_at, staged_end, AreRising, IsStored}
-use Rattle.ring_table.specs.Changes.{blank, staged, opened, written, changed}
+use Rattle.ring_table.specs.Changes.{blank, staged, with_header, with_body_word, changed}
 use Rattle.ring_table.specs.Owners.{OwnedHistory, all_of, edited_one, edited}
 use Rattle.ring_table.specs.Passing.{IsSettled}
 use Rattle.ring_table.specs.Views.{View, with_claims}
 use Rattle.ring_table.specs.Rule.{Kept}
-use Rattle.ring_table.specs.ProducerSteps.{Mine, HasClaim, Changes, StoresPadding, StoresClaimed, StoresSettled, StoresBody, TakesWord}
+use Rattle.ring_table.specs.ProducerSteps.{Mine, HasClaim, Changes, StoresPadding, StoresClaimed, StoresSettled, StoresBody, IsWordOfBody}
 use Rattle.ring_table.proofs.StagedPlaces.{word_of_claim, one_at_place, one_at_position}
 use Rattle.ring_table.proofs.BodyWords.{length-with_word, body_word-with_word, bytes_of-with_word}
 use Rattle.ring_table.proofs.StagedWords.{staged_word-header, staged_word-padding, staged_word-stored, staged_word-staged, staged_word-opened, staged_word-written}
@@ -268,10 +268,10 @@ module _ (C start : ℕ) where
   opens slots id me cap k c type_id n value value_is big has is long lawful s r wide at small =
       let zeros : length (blank type_id n).body ≡ n = length-replicate n 0 in
       let short : n ≤ C / 8 = omega (arith, lawful.short) in
-      let t = header_step Padded (λ z. z) (opened type_id n) slots id me cap k c value has is
+      let t = header_step Padded (λ z. z) (with_header type_id n) slots id me cap k c value has is
       (record { from = refl; place = refl; same_span = ap span zeros ∙ long; message = λ _. lawful })
       (λ e. cc)
-      (staged_word-header (opened type_id n c) c.place refl ∙ ap (open_header type_id) zeros ∙ sym value_is)
+      (staged_word-header (with_header type_id n c) c.place refl ∙ ap (open_header type_id) zeros ∙ sym value_is)
       (λ p p8 place8 ne. staged_word-opened c type_id n p p8 place8 ne is) s r wide at small in (
         t.0,
         t.1,
@@ -283,14 +283,14 @@ module _ (C start : ℕ) where
               let same' = sym value_is ∙ same in
               let types = one_type type_id n type_id' n' lawful.type_fits (omega arith) fits' small' same' in
               let lengths = one_length type_id n type_id' n' (omega arith) small' same' in
-              subst (λ (z : ℤ × ℕ). Changes Padded (λ d. d.place) (opened z.0 z.1) (index C c.place) me.0 t.0)
+              subst (λ (z : ℤ × ℕ). Changes Padded (λ d. d.place) (with_header z.0 z.1) (index C c.place) me.0 t.0)
               (λ i. (types i, lengths i)) t.4.1),
           t.4.2,
         ),
       )
 
   pub puts : (slots id : ℕ) (me : Mine) → me.0.capacity ≡ C → (k : ℕ) (c : StagedClaim) (o value : ℕ)
-      → HasClaim me.0 k c → TakesWord o value c → value < 2 ^ 64
+      → HasClaim me.0 k c → IsWordOfBody o value c → value < 2 ^ 64
       → Allows (Ok C start) slots id me (index C (c.place + 8 + o)) (λ _. value)
       (λ _ me'. (me'.1 ≡ me.1) × StoresBody (index C (c.place + 8 + o)) value me.0 me'.0
       × AreRising me.0.producer.claims)
@@ -305,10 +305,10 @@ module _ (C start : ℕ) where
       let o8 = takes.aligned in
       let lt : o < n = takes.inside in
       let long = length-with_word o value c.message.body (omega arith) in (
-        with_claims (changed c.place (written o value) v.producer.claims) v,
+        with_claims (changed c.place (with_body_word o value) v.producer.claims) v,
         keeps,
         tt,
-        edits s.words s.views r id v at k c has un (written o value)
+        edits s.words s.views r id v at k c has un (with_body_word o value)
             (record {
               from = refl;
               place = refl;
@@ -322,7 +322,7 @@ module _ (C start : ℕ) where
               };
             })
             (λ stays. stays) q value (omega arith) (omega arith) (omega arith) (inl (omega arith))
-            (staged_word-stored (written o value c) q o (subst IsStored (sym takes.stage) tt) refl
+            (staged_word-stored (with_body_word o value c) q o (subst IsStored (sym takes.stage) tt) refl
             ∙ body_word-with_word c.message.body o value lt below_64 takes.zeros)
             (λ p p8 ne. staged_word-written c o value p (omega arith) place8 o8 p8 ne),
         (
@@ -340,7 +340,7 @@ module _ (C start : ℕ) where
               let places : c'.place ≡ c.place = one.0 in
               let positions : q' ≡ q = one.1 in
               let offsets : o ≡ o' = omega arith in
-              λ i. with_claims (changed (sym places i) (written (offsets i) value) v.producer.claims) v),
+              λ i. with_claims (changed (sym places i) (with_body_word (offsets i) value) v.producer.claims) v),
           rising s.words s.views r id v at,
         ),
       )

@@ -17,23 +17,23 @@ fresh_stage true = Padded
 fresh_stage false = Moved
 
 -- the claim of n bytes that a move of the tail from e makes
-abbrev pub fresh : ℕ → ℕ → ℤ → ℕ → StagedClaim
-fresh C e type_id n = let place = next_place C e
+abbrev pub moved_claim : ℕ → ℕ → ℤ → ℕ → StagedClaim
+moved_claim C e type_id n = let place = next_place C e
     (span n) in record { from = e; place = place; message = blank type_id n; stage = fresh_stage (e == place) }
 
 abbrev pub staged : Stage → StagedClaim → StagedClaim
 staged t c = record { from = c.from; place = c.place; message = c.message; stage = t }
 
 -- the claim with its header stored, which fixes its type id and length
-abbrev pub opened : ℤ → ℕ → StagedClaim → StagedClaim
-opened type_id n c = record { from = c.from; place = c.place; message = blank type_id n; stage = Stored Open }
+abbrev pub with_header : ℤ → ℕ → StagedClaim → StagedClaim
+with_header type_id n c = record { from = c.from; place = c.place; message = blank type_id n; stage = Stored Open }
 
 -- the body with the bytes of a word in place of its own from `at` on, as far as it goes
 abbrev pub with_word : ℕ → ℕ → List ℕ → List ℕ
 with_word at word body = overwritten at (take (length body - at) (to_le_bytes w64 word)) body
 
-abbrev pub written : ℕ → ℕ → StagedClaim → StagedClaim
-written at word c = record {
+abbrev pub with_body_word : ℕ → ℕ → StagedClaim → StagedClaim
+with_body_word at word c = record {
   from = c.from;
   place = c.place;
   message =

@@ -3,7 +3,7 @@ use Rattle.std.specs.Prelude.{◌≡◌, ℕ, ◌/◌, ◌<◌, List, [], ◌∷
 use Rattle.ring_layout.specs.Places.{end_of}
 use Rattle.ring_layout.specs.Layout.{ring_words, tail_index, head_cache_index, head_index, correlation_index, heartbeat_index, IsUnnamed}
 use Rattle.ring_layout.specs.Picture.{IsPicture}
-use Rattle.ring_table.specs.Staged.{StagedClaim, claims_of, ArePlaced, staged_end}
+use Rattle.ring_table.specs.Staged.{StagedClaim, unplaced, ArePlaced, staged_end}
 use Rattle.ring_table.specs.Passing.{AreSettled, placed_committed_of}
 use Rattle.ring_table.specs.Services.{times_drawn, once_below, AreServed}
 use Rattle.ring_table.specs.Views.{View}
@@ -44,5 +44,5 @@ pub record LeavesRest (C : ℕ) (words : List ℕ) (v : View) : Type 0 where
   pub settled : AreSettled taken
   pub messages : v.consumer.taken ≡ placed_committed_of taken
   pub placed : ArePlaced C v.consumer.head (restarted v.consumer.head rest)
-  pub end_is : slice_index words (tail_index C) ≡ end_of C v.consumer.head (claims_of rest)
-  pub picture : IsPicture (λ i. slice_index words i) C v.consumer.head (claims_of rest)
+  pub end_is : slice_index words (tail_index C) ≡ end_of C v.consumer.head (unplaced rest)
+  pub picture : IsPicture (λ i. slice_index words i) C v.consumer.head (unplaced rest)

@@ -2,7 +2,7 @@
 use Rattle.std.specs.Prelude.{ℕ, ◌<◌, List, [], ◌∷◌, ⊤}
 use Rattle.ring_layout.specs.declared.message.ClaimState.{ClaimState}
 use Rattle.ring_layout.specs.declared.message.ClaimState.TheVariants.{Open, Committed, Aborted}
-use Rattle.ring_table.specs.Staged.{StagedClaim, state_of}
+use Rattle.ring_table.specs.Staged.{StagedClaim, stage_state}
 use Rattle.ring_table.specs.Services.{total}
 
 -- 1 for an open claim
@@ -12,7 +12,7 @@ one_if_open Committed = 0
 one_if_open Aborted = 0
 
 abbrev pub open_count : List StagedClaim → ℕ
-open_count cs = total (λ (c : StagedClaim). one_if_open (state_of c.stage)) cs
+open_count cs = total (λ (c : StagedClaim). one_if_open (stage_state c.stage)) cs
 
 -- the places of the claims are below p
 abbrev pub AreBelow : ℕ → List StagedClaim → Type 0

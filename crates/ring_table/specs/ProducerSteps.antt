@@ -11,7 +11,7 @@ use Rattle.ring_layout.specs.Places.{index, end_after, max_position}
 use Rattle.ring_layout.specs.Headers.{open_header}
 use Rattle.ring_layout.specs.Layout.{tail_index, head_index}
 use Rattle.ring_table.specs.Staged.{StagedClaim, Stage, Moved, Padded, Stored, claim_end, staged_span, body_word, AreRising}
-use Rattle.ring_table.specs.Changes.{blank, fresh, staged, opened, written, changed}
+use Rattle.ring_table.specs.Changes.{blank, moved_claim, staged, with_header, with_body_word, changed}
 use Rattle.ring_table.specs.Views.{View, Wanted, logged, with_producer, with_tail, with_head, with_claims, with_claim}
 
 -- a seat's view with its slots, which a ring does not use
@@ -54,7 +54,7 @@ pub record IsClaimable (C old new : ℕ) (type_id : ℤ) (n seen_head : ℕ) : T
 
 -- the exchange found the tail `old`, and the claim is made behind all that the producer has, or it found a later tail
 pub record MovesTail (C old new : ℕ) (wanted : Wanted) (v : View) (n : ℕ) (w : View) : Type 0 where
-  pub hit : n ≡ old → w ≡ with_claim (fresh C old wanted.type_id wanted.len) new v
+  pub hit : n ≡ old → w ≡ with_claim (moved_claim C old wanted.type_id wanted.len) new v
   pub behind : n ≡ old → EndBelow old v.producer.claims
   pub miss : n ≢ old → w ≡ logged (tail_index C) n (with_producer (with_tail n v.producer) v)
   pub later : v.producer.seen_tail ≤ n
@@ -67,7 +67,7 @@ pub record MovesOwnTail (C new : ℕ) (v w : View) : Type 0 where
   pub len : ℕ
   pub message : IsMessage C (blank type_id len)
   pub new_tail : new ≡ end_after C v.producer.seen_tail (span len)
-  pub view : w ≡ with_claim (fresh C v.producer.seen_tail type_id len) new v
+  pub view : w ≡ with_claim (moved_claim C v.producer.seen_tail type_id len) new v
   pub behind : EndBelow v.producer.seen_tail v.producer.claims
 
 -- ---- claims
@@ -98,7 +98,7 @@ StoresPadding word v w = Changes Moved (λ c. c.from) (staged Padded) word v w
 -- the header that is stored fixes type id and length
 abbrev pub StoresClaimed : ℕ → ℕ → View → View → Type 0
 StoresClaimed word value v w = (type_id : ℤ) (n : ℕ) → FitsSigned w32 type_id → 8 + n < 2 ^ 31
-    → value ≡ open_header type_id n → Changes Padded (λ c. c.place) (opened type_id n) word v w
+    → value ≡ open_header type_id n → Changes Padded (λ c. c.place) (with_header type_id n) word v w
 
 abbrev pub StoresSettled : ClaimState → ℕ → View → View → Type 0
 StoresSettled s word v w = Changes (Stored Open) (λ c. c.place) (staged (Stored s)) word v w
@@ -106,7 +106,7 @@ StoresSettled s word v w = Changes (Stored Open) (λ c. c.place) (staged (Stored
 abbrev pub StoresBody : ℕ → ℕ → View → View → Type 0
 StoresBody word value v w = (k : ℕ) (c : StagedClaim) (at : ℕ) → HasClaim v k c → c.stage ≡ Stored Open → at % 8 ≡ 0
     → at < length c.message.body → index v.capacity (c.place + 8 + at) ≡ word
-    → w ≡ with_claims (changed c.place (written at value) v.producer.claims) v
+    → w ≡ with_claims (changed c.place (with_body_word at value) v.producer.claims) v
 
 -- the number loaded is the word of an own open claim's body, which has bytes
 abbrev pub LoadsOwn : ℕ → View → ℕ → Type 0
@@ -128,13 +128,13 @@ pub record NeedsHeader (n : ℕ) (c : StagedClaim) : Type 0 where
   pub same_span : span n ≡ staged_span c
 
 -- the claim is open, with this type id and length
-pub record IsOpen (type_id : ℤ) (n : ℕ) (c : StagedClaim) : Type 0 where
+pub record IsStagedOpen (type_id : ℤ) (n : ℕ) (c : StagedClaim) : Type 0 where
   pub stage : c.stage ≡ Stored Open
   pub type_is : c.message.type_id ≡ type_id
   pub len_is : length c.message.body ≡ n
 
 -- the value may be the body's word at the offset `at`: its bytes behind the body are 0
-pub record TakesWord (at value : ℕ) (c : StagedClaim) : Type 0 where
+pub record IsWordOfBody (at value : ℕ) (c : StagedClaim) : Type 0 where
   pub stage : c.stage ≡ Stored Open
   pub aligned : at % 8 ≡ 0
   pub inside : at < length c.message.body

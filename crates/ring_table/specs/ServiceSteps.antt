@@ -19,7 +19,7 @@ pub record DrawsId (v : View) (n : ℕ) (w : View) : Type 0 where
   pub view : w ≡ with_producer (with_draw number v.producer) v
   pub rising : AreRisingBelow 0 number v.producer.service.draws
 
--- the heartbeat at some index, not before any that this producer read
+-- the heartbeat at some index of those stored. By `NeverGoBack` of the rule it is none before one read earlier
 pub record LoadsHeartbeat (C : ℕ) (v : View) (n : ℕ) (w : View) : Type 0 where
   pub nth : ℕ
   pub view : w ≡ logged (heartbeat_index C) n (with_producer (with_heartbeat nth n v.producer) v)

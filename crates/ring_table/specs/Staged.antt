@@ -14,18 +14,18 @@ pub use Rattle.ring_table.specs.declared.claim.Stage.{Stage}
 pub use Rattle.ring_table.specs.declared.claim.Stage.TheVariants.{Moved, Padded, Stored}
 
 -- the state of a claim, which is open until it is settled
-abbrev pub state_of : Stage → ClaimState
-state_of Moved = Open
-state_of Padded = Open
-state_of (Stored s) = s
+abbrev pub stage_state : Stage → ClaimState
+stage_state Moved = Open
+stage_state Padded = Open
+stage_state (Stored s) = s
 
 -- the claim without its place and stage
 abbrev pub claim_of : StagedClaim → Claim
-claim_of c = record { message = c.message; state = state_of c.stage }
+claim_of c = record { message = c.message; state = stage_state c.stage }
 
-abbrev pub claims_of : List StagedClaim → List Claim
-claims_of [] = []
-claims_of (c ∷ cs) = claim_of c ∷ claims_of cs
+abbrev pub unplaced : List StagedClaim → List Claim
+unplaced [] = []
+unplaced (c ∷ cs) = claim_of c ∷ unplaced cs
 
 -- the bytes of a claim's record
 abbrev pub staged_span : StagedClaim → ℕ

@@ -5,7 +5,7 @@ ghost use lib.ListN.{get_elem?};
 ghost use Rattle.ring_layout.specs.Places.{end_of};
 ghost use Rattle.ring_layout.specs.Picture.{word_at};
 ghost use Rattle.ring_table.specs.Staged.{ArePlaced, AreRising, AreStored, StagedClaim};
-ghost use Rattle.ring_table.specs.Staged.{claims_of, staged_end, staged_word_at, state_of};
+ghost use Rattle.ring_table.specs.Staged.{unplaced, staged_end, staged_word_at, stage_state};
 ghost use Rattle.ring_table.specs.Changes.{changed};
 ghost use Rattle.ring_table.specs.Owners.{interleaved};
 ghost use Rattle.ring_table.specs.Passing.{AreSettled};
@@ -16,9 +16,9 @@ ghost use Rattle.ring_table.specs.OpenClaims.{AreBelow, one_if_open, open_count}
 /// and both end at one position.
 pub fn stored_claims_show_one_picture()
     ensures word { (capacity e : ℕ) (cs : List StagedClaim) (p : ℕ) → ArePlaced capacity e cs → AreStored cs
-        → staged_word_at cs p ≡ word_at capacity e (claims_of cs) p }
+        → staged_word_at cs p ≡ word_at capacity e (unplaced cs) p }
     ensures end { (capacity e : ℕ) (cs : List StagedClaim) → ArePlaced capacity e cs
-        → staged_end e cs ≡ end_of capacity e (claims_of cs) }
+        → staged_end e cs ≡ end_of capacity e (unplaced cs) }
 {}
 
 /// A claim behind all others that one of two producers gets stands at the end of their claims put together, and changes
@@ -42,7 +42,7 @@ pub fn open_claims_are_counted()
     ensures join { (xs ys : List StagedClaim) → open_count (interleaved xs ys) ≡ open_count xs + open_count ys }
     ensures change { (f : StagedClaim → StagedClaim) (cs : List StagedClaim) (k : ℕ) (c : StagedClaim)
         → AreRising cs → get_elem? cs k ≡ some c
-        → open_count (changed c.place f cs) + one_if_open (state_of c.stage)
-        ≡ open_count cs + one_if_open (state_of (f c).stage) }
+        → open_count (changed c.place f cs) + one_if_open (stage_state c.stage)
+        ≡ open_count cs + one_if_open (stage_state (f c).stage) }
     ensures none { (cs : List StagedClaim) → open_count cs ≡ 0 → AreSettled cs × AreStored cs }
 {}

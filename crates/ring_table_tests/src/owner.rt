@@ -8,7 +8,7 @@ ghost use Rattle.ring_layout.specs.Places.{max_position, next_place};
 ghost use Rattle.ring_table.specs.Staged.{staged_span};
 ghost use Rattle.ring_table.specs.Changes.{fresh_stage};
 ghost use Rattle.ring_table.specs.Views.{first_view};
-ghost use Rattle.ring_table.specs.ProducerSteps.{HasClaimAt, IsClaimable, IsOpen, NeedsHeader};
+ghost use Rattle.ring_table.specs.ProducerSteps.{HasClaimAt, IsClaimable, IsStagedOpen, NeedsHeader};
 ghost use Rattle.ring_table.specs.ConsumerSteps.{FindsMessage, PassesPadding};
 ghost use Rattle.ring_table.specs.Seats.{IsSameSeat, IsSeatOf};
 
@@ -164,7 +164,7 @@ impl Owner {
     /// Stores the claimed header.
     fn open(&mut self, place: u64)
         requires { HasClaimAt self.old.seat.me.0 place (NeedsHeader 16) }
-        ensures { HasClaimAt self.new.seat.me.0 place (IsOpen (pos 1) 16) }
+        ensures { HasClaimAt self.new.seat.me.0 place (IsStagedOpen (pos 1) 16) }
     {
         let table = &self.table;
         store_claimed_header(&table.shared, &mut self.seat, 128, place, SIXTEEN);
@@ -175,8 +175,8 @@ impl Owner {
         requires range { place + 24 ≤ max_position }
         requires inside { at < 16 }
         requires aligned { at % 8 ≡ 0 }
-        requires open { HasClaimAt self.old.seat.me.0 place (IsOpen (pos 1) 16) }
-        ensures { HasClaimAt self.new.seat.me.0 place (IsOpen (pos 1) 16) }
+        requires open { HasClaimAt self.old.seat.me.0 place (IsStagedOpen (pos 1) 16) }
+        ensures { HasClaimAt self.new.seat.me.0 place (IsStagedOpen (pos 1) 16) }
     {
         let table = &self.table;
         store_body_word(
@@ -192,14 +192,14 @@ impl Owner {
     }
 
     fn commit(&mut self, place: u64)
-        requires { HasClaimAt self.old.seat.me.0 place (IsOpen (pos 1) 16) }
+        requires { HasClaimAt self.old.seat.me.0 place (IsStagedOpen (pos 1) 16) }
     {
         let table = &self.table;
         store_committed_header(&table.shared, &mut self.seat, 128, place, SIXTEEN);
     }
 
     fn abort(&mut self, place: u64)
-        requires { HasClaimAt self.old.seat.me.0 place (IsOpen (pos 1) 16) }
+        requires { HasClaimAt self.old.seat.me.0 place (IsStagedOpen (pos 1) 16) }
     {
         let table = &self.table;
         store_aborted_header(&table.shared, &mut self.seat, 128, place, SIXTEEN);

@@ -50,19 +50,6 @@ word_copied words old new at k room is before =
     more_copied words old new (to_le_bytes w64 (slice_index words (at + k))) at k room (omega arith) is
     (byte_of_bytes (slice_index words (at + k))) before
 
-pub rest_copied : (words old new : List ℕ) (at k : ℕ) → 8 * k < length old → length old < 8 * k + 8
-    → new ≡ overwritten (8 * k) (take (length old - 8 * k) (to_le_bytes w64 (slice_index words (at + k)))) old
-    → CopiesWords words at (8 * k) old → (length new ≡ length old) × CopiesWords words at (length old) new
-rest_copied words old new at k some few is before =
-    let word : ℕ = slice_index words (at + k) in
-    let part : List ℕ = take (length old - 8 * k) (to_le_bytes w64 word) in
-    let len : length part ≡ length old - 8 * k =
-    length-take-le (length old - 8 * k) (to_le_bytes w64 word) (omega arith) in
-    let more = more_copied words old new part at k (omega arith) (omega arith) is
-    (λ i lt. get_or-take (length old - 8 * k) (to_le_bytes w64 word) i 0 (omega arith)
-    ∙ byte_of_bytes word i (omega arith)) before in
-    (more.0, λ j lt. more.1 j (omega arith))
-
 module _ (r : Ring) (c : Claim) (rest : List Claim) (ok : IsRing r) (has : Has r (c ∷ rest)) (at : IsAtHead r c) where
   lawful : IsMessage r.capacity c.message
   lawful = All-head (λ (x : Claim). IsMessage r.capacity x.message) c rest has.lawful

@@ -6,7 +6,7 @@ ghost use Rattle.ring_layout.specs.Places.{max_position};
 ghost use Rattle.ring_board.specs.declared.shared.view.Stage.TheVariants.{Behind, Reading};
 ghost use Rattle.ring_board.specs.Records.{announced, body_len, word_count, is_padding};
 ghost use Rattle.ring_board.specs.Steps.{IsSound, LoadsLatest, Sat};
-ghost use Rattle.ring_board.specs.Receiving.{RestsAt, FoundIs, NearIs, IsInside, CopiedWords, TookAll, TookNone, GotNothing, GotCopy, GotLapped, GotRecord, GotMiss};
+ghost use Rattle.ring_board.specs.Receiving.{RestsAt, FoundIs, NearIs, IsInBuffer, CopiedWords, TookAll, FailedValidation, GotNothing, GotCopy, GotLapped, GotRecord, GotMiss};
 ghost use Rattle.ring_board.specs.Seats.{IsSeatOf, IsSameSeat};
 
 use crate::board::{Board, RawRecord};
@@ -96,7 +96,7 @@ impl Board {
         requires stage { RestsAt self.now.capacity place seat.old.me }
         ensures same { IsSameSeat seat.old seat.new }
         ensures got { MatchResult result (λ o. MatchOption o (GotNothing seat.old.me seat.new.me)
-            (λ r. GotRecord r seat.old.me seat.new.me × IsInside seat.old.me.0.capacity r))
+            (λ r. GotRecord r seat.old.me seat.new.me × IsInBuffer seat.old.me.0.capacity r))
             (λ m. GotMiss m.place m.intent seat.old.me seat.new.me) }
     {
         match self.approach(seat, place) {
@@ -150,7 +150,7 @@ impl Board {
         requires room { length scratch.old ≡ self.now.capacity / 8 }
         ensures same { IsSameSeat seat.old seat.new }
         ensures took { MatchResult result (λ len. TookAll header len scratch.new seat.old.me seat.new.me
-            × (len ≡ body_len header)) (λ x. TookNone x seat.old.me seat.new.me) }
+            × (len ≡ body_len header)) (λ x. FailedValidation x seat.old.me seat.new.me) }
     {
         let len = announced(header) as usize - HEADER_LENGTH;
         self.copy_body(seat, place, len.div_ceil(8), scratch);

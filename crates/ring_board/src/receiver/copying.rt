@@ -59,13 +59,13 @@ impl CopyReceiver {
     ghost use Rattle.std.specs.Borrow.{sem};
     ghost use Rattle.std.specs.Prelude.{vec_len};
     ghost use Rattle.ring_board.specs.Receiving.{GotNothing, GotCopy, GotLapped};
-    ghost use Rattle.ring_board.specs.Seats.{IsReceiverOf, receiver_seat, stands_at, lapped_count_of, Received};
+    ghost use Rattle.ring_board.specs.Seats.{IsReceiverOf, receiver_seat, place_in, lapped_count_of, Received};
     ghost use Rattle.ring_board.specs.Lending.{Rests};
 
     /// Where it stands, as a position in bytes: the next call looks for a record there. After `Lapped` the bytes that
     /// it passed over are this less `Lapped.place`; they are never 0.
     pub fn place(&self) -> u64
-        ensures { result ≡ stands_at self.now }
+        ensures { result ≡ place_in self.now }
     {
         self.receiver.place
     }

@@ -53,7 +53,7 @@ impl Board {
 impl Receiver {
     ghost use Rattle.ring_board.specs.Bodies.{GaveBody, IsRight, Validated};
     ghost use Rattle.ring_board.specs.Receiving.{GotNothing, GotCopy, GotLapped};
-    ghost use Rattle.ring_board.specs.Seats.{IsRawOf, IsAnswered, raw_seat, raw_view, raw_stands_at, raw_lapped_count_of, ReceivedNext, StaysAnswered, place_of, len_of};
+    ghost use Rattle.ring_board.specs.Seats.{IsRawOf, IsAnsweredRecord, raw_seat, raw_view, raw_stands_at, raw_lapped_count_of, ReceivedNext, StaysAnswered, place_of, len_of};
 
     /// Where it stands, as a position in bytes: the next call looks for a record there. After `Lapped` the bytes that
     /// it passed over are this less `Lapped.place`; they are never 0.
@@ -127,7 +127,7 @@ impl Receiver {
     /// be those of another record, unless `validate` then says true. The rest of `out` stays.
     pub fn load_body(&mut self, board: &Board, raw: &RawRecord, out: &mut [u8])
         requires board { IsRawOf board.now self.old }
-        requires raw { IsAnswered (raw_view self.old) raw.now }
+        requires raw { IsAnsweredRecord (raw_view self.old) raw.now }
         requires room { len_of raw.now ≤ length out.old }
         ensures board { IsRawOf board.now self.new }
         ensures gave { GaveBody (place_of raw.now) (take (len_of raw.now) out.new) (raw_seat self.old)
@@ -142,7 +142,7 @@ impl Receiver {
     /// each body of it that `load_body` gave before is the one that was transmitted.
     pub fn validate(&mut self, board: &Board, raw: &RawRecord) -> bool
         requires board { IsRawOf board.now self.old }
-        requires raw { IsAnswered (raw_view self.old) raw.now }
+        requires raw { IsAnsweredRecord (raw_view self.old) raw.now }
         ensures board { IsRawOf board.now self.new }
         ensures validated { Validated raw.now result (raw_seat self.old) (raw_seat self.new) }
         ensures right { result ≡ true → IsRight (raw_view self.old) raw.now }
@@ -156,13 +156,13 @@ impl Receiver {
 impl Board {
     ghost use Rattle.ring_board.specs.declared.shared.view.Stage.TheVariants.{Resting};
     ghost use Rattle.ring_board.specs.Bodies.{GaveBody};
-    ghost use Rattle.ring_board.specs.Seats.{IsAnswered, place_of, len_of};
+    ghost use Rattle.ring_board.specs.Seats.{IsAnsweredRecord, place_of, len_of};
 
     /// Loads the body of a record that was answered unread, which is as long as `out`.
     fn load_answered(&self, seat: &mut BoardSeat, raw: &RawRecord, out: &mut [u8])
         requires seat { IsSeatOf self.now seat.old }
         requires stage { (seat.old.me.0.stage ≡ Resting) × (seat.old.me.0.capacity ≡ self.now.capacity) }
-        requires raw { IsAnswered seat.old.me.0 raw.now × (length out.old ≡ len_of raw.now) }
+        requires raw { IsAnsweredRecord seat.old.me.0 raw.now × (length out.old ≡ len_of raw.now) }
         ensures same { IsSameSeat seat.old seat.new }
         ensures gave { GaveBody (place_of raw.now) out.new seat.old.me seat.new.me }
     {

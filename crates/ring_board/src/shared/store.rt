@@ -7,8 +7,8 @@ ghost use Rattle.ring_layout.specs.Headers.{padding_header};
 ghost use Rattle.ring_board.specs.declared.shared.view.Record.{Record};
 ghost use Rattle.ring_board.specs.declared.shared.view.Draft.{Draft};
 ghost use Rattle.ring_board.specs.declared.shared.view.Stage.TheVariants.{Idle, Begun, Storing, Written, Shown};
-ghost use Rattle.ring_board.specs.Records.{end, Lies, words_of, header_of};
-ghost use Rattle.ring_board.specs.Steps.{staged, place_before, after_words, StoresIntent, StoresPadding, StoresWord, StoresHeader, StoresLatest, StoresTail};
+ghost use Rattle.ring_board.specs.Records.{end, Lies, words_of_body, header_of};
+ghost use Rattle.ring_board.specs.Steps.{at_stage, place_before, after_words, StoresIntent, StoresPadding, StoresWord, StoresHeader, StoresLatest, StoresTail};
 ghost use Rattle.ring_board.specs.Seats.{IsSeatOf, IsSameSeat};
 
 use crate::board::Board;
@@ -81,7 +81,8 @@ impl Board {
     pub(crate) fn store_header(&self, seat: &mut BoardSeat, place: u64, word: u64)
         requires seat { IsSeatOf self.now seat.old }
         requires stage { (d : Draft) × (m : Message) × (seat.old.me.0.stage ≡ Storing d) × (place ≡ d.place)
-            × IsMessage self.now.capacity m × (words_of m.body ≡ d.words) × (d.place + span (length m.body) ≡ d.end)
+            × IsMessage self.now.capacity m × (words_of_body m.body ≡ d.words)
+                × (d.place + span (length m.body) ≡ d.end)
             × (word ≡ header_of m) }
         ensures same { IsSameSeat seat.old seat.new }
         ensures written { StoresHeader seat.old.me word seat.new.me }
@@ -124,7 +125,7 @@ impl Board {
         requires inside { place % self.now.capacity + span (length body.now) ≤ self.now.capacity }
         ensures same { IsSameSeat seat.old seat.new }
         ensures put { seat.new.me
-            ≡ (staged seat.old.me.0 (after_words seat.old.me.0.stage (words_of body.now)), seat.old.me.1) }
+            ≡ (at_stage seat.old.me.0 (after_words seat.old.me.0.stage (words_of_body body.now)), seat.old.me.1) }
     {
         let first = self.index(place) + 1;
         for k in 0..body.len().div_ceil(8) {

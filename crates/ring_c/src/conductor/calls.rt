@@ -1,6 +1,6 @@
 //! What a conductor does.
 ghost use Rattle.std.specs.Prelude.{◌≡◌, IfErr, IfOk};
-ghost use Rattle.ring_c.specs.Conducting.{report, stop_number, ConductorBeat, Hires, IsUnhired, Worked};
+ghost use Rattle.ring_c.specs.Conducting.{report_out, stop_number, ConductorBeat, Hires, IsUnhired, Worked};
 
 use crate::client::ClientSide;
 use crate::code::{BAD_MOMENT, DONE, NO_SHARES, OUT_OF_MEMORY};
@@ -60,7 +60,7 @@ impl ConductorSide {
         messages: &mut u64,
         stopped: &mut i32,
     ) -> i32
-        ensures { Worked now limit (report messages.old stopped.old) (report messages.new stopped.new)
+        ensures { Worked now limit (report_out messages.old stopped.old) (report_out messages.new stopped.new)
             self.old self.new result }
     {
         if now > LAST_MOMENT {

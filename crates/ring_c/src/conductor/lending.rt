@@ -1,6 +1,6 @@
 //! What a conductor lends to receivers of its replies and to readers of its values.
 ghost use Rattle.std.specs.Prelude.{◌≡◌, IfErr, IfOk};
-ghost use Rattle.ring_c.specs.Seating.{IsUnheard, IsUnread, LendsReader, LendsReceiver};
+ghost use Rattle.ring_c.specs.Seating.{IsUnheard, WhyNotSeated, LendsReader, LendsReceiver};
 
 use crate::boards::ReceiverSide;
 use crate::code::{NO_SHARES, OUT_OF_MEMORY};
@@ -35,7 +35,7 @@ impl ConductorSide {
     /// Makes a reader of the counters' values.
     pub(crate) fn reader(&mut self) -> Result<ReaderSide, i32>
         ensures lent { IfOk result (LendsReader self.old self.new) }
-        ensures refused { IfErr result (λ code. (self.new ≡ self.old) × IsUnread self.old code) }
+        ensures refused { IfErr result (λ code. (self.new ≡ self.old) × WhyNotSeated self.old code) }
     {
         let Ok(shared) = Arc::try_clone(&self.shared) else {
             return Err(OUT_OF_MEMORY);

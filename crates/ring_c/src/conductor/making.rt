@@ -1,6 +1,6 @@
 //! How a conductor is made.
 ghost use Rattle.std.specs.Prelude.{◌≡◌, ◌≢◌, pos, None, Some, IfOk, MatchResult};
-ghost use Rattle.ring_c.specs.Conducting.{sizes_refused, IsConductorCode, IsFresh};
+ghost use Rattle.ring_c.specs.Conducting.{sizes_refused, IsConductorCode, IsNewConductor};
 
 use crate::code::{BAD_CAPACITY, BAD_COUNT, OUT_OF_MEMORY};
 use crate::conductor::ConductorSide;
@@ -45,7 +45,7 @@ impl Sizes {
 impl ConductorSide {
     /// Makes a conductor with all its parts. The sizes are tested before memory is taken.
     pub(crate) fn new(alloc: Global, sizes: Sizes) -> Result<ConductorSide, i32>
-        ensures made { IfOk result (IsFresh sizes.capacity sizes.replies sizes.counters sizes.reuse_ms) }
+        ensures made { IfOk result (IsNewConductor sizes.capacity sizes.replies sizes.counters sizes.reuse_ms) }
         ensures code { MatchResult result (λ _. IsConductorCode sizes.capacity sizes.replies sizes.counters (pos 0))
             (λ code. IsConductorCode sizes.capacity sizes.replies sizes.counters code × (code ≢ pos 0)) }
     {

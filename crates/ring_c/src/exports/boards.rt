@@ -1,7 +1,7 @@
 //! What handles of a board do.
 ghost use Rattle.std.specs.Prelude.{◌≡◌, ◌≢◌, pos, IfOk, MatchResult};
 ghost use Rattle.std.specs.declared.option.Option.TheVariants.{None, Some};
-ghost use Rattle.ring_c.specs.Boards.{heard, IsUnheard, Received, SaysLapped, Subscribes, Transmitted};
+ghost use Rattle.ring_c.specs.Boards.{heard_out, IsUnheard, Received, SaysLapped, Subscribes, Transmitted};
 ghost use Rattle.ring_c.specs.Told.{a_receiver, a_transmitter, Gives, GivesInto, HoldNewBoard, IsBoardCode, OpensBoard, Uses, Yields};
 
 use crate::boards::TransmitterSide;
@@ -104,8 +104,8 @@ pub extern "C" fn felter_receive(
     lapped: &mut u64,
     buffer: &mut [u8],
 ) -> i32
-    ensures { Yields a_receiver Received (heard type_id.old len.old lapped.old buffer.old)
-        (heard type_id.new len.new lapped.new buffer.new) receiver.old.held receiver.new.held result }
+    ensures { Yields a_receiver Received (heard_out type_id.old len.old lapped.old buffer.old)
+        (heard_out type_id.new len.new lapped.new buffer.new) receiver.old.held receiver.new.held result }
 {
     work_on!(receiver, alloc, Receiver(side) => side.receive(type_id, len, lapped, buffer))
 }

@@ -2,7 +2,7 @@
 ghost use Rattle.std.specs.Prelude.{◌≡◌, ◌≢◌, pos, IfOk, MatchResult};
 ghost use Rattle.std.specs.declared.option.Option.TheVariants.{None, Some};
 ghost use Rattle.ring_c.specs.Concluding.{HoldNewConductor, OpensConductor};
-ghost use Rattle.ring_c.specs.Conducting.{report, ConductorBeat, Hires, IsConductorCode, IsUnhired, Worked};
+ghost use Rattle.ring_c.specs.Conducting.{report_out, ConductorBeat, Hires, IsConductorCode, IsUnhired, Worked};
 ghost use Rattle.ring_c.specs.Told.{a_client, a_conductor, Gives, GivesInto, Uses, Yields};
 
 use crate::code::{HANDLE_IN_USE, OUT_OF_MEMORY};
@@ -82,8 +82,8 @@ pub extern "C" fn felter_conductor_work(
     messages: &mut u64,
     stopped: &mut i32,
 ) -> i32
-    ensures { Yields a_conductor (Worked now limit) (report messages.old stopped.old)
-        (report messages.new stopped.new) conductor.old.held conductor.new.held result }
+    ensures { Yields a_conductor (Worked now limit) (report_out messages.old stopped.old)
+        (report_out messages.new stopped.new) conductor.old.held conductor.new.held result }
 {
     work_on!(conductor, alloc, Conductor(side) => side.work(now, limit, messages, stopped))
 }

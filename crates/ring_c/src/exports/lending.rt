@@ -2,7 +2,7 @@
 ghost use Rattle.std.specs.Prelude.{◌≡◌};
 ghost use Rattle.std.specs.declared.option.Option.TheVariants.{None};
 ghost use Rattle.ring_c.specs.Seating.{lends_client, lends_reader, lends_receiver, AreOfOneConductor};
-ghost use Rattle.ring_c.specs.Seating.{IsForeign, IsUnheard, IsUnread, LendsReader, LendsReceiver};
+ghost use Rattle.ring_c.specs.Seating.{IsForeign, IsUnheard, WhyNotSeated, LendsReader, LendsReceiver};
 ghost use Rattle.ring_c.specs.Seating.{TakesClient, TakesReader, TakesReceiver};
 ghost use Rattle.ring_c.specs.Told.{a_client, a_conductor, a_reader, a_receiver, Gives, GivesInto, JoinsInto};
 
@@ -39,7 +39,7 @@ pub extern "C" fn felter_conductor_subscribe(
 /// Makes a reader for an empty handle. The room for it is taken first.
 fn read_into(alloc: Global, conductor: &mut Handle, reader: &mut Handle) -> i32
     requires { reader.old.held ≡ None }
-    ensures { Gives a_conductor a_reader LendsReader IsUnread conductor.old.held conductor.new.held reader.new.held
+    ensures { Gives a_conductor a_reader LendsReader WhyNotSeated conductor.old.held conductor.new.held reader.new.held
         result }
 {
     make_into!(conductor, alloc, Conductor(side) => side.reader(), reader, Reader)
@@ -52,7 +52,7 @@ pub extern "C" fn felter_conductor_reader(
     conductor: &mut Handle,
     reader: &mut Handle,
 ) -> i32
-    ensures { GivesInto a_conductor a_reader LendsReader IsUnread conductor.old.held reader.old.held
+    ensures { GivesInto a_conductor a_reader LendsReader WhyNotSeated conductor.old.held reader.old.held
         conductor.new.held reader.new.held result }
 {
     if !reader.is_empty(alloc) {

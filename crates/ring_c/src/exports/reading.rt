@@ -1,7 +1,7 @@
 //! Readers of counters' values.
 ghost use Rattle.std.specs.Prelude.{◌≡◌};
 ghost use Rattle.std.specs.declared.option.Option.TheVariants.{None};
-ghost use Rattle.ring_c.specs.Lending.{IsLast, Lends, Loaded};
+ghost use Rattle.ring_c.specs.Lending.{WhyNotLent, Lends, Loaded};
 ghost use Rattle.ring_c.specs.Told.{a_reader, some_counters, Gives, GivesInto, Yields};
 
 use crate::code::HANDLE_IN_USE;
@@ -12,7 +12,7 @@ use std::alloc::Global;
 /// Makes a reader for an empty handle. The room for it is taken first.
 fn lend_into(alloc: Global, counters: &mut Handle, reader: &mut Handle) -> i32
     requires { reader.old.held ≡ None }
-    ensures { Gives some_counters a_reader Lends IsLast counters.old.held counters.new.held reader.new.held result }
+    ensures { Gives some_counters a_reader Lends WhyNotLent counters.old.held counters.new.held reader.new.held result }
 {
     make_into!(counters, alloc, Counters(side) => side.reader(), reader, Reader)
 }
@@ -24,7 +24,7 @@ pub extern "C" fn felter_counters_reader(
     counters: &mut Handle,
     reader: &mut Handle,
 ) -> i32
-    ensures { GivesInto some_counters a_reader Lends IsLast counters.old.held reader.old.held counters.new.held
+    ensures { GivesInto some_counters a_reader Lends WhyNotLent counters.old.held reader.old.held counters.new.held
         reader.new.held result }
 {
     if !reader.is_empty(alloc) {

@@ -1,7 +1,7 @@
 //! Producers that are split off, and handles that are let go.
 ghost use Rattle.std.specs.Prelude.{◌≡◌};
 ghost use Rattle.std.specs.declared.option.Option.TheVariants.{None};
-ghost use Rattle.ring_c.specs.Producing.{IsWhole, Splits};
+ghost use Rattle.ring_c.specs.Producing.{WhyNotSplit, Splits};
 ghost use Rattle.ring_c.specs.Told.{a_producer, ClosesHeld, Gives, GivesInto};
 
 use crate::code::HANDLE_IN_USE;
@@ -13,7 +13,7 @@ use std::alloc::Global;
 /// Splits a producer off into an empty handle. The room for it is taken first.
 fn split_off(alloc: Global, producer: &mut Handle, other: &mut Handle) -> i32
     requires { other.old.held ≡ None }
-    ensures { Gives a_producer a_producer Splits IsWhole producer.old.held producer.new.held other.new.held result }
+    ensures { Gives a_producer a_producer Splits WhyNotSplit producer.old.held producer.new.held other.new.held result }
 {
     make_into!(producer, alloc, Producer(side) => side.split(alloc), other, Producer)
 }
@@ -21,7 +21,7 @@ fn split_off(alloc: Global, producer: &mut Handle, other: &mut Handle) -> i32
 /// Makes another producer of the same ring, with one share. Claims that are open stay the first one's.
 #[unsafe(no_mangle)]
 pub extern "C" fn felter_split(alloc: Global, producer: &mut Handle, other: &mut Handle) -> i32
-    ensures { GivesInto a_producer a_producer Splits IsWhole producer.old.held other.old.held producer.new.held
+    ensures { GivesInto a_producer a_producer Splits WhyNotSplit producer.old.held other.old.held producer.new.held
         other.new.held result }
 {
     if !other.is_empty(alloc) {

@@ -4,7 +4,7 @@ ghost use Rattle.std.specs.Prelude.{◌≡◌, ◌^◌, ◌≤◌, []};
 ghost use Rattle.ring_rings.specs.Seats.{consumer_view, taken_of};
 ghost use Rattle.ring_board.specs.Seats.{heard_by, transmitted};
 ghost use Rattle.ring_conductor.specs.Conducting.{AreUnused, Begins, IsConductorOf, Works, work_stop};
-ghost use Rattle.ring_conductor.specs.Conducting.{consumer_of, counters_of, ledger_of, ring_view};
+ghost use Rattle.ring_conductor.specs.Conducting.{consumer_of, manager_in, ledger_of, ring_view};
 ghost use Rattle.ring_conductor.specs.Conducting.{transmitter_of, value_shares_of};
 ghost use Rattle.ring_conductor.specs.Serving.{IsReady, IsSameHandler, ledger_of as served_of};
 
@@ -56,7 +56,7 @@ impl Conductor {
         requires counters { AreUnused counters }
         ensures consumer { consumer_of result ≡ consumer }
         ensures transmitter { transmitter_of result ≡ transmitter }
-        ensures counters { counters_of result ≡ counters }
+        ensures counters { manager_in result ≡ counters }
     {
         Conductor {
             consumer,
@@ -68,7 +68,7 @@ impl Conductor {
 
     /// The counters.
     pub fn counters(&self) -> &CountersManager
-        ensures { result.now ≡ counters_of self.now }
+        ensures { result.now ≡ manager_in self.now }
     {
         &self.counters
     }

@@ -11,7 +11,7 @@ ghost use Rattle.ring_counters.specs.Manager.{registry_of, writes_of, IsManagerO
 ghost use Rattle.ring_counters.specs.Seats.{IsReaderOf, made_of, seen_by, loads_of};
 ghost use Rattle.ring_counters.specs.ValueWrites.{AreLoads};
 ghost use Rattle.ring_conductor.specs.Conducting.{KeepsSeats, KeepsTheRest};
-ghost use Rattle.ring_conductor.specs.Conducting.{board_view, counters_of, transmitter_of, value_shares_of};
+ghost use Rattle.ring_conductor.specs.Conducting.{board_view, manager_in, transmitter_of, value_shares_of};
 
 use crate::conductor::Conductor;
 use ring_board::{Board, CopyReceiver, SubscribeFault};
@@ -57,15 +57,15 @@ impl Conductor {
     ///
     /// `NoShares` comes where one share is left; all is then as before.
     pub fn value_reader(&mut self, values: &CounterValues) -> Result<ValueReader, NoShares>
-        requires { IsManagerOf values.now (counters_of self.old) }
-        ensures values { IsManagerOf values.now (counters_of self.new) }
+        requires { IsManagerOf values.now (manager_in self.old) }
+        ensures values { IsManagerOf values.now (manager_in self.new) }
         ensures enough { IsOk result ↔ (1 < value_shares_of self.old) }
         ensures reader { IfOk result (λ r. IsReaderOf values.now r) }
-        ensures made { IfOk result (λ r. (made_of r ≡ writes_of (counters_of self.old))
-            × (seen_by r ≡ writes_of (counters_of self.old)) × (loads_of r ≡ [])) }
+        ensures made { IfOk result (λ r. (made_of r ≡ writes_of (manager_in self.old))
+            × (seen_by r ≡ writes_of (manager_in self.old)) × (loads_of r ≡ [])) }
         ensures shares { OnOk result (value_shares_of self.new + 1 ≡ value_shares_of self.old) }
-        ensures registry { registry_of (counters_of self.new) ≡ registry_of (counters_of self.old) }
-        ensures writes { writes_of (counters_of self.new) ≡ writes_of (counters_of self.old) }
+        ensures registry { registry_of (manager_in self.new) ≡ registry_of (manager_in self.old) }
+        ensures writes { writes_of (manager_in self.new) ≡ writes_of (manager_in self.old) }
         ensures others { KeepsSeats self.old self.new }
         ensures err { OnErr result (self.new ≡ self.old) }
     {
@@ -75,14 +75,14 @@ impl Conductor {
     /// Takes a reader of the values back, with its share. What it loaded are values after first parts of the writes,
     /// after which the values are the registry's.
     pub fn join_value_reader(&mut self, values: &CounterValues, reader: ValueReader)
-        requires counters { IsManagerOf values.now (counters_of self.old) }
+        requires counters { IsManagerOf values.now (manager_in self.old) }
         requires reader { IsReaderOf values.now reader }
-        ensures values { IsManagerOf values.now (counters_of self.new) }
-        ensures loads { AreLoads (made_of reader) (loads_of reader) (writes_of (counters_of self.new)) }
-        ensures agree { Agree (registry_of (counters_of self.new)) (writes_of (counters_of self.new)) }
+        ensures values { IsManagerOf values.now (manager_in self.new) }
+        ensures loads { AreLoads (made_of reader) (loads_of reader) (writes_of (manager_in self.new)) }
+        ensures agree { Agree (registry_of (manager_in self.new)) (writes_of (manager_in self.new)) }
         ensures shares { value_shares_of self.new ≡ value_shares_of self.old + 1 }
-        ensures registry { registry_of (counters_of self.new) ≡ registry_of (counters_of self.old) }
-        ensures writes { writes_of (counters_of self.new) ≡ writes_of (counters_of self.old) }
+        ensures registry { registry_of (manager_in self.new) ≡ registry_of (manager_in self.old) }
+        ensures writes { writes_of (manager_in self.new) ≡ writes_of (manager_in self.old) }
         ensures others { KeepsSeats self.old self.new }
     {
         self.counters.join_reader(values, reader);

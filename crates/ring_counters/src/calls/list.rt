@@ -1,7 +1,7 @@
 //! A look at the counters in use, one after another, without memory.
 ghost use Rattle.std.specs.Prelude.{◌≡◌, length};
 ghost use Rattle.std.specs.Iterator.{YieldsFirst, item_count};
-ghost use Rattle.ring_counters.specs.Counter.{padded};
+ghost use Rattle.ring_counters.specs.Counter.{zero_padded};
 ghost use Rattle.ring_counters.specs.Registry.{live_of};
 ghost use Rattle.ring_counters.specs.Manager.{registry_of};
 
@@ -76,7 +76,7 @@ impl<'a> LiveCounter<'a> {
     /// Copies its label, with zeros after it, and gives its length in bytes.
     pub fn label_into(&self, label: &mut [u8; MAX_LABEL_LENGTH]) -> usize
         ensures len { result ≡ length self.now.1.metadata.label }
-        ensures label { label.new ≡ padded 380 self.now.1.metadata.label }
+        ensures label { label.new ≡ zero_padded 380 self.now.1.metadata.label }
     {
         self.metadata.label_into(label)
     }

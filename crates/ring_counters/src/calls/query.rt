@@ -1,6 +1,6 @@
 //! Reading counters, and readers for other threads.
 ghost use Rattle.std.specs.Prelude.{◌≡◌, ℕ, ◌+◌, ◌<◌, ◌↔◌, [], length, IfOk, IfErr, OnOk, OnErr, IsOk};
-ghost use Rattle.ring_counters.specs.Counter.{padded, state_of, deadline_of};
+ghost use Rattle.ring_counters.specs.Counter.{zero_padded, state_of, deadline_of};
 ghost use Rattle.ring_counters.specs.Counter.{metadata_word as metadata_word_of, value_word as value_word_of};
 ghost use Rattle.ring_counters.specs.Registry.{answer, count_of, live_of, registered_id};
 ghost use Rattle.ring_counters.specs.Infos.{AreInfos};
@@ -72,7 +72,7 @@ impl CountersManager {
     /// `NotAllocated` come as for `value`; `label` is then as before.
     pub fn label_into(&self, id: u32, label: &mut [u8; MAX_LABEL_LENGTH]) -> Result<usize, IdFault>
         ensures result { result ≡ answer (refusal_at self.now id) (length (counter_in self.now id).metadata.label) }
-        ensures label { OnOk result (label.new ≡ padded 380 (counter_in self.now id).metadata.label) }
+        ensures label { OnOk result (label.new ≡ zero_padded 380 (counter_in self.now id).metadata.label) }
         ensures err { OnErr result (label.new ≡ label.old) }
     {
         self.records.check_allocated(id)?;

@@ -1,6 +1,6 @@
 //! A metadata record of 64 words.
 ghost use Rattle.std.specs.Prelude.{◌≡◌, ℕ, ◌+◌, ◌*◌, ◌/◌, ◌^◌, ◌<◌, ◌≤◌, length, slice_index};
-ghost use Rattle.ring_counters.specs.Counter.{Allocated, Metadata, Reclaimed, padded, unused_metadata};
+ghost use Rattle.ring_counters.specs.Counter.{Allocated, Metadata, Reclaimed, zero_padded, unused_metadata};
 ghost use Rattle.ring_counters.specs.Counter.{deadline_of, label_text, metadata_word, state_of, state_word};
 ghost use Rattle.ring_counters.specs.Counter.{word_of_bytes};
 
@@ -64,7 +64,7 @@ impl MetadataRecord {
         requires key { length key.now ≤ 112 }
         requires label { length label.now ≤ 380 }
         ensures { self.new
-            ≡ record { status = Allocated; type_id = type_id; key = padded 112 key.now; label = label.now } }
+            ≡ record { status = Allocated; type_id = type_id; key = zero_padded 112 key.now; label = label.now } }
     {
         self.words = [0; METADATA_WORDS];
         self.words[STATE_WORD] = pack_state(RECORD_ALLOCATED, type_id);
@@ -109,7 +109,7 @@ impl MetadataRecord {
     pub(crate) fn label_into(&self, label: &mut [u8; MAX_LABEL_LENGTH]) -> usize
         ensures len { result ≡ length self.now.label }
         ensures most { result ≤ 380 }
-        ensures label { label.new ≡ padded 380 self.now.label }
+        ensures label { label.new ≡ zero_padded 380 self.now.label }
     {
         load_bytes(&self.words, LABEL_OFFSET + LABEL_LENGTH_BYTES, label);
         (self.words[LABEL_WORD] & 0xffff_ffff) as usize

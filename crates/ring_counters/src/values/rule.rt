@@ -1,7 +1,7 @@
 //! What the seats of the values know, and the rule that holds between any two steps.
 ghost use Rattle.std.specs.Prelude.{◌≡◌, ◌+◌, ◌-◌, true, false, [], ◌∷◌, ◌++◌};
 ghost use Rattle.ring_counters.specs.Views.{values_view};
-ghost use Rattle.ring_counters.specs.ValuesRule.{ValuesRule, Loads, Learns, Writes};
+ghost use Rattle.ring_counters.specs.ValuesRule.{ValuesRule, Loads, Learns, WritesValue};
 
 use atomic_table::{Join, Play, Split, TableRule};
 use std::collections::LinkedList;
@@ -58,7 +58,7 @@ impl Play<(), ValuesView> for LearnLoads {
 pub struct StoreValue;
 
 impl Play<(), ValuesView> for StoreValue {
-    ghost then = { λ s m n w. Writes s.word s.first m.0 w.0 × (w.1 ≡ m.1) };
+    ghost then = { λ s m n w. WritesValue s.word s.first m.0 w.0 × (w.1 ≡ m.1) };
 }
 
 /// A reader gets one share of the writer's.

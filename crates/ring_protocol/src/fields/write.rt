@@ -3,7 +3,7 @@
 ghost use Rattle.std.specs.Prelude.{◌≡◌, ◌≤◌, ◌<◌, ◌^◌, ◌↔◌, length, IsSome, IfSome};
 ghost use Rattle.std.specs.List.{flat_map};
 ghost use Rattle.ring_protocol.specs.Field.{u32_field};
-ghost use Rattle.ring_protocol.specs.Writing.{Writes};
+ghost use Rattle.ring_protocol.specs.Writing.{WritesText};
 
 /// How many bytes the fields have together, where that is no more than the limit.
 #[inline]
@@ -21,7 +21,7 @@ fn joined_len(fields: &[&[u8]], limit: usize) -> Option<usize>
 /// Writes the fields one after the other over the start of the output, where they fit.
 #[inline]
 pub fn write_fields(out: &mut [u8], fields: &[&[u8]]) -> Option<usize>
-    ensures { Writes (flat_map (λ field. field.now) fields.now) out.old out.new result }
+    ensures { WritesText (flat_map (λ field. field.now) fields.now) out.old out.new result }
 {
     let len = joined_len(fields, out.len())?;
     let mut end = 0;

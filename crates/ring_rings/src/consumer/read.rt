@@ -6,7 +6,7 @@ ghost use Rattle.ring_table.specs.Seats.{IsSameSeat};
 ghost use Rattle.ring_words.specs.Read.{stop_of};
 ghost use Rattle.ring_rings.specs.Seats.{IsConsumerOf, capacity_of, consumer_view, head_of, seat_view};
 ghost use Rattle.ring_words.specs.Across.{ReadsAcross};
-ghost use Rattle.ring_rings.specs.Reading.{Controls, IsBlocked, Reads, ReadsTo};
+ghost use Rattle.ring_rings.specs.Reading.{Controls, FoundUnsettled, Reads, ReadsTo};
 ghost use Rattle.ring_rings.specs.ReadingSteps.{HasCome, IsInBlock, SettlesAll, heeded};
 
 use crate::consumer::turn::Turn;
@@ -70,7 +70,7 @@ impl<K> Ring<K> {
         ensures within { result.messages ≤ limit }
         ensures bytes { head_of consumer.old + result.bytes ≡ head_of consumer.new }
         ensures blocked { result.stopped ≡ Stop.Unpublished
-            → IsBlocked (consumer_view consumer.old) (consumer_view consumer.new) }
+            → FoundUnsettled (consumer_view consumer.old) (consumer_view consumer.new) }
     {
         let start = consumer.head;
         let mut scan = start;
@@ -130,7 +130,7 @@ impl<K> Ring<K> {
         ensures stopped { result.stopped
             ≡ stop_of (capacity_of self.now) limit result.messages (head_of consumer.new) result.bytes }
         ensures blocked { result.stopped ≡ Stop.Unpublished
-            → IsBlocked (consumer_view consumer.old) (consumer_view consumer.new) }
+            → FoundUnsettled (consumer_view consumer.old) (consumer_view consumer.new) }
     {
         self.run(consumer, limit, false, handler)
     }
@@ -154,7 +154,7 @@ impl<K> Ring<K> {
         ensures within { result.messages ≤ limit }
         ensures bytes { head_of consumer.old + result.bytes ≡ head_of consumer.new }
         ensures blocked { result.stopped ≡ Stop.Unpublished
-            → IsBlocked (consumer_view consumer.old) (consumer_view consumer.new) }
+            → FoundUnsettled (consumer_view consumer.old) (consumer_view consumer.new) }
     {
         let first = self.read(consumer, limit, handler);
         if first.stopped != Stop::Block {
@@ -187,7 +187,7 @@ impl<K> Ring<K> {
         ensures within { result.messages ≤ limit }
         ensures bytes { head_of consumer.old + result.bytes ≡ head_of consumer.new }
         ensures blocked { result.stopped ≡ Stop.Unpublished
-            → IsBlocked (consumer_view consumer.old) (consumer_view consumer.new) }
+            → FoundUnsettled (consumer_view consumer.old) (consumer_view consumer.new) }
     {
         self.run(consumer, limit, true, handler)
     }

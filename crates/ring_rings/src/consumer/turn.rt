@@ -4,7 +4,7 @@ ghost use Rattle.ring_layout.specs.Places.{max_position};
 ghost use Rattle.ring_table.specs.declared.claim.PlacedMessage.{PlacedMessage};
 ghost use Rattle.ring_table.specs.Seats.{IsSameSeat};
 ghost use Rattle.ring_rings.specs.Seats.{IsConsumerOf, capacity_of, head_of, seat_view};
-ghost use Rattle.ring_rings.specs.ReadingSteps.{HasCome, HasGotLast, IsAt, LoadsBody, TurnIs, heeded};
+ghost use Rattle.ring_rings.specs.ReadingSteps.{HasCome, HasGotLast, IsAt, LoadsWholeBody, TurnIs, heeded};
 
 use super::find::{Found, find};
 use super::load::load_body;
@@ -43,7 +43,7 @@ impl<K> Ring<K> {
         ensures seat { IsSameSeat consumer.old.seat consumer.new.seat }
         ensures shown { (m : PlacedMessage) → HasGotLast m (seat_view consumer.old) → m.place ≡ place
             → m.message.type_id ≡ type_id → length m.message.body ≡ len
-            → LoadsBody (capacity_of self.now) m (seat_view consumer.old) (seat_view consumer.new)
+            → LoadsWholeBody (capacity_of self.now) m (seat_view consumer.old) (seat_view consumer.new)
             × H.step handler.old m.message handler.new result }
     {
         load_body(

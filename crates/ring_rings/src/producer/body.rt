@@ -3,11 +3,11 @@ ghost use Rattle.std.specs.Prelude.{◌≡◌, ℕ, ◌+◌, ◌%◌, ◌<◌, �
 ghost use Rattle.ring_layout.specs.History.{IsMessage};
 ghost use Rattle.ring_layout.specs.Places.{index, max_position};
 ghost use Rattle.ring_table.specs.declared.claim.StagedClaim.{StagedClaim};
-ghost use Rattle.ring_table.specs.Changes.{blank, written};
+ghost use Rattle.ring_table.specs.Changes.{blank, with_body_word};
 ghost use Rattle.ring_table.specs.ProducerSteps.{HasClaimAt};
 ghost use Rattle.ring_table.specs.Seats.{IsSameSeat, IsSeatOf};
 ghost use Rattle.ring_table.specs.Views.{with_claims};
-ghost use Rattle.ring_rings.specs.Bodies.{loaded, put_at, HasRoom, IsFresh, MergesWord, PutsBytes, TakesFresh};
+ghost use Rattle.ring_rings.specs.Bodies.{loaded, put_at, HasRoom, IsFreshClaim, MergesWord, PutsBytes, TakesFresh};
 ghost use Rattle.ring_rings.specs.Claiming.{record_behind};
 ghost use Rattle.ring_rings.specs.Making.{HasJustMade, IsJustMade};
 
@@ -33,7 +33,7 @@ fn store_fresh_word(
     requires fresh { (cs : List StagedClaim) × (c : StagedClaim) × TakesFresh place at word cs c seat.old.me.0 }
     ensures seat { IsSameSeat seat.old seat.new }
     ensures stored { (cs : List StagedClaim) (c : StagedClaim) → TakesFresh place at word cs c seat.old.me.0
-        → seat.new.me.0 ≡ with_claims (cs ++ written at word c ∷ []) seat.old.me.0 }
+        → seat.new.me.0 ≡ with_claims (cs ++ with_body_word at word c ∷ []) seat.old.me.0 }
 {
     // What is 0 already needs no store.
     if word != 0 {
@@ -52,10 +52,11 @@ pub(crate) fn store_body(
 )
     requires seat { IsSeatOf words.now.table_id words.now.key capacity seat.old }
     requires place { place ≤ max_position }
-    requires fresh { (cs : List StagedClaim) × (c : StagedClaim) × IsFresh place (length body.now) cs c seat.old.me.0 }
+    requires fresh { (cs : List StagedClaim) × (c : StagedClaim)
+        × IsFreshClaim place (length body.now) cs c seat.old.me.0 }
     requires inside { place % capacity + 8 + length body.now ≤ capacity }
     ensures seat { IsSameSeat seat.old seat.new }
-    ensures stored { (cs : List StagedClaim) (c : StagedClaim) → IsFresh place (length body.now) cs c seat.old.me.0
+    ensures stored { (cs : List StagedClaim) (c : StagedClaim) → IsFreshClaim place (length body.now) cs c seat.old.me.0
         → seat.new.me.0 ≡ with_claims (cs ++ put_at 0 body.now c ∷ []) seat.old.me.0 }
 {
     // A record does not cross the end of the buffer, so its words lie side by side.

@@ -3,7 +3,7 @@ ghost use Rattle.std.specs.Prelude.{◌≡◌, ℕ, ◌+◌, ◌≤◌, List, []
 ghost use Rattle.ring_layout.specs.History.{IsMessage};
 ghost use Rattle.ring_table.specs.declared.claim.StagedClaim.{StagedClaim};
 ghost use Rattle.ring_table.specs.declared.claim.Stage.TheVariants.{Padded};
-ghost use Rattle.ring_table.specs.Changes.{blank, opened, staged};
+ghost use Rattle.ring_table.specs.Changes.{blank, with_header, staged};
 ghost use Rattle.ring_table.specs.Seats.{IsSameSeat, IsSeatOf};
 ghost use Rattle.ring_table.specs.Views.{with_claims};
 ghost use Rattle.ring_rings.specs.Making.{HasNewest, IsNewest};
@@ -40,7 +40,7 @@ pub(crate) fn store_headers(
     ensures seat { IsSameSeat seat.old seat.new }
     ensures opened { (cs : List StagedClaim) (c : StagedClaim)
         → IsNewest admission.tail admission.place wanted.len cs c seat.old.me.0
-        → seat.new.me.0 ≡ with_claims (cs ++ opened wanted.type_id wanted.len c ∷ []) seat.old.me.0 }
+        → seat.new.me.0 ≡ with_claims (cs ++ with_header wanted.type_id wanted.len c ∷ []) seat.old.me.0 }
 
     // The places rise, so that there are not too many claims.
     ensures few { (cs : List StagedClaim) (c : StagedClaim)

@@ -20,9 +20,10 @@ impl Ring<ManyToOne> {
     /// be open at once.
     ///
     /// It refuses, in this order, with `BadType` a type id below 1, with `TooLong` a body of more than an eighth of the
-    /// capacity, with `PositionLimit` a record that would end above 2^62, with `InsufficientCapacity` one that does not
-    /// fit behind the head, and with `Contended` where another producer has moved the tail. Tail and head were then
-    /// loaded in this call. It never waits.
+    /// capacity, and with `PositionLimit` a record that would end above 2^62. Where another producer was faster it
+    /// refuses with `Contended`: the head that the try goes by is beyond the tail that it loaded, or the exchange found
+    /// a later tail. With `InsufficientCapacity` it refuses a record that fits behind neither the cached head nor the
+    /// head, which it loaded after the tail. It never waits.
     pub fn claim_once(
         &self,
         producer: &mut Producer,

@@ -4,7 +4,7 @@ ghost use Rattle.ring_layout.specs.declared.message.ClaimState.TheVariants.{Abor
 ghost use Rattle.ring_layout.specs.History.{IsMessage};
 ghost use Rattle.ring_table.specs.declared.claim.Stage.TheVariants.{Stored};
 ghost use Rattle.ring_table.specs.Changes.{blank, staged};
-ghost use Rattle.ring_table.specs.ProducerSteps.{with_changed, HasClaimAt, IsOpen};
+ghost use Rattle.ring_table.specs.ProducerSteps.{with_changed, HasClaimAt, IsStagedOpen};
 ghost use Rattle.ring_table.specs.Seats.{IsSameSeat, IsSeatOf};
 ghost use Rattle.ring_table.specs.Staged.{AreRising};
 ghost use Rattle.ring_rings.specs.Bodies.{PutsBytes};
@@ -29,7 +29,7 @@ fn store_settled_header(
 )
     requires seat { IsSeatOf words.now.table_id words.now.key capacity seat.old }
     requires message { IsMessage capacity (blank wanted.type_id wanted.len) }
-    requires claim { HasClaimAt seat.old.me.0 place (IsOpen wanted.type_id wanted.len) }
+    requires claim { HasClaimAt seat.old.me.0 place (IsStagedOpen wanted.type_id wanted.len) }
     requires settled { state ≢ Open }
     ensures seat { IsSameSeat seat.old seat.new }
     ensures view { seat.new.me.0 ≡ with_changed place (staged (Stored state)) seat.old.me.0 }

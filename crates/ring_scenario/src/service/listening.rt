@@ -4,7 +4,7 @@ ghost use Rattle.ring_board.specs.Refusals.{subscribe_refusal_of, IsSubscribedUn
 ghost use Rattle.ring_board.specs.Seats.{shares_of, IsTransmitterOf};
 ghost use Rattle.ring_conductor.specs.Conducting.{KeepsTheRest, transmitter_of};
 ghost use Rattle.ring_loose.specs.Held.{IsFree, held_count, held_in};
-ghost use Rattle.ring_loose.specs.Receivers.{AreReceivers, Leaves, ReceivesAt, Subscribes, crowd};
+ghost use Rattle.ring_loose.specs.Receivers.{AreReceivers, LeavesCrowd, ReceivesAt, Subscribes, crowd};
 
 use super::CommandService;
 use ring_board::{Board, CopyReceiver, SubscribeFault};
@@ -53,7 +53,7 @@ fn join_listener(
     requires listeners { AreReceivers board.now listeners.old }
     ensures transmitter { IsTransmitterOf board.now (transmitter_of conductor.new) }
     ensures listeners { AreReceivers board.now listeners.new }
-    ensures left { OnSome result (Leaves
+    ensures left { OnSome result (LeavesCrowd
         (crowd (transmitter_of conductor.old) listeners.old) number
         (crowd (transmitter_of conductor.new) listeners.new)) }
     ensures same { IfNone result
@@ -96,7 +96,7 @@ impl CommandService {
 
     /// Joins the listener of this number, if it is here.
     fn dismiss(&mut self, number: usize) -> Option<()>
-        ensures left { OnSome result (Leaves
+        ensures left { OnSome result (LeavesCrowd
             (crowd (transmitter_of self.old.conductor) self.old.listeners) number
             (crowd (transmitter_of self.new.conductor) self.new.listeners)) }
         ensures same { IfNone result (held_in self.new.listeners ≡ held_in self.old.listeners) }

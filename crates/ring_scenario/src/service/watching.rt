@@ -2,7 +2,7 @@
 ghost use Rattle.std.specs.Prelude.{◌≡◌, ◌+◌, ◌<◌, ◌↔◌, IfNone, IfOk, IfSome, IsOk, OnErr, OnSome};
 ghost use Rattle.ring_counters.specs.Manager.{registry_of, writes_of, IsManagerOf};
 ghost use Rattle.ring_counters.specs.Seats.{values_count};
-ghost use Rattle.ring_conductor.specs.Conducting.{KeepsSeats, counters_of, value_shares_of};
+ghost use Rattle.ring_conductor.specs.Conducting.{KeepsSeats, manager_in, value_shares_of};
 ghost use Rattle.ring_loose.specs.Held.{IsFree, held_count, held_in};
 ghost use Rattle.ring_scenario.specs.Watchers.{AreWatchers, Peeks, Unwatches, Watches};
 
@@ -18,18 +18,18 @@ fn make_watcher(
     conductor: &mut Conductor,
     watchers: &mut Numbered<ValueReader>,
 ) -> Result<Result<usize, NoShares>, AllocError>
-    requires values { IsManagerOf values.now (counters_of conductor.old) }
+    requires values { IsManagerOf values.now (manager_in conductor.old) }
     requires watchers { AreWatchers values.now watchers.old }
-    ensures values { IsManagerOf values.now (counters_of conductor.new) }
+    ensures values { IsManagerOf values.now (manager_in conductor.new) }
     ensures watchers { AreWatchers values.now watchers.new }
     ensures made { IfOk result (λ made. IfOk made (λ number.
-        Watches (writes_of (counters_of conductor.old)) watchers.old number watchers.new)) }
+        Watches (writes_of (manager_in conductor.old)) watchers.old number watchers.new)) }
     ensures same { IfOk result (λ made. OnErr made
         ((conductor.new ≡ conductor.old) × (held_in watchers.new ≡ held_in watchers.old))) }
     ensures enough { IfOk result (λ made. IsOk made ↔ (1 < value_shares_of conductor.old)) }
     ensures shares { value_shares_of conductor.new + held_count (held_in watchers.new)
         ≡ value_shares_of conductor.old + held_count (held_in watchers.old) }
-    ensures registry { registry_of (counters_of conductor.new) ≡ registry_of (counters_of conductor.old) }
+    ensures registry { registry_of (manager_in conductor.new) ≡ registry_of (manager_in conductor.old) }
     ensures others { KeepsSeats conductor.old conductor.new }
 {
     watchers.reserve()?;
@@ -68,9 +68,9 @@ fn join_watcher(
     watchers: &mut Numbered<ValueReader>,
     number: usize,
 ) -> Option<()>
-    requires values { IsManagerOf values.now (counters_of conductor.old) }
+    requires values { IsManagerOf values.now (manager_in conductor.old) }
     requires watchers { AreWatchers values.now watchers.old }
-    ensures values { IsManagerOf values.now (counters_of conductor.new) }
+    ensures values { IsManagerOf values.now (manager_in conductor.new) }
     ensures watchers { AreWatchers values.now watchers.new }
     ensures left { OnSome result (Unwatches watchers.old number watchers.new) }
     ensures same { IfNone result
@@ -78,7 +78,7 @@ fn join_watcher(
     ensures free { IfNone result (IsFree (held_in watchers.old) number) }
     ensures shares { value_shares_of conductor.new + held_count (held_in watchers.new)
         ≡ value_shares_of conductor.old + held_count (held_in watchers.old) }
-    ensures registry { registry_of (counters_of conductor.new) ≡ registry_of (counters_of conductor.old) }
+    ensures registry { registry_of (manager_in conductor.new) ≡ registry_of (manager_in conductor.old) }
     ensures others { KeepsSeats conductor.old conductor.new }
 {
     let watcher = watchers.take(number)?;
@@ -90,10 +90,10 @@ impl CommandService {
     /// Makes a watcher and gives its number. `NoShares` where one share of the values is left.
     pub fn watch(&mut self) -> Result<Result<usize, NoShares>, AllocError>
         ensures made { IfOk result (λ made. IfOk made (λ number.
-            Watches (writes_of (counters_of self.old.conductor)) self.old.watchers number self.new.watchers)) }
+            Watches (writes_of (manager_in self.old.conductor)) self.old.watchers number self.new.watchers)) }
         ensures same { IfOk result (λ made. OnErr made (self.new.conductor ≡ self.old.conductor)) }
         ensures enough { IfOk result (λ made. IsOk made ↔ (1 < value_shares_of self.old.conductor)) }
-        ensures registry { registry_of (counters_of self.new.conductor) ≡ registry_of (counters_of self.old.conductor) }
+        ensures registry { registry_of (manager_in self.new.conductor) ≡ registry_of (manager_in self.old.conductor) }
         ensures others { KeepsSeats self.old.conductor self.new.conductor }
     {
         make_watcher(&self.values, &mut self.conductor, &mut self.watchers)
@@ -120,7 +120,7 @@ impl CommandService {
         ensures left { OnSome result (Unwatches self.old.watchers number self.new.watchers) }
         ensures same { IfNone result (held_in self.new.watchers ≡ held_in self.old.watchers) }
         ensures free { IfNone result (IsFree (held_in self.old.watchers) number) }
-        ensures registry { registry_of (counters_of self.new.conductor) ≡ registry_of (counters_of self.old.conductor) }
+        ensures registry { registry_of (manager_in self.new.conductor) ≡ registry_of (manager_in self.old.conductor) }
         ensures others { KeepsSeats self.old.conductor self.new.conductor }
         ensures producer { self.new.producer ≡ self.old.producer }
     {
@@ -135,7 +135,7 @@ impl CommandService {
     /// Takes all watchers away, in rising order of their numbers. The counters have all shares of the values then.
     pub(super) fn join_watchers(&mut self)
         ensures shares { value_shares_of self.new.conductor ≡ 65536 }
-        ensures registry { registry_of (counters_of self.new.conductor) ≡ registry_of (counters_of self.old.conductor) }
+        ensures registry { registry_of (manager_in self.new.conductor) ≡ registry_of (manager_in self.old.conductor) }
         ensures others { KeepsSeats self.old.conductor self.new.conductor }
         ensures producer { self.new.producer ≡ self.old.producer }
     {

@@ -3,7 +3,7 @@ ghost use Rattle.std.specs.Prelude.{◌≡◌, IfOk};
 ghost use Rattle.ring_counters.specs.Infos.{AreInfos};
 ghost use Rattle.ring_counters.specs.Manager.{registry_of};
 ghost use Rattle.ring_counters.specs.Registry.{answer, counter_at, id_refusal_of, live_of};
-ghost use Rattle.ring_conductor.specs.Conducting.{Works, counters_of, ledger_of, ring_view};
+ghost use Rattle.ring_conductor.specs.Conducting.{Works, manager_in, ledger_of, ring_view};
 
 use super::CommandService;
 use ring_conductor::Work;
@@ -24,7 +24,7 @@ impl CommandService {
 
     /// Lists the counters in use, by rising id. `OutOfMemory` where memory is wanting.
     pub fn live(&self, alloc: Global) -> Result<Vec<CounterInfo>, OutOfMemory>
-        ensures { IfOk result (λ infos. AreInfos infos.items (live_of (registry_of (counters_of self.now.conductor)))) }
+        ensures { IfOk result (λ infos. AreInfos infos.items (live_of (registry_of (manager_in self.now.conductor)))) }
     {
         self.conductor.counters().live(alloc)
     }
@@ -32,8 +32,8 @@ impl CommandService {
     /// The owner of a counter in use, 0 for none. `BadId` where the id is not below the number of counters,
     /// `NotAllocated` where no counter in use has it.
     pub fn owner(&self, id: u32) -> Result<u64, IdFault>
-        ensures { result ≡ answer (id_refusal_of (registry_of (counters_of self.now.conductor)) id)
-            (counter_at (registry_of (counters_of self.now.conductor)) id).values.owner }
+        ensures { result ≡ answer (id_refusal_of (registry_of (manager_in self.now.conductor)) id)
+            (counter_at (registry_of (manager_in self.now.conductor)) id).values.owner }
     {
         self.conductor.counters().owner(id)
     }

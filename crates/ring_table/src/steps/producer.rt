@@ -4,9 +4,9 @@ ghost use Rattle.ring_layout.specs.declared.message.ClaimState.TheVariants.{Abor
 ghost use Rattle.ring_layout.specs.History.{IsMessage};
 ghost use Rattle.ring_layout.specs.Places.{index};
 ghost use Rattle.ring_table.specs.Staged.{AreRising, Padded, Stored};
-ghost use Rattle.ring_table.specs.Changes.{blank, opened, staged, written};
+ghost use Rattle.ring_table.specs.Changes.{blank, with_header, staged, with_body_word};
 ghost use Rattle.ring_table.specs.Views.{logged};
-ghost use Rattle.ring_table.specs.ProducerSteps.{HasClaimAt, IsClaimable, IsOpen, NeedsHeader, NeedsPadding, TakesWord};
+ghost use Rattle.ring_table.specs.ProducerSteps.{HasClaimAt, IsClaimable, IsStagedOpen, NeedsHeader, NeedsPadding, IsWordOfBody};
 ghost use Rattle.ring_table.specs.ProducerSteps.{LoadsHead, LoadsOwn, LoadsTail, MovesOwnTail, MovesTail, with_changed};
 ghost use Rattle.ring_table.specs.Seats.{IsSameSeat, IsSeatOf};
 
@@ -107,7 +107,7 @@ pub fn store_claimed_header(
     requires message { IsMessage capacity (blank wanted.type_id wanted.len) }
     requires claim { HasClaimAt producer.old.me.0 place (NeedsHeader wanted.len) }
     ensures seat { IsSameSeat producer.old producer.new }
-    ensures view { producer.new.me.0 ≡ with_changed place (opened wanted.type_id wanted.len) producer.old.me.0 }
+    ensures view { producer.new.me.0 ≡ with_changed place (with_header wanted.type_id wanted.len) producer.old.me.0 }
     ensures rising { AreRising producer.old.me.0.producer.claims }
 {
     let header = open_header(wanted.type_id, wanted.len);
@@ -124,7 +124,7 @@ pub fn store_committed_header(
 )
     requires seat { IsSeatOf ring.now.table_id ring.now.key capacity producer.old }
     requires message { IsMessage capacity (blank wanted.type_id wanted.len) }
-    requires claim { HasClaimAt producer.old.me.0 place (IsOpen wanted.type_id wanted.len) }
+    requires claim { HasClaimAt producer.old.me.0 place (IsStagedOpen wanted.type_id wanted.len) }
     ensures seat { IsSameSeat producer.old producer.new }
     ensures view { producer.new.me.0 ≡ with_changed place (staged (Stored Committed)) producer.old.me.0 }
     ensures rising { AreRising producer.old.me.0.producer.claims }
@@ -143,7 +143,7 @@ pub fn store_aborted_header(
 )
     requires seat { IsSeatOf ring.now.table_id ring.now.key capacity producer.old }
     requires message { IsMessage capacity (blank wanted.type_id wanted.len) }
-    requires claim { HasClaimAt producer.old.me.0 place (IsOpen wanted.type_id wanted.len) }
+    requires claim { HasClaimAt producer.old.me.0 place (IsStagedOpen wanted.type_id wanted.len) }
     ensures seat { IsSameSeat producer.old producer.new }
     ensures view { producer.new.me.0 ≡ with_changed place (staged (Stored Aborted)) producer.old.me.0 }
     ensures rising { AreRising producer.old.me.0.producer.claims }
@@ -165,9 +165,9 @@ pub fn store_body_word(
 )
     requires seat { IsSeatOf ring.now.table_id ring.now.key capacity producer.old }
     requires target { target ≡ index capacity (place + 8 + at) }
-    requires claim { HasClaimAt producer.old.me.0 place (TakesWord at word) }
+    requires claim { HasClaimAt producer.old.me.0 place (IsWordOfBody at word) }
     ensures seat { IsSameSeat producer.old producer.new }
-    ensures view { producer.new.me.0 ≡ with_changed place (written at word) producer.old.me.0 }
+    ensures view { producer.new.me.0 ≡ with_changed place (with_body_word at word) producer.old.me.0 }
     ensures rising { AreRising producer.old.me.0.producer.claims }
 {
     ring.store::<StoreBody>(producer, target, word);

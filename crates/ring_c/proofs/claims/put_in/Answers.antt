@@ -2,7 +2,7 @@ use Rattle.std.proofs.Common.{◌≡◌, ◌∙◌, Some, ap, slice_set, subst, 
 use Rattle.std.proofs.lemmas.List.{set-get_or}
 use Rattle.ring_words.specs.Open.{ClaimAt}
 use Rattle.ring_rings.specs.Seats.{KeepsOthers}
-use Rattle.ring_c.specs.Claims.{claim_numbered, AreOpen, StandsAt}
+use Rattle.ring_c.specs.Claims.{claim_numbered, AreOpen, HasIndex}
 use Rattle.ring_c.proofs.ClaimLemmas.{one_changed_open}
 use Rattle.ring_c.proofs.claims.put_in.Goals as goal
 
@@ -15,8 +15,8 @@ returns-in-Ok-clause-claims g c =
     let i = c.in-Some.index in
     let t = c.put.new.claim in
     let r = c.index_mut.result.now in
-    let stands : StandsAt c.args.number items i =
-    subst (λ l. StandsAt c.args.number l i) c.deref.ensures.value c.in-Some.ensures in
+    let stands : HasIndex c.args.number items i =
+    subst (λ l. HasIndex c.args.number l i) c.deref.ensures.value c.in-Some.ensures in
     let there = c.put.ensures.claim ∙ c.index_mut.ensures.value in
     let here : claim_numbered c.args.number items ≡ Some t = stands.claim r ∙ ap Some (sym there) in
     let same : slice_set items i t ≡ items = ap (slice_set items i) there ∙ set-get_or items i r in

@@ -6,7 +6,7 @@ use Rattle.ring_layout.specs.Places.{index}
 use Rattle.ring_board.specs.declared.shared.view.Draft.{Draft}
 use Rattle.ring_board.specs.declared.shared.view.Stage.{Stage}
 use Rattle.ring_board.specs.Records.{first_words}
-use Rattle.ring_board.specs.Steps.{Sat, staged, after_words, with_words}
+use Rattle.ring_board.specs.Steps.{Sat, at_stage, after_words, with_words}
 use Rattle.ring_board.proofs.StoreLemmas.{words_long}
 use Rattle.ring_board.proofs.ByteLemmas.{first_words_snoc}
 use Rattle.ring_board.proofs.CallLemmas.{more_words}
@@ -35,8 +35,8 @@ loop-k-preserved c = let st0 : Stage = c.args.seat.now.me.0.stage in let q = c.r
       table = c.store_word.ensures.same.0 ∙ c.loop-k.invariant.table;
       id = c.store_word.ensures.same.1 ∙ c.loop-k.invariant.id;
       me = c.store_word.ensures.put
-          ∙ (ap (λ (m : Sat). (staged m.0 (after_words m.0.stage (w ∷ [])), m.1)) c.loop-k.invariant.me
-          ∙ ap (λ (st : Stage). (staged c.args.seat.now.me.0 st, c.args.seat.now.me.1))
+          ∙ (ap (λ (m : Sat). (at_stage m.0 (after_words m.0.stage (w ∷ [])), m.1)) c.loop-k.invariant.me
+          ∙ ap (λ (st : Stage). (at_stage c.args.seat.now.me.0 st, c.args.seat.now.me.1))
           (more_words st0 q.0 done (w ∷ []) q.1 ∙ ap (after_words st0)
           (ap (λ (x : ℕ). done ++ x ∷ []) c.first_word.ensures
           ∙ (ap (λ (l : List ℕ). done ++ from_le_bytes w64 l ∷ []) (take_rest c.args.body.now (8 * k))

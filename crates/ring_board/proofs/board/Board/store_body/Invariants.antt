@@ -1,6 +1,6 @@
 use Rattle.std.proofs.Common.{◌≡◌}
 use Rattle.ring_board.specs.Records.{first_words}
-use Rattle.ring_board.specs.Steps.{staged, after_words}
+use Rattle.ring_board.specs.Steps.{at_stage, after_words}
 use Rattle.ring_board.proofs.board.Board.store_body.Given as goal
 
 abbrev pub invariant-loop-k : goal.invariant-loop-k
@@ -9,7 +9,7 @@ invariant-loop-k l = record {
   id : l.seat.id ≡ l.initial.seat.id;
   me : l.seat.me
       ≡ (
-        staged l.initial.seat.me.0 (after_words l.initial.seat.me.0.stage (first_words l.k l.body)),
+        at_stage l.initial.seat.me.0 (after_words l.initial.seat.me.0.stage (first_words l.k l.body)),
         l.initial.seat.me.1,
       );
 }

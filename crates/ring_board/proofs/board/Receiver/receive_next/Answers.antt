@@ -1,13 +1,13 @@
 use Rattle.std.proofs.Common.{ap, ◌∙◌, subst}
 use Rattle.std.specs.Prelude.{MatchOption, Option}
 use Rattle.ring_board.specs.declared.board.RawRecord.{RawRecord}
-use Rattle.ring_board.specs.Receiving.{GotNothing, GotRecord, IsInside}
+use Rattle.ring_board.specs.Receiving.{GotNothing, GotRecord, IsInBuffer}
 use Rattle.ring_board.specs.Steps.{Sat}
 use Rattle.ring_board.proofs.RawLemmas.{answered_more, answered_same, answered_last}
 use Rattle.ring_board.proofs.board.Receiver.receive_next.Goals as goal
 
 abbrev Got : Sat → Sat → Option RawRecord → Type 0
-Got m m' o = MatchOption o (GotNothing m m') (λ r. GotRecord r m m' × IsInside m.0.capacity r)
+Got m m' o = MatchOption o (GotNothing m m') (λ r. GotRecord r m m' × IsInBuffer m.0.capacity r)
 
 pub returns-in-Ok-None-clause-kept : goal.returns-in-Ok-None-clause-kept
 returns-in-Ok-None-clause-kept c = let got =

@@ -1,6 +1,6 @@
 use Rattle.std.proofs.Common.{◌∙◌, subst}
 use Rattle.ring_layout.specs.History.{committed_of}
-use Rattle.ring_table.specs.Staged.{claims_of as history_of}
+use Rattle.ring_table.specs.Staged.{unplaced as history_of}
 use Rattle.ring_table.proofs.LawLemmas.{none_open}
 use Rattle.ring_rings.specs.Closing.{AreOrdered}
 use Rattle.ring_rings.specs.Seats.{capacity_of, claims_of, start_of}

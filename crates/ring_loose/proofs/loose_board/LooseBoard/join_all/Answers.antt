@@ -1,6 +1,6 @@
 use Rattle.std.proofs.Common.{◌≡◌, ◌∙◌, ◌+◌, ◌<◌, ℕ, length, sym, arith}
 use Rattle.ring_loose.specs.Held.{held_count, held_in}
-use Rattle.ring_loose.specs.Receivers.{Leaves, crowd}
+use Rattle.ring_loose.specs.Receivers.{LeavesCrowd, crowd}
 use Rattle.ring_loose.proofs.HeldLemmas.{count_none, given_up}
 use Rattle.ring_loose.proofs.LeavingLemmas.{all_gone, held_where, left_on}
 use Rattle.ring_loose.proofs.loose_board.LooseBoard.join_all.Goals as goal
@@ -15,7 +15,8 @@ loop-index-preserved c =
     let inside : i < length (held_in old.receivers) = omega (arith, was.0, c.loop-index-test.true) in
     let before = crowd old.transmitter old.receivers in
     let after = crowd new.transmitter new.receivers in
-    let step = given_up c.leave.result (held_in old.receivers) (held_in new.receivers) i (Leaves before (i + 1) after)
+    let step = given_up c.leave.result (held_in old.receivers) (held_in new.receivers) i (LeavesCrowd before
+        (i + 1) after)
     (held_where _ _ c.leave.result e.same) e.left (λ left. left.goes.given_up) e.free inside was.1 in
     (step.0 ∙ was.0, step.1, left_on i before after inside c.leave.result e.same e.left e.free ∙ was.2, e.board ∙ was.3)
 

@@ -2,8 +2,8 @@ use Rattle.std.proofs.Common.{◌≡◌, ℕ, ◌+◌, ◌-◌, ◌*◌, ◌/◌
 use Rattle.std.proofs.lemmas.List.{append-nil, length-drop, length-take-le}
 use Rattle.ring_table.specs.declared.claim.StagedClaim.{StagedClaim}
 use Rattle.ring_table.specs.declared.view.View.{View}
-use Rattle.ring_table.specs.Changes.{changed, written}
-use Rattle.ring_table.specs.ProducerSteps.{HasClaimAt, TakesWord, with_changed}
+use Rattle.ring_table.specs.Changes.{changed, with_body_word}
+use Rattle.ring_table.specs.ProducerSteps.{HasClaimAt, IsWordOfBody, with_changed}
 use Rattle.ring_table.specs.Staged.{AreRising}
 use Rattle.ring_table.specs.Views.{with_claims}
 use Rattle.ring_rings.specs.Bodies.{loaded, put_at}
@@ -38,9 +38,9 @@ loop-done-init c =
 turn : (c : After-merged_word-word) → let base : View =
     loaded c.merged_word-word.ensures.view.0 (loaded c.loop-done.invariant.loads c.args.seat.now.me.0) in let at : ℕ =
     8 * ((c.args.offset + c.loop-done.done) / 8) in
-    HasClaimAt c.merged_word-word.new.seat.me.0 c.args.place (TakesWord at c.merged_word-word.result)
+    HasClaimAt c.merged_word-word.new.seat.me.0 c.args.place (IsWordOfBody at c.merged_word-word.result)
     × ((w : View) → w ≡ with_changed c.args.place
-    (written at c.merged_word-word.result) c.merged_word-word.new.seat.me.0
+    (with_body_word at c.merged_word-word.result) c.merged_word-word.new.seat.me.0
     → AreRising c.merged_word-word.new.seat.me.0.producer.claims
     → w ≡ with_changed c.args.place (put_at c.args.offset
     (take (c.loop-done.done + c.min-count.result) c.args.bytes.now)) base)

@@ -3,7 +3,7 @@ use Rattle.std.proofs.lemmas.List.{length-replicate, take_all}
 use Rattle.ring_table.specs.declared.claim.StagedClaim.{StagedClaim}
 use Rattle.ring_table.specs.declared.view.View.{View}
 use Rattle.ring_table.specs.Views.{with_claims}
-use Rattle.ring_rings.specs.Bodies.{put_at, IsFresh}
+use Rattle.ring_rings.specs.Bodies.{put_at, IsFreshClaim}
 use Rattle.ring_rings.proofs.BodyLemmas.{body_word_there, fresh_stores, fresh_takes, whole_word_there}
 use Rattle.ring_rings.proofs.IndexLemmas.{index_of_body}
 use Rattle.ring_rings.proofs.ReadingSeats.{same_more, same_none}
@@ -17,7 +17,7 @@ loop-k-init c = record {
 
 -- zeros as long as the body
 as_long : (place : ℕ) (body : List ℕ) (cs : List StagedClaim) (d : StagedClaim) (v : View)
-    → IsFresh place (length body) cs d v → length body ≡ length d.message.body
+    → IsFreshClaim place (length body) cs d v → length body ≡ length d.message.body
 as_long place body cs d v f = sym (ap length f.blank.zeros ∙ length-replicate (length body) 0)
 
 pub store_fresh_word-requires-clause-target : goal.store_fresh_word-requires-clause-target

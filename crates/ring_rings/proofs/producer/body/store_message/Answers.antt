@@ -10,8 +10,8 @@ use Rattle.ring_table.specs.declared.claim.Stage.TheVariants.{Stored}
 use Rattle.ring_table.specs.declared.view.View.{View}
 use Rattle.ring_table.specs.Changes.{staged}
 use Rattle.ring_table.specs.Views.{with_claims}
-use Rattle.ring_table.specs.ProducerSteps.{IsOpen}
-use Rattle.ring_rings.specs.Bodies.{put_at, IsFresh}
+use Rattle.ring_table.specs.ProducerSteps.{IsStagedOpen}
+use Rattle.ring_rings.specs.Bodies.{put_at, IsFreshClaim}
 use Rattle.ring_rings.specs.Claiming.{claim_behind, record_behind}
 use Rattle.ring_rings.specs.Making.{IsJustMade}
 use Rattle.ring_rings.proofs.BodyLemmas.{overwritten_all}
@@ -21,7 +21,7 @@ use Rattle.ring_rings.proofs.producer.body.store_message.Goals as goal
 -- the claim that was just made is fresh
 just_made : (C tail : ℕ) (type_id : ℤ) (len place : ℕ) (body : List ℕ) (cs : List StagedClaim) (v : View)
     → length body ≡ len → IsJustMade C tail type_id len place cs v
-    → IsFresh place (length body) cs (claim_behind C tail type_id len) v
+    → IsFreshClaim place (length body) cs (claim_behind C tail type_id len) v
 just_made C tail type_id len place body cs v same made =
     let on = next_le C tail (span len) in
     let at = made.place_is in
@@ -56,7 +56,7 @@ store_committed_header-requires-clause-claim c =
     c.args.seat.now.me.0 c.requires.len m.made in
     let last = ap (λ (v : View). v.producer.claims) (c.store_body.ensures.stored m.others made fresh) in
     has_last c.store_body.new.seat.me.0 m.others (put_at 0 body made) last c.args.place (sym m.made.place_is)
-    (IsOpen c.args.wanted.type_id len)
+    (IsStagedOpen c.args.wanted.type_id len)
     (record {
       stage = refl;
       type_is = refl;

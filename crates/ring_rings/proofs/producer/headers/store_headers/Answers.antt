@@ -3,7 +3,7 @@ use Rattle.ring_table.specs.declared.claim.StagedClaim.{StagedClaim}
 use Rattle.ring_table.specs.declared.claim.Stage.TheVariants.{Padded}
 use Rattle.ring_table.specs.declared.view.View.{View}
 use Rattle.ring_table.specs.Staged.{AreRising}
-use Rattle.ring_table.specs.Changes.{opened, staged}
+use Rattle.ring_table.specs.Changes.{with_header, staged}
 use Rattle.ring_table.specs.Views.{with_claims}
 use Rattle.ring_table.specs.ProducerSteps.{NeedsHeader}
 use Rattle.ring_rings.proofs.NewestLemmas.{changes_last, has_last, rising_few}
@@ -21,7 +21,7 @@ store_claimed_header-requires-clause-claim c =
 pub returns-clause-opened : goal.returns-clause-opened
 returns-clause-opened c cs d n =
     let le = c.requires.near.0 in
-    let f : StagedClaim → StagedClaim = opened c.args.wanted.type_id c.args.wanted.len in
+    let f : StagedClaim → StagedClaim = with_header c.args.wanted.type_id c.args.wanted.len in
     let v : View = c.store_padding.new.seat.me.0 in
     let padded = c.store_padding.ensures.padded c.args.wanted.len cs d n in
     c.store_claimed_header.ensures.view

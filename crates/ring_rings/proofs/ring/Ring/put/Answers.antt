@@ -2,7 +2,7 @@ use Rattle.std.proofs.Common.{refl, sym, ap, ◌∙◌, subst, arith}
 use Rattle.ring_layout.proofs.WordBytes.{length-overwritten}
 use Rattle.ring_table.specs.declared.claim.StagedClaim.{StagedClaim}
 use Rattle.ring_table.specs.declared.view.View.{View}
-use Rattle.ring_table.specs.ProducerSteps.{HasClaimAt, IsOpen}
+use Rattle.ring_table.specs.ProducerSteps.{HasClaimAt, IsStagedOpen}
 use Rattle.ring_table.specs.OpenClaims.{open_count}
 use Rattle.ring_table.specs.Staged.{AreRising, AreStored}
 use Rattle.ring_rings.specs.Bodies.{loaded, put_at}
@@ -50,9 +50,9 @@ returns-clause-is_open g c =
       index = h.index;
       message = h.message;
       limit = h.limit;
-      claim = subst (λ (u : View). HasClaimAt u t.place (IsOpen t.type_id t.len)) (sym put.view)
-          (rw c.place.ensures (has_changed t.place f (λ d. refl) (loaded put.loads v) (IsOpen t.type_id t.len)
-          (IsOpen t.type_id t.len)
+      claim = subst (λ (u : View). HasClaimAt u t.place (IsStagedOpen t.type_id t.len)) (sym put.view)
+          (rw c.place.ensures (has_changed t.place f (λ d. refl) (loaded put.loads v) (IsStagedOpen t.type_id t.len)
+          (IsStagedOpen t.type_id t.len)
           (record {
             nth = h.claim.nth;
             claim = h.claim.claim;
@@ -73,5 +73,5 @@ pub returns-clause-others : goal.returns-clause-others
 returns-clause-others g c t h other =
     let put = c.put_bytes.ensures.put in
     still_open h (has_other c.args.producer.now.seat.me.0 c.put_bytes.new.seat.me.0 c.place.result t.place
-    (put_at c.args.offset c.args.bytes.now) (IsOpen t.type_id t.len)
+    (put_at c.args.offset c.args.bytes.now) (IsStagedOpen t.type_id t.len)
     (ap (λ (v : View). v.producer.claims) put.view) h.claim (λ here. other (here ∙ c.place.ensures)))

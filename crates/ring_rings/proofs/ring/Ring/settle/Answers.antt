@@ -2,7 +2,7 @@ use Rattle.std.proofs.Common.{ap, ◌∙◌, arith}
 use Rattle.ring_table.specs.declared.view.View.{View}
 use Rattle.ring_table.specs.declared.claim.Stage.TheVariants.{Stored}
 use Rattle.ring_table.specs.Changes.{staged}
-use Rattle.ring_table.specs.ProducerSteps.{IsOpen}
+use Rattle.ring_table.specs.ProducerSteps.{IsStagedOpen}
 use Rattle.ring_rings.proofs.MadeLemmas.{still_open}
 use Rattle.ring_rings.proofs.PutLemmas.{has_other}
 use Rattle.ring_rings.proofs.CountLemmas.{none_open, settles_one, matches_settled}
@@ -32,5 +32,5 @@ pub returns-clause-others : goal.returns-clause-others
 returns-clause-others g c t h other =
     let e = c.store_settled_header.ensures in
     still_open h (has_other c.args.producer.now.seat.me.0 c.store_settled_header.new.seat.me.0 c.place.result t.place
-    (staged (Stored c.args.state)) (IsOpen t.type_id t.len) (ap (λ (v : View). v.producer.claims) e.view) h.claim
+    (staged (Stored c.args.state)) (IsStagedOpen t.type_id t.len) (ap (λ (v : View). v.producer.claims) e.view) h.claim
     (λ here. other (here ∙ c.place.ensures)))

@@ -1,7 +1,7 @@
 use Rattle.std.proofs.Common.{◌≡◌, ℕ, ◌+◌, sym, ap, ◌∙◌, arith}
 use Rattle.ring_layout.specs.Places.{index}
 use Rattle.ring_table.specs.Staged.{AreRising}
-use Rattle.ring_table.specs.Changes.{changed, written}
+use Rattle.ring_table.specs.Changes.{changed, with_body_word}
 use Rattle.ring_table.specs.Views.{View, with_claims}
 use Rattle.ring_table.specs.ProducerSteps.{Mine, StoresBody}
 use Rattle.ring_table.proofs.Calls.{at_word, in_records}
@@ -30,7 +30,7 @@ returns-clause-view c =
     let v : View = c.args.producer.now.me.0 in
     c.store.ensures.2.1 h.nth h.claim c.args.at h.there h.holds.stage h.holds.aligned h.holds.inside
     ((λ i. index (s.view_is i) (h.at_place i + 8 + c.args.at)) ∙ sym c.requires.target)
-    ∙ ap (λ p. with_claims (changed p (written c.args.at c.args.word) v.producer.claims) v) h.at_place
+    ∙ ap (λ p. with_claims (changed p (with_body_word c.args.at c.args.word) v.producer.claims) v) h.at_place
 
 pub returns-clause-seat : goal.returns-clause-seat
 returns-clause-seat c = record {

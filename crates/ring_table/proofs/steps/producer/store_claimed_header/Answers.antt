@@ -3,7 +3,7 @@ use Rattle.std.proofs.lemmas.List.{length-replicate}
 use Rattle.ring_table.proofs.HeaderCalls.{packs_open}
 use Rattle.ring_layout.specs.Places.{index}
 use Rattle.ring_table.specs.Staged.{Padded, AreRising}
-use Rattle.ring_table.specs.Changes.{opened}
+use Rattle.ring_table.specs.Changes.{with_header}
 use Rattle.ring_table.specs.Views.{View}
 use Rattle.ring_table.specs.ProducerSteps.{Mine, StoresClaimed}
 use Rattle.ring_table.proofs.Calls.{at_word, in_records, after_change}
@@ -40,7 +40,8 @@ returns-clause-view c =
     let short = c.requires.message.short in
     let zeros = length-replicate {A = ℕ} c.args.wanted.len 0 in
     let small : 8 + c.args.wanted.len < 2 ^ 31 = omega arith in
-    after_change Padded (λ c. c.place) (opened c.args.wanted.type_id c.args.wanted.len) c.args.capacity _ c.args.place
+    after_change Padded (λ c. c.place)
+        (with_header c.args.wanted.type_id c.args.wanted.len) c.args.capacity _ c.args.place
     c.args.producer.now.me.0 _ _ h s.view_is h.holds.stage
     (c.word_index.ensures ∙ ap (index c.args.capacity) (sym h.at_place))
     (c.store.ensures.2.1 c.args.wanted.type_id c.args.wanted.len c.requires.message.type_fits small

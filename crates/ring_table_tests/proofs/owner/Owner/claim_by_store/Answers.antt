@@ -2,7 +2,7 @@ use Rattle.std.proofs.Common.{◌≡◌, ℕ, ◌+◌, sym, ap, ◌∙◌, ◌==
 use Rattle.std.proofs.lemmas.List.{length-replicate}
 use Rattle.ring_layout.specs.History.{span}
 use Rattle.ring_layout.specs.Places.{end_after, next_place}
-use Rattle.ring_table.specs.Changes.{fresh, fresh_stage}
+use Rattle.ring_table.specs.Changes.{moved_claim, fresh_stage}
 use Rattle.ring_table.specs.declared.view.View.{View}
 use Rattle.ring_table_tests.proofs.TestLemmas.{claim_made, same_end}
 use Rattle.ring_table_tests.proofs.owner.Owner.claim_by_store.Goals as goal
@@ -22,5 +22,5 @@ returns c =
     let at : next_place 128 before.producer.seen_tail (span long) ≡ r.place =
     ap (λ a. next_place 128 before.producer.seen_tail a) long_is
     ∙ (ap (λ e. next_place 128 e 24) from ∙ sym r.next) in
-    claim_made before _ (fresh 128 before.producer.seen_tail t.type_id long) (r.place + 24) r.place _ t.view at
+    claim_made before _ (moved_claim 128 before.producer.seen_tail t.type_id long) (r.place + 24) r.place _ t.view at
     (from, λ i. fresh_stage (from i == at i), ap (λ (n : ℕ). span n) is ∙ long_is)

@@ -1,7 +1,7 @@
 use Rattle.std.proofs.Common.{refl, ap, ◌∙◌, arith}
 use Rattle.ring_words.specs.Open.{ClaimAt}
 use Rattle.ring_table.specs.declared.view.View.{View}
-use Rattle.ring_table.specs.ProducerSteps.{IsOpen}
+use Rattle.ring_table.specs.ProducerSteps.{IsStagedOpen}
 use Rattle.ring_rings.proofs.MadeLemmas.{keeps_claims, made_apart, made_claims, made_few, made_matches, made_open}
 use Rattle.ring_rings.proofs.producer.many_to_one.Ring+ManyToOne.claim_once.Goals as goal
 
@@ -41,4 +41,4 @@ returns-clause-claims c = keeps_claims _ (made_claims _ _ _ _ _ _ _ _ c.in_ok-ad
 
 pub returns-clause-apart : goal.returns-clause-apart
 returns-clause-apart c t h same = made_apart _ _ _ _ _ _ _ _ c.in_ok-admission.ensures.told.0 t.place
-    (IsOpen t.type_id t.len) h.claim (same ∙ ap (λ (r : ClaimAt). r.place) c.new.ensures)
+    (IsStagedOpen t.type_id t.len) h.claim (same ∙ ap (λ (r : ClaimAt). r.place) c.new.ensures)

@@ -1,7 +1,7 @@
 use Rattle.std.proofs.Common.{ap, ◌∙◌, arith, subst, sym}
 use Rattle.ring_table.specs.declared.view.View.{View}
 use Rattle.ring_table.specs.Staged.{AreRising}
-use Rattle.ring_table.specs.ProducerSteps.{IsOpen}
+use Rattle.ring_table.specs.ProducerSteps.{IsStagedOpen}
 use Rattle.ring_rings.proofs.MadeLemmas.{still_open}
 use Rattle.ring_rings.proofs.JoinLemmas.{joined_claims, joined_few, joined_matches}
 use Rattle.ring_rings.proofs.RisingLemmas.{has_first, has_second, two_apart}
@@ -44,8 +44,8 @@ returns-clause-claims c =
     let claims = joined_claims c.args.self.now.capacity c.load_tail-producer.result p q
     c.join_producer.new.producer.me.0 u c.join_producer.ensures.view loaded in
     record {
-      first = λ t h. still_open h (has_first p q u claims t.place (IsOpen t.type_id t.len) h.claim);
-      second = λ t h. still_open h (has_second p q u claims t.place (IsOpen t.type_id t.len) h.claim);
+      first = λ t h. still_open h (has_first p q u claims t.place (IsStagedOpen t.type_id t.len) h.claim);
+      second = λ t h. still_open h (has_second p q u claims t.place (IsStagedOpen t.type_id t.len) h.claim);
       apart = λ t r h k. two_apart p q u claims (subst AreRising (sym same) loaded.rising) t.place r.place
-          (IsOpen t.type_id t.len) (IsOpen r.type_id r.len) h.claim k.claim;
+          (IsStagedOpen t.type_id t.len) (IsStagedOpen r.type_id r.len) h.claim k.claim;
     }
