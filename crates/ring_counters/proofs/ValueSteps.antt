@@ -14,7 +14,7 @@ use Rattle.ring_counters.specs.declared.values.rule.ValueLoad.{ValueLoad}
 use Rattle.ring_counters.specs.declared.values.rule.ValuesView.{ValuesView}
 use Rattle.ring_counters.specs.Views.{value_write, value_load, values_view}
 use Rattle.ring_counters.specs.ValueWrites.{value_from, value_after, Begins, AreLoads}
-use Rattle.ring_counters.specs.ValuesRule.{sum_of_shares, KnowsWrites, ValuesRule, Loads, Learns, WritesValue}
+use Rattle.ring_counters.specs.ValuesRule.{sum_of_shares, KnowsWrites, ValuesRule, Loads, LearnsLoads, WritesValue}
 
 -- ---- values after writes
 
@@ -125,7 +125,7 @@ loads count slots by id v carried inside s r homes at small =
 
 pub learns : (count slots by : ℕ) (v : ValuesView) (carried : List (ℕ × Unit {0})) → v.writes ≡ true
     → Allows (λ s. ValuesRule count s.words s.views) slots by (v, carried) 0 (λ n. n)
-    (λ n w. Learns v w.0 × (w.1 ≡ carried))
+    (λ n w. LearnsLoads v w.0 × (w.1 ≡ carried))
 learns count slots by v carried writes s r homes at small =
     let h = r.6 by v at in
     let most = shares_at s.views by v at in

@@ -36,8 +36,8 @@ Loads id v found w =
     × Begins v.seen after
 
 -- the writer learns that the loads of a reader are those of its writes
-abbrev pub Learns : ValuesView → ValuesView → Type 0
-Learns v w = (w ≡ v) × AreLoads v.made v.loads v.seen × (v.shares ≤ 65536)
+abbrev pub LearnsLoads : ValuesView → ValuesView → Type 0
+LearnsLoads v w = (w ≡ v) × AreLoads v.made v.loads v.seen × (v.shares ≤ 65536)
 
 abbrev pub WritesValue : ℕ → ℕ → ValuesView → ValuesView → Type 0
 WritesValue id word v w =

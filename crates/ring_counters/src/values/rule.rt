@@ -1,7 +1,7 @@
 //! What the seats of the values know, and the rule that holds between any two steps.
 ghost use Rattle.std.specs.Prelude.{◌≡◌, ◌+◌, ◌-◌, true, false, [], ◌∷◌, ◌++◌};
 ghost use Rattle.ring_counters.specs.Views.{values_view};
-ghost use Rattle.ring_counters.specs.ValuesRule.{ValuesRule, Loads, Learns, WritesValue};
+ghost use Rattle.ring_counters.specs.ValuesRule.{ValuesRule, Loads, LearnsLoads, WritesValue};
 
 use atomic_table::{Join, Play, Split, TableRule};
 use std::collections::LinkedList;
@@ -51,7 +51,7 @@ impl Play<(), ValuesView> for LoadValue {
 pub struct LearnLoads;
 
 impl Play<(), ValuesView> for LearnLoads {
-    ghost then = { λ s m n w. Learns m.0 w.0 × (w.1 ≡ m.1) };
+    ghost then = { λ s m n w. LearnsLoads m.0 w.0 × (w.1 ≡ m.1) };
 }
 
 /// The writer stores a value.
