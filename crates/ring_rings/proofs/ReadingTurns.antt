@@ -7,7 +7,7 @@ use Rattle.ring_words.specs.declared.read.action.Action.TheVariants.{Abort, Brea
 use Rattle.ring_words.specs.declared.read.end.ReadEnd.{ReadEnd}
 use Rattle.ring_words.specs.declared.read.end.Stop.{Stop}
 use Rattle.ring_words.specs.declared.read.end.Stop.TheVariants.{Limit, Block, Unpublished}
-use Rattle.ring_words.specs.Read.{GoesOn}
+use Rattle.ring_words.specs.Controlled.{GoesOn}
 use Rattle.ring_layout.specs.declared.message.Message.{Message}
 use Rattle.ring_layout.specs.Places.{index, max_position, room}
 use Rattle.ring_table.specs.declared.claim.PlacedMessage.{PlacedMessage}

@@ -2,10 +2,9 @@
 use Rattle.std.specs.Prelude.{◌≡◌, ◌≢◌, ◌⊎◌, ℕ, zero, suc, ◌+◌, ◌*◌, ◌/◌, ◌%◌, ◌<◌, ◌≤◌, ℤ, pos, ◌≤ℤ◌, FitsSigned, List, [], ◌∷◌, ◌++◌, length, All}
 use Rattle.std.specs.Int.{w32}
 use Rattle.ring_words.specs.declared.read.action.Action.{Action}
-use Rattle.ring_words.specs.declared.read.action.Action.TheVariants.{Abort, Break}
 use Rattle.ring_words.specs.declared.read.end.ReadEnd.{ReadEnd}
-use Rattle.ring_words.specs.declared.read.end.Stop.{Stop}
-use Rattle.ring_words.specs.Read.{GoesOn, stop_of}
+use Rattle.ring_words.specs.Controlled.{BrokenOff, CutShort, LetOn}
+use Rattle.ring_words.specs.Read.{stop_of}
 use Rattle.ring_layout.specs.declared.message.Message.{Message}
 use Rattle.ring_layout.specs.History.{IsMessage, span}
 use Rattle.ring_layout.specs.Handles.{Handles}
@@ -101,34 +100,19 @@ pub record IsNext (v w : View) (m : Message) : Type 0 where
   pub lawful : IsMessage w.capacity m
 
 -- the handler let the read go on after each message
-pub record WentOn {S : Type 0} (step : S → Message → S → Action → Type 0) (limit : ℕ) (v w : View) (s t : S)
-    (end : ReadEnd) : Type 0 where
-  pub reads : Reads step limit v w s t end.messages
-  pub went_on : All GoesOn reads.actions
-  pub stopped : end.stopped ≡ stop_of w.capacity limit end.messages w.consumer.head end.bytes
+abbrev pub WentOn : {S : Type 0} → (S → Message → S → Action → Type 0) → ℕ → View → View → S → S → ReadEnd → Type 0
+WentOn step limit v w s t end = LetOn (Reads step limit v w s) (λ t n r. r.actions)
+    (stop_of w.capacity limit end.messages w.consumer.head end.bytes) t end
 
--- it stopped the read by Break at the last message, which was taken, and nothing was passed behind it
-pub record Broke {S : Type 0} (step : S → Message → S → Action → Type 0) (limit : ℕ) (v w : View) (s t : S)
-    (end : ReadEnd) : Type 0 where
-  pub reads : Reads step limit v w s t end.messages
-  pub before : List Action
-  pub went_on : All GoesOn before
-  pub broke : reads.actions ≡ before ++ Break ∷ []
-  pub tight : IsTight v.consumer.head reads.messages w.consumer.head
-  pub stopped : end.stopped ≡ Stop.Action
+-- it stopped the read by Break
+abbrev pub Broke : {S : Type 0} → (S → Message → S → Action → Type 0) → ℕ → View → View → S → S → ReadEnd → Type 0
+Broke step limit v w s t end = BrokenOff (Reads step limit v w s) (λ t n r. r.actions)
+    (λ t n r. IsTight v.consumer.head r.messages w.consumer.head) t end
 
--- it stopped the read by Abort at one message more, which was left
-pub record Aborts {S : Type 0} (step : S → Message → S → Action → Type 0) (limit : ℕ) (v w : View) (s t : S)
-    (end : ReadEnd) : Type 0 where
-  pub before : S
-  pub reads : Reads step limit v w s before end.messages
-  pub went_on : All GoesOn reads.actions
-  pub message : Message
-  pub aborted : step before message t Abort
-  pub next : IsNext v w message
-  pub before_limit : end.messages < limit
-  pub before_end : v.consumer.head < w.consumer.head → w.consumer.head % w.capacity ≢ 0
-  pub stopped : end.stopped ≡ Stop.Action
+-- it stopped the read by Abort
+abbrev pub Aborts : {S : Type 0} → (S → Message → S → Action → Type 0) → ℕ → View → View → S → S → ReadEnd → Type 0
+Aborts step limit v w s t end = CutShort step limit (Reads step limit v w s) (λ t n r. r.actions) (IsNext v w)
+    (v.consumer.head < w.consumer.head → w.consumer.head % w.capacity ≢ 0) t end
 
 -- a read that the handler controls
 abbrev pub Controls : {S : Type 0} → (S → Message → S → Action → Type 0) → ℕ → View → View → S → S → ReadEnd → Type 0

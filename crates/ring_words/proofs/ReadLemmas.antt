@@ -17,7 +17,8 @@ use Rattle.ring_layout.specs.Headers.{padding_type}
 use Rattle.ring_words.specs.Ring.{Ring, Has, IsRing, head_of}
 use Rattle.ring_layout.specs.Handles.{Handles}
 use Rattle.ring_words.specs.Reading.{Sees, SeesCommitted, IsAtHead, Leaves, MovesHead}
-use Rattle.ring_words.specs.Read.{Reads, Passes, IsHeadAfter, IsTight, GoesOn, IsNext, WentOn, Broke, Aborts, stop_of}
+use Rattle.ring_words.specs.Controlled.{GoesOn}
+use Rattle.ring_words.specs.Read.{Reads, Passes, IsHeadAfter, IsTight, IsNext, WentOn, Broke, Aborts, stop_of}
 use Rattle.ring_words.specs.Open.{ClaimAt, IsOpen, IsOpenIn}
 use Rattle.ring_words.specs.declared.read.action.Action.TheVariants.{Abort, Break, Commit, Continue}
 use Rattle.ring_words.specs.declared.read.end.ReadEnd.{ReadEnd}

@@ -11,7 +11,8 @@ use Rattle.ring_words.specs.declared.read.end.Stop.{Stop}
 use Rattle.ring_words.specs.declared.read.head.Settled.{Settled}
 use Rattle.ring_words.specs.Ring.{Ring, Has, IsRing, head_of}
 use Rattle.ring_words.specs.Reading.{Sees, SeesCommitted, Leaves, MovesHead}
-use Rattle.ring_words.specs.Read.{GoesOn, Broke, Aborts}
+use Rattle.ring_words.specs.Controlled.{GoesOn}
+use Rattle.ring_words.specs.Read.{Broke, Aborts}
 use Rattle.ring_words.proofs.ReadLemmas.{ReadsOn, aborts, broke, inside_from, next_is, reads_on_message, reads_on_quiet}
 
 -- neither the limit nor the end of the buffer is reached

@@ -5,6 +5,7 @@ pub mod Change
 pub mod Storing
 pub mod Fresh
 pub mod Reading
+pub mod Controlled
 pub mod Read
 pub mod Standing
 pub mod Across

@@ -1,7 +1,6 @@
 -- What a read does.
 use Rattle.std.specs.Prelude.{◌≡◌, ◌≢◌, ◌⊎◌, ℕ, ◌+◌, ◌<◌, ◌%◌, ◌==◌, ◌&&◌, nat_lt, List, [], ◌∷◌, ◌++◌, length, All, if◌then◌else◌}
 use Rattle.ring_words.specs.declared.read.action.Action.{Action}
-use Rattle.ring_words.specs.declared.read.action.Action.TheVariants.{Abort, Break, Commit, Continue}
 use Rattle.ring_words.specs.declared.read.end.ReadEnd.{ReadEnd}
 use Rattle.ring_words.specs.declared.read.end.Stop.{Stop}
 use Rattle.ring_words.specs.declared.read.end.Stop.TheVariants.{Limit, Block, Unpublished}
@@ -13,6 +12,7 @@ use Rattle.ring_layout.specs.Places.{next_place, end_of}
 use Rattle.ring_words.specs.Ring.{Ring, Has, head_of}
 use Rattle.ring_layout.specs.Handles.{Handles}
 use Rattle.ring_words.specs.Reading.{IsAtHead, MovesHead}
+use Rattle.ring_words.specs.Controlled.{BrokenOff, CutShort, LetOn}
 
 -- the head is the end of the claims passed or, where padding follows, the place of the next claim
 abbrev pub IsHeadAfter : ℕ → ℕ → List Claim → List Claim → ℕ → Type 0
@@ -61,48 +61,26 @@ pub record ReadsTo {S : Type 0} (step : S → Message → S → Action → Type 
   pub bytes : head_of old + end.bytes ≡ head_of new
   pub stopped : end.stopped ≡ stop_of new.capacity limit end.messages (head_of new) end.bytes
 
--- an action after which a controlled read goes on
-abbrev pub GoesOn : Action → Type 0
-GoesOn Abort = ⊥
-GoesOn Break = ⊥
-GoesOn Commit = Unit {0}
-GoesOn Continue = Unit {0}
-
 -- the message m lies at the head of each history that the ring has
 abbrev pub IsNext : Ring → Message → Type 0
 IsNext r m = (h : List Claim) → Has r h → (c : Claim) × (rest : List Claim) × (h ≡ c ∷ rest) × (c.state ≡ Committed)
     × (c.message ≡ m) × IsAtHead r c
 
 -- the handler let the read go on after each message
-pub record WentOn {S : Type 0} (step : S → Message → S → Action → Type 0) (limit : ℕ) (old new : Ring) (s t : S)
-    (end : ReadEnd) : Type 0 where
-  pub reads : Reads step limit old new s t end.messages
-  pub went_on : All GoesOn reads.actions
-  pub stopped : end.stopped ≡ stop_of new.capacity limit end.messages (head_of new) end.bytes
+abbrev pub WentOn : {S : Type 0} → (S → Message → S → Action → Type 0) → ℕ → Ring → Ring → S → S → ReadEnd → Type 0
+WentOn step limit old new s t end = LetOn (Reads step limit old new s) (λ t n r. r.actions)
+    (stop_of new.capacity limit end.messages (head_of new) end.bytes) t end
 
--- it stopped the read by Break at the last message, which was taken, and nothing was passed behind it
-pub record Broke {S : Type 0} (step : S → Message → S → Action → Type 0) (limit : ℕ) (old new : Ring) (s t : S)
-    (end : ReadEnd) : Type 0 where
-  pub reads : Reads step limit old new s t end.messages
-  pub before : List Action
-  pub went_on : All GoesOn before
-  pub broke : reads.actions ≡ before ++ Break ∷ []
-  pub tight : (h : List Claim) (has : Has old h)
-      → IsTight old.capacity (head_of old) (reads.passes h has).passed (head_of new)
-  pub stopped : end.stopped ≡ Stop.Action
+-- it stopped the read by Break
+abbrev pub Broke : {S : Type 0} → (S → Message → S → Action → Type 0) → ℕ → Ring → Ring → S → S → ReadEnd → Type 0
+Broke step limit old new s t end = BrokenOff (Reads step limit old new s) (λ t n r. r.actions)
+    (λ t n r. (h : List Claim) (has : Has old h) → IsTight old.capacity (head_of old) (r.passes h has).passed (head_of new))
+    t end
 
--- it stopped the read by Abort at one message more, which was left
-pub record Aborts {S : Type 0} (step : S → Message → S → Action → Type 0) (limit : ℕ) (old new : Ring) (s t : S)
-    (end : ReadEnd) : Type 0 where
-  pub before : S
-  pub reads : Reads step limit old new s before end.messages
-  pub went_on : All GoesOn reads.actions
-  pub message : Message
-  pub aborted : step before message t Abort
-  pub next : IsNext new message
-  pub before_limit : end.messages < limit
-  pub before_end : head_of old < head_of new → head_of new % new.capacity ≢ 0
-  pub stopped : end.stopped ≡ Stop.Action
+-- it stopped the read by Abort
+abbrev pub Aborts : {S : Type 0} → (S → Message → S → Action → Type 0) → ℕ → Ring → Ring → S → S → ReadEnd → Type 0
+Aborts step limit old new s t end = CutShort step limit (Reads step limit old new s) (λ t n r. r.actions) (IsNext new)
+    (head_of old < head_of new → head_of new % new.capacity ≢ 0) t end
 
 -- a read that the handler controls
 abbrev pub Controls : {S : Type 0} → (S → Message → S → Action → Type 0) → ℕ → Ring → Ring → S → S → ReadEnd → Type 0

@@ -1,5 +1,5 @@
 use Rattle.std.proofs.Common.{◌≡◌, false, ℕ, sym, ◌∙◌, subst, arith}
-use Rattle.ring_words.specs.Read.{GoesOn}
+use Rattle.ring_words.specs.Controlled.{GoesOn}
 use Rattle.ring_rings.specs.Seats.{seat_view}
 use Rattle.ring_rings.specs.ReadingSteps.{heeded}
 use Rattle.ring_rings.proofs.ReadingSeats.{same_none, same_more}

@@ -3,7 +3,8 @@ use Rattle.std.specs.Int.{w32}
 use Rattle.ring_layout.specs.declared.message.Claim.{Claim}
 use Rattle.ring_words.specs.Ring.{Ring, head_of, Has}
 use Rattle.ring_words.specs.Open.{IsOpen}
-use Rattle.ring_words.specs.Read.{GoesOn, Broke}
+use Rattle.ring_words.specs.Controlled.{GoesOn}
+use Rattle.ring_words.specs.Read.{Broke}
 use Rattle.ring_words.specs.Reading.{Sees}
 use Rattle.ring_words.proofs.ReadLemmas.{padding_from, reads_keeps, reads_on_none, went_on}
 use Rattle.ring_words.proofs.ReadTurns.{breaks, goes_on_past, goes_past, goes_to, leaves_it}
