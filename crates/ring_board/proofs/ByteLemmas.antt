@@ -99,7 +99,7 @@ module _ (C : ℕ) (m : Message) (narrow : C ≤ 2 ^ 24) (lawful : IsMessage C m
   bytes_back : take (body_len (header_of m)) (bytes_of (words_of_body m.body)) ≡ m.body
   bytes_back = let a = announced_header in
       ap (λ n. take n (bytes_of (words_of_body m.body))) (let e : body_len (header_of m)
-          ≡ length m.body = omega arith in e)
+      ≡ length m.body = omega arith in e)
       ∙ body_back
 
   -- a message is the one that its header announces, with its body

@@ -28,7 +28,7 @@ Rising C (x ∷ xs) =
 abbrev Chosen : ℕ → List (ℕ × ℕ) → ℕ → ℕ → ℕ → Type 0
 Chosen C xs i w v =
     ((x : ℕ × ℕ) × IsNewestAt C xs i v x) ⊎ (((j : ℕ) (y : ℕ × ℕ) → get_elem? xs j ≡ some y
-        → index C y.0 ≢ i) × (v ≡ w))
+    → index C y.0 ≢ i) × (v ≡ w))
 
 none_else : (C i : ℕ) (x : ℕ × ℕ) (xs : List (ℕ × ℕ)) → index C x.0 ≢ i
     → ((j : ℕ) (y : ℕ × ℕ) → get_elem? xs j ≡ some y → index C y.0 ≢ i)

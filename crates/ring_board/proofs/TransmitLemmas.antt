@@ -60,7 +60,7 @@ module _ (C e : ℕ) where
     word_stored_at : (st : Stage) (p x : ℕ) → p % 8 ≡ 0 → end_of e me.sent ≤ p → p < intent e me.sent me.stage
         → intent e me.sent st ≡ intent e me.sent me.stage → latest e me.sent st ≡ latest e me.sent me.stage
         → with_latest me.sent st ≡ with_latest me.sent me.stage
-            → so_far me.sent st ≡ so_far me.sent me.stage ++ (p, x) ∷ []
+        → so_far me.sent st ≡ so_far me.sent me.stage ++ (p, x) ∷ []
         → Running C (end_of e me.sent) (set s.words (index C p) x) st
         → Knows C e id (at_stage me st) id (at_stage me st) st → Kept (index C p) x (at_stage me st)
     word_stored_at st p x p8 after below i l sh grows running mine =
@@ -92,7 +92,7 @@ module _ (C e : ℕ) where
               ∙ ap (λ (l : List (ℕ × ℕ)). last_at C l c 0) (sym grows);
         }) h.seated.behind mine
         (λ j v. knows_moves C e id me (at_stage me st) (λ u. subst
-            (λ (l : List Record). Receives e me.sent l u) (sym sh))
+        (λ (l : List Record). Receives e me.sent l u) (sym sh))
         (λ k r at. at)
         (subst (λ (y : ℕ). intent e me.sent me.stage ≤ y) (sym i) (omega arith)) j v v.stage)
         (λ v u. u) (loads_rise C e me.sent me.stage st
@@ -220,9 +220,9 @@ module _ (C e : ℕ) where
     intent_stored_as : (st : Stage) (z : ℕ) → me.stage ≡ Idle → z ≤ max_position → end_of e me.sent ≤ z
         → intent e me.sent st ≡ z
         → latest e me.sent st ≡ last_of e me.sent → with_latest me.sent st ≡ me.sent
-            → so_far me.sent st ≡ stores_of me.sent
+        → so_far me.sent st ≡ stores_of me.sent
         → Running C (end_of e me.sent) (set s.words (C / 8 + 0) z) st
-            → Knows C e id (at_stage me st) id (at_stage me st) st
+        → Knows C e id (at_stage me st) id (at_stage me st) st
         → Kept (C / 8 + 0) z (at_stage me st)
     intent_stored_as st z eq low later i l sh grows running mine =
         let roomy = h.lawful.roomy in let whole = h.lawful.whole in

@@ -125,4 +125,4 @@ pub record IsNewestAt (C : ℕ) (xs : List (ℕ × ℕ)) (i w : ℕ) (x : ℕ ×
 abbrev pub IsBoardWord : ℕ → List (ℕ × ℕ) → ℕ → ℕ → Type 0
 IsBoardWord C xs i w =
     ((x : ℕ × ℕ) × IsNewestAt C xs i w x) ⊎ (((j : ℕ) (y : ℕ × ℕ) → get_elem? xs j ≡ some y
-        → index C y.0 ≢ i) × (w ≡ 0))
+    → index C y.0 ≢ i) × (w ≡ 0))

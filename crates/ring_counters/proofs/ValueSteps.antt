@@ -82,12 +82,12 @@ index_set xs i j v h =
 
 fits_set : (writer : ℕ) (all : List ValueWrite) (views : List ValuesView) (by : ℕ) (w : ValuesView)
     → ((j : ℕ) (u : ValuesView) → j ≢ by → get_elem? views j ≡ some u → KnowsWrites writer all j u)
-        → KnowsWrites writer all by w
+    → KnowsWrites writer all by w
     → (j : ℕ) (u : ValuesView) → get_elem? (set views by w) j ≡ some u → KnowsWrites writer all j u
 fits_set writer all views by w others mine j u e =
     ⊎_elim
     (λ (x : (j ≡ by) × (w ≡ u)). subst (λ (y : ℕ
-        × ValuesView). KnowsWrites writer all y.0 y.1) (λ i. (sym x.0 i, x.1 i)) mine)
+    × ValuesView). KnowsWrites writer all y.0 y.1) (λ i. (sym x.0 i, x.1 i)) mine)
     (λ (x : (j ≢ by) × (get_elem? views j ≡ some u)). others j u x.0 x.1)
     (at_set views by j w u e)
 

@@ -2,8 +2,8 @@
 use Rattle.std.proofs.Common.{◌≡◌, ℕ, ◌+◌, ◌-◌, ◌*◌, ◌/◌, ◌%◌, ◌^◌, ◌<◌, ◌&&◌, nat_le, true, zero, suc, ap, sym, ◌∙◌, arith, inl, inr, IsTrue}
 use Rattle.std.specs.Int.{is_power_of_two, IsPowerOfTwo}
 use Rattle.std.specs.Int.RustNames.{bit_and, count_ones}
-use Rattle.std.proofs.lemmas.Nat.{and_mask, ones_cat, pow-add, pow_pos, zero_from_ones, div-add-mod', mod_below}
-use Rattle.std.proofs.lemmas.Bool.{cases_eq, eqb-true, and_parts, and_from, leb-true, le-leb}
+use Rattle.std.proofs.lemmas.Nat.{and_mask, ones_cat, pow-add, zero_from_ones, div-add-mod', mod_below}
+use Rattle.std.proofs.lemmas.Bool.{cases_eq, eqb-true, and_from, le-leb}
 use Rattle.ring_layout.specs.Places.{is_capacity, IsCapacity}
 
 pub capacity_blocks : (c : ℕ) → IsCapacity c → c % 128 ≡ 0

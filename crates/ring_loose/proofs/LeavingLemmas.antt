@@ -38,7 +38,7 @@ module _ (n : ℕ) (now next : Crowd) (inside : n < length now.receivers) where
 
   pub left_on : {T : Type 0} (r : Option T) → IfNone r ((next.transmitter ≡ now.transmitter)
       × (next.receivers ≡ now.receivers)) → OnSome r (LeavesCrowd now (n + 1) next)
-          → IfNone r (IsFree now.receivers (n + 1))
+      → IfNone r (IsFree now.receivers (n + 1))
       → left_from (n + 1) next ≡ left_from n now
   left_on None same did free = passes (ap view_of same.0) same.1 free
   left_on (Some x) same did free = leaves did

@@ -99,7 +99,7 @@ pub encodes_reply : (r : Reply) (text old new : List ℕ) (result : Option ℕ) 
 encodes_reply r text old new result len has e is w =
     let spelled : WritesText (reply.spelling_of r) old new (Some len) =
     subst (λ (t : List ℕ). WritesText t old new (Some len)) e (subst
-        (λ (o : Option ℕ). WritesText text old new o) is w) in
+    (λ (o : Option ℕ). WritesText text old new o) is w) in
     record { has_spelling = has; len = spelled.len; written = spelled.some }
 
 -- ---- what was written is read again

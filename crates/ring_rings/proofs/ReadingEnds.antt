@@ -108,7 +108,7 @@ module _ {S : Type 0} (step : S → Message → S → Action → Type 0) where
 
   pub ends_left : (C scan : ℕ) (got : List PlacedMessage) (w x y : View) (s t : S) (n : ℕ) (a : Action)
       (f : ShowsOne step C scan got w s n a x t) → SettlesUpTo scan got x y
-          → Ends scan got w y (record_loads C f.message)
+      → Ends scan got w y (record_loads C f.message)
   ends_left C scan got w x y s t n a f = ends_more scan got w x y (record_loads C f.message) (loads_by w x _ _ f.view)
       (ap (λ (z : View). z.consumer.heartbeats) f.view)
 

@@ -183,7 +183,7 @@ module _ {S : Type 0} {step : S → Message → S → Action → Type 0} {limit 
         let last : more.0.actions ≡ q.runs.0.actions ++ Break ∷ [] =
         more.2 ∙ ap (λ (b : Action). q.runs.0.actions ++ b ∷ []) is in
         let p' = subst (λ (l : List PlacedMessage). SettlesUpTo (scan + n) (v.consumer.taken ++ l) x y)
-            (sym more.1) p in
+        (sym more.1) p in
         inr (inl (broke step limit v x y s u (scan + n)
         (count + 1) more.0 q.runs.0.actions q.runs.1 last more.3 p' end d.messages d.stopped))
 

@@ -321,7 +321,7 @@ exact C words tail ok (c ∷ h) m e aligned enough lie =
     let whole : place % 8 ≡ 0 = place_aligned C words tail e c h ok aligned lie in
     let behind : List Entry = ok_records (records_of C (place + span n) h) in
     let from_claim : (k : ℕ) → tail ≤ place + 8 * k
-        → listing C words tail k place ≡ Ok (record_of_claim C place c) ∷ behind =
+    → listing C words tail k place ≡ Ok (record_of_claim C place c) ∷ behind =
     λ k much.
     let (less, is) = some_suc k (omega (arith, much, end, b)) in
     let rest : listing C words tail less (place + span n) ≡ behind =
@@ -333,7 +333,7 @@ exact C words tail ok (c ∷ h) m e aligned enough lie =
     ∙ ap (followed (λ (r : Record). r.length) (listing C words tail less) place)
     (claim_entry C words tail e c h ok aligned lie)
     ∙ ap (λ x. Ok (record_of_claim C place c) ∷ listing C words tail less (place + up_to_eight x))
-        (length_of_state C place c)
+    (length_of_state C place c)
     ∙ ap (λ xs. Ok (record_of_claim C place c) ∷ xs) rest in
     elim (cases_lt e place) as (λ _. listing C words tail m e ≡ ok_records (records_of C e (c ∷ h))) [
       | inl before ↦

@@ -5,7 +5,7 @@ use Rattle.std.specs.Int.{to_le_bytes, w64}
 use Rattle.std.proofs.lemmas.Bool.{cases_lt}
 use Rattle.std.proofs.lemmas.Nat.{from_le_bytes-to_le_bytes_8}
 use Rattle.std.proofs.lemmas.List.{length-take, length-drop, length-append, get_or_append_left, get_or-append_right, get_or-take, get_or-drop, get_or-replicate, get_or_past, length-replicate}
-use Rattle.std.proofs.lemmas.List.Elements.{All-append, All-take, All-drop, All-replicate}
+use Rattle.std.proofs.lemmas.List.Elements.{All-append, All-take, All-drop}
 use Rattle.ring_layout.proofs.WordBytes.{from_le_bytes-same}
 use Rattle.ring_table.specs.Staged.{body_word}
 use Rattle.ring_table.specs.Changes.{with_word}

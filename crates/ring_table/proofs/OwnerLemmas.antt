@@ -1,5 +1,5 @@
 -- The claims of several producers make one history.
-use Rattle.std.proofs.Common.{◌≡◌, ◌≢◌, ℕ, ◌≤◌, ◌<◌, List, [], ◌∷◌, Bool, true, false, cond, eqb, ltb, true≢false, sym, refl, ap, ◌∙◌, lt-ltb, le-ltb, eq-eqb, ne_eqb, arith}
+use Rattle.std.proofs.Common.{◌≡◌, ◌≢◌, ℕ, ◌<◌, List, [], ◌∷◌, Bool, true, false, cond, eqb, ltb, true≢false, sym, refl, ap, ◌∙◌, lt-ltb, le-ltb, eq-eqb, ne_eqb, arith}
 use mathlib.Core.Logic.{dite}
 use native.Mathlib.Decide.{ℕ_discrete}
 use Rattle.ring_layout.proofs.PlaceLemmas.{next_le}

@@ -8,7 +8,7 @@ use Rattle.std.proofs.lemmas.Bool.{cases_lt}
 use Rattle.atomic_table.proofs.Lists.{at_longer}
 use Rattle.ring_table.specs.Services.{Service, total, times, times_drawn, once_below, AreRisingBelow, NeverGoBack, AreServed}
 use Rattle.ring_table.specs.Views.{ProducerView, with_draw}
-use Rattle.ring_table.proofs.Sums.{total-append, at_below}
+use Rattle.ring_table.proofs.Sums.{total-append}
 
 -- ---- draws
 

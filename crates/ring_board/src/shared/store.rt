@@ -82,7 +82,7 @@ impl Board {
         requires seat { IsSeatOf self.now seat.old }
         requires stage { (d : Draft) × (m : Message) × (seat.old.me.0.stage ≡ Storing d) × (place ≡ d.place)
             × IsMessage self.now.capacity m × (words_of_body m.body ≡ d.words)
-                × (d.place + span (length m.body) ≡ d.end)
+            × (d.place + span (length m.body) ≡ d.end)
             × (word ≡ header_of m) }
         ensures same { IsSameSeat seat.old seat.new }
         ensures written { StoresHeader seat.old.me word seat.new.me }

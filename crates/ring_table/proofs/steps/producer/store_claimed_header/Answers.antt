@@ -41,7 +41,7 @@ returns-clause-view c =
     let zeros = length-replicate {A = ℕ} c.args.wanted.len 0 in
     let small : 8 + c.args.wanted.len < 2 ^ 31 = omega arith in
     after_change Padded (λ c. c.place)
-        (with_header c.args.wanted.type_id c.args.wanted.len) c.args.capacity _ c.args.place
+    (with_header c.args.wanted.type_id c.args.wanted.len) c.args.capacity _ c.args.place
     c.args.producer.now.me.0 _ _ h s.view_is h.holds.stage
     (c.word_index.ensures ∙ ap (index c.args.capacity) (sym h.at_place))
     (c.store.ensures.2.1 c.args.wanted.type_id c.args.wanted.len c.requires.message.type_fits small
