@@ -3,6 +3,8 @@ use ring_conductor::{Gate, OpenGate, StormFault, StormPlan, storm};
 use std::sync::atomic::Ordering::SeqCst;
 use std::sync::atomic::{AtomicBool, AtomicU32};
 use std::test::Fail;
+use std::thread::sleep;
+use std::time::Duration;
 
 /// Notes whether each client asks and tells in order: it asks for its next command once the last one was answered,
 /// and tells of an answer once it was let send that command.
@@ -130,4 +132,68 @@ fn no_answer_is_told_where_no_conductor_works(rt: HostRuntime) {
     assert_eq!(rt; report, Err(StormFault::OutOfMemory));
     assert!(rt; gate.asked.load(SeqCst));
     assert!(rt; !gate.told.load(SeqCst));
+}
+
+/// Keeps the conductor back until both clients were let send and had time to do so, and notes how many answers were
+/// told by then.
+#[derive(Drop)]
+struct LateConductor<'a> {
+    rt: &'a HostRuntime,
+    let_send: AtomicU32,
+    told: AtomicU32,
+    told_before: AtomicU32,
+}
+
+impl LateConductor<'_> {
+    /// Waits until both clients were let send. False where that takes more than ten seconds.
+    fn let_both_send(&self) -> bool {
+        for _ in 0..10_000 {
+            if self.let_send.load(SeqCst) == 2 {
+                return true;
+            }
+            sleep(self.rt, Duration::from_millis(1));
+        }
+        false
+    }
+}
+
+impl Gate for LateConductor<'_> {
+    fn may_send(&self, _client: u32, _number: u32) -> bool {
+        self.let_send.fetch_add(1, SeqCst);
+        true
+    }
+
+    fn answered(&self, _client: u32, _number: u32) {
+        self.told.fetch_add(1, SeqCst);
+    }
+
+    fn may_start(&self, thread: u32) -> bool {
+        if thread == 2 && self.let_both_send() {
+            sleep(self.rt, Duration::from_millis(50));
+            self.told_before.store(self.told.load(SeqCst), SeqCst);
+        }
+        true
+    }
+}
+
+#[test]
+fn no_answer_is_told_before_the_conductor_works(rt: HostRuntime) -> Result<(), Fail> {
+    let gate = LateConductor {
+        rt: &rt,
+        let_send: AtomicU32::new(0),
+        told: AtomicU32::new(0),
+        // It stays so where the clients were not waited for.
+        told_before: AtomicU32::new(u32::MAX),
+    };
+    let plan = StormPlan {
+        clients: 2,
+        commands: 1,
+        ring: 256,
+        turns: 50_000_000,
+    };
+    let report = storm(&rt, rt.alloc(), &plan, &gate)?;
+    assert_eq!(rt; report.seen, 2);
+    assert_eq!(rt; gate.told_before.load(SeqCst), 0);
+    assert_eq!(rt; gate.told.load(SeqCst), 2);
+    Ok(())
 }
