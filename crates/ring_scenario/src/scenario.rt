@@ -3,12 +3,15 @@ ghost use Rattle.std.specs.Prelude.{◌≡◌, ◌≤◌, length, Some, IfSome, 
 ghost use Rattle.ring_scenario.specs.Faults.{IsEarly};
 ghost use Rattle.ring_scenario.specs.Sizes.{size_fault_of};
 ghost use Rattle.ring_lines.specs.Text.{lines_of, AllBlank, IsEnded, TakesEnd};
+ghost use Rattle.ring_counters.specs.Manager.{registry_of};
+ghost use Rattle.ring_counters.specs.Registry.{live_of};
 
 use crate::fault::RunFault;
 use crate::input::read_input;
 use crate::options::Options;
 use crate::runner::{Ended, Runner};
 use crate::service::Served;
+use ring_counters::CountersManager;
 use ring_lines::{Line, Lines, MAX_INPUT};
 use std::alloc::Global;
 use std::io::{Read, Write};
@@ -119,16 +122,22 @@ fn write_end<O: Write>(alloc: Global, ended: Ended, writer: &mut O) -> Result<()
 fn write_finished<O: Write>(alloc: Global, served: &Served, writer: &mut O) -> Result<(), RunFault>
     ensures late { IfErr result (λ fault. ¬ IsEarly fault) }
 {
-    let Ok(live) = served.counters.live(alloc) else {
-        return Err(RunFault::OutOfMemory);
-    };
     let text = format!(in alloc;
         "finished received {} left {} live {}\n",
         served.received,
         served.left,
-        live.len()
+        count_live(&served.counters)
     )?;
     write_text(writer, text.as_str())
+}
+
+/// How many counters are in use.
+fn count_live(counters: &CountersManager) -> usize
+    ensures { result ≡ length (live_of (registry_of counters.now)) }
+{
+    // The proof wants a bound: those in use are no more than all, whose number is a u32.
+    let _all = counters.count();
+    counters.iter().count()
 }
 
 fn write_text<O: Write>(writer: &mut O, text: &str) -> Result<(), RunFault>
