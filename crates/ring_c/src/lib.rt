@@ -17,6 +17,7 @@ mod exports;
 mod finishing;
 mod handle;
 mod held;
+mod identity;
 mod lending;
 mod loose;
 mod producer;

@@ -1,6 +1,6 @@
 //! Rings and boards that end, and what boards and counters take back.
 ghost use Rattle.ring_c.specs.Finishing.{Finishes, IsNotLast, IsUnfinished, TakesLast};
-ghost use Rattle.ring_c.specs.Returning.{EndsAt, IsAstray, IsBoardKept, IsLent, IsOfThese, IsOfThisBoard};
+ghost use Rattle.ring_c.specs.Returning.{EndsAt, IsAstray, IsBoardKept, IsOfOthers, IsOfThese, IsOfThisBoard};
 ghost use Rattle.ring_c.specs.Returning.{IsRawAstray, IsRawOfThisBoard, TakesListener, TakesLoads, TakesWatcher};
 ghost use Rattle.ring_c.specs.Side.{IsOfThisRing};
 ghost use Rattle.ring_c.specs.Told.{a_consumer, a_producer, a_raw_receiver, a_reader, a_receiver, a_transmitter};
@@ -82,7 +82,7 @@ pub extern "C" fn felter_counters_join(
     reader: &mut Handle,
 ) -> i32
     requires { WhereBoth some_counters a_reader IsOfThese counters.old.held reader.old.held }
-    ensures { JoinsInto some_counters a_reader TakesLoads IsLent counters.old.held reader.old.held
+    ensures { JoinsInto some_counters a_reader TakesLoads IsOfOthers counters.old.held reader.old.held
         counters.new.held reader.new.held result }
 {
     join_into!(counters, reader, alloc, Counters(side), Reader(joining) => side.join(joining))
