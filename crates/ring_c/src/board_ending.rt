@@ -34,10 +34,7 @@ impl TransmitterSide {
     }
 
     /// Takes a raw receiver of the board back, with its share. Else it comes back.
-    pub(crate) fn join_raw(
-        &mut self,
-        raw: RawReceiverSide,
-    ) -> Result<(), (i32, RawReceiverSide)>
+    pub(crate) fn join_raw(&mut self, raw: RawReceiverSide) -> Result<(), (i32, RawReceiverSide)>
         requires { IsRawOfThisBoard self.old raw }
         ensures joined { OnOk result (TakesWatcher self.old raw self.new) }
         ensures refused { IfErr result (λ r. (self.new ≡ self.old) × (r.1 ≡ raw)

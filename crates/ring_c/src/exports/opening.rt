@@ -20,7 +20,8 @@ use std::sync::Arc;
 /// What two handles are filled with.
 type Pair = (Box<Held>, Box<Held>);
 
-/// Puts a new ring's producer and consumer into boxes.
+/// Puts a new ring's producer and consumer into boxes, with one number, which is drawn for both. 3 where there is no
+/// memory, or no random number.
 fn box_both(
     alloc: Global,
     ring: AnyRing,
