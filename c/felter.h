@@ -18,11 +18,11 @@
  *      during a call: a handle that a call was working on is empty then.
  *   5. malloc, realloc and free are one allocator, and align to 16 bytes. The processor has x86-64-v2.
  *
- * Two handles of one call are of one ring, board, conductor or set of counters: a call that takes a handle in
- * (felter_join, felter_close) or back (the others with `join` in their names) answers FELTER_OTHER_RING else, and where a
- * conductor is behind one of the two handles alone. Each ring, board, conductor and set of counters has a number for
- * that, of 64 bits that getentropy gives when it is made. What is proved holds unless two that live have the same, which
- * happens to one pair in 2^64.
+ * Two handles of one call are of one ring, board, conductor or set of counters. A call that takes a handle in
+ * (felter_join, felter_close) or back (the others with `join` in their names) answers FELTER_OTHER_RING else, and where
+ * a conductor is behind one of the two handles alone. It compares numbers: each ring, board, conductor and set of
+ * counters has one, of 64 bits that getentropy gives when it is made. What is proved holds unless two that live have
+ * the same, which happens to one pair in 2^64.
  *
  * Answers. Each call but felter_free answers a code of enum felter_code; FELTER_OK is 0. A call that refuses leaves
  * every handle as it was. Out numbers are written on FELTER_OK alone, unless a call says otherwise. Nothing waits:
@@ -77,7 +77,7 @@ enum felter_code {
     FELTER_NO_MESSAGE = 105,          /* nothing is there yet */
     FELTER_SHORT_BUFFER = 106,        /* the message is longer than the buffer, and stays */
     FELTER_BAD_MOMENT = 107,          /* the moment is above 2^62 */
-    FELTER_OTHER_RING = 108,          /* the two handles are of two rings, boards or sets of counters */
+    FELTER_OTHER_RING = 108,          /* the two handles are of two rings, boards, conductors or sets of counters */
     FELTER_OTHER_REPLY = 109,         /* what came is the reply to another command, or none */
     FELTER_IN_USE = 110               /* another handle holds what was to be closed */
 };
@@ -173,8 +173,8 @@ int32_t felter_read_batch(felter_consumer *consumer, uint32_t limit, uint32_t *c
                           size_t room);
 
 /* Takes the producer of the consumer's ring, of either kind, which holds all 65,536 shares and has no open claim, into
- * the consumer, and empties the producer's handle. Nothing can be written any more. What lies in the ring stays, and the
- * consumer reads on as before. FELTER_OTHER_RING, also where the consumer took a producer in before; then
+ * the consumer, and empties the producer's handle. Nothing can be written any more. What lies in the ring stays, and
+ * the consumer reads on as before. FELTER_OTHER_RING, also where the consumer took a producer in before; then
  * FELTER_CLAIMS_OPEN, and then FELTER_PRODUCERS_OUT where one that was split off was not taken in by felter_join. */
 int32_t felter_close(felter_consumer *consumer, felter_producer *producer);
 /* Ends the ring of a consumer that took its producer in, and empties the consumer's handle. Says how many messages were

@@ -323,7 +323,8 @@ static uint32_t shares_of(felter_producer *producer) {
 static void splits(void) {
     felter_producer producer = FELTER_EMPTY, other = FELTER_EMPTY, third = FELTER_EMPTY, fourth = FELTER_EMPTY;
     felter_producer single = FELTER_EMPTY, larger = FELTER_EMPTY, alike = FELTER_EMPTY;
-    felter_consumer consumer = FELTER_EMPTY, of_single = FELTER_EMPTY, of_larger = FELTER_EMPTY, of_alike = FELTER_EMPTY;
+    felter_consumer consumer = FELTER_EMPTY, of_single = FELTER_EMPTY, of_larger = FELTER_EMPTY;
+    felter_consumer of_alike = FELTER_EMPTY;
     EXPECT(FELTER_OK, felter_many_to_one_new(128, &producer, &consumer));
     EXPECT(FELTER_OK, felter_many_to_one_new(128, &alike, &of_alike));
     EXPECT(FELTER_OK, felter_many_to_one_new(256, &larger, &of_larger));
