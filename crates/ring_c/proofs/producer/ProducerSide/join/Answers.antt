@@ -20,11 +20,11 @@ invariant_of-self-2 c =
     sym (ap capacity_in c.in-Many-ring.is) ∙ ap (λ (s : Side). s.capacity) c.other.view_is ∙ sym (c.requires number).1
     ∙ sym (ap (λ (s : Side). s.capacity) c.self.view_is) ∙ ap capacity_in c.in-Many.is in
     let also = open_in (arc_value c.in-Many-ring.field-0) ring its.producer its.claims.items cap others.claimed in
-    let keeps = subst (λ r. KeepsBoth r mine.producer its.producer joined) c.deref-3.ensures c.join.ensures.claims in
+    let keeps = subst (λ r. KeepsBoth r mine.producer its.producer joined) c.deref.ensures c.join.ensures.claims in
     let are = both_open ring mine.producer its.producer joined mine.claims.items its.claims.items keeps own.claimed
     also in
     subst (λ r. IsSide r joined c.append.new.self.items) (sym c.in-Many.is)
     (record {
-      of = subst (λ r. IsProducerOf r joined) c.deref-3.ensures c.join.ensures.producer;
+      of = subst (λ r. IsProducerOf r joined) c.deref.ensures c.join.ensures.producer;
       claimed = subst (AreOpen ring joined) (sym c.in-Ok.ensures.items) are;
     })
