@@ -17,12 +17,11 @@
  *   4. No call from a signal handler or from a forked child of a process with threads, and no asynchronous cancellation
  *      during a call: a handle that a call was working on is empty then.
  *   5. malloc, realloc and free are one allocator, and align to 16 bytes. The processor has x86-64-v2.
- *
- * Two handles of one call are of one ring, board, conductor or set of counters. A call that takes a handle in
- * (felter_join, felter_close) or back (the others with `join` in their names) answers FELTER_OTHER_RING else, and where
- * a conductor is behind one of the two handles alone. It compares numbers: each ring, board, conductor and set of
- * counters has one, of 64 bits that getentropy gives when it is made. What is proved holds unless two that live have
- * the same, which happens to one pair in 2^64.
+ *   6. The handles of one call are of one ring, board, conductor or set of counters. A call that takes a handle in
+ *      (felter_join, felter_close) or back (the others with `join` in their names) answers FELTER_OTHER_RING where the
+ *      capacities differ, and where a conductor is behind one of the two handles alone. Two rings of one kind, two
+ *      boards and two conductors of one capacity are not told apart, nor are two sets of counters: what is proved does
+ *      not hold then.
  *
  * Answers. Each call but felter_free answers a code of enum felter_code; FELTER_OK is 0. A call that refuses leaves
  * every handle as it was. Out numbers are written on FELTER_OK alone, unless a call says otherwise. Nothing waits:
@@ -49,7 +48,7 @@ enum felter_code {
     /* Numbers of the library. */
     FELTER_BAD_CAPACITY = 1,          /* no power of two from 128 (of a board 256) to 2^24 */
     FELTER_BAD_START = 2,             /* no multiple of the capacity, or above 2^62 */
-    FELTER_OUT_OF_MEMORY = 3,         /* there was no memory; of a call that makes something new, or no random number */
+    FELTER_OUT_OF_MEMORY = 3,         /* there was no memory */
     FELTER_BAD_TYPE = 4,              /* the type id is below 1 */
     FELTER_TOO_LONG = 5,              /* more than an eighth of the capacity, or a command of more than 520 bytes */
     FELTER_POSITION_LIMIT = 6,        /* the record would end above 2^62 */
@@ -77,7 +76,7 @@ enum felter_code {
     FELTER_NO_MESSAGE = 105,          /* nothing is there yet */
     FELTER_SHORT_BUFFER = 106,        /* the message is longer than the buffer, and stays */
     FELTER_BAD_MOMENT = 107,          /* the moment is above 2^62 */
-    FELTER_OTHER_RING = 108,          /* the two handles are of two rings, boards, conductors or sets of counters */
+    FELTER_OTHER_RING = 108,          /* the two handles are of two rings, boards or sets of counters */
     FELTER_OTHER_REPLY = 109,         /* what came is the reply to another command, or none */
     FELTER_IN_USE = 110               /* another handle holds what was to be closed */
 };
@@ -135,9 +134,8 @@ int32_t felter_abort(felter_producer *producer, uint64_t claim);
 /* Makes another producer of a many-to-one ring, with one share and no claim: open ones stay the first producer's.
  * FELTER_NO_SHARES, FELTER_OUT_OF_MEMORY, FELTER_HANDLE_IN_USE; FELTER_WRONG_HANDLE of a one-to-one ring. */
 int32_t felter_split(felter_producer *producer, felter_producer *other);
-/* Takes another producer of the same many-to-one ring in, with its shares and its open claims, which keep their
- * numbers, and empties its handle. FELTER_WRONG_HANDLE of a one-to-one ring, then FELTER_OTHER_RING, and then
- * FELTER_OUT_OF_MEMORY. */
+/* Takes another producer of the same many-to-one ring in (rule 6), with its shares and its open claims, which keep
+ * their numbers, and empties its handle. FELTER_OTHER_RING, FELTER_OUT_OF_MEMORY. */
 int32_t felter_join(felter_producer *producer, felter_producer *other);
 
 /* Loads the head, and then the tail. */
@@ -172,14 +170,15 @@ typedef struct felter_record {
 int32_t felter_read_batch(felter_consumer *consumer, uint32_t limit, uint32_t *count, size_t *used, uint8_t *buffer,
                           size_t room);
 
-/* Takes the producer of the consumer's ring, of either kind, which holds all 65,536 shares and has no open claim, into
- * the consumer, and empties the producer's handle. Nothing can be written any more. What lies in the ring stays, and
- * the consumer reads on as before. FELTER_OTHER_RING, also where the consumer took a producer in before; then
- * FELTER_CLAIMS_OPEN, and then FELTER_PRODUCERS_OUT where one that was split off was not taken in by felter_join. */
+/* Takes the producer of a ring of either kind, which holds all 65,536 shares and has no open claim, into the consumer
+ * (rule 6), and empties the producer's handle. Nothing can be written any more. What lies in the ring stays, and the
+ * consumer reads on as before. FELTER_OTHER_RING, also of a ring of the other kind, and where the consumer took a
+ * producer in before; then FELTER_CLAIMS_OPEN, and then FELTER_PRODUCERS_OUT where one that was split off was not taken
+ * in by felter_join. */
 int32_t felter_close(felter_consumer *consumer, felter_producer *producer);
 /* Ends the ring of a consumer that took its producer in, and empties the consumer's handle. Says how many messages were
  * left unread, which are lost. FELTER_PRODUCERS_OUT where no felter_close took the producer in; FELTER_IN_USE where
- * another handle of the ring is there, which is not so where rule 1 was kept. */
+ * another handle of the ring is there, which is not so where rule 6 was kept. */
 int32_t felter_finish(felter_consumer *consumer, uint64_t *left);
 
 /* Boards --------------------------------------------------------------------------------------------------------- */
@@ -219,13 +218,13 @@ int32_t felter_validate(felter_raw_receiver *receiver);
 /* How often felter_receive_next answered FELTER_LAPPED. */
 int32_t felter_raw_lapped_count(felter_raw_receiver *receiver, uint64_t *count);
 
-/* Take back a receiver, or a raw one, of this board, with its share, and empty its handle. FELTER_OTHER_RING, also of
- * each receiver that felter_conductor_subscribe made. */
+/* Take back a receiver, or a raw one, of this board (rule 6), with its share, and empty its handle. FELTER_OTHER_RING,
+ * also of each receiver that felter_conductor_subscribe made. */
 int32_t felter_board_join(felter_transmitter *transmitter, felter_receiver *receiver);
 int32_t felter_board_join_raw(felter_transmitter *transmitter, felter_raw_receiver *receiver);
 /* Ends a board whose receivers of both kinds were all taken back, and empties the transmitter's handle. Says the tail:
  * the position where the last transmission ended, in bytes. FELTER_RECEIVERS_OUT where a receiver was not taken back;
- * FELTER_IN_USE where another handle of the board is there, which is not so where rule 1 was kept. */
+ * FELTER_IN_USE where another handle of the board is there, which is not so where rule 6 was kept. */
 int32_t felter_board_close(felter_transmitter *transmitter, uint64_t *tail);
 
 /* Counters ------------------------------------------------------------------------------------------------------- */
@@ -270,8 +269,8 @@ int32_t felter_counters_reader(felter_counters *counters, felter_reader *reader)
 /* Loads a value: of an id that was never used 0, of a freed one its last. No value that the reader has seen comes back
  * once a later one was loaded. FELTER_BAD_ID. */
 int32_t felter_reader_value(felter_reader *reader, uint32_t id, int64_t *value);
-/* Takes back a reader of these counters, with its share, and empties its handle. FELTER_OTHER_RING, also where
- * felter_conductor_reader made it. */
+/* Takes back a reader of these counters (rule 6), with its share, and empties its handle. FELTER_OTHER_RING where
+ * felter_conductor_reader made it; the readers of two sets of counters are not told apart. */
 int32_t felter_counters_join(felter_counters *counters, felter_reader *reader);
 
 /* Conductors ----------------------------------------------------------------------------------------------------- */
@@ -310,9 +309,9 @@ int32_t felter_conductor_subscribe(felter_conductor *conductor, felter_receiver 
 /* Makes a reader of the counters' values, for felter_reader_value; else as felter_counters_reader. */
 int32_t felter_conductor_reader(felter_conductor *conductor, felter_reader *reader);
 
-/* Take back a client, a receiver or a reader of this conductor's with its shares, and empty its handle. What a client
- * did not hear by then it does not hear. FELTER_OTHER_RING where another conductor made it, or none (felter_subscribe,
- * felter_counters_reader). */
+/* Take back a client, a receiver or a reader of this conductor's (rule 6) with its shares, and empty its handle. What a
+ * client did not hear by then it does not hear. FELTER_OTHER_RING where the receiver or the reader was made by no
+ * conductor (felter_subscribe, felter_counters_reader), or by one whose ring or board has another capacity. */
 int32_t felter_conductor_join(felter_conductor *conductor, felter_client *client);
 int32_t felter_conductor_join_receiver(felter_conductor *conductor, felter_receiver *receiver);
 int32_t felter_conductor_join_reader(felter_conductor *conductor, felter_reader *reader);

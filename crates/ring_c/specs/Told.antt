@@ -90,24 +90,10 @@ abbrev pub IsMakeCode : ℕ → ℕ → ℤ → Type 0
 IsMakeCode C start code =
     MatchOption (make_refusal_of (is_capacity C) C start) ((code ≡ pos 0) ⊎ (code ≡ pos 3)) (λ fault. code ≡ make_code fault)
 
--- a producer and the consumer of one ring, with its number, which know this
+-- a producer and the consumer of one ring, which know this
 pub record ArePaired (many : Bool) (C : ℕ) (v w : View) (p : Side) (c : Reading) : Type 0 where
-  pub producer : p ≡ record {
-    many = many;
-    table = p.table;
-    identity = p.identity;
-    capacity = C;
-    view = v;
-    claims = [];
-  }
-  pub consumer : c ≡ record {
-    many = many;
-    table = p.table;
-    identity = p.identity;
-    capacity = C;
-    view = w;
-    last = None;
-  }
+  pub producer : p ≡ record { many = many; table = p.table; capacity = C; view = v; claims = [] }
+  pub consumer : c ≡ record { many = many; table = p.table; capacity = C; view = w; last = None }
 
 abbrev pub HoldPair : Bool → ℕ → View → View → Option Held → Option Held → Type 0
 HoldPair many C v w p c = HoldsOne a_producer (λ s. HoldsOne a_consumer (λ r. ArePaired many C v w s r) c) p
@@ -148,8 +134,7 @@ IsBoardCode C start code =
 -- the transmitter holds all shares of a board on which nothing was transmitted
 abbrev pub HoldNewBoard : ℕ → ℕ → Option Held → Type 0
 HoldNewBoard C start h =
-    HoldsOne a_transmitter (λ p.
-    p ≡ record { table = p.table; identity = p.identity; capacity = C; view = opening_view C start }) h
+    HoldsOne a_transmitter (λ p. p ≡ record { table = p.table; capacity = C; view = opening_view C start }) h
 
 -- a handle in use answers 102 and stays as it is; else a board is made for it, or refused
 abbrev pub OpensBoard : ℕ → ℕ → Option Held → Option Held → ℤ → Type 0
@@ -184,6 +169,11 @@ OpensCounters count reuse_ms h h' code = ((h ≢ None) × (code ≡ pos 102) × 
 -- where the handle holds one of this kind, P holds of it
 abbrev pub IfHolds : {S : Type 0} → (Held → Option S) → (S → Type 0) → Option Held → Type 0
 IfHolds kind P held = MatchOption held (Unit {0}) (λ h. MatchOption (kind h) (Unit {0}) P)
+
+-- where both are producers, they are of one ring
+abbrev pub AreOfOneRing : Option Held → Option Held → Type 0
+AreOfOneRing p o =
+    IfHolds a_producer (λ s. IfHolds a_producer (λ t. (s.table ≡ t.table) × (s.capacity ≡ t.capacity)) o) p
 
 -- where the first holds one of this kind and the second one of that, P holds of the two
 abbrev pub WhereBoth : {S T : Type 0} → (Held → Option S) → (Held → Option T) → (S → T → Type 0) → Option Held

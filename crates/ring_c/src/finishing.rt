@@ -47,7 +47,6 @@ impl ConductorSide {
             shares,
         } = self;
         let Shared {
-            identity: _,
             ring,
             board,
             values,

@@ -5,7 +5,6 @@ ghost use Rattle.ring_c.specs.Raw.{seen, BodyLoaded, IsUnwatched, LoadsAnswered,
 
 use crate::boards::TransmitterSide;
 use crate::code::{DONE, LAPPED, NO_MESSAGE, NO_SHARES, OUT_OF_MEMORY, SHORT_BUFFER};
-use crate::identity::Identity;
 use ring_board::{Board, RawRecord, Receiver};
 use std::marker::Model;
 use std::sync::Arc;
@@ -14,8 +13,6 @@ use std::sync::Arc;
 #[derive(Drop)]
 pub struct RawReceiverSide {
     pub(crate) board: Arc<Board>,
-    /// The board's.
-    pub(crate) identity: Identity,
     pub(crate) receiver: Receiver,
     /// The record that it answered last.
     pub(crate) latest: Option<RawRecord>,
@@ -32,7 +29,6 @@ impl Model for RawReceiverSide {
 
     ghost view = { λ a. record {
       table = table_of (arc_value a.board);
-      identity = a.identity;
       capacity = capacity_of (arc_value a.board);
       seat = raw_seat a.receiver;
       latest =
@@ -55,7 +51,6 @@ impl TransmitterSide {
         match self.board.subscribe_raw(&mut self.transmitter) {
             Ok(receiver) => Ok(RawReceiverSide {
                 board,
-                identity: self.identity,
                 receiver,
                 latest: None,
             }),

@@ -4,7 +4,6 @@ ghost use Rattle.ring_c.specs.Conducting.{sizes_refused, IsConductorCode, IsNewC
 
 use crate::code::{BAD_CAPACITY, BAD_COUNT, OUT_OF_MEMORY};
 use crate::conductor::ConductorSide;
-use crate::identity::Identity;
 use crate::lending::Shared;
 use ring_board::Board;
 use ring_conductor::Conductor;
@@ -61,16 +60,14 @@ impl ConductorSide {
         else {
             return Err(OUT_OF_MEMORY);
         };
-        let Some(identity) = Identity::draw() else {
-            return Err(OUT_OF_MEMORY);
-        };
-        let shared = Shared {
-            identity,
-            ring,
-            board,
-            values,
-        };
-        let Ok(shared) = Arc::new(alloc, shared) else {
+        let Ok(shared) = Arc::new(
+            alloc,
+            Shared {
+                ring,
+                board,
+                values,
+            },
+        ) else {
             return Err(OUT_OF_MEMORY);
         };
         Ok(ConductorSide {

@@ -8,7 +8,6 @@ use crate::boards::TransmitterSide;
 use crate::code::{HANDLE_IN_USE, OUT_OF_MEMORY};
 use crate::handle::Handle;
 use crate::held::Held;
-use crate::identity::Identity;
 use crate::work_on::{fill, make_into, work_on};
 use ring_board::Board;
 use std::alloc::Global;
@@ -27,15 +26,10 @@ fn make_board(alloc: Global, capacity: u32, start: u64) -> Result<Box<Held>, i32
     let Ok(board) = Arc::new(alloc, board) else {
         return Err(OUT_OF_MEMORY);
     };
-    let Some(identity) = Identity::draw() else {
-        return Err(OUT_OF_MEMORY);
-    };
-    let side = TransmitterSide {
-        board,
-        identity,
-        transmitter,
-    };
-    match Box::new(alloc, Held::Transmitter(side)) {
+    match Box::new(
+        alloc,
+        Held::Transmitter(TransmitterSide { board, transmitter }),
+    ) {
         Ok(made) => Ok(made),
         Err(_) => Err(OUT_OF_MEMORY),
     }

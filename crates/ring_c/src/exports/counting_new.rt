@@ -7,7 +7,6 @@ use crate::code::OUT_OF_MEMORY;
 use crate::counters::CountersSide;
 use crate::handle::Handle;
 use crate::held::Held;
-use crate::identity::Identity;
 use crate::work_on::fill;
 use ring_counters::CountersManager;
 use std::alloc::Global;
@@ -26,15 +25,7 @@ fn make_counters(alloc: Global, count: u32, reuse_ms: u32) -> Result<Box<Held>, 
     let Ok(values) = Arc::new(alloc, values) else {
         return Err(OUT_OF_MEMORY);
     };
-    let Some(identity) = Identity::draw() else {
-        return Err(OUT_OF_MEMORY);
-    };
-    let side = CountersSide {
-        values,
-        identity,
-        manager,
-    };
-    match Box::new(alloc, Held::Counters(side)) {
+    match Box::new(alloc, Held::Counters(CountersSide { values, manager })) {
         Ok(made) => Ok(made),
         Err(_) => Err(OUT_OF_MEMORY),
     }

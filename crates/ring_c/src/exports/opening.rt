@@ -9,7 +9,6 @@ use crate::code::OUT_OF_MEMORY;
 use crate::consumer::ConsumerSide;
 use crate::handle::Handle;
 use crate::held::Held;
-use crate::identity::Identity;
 use crate::producer::ProducerSide;
 use crate::ring::AnyRing;
 use crate::work_on::fill_both;
@@ -20,8 +19,7 @@ use std::sync::Arc;
 /// What two handles are filled with.
 type Pair = (Box<Held>, Box<Held>);
 
-/// Puts a new ring's producer and consumer into boxes, with one number, which is drawn for both. 3 where there is no
-/// memory, or no random number.
+/// Puts a new ring's producer and consumer into boxes.
 fn box_both(
     alloc: Global,
     ring: AnyRing,
@@ -37,18 +35,13 @@ fn box_both(
         (consumer_view consumer) (Some made.0.value) (Some made.1.value)) }
     ensures refused { IfErr result (λ code. code ≡ pos 3) }
 {
-    let Some(identity) = Identity::draw() else {
-        return Err(OUT_OF_MEMORY);
-    };
     let one = Held::Producer(ProducerSide {
         ring,
-        identity,
         producer,
         claims: Vec::new(alloc),
     });
     let two = Held::Consumer(ConsumerSide {
         ring: same,
-        identity,
         consumer,
         last: None,
     });
