@@ -1,4 +1,11 @@
 //! Rings for C: each export works on handles, and each handle owns what it stands for.
+//!
+//! - `exports`: what C calls, by kind of handle. `work_on`: what these calls have in common. `code`: what they answer.
+//! - `handle`, `held`, `loose`: what C keeps, and what it can stand for.
+//! - `producer`, `claims`, `consumer`, `copying`, `batch`, `closing`, `ring`: handles of a ring.
+//! - `boards`, `raw`, `board_ending`: handles of a board. `counters`, `counting`, `reading`: of counters and their
+//!   readers.
+//! - `conductor`, `client`, `lending`, `finishing`: a conductor, its clients, and what it lends.
 #![tactic(auto)]
 
 mod batch;

@@ -11,8 +11,9 @@ use crate::work_on::{end_with, join_into};
 use std::alloc::Global;
 
 /// Ends writing to a ring: takes the producer of a consumer's ring in, where it has all shares and no open claim, and
-/// empties its handle. What lies in the ring can be read as before. 10 where claims are open, then 11 where shares are
-/// with other producers; 108 where the consumer has its ring's producer already, or this is one of another ring.
+/// empties its handle. What lies in the ring can be read as before. 108 where the consumer has its ring's producer
+/// already, or the two are of rings of two kinds or two capacities, then 10 where claims are open, then 11 where shares
+/// are with other producers; both handles stay as they are then.
 #[unsafe(no_mangle)]
 pub extern "C" fn felter_close(alloc: Global, consumer: &mut Handle, producer: &mut Handle) -> i32
     requires { WhereBoth a_consumer a_producer IsOfThisRing consumer.old.held producer.old.held }
@@ -33,7 +34,7 @@ pub extern "C" fn felter_finish(alloc: Global, consumer: &mut Handle, left: &mut
 }
 
 /// Takes a receiver of a transmitter's board back, with its share, and empties its handle. 108 for a conductor's
-/// receiver, and for one of another board; both handles stay as they are then.
+/// receiver, and for one of a board of another capacity; both handles stay as they are then.
 #[unsafe(no_mangle)]
 pub extern "C" fn felter_board_join(
     alloc: Global,
@@ -47,8 +48,8 @@ pub extern "C" fn felter_board_join(
     join_into!(transmitter, receiver, alloc, Transmitter(side), Receiver(joining) => side.join(joining))
 }
 
-/// Takes a raw receiver of a transmitter's board back, with its share, and empties its handle. 108 for one of another
-/// board; both handles stay as they are then.
+/// Takes a raw receiver of a transmitter's board back, with its share, and empties its handle. 108 for one of a board of
+/// another capacity; both handles stay as they are then.
 #[unsafe(no_mangle)]
 pub extern "C" fn felter_board_join_raw(
     alloc: Global,
