@@ -47,6 +47,11 @@ abbrev pub IsConsumerIn : AnyRing → Consumer → Type 0
 IsConsumerIn (Many ring) c = IsConsumerOf (arc_value ring) c
 IsConsumerIn (One ring) c = IsConsumerOf (arc_value ring) c
 
+-- Numbers --------------------------------------------------------------------------
+
+abbrev pub identity_of : ℕ → Identity
+identity_of number = record { number = number }
+
 -- Producers ----------------------------------------------------------------------
 
 pub record Side : Type 0 where

@@ -27,8 +27,8 @@ mod ring;
 mod work_on;
 
 pub use exports::boards::{
-    felter_board_new, felter_board_new_at, felter_lapped_count, felter_receive, felter_subscribe,
-    felter_transmit,
+    felter_board_new_at_numbered, felter_board_new_numbered, felter_lapped_count, felter_receive,
+    felter_subscribe, felter_transmit,
 };
 pub use exports::calling::{
     felter_client_heartbeat, felter_poll, felter_send_allocate, felter_send_allocate_owned,
@@ -36,7 +36,7 @@ pub use exports::calling::{
 };
 pub use exports::concluding::felter_conductor_finish;
 pub use exports::conducting::{
-    felter_conductor_client, felter_conductor_new, felter_conductor_set_heartbeat,
+    felter_conductor_client, felter_conductor_new_numbered, felter_conductor_set_heartbeat,
     felter_conductor_work,
 };
 pub use exports::consuming::{felter_read, felter_read_batch, felter_set_heartbeat};
@@ -46,7 +46,7 @@ pub use exports::counting::{
     felter_counter_owner, felter_counter_registration, felter_counter_set, felter_counter_type_id,
     felter_counter_value, felter_counters_close_owner, felter_counters_count,
 };
-pub use exports::counting_new::felter_counters_new;
+pub use exports::counting_new::felter_counters_new_numbered;
 pub use exports::ending::{
     felter_board_close, felter_board_join, felter_board_join_raw, felter_close,
     felter_counters_join, felter_finish,
@@ -57,8 +57,8 @@ pub use exports::lending::{
     felter_conductor_reader, felter_conductor_subscribe,
 };
 pub use exports::opening::{
-    felter_many_to_one_new, felter_many_to_one_new_at, felter_one_to_one_new,
-    felter_one_to_one_new_at,
+    felter_many_to_one_new_at_numbered, felter_many_to_one_new_numbered,
+    felter_one_to_one_new_at_numbered, felter_one_to_one_new_numbered,
 };
 pub use exports::producing::{
     felter_abort, felter_claim, felter_commit, felter_heartbeat, felter_next_id, felter_positions,

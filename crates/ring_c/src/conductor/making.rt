@@ -45,8 +45,8 @@ impl Sizes {
 
 impl ConductorSide {
     /// Makes a conductor with all its parts. The sizes are tested before memory is taken.
-    pub(crate) fn new(alloc: Global, sizes: Sizes) -> Result<ConductorSide, i32>
-        ensures made { IfOk result (IsFresh sizes.capacity sizes.replies sizes.counters sizes.reuse_ms) }
+    pub(crate) fn new(alloc: Global, identity: Identity, sizes: Sizes) -> Result<ConductorSide, i32>
+        ensures made { IfOk result (IsFresh identity sizes.capacity sizes.replies sizes.counters sizes.reuse_ms) }
         ensures code { MatchResult result (λ _. IsConductorCode sizes.capacity sizes.replies sizes.counters (pos 0))
             (λ code. IsConductorCode sizes.capacity sizes.replies sizes.counters code × (code ≢ pos 0)) }
     {
@@ -59,9 +59,6 @@ impl ConductorSide {
         };
         let Ok((values, counters)) = CountersManager::new(alloc, sizes.counters, sizes.reuse_ms)
         else {
-            return Err(OUT_OF_MEMORY);
-        };
-        let Some(identity) = Identity::draw() else {
             return Err(OUT_OF_MEMORY);
         };
         let shared = Shared {

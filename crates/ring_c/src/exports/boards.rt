@@ -15,8 +15,13 @@ use std::alloc::Global;
 use std::sync::Arc;
 
 /// Makes a board.
-fn make_board(alloc: Global, capacity: u32, start: u64) -> Result<Box<Held>, i32>
-    ensures made { IfOk result (λ made. HoldNewBoard capacity start (Some made.value)) }
+fn make_board(
+    alloc: Global,
+    identity: Identity,
+    capacity: u32,
+    start: u64,
+) -> Result<Box<Held>, i32>
+    ensures made { IfOk result (λ made. HoldNewBoard identity capacity start (Some made.value)) }
     ensures code { MatchResult result (λ _. IsBoardCode capacity start (pos 0))
         (λ code. IsBoardCode capacity start code × (code ≢ pos 0)) }
 {
@@ -25,9 +30,6 @@ fn make_board(alloc: Global, capacity: u32, start: u64) -> Result<Box<Held>, i32
         Err(fault) => return Err(fault.code()),
     };
     let Ok(board) = Arc::new(alloc, board) else {
-        return Err(OUT_OF_MEMORY);
-    };
-    let Some(identity) = Identity::draw() else {
         return Err(OUT_OF_MEMORY);
     };
     let side = TransmitterSide {
@@ -43,23 +45,37 @@ fn make_board(alloc: Global, capacity: u32, start: u64) -> Result<Box<Held>, i32
 
 /// Makes a board that starts at 0, with its transmitter.
 #[unsafe(no_mangle)]
-pub extern "C" fn felter_board_new(alloc: Global, capacity: u32, transmitter: &mut Handle) -> i32
-    ensures { OpensBoard capacity 0 transmitter.old.held transmitter.new.held result }
+pub extern "C" fn felter_board_new_numbered(
+    alloc: Global,
+    number: u64,
+    capacity: u32,
+    transmitter: &mut Handle,
+) -> i32
+    ensures { OpensBoard number capacity 0 transmitter.old.held transmitter.new.held result }
 {
-    fill!(transmitter, alloc, make_board(alloc, capacity, 0))
+    fill!(
+        transmitter,
+        alloc,
+        make_board(alloc, Identity { number }, capacity, 0)
+    )
 }
 
 /// Makes a board that starts at a multiple of its capacity, with its transmitter.
 #[unsafe(no_mangle)]
-pub extern "C" fn felter_board_new_at(
+pub extern "C" fn felter_board_new_at_numbered(
     alloc: Global,
+    number: u64,
     capacity: u32,
     start: u64,
     transmitter: &mut Handle,
 ) -> i32
-    ensures { OpensBoard capacity start transmitter.old.held transmitter.new.held result }
+    ensures { OpensBoard number capacity start transmitter.old.held transmitter.new.held result }
 {
-    fill!(transmitter, alloc, make_board(alloc, capacity, start))
+    fill!(
+        transmitter,
+        alloc,
+        make_board(alloc, Identity { number }, capacity, start)
+    )
 }
 
 /// Transmits a message. It never waits.
