@@ -17,12 +17,16 @@
  *   4. No call from a signal handler or from a forked child of a process with threads, and no asynchronous cancellation
  *      during a call: a handle that a call was working on is empty then.
  *   5. malloc, realloc and free are one allocator, and align to 16 bytes. The processor has x86-64-v2.
+ *   6. No two rings, boards, conductors or sets of counters that live have the same number. The calls that make one
+ *      without being given its number see to that, by one count. A program that calls a function ending in _numbered,
+ *      or has two of these counts (below), sees to it itself.
  *
  * Two handles of one call are of one ring, board, conductor or set of counters. A call that takes a handle in
  * (felter_join, felter_close) or back (the others with `join` in their names) answers FELTER_OTHER_RING else, and where
  * a conductor is behind one of the two handles alone. It compares numbers: each ring, board, conductor and set of
- * counters has one, of 64 bits that getentropy gives when it is made. What is proved holds unless two that live have
- * the same, which happens to one pair in 2^64.
+ * counters is given one when it is made. Handles that were made through several languages in one process are told
+ * apart only if their numbers differ: this header counts from 1 on, the Rust crate from 2^62, the Python module from
+ * 2^63.
  *
  * Answers. Each call but felter_free answers a code of enum felter_code; FELTER_OK is 0. A call that refuses leaves
  * every handle as it was. Out numbers are written on FELTER_OK alone, unless a call says otherwise. Nothing waits:
@@ -49,7 +53,7 @@ enum felter_code {
     /* Numbers of the library. */
     FELTER_BAD_CAPACITY = 1,          /* no power of two from 128 (of a board 256) to 2^24 */
     FELTER_BAD_START = 2,             /* no multiple of the capacity, or above 2^62 */
-    FELTER_OUT_OF_MEMORY = 3,         /* there was no memory; of a call that makes something new, or no random number */
+    FELTER_OUT_OF_MEMORY = 3,         /* there was no memory */
     FELTER_BAD_TYPE = 4,              /* the type id is below 1 */
     FELTER_TOO_LONG = 5,              /* more than an eighth of the capacity, or a command of more than 520 bytes */
     FELTER_POSITION_LIMIT = 6,        /* the record would end above 2^62 */
@@ -104,17 +108,48 @@ typedef struct felter_client { felter_handle handle; } felter_client;
  * felter_join, felter_split answers FELTER_NO_SHARES. */
 void felter_free(felter_handle *handle);
 
+/* Numbers -------------------------------------------------------------------------------------------------------- */
+
+/* How many numbers were drawn. It is weak, so that all files of a program, in C and in C++, share one. A shared library
+ * that includes this header can have one of its own, as where dlopen loads it, and both give the same numbers then. */
+__attribute__((weak)) uint64_t felter_numbers_drawn = 0;
+
+/* Draws the number of what is made next: 1, 2, 3, .. by any threads. */
+static inline uint64_t felter_next_number(void) {
+    return __atomic_add_fetch(&felter_numbers_drawn, 1, __ATOMIC_RELAXED);
+}
+
+/* Each call that makes something has two forms: a function of the library that ends in _numbered and takes a number,
+ * and one without it here, which draws it. The number may be any that no other ring, board, set of counters or
+ * conductor that lives has; whoever makes things from several languages in one process sees to that. */
+
 /* Rings ---------------------------------------------------------------------------------------------------------- */
 
 /* Makes a ring of a capacity, with a producer that holds all 65,536 shares and the consumer. The handles are empty
  * before; else FELTER_HANDLE_IN_USE. FELTER_BAD_CAPACITY, FELTER_BAD_START, FELTER_OUT_OF_MEMORY. */
-int32_t felter_many_to_one_new(uint32_t capacity, felter_producer *producer, felter_consumer *consumer);
-int32_t felter_many_to_one_new_at(uint32_t capacity, uint64_t start, felter_producer *producer,
-                                  felter_consumer *consumer);
+int32_t felter_many_to_one_new_numbered(uint64_t number, uint32_t capacity, felter_producer *producer,
+                                        felter_consumer *consumer);
+int32_t felter_many_to_one_new_at_numbered(uint64_t number, uint32_t capacity, uint64_t start,
+                                           felter_producer *producer, felter_consumer *consumer);
+static inline int32_t felter_many_to_one_new(uint32_t capacity, felter_producer *producer, felter_consumer *consumer) {
+    return felter_many_to_one_new_numbered(felter_next_number(), capacity, producer, consumer);
+}
+static inline int32_t felter_many_to_one_new_at(uint32_t capacity, uint64_t start, felter_producer *producer,
+                                                felter_consumer *consumer) {
+    return felter_many_to_one_new_at_numbered(felter_next_number(), capacity, start, producer, consumer);
+}
 /* The same of a ring with one producer, which cannot be split. */
-int32_t felter_one_to_one_new(uint32_t capacity, felter_producer *producer, felter_consumer *consumer);
-int32_t felter_one_to_one_new_at(uint32_t capacity, uint64_t start, felter_producer *producer,
-                                 felter_consumer *consumer);
+int32_t felter_one_to_one_new_numbered(uint64_t number, uint32_t capacity, felter_producer *producer,
+                                       felter_consumer *consumer);
+int32_t felter_one_to_one_new_at_numbered(uint64_t number, uint32_t capacity, uint64_t start,
+                                          felter_producer *producer, felter_consumer *consumer);
+static inline int32_t felter_one_to_one_new(uint32_t capacity, felter_producer *producer, felter_consumer *consumer) {
+    return felter_one_to_one_new_numbered(felter_next_number(), capacity, producer, consumer);
+}
+static inline int32_t felter_one_to_one_new_at(uint32_t capacity, uint64_t start, felter_producer *producer,
+                                               felter_consumer *consumer) {
+    return felter_one_to_one_new_at_numbered(felter_next_number(), capacity, start, producer, consumer);
+}
 
 /* Writes a message, by one try. FELTER_BAD_TYPE, FELTER_TOO_LONG, FELTER_POSITION_LIMIT, FELTER_INSUFFICIENT_CAPACITY,
  * FELTER_CONTENDED (many-to-one alone). */
@@ -187,8 +222,15 @@ int32_t felter_finish(felter_consumer *consumer, uint64_t *left);
 /* A board is a broadcast buffer: its one transmitter never waits, and each receiver gets every message, or learns that
  * it was overtaken. Makes one of a capacity, a power of two from 256 to 2^24, with its transmitter, which holds all
  * 65,536 shares. FELTER_BAD_CAPACITY, FELTER_BAD_START, FELTER_OUT_OF_MEMORY, FELTER_HANDLE_IN_USE. */
-int32_t felter_board_new(uint32_t capacity, felter_transmitter *transmitter);
-int32_t felter_board_new_at(uint32_t capacity, uint64_t start, felter_transmitter *transmitter);
+int32_t felter_board_new_numbered(uint64_t number, uint32_t capacity, felter_transmitter *transmitter);
+int32_t felter_board_new_at_numbered(uint64_t number, uint32_t capacity, uint64_t start,
+                                     felter_transmitter *transmitter);
+static inline int32_t felter_board_new(uint32_t capacity, felter_transmitter *transmitter) {
+    return felter_board_new_numbered(felter_next_number(), capacity, transmitter);
+}
+static inline int32_t felter_board_new_at(uint32_t capacity, uint64_t start, felter_transmitter *transmitter) {
+    return felter_board_new_at_numbered(felter_next_number(), capacity, start, transmitter);
+}
 /* Transmits a message. FELTER_BAD_TYPE, FELTER_TOO_LONG, FELTER_POSITION_LIMIT. */
 int32_t felter_transmit(felter_transmitter *transmitter, int32_t type_id, const uint8_t *body, size_t len);
 /* Makes a receiver, which starts with the message that was transmitted last, with one share of the transmitter's. The
@@ -232,7 +274,10 @@ int32_t felter_board_close(felter_transmitter *transmitter, uint64_t *tail);
 
 /* Makes counters with the ids below `count`. A freed id rests for `reuse_ms`. FELTER_BAD_COUNT, FELTER_OUT_OF_MEMORY,
  * FELTER_HANDLE_IN_USE. */
-int32_t felter_counters_new(uint32_t count, uint32_t reuse_ms, felter_counters *counters);
+int32_t felter_counters_new_numbered(uint64_t number, uint32_t count, uint32_t reuse_ms, felter_counters *counters);
+static inline int32_t felter_counters_new(uint32_t count, uint32_t reuse_ms, felter_counters *counters) {
+    return felter_counters_new_numbered(felter_next_number(), count, reuse_ms, counters);
+}
 /* Allocates a counter of value 0, and says its id. FELTER_KEY_TOO_LONG, FELTER_LABEL_TOO_LONG, FELTER_LABEL_NOT_ASCII,
  * FELTER_NO_FREE_COUNTER. */
 int32_t felter_counter_allocate(felter_counters *counters, uint64_t now, int32_t type_id, const uint8_t *key,
@@ -282,8 +327,12 @@ int32_t felter_counters_join(felter_counters *counters, felter_reader *reader);
  * Makes one with a ring of `capacity` bytes for the commands, a board of `replies` bytes for the replies, and counters
  * with the ids below `counters`, of which a freed one rests for `reuse_ms`. FELTER_HANDLE_IN_USE;
  * FELTER_BAD_CAPACITY of the ring, then of the board, FELTER_BAD_COUNT, and then FELTER_OUT_OF_MEMORY. */
-int32_t felter_conductor_new(uint32_t capacity, uint32_t replies, uint32_t counters, uint32_t reuse_ms,
-                             felter_conductor *conductor);
+int32_t felter_conductor_new_numbered(uint64_t number, uint32_t capacity, uint32_t replies, uint32_t counters,
+                                      uint32_t reuse_ms, felter_conductor *conductor);
+static inline int32_t felter_conductor_new(uint32_t capacity, uint32_t replies, uint32_t counters, uint32_t reuse_ms,
+                                           felter_conductor *conductor) {
+    return felter_conductor_new_numbered(felter_next_number(), capacity, replies, counters, reuse_ms, conductor);
+}
 /* Makes a client, with one share of the ring's 65,536 and one of the board's, which starts with the reply that was
  * transmitted last. FELTER_HANDLE_IN_USE, FELTER_NO_SHARES of either, FELTER_OUT_OF_MEMORY: nothing is lost then. Both
  * shares are lost when the client is freed without felter_conductor_join, and the conductor cannot finish any more. */

@@ -374,6 +374,25 @@ static void splits(void) {
     felter_free(&of_single.handle);
 }
 
+/* Numbers of a caller, also the least and the largest, tell rings apart. The header draws one once. */
+static void numbers(void) {
+    felter_producer least = FELTER_EMPTY, largest = FELTER_EMPTY, other = FELTER_EMPTY;
+    felter_consumer of_least = FELTER_EMPTY, of_largest = FELTER_EMPTY;
+    uint64_t before = felter_next_number();
+    EXPECT(FELTER_OK, felter_many_to_one_new_numbered(0, 128, &least, &of_least));
+    EXPECT(FELTER_OK, felter_many_to_one_new_at_numbered(UINT64_MAX, 128, 256, &largest, &of_largest));
+    CHECK(felter_next_number() == before + 1);
+    EXPECT(FELTER_OK, felter_split(&least, &other));
+    EXPECT(FELTER_OTHER_RING, felter_join(&largest, &other));
+    EXPECT(FELTER_OTHER_RING, felter_close(&of_largest, &least));
+    EXPECT(FELTER_OTHER_RING, felter_close(&of_least, &largest));
+    EXPECT(FELTER_OK, felter_join(&least, &other));
+    EXPECT(FELTER_OK, felter_close(&of_least, &least));
+    EXPECT(FELTER_OK, felter_close(&of_largest, &largest));
+    felter_free(&of_least.handle);
+    felter_free(&of_largest.handle);
+}
+
 static void looks(void) {
     felter_producer producer = FELTER_EMPTY, none = FELTER_EMPTY;
     felter_consumer consumer = FELTER_EMPTY, no_consumer = FELTER_EMPTY;
@@ -444,6 +463,7 @@ int main(void) {
     ends();
     joined_claims();
     splits();
+    numbers();
     looks();
     puts("rings: each answer as it should be");
     return 0;
