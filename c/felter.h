@@ -17,11 +17,16 @@
  *   4. No call from a signal handler or from a forked child of a process with threads, and no asynchronous cancellation
  *      during a call: a handle that a call was working on is empty then.
  *   5. malloc, realloc and free are one allocator, and align to 16 bytes. The processor has x86-64-v2.
- *   6. The handles of one call are of one ring, board, conductor or set of counters. A call that takes a handle in
- *      (felter_join, felter_close) or back (the others with `join` in their names) answers FELTER_OTHER_RING where the
- *      capacities differ, and where a conductor is behind one of the two handles alone. Two rings of one kind, two
- *      boards and two conductors of one capacity are not told apart, nor are two sets of counters: what is proved does
- *      not hold then.
+ *   6. No two rings, boards, conductors or sets of counters that live have the same number. The calls that make one
+ *      without being given its number see to that, by one count. A program that calls a function ending in _numbered,
+ *      or has two of these counts (below), sees to it itself.
+ *
+ * Two handles of one call are of one ring, board, conductor or set of counters. A call that takes a handle in
+ * (felter_join, felter_close) or back (the others with `join` in their names) answers FELTER_OTHER_RING else, and where
+ * a conductor is behind one of the two handles alone. It compares numbers: each ring, board, conductor and set of
+ * counters is given one when it is made. Handles that were made through several languages in one process are told
+ * apart only if their numbers differ: this header counts from 1 on, the Rust crate from 2^62, the Python module from
+ * 2^63.
  *
  * Answers. Each call but felter_free answers a code of enum felter_code; FELTER_OK is 0. A call that refuses leaves
  * every handle as it was. Out numbers are written on FELTER_OK alone, unless a call says otherwise. Nothing waits:
@@ -76,7 +81,7 @@ enum felter_code {
     FELTER_NO_MESSAGE = 105,          /* nothing is there yet */
     FELTER_SHORT_BUFFER = 106,        /* the message is longer than the buffer, and stays */
     FELTER_BAD_MOMENT = 107,          /* the moment is above 2^62 */
-    FELTER_OTHER_RING = 108,          /* the two handles are of two rings, boards or sets of counters */
+    FELTER_OTHER_RING = 108,          /* the two handles are of two rings, boards, conductors or sets of counters */
     FELTER_OTHER_REPLY = 109,         /* what came is the reply to another command, or none */
     FELTER_IN_USE = 110               /* another handle holds what was to be closed */
 };
@@ -103,17 +108,48 @@ typedef struct felter_client { felter_handle handle; } felter_client;
  * felter_join, felter_split answers FELTER_NO_SHARES. */
 void felter_free(felter_handle *handle);
 
+/* Numbers -------------------------------------------------------------------------------------------------------- */
+
+/* How many numbers were drawn. It is weak, so that all files of a program, in C and in C++, share one. A shared library
+ * that includes this header can have one of its own, as where dlopen loads it, and both give the same numbers then. */
+__attribute__((weak)) uint64_t felter_numbers_drawn = 0;
+
+/* Draws the number of what is made next: 1, 2, 3, .. by any threads. */
+static inline uint64_t felter_next_number(void) {
+    return __atomic_add_fetch(&felter_numbers_drawn, 1, __ATOMIC_RELAXED);
+}
+
+/* Each call that makes something has two forms: a function of the library that ends in _numbered and takes a number,
+ * and one without it here, which draws it. The number may be any that no other ring, board, set of counters or
+ * conductor that lives has; whoever makes things from several languages in one process sees to that. */
+
 /* Rings ---------------------------------------------------------------------------------------------------------- */
 
 /* Makes a ring of a capacity, with a producer that holds all 65,536 shares and the consumer. The handles are empty
  * before; else FELTER_HANDLE_IN_USE. FELTER_BAD_CAPACITY, FELTER_BAD_START, FELTER_OUT_OF_MEMORY. */
-int32_t felter_many_to_one_new(uint32_t capacity, felter_producer *producer, felter_consumer *consumer);
-int32_t felter_many_to_one_new_at(uint32_t capacity, uint64_t start, felter_producer *producer,
-                                  felter_consumer *consumer);
+int32_t felter_many_to_one_new_numbered(uint64_t number, uint32_t capacity, felter_producer *producer,
+                                        felter_consumer *consumer);
+int32_t felter_many_to_one_new_at_numbered(uint64_t number, uint32_t capacity, uint64_t start,
+                                           felter_producer *producer, felter_consumer *consumer);
+static inline int32_t felter_many_to_one_new(uint32_t capacity, felter_producer *producer, felter_consumer *consumer) {
+    return felter_many_to_one_new_numbered(felter_next_number(), capacity, producer, consumer);
+}
+static inline int32_t felter_many_to_one_new_at(uint32_t capacity, uint64_t start, felter_producer *producer,
+                                                felter_consumer *consumer) {
+    return felter_many_to_one_new_at_numbered(felter_next_number(), capacity, start, producer, consumer);
+}
 /* The same of a ring with one producer, which cannot be split. */
-int32_t felter_one_to_one_new(uint32_t capacity, felter_producer *producer, felter_consumer *consumer);
-int32_t felter_one_to_one_new_at(uint32_t capacity, uint64_t start, felter_producer *producer,
-                                 felter_consumer *consumer);
+int32_t felter_one_to_one_new_numbered(uint64_t number, uint32_t capacity, felter_producer *producer,
+                                       felter_consumer *consumer);
+int32_t felter_one_to_one_new_at_numbered(uint64_t number, uint32_t capacity, uint64_t start,
+                                          felter_producer *producer, felter_consumer *consumer);
+static inline int32_t felter_one_to_one_new(uint32_t capacity, felter_producer *producer, felter_consumer *consumer) {
+    return felter_one_to_one_new_numbered(felter_next_number(), capacity, producer, consumer);
+}
+static inline int32_t felter_one_to_one_new_at(uint32_t capacity, uint64_t start, felter_producer *producer,
+                                               felter_consumer *consumer) {
+    return felter_one_to_one_new_at_numbered(felter_next_number(), capacity, start, producer, consumer);
+}
 
 /* Writes a message, by one try. FELTER_BAD_TYPE, FELTER_TOO_LONG, FELTER_POSITION_LIMIT, FELTER_INSUFFICIENT_CAPACITY,
  * FELTER_CONTENDED (many-to-one alone). */
@@ -134,8 +170,9 @@ int32_t felter_abort(felter_producer *producer, uint64_t claim);
 /* Makes another producer of a many-to-one ring, with one share and no claim: open ones stay the first producer's.
  * FELTER_NO_SHARES, FELTER_OUT_OF_MEMORY, FELTER_HANDLE_IN_USE; FELTER_WRONG_HANDLE of a one-to-one ring. */
 int32_t felter_split(felter_producer *producer, felter_producer *other);
-/* Takes another producer of the same many-to-one ring in (rule 6), with its shares and its open claims, which keep
- * their numbers, and empties its handle. FELTER_OTHER_RING, FELTER_OUT_OF_MEMORY. */
+/* Takes another producer of the same many-to-one ring in, with its shares and its open claims, which keep their
+ * numbers, and empties its handle. FELTER_WRONG_HANDLE of a one-to-one ring, then FELTER_OTHER_RING, and then
+ * FELTER_OUT_OF_MEMORY. */
 int32_t felter_join(felter_producer *producer, felter_producer *other);
 
 /* Loads the head, and then the tail. */
@@ -170,15 +207,14 @@ typedef struct felter_record {
 int32_t felter_read_batch(felter_consumer *consumer, uint32_t limit, uint32_t *count, size_t *used, uint8_t *buffer,
                           size_t room);
 
-/* Takes the producer of a ring of either kind, which holds all 65,536 shares and has no open claim, into the consumer
- * (rule 6), and empties the producer's handle. Nothing can be written any more. What lies in the ring stays, and the
- * consumer reads on as before. FELTER_OTHER_RING, also of a ring of the other kind, and where the consumer took a
- * producer in before; then FELTER_CLAIMS_OPEN, and then FELTER_PRODUCERS_OUT where one that was split off was not taken
- * in by felter_join. */
+/* Takes the producer of the consumer's ring, of either kind, which holds all 65,536 shares and has no open claim, into
+ * the consumer, and empties the producer's handle. Nothing can be written any more. What lies in the ring stays, and
+ * the consumer reads on as before. FELTER_OTHER_RING, also where the consumer took a producer in before; then
+ * FELTER_CLAIMS_OPEN, and then FELTER_PRODUCERS_OUT where one that was split off was not taken in by felter_join. */
 int32_t felter_close(felter_consumer *consumer, felter_producer *producer);
 /* Ends the ring of a consumer that took its producer in, and empties the consumer's handle. Says how many messages were
  * left unread, which are lost. FELTER_PRODUCERS_OUT where no felter_close took the producer in; FELTER_IN_USE where
- * another handle of the ring is there, which is not so where rule 6 was kept. */
+ * another handle of the ring is there, which is not so where rule 1 was kept. */
 int32_t felter_finish(felter_consumer *consumer, uint64_t *left);
 
 /* Boards --------------------------------------------------------------------------------------------------------- */
@@ -186,8 +222,15 @@ int32_t felter_finish(felter_consumer *consumer, uint64_t *left);
 /* A board is a broadcast buffer: its one transmitter never waits, and each receiver gets every message, or learns that
  * it was overtaken. Makes one of a capacity, a power of two from 256 to 2^24, with its transmitter, which holds all
  * 65,536 shares. FELTER_BAD_CAPACITY, FELTER_BAD_START, FELTER_OUT_OF_MEMORY, FELTER_HANDLE_IN_USE. */
-int32_t felter_board_new(uint32_t capacity, felter_transmitter *transmitter);
-int32_t felter_board_new_at(uint32_t capacity, uint64_t start, felter_transmitter *transmitter);
+int32_t felter_board_new_numbered(uint64_t number, uint32_t capacity, felter_transmitter *transmitter);
+int32_t felter_board_new_at_numbered(uint64_t number, uint32_t capacity, uint64_t start,
+                                     felter_transmitter *transmitter);
+static inline int32_t felter_board_new(uint32_t capacity, felter_transmitter *transmitter) {
+    return felter_board_new_numbered(felter_next_number(), capacity, transmitter);
+}
+static inline int32_t felter_board_new_at(uint32_t capacity, uint64_t start, felter_transmitter *transmitter) {
+    return felter_board_new_at_numbered(felter_next_number(), capacity, start, transmitter);
+}
 /* Transmits a message. FELTER_BAD_TYPE, FELTER_TOO_LONG, FELTER_POSITION_LIMIT. */
 int32_t felter_transmit(felter_transmitter *transmitter, int32_t type_id, const uint8_t *body, size_t len);
 /* Makes a receiver, which starts with the message that was transmitted last, with one share of the transmitter's. The
@@ -218,20 +261,23 @@ int32_t felter_validate(felter_raw_receiver *receiver);
 /* How often felter_receive_next answered FELTER_LAPPED. */
 int32_t felter_raw_lapped_count(felter_raw_receiver *receiver, uint64_t *count);
 
-/* Take back a receiver, or a raw one, of this board (rule 6), with its share, and empty its handle. FELTER_OTHER_RING,
- * also of each receiver that felter_conductor_subscribe made. */
+/* Take back a receiver, or a raw one, of this board, with its share, and empty its handle. FELTER_OTHER_RING, also of
+ * each receiver that felter_conductor_subscribe made. */
 int32_t felter_board_join(felter_transmitter *transmitter, felter_receiver *receiver);
 int32_t felter_board_join_raw(felter_transmitter *transmitter, felter_raw_receiver *receiver);
 /* Ends a board whose receivers of both kinds were all taken back, and empties the transmitter's handle. Says the tail:
  * the position where the last transmission ended, in bytes. FELTER_RECEIVERS_OUT where a receiver was not taken back;
- * FELTER_IN_USE where another handle of the board is there, which is not so where rule 6 was kept. */
+ * FELTER_IN_USE where another handle of the board is there, which is not so where rule 1 was kept. */
 int32_t felter_board_close(felter_transmitter *transmitter, uint64_t *tail);
 
 /* Counters ------------------------------------------------------------------------------------------------------- */
 
 /* Makes counters with the ids below `count`. A freed id rests for `reuse_ms`. FELTER_BAD_COUNT, FELTER_OUT_OF_MEMORY,
  * FELTER_HANDLE_IN_USE. */
-int32_t felter_counters_new(uint32_t count, uint32_t reuse_ms, felter_counters *counters);
+int32_t felter_counters_new_numbered(uint64_t number, uint32_t count, uint32_t reuse_ms, felter_counters *counters);
+static inline int32_t felter_counters_new(uint32_t count, uint32_t reuse_ms, felter_counters *counters) {
+    return felter_counters_new_numbered(felter_next_number(), count, reuse_ms, counters);
+}
 /* Allocates a counter of value 0, and says its id. FELTER_KEY_TOO_LONG, FELTER_LABEL_TOO_LONG, FELTER_LABEL_NOT_ASCII,
  * FELTER_NO_FREE_COUNTER. */
 int32_t felter_counter_allocate(felter_counters *counters, uint64_t now, int32_t type_id, const uint8_t *key,
@@ -269,8 +315,8 @@ int32_t felter_counters_reader(felter_counters *counters, felter_reader *reader)
 /* Loads a value: of an id that was never used 0, of a freed one its last. No value that the reader has seen comes back
  * once a later one was loaded. FELTER_BAD_ID. */
 int32_t felter_reader_value(felter_reader *reader, uint32_t id, int64_t *value);
-/* Takes back a reader of these counters (rule 6), with its share, and empties its handle. FELTER_OTHER_RING where
- * felter_conductor_reader made it; the readers of two sets of counters are not told apart. */
+/* Takes back a reader of these counters, with its share, and empties its handle. FELTER_OTHER_RING, also where
+ * felter_conductor_reader made it. */
 int32_t felter_counters_join(felter_counters *counters, felter_reader *reader);
 
 /* Conductors ----------------------------------------------------------------------------------------------------- */
@@ -281,8 +327,12 @@ int32_t felter_counters_join(felter_counters *counters, felter_reader *reader);
  * Makes one with a ring of `capacity` bytes for the commands, a board of `replies` bytes for the replies, and counters
  * with the ids below `counters`, of which a freed one rests for `reuse_ms`. FELTER_HANDLE_IN_USE;
  * FELTER_BAD_CAPACITY of the ring, then of the board, FELTER_BAD_COUNT, and then FELTER_OUT_OF_MEMORY. */
-int32_t felter_conductor_new(uint32_t capacity, uint32_t replies, uint32_t counters, uint32_t reuse_ms,
-                             felter_conductor *conductor);
+int32_t felter_conductor_new_numbered(uint64_t number, uint32_t capacity, uint32_t replies, uint32_t counters,
+                                      uint32_t reuse_ms, felter_conductor *conductor);
+static inline int32_t felter_conductor_new(uint32_t capacity, uint32_t replies, uint32_t counters, uint32_t reuse_ms,
+                                           felter_conductor *conductor) {
+    return felter_conductor_new_numbered(felter_next_number(), capacity, replies, counters, reuse_ms, conductor);
+}
 /* Makes a client, with one share of the ring's 65,536 and one of the board's, which starts with the reply that was
  * transmitted last. FELTER_HANDLE_IN_USE, FELTER_NO_SHARES of either, FELTER_OUT_OF_MEMORY: nothing is lost then. Both
  * shares are lost when the client is freed without felter_conductor_join, and the conductor cannot finish any more. */
@@ -309,9 +359,9 @@ int32_t felter_conductor_subscribe(felter_conductor *conductor, felter_receiver 
 /* Makes a reader of the counters' values, for felter_reader_value; else as felter_counters_reader. */
 int32_t felter_conductor_reader(felter_conductor *conductor, felter_reader *reader);
 
-/* Take back a client, a receiver or a reader of this conductor's (rule 6) with its shares, and empty its handle. What a
- * client did not hear by then it does not hear. FELTER_OTHER_RING where the receiver or the reader was made by no
- * conductor (felter_subscribe, felter_counters_reader), or by one whose ring or board has another capacity. */
+/* Take back a client, a receiver or a reader of this conductor's with its shares, and empty its handle. What a client
+ * did not hear by then it does not hear. FELTER_OTHER_RING where another conductor made it, or none (felter_subscribe,
+ * felter_counters_reader). */
 int32_t felter_conductor_join(felter_conductor *conductor, felter_client *client);
 int32_t felter_conductor_join_receiver(felter_conductor *conductor, felter_receiver *receiver);
 int32_t felter_conductor_join_reader(felter_conductor *conductor, felter_reader *reader);

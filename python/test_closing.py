@@ -137,6 +137,28 @@ class Closing(Case):
         conductor.join_receiver(replies)
         self.assertEqual((one.close(), two.close(), conductor.finish()), (16, 0, (0, 0)))
 
+    def test_the_library_tells_them_apart_by_itself(self):
+        (one, of_one), (two, of_two) = felter.many_to_one(128), felter.many_to_one(128)
+        boards, counters = [felter.Transmitter(256) for _ in "ab"], [felter.Counters(1) for _ in "ab"]
+        conductors = [felter.Conductor(128, 256, 1) for _ in "ab"]
+        for call, other in [
+            (one.join, two),
+            (of_one.close, two),
+            (boards[0].join, boards[1].subscribe()),
+            (boards[0].join_raw, boards[1].subscribe_raw()),
+            (counters[0].join, counters[1].reader()),
+            (conductors[0].join, conductors[1].client()),
+            (conductors[0].join_receiver, conductors[1].subscribe()),
+            (conductors[0].join_reader, conductors[1].reader()),
+        ]:
+            with self.subTest(call.__qualname__):
+                # (this module would refuse it before)
+                other._number = call.__self__._number
+                self.refuses(Number.OTHER_RING, call, other)
+        two._number = of_two._number
+        of_two.close(two)
+        self.assertEqual(of_two.finish(), 0)
+
     def test_readers_are_taken_back_by_their_counters(self):
         one, two, conductor = felter.Counters(1), felter.Counters(1), felter.Conductor(128, 256, 1)
         counter, reader, values = one.allocate(0, 1), one.reader(), conductor.reader()

@@ -142,6 +142,26 @@ static void waits(void) {
     felter_free(&consumer.handle);
 }
 
+/* Rings of the same capacity and kind are told apart. All goes on as before, also where both have the same messages. */
+static void rings_alike(int many) {
+    felter_producer producer = FELTER_EMPTY, other = FELTER_EMPTY;
+    felter_consumer consumer = FELTER_EMPTY, of_other = FELTER_EMPTY;
+    make(many, 256, &producer, &consumer);
+    make(many, 256, &other, &of_other);
+    for (int32_t i = 1; i <= 2; i++) {
+        write_one(&producer, i);
+        write_one(&other, i);
+        close_refuses(&consumer, &other, FELTER_OTHER_RING);
+        close_refuses(&of_other, &producer, FELTER_OTHER_RING);
+    }
+    expect_one(&consumer, 1);
+    EXPECT(FELTER_OK, felter_close(&consumer, &producer));
+    close_refuses(&consumer, &other, FELTER_OTHER_RING);
+    EXPECT(FELTER_OK, felter_close(&of_other, &other));
+    finishes(&consumer, 1);
+    finishes(&of_other, 2);
+}
+
 /* Rings of other capacities or of the other kind, and handles of other kinds. */
 static void other_rings(void) {
     felter_producer producer = FELTER_EMPTY, other = FELTER_EMPTY, single = FELTER_EMPTY, none = FELTER_EMPTY;
@@ -229,6 +249,37 @@ static void boards(void) {
     felter_free(&transmitter.handle);
 }
 
+/* Receivers of two boards of one capacity are told apart. */
+static void boards_alike(void) {
+    felter_transmitter transmitters[2] = {FELTER_EMPTY, FELTER_EMPTY};
+    felter_receiver receivers[2] = {FELTER_EMPTY, FELTER_EMPTY};
+    felter_raw_receiver raws[2] = {FELTER_EMPTY, FELTER_EMPTY};
+    uint8_t buffer[32];
+    int32_t type_id = 0;
+    size_t len = 99;
+    uint64_t lapped = 77;
+    for (int i = 0; i < 2; i++) {
+        EXPECT(FELTER_OK, felter_board_new(256, &transmitters[i]));
+        EXPECT(FELTER_OK, felter_subscribe(&transmitters[i], &receivers[i]));
+        EXPECT(FELTER_OK, felter_subscribe_raw(&transmitters[i], &raws[i]));
+        EXPECT(FELTER_OK, felter_transmit(&transmitters[i], i + 1, NULL, 0));
+    }
+    for (int i = 0; i < 2; i++) {
+        EXPECT(FELTER_OTHER_RING, felter_board_join(&transmitters[i], &receivers[1 - i]));
+        EXPECT(FELTER_OTHER_RING, felter_board_join_raw(&transmitters[i], &raws[1 - i]));
+    }
+    for (int i = 0; i < 2; i++) {
+        EXPECT(FELTER_OK, felter_receive(&receivers[i], &type_id, &len, &lapped, buffer, sizeof buffer));
+        CHECK(type_id == i + 1 && len == 0);
+        EXPECT(FELTER_OK, felter_receive_next(&raws[i], &type_id, &len, &lapped));
+        CHECK(type_id == i + 1 && len == 0 && lapped == 77);
+        board_refuses(&transmitters[i], FELTER_RECEIVERS_OUT);
+        EXPECT(FELTER_OK, felter_board_join(&transmitters[i], &receivers[i]));
+        EXPECT(FELTER_OK, felter_board_join_raw(&transmitters[i], &raws[i]));
+        board_closes(&transmitters[i], 8);
+    }
+}
+
 /* Receivers of boards of another capacity, of conductors, and of another kind. */
 static void other_boards(void) {
     felter_transmitter transmitter = FELTER_EMPTY, other = FELTER_EMPTY, none = FELTER_EMPTY;
@@ -294,6 +345,29 @@ static void shares(void) {
     board_closes(&transmitter, 0);
     felter_free(&counters.handle);
     felter_free(&last.handle);
+}
+
+/* Readers of two sets of counters of one size are told apart. */
+static void counters_alike(void) {
+    felter_counters counters[2] = {FELTER_EMPTY, FELTER_EMPTY};
+    felter_reader readers[2] = {FELTER_EMPTY, FELTER_EMPTY};
+    uint32_t id = 99;
+    int64_t value = 99;
+    for (int i = 0; i < 2; i++) {
+        EXPECT(FELTER_OK, felter_counters_new(2, 0, &counters[i]));
+        EXPECT(FELTER_OK, felter_counter_allocate(&counters[i], 0, 1, NULL, 0, NULL, 0, 0, &id));
+        EXPECT(FELTER_OK, felter_counters_reader(&counters[i], &readers[i]));
+        EXPECT(FELTER_OK, felter_counter_set(&counters[i], id, 5 + i));
+    }
+    for (int i = 0; i < 2; i++) EXPECT(FELTER_OTHER_RING, felter_counters_join(&counters[i], &readers[1 - i]));
+    for (int i = 0; i < 2; i++) {
+        EXPECT(FELTER_OK, felter_reader_value(&readers[i], id, &value));
+        CHECK(value == 5 + i);
+        EXPECT(FELTER_OK, felter_counters_join(&counters[i], &readers[i]));
+        EXPECT(FELTER_OK, felter_counter_value(&counters[i], id, &value));
+        CHECK(value == 5 + i);
+        felter_free(&counters[i].handle);
+    }
 }
 
 /* Readers are taken back, but not a conductor's. */
@@ -368,11 +442,14 @@ int main(void) {
     for (int many = 0; many < 2; many++) {
         ends(many);
         for (int reads = 0; reads <= 4; reads += 2) leaves(many, reads);
+        rings_alike(many);
     }
     waits();
     other_rings();
     boards();
+    boards_alike();
     other_boards();
+    counters_alike();
     readers();
     shares();
     threads();

@@ -120,9 +120,9 @@ static void loses(void) {
     felter_free(&it.conductor.handle);
 }
 
-/* What another conductor made is refused where the capacity of its ring or board tells, and what none made always. */
+/* What another conductor made is refused, also of the same sizes, and what none made. */
 static void others(void) {
-    struct party it = NO_PARTY, ring = NO_PARTY, board = NO_PARTY;
+    struct party it = NO_PARTY, alike = NO_PARTY, ring = NO_PARTY, board = NO_PARTY;
     felter_transmitter transmitter = FELTER_EMPTY;
     felter_receiver receiver = FELTER_EMPTY;
     felter_counters counters = FELTER_EMPTY;
@@ -130,10 +130,11 @@ static void others(void) {
     int64_t value = 99;
     uint64_t count = 99;
     make(&it, 256, 512, 2);
+    make(&alike, 256, 512, 2);
     make(&ring, 512, 512, 2);
     make(&board, 256, 256, 2);
-    struct party *all[] = {&it, &ring, &board};
-    for (int i = 1; i < 3; i++) {
+    struct party *all[] = {&it, &alike, &ring, &board};
+    for (int i = 1; i < 4; i++) {
         EXPECT(FELTER_OTHER_RING, felter_conductor_join(&it.conductor, &all[i]->client));
         EXPECT(FELTER_OTHER_RING, felter_conductor_join_receiver(&it.conductor, &all[i]->receiver));
         EXPECT(FELTER_OTHER_RING, felter_conductor_join_reader(&it.conductor, &all[i]->reader));
@@ -147,7 +148,7 @@ static void others(void) {
     EXPECT(FELTER_OK, felter_lapped_count(&receiver, &count));
     EXPECT(FELTER_OK, felter_reader_value(&reader, 1, &value));
     CHECK(count == 0 && value == 0);
-    for (int i = 0; i < 3; i++) {
+    for (int i = 0; i < 4; i++) {
         works_together(all[i], 2);
         EXPECT(FELTER_OK, felter_conductor_join(&all[i]->conductor, &all[i]->client));
         EXPECT(FELTER_OK, felter_conductor_join_receiver(&all[i]->conductor, &all[i]->receiver));

@@ -322,9 +322,11 @@ static uint32_t shares_of(felter_producer *producer) {
 
 static void splits(void) {
     felter_producer producer = FELTER_EMPTY, other = FELTER_EMPTY, third = FELTER_EMPTY, fourth = FELTER_EMPTY;
-    felter_producer single = FELTER_EMPTY, larger = FELTER_EMPTY;
+    felter_producer single = FELTER_EMPTY, larger = FELTER_EMPTY, alike = FELTER_EMPTY;
     felter_consumer consumer = FELTER_EMPTY, of_single = FELTER_EMPTY, of_larger = FELTER_EMPTY;
+    felter_consumer of_alike = FELTER_EMPTY;
     EXPECT(FELTER_OK, felter_many_to_one_new(128, &producer, &consumer));
+    EXPECT(FELTER_OK, felter_many_to_one_new(128, &alike, &of_alike));
     EXPECT(FELTER_OK, felter_many_to_one_new(256, &larger, &of_larger));
     EXPECT(FELTER_OK, felter_one_to_one_new(128, &single, &of_single));
     CHECK(shares_of(&producer) == 65536);
@@ -336,11 +338,14 @@ static void splits(void) {
     EXPECT(FELTER_HANDLE_IN_USE, felter_split(&third, &other));
     EXPECT(FELTER_WRONG_HANDLE, felter_split(&single, &third));
     EXPECT(FELTER_OTHER_RING, felter_join(&producer, &larger));
+    EXPECT(FELTER_OTHER_RING, felter_join(&producer, &alike));
+    EXPECT(FELTER_OTHER_RING, felter_join(&alike, &other));
     EXPECT(FELTER_NO_HANDLE, felter_join(&producer, &third));
     EXPECT(FELTER_NO_HANDLE, felter_join(&third, &producer));
     EXPECT(FELTER_WRONG_HANDLE, felter_join(&producer, &single));
     EXPECT(FELTER_WRONG_HANDLE, felter_join(&producer, (felter_producer *)(void *)&consumer));
     CHECK(shares_of(&producer) == 65535 && shares_of(&larger) == 65536);
+    CHECK(shares_of(&alike) == 65536 && shares_of(&other) == 1);
     EXPECT(FELTER_OK, felter_join(&producer, &other));
     EXPECT(FELTER_NO_HANDLE, felter_write(&other, 1, NULL, 0));
     CHECK(shares_of(&producer) == 65536);
@@ -363,8 +368,29 @@ static void splits(void) {
     felter_free(&consumer.handle);
     felter_free(&larger.handle);
     felter_free(&of_larger.handle);
+    felter_free(&alike.handle);
+    felter_free(&of_alike.handle);
     felter_free(&single.handle);
     felter_free(&of_single.handle);
+}
+
+/* Numbers of a caller, also the least and the largest, tell rings apart. The header draws one once. */
+static void numbers(void) {
+    felter_producer least = FELTER_EMPTY, largest = FELTER_EMPTY, other = FELTER_EMPTY;
+    felter_consumer of_least = FELTER_EMPTY, of_largest = FELTER_EMPTY;
+    uint64_t before = felter_next_number();
+    EXPECT(FELTER_OK, felter_many_to_one_new_numbered(0, 128, &least, &of_least));
+    EXPECT(FELTER_OK, felter_many_to_one_new_at_numbered(UINT64_MAX, 128, 256, &largest, &of_largest));
+    CHECK(felter_next_number() == before + 1);
+    EXPECT(FELTER_OK, felter_split(&least, &other));
+    EXPECT(FELTER_OTHER_RING, felter_join(&largest, &other));
+    EXPECT(FELTER_OTHER_RING, felter_close(&of_largest, &least));
+    EXPECT(FELTER_OTHER_RING, felter_close(&of_least, &largest));
+    EXPECT(FELTER_OK, felter_join(&least, &other));
+    EXPECT(FELTER_OK, felter_close(&of_least, &least));
+    EXPECT(FELTER_OK, felter_close(&of_largest, &largest));
+    felter_free(&of_least.handle);
+    felter_free(&of_largest.handle);
 }
 
 static void looks(void) {
@@ -437,6 +463,7 @@ int main(void) {
     ends();
     joined_claims();
     splits();
+    numbers();
     looks();
     puts("rings: each answer as it should be");
     return 0;

@@ -11,8 +11,9 @@ puts it. Nothing waits: reads answer None where nothing is there, and a full rin
 clock of the caller.
 
 A handle may be used by any thread: a lock in each lets one call at a time work on it. Handles are context managers, and
-free what they own at the end. This module is tested and not proved; that handles of two rings, boards, sets of counters
-or conductors are not mixed is compared here, by a number that each has.
+free what they own at the end. Handles of two rings, boards, sets of counters or conductors are refused, by the numbers
+that this module gives them from one count: it compares them, and so does the library. This module is tested and not
+proved.
 """
 
 from felter.boards import RawReceiver, RawRecord, Receiver, Transmitter

@@ -45,8 +45,8 @@ TYPES.update(("*" + kind, ctypes.POINTER(Handle)) for kind in KINDS.split())
 # The calls of felter.h with what they take, as they stand there. c/compare compares them.
 CALLS = """
 felter_free *handle
-felter_many_to_one_new_at u32 u64 *producer *consumer
-felter_one_to_one_new_at u32 u64 *producer *consumer
+felter_many_to_one_new_at_numbered u64 u32 u64 *producer *consumer
+felter_one_to_one_new_at_numbered u64 u32 u64 *producer *consumer
 felter_write *producer i32 bytes usize
 felter_claim *producer i32 usize *u64
 felter_put *producer u64 usize bytes usize
@@ -63,7 +63,7 @@ felter_read *consumer *i32 *usize *u8 usize
 felter_read_batch *consumer u32 *u32 *usize *u8 usize
 felter_close *consumer *producer
 felter_finish *consumer *u64
-felter_board_new_at u32 u64 *transmitter
+felter_board_new_at_numbered u64 u32 u64 *transmitter
 felter_transmit *transmitter i32 bytes usize
 felter_subscribe *transmitter *receiver
 felter_receive *receiver *i32 *usize *u64 *u8 usize
@@ -76,7 +76,7 @@ felter_raw_lapped_count *raw_receiver *u64
 felter_board_join *transmitter *receiver
 felter_board_join_raw *transmitter *raw_receiver
 felter_board_close *transmitter *u64
-felter_counters_new u32 u32 *counters
+felter_counters_new_numbered u64 u32 u32 *counters
 felter_counter_allocate_owned *counters u64 i32 bytes usize bytes usize u64 u64 *u32
 felter_counter_free *counters u64 u32
 felter_counter_set *counters u32 i64
@@ -93,7 +93,7 @@ felter_counters_close_owner *counters u64 u64 *u32
 felter_counters_reader *counters *reader
 felter_reader_value *reader u32 *i64
 felter_counters_join *counters *reader
-felter_conductor_new u32 u32 u32 u32 *conductor
+felter_conductor_new_numbered u64 u32 u32 u32 u32 *conductor
 felter_conductor_client *conductor *client
 felter_conductor_work *conductor u64 u32 *u64 *i32
 felter_conductor_set_heartbeat *conductor u64

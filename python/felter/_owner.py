@@ -6,8 +6,9 @@ import threading
 from felter._library import Handle, call, library
 from felter.errors import Error, Number
 
-# A number for each ring, board, set of counters and conductor.
-numbers = itertools.count()
+# A number for each ring, board, set of counters and conductor, by which the library too tells them apart. The header's
+# count begins at 1, and the Rust crate's at 2^62.
+numbers = itertools.count(1 << 63)
 
 
 class Owner:

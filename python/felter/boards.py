@@ -15,7 +15,7 @@ class Transmitter(Owner):
     def __init__(self, capacity, start=0):
         super().__init__(next(numbers))
         self._capacity = capacity
-        call("felter_board_new_at", capacity, start, self._handle)
+        call("felter_board_new_at_numbered", self._number, capacity, start, self._handle)
 
     def transmit(self, type_id, body):
         """Transmits a message."""

@@ -68,7 +68,8 @@ class Conductor(Owner):
     def __init__(self, capacity, replies, counters, reuse_ms=0):
         super().__init__(next(numbers))
         self._replies = replies
-        call("felter_conductor_new", capacity, replies, counters, reuse_ms, self._handle)
+        parameters = capacity, replies, counters, reuse_ms
+        call("felter_conductor_new_numbered", self._number, *parameters, self._handle)
 
     def client(self):
         """Makes a client, with one share of the ring's 65,536 and one of the board's. It starts with the reply that was

@@ -13,7 +13,7 @@ class Counters(Owner):
 
     def __init__(self, count, reuse_ms=0):
         super().__init__(next(numbers))
-        call("felter_counters_new", count, reuse_ms, self._handle)
+        call("felter_counters_new_numbered", self._number, count, reuse_ms, self._handle)
 
     def allocate(self, now, type_id, key=b"", label=b"", registration=0, owner=0):
         """Allocates a counter of value 0 at a moment, and answers its id. The owner 0 stands for none."""

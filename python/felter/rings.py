@@ -151,15 +151,15 @@ class Producer(Owner):
 def _ring(name, capacity, start):
     number = next(numbers)
     producer, consumer = Producer(number), Consumer(number)
-    call(name, capacity, start, producer._handle, consumer._handle)
+    call(name, number, capacity, start, producer._handle, consumer._handle)
     return producer, consumer
 
 
 def many_to_one(capacity, start=0):
     """Makes a ring of any number of producers: the first of them, which holds all shares, and the consumer."""
-    return _ring("felter_many_to_one_new_at", capacity, start)
+    return _ring("felter_many_to_one_new_at_numbered", capacity, start)
 
 
 def one_to_one(capacity, start=0):
     """Makes a ring of one producer, which cannot be split."""
-    return _ring("felter_one_to_one_new_at", capacity, start)
+    return _ring("felter_one_to_one_new_at_numbered", capacity, start)

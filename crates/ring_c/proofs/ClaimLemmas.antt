@@ -16,6 +16,7 @@ use Rattle.ring_rings.specs.Seats.{view_of, IsOpenClaimOf, KeepsBoth, KeepsClaim
 use Rattle.ring_c.specs.Claims.{aborted, claim_numbered, without, AreApart, AreOpen, IsNoNumber, HasIndex, Takes}
 use Rattle.ring_c.specs.Producing.{holding, settling, Declined, Settled}
 use Rattle.ring_c.specs.Side.{knowing, side}
+use Rattle.ring_c.specs.declared.identity.Identity.{Identity}
 
 -- The search ---------------------------------------------------------------------
 
@@ -236,12 +237,12 @@ module _ {K : Type 0} (ring : Ring K) where
 
   -- the claim of a number was taken out and settled
   pub settled_one : (state : ClaimState) (number : ℕ) (p q : Producer) (claims left : List ClaimAt) (t : ClaimAt)
-      (many : Bool) → Takes number t claims left
+      (many : Bool) (identity : Identity) → Takes number t claims left
       → view_of q ≡ with_changed t.place (staged (Stored state)) (view_of p)
-      → Settled state number (side many ring p claims) (side many ring q left) (pos 0)
-  settled_one state number p q claims left t many takes view =
-      let before = side many ring p claims in
-      let after = side many ring q left in
+      → Settled state number (side many identity ring p claims) (side many identity ring q left) (pos 0)
+  settled_one state number p q claims left t many identity takes view =
+      let before = side many identity ring p claims in
+      let after = side many identity ring q left in
       let same : after ≡ settling state number t before =
       ap (λ v. holding left (knowing v before)) view
       ∙ ap (λ l. holding l (knowing (with_changed t.place (staged (Stored state)) (view_of p)) before)) takes.rest in

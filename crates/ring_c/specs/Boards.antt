@@ -12,6 +12,7 @@ use Rattle.ring_board.specs.Records.{end_of}
 use Rattle.ring_board.specs.Refusals.{subscribe_refusal_of, transmit_code, transmit_refusal_of}
 use Rattle.ring_board.specs.Seats.{next_record}
 use Rattle.ring_board.specs.Steps.{Sat, fewer, newcomer, sent_on}
+use Rattle.ring_c.specs.declared.identity.Identity.{Identity}
 use Rattle.ring_c.specs.declared.lending.Shared.{Shared}
 
 -- which board it is
@@ -23,6 +24,8 @@ table_of board = board.table.shared.table_id
 pub record Sending : Type 0 where
   -- which board it is
   pub table : TableId
+  -- the board's number
+  pub identity : Identity
   -- the bytes of the board's buffer
   pub capacity : ℕ
   -- what the transmitter knows: the transmitted list is its part `sent`
@@ -47,6 +50,8 @@ Transmitted type_id body p q code = MatchOption (transmit_refusal_of p.capacity 
 pub record Listening : Type 0 where
   -- which board it is
   pub table : TableId
+  -- the number of the board, or of its conductor
+  pub identity : Identity
   -- the bytes of the board's buffer
   pub capacity : ℕ
   -- what a conductor shares, where it is a receiver of one's
@@ -62,7 +67,13 @@ seated m r = record r { seat = m }
 pub record Subscribes (p q : Sending) (r : Listening) : Type 0 where
   pub allowed : subscribe_refusal_of p.view.shares ≡ None
   pub left : q ≡ knowing (fewer p.view) p
-  pub right : r ≡ record { table = p.table; capacity = p.capacity; lender = None; seat = r.seat }
+  pub right : r ≡ record {
+    table = p.table;
+    identity = p.identity;
+    capacity = p.capacity;
+    lender = None;
+    seat = r.seat;
+  }
   pub knows : r.seat.0 ≡ newcomer p.view
 
 -- why a receiver is not made: the transmitter needs its last share, or memory is wanting

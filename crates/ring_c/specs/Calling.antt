@@ -42,7 +42,8 @@ pub record KeepsReceiver (k l : ClientSide) : Type 0 where
 -- a command was sent with an id that was drawn for it, and the id is put out; or it was refused
 abbrev pub WasSent : Request → ℕ → ℕ → ClientSide → ClientSide → ℤ → Type 0
 WasSent request before id k l code = KeepsReceiver k l
-    × (((code ≡ pos 0) × IsSendable request × Sends (ring_bytes k) request (client_view k.client) id (client_view l.client))
+    × (((code ≡ pos 0) × IsSendable request
+    × Sends (ring_bytes k) request (client_view k.client) id (client_view l.client))
     ⊎ (NotSent request k l code × (id ≡ before)))
 
 -- Hearing ------------------------------------------------------------------------

@@ -27,5 +27,5 @@ pub record TellsEnd (c : ConductorSide) (received left : ℕ) : Type 0 where
 
 -- it does not end with the number of the library's refusal; where there is none, another handle holds what it shares
 abbrev pub WhyNotFinished : ConductorSide → ℤ → Type 0
-WhyNotFinished c code = MatchOption (refusal_to c.conductor c.producer) (code ≡ pos 110) (λ fault. code
-    ≡ finish_code fault)
+WhyNotFinished c code =
+    MatchOption (refusal_to c.conductor c.producer) (code ≡ pos 110) (λ fault. code ≡ finish_code fault)

@@ -21,6 +21,7 @@ use Rattle.ring_conductor.specs.Asking.{client_seat, client_view}
 use Rattle.ring_conductor.specs.Conducting.{board_view, manager_in, ledger_of, ring_view, value_shares_of, KeepsTheRest, KeepsWhatItServes, Works}
 use Rattle.ring_c.specs.declared.client.ClientSide.{ClientSide}
 use Rattle.ring_c.specs.declared.conductor.ConductorSide.{ConductorSide}
+use Rattle.ring_c.specs.declared.identity.Identity.{Identity}
 use Rattle.ring_c.specs.declared.lending.Shared.{Shared}
 
 -- what a conductor shares with its handles
@@ -45,7 +46,8 @@ IsConductorCode C R count code =
     MatchOption (sizes_refused C R count) ((code ≡ pos 0) ⊎ (code ≡ pos 3)) (λ refused. code ≡ refused)
 
 -- nothing was sent, no reply given and no counter used, and all shares are here
-pub record IsNewConductor (C R count reuse_ms : ℕ) (c : ConductorSide) : Type 0 where
+pub record IsNewConductor (i : Identity) (C R count reuse_ms : ℕ) (c : ConductorSide) : Type 0 where
+  pub identity : (shared_by c).identity ≡ i
   pub ring : (capacity_of (shared_by c).ring ≡ C) × (start_of (shared_by c).ring ≡ 0)
   pub board : (board_capacity_of (shared_by c).board ≡ R) × (board_start_of (shared_by c).board ≡ 0)
   pub producer : view_of c.producer ≡ first_producer C 0
@@ -108,7 +110,8 @@ Worked now limit before after c d code = ((2 ^ 62 < now) × (code ≡ pos 107) �
 
 -- the heartbeat was stored
 pub record Beats (value : ℕ) (c d : ConductorSide) : Type 0 where
-  pub stored : ring_view d.conductor ≡ with_consumer (beaten value (ring_view c.conductor).consumer) (ring_view c.conductor)
+  pub stored : ring_view d.conductor
+      ≡ with_consumer (beaten value (ring_view c.conductor).consumer) (ring_view c.conductor)
   pub others : KeepsWhatItServes c.conductor d.conductor
   pub rest : KeepsProducer c d
 

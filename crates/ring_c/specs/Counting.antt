@@ -23,10 +23,11 @@ Asked ask id before after c d code = ((code ≡ pos 0)
     × (answer (id_refusal_of (registry_of c.manager) id) (ask (registry_of c.manager)) ≡ Ok after) × (d ≡ c))
     ⊎ (IdRefused (ask (registry_of c.manager)) id c d code × (after ≡ before))
 
--- they are of the same values, and no share was given or taken
+-- they are of the same values and number, and no share was given or taken
 pub record KeepsShares (c d : CountersSide) : Type 0 where
   pub shares : shares_of d.manager ≡ shares_of c.manager
   pub values : arc_value d.values ≡ arc_value c.values
+  pub identity : d.identity ≡ c.identity
 
 -- a counter in use got this value
 pub record StoresValue (id : ℕ) (value : ℤ) (c d : CountersSide) : Type 0 where

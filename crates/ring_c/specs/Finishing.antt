@@ -11,18 +11,20 @@ use Rattle.ring_c.specs.Side.{Reading, Side, close_refusal}
 
 -- Closing ------------------------------------------------------------------------
 
--- the producer was taken in, which has all shares and no open claim
+-- the producer of the same number was taken in, which has all shares and no open claim
 pub record TakesLast (r : Reading) (p : Side) (s : Reading) : Type 0 where
   pub kind : r.many ≡ p.many
+  pub identity : r.identity ≡ p.identity
   pub ready : close_refusal p.view ≡ None
   pub first : r.last ≡ None
   pub rest : s ≡ record r { last = Some p.view }
 
--- why it was not: the consumer has its ring's producer already, or the kinds or the capacities differ; else it is the
+-- why it was not: the consumer has its ring's producer already, or the kinds or the numbers differ; else it is the
 -- library's refusal
 abbrev pub IsNotLast : Reading → Side → ℤ → Type 0
-IsNotLast r p code = ((code ≡ pos 108) × (IsSome r.last ⊎ ((r.many ≢ p.many) ⊎ (r.capacity ≢ p.capacity))))
-    ⊎ ((r.last ≡ None) × MatchOption (close_refusal p.view) ⊥ (λ fault. code ≡ close_code fault))
+IsNotLast r p code = ((code ≡ pos 108) × (IsSome r.last ⊎ ((r.many ≢ p.many) ⊎ (r.identity ≢ p.identity))))
+    ⊎ ((r.last ≡ None) × (r.many ≡ p.many) × (r.identity ≡ p.identity)
+    × MatchOption (close_refusal p.view) ⊥ (λ fault. code ≡ close_code fault))
 
 -- Finishing ----------------------------------------------------------------------
 

@@ -10,12 +10,13 @@ use Rattle.ring_c.specs.declared.counters.CountersSide.{CountersSide}
 use Rattle.ring_c.specs.declared.counters.ReaderSide.{ReaderSide}
 use Rattle.ring_c.specs.Serving.{lends_values, values_in}
 
--- a share was moved to a reader of these counters, which has seen every write so far
+-- a share was moved to a reader of these counters, with their number, which has seen every write so far
 pub record Lends (c d : CountersSide) (r : ReaderSide) : Type 0 where
   pub shares : shares_of d.manager + 1 ≡ shares_of c.manager
   pub registry : registry_of d.manager ≡ registry_of c.manager
   pub writes : writes_of d.manager ≡ writes_of c.manager
   pub same : arc_value d.values ≡ arc_value c.values
+  pub identity : (d.identity ≡ c.identity) × (r.identity ≡ c.identity)
   pub values : values_in r.values ≡ arc_value c.values
   pub own : lends_values r.values ≡ None
   pub made : made_of r.reader ≡ writes_of c.manager
@@ -30,6 +31,7 @@ WhyNotLent c code = ((code ≡ pos 12) × (shares_of c.manager ≤ 1)) ⊎ (code
 pub record Loads (id : ℕ) (value : ℤ) (r s : ReaderSide) : Type 0 where
   pub in_range : id < values_count (values_in r.values)
   pub values : s.values ≡ r.values
+  pub identity : s.identity ≡ r.identity
   pub made : made_of s.reader ≡ made_of r.reader
   pub later : Begins (seen_by r.reader) (seen_by s.reader)
   pub after : value ≡ value_after id (seen_by s.reader)

@@ -128,7 +128,14 @@ Counted shares p q code = (code ≡ pos 0) × (q ≡ p) × (shares ≡ p.view.pr
 
 -- the other producer of the ring, with one share
 abbrev pub other_of : Side → Side
-other_of p = record { many = true; table = p.table; capacity = p.capacity; view = producer_alone p.view; claims = [] }
+other_of p = record {
+  many = true;
+  table = p.table;
+  identity = p.identity;
+  capacity = p.capacity;
+  view = producer_alone p.view;
+  claims = [];
+}
 
 -- a share was moved to another producer
 pub record Splits (p q other : Side) : Type 0 where
@@ -142,12 +149,14 @@ abbrev pub WhyNotSplit : Side → ℤ → Type 0
 WhyNotSplit p code = ((code ≡ pos 101) × (p.many ≡ false))
     ⊎ (((code ≡ pos 12) × (p.view.producer.shares ≡ 1)) ⊎ (code ≡ pos 3))
 
--- the other one was taken in, with its shares and its open claims
+-- the other one, which has the same number, was taken in, with its shares and its open claims
 pub record TakesIn (p other q : Side) : Type 0 where
+  pub identity : p.identity ≡ other.identity
   pub view : Joins p.capacity p.view other.view q.view
   pub rest : q ≡ holding (p.claims ++ other.claims) (knowing q.view p)
 
--- why it was not: a ring has one producer, the capacities differ, or memory is wanting
+-- why it was not: a ring has one producer; else the numbers differ; else memory is wanting
 abbrev pub IsApart : Side → Side → ℤ → Type 0
 IsApart p other code = ((code ≡ pos 101) × ((p.many ≡ false) ⊎ (other.many ≡ false)))
-    ⊎ (((code ≡ pos 108) × (p.capacity ≢ other.capacity)) ⊎ (code ≡ pos 3))
+    ⊎ ((p.many ≡ true) × (other.many ≡ true)
+    × (((code ≡ pos 108) × (p.identity ≢ other.identity)) ⊎ ((code ≡ pos 3) × (p.identity ≡ other.identity))))

@@ -9,10 +9,13 @@ use Rattle.ring_board.specs.Receiving.{GotLapped, GotNothing, GotRecord}
 use Rattle.ring_board.specs.Seats.{len_of, place_of, type_id_of}
 use Rattle.ring_board.specs.Steps.{Sat, fewer, newcomer}
 use Rattle.ring_c.specs.Boards.{Sending, knowing}
+use Rattle.ring_c.specs.declared.identity.Identity.{Identity}
 
 pub record Watching : Type 0 where
   -- which board it is
   pub table : TableId
+  -- the board's number
+  pub identity : Identity
   -- the bytes of the board's buffer
   pub capacity : ℕ
   -- what the receiver knows, with the slots of its seat, which has none
@@ -30,7 +33,13 @@ reseated m r = record r { seat = m }
 pub record SubscribesRaw (p q : Sending) (r : Watching) : Type 0 where
   pub spare : share_refusal_of p.view.shares ≡ None
   pub left : q ≡ knowing (fewer p.view) p
-  pub right : r ≡ record { table = p.table; capacity = p.capacity; seat = r.seat; latest = None }
+  pub right : r ≡ record {
+    table = p.table;
+    identity = p.identity;
+    capacity = p.capacity;
+    seat = r.seat;
+    latest = None;
+  }
   pub knows : r.seat.0 ≡ newcomer p.view
 
 -- why it is not made: the transmitter needs its last share, or memory is wanting

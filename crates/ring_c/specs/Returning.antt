@@ -1,6 +1,6 @@
 -- What boards and counters take back, and how a board ends: p is the transmitter before, q after, c are the counters
 -- before, d after, r is a receiver or a reader, and the code is what is answered.
-use Rattle.std.specs.Prelude.{◌≡◌, ◌≢◌, ℕ, ◌+◌, ℤ, pos, MatchOption, None, IsSome}
+use Rattle.std.specs.Prelude.{◌≡◌, ◌≢◌, ℕ, ◌+◌, ℤ, pos, MatchOption, None}
 use Rattle.std.specs.Arc.{arc_value}
 use Rattle.atomic_table.specs.Seated.{TableId}
 use Rattle.ring_board.specs.Closing.{close_refusal_of}
@@ -27,25 +27,30 @@ pub record TakesBack (p : Sending) (m : Sat) (q : Sending) : Type 0 where
 abbrev pub IsAtBoard : Sending → TableId → ℕ → Sat → Type 0
 IsAtBoard p table capacity m = (p.table ≡ table) × (p.capacity ≡ capacity) × (p.view.start ≡ m.0.start)
 
--- the receiver is of the transmitter's board, or a conductor's
+-- where it has the same number and is no conductor's, the receiver is of the transmitter's board
 abbrev pub IsOfThisBoard : Sending → Listening → Type 0
-IsOfThisBoard p r = MatchOption r.lender (IsAtBoard p r.table r.capacity r.seat) (λ _. Unit {0})
+IsOfThisBoard p r =
+    MatchOption r.lender (p.identity ≡ r.identity → IsAtBoard p r.table r.capacity r.seat) (λ _. Unit {0})
 
+-- it is no conductor's, has the same number, and was taken back
 abbrev pub TakesListener : Sending → Listening → Sending → Type 0
-TakesListener p r q = (r.lender ≡ None) × TakesBack p r.seat q
+TakesListener p r q = (r.lender ≡ None) × (p.identity ≡ r.identity) × TakesBack p r.seat q
 
--- it is a conductor's, or the capacities differ
+-- it is a conductor's, or the numbers differ
 abbrev pub IsAstray : Sending → Listening → ℤ → Type 0
-IsAstray p r code = (code ≡ pos 108) × MatchOption r.lender (p.capacity ≢ r.capacity) (λ _. Unit {0})
+IsAstray p r code = (code ≡ pos 108) × MatchOption r.lender (p.identity ≢ r.identity) (λ _. Unit {0})
 
+-- where it has the same number, the raw receiver is of the transmitter's board
 abbrev pub IsRawOfThisBoard : Sending → Watching → Type 0
-IsRawOfThisBoard p r = IsAtBoard p r.table r.capacity r.seat
+IsRawOfThisBoard p r = p.identity ≡ r.identity → IsAtBoard p r.table r.capacity r.seat
 
+-- it has the same number, and was taken back
 abbrev pub TakesWatcher : Sending → Watching → Sending → Type 0
-TakesWatcher p r q = TakesBack p r.seat q
+TakesWatcher p r q = (p.identity ≡ r.identity) × TakesBack p r.seat q
 
+-- the numbers differ
 abbrev pub IsRawAstray : Sending → Watching → ℤ → Type 0
-IsRawAstray p r code = (code ≡ pos 108) × (p.capacity ≢ r.capacity)
+IsRawAstray p r code = (code ≡ pos 108) × (p.identity ≢ r.identity)
 
 -- The end of a board -------------------------------------------------------------
 
@@ -62,19 +67,23 @@ IsBoardKept p code = MatchOption (close_refusal_of p.view.shares) (code ≡ pos 
 
 -- Readers ------------------------------------------------------------------------
 
--- the reader is of these counters, or a conductor's
+-- where it has the same number and is no conductor's, the reader is of these counters
 abbrev pub IsOfThese : CountersSide → ReaderSide → Type 0
-IsOfThese c r = MatchOption (lends_values r.values) (values_in r.values ≡ arc_value c.values) (λ _. Unit {0})
+IsOfThese c r = MatchOption (lends_values r.values)
+    (c.identity ≡ r.identity → values_in r.values ≡ arc_value c.values) (λ _. Unit {0})
 
--- a reader was taken back, with its share: what it loaded are values after first parts of the writes
+-- a reader of the same number was taken back, with its share: what it loaded are values after first parts of the writes
 pub record TakesLoads (c : CountersSide) (r : ReaderSide) (d : CountersSide) : Type 0 where
   pub own : lends_values r.values ≡ None
+  pub same : c.identity ≡ r.identity
   pub shares : shares_of d.manager ≡ shares_of c.manager + 1
   pub loads : AreLoads (made_of r.reader) (loads_of r.reader) (writes_of d.manager)
   pub registry : registry_of d.manager ≡ registry_of c.manager
   pub writes : writes_of d.manager ≡ writes_of c.manager
   pub values : arc_value d.values ≡ arc_value c.values
+  pub identity : d.identity ≡ c.identity
 
--- it is a conductor's
-abbrev pub IsLent : CountersSide → ReaderSide → ℤ → Type 0
-IsLent c r code = (code ≡ pos 108) × IsSome (lends_values r.values)
+-- it is a conductor's, or the numbers differ
+abbrev pub IsOfOthers : CountersSide → ReaderSide → ℤ → Type 0
+IsOfOthers c r code =
+    (code ≡ pos 108) × MatchOption (lends_values r.values) (c.identity ≢ r.identity) (λ _. Unit {0})

@@ -21,8 +21,8 @@ use Rattle.ring_c.specs.declared.held.Held.{Held}
 use Rattle.ring_c.specs.declared.lending.Shared.{Shared}
 use Rattle.ring_c.specs.Boards.{table_of, Listening}
 use Rattle.ring_c.specs.Conducting.{shared_by, KeepsProducer}
-use Rattle.ring_c.specs.Serving.{lends_values, AreOfOneSize}
-use Rattle.ring_c.specs.Told.{a_conductor, IfHolds}
+use Rattle.ring_c.specs.Serving.{lends_values, IsNumberedOtherwise}
+use Rattle.ring_c.specs.Told.{a_conductor, WhereBoth}
 
 -- Lending ------------------------------------------------------------------------
 
@@ -30,7 +30,13 @@ use Rattle.ring_c.specs.Told.{a_conductor, IfHolds}
 pub record LendsReceiver (c d : ConductorSide) (r : Listening) : Type 0 where
   pub left : board_view d.conductor ≡ fewer (board_view c.conductor)
   pub right : let s = shared_by c in
-      r ≡ record { table = table_of s.board; capacity = capacity_of s.board; lender = Some s; seat = r.seat }
+      r ≡ record {
+        table = table_of s.board;
+        identity = s.identity;
+        capacity = capacity_of s.board;
+        lender = Some s;
+        seat = r.seat;
+      }
   pub knows : r.seat.0 ≡ newcomer (board_view c.conductor)
   pub others : KeepsTheRest c.conductor d.conductor
   pub rest : KeepsProducer c d
@@ -68,25 +74,30 @@ pub record TakesSeat (c d : ConductorSide) (m : Sat) : Type 0 where
   pub runs : AreRuns (board_view c.conductor).sent m.0.from m.0.copies
   pub others : KeepsTheRest c.conductor d.conductor
 
--- a client was taken back: its claims are the conductor's producer's
+-- a client of this conductor was taken back: its claims are the conductor's producer's
 pub record TakesClient (c : ConductorSide) (k : ClientSide) (d : ConductorSide) : Type 0 where
+  pub lender : arc_value k.shared ≡ shared_by c
   pub shared : shared_by d ≡ shared_by c
   pub producer : Joins (ring_bytes (shared_by c).ring) (view_of c.producer) (client_view k.client) (view_of d.producer)
   pub receiver : TakesSeat c d (client_seat k.client)
 
+-- a receiver of this conductor's replies was taken back
 pub record TakesReceiver (c : ConductorSide) (r : Listening) (d : ConductorSide) : Type 0 where
+  pub lender : r.lender ≡ Some (shared_by c)
   pub receiver : TakesSeat c d r.seat
   pub rest : KeepsProducer c d
 
--- a reader was taken back, with its share: what it loaded are values after first parts of the writes
+-- a reader of this conductor's values was taken back, with its share: what it loaded are values after first parts of
+-- the writes
 pub record TakesReader (c : ConductorSide) (r : ReaderSide) (d : ConductorSide) : Type 0 where
+  pub lender : lends_values r.values ≡ Some (shared_by c)
   pub shares : value_shares_of d.conductor ≡ value_shares_of c.conductor + 1
   pub loads : AreLoads (made_of r.reader) (loads_of r.reader) (writes_of (manager_in d.conductor))
   pub keeps : KeepsCounters c d
 
--- it is no conductor's, or that of one with other sizes
+-- it is no conductor's, or that of one with another number
 abbrev pub IsForeign : ConductorSide → Option Shared → ℤ → Type 0
-IsForeign c lender code = (code ≡ pos 108) × IfSome lender (λ s. AreOfOneSize (shared_by c) s → ⊥)
+IsForeign c lender code = (code ≡ pos 108) × IsNumberedOtherwise (shared_by c).identity lender
 
 -- what a conductor shares, where the client, the receiver or the reader is one's
 abbrev pub lends_client : ClientSide → Option Shared
@@ -98,8 +109,11 @@ lends_reader r = lends_values r.values
 abbrev pub lends_receiver : Listening → Option Shared
 lends_receiver r = r.lender
 
--- where the first is a conductor and the second one of some conductor's, it is this one's
+-- where it is a conductor's of the same number, it is this one's
+abbrev pub IsOfThisConductor : ConductorSide → Option Shared → Type 0
+IsOfThisConductor c lender = IfSome lender (λ s. s.identity ≡ (shared_by c).identity → s ≡ shared_by c)
+
+-- the same of a conductor and what another handle of this kind holds
 abbrev pub AreOfOneConductor : {S : Type 0} → (Held → Option S) → (S → Option Shared) → Option Held → Option Held
     → Type 0
-AreOfOneConductor other lender p o =
-    IfHolds a_conductor (λ c. IfHolds other (λ r. IfSome (lender r) (λ s. s ≡ shared_by c)) o) p
+AreOfOneConductor other lender p o = WhereBoth a_conductor other (λ c r. IsOfThisConductor c (lender r)) p o

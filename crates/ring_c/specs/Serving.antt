@@ -1,10 +1,9 @@
 -- What a conductor shares with its handles, and what of it they hold.
-use Rattle.std.specs.Prelude.{◌≡◌, Option, None, Some}
+use Rattle.std.specs.Prelude.{◌≡◌, ◌≢◌, IfSome, MatchOption, Option, None, Some}
 use Rattle.std.specs.Arc.{arc_value}
-use Rattle.ring_rings.specs.Seats.{capacity_of as ring_bytes}
 use Rattle.ring_board.specs.declared.board.Board.{Board}
-use Rattle.ring_board.specs.Seats.{capacity_of as board_bytes}
 use Rattle.ring_counters.specs.declared.values.seats.CounterValues.{CounterValues}
+use Rattle.ring_c.specs.declared.identity.Identity.{Identity}
 use Rattle.ring_c.specs.declared.lending.Shared.{Shared}
 use Rattle.ring_c.specs.declared.lending.AnyBoard.{AnyBoard}
 use Rattle.ring_c.specs.declared.lending.AnyBoard.TheVariants as board
@@ -31,6 +30,10 @@ abbrev pub lends_values : AnyValues → Option Shared
 lends_values (values.Own own) = None
 lends_values (values.Lent shared) = Some (arc_value shared)
 
--- rings and boards of two conductors have the same capacities
-abbrev pub AreOfOneSize : Shared → Shared → Type 0
-AreOfOneSize s t = (ring_bytes s.ring ≡ ring_bytes t.ring) × (board_bytes s.board ≡ board_bytes t.board)
+-- it is a conductor's of this number
+abbrev pub IsNumbered : Identity → Option Shared → Type 0
+IsNumbered identity lender = MatchOption lender ⊥ (λ s. s.identity ≡ identity)
+
+-- it is no conductor's, or one's of another number
+abbrev pub IsNumberedOtherwise : Identity → Option Shared → Type 0
+IsNumberedOtherwise identity lender = IfSome lender (λ s. s.identity ≢ identity)

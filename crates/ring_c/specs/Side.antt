@@ -12,6 +12,7 @@ use Rattle.ring_rings.specs.declared.ring.Producer.{Producer}
 use Rattle.ring_rings.specs.declared.ring.Consumer.{Consumer}
 use Rattle.ring_rings.specs.Seats.{capacity_of, shares_of, view_of, IsConsumerOf, IsProducerOf}
 use Rattle.ring_c.specs.Claims.{AreOpen}
+use Rattle.ring_c.specs.declared.identity.Identity.{Identity}
 use Rattle.ring_c.specs.declared.ring.AnyRing.{AnyRing}
 use Rattle.ring_c.specs.declared.ring.AnyRing.TheVariants.{Many, One}
 
@@ -46,6 +47,11 @@ abbrev pub IsConsumerIn : AnyRing → Consumer → Type 0
 IsConsumerIn (Many ring) c = IsConsumerOf (arc_value ring) c
 IsConsumerIn (One ring) c = IsConsumerOf (arc_value ring) c
 
+-- Numbers --------------------------------------------------------------------------
+
+abbrev pub identity_of : ℕ → Identity
+identity_of number = record { number = number }
+
 -- Producers ----------------------------------------------------------------------
 
 pub record Side : Type 0 where
@@ -53,6 +59,8 @@ pub record Side : Type 0 where
   pub many : Bool
   -- which ring it is
   pub table : TableId
+  -- the ring's number
+  pub identity : Identity
   -- the bytes of the ring's buffer
   pub capacity : ℕ
   -- what the producer knows
@@ -60,11 +68,12 @@ pub record Side : Type 0 where
   -- the claims that are open, the oldest first
   pub claims : List ClaimAt
 
--- the producer of a ring of this kind, with these open claims
-abbrev pub side : {K : Type 0} → Bool → Ring K → Producer → List ClaimAt → Side
-side many ring p claims = record {
+-- the producer of a ring of this kind and number, with these open claims
+abbrev pub side : {K : Type 0} → Bool → Identity → Ring K → Producer → List ClaimAt → Side
+side many identity ring p claims = record {
   many = many;
   table = ring.table.shared.table_id;
+  identity = identity;
   capacity = capacity_of ring;
   view = view_of p;
   claims = claims;
@@ -78,6 +87,10 @@ pub record IsSide (ring : AnyRing) (producer : Producer) (claims : List ClaimAt)
 -- the producer that knows this
 abbrev pub knowing : View → Side → Side
 knowing v s = record s { view = v }
+
+-- where their numbers are the same, both are producers of one ring
+abbrev pub AreOfOneRing : Side → Side → Type 0
+AreOfOneRing p other = p.identity ≡ other.identity → (p.table ≡ other.table) × (p.capacity ≡ other.capacity)
 
 -- Consumers ----------------------------------------------------------------------
 
@@ -93,6 +106,7 @@ IsLastIn ring (Some p) = IsProducerIn ring p × (close_refusal (view_of p) ≡ N
 pub record Reading : Type 0 where
   pub many : Bool
   pub table : TableId
+  pub identity : Identity
   pub capacity : ℕ
   -- what the consumer knows
   pub view : View
@@ -103,6 +117,6 @@ pub record Reading : Type 0 where
 abbrev pub having_read : View → Reading → Reading
 having_read v r = record r { view = v }
 
--- the producer is of the consumer's ring
+-- where their numbers are the same, the producer is of the consumer's ring
 abbrev pub IsOfThisRing : Reading → Side → Type 0
-IsOfThisRing r p = (r.table ≡ p.table) × (r.capacity ≡ p.capacity)
+IsOfThisRing r p = r.identity ≡ p.identity → (r.table ≡ p.table) × (r.capacity ≡ p.capacity)

@@ -15,10 +15,11 @@ use Rattle.ring_c.specs.declared.client.ClientSide.{ClientSide}
 use Rattle.ring_c.specs.declared.conductor.ConductorSide.{ConductorSide}
 use Rattle.ring_c.specs.declared.counters.CountersSide.{CountersSide}
 use Rattle.ring_c.specs.declared.counters.ReaderSide.{ReaderSide}
+use Rattle.ring_c.specs.declared.identity.Identity.{Identity}
 use Rattle.ring_c.specs.Boards.{Listening, Sending}
 use Rattle.ring_c.specs.Producing.{closing}
 use Rattle.ring_c.specs.Raw.{Watching}
-use Rattle.ring_c.specs.Side.{Reading, Side}
+use Rattle.ring_c.specs.Side.{identity_of, Reading, Side}
 use Rattle.ring_c.specs.declared.held.Held.{Held}
 use Rattle.ring_c.specs.declared.held.Held.TheVariants.{Producer, Consumer, Transmitter, Receiver, RawReceiver, Counters, Reader, Conductor, Client}
 
@@ -88,25 +89,41 @@ ClosesHeld h k = MatchOption (a_producer h) (k ≡ h) (λ p. MatchOption (a_prod
 -- a ring is refused with the refusal's code; where there is none it is made, unless memory is wanting
 abbrev pub IsMakeCode : ℕ → ℕ → ℤ → Type 0
 IsMakeCode C start code =
-    MatchOption (make_refusal_of (is_capacity C) C start) ((code ≡ pos 0) ⊎ (code ≡ pos 3)) (λ fault. code ≡ make_code fault)
+    MatchOption (make_refusal_of (is_capacity C) C start) ((code ≡ pos 0) ⊎ (code ≡ pos 3))
+    (λ fault. code ≡ make_code fault)
 
--- a producer and the consumer of one ring, which know this
-pub record ArePaired (many : Bool) (C : ℕ) (v w : View) (p : Side) (c : Reading) : Type 0 where
-  pub producer : p ≡ record { many = many; table = p.table; capacity = C; view = v; claims = [] }
-  pub consumer : c ≡ record { many = many; table = p.table; capacity = C; view = w; last = None }
+-- a producer and the consumer of one ring, with its number, which know this
+pub record ArePaired (many : Bool) (i : Identity) (C : ℕ) (v w : View) (p : Side) (c : Reading) : Type 0 where
+  pub producer : p ≡ record {
+    many = many;
+    table = p.table;
+    identity = i;
+    capacity = C;
+    view = v;
+    claims = [];
+  }
+  pub consumer : c ≡ record {
+    many = many;
+    table = p.table;
+    identity = i;
+    capacity = C;
+    view = w;
+    last = None;
+  }
 
-abbrev pub HoldPair : Bool → ℕ → View → View → Option Held → Option Held → Type 0
-HoldPair many C v w p c = HoldsOne a_producer (λ s. HoldsOne a_consumer (λ r. ArePaired many C v w s r) c) p
+abbrev pub HoldPair : Bool → Identity → ℕ → View → View → Option Held → Option Held → Type 0
+HoldPair many i C v w p c = HoldsOne a_producer (λ s. HoldsOne a_consumer (λ r. ArePaired many i C v w s r) c) p
 
 -- the producer holds all shares, and both stand at the start
-abbrev pub HoldFresh : Bool → ℕ → ℕ → Option Held → Option Held → Type 0
-HoldFresh many C start p c = HoldPair many C (first_producer C start) (first_consumer C start) p c
+abbrev pub HoldFresh : Bool → Identity → ℕ → ℕ → Option Held → Option Held → Type 0
+HoldFresh many i C start p c = HoldPair many i C (first_producer C start) (first_consumer C start) p c
 
--- handles in use answer 102 and stay as they are; else a ring is made for them, or refused
-abbrev pub Opens : Bool → ℕ → ℕ → Option Held → Option Held → Option Held → Option Held → ℤ → Type 0
-Opens many C start p c p' c' code = (((p ≢ None) ⊎ (c ≢ None)) × (code ≡ pos 102) × (p' ≡ p) × (c' ≡ c))
+-- handles in use answer 102 and stay as they are; else a ring of this number is made for them, or refused
+abbrev pub Opens : Bool → ℕ → ℕ → ℕ → Option Held → Option Held → Option Held → Option Held → ℤ → Type 0
+Opens many number C start p c p' c' code = (((p ≢ None) ⊎ (c ≢ None)) × (code ≡ pos 102) × (p' ≡ p) × (c' ≡ c))
     ⊎ ((p ≡ None) × (c ≡ None) × IsMakeCode C start code
-    × (((code ≡ pos 0) × HoldFresh many C start p' c') ⊎ ((code ≢ pos 0) × (p' ≡ None) × (c' ≡ None))))
+    × (((code ≡ pos 0) × HoldFresh many (identity_of number) C start p' c')
+    ⊎ ((code ≢ pos 0) × (p' ≡ None) × (c' ≡ None))))
 
 -- Handles that are filled by another one -------------------------------------------
 
@@ -129,18 +146,20 @@ GivesInto kind other Makes Keeps p o p' o' code = ((o ≢ None) × (code ≡ pos
 -- a board is refused with the refusal's code; where there is none it is made, unless memory is wanting
 abbrev pub IsBoardCode : ℕ → ℕ → ℤ → Type 0
 IsBoardCode C start code =
-    MatchOption (make_refusal_of (is_board_capacity C) C start) ((code ≡ pos 0) ⊎ (code ≡ pos 3)) (λ fault. code ≡ make_code fault)
+    MatchOption (make_refusal_of (is_board_capacity C) C start) ((code ≡ pos 0) ⊎ (code ≡ pos 3))
+    (λ fault. code ≡ make_code fault)
 
 -- the transmitter holds all shares of a board on which nothing was transmitted
-abbrev pub HoldNewBoard : ℕ → ℕ → Option Held → Type 0
-HoldNewBoard C start h =
-    HoldsOne a_transmitter (λ p. p ≡ record { table = p.table; capacity = C; view = opening_view C start }) h
+abbrev pub HoldNewBoard : Identity → ℕ → ℕ → Option Held → Type 0
+HoldNewBoard i C start h =
+    HoldsOne a_transmitter (λ p.
+    p ≡ record { table = p.table; identity = i; capacity = C; view = opening_view C start }) h
 
--- a handle in use answers 102 and stays as it is; else a board is made for it, or refused
-abbrev pub OpensBoard : ℕ → ℕ → Option Held → Option Held → ℤ → Type 0
-OpensBoard C start h h' code = ((h ≢ None) × (code ≡ pos 102) × (h' ≡ h))
+-- a handle in use answers 102 and stays as it is; else a board of this number is made for it, or refused
+abbrev pub OpensBoard : ℕ → ℕ → ℕ → Option Held → Option Held → ℤ → Type 0
+OpensBoard number C start h h' code = ((h ≢ None) × (code ≡ pos 102) × (h' ≡ h))
     ⊎ ((h ≡ None) × IsBoardCode C start code
-    × (((code ≡ pos 0) × HoldNewBoard C start h') ⊎ ((code ≢ pos 0) × (h' ≡ None))))
+    × (((code ≡ pos 0) × HoldNewBoard (identity_of number) C start h') ⊎ ((code ≢ pos 0) × (h' ≡ None))))
 
 -- Counters that are made ---------------------------------------------------------
 
@@ -150,30 +169,26 @@ IsCountersCode count code =
     MatchOption (counters_refusal_of count) ((code ≡ pos 0) ⊎ (code ≡ pos 3)) (λ fault. code ≡ counters_code fault)
 
 -- counters of which none was used, with all shares
-pub record AreNew (count reuse_ms : ℕ) (c : CountersSide) : Type 0 where
+pub record AreNew (i : Identity) (count reuse_ms : ℕ) (c : CountersSide) : Type 0 where
+  pub identity : c.identity ≡ i
   pub registry : registry_of c.manager ≡ fresh_registry count reuse_ms
   pub writes : writes_of c.manager ≡ []
   pub shares : shares_of c.manager ≡ 65536
 
-abbrev pub HoldFreshCounters : ℕ → ℕ → Option Held → Type 0
-HoldFreshCounters count reuse_ms h = HoldsOne some_counters (AreNew count reuse_ms) h
+abbrev pub HoldFreshCounters : Identity → ℕ → ℕ → Option Held → Type 0
+HoldFreshCounters i count reuse_ms h = HoldsOne some_counters (AreNew i count reuse_ms) h
 
--- a handle in use answers 102 and stays as it is; else counters are made for it, or refused
-abbrev pub OpensCounters : ℕ → ℕ → Option Held → Option Held → ℤ → Type 0
-OpensCounters count reuse_ms h h' code = ((h ≢ None) × (code ≡ pos 102) × (h' ≡ h))
+-- a handle in use answers 102 and stays as it is; else counters of this number are made for it, or refused
+abbrev pub OpensCounters : ℕ → ℕ → ℕ → Option Held → Option Held → ℤ → Type 0
+OpensCounters number count reuse_ms h h' code = ((h ≢ None) × (code ≡ pos 102) × (h' ≡ h))
     ⊎ ((h ≡ None) × IsCountersCode count code
-    × (((code ≡ pos 0) × HoldFreshCounters count reuse_ms h') ⊎ ((code ≢ pos 0) × (h' ≡ None))))
+    × (((code ≡ pos 0) × HoldFreshCounters (identity_of number) count reuse_ms h') ⊎ ((code ≢ pos 0) × (h' ≡ None))))
 
 -- Joining ------------------------------------------------------------------------
 
 -- where the handle holds one of this kind, P holds of it
 abbrev pub IfHolds : {S : Type 0} → (Held → Option S) → (S → Type 0) → Option Held → Type 0
 IfHolds kind P held = MatchOption held (Unit {0}) (λ h. MatchOption (kind h) (Unit {0}) P)
-
--- where both are producers, they are of one ring
-abbrev pub AreOfOneRing : Option Held → Option Held → Type 0
-AreOfOneRing p o =
-    IfHolds a_producer (λ s. IfHolds a_producer (λ t. (s.table ≡ t.table) × (s.capacity ≡ t.capacity)) o) p
 
 -- where the first holds one of this kind and the second one of that, P holds of the two
 abbrev pub WhereBoth : {S T : Type 0} → (Held → Option S) → (Held → Option T) → (S → T → Type 0) → Option Held

@@ -18,35 +18,37 @@ impl TransmitterSide {
         ensures refused { IfErr result (λ r. (self.new ≡ self.old) × (r.1 ≡ receiver)
             × IsAstray self.old receiver r.0) }
     {
-        let AnyBoard::Own(board) = &receiver.board else {
+        let AnyBoard::Own(_) = &receiver.board else {
             return Err((OTHER_RING, receiver));
         };
-        if self.board.capacity() != board.capacity() {
+        if !self.identity.is(receiver.identity) {
             return Err((OTHER_RING, receiver));
         }
-        let ReceiverSide { board: _, receiver } = receiver;
+        let ReceiverSide {
+            board: _,
+            identity: _,
+            receiver,
+        } = receiver;
         self.board.join(&mut self.transmitter, receiver);
         Ok(())
     }
 
     /// Takes a raw receiver of the board back, with its share. Else it comes back.
-    pub(crate) fn join_raw(
-        &mut self,
-        receiver: RawReceiverSide,
-    ) -> Result<(), (i32, RawReceiverSide)>
-        requires { IsRawOfThisBoard self.old receiver }
-        ensures joined { OnOk result (TakesWatcher self.old receiver self.new) }
-        ensures refused { IfErr result (λ r. (self.new ≡ self.old) × (r.1 ≡ receiver)
-            × IsRawAstray self.old receiver r.0) }
+    pub(crate) fn join_raw(&mut self, raw: RawReceiverSide) -> Result<(), (i32, RawReceiverSide)>
+        requires { IsRawOfThisBoard self.old raw }
+        ensures joined { OnOk result (TakesWatcher self.old raw self.new) }
+        ensures refused { IfErr result (λ r. (self.new ≡ self.old) × (r.1 ≡ raw)
+            × IsRawAstray self.old raw r.0) }
     {
-        if self.board.capacity() != receiver.board.capacity() {
-            return Err((OTHER_RING, receiver));
+        if !self.identity.is(raw.identity) {
+            return Err((OTHER_RING, raw));
         }
         let RawReceiverSide {
             board: _,
+            identity: _,
             receiver,
             latest: _,
-        } = receiver;
+        } = raw;
         self.board.join_raw(&mut self.transmitter, receiver);
         Ok(())
     }
@@ -60,10 +62,21 @@ impl TransmitterSide {
         if self.transmitter.shares() != ALL_SHARES {
             return Err((RECEIVERS_OUT, self));
         }
-        let TransmitterSide { board, transmitter } = self;
+        let TransmitterSide {
+            board,
+            identity,
+            transmitter,
+        } = self;
         let board = match Arc::try_unwrap(board) {
             Ok(board) => board,
-            Err(board) => return Err((IN_USE, TransmitterSide { board, transmitter })),
+            Err(board) => {
+                let kept = TransmitterSide {
+                    board,
+                    identity,
+                    transmitter,
+                };
+                return Err((IN_USE, kept));
+            }
         };
         match board.close(transmitter) {
             Ok(closed) => Ok(closed.tail()),

@@ -6,6 +6,7 @@ ghost use Rattle.ring_c.specs.Boards.{heard_out, TellsHeard, IsUnheard, Received
 
 use crate::code::{DONE, LAPPED, NO_MESSAGE, NO_SHARES, OUT_OF_MEMORY, SHORT_BUFFER};
 use crate::copying::copy_at;
+use crate::identity::Identity;
 use crate::lending::AnyBoard;
 use ring_board::{Board, CopyReceiver, SubscribeFault, Transmitter};
 use std::alloc::Global;
@@ -16,6 +17,8 @@ use std::sync::Arc;
 #[derive(Drop)]
 pub struct TransmitterSide {
     pub(crate) board: Arc<Board>,
+    /// The board's.
+    pub(crate) identity: Identity,
     pub(crate) transmitter: Transmitter,
 }
 
@@ -28,6 +31,7 @@ impl Model for TransmitterSide {
 
     ghost view = { λ a. record {
       table = table_of (arc_value a.board);
+      identity = a.identity;
       capacity = capacity_of (arc_value a.board);
       view =
           view_of a.transmitter;
@@ -40,6 +44,8 @@ impl Model for TransmitterSide {
 #[derive(Drop)]
 pub struct ReceiverSide {
     pub(crate) board: AnyBoard,
+    /// The board's, or its conductor's.
+    pub(crate) identity: Identity,
     pub(crate) receiver: CopyReceiver,
 }
 
@@ -52,6 +58,7 @@ impl Model for ReceiverSide {
 
     ghost view = { λ a. record {
       table = table_of (board_in a.board);
+      identity = a.identity;
       capacity = capacity_of (board_in a.board);
       lender = lends_board a.board;
       seat =
@@ -83,6 +90,7 @@ impl TransmitterSide {
         match self.board.subscribe(alloc, &mut self.transmitter) {
             Ok(receiver) => Ok(ReceiverSide {
                 board: AnyBoard::Own(board),
+                identity: self.identity,
                 receiver,
             }),
             Err(SubscribeFault::NoShares) => Err(NO_SHARES),

@@ -6,6 +6,7 @@ ghost use Rattle.ring_rings.specs.Seats.{claims_of, shares_of, view_of, IsProduc
 ghost use Rattle.ring_c.specs.Claims.{aborted, AreOpen, IsNoNumber, HasIndex, Takes};
 ghost use Rattle.ring_c.specs.Producing.{Claimed, Put, Settled};
 ghost use Rattle.ring_c.specs.Side.{side};
+ghost use Rattle.ring_c.specs.declared.identity.Identity.{Identity};
 
 use crate::code::{DONE, NO_CLAIM, OUT_OF_MEMORY, PUT_RANGE};
 use ring_rings::{Claim, ManyToOneRing, OneToOneRing, Producer, Ring};
@@ -46,8 +47,9 @@ pub(crate) fn claim_many(
     requires claims { AreOpen ring.now producer.old claims.old.items }
     ensures producer { IsProducerOf ring.now producer.new }
     ensures claims { AreOpen ring.now producer.new claims.new.items }
-    ensures claimed { Claimed type_id len number.old number.new (side true ring.now producer.old claims.old.items)
-        (side true ring.now producer.new claims.new.items) result }
+    ensures claimed { (identity : Identity) → Claimed type_id len number.old number.new
+        (side true identity ring.now producer.old claims.old.items)
+        (side true identity ring.now producer.new claims.new.items) result }
 {
     let Ok(()) = claims.reserve(1) else {
         return OUT_OF_MEMORY;
@@ -77,8 +79,9 @@ pub(crate) fn claim_alone(
     ensures producer { IsProducerOf ring.now producer.new }
     ensures sole { shares_of producer.new ≡ 65536 }
     ensures claims { AreOpen ring.now producer.new claims.new.items }
-    ensures claimed { Claimed type_id len number.old number.new (side false ring.now producer.old claims.old.items)
-        (side false ring.now producer.new claims.new.items) result }
+    ensures claimed { (identity : Identity) → Claimed type_id len number.old number.new
+        (side false identity ring.now producer.old claims.old.items)
+        (side false identity ring.now producer.new claims.new.items) result }
 {
     let Ok(()) = claims.reserve(1) else {
         return OUT_OF_MEMORY;
@@ -107,8 +110,9 @@ pub(crate) fn put_in<K>(
     ensures producer { IsProducerOf ring.now producer.new }
     ensures shares { shares_of producer.new ≡ shares_of producer.old }
     ensures claims { AreOpen ring.now producer.new claims.new.items }
-    ensures put { (many : Bool) → Put number offset bytes.now (side many ring.now producer.old claims.old.items)
-        (side many ring.now producer.new claims.new.items) result }
+    ensures put { (many : Bool) (identity : Identity) → Put number offset bytes.now
+        (side many identity ring.now producer.old claims.old.items)
+        (side many identity ring.now producer.new claims.new.items) result }
 {
     let Some(index) = index_of(claims, number) else {
         return NO_CLAIM;
@@ -131,8 +135,9 @@ pub(crate) fn commit_in<K>(
     ensures producer { IsProducerOf ring.now producer.new }
     ensures shares { shares_of producer.new ≡ shares_of producer.old }
     ensures claims { AreOpen ring.now producer.new claims.new.items }
-    ensures settled { (many : Bool) → Settled Committed number (side many ring.now producer.old claims.old.items)
-        (side many ring.now producer.new claims.new.items) result }
+    ensures settled { (many : Bool) (identity : Identity) → Settled Committed number
+        (side many identity ring.now producer.old claims.old.items)
+        (side many identity ring.now producer.new claims.new.items) result }
 {
     let claim = match take_numbered(claims, number) {
         Some(claim) => claim,
@@ -154,8 +159,9 @@ pub(crate) fn abort_in<K>(
     ensures producer { IsProducerOf ring.now producer.new }
     ensures shares { shares_of producer.new ≡ shares_of producer.old }
     ensures claims { AreOpen ring.now producer.new claims.new.items }
-    ensures settled { (many : Bool) → Settled Aborted number (side many ring.now producer.old claims.old.items)
-        (side many ring.now producer.new claims.new.items) result }
+    ensures settled { (many : Bool) (identity : Identity) → Settled Aborted number
+        (side many identity ring.now producer.old claims.old.items)
+        (side many identity ring.now producer.new claims.new.items) result }
 {
     let claim = match take_numbered(claims, number) {
         Some(claim) => claim,

@@ -49,7 +49,10 @@ impl ConsumerSide {
         ensures refused { IfErr result (λ r. (self.new ≡ self.old) × (r.1 ≡ producer)
             × IsNotLast self.old producer r.0) }
     {
-        if self.last.is_some() || !self.ring.fits(&producer.ring) {
+        if self.last.is_some()
+            || !self.ring.is_like(&producer.ring)
+            || !self.identity.is(producer.identity)
+        {
             return Err((OTHER_RING, producer));
         }
         if let Err(code) = test_last(&producer.producer) {
@@ -57,6 +60,7 @@ impl ConsumerSide {
         }
         let ProducerSide {
             ring: _,
+            identity: _,
             producer,
             claims: _,
         } = producer;
@@ -72,12 +76,14 @@ impl ConsumerSide {
     {
         let ConsumerSide {
             ring,
+            identity,
             consumer,
             last,
         } = self;
         let Some(producer) = last else {
             let kept = ConsumerSide {
                 ring,
+                identity,
                 consumer,
                 last: None,
             };
@@ -95,6 +101,7 @@ impl ConsumerSide {
         };
         let kept = ConsumerSide {
             ring,
+            identity,
             consumer,
             last: Some(producer),
         };

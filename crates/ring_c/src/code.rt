@@ -4,7 +4,7 @@
 pub(crate) const DONE: i32 = 0;
 /// A capacity is none that a ring or a board may have.
 pub(crate) const BAD_CAPACITY: i32 = 1;
-/// There was no memory.
+/// There was no memory, or no random number for what was to be made.
 pub(crate) const OUT_OF_MEMORY: i32 = 3;
 /// The command is too long.
 pub(crate) const TOO_LONG: i32 = 5;
@@ -42,7 +42,7 @@ pub(crate) const NO_MESSAGE: i32 = 105;
 pub(crate) const SHORT_BUFFER: i32 = 106;
 /// The moment is above 2^62.
 pub(crate) const BAD_MOMENT: i32 = 107;
-/// The two handles are of two rings.
+/// The two handles are of two rings, boards, conductors or sets of counters.
 pub(crate) const OTHER_RING: i32 = 108;
 /// What came is the reply to another command, or none.
 pub(crate) const OTHER_REPLY: i32 = 109;

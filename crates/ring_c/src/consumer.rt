@@ -5,6 +5,7 @@ ghost use Rattle.ring_c.specs.Consuming.{out, Beat, RanOut, ReadOne, ReadsOn, Re
 
 use crate::code::{DONE, NO_MESSAGE};
 use crate::copying::Copying;
+use crate::identity::Identity;
 use crate::ring::AnyRing;
 use ring_rings::{Consumer, Producer, Ring, Stop};
 use std::marker::Model;
@@ -13,6 +14,8 @@ use std::marker::Model;
 #[derive(Drop)]
 pub struct ConsumerSide {
     pub(crate) ring: AnyRing,
+    /// The ring's.
+    pub(crate) identity: Identity,
     pub(crate) consumer: Consumer,
     /// The ring's producer, once nothing is written any more.
     pub(crate) last: Option<Producer>,
@@ -28,6 +31,7 @@ impl Model for ConsumerSide {
     ghost view = { λ a. record {
       many = is_many a.ring;
       table = table_in a.ring;
+      identity = a.identity;
       capacity = capacity_in a.ring;
       view = consumer_view a.consumer;
       last =

@@ -5,6 +5,7 @@ ghost use Rattle.ring_counters.specs.Manager.{IsManagerOf};
 ghost use Rattle.ring_counters.specs.Seats.{IsReaderOf};
 ghost use Rattle.ring_c.specs.Serving.{values_in};
 
+use crate::identity::Identity;
 use crate::lending::AnyValues;
 use ring_counters::{CounterValues, CountersManager, ValueReader};
 use std::sync::Arc;
@@ -13,6 +14,8 @@ use std::sync::Arc;
 #[derive(Drop)]
 pub struct CountersSide {
     pub(crate) values: Arc<CounterValues>,
+    /// That of these counters.
+    pub(crate) identity: Identity,
     pub(crate) manager: CountersManager,
     ghost of: { IsManagerOf (arc_value values) manager },
 }
@@ -21,6 +24,8 @@ pub struct CountersSide {
 #[derive(Drop)]
 pub struct ReaderSide {
     pub(crate) values: AnyValues,
+    /// The counters', or their conductor's.
+    pub(crate) identity: Identity,
     pub(crate) reader: ValueReader,
     ghost of: { IsReaderOf (values_in values) reader },
 }

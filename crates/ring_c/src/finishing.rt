@@ -47,6 +47,7 @@ impl ConductorSide {
             shares,
         } = self;
         let Shared {
+            identity: _,
             ring,
             board,
             values,

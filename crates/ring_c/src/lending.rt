@@ -1,7 +1,9 @@
 //! What a conductor shares with its handles.
-ghost use Rattle.std.specs.Prelude.{◌≡◌, false, true, IfSome, IsSome};
-ghost use Rattle.ring_c.specs.Serving.{board_in, lends_board, lends_values, values_in, AreOfOneSize};
+ghost use Rattle.std.specs.Prelude.{◌≡◌, false, true};
+ghost use Rattle.ring_c.specs.Serving.{board_in, lends_board, lends_values, values_in};
+ghost use Rattle.ring_c.specs.Serving.{IsNumbered, IsNumberedOtherwise};
 
+use crate::identity::Identity;
 use ring_board::Board;
 use ring_counters::CounterValues;
 use ring_rings::ManyToOneRing;
@@ -11,39 +13,33 @@ use std::sync::Arc;
 /// counters.
 #[derive(Drop)]
 pub struct Shared {
+    /// The conductor's.
+    pub(crate) identity: Identity,
     pub(crate) ring: ManyToOneRing,
     pub(crate) board: Board,
     pub(crate) values: CounterValues,
 }
 
 impl Shared {
-    /// Tests whether others are of the same sizes.
-    pub(crate) fn fits(&self, other: &Shared) -> bool
-        ensures { result ≡ false → AreOfOneSize self.now other.now → ⊥ }
-    {
-        self.ring.capacity() == other.ring.capacity()
-            && self.board.capacity() == other.board.capacity()
-    }
-
-    /// Tests whether a board is a conductor's of the same sizes.
+    /// Tests whether a board is a conductor's of the same number.
     pub(crate) fn lends_board(&self, board: &AnyBoard) -> bool
-        ensures lent { result ≡ true → IsSome (lends_board board.now) }
-        ensures foreign { result ≡ false → IfSome (lends_board board.now) (λ s. AreOfOneSize self.now s → ⊥) }
+        ensures lent { result ≡ true → IsNumbered self.now.identity (lends_board board.now) }
+        ensures foreign { result ≡ false → IsNumberedOtherwise self.now.identity (lends_board board.now) }
     {
         match board {
             AnyBoard::Own(_) => false,
-            AnyBoard::Lent(shared) => self.fits(shared),
+            AnyBoard::Lent(shared) => shared.identity.is(self.identity),
         }
     }
 
-    /// Tests whether values are a conductor's of the same sizes.
+    /// Tests whether values are a conductor's of the same number.
     pub(crate) fn lends_values(&self, values: &AnyValues) -> bool
-        ensures lent { result ≡ true → IsSome (lends_values values.now) }
-        ensures foreign { result ≡ false → IfSome (lends_values values.now) (λ s. AreOfOneSize self.now s → ⊥) }
+        ensures lent { result ≡ true → IsNumbered self.now.identity (lends_values values.now) }
+        ensures foreign { result ≡ false → IsNumberedOtherwise self.now.identity (lends_values values.now) }
     {
         match values {
             AnyValues::Own(_) => false,
-            AnyValues::Lent(shared) => self.fits(shared),
+            AnyValues::Lent(shared) => shared.identity.is(self.identity),
         }
     }
 }

@@ -1,7 +1,7 @@
 //! Rings for C: each export works on handles, and each handle owns what it stands for.
 //!
 //! - `exports`: what C calls, by kind of handle. `work_on`: what these calls have in common. `code`: what they answer.
-//! - `handle`, `held`, `loose`: what C keeps, and what it can stand for.
+//! - `handle`, `held`, `loose`: what C keeps, and what it can stand for. `identity`: what tells two rings apart.
 //! - `producer`, `claims`, `consumer`, `copying`, `batch`, `closing`, `ring`: handles of a ring.
 //! - `boards`, `raw`, `board_ending`: handles of a board. `counters`, `counting`, `reading`: of counters and their
 //!   readers.
@@ -24,6 +24,7 @@ mod exports;
 mod finishing;
 mod handle;
 mod held;
+mod identity;
 mod lending;
 mod loose;
 mod producer;
@@ -33,8 +34,8 @@ mod ring;
 mod work_on;
 
 pub use exports::boards::{
-    felter_board_new, felter_board_new_at, felter_lapped_count, felter_receive, felter_subscribe,
-    felter_transmit,
+    felter_board_new_at_numbered, felter_board_new_numbered, felter_lapped_count, felter_receive,
+    felter_subscribe, felter_transmit,
 };
 pub use exports::calling::{
     felter_client_heartbeat, felter_poll, felter_send_allocate, felter_send_allocate_owned,
@@ -42,7 +43,7 @@ pub use exports::calling::{
 };
 pub use exports::concluding::felter_conductor_finish;
 pub use exports::conducting::{
-    felter_conductor_client, felter_conductor_new, felter_conductor_set_heartbeat,
+    felter_conductor_client, felter_conductor_new_numbered, felter_conductor_set_heartbeat,
     felter_conductor_work,
 };
 pub use exports::consuming::{felter_read, felter_read_batch, felter_set_heartbeat};
@@ -52,7 +53,7 @@ pub use exports::counting::{
     felter_counter_owner, felter_counter_registration, felter_counter_set, felter_counter_type_id,
     felter_counter_value, felter_counters_close_owner, felter_counters_count,
 };
-pub use exports::counting_new::felter_counters_new;
+pub use exports::counting_new::felter_counters_new_numbered;
 pub use exports::ending::{
     felter_board_close, felter_board_join, felter_board_join_raw, felter_close,
     felter_counters_join, felter_finish,
@@ -63,8 +64,8 @@ pub use exports::lending::{
     felter_conductor_reader, felter_conductor_subscribe,
 };
 pub use exports::opening::{
-    felter_many_to_one_new, felter_many_to_one_new_at, felter_one_to_one_new,
-    felter_one_to_one_new_at,
+    felter_many_to_one_new_at_numbered, felter_many_to_one_new_numbered,
+    felter_one_to_one_new_at_numbered, felter_one_to_one_new_numbered,
 };
 pub use exports::producing::{
     felter_abort, felter_claim, felter_commit, felter_heartbeat, felter_next_id, felter_positions,

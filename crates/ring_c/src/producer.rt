@@ -2,9 +2,11 @@
 ghost use Rattle.std.specs.Prelude.{◌≡◌, IfErr, IfOk, OnOk};
 ghost use Rattle.ring_layout.specs.declared.message.ClaimState.TheVariants.{Aborted, Committed};
 ghost use Rattle.ring_c.specs.Producing.{closing, positions, Claimed, Counted, Drew, HeardBeat, IsApart, WhyNotSplit, Positioned, Put, Settled, Splits, TakesIn, Wrote};
+ghost use Rattle.ring_c.specs.Side.{AreOfOneRing};
 
 use crate::claims::{abort_all, abort_in, claim_alone, claim_many, commit_in, put_in};
 use crate::code::{DONE, NO_SHARES, OTHER_RING, OUT_OF_MEMORY, WRONG_HANDLE};
+use crate::identity::Identity;
 use crate::ring::AnyRing;
 use ring_rings::{Claim, Producer};
 use std::alloc::Global;
@@ -15,6 +17,8 @@ use std::sync::Arc;
 #[derive(Drop)]
 pub struct ProducerSide {
     pub(crate) ring: AnyRing,
+    /// The ring's.
+    pub(crate) identity: Identity,
     pub(crate) producer: Producer,
     /// The claims that are open, the oldest first.
     pub(crate) claims: Vec<Claim>,
@@ -29,6 +33,7 @@ impl Model for ProducerSide {
     ghost view = { λ a. record {
       many = is_many a.ring;
       table = table_in a.ring;
+      identity = a.identity;
       capacity = capacity_in a.ring;
       view =
           view_of a.producer;
@@ -190,6 +195,7 @@ impl ProducerSide {
         match ring.split(&mut self.producer) {
             Ok(producer) => Ok(ProducerSide {
                 ring: AnyRing::Many(same),
+                identity: self.identity,
                 producer,
                 claims: Vec::new(alloc),
             }),
@@ -199,21 +205,22 @@ impl ProducerSide {
 
     /// Takes another producer of the same ring in, with its shares and its open claims. Else it comes back.
     pub(crate) fn join(&mut self, other: ProducerSide) -> Result<(), (i32, ProducerSide)>
-        requires { (self.old.table ≡ other.table) × (self.old.capacity ≡ other.capacity) }
+        requires { AreOfOneRing self.old other }
         ensures joined { OnOk result (TakesIn self.old other self.new) }
         ensures refused { IfErr result (λ r. (self.new ≡ self.old) × (r.1 ≡ other) × IsApart self.old other r.0) }
     {
         let AnyRing::Many(ring) = &self.ring else {
             return Err((WRONG_HANDLE, other));
         };
-        let AnyRing::Many(same) = &other.ring else {
+        let AnyRing::Many(_) = &other.ring else {
             return Err((WRONG_HANDLE, other));
         };
-        if ring.capacity() != same.capacity() {
+        if !self.identity.is(other.identity) {
             return Err((OTHER_RING, other));
         }
         let ProducerSide {
             ring: same,
+            identity,
             producer,
             mut claims,
         } = other;
@@ -222,6 +229,7 @@ impl ProducerSide {
                 OUT_OF_MEMORY,
                 ProducerSide {
                     ring: same,
+                    identity,
                     producer,
                     claims,
                 },

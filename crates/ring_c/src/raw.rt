@@ -5,6 +5,7 @@ ghost use Rattle.ring_c.specs.Raw.{seen, BodyLoaded, IsUnwatched, LoadsAnswered,
 
 use crate::boards::TransmitterSide;
 use crate::code::{DONE, LAPPED, NO_MESSAGE, NO_SHARES, OUT_OF_MEMORY, SHORT_BUFFER};
+use crate::identity::Identity;
 use ring_board::{Board, RawRecord, Receiver};
 use std::marker::Model;
 use std::sync::Arc;
@@ -13,6 +14,8 @@ use std::sync::Arc;
 #[derive(Drop)]
 pub struct RawReceiverSide {
     pub(crate) board: Arc<Board>,
+    /// The board's.
+    pub(crate) identity: Identity,
     pub(crate) receiver: Receiver,
     /// The record that it answered last.
     pub(crate) latest: Option<RawRecord>,
@@ -29,6 +32,7 @@ impl Model for RawReceiverSide {
 
     ghost view = { λ a. record {
       table = table_of (arc_value a.board);
+      identity = a.identity;
       capacity = capacity_of (arc_value a.board);
       seat = raw_seat a.receiver;
       latest =
@@ -51,6 +55,7 @@ impl TransmitterSide {
         match self.board.subscribe_raw(&mut self.transmitter) {
             Ok(receiver) => Ok(RawReceiverSide {
                 board,
+                identity: self.identity,
                 receiver,
                 latest: None,
             }),

@@ -1,7 +1,7 @@
 //! What readers of counters' values do.
 ghost use Rattle.std.specs.Prelude.{◌≡◌, IfErr, IfOk, OnOk};
 ghost use Rattle.ring_c.specs.Lending.{WhyNotLent, Lends, Loaded};
-ghost use Rattle.ring_c.specs.Returning.{IsLent, IsOfThese, TakesLoads};
+ghost use Rattle.ring_c.specs.Returning.{IsOfOthers, IsOfThese, TakesLoads};
 
 use crate::code::{BAD_ID, DONE, NO_SHARES, OTHER_RING, OUT_OF_MEMORY};
 use crate::counters::{CountersSide, ReaderSide};
@@ -20,6 +20,7 @@ impl CountersSide {
         match self.manager.reader(&self.values) {
             Ok(reader) => Ok(ReaderSide {
                 values: AnyValues::Own(values),
+                identity: self.identity,
                 reader,
             }),
             Err(_) => Err(NO_SHARES),
@@ -30,12 +31,19 @@ impl CountersSide {
     pub(crate) fn join(&mut self, reader: ReaderSide) -> Result<(), (i32, ReaderSide)>
         requires { IsOfThese self.old reader }
         ensures joined { OnOk result (TakesLoads self.old reader self.new) }
-        ensures refused { IfErr result (λ r. (self.new ≡ self.old) × (r.1 ≡ reader) × IsLent self.old reader r.0) }
+        ensures refused { IfErr result (λ r. (self.new ≡ self.old) × (r.1 ≡ reader) × IsOfOthers self.old reader r.0) }
     {
-        if let AnyValues::Lent(_) = &reader.values {
+        let AnyValues::Own(_) = &reader.values else {
+            return Err((OTHER_RING, reader));
+        };
+        if !self.identity.is(reader.identity) {
             return Err((OTHER_RING, reader));
         }
-        let ReaderSide { values: _, reader } = reader;
+        let ReaderSide {
+            values: _,
+            identity: _,
+            reader,
+        } = reader;
         self.manager.join_reader(&self.values, reader);
         Ok(())
     }

@@ -1,6 +1,6 @@
 //! Rings of either kind.
-ghost use Rattle.std.specs.Prelude.{◌≡◌, ◌≢◌, ◌⊎◌, false, true};
-ghost use Rattle.ring_c.specs.Side.{capacity_in, is_many};
+ghost use Rattle.std.specs.Prelude.{◌≡◌, ◌≢◌, false, true};
+ghost use Rattle.ring_c.specs.Side.{is_many};
 
 use ring_rings::{ManyToOneRing, OneToOneRing};
 use std::sync::Arc;
@@ -15,16 +15,14 @@ pub enum AnyRing {
 }
 
 impl AnyRing {
-    /// Tests whether another ring is of the same kind and capacity.
-    pub(crate) fn fits(&self, other: &AnyRing) -> bool
-        ensures same { result ≡ true
-            → (is_many self.now ≡ is_many other.now) × (capacity_in self.now ≡ capacity_in other.now) }
-        ensures others { result ≡ false
-            → (is_many self.now ≢ is_many other.now) ⊎ (capacity_in self.now ≢ capacity_in other.now) }
+    /// Tests whether another ring is of the same kind.
+    pub(crate) fn is_like(&self, other: &AnyRing) -> bool
+        ensures same { result ≡ true → is_many self.now ≡ is_many other.now }
+        ensures others { result ≡ false → is_many self.now ≢ is_many other.now }
     {
         match (self, other) {
-            (AnyRing::Many(ring), AnyRing::Many(same)) => ring.capacity() == same.capacity(),
-            (AnyRing::One(ring), AnyRing::One(same)) => ring.capacity() == same.capacity(),
+            (AnyRing::Many(_), AnyRing::Many(_)) => true,
+            (AnyRing::One(_), AnyRing::One(_)) => true,
             _ => false,
         }
     }

@@ -34,10 +34,10 @@ impl Transmitter {
     ///
     /// Errors: also [`Error::BadStart`].
     pub fn new_at(capacity: u32, start: u64) -> Result<Transmitter, Error> {
-        let mut handle = Handle::empty();
-        // SAFETY: an empty handle.
-        done(unsafe { raw::felter_board_new_at(capacity, start, handle.raw()) })?;
-        Ok(Transmitter { handle, board: Number::next() })
+        let (board, mut handle) = (Number::next(), Handle::empty());
+        // SAFETY: a number that nothing else has, and an empty handle.
+        done(unsafe { raw::felter_board_new_at_numbered(board.raw(), capacity, start, handle.raw()) })?;
+        Ok(Transmitter { handle, board })
     }
 
     /// Transmits a message.

@@ -91,10 +91,11 @@ impl Conductor {
     ///
     /// Errors: [`Error::BadCapacity`], [`Error::BadCount`], [`Error::OutOfMemory`].
     pub fn new(capacity: u32, replies: u32, counters: u32, reuse_ms: u32) -> Result<Conductor, Error> {
-        let mut handle = Handle::empty();
-        // SAFETY: an empty handle.
-        done(unsafe { raw::felter_conductor_new(capacity, replies, counters, reuse_ms, handle.raw()) })?;
-        Ok(Conductor { handle, number: Number::next() })
+        let (number, mut handle) = (Number::next(), Handle::empty());
+        let (own, raw) = (number.raw(), handle.raw());
+        // SAFETY: a number that nothing else has, and an empty handle.
+        done(unsafe { raw::felter_conductor_new_numbered(own, capacity, replies, counters, reuse_ms, raw) })?;
+        Ok(Conductor { handle, number })
     }
 
     /// Makes a client, with one share of the ring's 65,536 and one of the board's. It starts with the reply that was

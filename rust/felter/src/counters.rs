@@ -29,10 +29,10 @@ impl Counters {
     ///
     /// Errors: [`Error::BadCount`], [`Error::OutOfMemory`].
     pub fn new(count: u32, reuse_ms: u32) -> Result<Counters, Error> {
-        let mut handle = Handle::empty();
-        // SAFETY: an empty handle.
-        done(unsafe { raw::felter_counters_new(count, reuse_ms, handle.raw()) })?;
-        Ok(Counters { handle, number: Number::next() })
+        let (number, mut handle) = (Number::next(), Handle::empty());
+        // SAFETY: a number that nothing else has, and an empty handle.
+        done(unsafe { raw::felter_counters_new_numbered(number.raw(), count, reuse_ms, handle.raw()) })?;
+        Ok(Counters { handle, number })
     }
 
     /// Allocates a counter of value 0 at a moment, and says its id.

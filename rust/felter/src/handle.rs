@@ -49,15 +49,21 @@ pub(crate) fn done(code: i32) -> Result<(), Error> {
     }
 }
 
-/// Which ring, board, counters or conductor a handle belongs to. No two have the same number in one process.
+/// Which ring, board, counters or conductor a handle belongs to. No two have the same number in one process, and what
+/// the header's count or the Python module's gave a number has another one: the one begins at 1, the other at 2^63.
 #[derive(Clone, Copy, Debug, PartialEq, Eq)]
 pub(crate) struct Number(u64);
 
 impl Number {
     /// The next one.
     pub(crate) fn next() -> Number {
-        static NEXT: AtomicU64 = AtomicU64::new(0);
+        static NEXT: AtomicU64 = AtomicU64::new(1 << 62);
         Number(NEXT.fetch_add(1, Ordering::Relaxed))
+    }
+
+    /// For a call that makes what has this number.
+    pub(crate) fn raw(self) -> u64 {
+        self.0
     }
 
     /// Refuses the handle of another.

@@ -27,10 +27,10 @@
 //!
 //! What the proved library asks of its callers is kept by this crate, so that its users need no `unsafe`: a call takes
 //! its handle by `&mut`, which is one call at a time and two handles in a call of two; handles cannot be copied;
-//! buffers are slices; and each handle has the number of its ring, board, conductor or set of counters, so that handles
-//! of two are refused ([`Error::OtherRing`]). What is left to users is the process: no call from a signal handler or in
-//! a forked child, and a processor of x86-64-v2 or later. This crate itself, its declarations among it, is tested and
-//! not proved.
+//! and buffers are slices. Handles of two rings, boards, conductors or sets of counters are refused
+//! ([`Error::OtherRing`]), by the numbers that this crate gives them from one count: it compares them, and so does the
+//! library. What is left to users is the process: no call from a signal handler or in a forked child, and a processor
+//! of x86-64-v2 or later. This crate itself, its declarations among it, is tested and not proved.
 
 mod board;
 mod client;

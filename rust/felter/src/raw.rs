@@ -21,8 +21,20 @@ extern "C" {
 
 // Rings.
 extern "C" {
-    pub(crate) fn felter_many_to_one_new_at(capacity: u32, start: u64, producer: *mut Raw, consumer: *mut Raw) -> i32;
-    pub(crate) fn felter_one_to_one_new_at(capacity: u32, start: u64, producer: *mut Raw, consumer: *mut Raw) -> i32;
+    pub(crate) fn felter_many_to_one_new_at_numbered(
+        number: u64,
+        capacity: u32,
+        start: u64,
+        producer: *mut Raw,
+        consumer: *mut Raw,
+    ) -> i32;
+    pub(crate) fn felter_one_to_one_new_at_numbered(
+        number: u64,
+        capacity: u32,
+        start: u64,
+        producer: *mut Raw,
+        consumer: *mut Raw,
+    ) -> i32;
     pub(crate) fn felter_write(producer: *mut Raw, type_id: i32, body: *const u8, len: usize) -> i32;
     pub(crate) fn felter_claim(producer: *mut Raw, type_id: i32, len: usize, claim: *mut u64) -> i32;
     pub(crate) fn felter_put(producer: *mut Raw, claim: u64, offset: usize, bytes: *const u8, len: usize) -> i32;
@@ -56,7 +68,7 @@ extern "C" {
 
 // Boards.
 extern "C" {
-    pub(crate) fn felter_board_new_at(capacity: u32, start: u64, transmitter: *mut Raw) -> i32;
+    pub(crate) fn felter_board_new_at_numbered(number: u64, capacity: u32, start: u64, transmitter: *mut Raw) -> i32;
     pub(crate) fn felter_transmit(transmitter: *mut Raw, type_id: i32, body: *const u8, len: usize) -> i32;
     pub(crate) fn felter_subscribe(transmitter: *mut Raw, receiver: *mut Raw) -> i32;
     pub(crate) fn felter_receive(
@@ -85,7 +97,7 @@ extern "C" {
 
 // Counters.
 extern "C" {
-    pub(crate) fn felter_counters_new(count: u32, reuse_ms: u32, counters: *mut Raw) -> i32;
+    pub(crate) fn felter_counters_new_numbered(number: u64, count: u32, reuse_ms: u32, counters: *mut Raw) -> i32;
     pub(crate) fn felter_counter_allocate_owned(
         counters: *mut Raw,
         now: u64,
@@ -123,7 +135,8 @@ extern "C" {
 
 // Conductors.
 extern "C" {
-    pub(crate) fn felter_conductor_new(
+    pub(crate) fn felter_conductor_new_numbered(
+        number: u64,
         capacity: u32,
         replies: u32,
         counters: u32,

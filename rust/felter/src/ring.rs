@@ -15,10 +15,11 @@ pub fn many_to_one(capacity: u32) -> Result<(Producer, Consumer), Error> {
 ///
 /// Errors: also [`Error::BadStart`].
 pub fn many_to_one_at(capacity: u32, start: u64) -> Result<(Producer, Consumer), Error> {
-    let (mut producer, mut consumer) = (Handle::empty(), Handle::empty());
-    // SAFETY: two empty handles.
-    done(unsafe { raw::felter_many_to_one_new_at(capacity, start, producer.raw(), consumer.raw()) })?;
-    Ok(with_number(producer, consumer))
+    let (ring, mut producer, mut consumer) = (Number::next(), Handle::empty(), Handle::empty());
+    let (one, two) = (producer.raw(), consumer.raw());
+    // SAFETY: a number that nothing else has, and two empty handles.
+    done(unsafe { raw::felter_many_to_one_new_at_numbered(ring.raw(), capacity, start, one, two) })?;
+    Ok((Producer { handle: producer, ring }, Consumer { handle: consumer, ring }))
 }
 
 /// Makes a ring of one producer, which cannot be split.
@@ -32,15 +33,11 @@ pub fn one_to_one(capacity: u32) -> Result<(Producer, Consumer), Error> {
 ///
 /// Errors: also [`Error::BadStart`].
 pub fn one_to_one_at(capacity: u32, start: u64) -> Result<(Producer, Consumer), Error> {
-    let (mut producer, mut consumer) = (Handle::empty(), Handle::empty());
-    // SAFETY: two empty handles.
-    done(unsafe { raw::felter_one_to_one_new_at(capacity, start, producer.raw(), consumer.raw()) })?;
-    Ok(with_number(producer, consumer))
-}
-
-fn with_number(producer: Handle, consumer: Handle) -> (Producer, Consumer) {
-    let ring = Number::next();
-    (Producer { handle: producer, ring }, Consumer { handle: consumer, ring })
+    let (ring, mut producer, mut consumer) = (Number::next(), Handle::empty(), Handle::empty());
+    let (one, two) = (producer.raw(), consumer.raw());
+    // SAFETY: a number that nothing else has, and two empty handles.
+    done(unsafe { raw::felter_one_to_one_new_at_numbered(ring.raw(), capacity, start, one, two) })?;
+    Ok((Producer { handle: producer, ring }, Consumer { handle: consumer, ring }))
 }
 
 /// Where a ring's head and tail stand, in bytes that only rise.

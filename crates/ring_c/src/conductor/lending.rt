@@ -27,6 +27,7 @@ impl ConductorSide {
         };
         self.shares -= 1;
         Ok(ReceiverSide {
+            identity: shared.identity,
             board: AnyBoard::Lent(shared),
             receiver,
         })
@@ -42,6 +43,7 @@ impl ConductorSide {
         };
         match self.conductor.value_reader(&shared.values) {
             Ok(reader) => Ok(ReaderSide {
+                identity: shared.identity,
                 values: AnyValues::Lent(shared),
                 reader,
             }),

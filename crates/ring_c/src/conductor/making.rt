@@ -4,6 +4,7 @@ ghost use Rattle.ring_c.specs.Conducting.{sizes_refused, IsConductorCode, IsNewC
 
 use crate::code::{BAD_CAPACITY, BAD_COUNT, OUT_OF_MEMORY};
 use crate::conductor::ConductorSide;
+use crate::identity::Identity;
 use crate::lending::Shared;
 use ring_board::Board;
 use ring_conductor::Conductor;
@@ -44,8 +45,9 @@ impl Sizes {
 
 impl ConductorSide {
     /// Makes a conductor with all its parts. The sizes are tested before memory is taken.
-    pub(crate) fn new(alloc: Global, sizes: Sizes) -> Result<ConductorSide, i32>
-        ensures made { IfOk result (IsNewConductor sizes.capacity sizes.replies sizes.counters sizes.reuse_ms) }
+    pub(crate) fn new(alloc: Global, identity: Identity, sizes: Sizes) -> Result<ConductorSide, i32>
+        ensures made { IfOk result (IsNewConductor identity sizes.capacity sizes.replies sizes.counters
+            sizes.reuse_ms) }
         ensures code { MatchResult result (λ _. IsConductorCode sizes.capacity sizes.replies sizes.counters (pos 0))
             (λ code. IsConductorCode sizes.capacity sizes.replies sizes.counters code × (code ≢ pos 0)) }
     {
@@ -60,14 +62,13 @@ impl ConductorSide {
         else {
             return Err(OUT_OF_MEMORY);
         };
-        let Ok(shared) = Arc::new(
-            alloc,
-            Shared {
-                ring,
-                board,
-                values,
-            },
-        ) else {
+        let shared = Shared {
+            identity,
+            ring,
+            board,
+            values,
+        };
+        let Ok(shared) = Arc::new(alloc, shared) else {
             return Err(OUT_OF_MEMORY);
         };
         Ok(ConductorSide {

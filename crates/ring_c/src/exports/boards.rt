@@ -8,14 +8,20 @@ use crate::boards::TransmitterSide;
 use crate::code::{HANDLE_IN_USE, OUT_OF_MEMORY};
 use crate::handle::Handle;
 use crate::held::Held;
+use crate::identity::Identity;
 use crate::work_on::{fill, make_into, work_on};
 use ring_board::Board;
 use std::alloc::Global;
 use std::sync::Arc;
 
 /// Makes a board.
-fn make_board(alloc: Global, capacity: u32, start: u64) -> Result<Box<Held>, i32>
-    ensures made { IfOk result (λ made. HoldNewBoard capacity start (Some made.value)) }
+fn make_board(
+    alloc: Global,
+    identity: Identity,
+    capacity: u32,
+    start: u64,
+) -> Result<Box<Held>, i32>
+    ensures made { IfOk result (λ made. HoldNewBoard identity capacity start (Some made.value)) }
     ensures code { MatchResult result (λ _. IsBoardCode capacity start (pos 0))
         (λ code. IsBoardCode capacity start code × (code ≢ pos 0)) }
 {
@@ -26,10 +32,12 @@ fn make_board(alloc: Global, capacity: u32, start: u64) -> Result<Box<Held>, i32
     let Ok(board) = Arc::new(alloc, board) else {
         return Err(OUT_OF_MEMORY);
     };
-    match Box::new(
-        alloc,
-        Held::Transmitter(TransmitterSide { board, transmitter }),
-    ) {
+    let side = TransmitterSide {
+        board,
+        identity,
+        transmitter,
+    };
+    match Box::new(alloc, Held::Transmitter(side)) {
         Ok(made) => Ok(made),
         Err(_) => Err(OUT_OF_MEMORY),
     }
@@ -37,23 +45,37 @@ fn make_board(alloc: Global, capacity: u32, start: u64) -> Result<Box<Held>, i32
 
 /// Makes a board that starts at 0, with its transmitter.
 #[unsafe(no_mangle)]
-pub extern "C" fn felter_board_new(alloc: Global, capacity: u32, transmitter: &mut Handle) -> i32
-    ensures { OpensBoard capacity 0 transmitter.old.held transmitter.new.held result }
+pub extern "C" fn felter_board_new_numbered(
+    alloc: Global,
+    number: u64,
+    capacity: u32,
+    transmitter: &mut Handle,
+) -> i32
+    ensures { OpensBoard number capacity 0 transmitter.old.held transmitter.new.held result }
 {
-    fill!(transmitter, alloc, make_board(alloc, capacity, 0))
+    fill!(
+        transmitter,
+        alloc,
+        make_board(alloc, Identity { number }, capacity, 0)
+    )
 }
 
 /// Makes a board that starts at a multiple of its capacity, with its transmitter.
 #[unsafe(no_mangle)]
-pub extern "C" fn felter_board_new_at(
+pub extern "C" fn felter_board_new_at_numbered(
     alloc: Global,
+    number: u64,
     capacity: u32,
     start: u64,
     transmitter: &mut Handle,
 ) -> i32
-    ensures { OpensBoard capacity start transmitter.old.held transmitter.new.held result }
+    ensures { OpensBoard number capacity start transmitter.old.held transmitter.new.held result }
 {
-    fill!(transmitter, alloc, make_board(alloc, capacity, start))
+    fill!(
+        transmitter,
+        alloc,
+        make_board(alloc, Identity { number }, capacity, start)
+    )
 }
 
 /// Transmits a message. It never waits.

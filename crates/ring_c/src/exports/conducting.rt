@@ -10,17 +10,18 @@ use crate::conductor::ConductorSide;
 use crate::conductor::making::Sizes;
 use crate::handle::Handle;
 use crate::held::Held;
+use crate::identity::Identity;
 use crate::work_on::{fill, make_into, work_on};
 use std::alloc::Global;
 
 /// Makes a conductor.
-fn make_conductor(alloc: Global, sizes: Sizes) -> Result<Box<Held>, i32>
+fn make_conductor(alloc: Global, identity: Identity, sizes: Sizes) -> Result<Box<Held>, i32>
     ensures made { IfOk result (λ made.
-        HoldNewConductor sizes.capacity sizes.replies sizes.counters sizes.reuse_ms (Some made.value)) }
+        HoldNewConductor identity sizes.capacity sizes.replies sizes.counters sizes.reuse_ms (Some made.value)) }
     ensures code { MatchResult result (λ _. IsConductorCode sizes.capacity sizes.replies sizes.counters (pos 0))
         (λ code. IsConductorCode sizes.capacity sizes.replies sizes.counters code × (code ≢ pos 0)) }
 {
-    let side = ConductorSide::new(alloc, sizes)?;
+    let side = ConductorSide::new(alloc, identity, sizes)?;
     match Box::new(alloc, Held::Conductor(side)) {
         Ok(made) => Ok(made),
         Err(_) => Err(OUT_OF_MEMORY),
@@ -29,15 +30,16 @@ fn make_conductor(alloc: Global, sizes: Sizes) -> Result<Box<Held>, i32>
 
 /// Makes a conductor, with a ring for the commands, a board for the replies and counters.
 #[unsafe(no_mangle)]
-pub extern "C" fn felter_conductor_new(
+pub extern "C" fn felter_conductor_new_numbered(
     alloc: Global,
+    number: u64,
     capacity: u32,
     replies: u32,
     counters: u32,
     reuse_ms: u32,
     conductor: &mut Handle,
 ) -> i32
-    ensures { OpensConductor capacity replies counters reuse_ms conductor.old.held conductor.new.held result }
+    ensures { OpensConductor number capacity replies counters reuse_ms conductor.old.held conductor.new.held result }
 {
     let sizes = Sizes {
         capacity,
@@ -45,7 +47,11 @@ pub extern "C" fn felter_conductor_new(
         counters,
         reuse_ms,
     };
-    fill!(conductor, alloc, make_conductor(alloc, sizes))
+    fill!(
+        conductor,
+        alloc,
+        make_conductor(alloc, Identity { number }, sizes)
+    )
 }
 
 /// Makes a client for an empty handle. The room for it is taken first.

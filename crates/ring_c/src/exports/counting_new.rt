@@ -7,14 +7,20 @@ use crate::code::OUT_OF_MEMORY;
 use crate::counters::CountersSide;
 use crate::handle::Handle;
 use crate::held::Held;
+use crate::identity::Identity;
 use crate::work_on::fill;
 use ring_counters::CountersManager;
 use std::alloc::Global;
 use std::sync::Arc;
 
 /// Makes counters.
-fn make_counters(alloc: Global, count: u32, reuse_ms: u32) -> Result<Box<Held>, i32>
-    ensures made { IfOk result (λ made. HoldFreshCounters count reuse_ms (Some made.value)) }
+fn make_counters(
+    alloc: Global,
+    identity: Identity,
+    count: u32,
+    reuse_ms: u32,
+) -> Result<Box<Held>, i32>
+    ensures made { IfOk result (λ made. HoldFreshCounters identity count reuse_ms (Some made.value)) }
     ensures code { MatchResult result (λ _. IsCountersCode count (pos 0))
         (λ code. IsCountersCode count code × (code ≢ pos 0)) }
 {
@@ -25,7 +31,12 @@ fn make_counters(alloc: Global, count: u32, reuse_ms: u32) -> Result<Box<Held>, 
     let Ok(values) = Arc::new(alloc, values) else {
         return Err(OUT_OF_MEMORY);
     };
-    match Box::new(alloc, Held::Counters(CountersSide { values, manager })) {
+    let side = CountersSide {
+        values,
+        identity,
+        manager,
+    };
+    match Box::new(alloc, Held::Counters(side)) {
         Ok(made) => Ok(made),
         Err(_) => Err(OUT_OF_MEMORY),
     }
@@ -33,13 +44,18 @@ fn make_counters(alloc: Global, count: u32, reuse_ms: u32) -> Result<Box<Held>, 
 
 /// Makes counters with the ids below `count`. A freed id rests for `reuse_ms` milliseconds.
 #[unsafe(no_mangle)]
-pub extern "C" fn felter_counters_new(
+pub extern "C" fn felter_counters_new_numbered(
     alloc: Global,
+    number: u64,
     count: u32,
     reuse_ms: u32,
     counters: &mut Handle,
 ) -> i32
-    ensures { OpensCounters count reuse_ms counters.old.held counters.new.held result }
+    ensures { OpensCounters number count reuse_ms counters.old.held counters.new.held result }
 {
-    fill!(counters, alloc, make_counters(alloc, count, reuse_ms))
+    fill!(
+        counters,
+        alloc,
+        make_counters(alloc, Identity { number }, count, reuse_ms)
+    )
 }

@@ -1,6 +1,6 @@
 //! Rings and boards that end, and what boards and counters take back.
 ghost use Rattle.ring_c.specs.Finishing.{Finishes, IsNotLast, IsUnfinished, TakesLast};
-ghost use Rattle.ring_c.specs.Returning.{EndsAt, IsAstray, IsBoardKept, IsLent, IsOfThese, IsOfThisBoard};
+ghost use Rattle.ring_c.specs.Returning.{EndsAt, IsAstray, IsBoardKept, IsOfOthers, IsOfThese, IsOfThisBoard};
 ghost use Rattle.ring_c.specs.Returning.{IsRawAstray, IsRawOfThisBoard, TakesListener, TakesLoads, TakesWatcher};
 ghost use Rattle.ring_c.specs.Side.{IsOfThisRing};
 ghost use Rattle.ring_c.specs.Told.{a_consumer, a_producer, a_raw_receiver, a_reader, a_receiver, a_transmitter};
@@ -12,8 +12,8 @@ use std::alloc::Global;
 
 /// Ends writing to a ring: takes the producer of a consumer's ring in, where it has all shares and no open claim, and
 /// empties its handle. What lies in the ring can be read as before. 108 where the consumer has its ring's producer
-/// already, or the two are of rings of two kinds or two capacities, then 10 where claims are open, then 11 where shares
-/// are with other producers; both handles stay as they are then.
+/// already, or this is one of another ring, which kind and number tell; then 10 where claims are open, then 11 where
+/// shares are with other producers. Both handles stay as they are then.
 #[unsafe(no_mangle)]
 pub extern "C" fn felter_close(alloc: Global, consumer: &mut Handle, producer: &mut Handle) -> i32
     requires { WhereBoth a_consumer a_producer IsOfThisRing consumer.old.held producer.old.held }
@@ -34,7 +34,7 @@ pub extern "C" fn felter_finish(alloc: Global, consumer: &mut Handle, left: &mut
 }
 
 /// Takes a receiver of a transmitter's board back, with its share, and empties its handle. 108 for a conductor's
-/// receiver, and for one of a board of another capacity; both handles stay as they are then.
+/// receiver, and for one of another board, which its number tells; both handles stay as they are then.
 #[unsafe(no_mangle)]
 pub extern "C" fn felter_board_join(
     alloc: Global,
@@ -48,8 +48,8 @@ pub extern "C" fn felter_board_join(
     join_into!(transmitter, receiver, alloc, Transmitter(side), Receiver(joining) => side.join(joining))
 }
 
-/// Takes a raw receiver of a transmitter's board back, with its share, and empties its handle. 108 for one of a board of
-/// another capacity; both handles stay as they are then.
+/// Takes a raw receiver of a transmitter's board back, with its share, and empties its handle. 108 for one of another
+/// board, which its number tells; both handles stay as they are then.
 #[unsafe(no_mangle)]
 pub extern "C" fn felter_board_join_raw(
     alloc: Global,
@@ -74,8 +74,8 @@ pub extern "C" fn felter_board_close(alloc: Global, transmitter: &mut Handle, ta
     end_with!(transmitter, alloc, Transmitter(side) => side.close(), end => *tail = end)
 }
 
-/// Takes a reader of these counters' values back, with its share, and empties its handle. 108 for a conductor's reader;
-/// both handles stay as they are then.
+/// Takes a reader of these counters' values back, with its share, and empties its handle. 108 for a conductor's reader,
+/// and for one of other counters, which its number tells; both handles stay as they are then.
 #[unsafe(no_mangle)]
 pub extern "C" fn felter_counters_join(
     alloc: Global,
@@ -83,7 +83,7 @@ pub extern "C" fn felter_counters_join(
     reader: &mut Handle,
 ) -> i32
     requires { WhereBoth some_counters a_reader IsOfThese counters.old.held reader.old.held }
-    ensures { JoinsInto some_counters a_reader TakesLoads IsLent counters.old.held reader.old.held
+    ensures { JoinsInto some_counters a_reader TakesLoads IsOfOthers counters.old.held reader.old.held
         counters.new.held reader.new.held result }
 {
     join_into!(counters, reader, alloc, Counters(side), Reader(joining) => side.join(joining))

@@ -1,15 +1,18 @@
 //! Producers that are put together.
 ghost use Rattle.ring_c.specs.Producing.{IsApart, TakesIn};
-ghost use Rattle.ring_c.specs.Told.{a_producer, AreOfOneRing, JoinsInto};
+ghost use Rattle.ring_c.specs.Side.{AreOfOneRing};
+ghost use Rattle.ring_c.specs.Told.{a_producer, JoinsInto, WhereBoth};
 
 use crate::handle::Handle;
 use crate::work_on::join_into;
 use std::alloc::Global;
 
-/// Takes another producer of the same ring in, with its shares and its open claims, and empties its handle.
+/// Takes another producer of the same ring in, with its shares and its open claims, and empties its handle. 101 where
+/// a ring is one-to-one, then 108 for a producer of another ring, which its number tells, and 3 where there is no
+/// memory; both handles stay as they are then.
 #[unsafe(no_mangle)]
 pub extern "C" fn felter_join(alloc: Global, producer: &mut Handle, other: &mut Handle) -> i32
-    requires { AreOfOneRing producer.old.held other.old.held }
+    requires { WhereBoth a_producer a_producer AreOfOneRing producer.old.held other.old.held }
     ensures { JoinsInto a_producer a_producer TakesIn IsApart producer.old.held other.old.held producer.new.held
         other.new.held result }
 {

@@ -61,7 +61,8 @@ pub extern "C" fn felter_conductor_reader(
     read_into(alloc, conductor, reader)
 }
 
-/// Takes a client of this conductor's back, with its shares, and empties its handle.
+/// Takes a client of this conductor's back, with its shares, and empties its handle. 108 for another conductor's, which
+/// its number tells; both handles stay as they are then.
 #[unsafe(no_mangle)]
 pub extern "C" fn felter_conductor_join(
     alloc: Global,
@@ -75,7 +76,8 @@ pub extern "C" fn felter_conductor_join(
     join_into!(conductor, client, alloc, Conductor(side), Client(joining) => side.join(joining))
 }
 
-/// Takes a receiver of this conductor's back, with its share, and empties its handle.
+/// Takes a receiver of this conductor's back, with its share, and empties its handle. 108 for a board's, and for another
+/// conductor's, which its number tells; both handles stay as they are then.
 #[unsafe(no_mangle)]
 pub extern "C" fn felter_conductor_join_receiver(
     alloc: Global,
@@ -89,7 +91,8 @@ pub extern "C" fn felter_conductor_join_receiver(
     join_into!(conductor, receiver, alloc, Conductor(side), Receiver(joining) => side.join_receiver(joining))
 }
 
-/// Takes a reader of this conductor's back, with its share, and empties its handle.
+/// Takes a reader of this conductor's back, with its share, and empties its handle. 108 for one of counters, and for
+/// another conductor's, which its number tells; both handles stay as they are then.
 #[unsafe(no_mangle)]
 pub extern "C" fn felter_conductor_join_reader(
     alloc: Global,

@@ -18,6 +18,6 @@ returns-clause-claims g c = subst (AreOpen c.args.ring.now c.commit.new.producer
     c.in-Some.claim c.in-Some.ensures.claim c.commit.ensures.others c.requires.claims)
 
 pub returns-clause-settled : goal.returns-clause-settled
-returns-clause-settled g c = λ many. settled_one c.args.ring.now Committed c.args.number c.args.producer.now
-    c.commit.new.producer c.args.claims.now.items c.take_numbered.new.claims.items c.in-Some.claim many
+returns-clause-settled g c = λ many identity. settled_one c.args.ring.now Committed c.args.number c.args.producer.now
+    c.commit.new.producer c.args.claims.now.items c.take_numbered.new.claims.items c.in-Some.claim many identity
     c.in-Some.ensures c.commit.ensures.settled
