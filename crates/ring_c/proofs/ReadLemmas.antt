@@ -9,7 +9,7 @@ use Rattle.ring_words.specs.declared.read.action.Action.TheVariants.{Abort, Brea
 use Rattle.ring_words.specs.declared.read.end.ReadEnd.{ReadEnd}
 use Rattle.ring_words.specs.declared.read.end.Stop.{Stop}
 use Rattle.ring_words.specs.declared.read.end.Stop.TheVariants.{Block, Unpublished}
-use Rattle.ring_words.specs.Read.{GoesOn}
+use Rattle.ring_words.specs.Controlled.{GoesOn}
 use Rattle.ring_table.specs.declared.claim.PlacedMessage.{PlacedMessage}
 use Rattle.ring_table.specs.declared.view.View.{View}
 use Rattle.ring_rings.specs.Reading.{Controls, FoundUnsettled, messages_of}
