@@ -22,7 +22,7 @@ use Rattle.ring_table.specs.declared.view.Service.{Service}
 use Rattle.ring_table.specs.OpenClaims.{open_count}
 use Rattle.ring_table.specs.Services.{once_below}
 use Rattle.ring_table.proofs.LawLemmas.{none_open}
-use Rattle.ring_rings.specs.Closing.{AreOrdered, HandsOut}
+use Rattle.ring_rings.specs.Closing.{HandsOut}
 use Rattle.ring_board.specs.declared.shared.view.Joined.{Joined}
 use Rattle.ring_board.specs.declared.shared.view.Record.{Record}
 use Rattle.ring_board.specs.Runs.{AreAllRuns}
@@ -177,12 +177,10 @@ few_committed (c ∷ cs) =
     omega arith
 
 -- what a storm that took all commands has, once it finished: v and w are what producer and conductor knew of the ring
-pub record Ended (p : StormPlan) (C start : ℕ) (v w : View) (rest : Ring) (counters : Registry) (sent : List Record)
+pub record Ended (p : StormPlan) (v w : View) (rest : Ring) (counters : Registry) (sent : List Record)
     (heard : List Joined) (services : List Service) : Type 0 where
   pub lawful : IsPlan p
-  pub capacity : C ≡ p.ring
-  pub begins : start ≡ 0
-  pub out : HandsOut C start v w rest
+  pub out : HandsOut p.ring 0 v w rest
   pub whole : IsWhole v.producer.claims w.consumer.taken rest
   pub settled : open_count v.producer.claims ≡ 0
   pub few : length v.producer.claims ≤ all_commands p
@@ -195,9 +193,8 @@ pub record Ended (p : StormPlan) (C start : ℕ) (v w : View) (rest : Ring) (cou
   pub writes : List ValueWrite
   pub folded : ∥ IsFoldOf (messages_of w.consumer.taken) counters writes (messages_in sent) ∥₁
 
-module _ (p : StormPlan) (C start : ℕ) (v w : View) (rest : Ring) (counters : Registry) (sent : List Record)
-    (heard : List Joined) (services : List Service)
-    (ended : Ended p C start v w rest counters sent heard services) where
+module _ (p : StormPlan) (v w : View) (rest : Ring) (counters : Registry) (sent : List Record)
+    (heard : List Joined) (services : List Service) (ended : Ended p v w rest counters sent heard services) where
   -- nothing is left, so that the messages taken are those of the claims
   all_taken : messages_of w.consumer.taken ≡ messages_of (placed_committed_of v.producer.claims)
   all_taken =
@@ -219,7 +216,7 @@ module _ (p : StormPlan) (C start : ℕ) (v w : View) (rest : Ring) (counters : 
       → ((h : List Claim) → Has rest h → AllSettled h → r.left ≡ length (committed_of h))
       → r.live ≡ length (live_of counters) → r.sum ≡ sum_of (live_of counters) → IsReportOf p r
   report_of r received seen left live sum =
-      let all = drained C start v w rest ended.out (none_open v.producer.claims ended.settled).0 r.left left in
+      let all = drained p.ring 0 v w rest ended.out (none_open v.producer.claims ended.settled).0 r.left left in
       let few = few_committed v.producer.claims in
       let most = ended.few in
       let least = ended.done in
@@ -236,8 +233,7 @@ module _ (p : StormPlan) (C start : ℕ) (v w : View) (rest : Ring) (counters : 
         left = omega arith;
         seen = seen;
         claims = v.producer.claims;
-        ordered = subst (λ s. AreOrdered p.ring s v.producer.claims) ended.begins
-            (subst (λ k. AreOrdered k start v.producer.claims) ended.capacity ended.out.ordered);
+        ordered = ended.out.ordered;
         receivers = heard;
         services = services;
         turns = ended.turns;
@@ -269,6 +265,12 @@ module _ (p : StormPlan) (C start : ℕ) (v w : View) (rest : Ring) (counters : 
       → ((h : List Claim) → Has rest h → AllSettled h → r.left ≡ length (committed_of h))
       → r.live ≡ length (live_of counters) → r.sum ≡ sum_of (live_of counters) → IsReportOf p r
   reported r n m n_is m_is counts left live sum = report_of r (counts.0 ∙ n_is) (counts.1 ∙ m_is) left live sum
+
+-- what is handed out, at the capacity and the start that are known
+pub handed_at : (C start n : ℕ) (v w : View) (rest : Ring) → C ≡ n → start ≡ 0
+    → HandsOut C start v w rest → HandsOut n 0 v w rest
+handed_at C start n v w rest same begins out =
+    subst (λ k. HandsOut k 0 v w rest) same (subst (λ s. HandsOut C s v w rest) begins out)
 
 -- The board --------------------------------------------------------------------
 

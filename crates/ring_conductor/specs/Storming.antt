@@ -1,5 +1,5 @@
 -- What clauses say of a storm.
-use Rattle.std.specs.Prelude.{◌≡◌, ◌⊎◌, ℕ, ◌*◌, ◌/◌, ◌<◌, ◌≤◌, ◌^◌, ℤ, pos, ◌+ℤ◌, IsTrue, List, [], ◌∷◌, fold, length}
+use Rattle.std.specs.Prelude.{◌≡◌, ◌⊎◌, ℕ, ◌*◌, ◌/◌, ◌<◌, ◌≤◌, ◌^◌, ℤ, pos, ◌+ℤ◌, IsTrue, List, [], ◌∷◌, fold, length, None}
 use Rattle.std.specs.Int.{is_power_of_two, IsPowerOfTwo, saturate_signed, w64}
 use Rattle.ring_layout.specs.declared.message.Message.{Message}
 use Rattle.ring_table.specs.declared.claim.StagedClaim.{StagedClaim}
@@ -9,10 +9,10 @@ use Rattle.ring_table.specs.ProducerSteps.{EndBelow}
 use Rattle.ring_table.specs.Services.{once_below}
 use Rattle.ring_table.specs.Staged.{AreRising}
 use Rattle.ring_rings.specs.declared.ring.Ring.{Ring}
-use Rattle.ring_rings.specs.Closing.{AreOrdered}
+use Rattle.ring_rings.specs.Closing.{AreOrdered, HandsOut}
 use Rattle.ring_rings.specs.declared.ring.Producer.{Producer}
 use Rattle.ring_rings.specs.Reading.{messages_of}
-use Rattle.ring_rings.specs.Seats.{claims_of, open_claims_of, seen_tail_of, shares_of, IsConsumerOf, IsProducerOf}
+use Rattle.ring_rings.specs.Seats.{claims_of, open_claims_of, seen_tail_of, shares_of, view_of, IsConsumerOf, IsProducerOf}
 use Rattle.ring_board.specs.declared.board.Board.{Board}
 use Rattle.ring_board.specs.declared.shared.view.Joined.{Joined}
 use Rattle.ring_board.specs.declared.shared.view.Record.{Record}
@@ -31,11 +31,12 @@ use Rattle.ring_conductor.specs.declared.storming.plan.StormReport.{StormReport}
 use Rattle.ring_conductor.specs.declared.storming.seats.StormClient.{StormClient}
 use Rattle.ring_conductor.specs.declared.storming.seats.Hub.{Hub}
 use Rattle.ring_conductor.specs.declared.storming.seats.LevelEnd.{LevelEnd}
+use Rattle.ring_conductor.specs.declared.storming.seats.StormEnd.{StormEnd}
 use Rattle.ring_conductor.specs.declared.storming.shared.Shared.{Shared}
 use Rattle.ring_conductor.specs.Applied.{applied}
 use Rattle.ring_conductor.specs.Asking.{draws_of, producer_of, receiver_of, services_of}
-use Rattle.ring_conductor.specs.Conducting.{IsConductorOf, manager_in, received_of, transmitter_of}
-use Rattle.ring_conductor.specs.Finishing.{joined_by}
+use Rattle.ring_conductor.specs.Conducting.{IsConductorOf, manager_in, received_of, ring_view, transmitter_of}
+use Rattle.ring_conductor.specs.Finishing.{IsFoldOfReceived, IsWhole, joined_by, replies_of}
 use Rattle.ring_conductor.specs.Account.{IsFoldOf, messages_in}
 use Rattle.ring_conductor.specs.Turns.{AreAllTurns, Deeds, claims_by, copies_by, drawn_in, draws_by, label_of, last_set}
 
@@ -175,6 +176,27 @@ pub record HasAll (hub : Hub) : Type 0 where
   pub producers : shares_of hub.producer ≡ 65536
   pub receivers : board_shares_of hub.conductor ≡ 65536
   pub settled : open_claims_of hub.producer ≡ 0
+
+-- The end ----------------------------------------------------------------------
+
+-- What is left of a storm, whether all is done or some gave up. Hub is what came back from the threads, and with it the
+-- conductor finished: claims, no more than all commands and none open, lie one behind the other from the ring's start
+-- on. What was received, followed by what still lies in the ring, is their messages, each whole and once. What the
+-- receivers copied are runs of the replies, and counters and replies are the fold of what was received
+pub record HasFinished (p : StormPlan) (e : StormEnd) : Type 0 where
+  pub hub : Hub
+  pub few : sent_by hub.producer ≤ all_commands p
+  pub settled : open_claims_of hub.producer ≡ 0
+  pub whole : IsWhole (claims_of hub.producer) (received_of hub.conductor) e.finished.rest
+  pub left : HandsOut p.ring 0 (view_of hub.producer) (ring_view hub.conductor) e.finished.rest
+  pub received : e.finished.received ≡ length (received_of hub.conductor)
+  pub runs : AreAllRuns (replies_of hub.conductor) (joined_by hub.conductor)
+  pub folded : ∥ IsFoldOfReceived hub.conductor e.finished.counters ∥₁
+  pub counters : registry_of e.finished.counters ≡ storm_counters p (messages_of (received_of hub.conductor))
+  pub drawn : ℕ
+  pub once : (x : ℕ) → drawn_in x (services_of hub.producer) ≡ once_below x drawn
+  pub done : (e.failure ≡ None)
+      → IsDone p p.clients (record { hub = hub; seen = e.seen; failure = e.failure })
 
 -- The report -------------------------------------------------------------------
 

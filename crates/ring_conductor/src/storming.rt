@@ -1,7 +1,9 @@
 //! Clients on threads of their own, against one conductor.
 ghost use Rattle.std.specs.Prelude.{◌≡◌, ◌↔◌, ◌≤◌, IfOk, Err, None};
 ghost use Rattle.ring_conductor.specs.declared.storming.plan.StormFault.TheVariants.{BadPlan};
-ghost use Rattle.ring_conductor.specs.Storming.{HasAll, IsDone, IsHubOf, IsPlan, IsReportOf, IsUnused, all_commands, sent_by};
+ghost use Rattle.ring_rings.specs.Seats.{capacity_of, start_of};
+ghost use Rattle.ring_conductor.specs.Storming.{HasAll, HasFinished, IsDone, IsHubOf, IsPlan, IsReportOf, IsUnused};
+ghost use Rattle.ring_conductor.specs.Storming.{all_commands, sent_by};
 
 mod client;
 mod conductor;
@@ -22,7 +24,7 @@ pub use plan::{StormFault, StormPlan, StormReport};
 use ring_board::Board;
 use ring_counters::{CounterValues, CountersManager};
 use ring_rings::ManyToOneRing;
-use seats::{Hub, LevelEnd};
+use seats::{Hub, LevelEnd, StormEnd};
 use shared::Shared;
 use std::alloc::Global;
 use std::sync::Wait;
@@ -67,6 +69,35 @@ pub fn storm<R: Threads + Wait, G: Gate + Sync>(
         producer,
         conductor: Conductor::new(consumer, transmitter, counters),
     };
+    let StormEnd {
+        finished,
+        seen,
+        failure,
+    } = run(rt, alloc, plan, gate, ring, board, values, hub);
+    match failure {
+        Some(failure) => Err(StormFault::from(failure)),
+        None => Ok(report::report(finished, seen)),
+    }
+}
+
+/// Runs all threads, and finishes with what they give back, whether all is done or some gave up.
+fn run<R: Threads + Wait, G: Gate + Sync>(
+    rt: &R,
+    alloc: Global,
+    plan: &StormPlan,
+    gate: &G,
+    ring: ManyToOneRing,
+    board: Board,
+    values: CounterValues,
+    hub: Hub,
+) -> StormEnd
+    requires plan { IsPlan plan.now }
+    requires ring { (capacity_of ring ≡ plan.now.ring) × (start_of ring ≡ 0) }
+    requires hub { IsHubOf plan.now ring board values hub }
+    requires whole { HasAll hub }
+    requires unused { IsUnused hub }
+    ensures { HasFinished plan.now result }
+{
     let LevelEnd { hub, seen, failure } = run_threads(
         rt, alloc, plan, gate, &ring, &board, &values, hub,
     );
@@ -74,9 +105,10 @@ pub fn storm<R: Threads + Wait, G: Gate + Sync>(
         Ok(finished) => finished,
         Err(_refused) => unreachable!(),
     };
-    match failure {
-        Some(failure) => Err(StormFault::from(failure)),
-        None => Ok(report::report(finished, seen)),
+    StormEnd {
+        finished,
+        seen,
+        failure,
     }
 }
 

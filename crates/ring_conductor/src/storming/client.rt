@@ -5,7 +5,7 @@ ghost use Rattle.std.specs.Bool.{OnFalse, OnTrue};
 ghost use Rattle.ring_board.specs.Seats.{IsReceiverOf};
 ghost use Rattle.ring_conductor.specs.Asking.{asked, producer_of, receiver_of};
 ghost use Rattle.ring_conductor.specs.Storming.{IsClientAt, IsClientSeat, IsNew, SentAtMost, deeds_of, sent_by};
-ghost use Rattle.ring_conductor.specs.Turns.{Adds, AreAnswered, Extends, IsAnswered, Lengthens, Turns};
+ghost use Rattle.ring_conductor.specs.Turns.{Adds, AreAnswered, Deeds, Extends, IsAnswered, Lengthens, Turns};
 ghost use Rattle.ring_conductor.specs.Turns.{claims_by, copies_by, draws_by, label_of, numbered};
 
 use crate::client::request::Request;
@@ -137,6 +137,13 @@ impl<G: Gate> Shared<'_, G> {
         None
     }
 
+    /// Tells the gate that the client's newest command, which has this number, was answered. The gate is told here alone.
+    fn tell_answered(&self, client: &StormClient, number: u32)
+        requires heard { (before : Deeds) × Turns client.now.index number before (deeds_of client.now) }
+    {
+        self.gate.answered(client.index, number);
+    }
+
     /// Sends one command and waits for its reply. `None` where a wait came to its end.
     fn command(&self, client: &mut StormClient, number: u32) -> Option<()>
         requires { IsClientAt self.now client.old }
@@ -156,7 +163,7 @@ impl<G: Gate> Shared<'_, G> {
         if let Reply::Allocated { id, .. } = self.hear(&mut client.client, correlation)? {
             client.counter = id;
         }
-        self.gate.answered(client.index, number);
+        self.tell_answered(client, number);
         Some(())
     }
 

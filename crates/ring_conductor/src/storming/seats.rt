@@ -4,6 +4,7 @@ ghost use Rattle.ring_conductor.specs.declared.storming.plan.StormFault.TheVaria
 
 use crate::client::Client;
 use crate::conductor::Conductor;
+use crate::finishing::Finished;
 use crate::storming::plan::StormFault;
 use ring_rings::Producer;
 
@@ -50,6 +51,15 @@ impl From<Failure> for StormFault {
 #[derive(Drop)]
 pub(crate) struct LevelEnd {
     pub(crate) hub: Hub,
+    /// How many replies came to the clients that had sent their commands.
+    pub(crate) seen: u64,
+    pub(crate) failure: Option<Failure>,
+}
+
+/// What is left when all threads have ended and the conductor has finished.
+#[derive(Drop)]
+pub(crate) struct StormEnd {
+    pub(crate) finished: Finished,
     /// How many replies came to the clients that had sent their commands.
     pub(crate) seen: u64,
     pub(crate) failure: Option<Failure>,
