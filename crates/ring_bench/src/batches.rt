@@ -1,13 +1,13 @@
 //! One thread that writes a batch of messages and reads it.
 ghost use Rattle.std.specs.Prelude.{IfOk};
+ghost use Rattle.ring_rings.specs.Seats.{IsConsumerOf, IsProducerOf, MayClaim};
 
 use crate::entry::{Contender, Workload};
 use crate::fault::Fault;
 use crate::message::{Body, Sum, TYPE_ID};
 use crate::request::Request;
 use crate::sample::{Sample, nanos_since};
-use crate::shared::{Attempt, SharedRing};
-use ring_rings::{Consumer, ManyToOneRing, OneToOneRing, Producer};
+use ring_rings::{Consumer, Kind, ManyToOne, OneToOne, Producer, Ring};
 use ring_words::SoloRing;
 use std::alloc::Global;
 use std::rt::Clock;
@@ -49,17 +49,18 @@ impl Lane for SoloRing {
 
 /// A shared ring with all its seats.
 #[derive(Drop)]
-struct Seated<R> {
-    ring: R,
+struct Seated<K> {
+    ring: Ring<K>,
     producer: Producer,
     consumer: Consumer,
 }
 
-impl<R: SharedRing> Seated<R> {
-    fn open(alloc: Global, capacity: u32) -> Result<Seated<R>, Fault>
-        ensures { IfOk result (λ s. R.writes s.ring s.producer × R.is_consumer s.ring s.consumer) }
+impl<K: Kind> Seated<K> {
+    fn open(alloc: Global, capacity: u32) -> Result<Seated<K>, Fault>
+        ensures { IfOk result (λ s. IsProducerOf s.ring s.producer × MayClaim K.is_for_one s.producer
+            × IsConsumerOf s.ring s.consumer) }
     {
-        let (ring, producer, consumer) = R::open(alloc, capacity)?;
+        let (ring, producer, consumer) = Ring::new(alloc, capacity)?;
         Ok(Seated {
             ring,
             producer,
@@ -68,11 +69,12 @@ impl<R: SharedRing> Seated<R> {
     }
 }
 
-impl<R: SharedRing> Lane for Seated<R> {
-    ghost whole = { λ s. R.writes s.ring s.producer × R.is_consumer s.ring s.consumer };
+impl<K: Kind> Lane for Seated<K> {
+    ghost whole = { λ s. IsProducerOf s.ring s.producer × MayClaim K.is_for_one s.producer
+        × IsConsumerOf s.ring s.consumer };
 
     fn put(&mut self, body: &[u8]) -> bool {
-        self.ring.try_write(&mut self.producer, TYPE_ID, body) == Attempt::Written
+        K::write_once(&self.ring, &mut self.producer, TYPE_ID, body).is_ok()
     }
 
     fn take(&mut self, sum: &mut Sum) {
@@ -148,11 +150,11 @@ pub fn run_batches<R: Clock>(
             run_lane(rt, &mut ring, &mut body, times)
         }
         Contender::OneToOne => {
-            let mut ring = Seated::<OneToOneRing>::open(alloc, capacity)?;
+            let mut ring = Seated::<OneToOne>::open(alloc, capacity)?;
             run_lane(rt, &mut ring, &mut body, times)
         }
         Contender::ManyToOne => {
-            let mut ring = Seated::<ManyToOneRing>::open(alloc, capacity)?;
+            let mut ring = Seated::<ManyToOne>::open(alloc, capacity)?;
             run_lane(rt, &mut ring, &mut body, times)
         }
         Contender::Board | Contender::Counters | Contender::Storm => Err(Fault::NoContender),

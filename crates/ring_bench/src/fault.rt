@@ -1,6 +1,6 @@
 //! Why a measurement gives no figures.
 use ring_board::SubscribeFault;
-use ring_conductor::StormFault;
+use ring_conductor::{SendFault, StormFault};
 use ring_counters::MakeFault as CountersFault;
 use ring_rings::{MakeFault, NoShares};
 use std::alloc::{AllocError, AllocFailed};
@@ -50,6 +50,12 @@ impl From<MakeFault> for Fault {
 impl From<CountersFault> for Fault {
     fn from(fault: CountersFault) -> Fault {
         Fault::NoCounters(fault)
+    }
+}
+
+impl From<SendFault> for Fault {
+    fn from(_fault: SendFault) -> Fault {
+        Fault::Refused
     }
 }
 

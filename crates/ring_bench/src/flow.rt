@@ -1,6 +1,6 @@
 //! Messages from one thread to another.
 ghost use Rattle.std.specs.Thread.{IsSync};
-ghost use Rattle.ring_rings.specs.Seats.{IsProducerOf, IsConsumerOf};
+ghost use Rattle.ring_rings.specs.Seats.{IsConsumerOf, IsProducerOf, MayClaim};
 
 use crate::entry::{Contender, Workload};
 use crate::fault::Fault;
@@ -9,8 +9,8 @@ use crate::message::{Body, TYPE_ID, Tally, first_word};
 use crate::request::Request;
 use crate::rest::{Rest, TRIES};
 use crate::sample::{Sample, nanos_since};
-use crate::shared::{SharedRing, send};
-use ring_rings::{Consumer, ManyToOneRing, OneToOneRing, Producer};
+use crate::shared::send;
+use ring_rings::{Consumer, Kind, ManyToOne, ManyToOneRing, OneToOne, Producer, Ring};
 use std::alloc::Global;
 use std::rt::Clock;
 use std::thread::{Threads, join};
@@ -48,8 +48,9 @@ impl<'a> Load<'a> {
 }
 
 /// Sends all messages of a producer.
-fn produce<S: SharedRing>(ring: &S, mut producer: Producer, load: Load<'_>) -> Result<(), Fault>
-    requires { S.writes ring.now producer }
+fn produce<K: Kind>(ring: &Ring<K>, mut producer: Producer, load: Load<'_>) -> Result<(), Fault>
+    requires producer { IsProducerOf ring.now producer }
+    requires sole { MayClaim K.is_for_one producer }
 {
     let Load {
         gate,
@@ -66,15 +67,15 @@ fn produce<S: SharedRing>(ring: &S, mut producer: Producer, load: Load<'_>) -> R
 }
 
 /// Reads until so many messages have come.
-fn take_all<S: SharedRing>(ring: &S, mut consumer: Consumer, tally: &mut Tally, messages: u64)
-    requires { S.is_consumer ring.now consumer }
+fn take_all<K>(ring: &Ring<K>, mut consumer: Consumer, tally: &mut Tally, messages: u64)
+    requires { IsConsumerOf ring.now consumer }
 {
     let mut rest = Rest::new();
     for _ in 0..TRIES {
         if tally.count >= messages {
             break;
         }
-        if ring.read(&mut consumer, LIMIT, tally) > 0 {
+        if ring.read(&mut consumer, LIMIT, tally).messages > 0 {
             rest.reset();
         } else {
             rest.wait();
@@ -83,15 +84,15 @@ fn take_all<S: SharedRing>(ring: &S, mut consumer: Consumer, tally: &mut Tally, 
 }
 
 /// Opens the gate once the producers are there, and takes their messages.
-fn consume<R: Clock, S: SharedRing>(
+fn consume<R: Clock, K>(
     rt: &R,
-    ring: &S,
+    ring: &Ring<K>,
     consumer: Consumer,
     gate: &Gate,
     producers: u64,
     messages: u64,
 ) -> Result<Sample, Fault>
-    requires { S.is_consumer ring.now consumer }
+    requires { IsConsumerOf ring.now consumer }
 {
     gate.wait_for(producers);
     let start = Instant::now(rt);
@@ -104,23 +105,24 @@ fn consume<R: Clock, S: SharedRing>(
 }
 
 /// One producer and the consumer.
-fn run_pair<R: Clock + Threads + Sync, S: SharedRing + Sync + Drop>(
+fn run_pair<R: Clock + Threads + Sync, K: Kind + Sync>(
     rt: &R,
     alloc: Global,
     request: &Request,
     messages: u64,
 ) -> Result<Sample, Fault> {
-    let (ring, producer, consumer) = S::open(alloc, request.capacity)?;
+    let (ring, producer, consumer) = Ring::<K>::new(alloc, request.capacity)?;
     let gate = Gate::new();
     let load = Load::new(alloc, &gate, request.size, 0, messages)?;
     let (ring, gate) = (&ring, &gate);
     let (sent, sample) = join(
         rt,
         move || -> Result<(), Fault>
-            requires { S.writes ring.now producer }
+            requires producer { IsProducerOf ring.now producer }
+            requires sole { MayClaim K.is_for_one producer }
         { produce(ring, producer, load) },
         move || -> Result<Sample, Fault>
-            requires { S.is_consumer ring.now consumer }
+            requires { IsConsumerOf ring.now consumer }
         { consume(rt, ring, consumer, gate, 1, messages) },
     );
     sent?;
@@ -252,10 +254,10 @@ pub fn run_flow<R: Clock + Threads + Sync>(
 ) -> Result<Sample, Fault> {
     match (request.workload, request.contender, request.threads) {
         (Workload::Pair, Contender::OneToOne, _) => {
-            run_pair::<R, OneToOneRing>(rt, alloc, request, times)
+            run_pair::<R, OneToOne>(rt, alloc, request, times)
         }
         (Workload::Pair, Contender::ManyToOne, _) => {
-            run_pair::<R, ManyToOneRing>(rt, alloc, request, times)
+            run_pair::<R, ManyToOne>(rt, alloc, request, times)
         }
         (Workload::Crowd, Contender::ManyToOne, 2) => run_three(rt, alloc, request, times / 2 + 1),
         (Workload::Crowd, Contender::ManyToOne, 4) => run_five(rt, alloc, request, times / 4 + 1),

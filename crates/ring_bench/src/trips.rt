@@ -1,6 +1,8 @@
 //! Commands to the conductor, and its replies.
 ghost use Rattle.std.specs.Prelude.{◌≡◌};
+ghost use Rattle.ring_rings.specs.Seats.{IsConsumerOf};
 ghost use Rattle.ring_board.specs.Seats.{IsReceiverOf};
+ghost use Rattle.ring_conductor.specs.Asking.{producer_of, receiver_of, IsSeatedAt};
 ghost use Rattle.ring_conductor.specs.Conducting.{IsConductorOf};
 
 use crate::entry::Contender;
@@ -8,11 +10,11 @@ use crate::fault::Fault;
 use crate::request::Request;
 use crate::rest::{Rest, TRIES};
 use crate::sample::{Sample, nanos_since};
-use crate::shared::{SharedRing, send};
-use ring_board::{Board, CopyReceiver};
-use ring_conductor::{Command, Conductor, Reply, decode_reply, encode_command};
+use ring_board::Board;
+use ring_conductor::Request::{Allocate, Set};
+use ring_conductor::{Client, Conductor, Polled, Reply};
 use ring_counters::{CounterValues, CountersManager};
-use ring_rings::{CommandSource, ManyToOneRing, OneToOneRing, Producer};
+use ring_rings::{Kind, ManyToOne, OneToOne, Ring};
 use std::alloc::Global;
 use std::rt::Clock;
 use std::sync::atomic::{AtomicBool, Ordering};
@@ -25,110 +27,79 @@ const LIMIT: u32 = 64;
 /// The counters of the conductor.
 const COUNTERS: u32 = 16;
 
-/// The bytes of the commands that are sent.
-const COMMAND_BYTES: usize = 20;
-
-/// Sends a command of 20 bytes.
-fn ask<S: SharedRing>(ring: &S, producer: &mut Producer, command: &Command<'_>) -> Result<(), Fault>
-    requires { S.writes ring.now producer.old }
-    ensures { S.writes ring.now producer.new }
-{
-    let mut body = [0; COMMAND_BYTES];
-    if encode_command(command, &mut body) != Some(COMMAND_BYTES) {
-        return Err(Fault::Refused);
-    }
-    send(ring, producer, command.type_id(), &body)
-}
-
-/// Waits for this reply, and passes others. `WrongMessage` where some were missed, `Stuck` where it does not come.
-fn hear(board: &Board, receiver: &mut CopyReceiver, wanted: Reply) -> Result<(), Fault>
-    requires { IsReceiverOf board.now receiver.old }
-    ensures { IsReceiverOf board.now receiver.new }
+/// Waits for the reply to the command with this correlation id, and passes others. `WrongMessage` where some were
+/// missed, `Stuck` where it does not come.
+fn hear(board: &Board, client: &mut Client, correlation: u64) -> Result<Reply, Fault>
+    requires { IsReceiverOf board.now (receiver_of client.old) }
+    ensures receiver { IsReceiverOf board.now (receiver_of client.new) }
+    ensures producer { producer_of client.new ≡ producer_of client.old }
 {
     let mut rest = Rest::new();
     for _ in 0..TRIES {
-        match receiver.receive(board) {
-            Ok(Some(copied)) => {
-                if decode_reply(copied.type_id, copied.body) == Ok(wanted) {
-                    return Ok(());
-                }
-            }
-            Ok(None) => {}
-            Err(_lapped) => return Err(Fault::WrongMessage),
+        match client.poll(board, correlation) {
+            Polled::Answered(reply) => return Ok(reply),
+            Polled::Another(_) | Polled::NoReply | Polled::Nothing => rest.wait(),
+            Polled::Lapped(_) => return Err(Fault::WrongMessage),
         }
-        rest.wait();
     }
     Err(Fault::Stuck)
 }
 
 /// Allocates the counter 0.
-fn allocate<S: SharedRing>(
-    ring: &S,
+fn allocate<K: Kind>(
+    ring: &Ring<K>,
     board: &Board,
     values: &CounterValues,
     conductor: &mut Conductor,
-    producer: &mut Producer,
-    receiver: &mut CopyReceiver,
+    client: &mut Client,
 ) -> Result<(), Fault>
-    requires conductor { IsConductorOf S.is_consumer ring.now board.now values.now conductor.old }
-    requires producer { S.writes ring.now producer.old }
-    requires receiver { IsReceiverOf board.now receiver.old }
-    ensures conductor { IsConductorOf S.is_consumer ring.now board.now values.now conductor.new }
-    ensures producer { S.writes ring.now producer.new }
-    ensures receiver { IsReceiverOf board.now receiver.new }
+    requires conductor { IsConductorOf IsConsumerOf ring.now board.now values.now conductor.old }
+    requires client { IsSeatedAt K.is_for_one ring.now board.now client.old }
+    ensures conductor { IsConductorOf IsConsumerOf ring.now board.now values.now conductor.new }
+    ensures client { IsSeatedAt K.is_for_one ring.now board.now client.new }
 {
-    let correlation = ring.draw(producer);
-    let command = Command::Allocate {
-        correlation,
-        type_id: 1,
-        key: &[],
-        label: &[],
-    };
-    ask(ring, producer, &command)?;
+    let correlation = client.send(
+        ring,
+        Allocate {
+            type_id: 1,
+            key: &[],
+            label: &[],
+        },
+    )?;
     conductor.do_work(ring, board, values, 0, LIMIT);
-    hear(board, receiver, Reply::Allocated { correlation, id: 0 })
+    match hear(board, client, correlation)? {
+        Reply::Allocated { id: 0, .. } => Ok(()),
+        _ => Err(Fault::WrongMessage),
+    }
 }
 
 /// Sets the counter 0, and waits for the reply.
-fn set<S: SharedRing>(
-    ring: &S,
-    board: &Board,
-    producer: &mut Producer,
-    receiver: &mut CopyReceiver,
-    value: i64,
-) -> Result<(), Fault>
-    requires producer { S.writes ring.now producer.old }
-    requires receiver { IsReceiverOf board.now receiver.old }
-    ensures producer { S.writes ring.now producer.new }
-    ensures receiver { IsReceiverOf board.now receiver.new }
+fn set<K: Kind>(ring: &Ring<K>, board: &Board, client: &mut Client, value: i64) -> Result<(), Fault>
+    requires { IsSeatedAt K.is_for_one ring.now board.now client.old }
+    ensures { IsSeatedAt K.is_for_one ring.now board.now client.new }
 {
-    let correlation = ring.draw(producer);
-    let command = Command::Set {
-        correlation,
-        id: 0,
-        value,
-    };
-    ask(ring, producer, &command)?;
-    hear(board, receiver, Reply::Done { correlation })
+    let correlation = client.send(ring, Set { id: 0, value })?;
+    match hear(board, client, correlation)? {
+        Reply::Done { .. } => Ok(()),
+        _ => Err(Fault::WrongMessage),
+    }
 }
 
 /// Sets the counter 0 to each of the numbers below `times`, and gives the nanoseconds that each took.
-fn set_often<R: Clock, S: SharedRing>(
+fn set_often<R: Clock, K: Kind>(
     rt: &R,
-    ring: &S,
+    ring: &Ring<K>,
     board: &Board,
-    mut producer: Producer,
-    mut receiver: CopyReceiver,
+    mut client: Client,
     mut trips: Vec<u32>,
     times: u32,
 ) -> Result<Vec<u32>, Fault>
-    requires producer { S.writes ring.now producer }
-    requires receiver { IsReceiverOf board.now receiver }
+    requires { IsSeatedAt K.is_for_one ring.now board.now client }
 {
     let start = Instant::now(rt)?;
     let mut last = 0;
     for value in 0..times {
-        set(ring, board, &mut producer, &mut receiver, i64::from(value))?;
+        set(ring, board, &mut client, i64::from(value))?;
         let now = nanos_since(rt, start)?;
         trips.push(u32::try_from(now.saturating_sub(last)).unwrap_or(u32::MAX))?;
         last = now;
@@ -137,14 +108,14 @@ fn set_often<R: Clock, S: SharedRing>(
 }
 
 /// Conducts until it is told to stop.
-fn conduct<S: CommandSource>(
-    ring: &S,
+fn conduct<K>(
+    ring: &Ring<K>,
     board: &Board,
     values: &CounterValues,
     mut conductor: Conductor,
     stop: &AtomicBool,
 ) -> Conductor
-    requires { IsConductorOf S.is_consumer ring.now board.now values.now conductor }
+    requires { IsConductorOf IsConsumerOf ring.now board.now values.now conductor }
 {
     let mut rest = Rest::new();
     for _ in 0..TRIES {
@@ -170,40 +141,33 @@ fn check_last(conductor: &Conductor, times: u32) -> Result<(), Fault> {
 }
 
 /// A client and the conductor, each on a thread.
-fn run_served<R: Clock + Threads + Sync, S: SharedRing + Sync + Drop>(
+fn run_served<R: Clock + Threads + Sync, K: Kind + Sync>(
     rt: &R,
     alloc: Global,
     capacity: u32,
     times: u32,
 ) -> Result<Sample, Fault> {
-    let (ring, mut producer, consumer) = S::open(alloc, capacity)?;
+    let (ring, producer, consumer) = Ring::<K>::new(alloc, capacity)?;
     let (board, transmitter) = Board::new(alloc, capacity).map_err(Fault::NoBoard)?;
     let (values, counters) = CountersManager::new(alloc, COUNTERS, 0)?;
     let mut conductor = Conductor::new(consumer, transmitter, counters);
-    let mut receiver = conductor.subscribe(alloc, &board)?;
-    allocate(
-        &ring,
-        &board,
-        &values,
-        &mut conductor,
-        &mut producer,
-        &mut receiver,
-    )?;
+    let receiver = conductor.subscribe(alloc, &board)?;
+    let mut client = Client::new(producer, receiver);
+    allocate(&ring, &board, &values, &mut conductor, &mut client)?;
     let trips = Vec::with_capacity(alloc, times as usize)?;
     let stop = AtomicBool::new(false);
     let (ring, board, values, stop) = (&ring, &board, &values, &stop);
     let (trips, conductor) = join(
         rt,
         move || -> Result<Vec<u32>, Fault>
-            requires producer { S.writes ring.now producer }
-            requires receiver { IsReceiverOf board.now receiver }
+            requires { IsSeatedAt K.is_for_one ring.now board.now client }
         {
-            let trips = set_often(rt, ring, board, producer, receiver, trips, times);
+            let trips = set_often(rt, ring, board, client, trips, times);
             stop.store(true, Ordering::SeqCst);
             trips
         },
         move || -> Conductor
-            requires { IsConductorOf S.is_consumer ring.now board.now values.now conductor }
+            requires { IsConductorOf IsConsumerOf ring.now board.now values.now conductor }
         { conduct(ring, board, values, conductor, stop) },
     );
     let trips = trips?;
@@ -223,8 +187,8 @@ pub fn run_trips<R: Clock + Threads + Sync>(
     let capacity = request.capacity;
     let times = u32::try_from(times).unwrap_or(u32::MAX);
     match request.contender {
-        Contender::OneToOne => run_served::<R, OneToOneRing>(rt, alloc, capacity, times),
-        Contender::ManyToOne => run_served::<R, ManyToOneRing>(rt, alloc, capacity, times),
+        Contender::OneToOne => run_served::<R, OneToOne>(rt, alloc, capacity, times),
+        Contender::ManyToOne => run_served::<R, ManyToOne>(rt, alloc, capacity, times),
         Contender::Solo | Contender::Board | Contender::Counters | Contender::Storm => Err(
             Fault::NoContender,
         ),

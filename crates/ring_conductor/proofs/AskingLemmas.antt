@@ -2,7 +2,7 @@
 use Rattle.std.proofs.Common.{◌≡◌, ◌∙◌, ◌≤◌, ℕ, ℤ, List, length, take, Option, None, Some, IsSome, refl, sym, ap, subst, to_z, of_z, w32, true≢false}
 use Rattle.ring_table.specs.declared.view.View.{View}
 use Rattle.ring_rings.specs.declared.fault.TryFault.{TryFault}
-use Rattle.ring_rings.specs.Claiming.{RefusesTry, Writes}
+use Rattle.ring_rings.specs.Claiming.{Refusing, Writing}
 use Rattle.ring_conductor.specs.declared.client.request.Request.{Request}
 use Rattle.ring_conductor.specs.declared.client.request.Request.TheVariants.{Allocate, Free, Set, AllocateOwned, Close}
 use Rattle.ring_conductor.specs.Asking.{asked, IsSendable}
@@ -68,11 +68,11 @@ pub of_type : (r : Request) (a : ℕ) (c : Instruction) (t : ℤ) → c ≡ aske
     → to_z w32 (of_z w32 t) ≡ type_id_of (asked r a)
 of_type r a c t is type_is = ap (λ z. to_z w32 (of_z w32 z)) (type_is ∙ ap type_id_of is) ∙ same_type r a
 
-pub written_as : (C : ℕ) (t s : ℤ) (b d : List ℕ) (v w : View) → t ≡ s → b ≡ d → Writes C t b v w → Writes C s d v w
-written_as C t s b d v w type_is body_is h =
-    subst (λ x. Writes C x d v w) type_is (subst (λ x. Writes C t x v w) body_is h)
+pub written_as : (W : Writing) (C : ℕ) (t s : ℤ) (b d : List ℕ) (v w : View) → t ≡ s → b ≡ d → W C t b v w → W C s d v w
+written_as W C t s b d v w type_is body_is h =
+    subst (λ x. W C x d v w) type_is (subst (λ x. W C t x v w) body_is h)
 
-pub refused_as : (C : ℕ) (t s : ℤ) (n m : ℕ) (v : View) (fault : TryFault) (w : View) → t ≡ s → n ≡ m
-    → RefusesTry C t n v fault w → RefusesTry C s m v fault w
-refused_as C t s n m v fault w type_is len_is h =
-    subst (λ x. RefusesTry C x m v fault w) type_is (subst (λ x. RefusesTry C t x v fault w) len_is h)
+pub refused_as : (R : Refusing) (C : ℕ) (t s : ℤ) (n m : ℕ) (v : View) (fault : TryFault) (w : View) → t ≡ s → n ≡ m
+    → R C t n v fault w → R C s m v fault w
+refused_as R C t s n m v fault w type_is len_is h =
+    subst (λ x. R C x m v fault w) type_is (subst (λ x. R C t x v fault w) len_is h)

@@ -4,7 +4,7 @@ pub mod FinishLemmas
 pub mod RunLemmas
 pub mod SizeLemmas
 pub mod AccountLemmas
-pub mod SendingLemmas
+pub mod GatheringLemmas
 pub mod AskingLemmas
 pub mod TurnLemmas
 pub mod LiveLemmas

@@ -5,11 +5,13 @@ use Rattle.ring_table.specs.declared.view.View.{View}
 use Rattle.ring_table.specs.ServiceSteps.{DrawsId}
 use Rattle.ring_rings.specs.declared.fault.TryFault.{TryFault}
 use Rattle.ring_rings.specs.declared.ring.Producer.{Producer}
-use Rattle.ring_rings.specs.Claiming.{RefusesTry, Writes}
-use Rattle.ring_rings.specs.Seats.{view_of}
+use Rattle.ring_rings.specs.Claiming.{Refusing, Writing}
+use Rattle.ring_rings.specs.declared.ring.Ring.{Ring}
+use Rattle.ring_rings.specs.Seats.{view_of, IsProducerOf, MayClaim}
+use Rattle.ring_board.specs.declared.board.Board.{Board}
 use Rattle.ring_board.specs.declared.board.CopyReceiver.{CopyReceiver}
 use Rattle.ring_board.specs.Receiving.{GotCopy, GotLapped, GotNothing}
-use Rattle.ring_board.specs.Seats.{receiver_seat}
+use Rattle.ring_board.specs.Seats.{receiver_seat, IsReceiverOf}
 use Rattle.ring_board.specs.Steps.{Sat}
 use Rattle.ring_protocol.specs.declared.reply.Reply.{Reply}
 use Rattle.ring_conductor.specs.declared.client.request.Request.{Request}
@@ -46,6 +48,11 @@ client_view c = view_of c.producer
 abbrev pub client_seat : Client → Sat
 client_seat c = receiver_seat c.receiver
 
+-- its producer may claim in this ring, whose kind is for one producer or is not, and its receiver hears this board
+abbrev pub IsSeatedAt : {K : Type 0} → Type 0 → Ring K → Board → Client → Type 0
+IsSeatedAt is_for_one ring board c =
+    IsProducerOf ring (producer_of c) × MayClaim is_for_one (producer_of c) × IsReceiverOf board (receiver_of c)
+
 -- the command that asks for this, with a correlation id
 abbrev pub asked : Request → ℕ → Instruction
 asked (of.Allocate type_id key label) correlation = Allocate correlation type_id key.now label.now
@@ -61,35 +68,37 @@ pub record IsSendable (r : Request) : Type 0 where
 
 -- Sending ----------------------------------------------------------------------
 
+-- W is what a write does to a producer's view, and R what a refused try does, by the ring's kind
+
 -- the command with this correlation id is one committed claim more
-abbrev pub SendsAs : ℕ → ℕ → Request → View → View → Type 0
-SendsAs C correlation request v w =
-    let command = asked request correlation in Writes C (type_id_of command) (spelling_of command) v w
+abbrev pub SendsAs : Writing → ℕ → ℕ → Request → View → View → Type 0
+SendsAs W C correlation request v w =
+    let command = asked request correlation in W C (type_id_of command) (spelling_of command) v w
 
 -- nothing was written: the command is too long, or the ring refused it
-abbrev pub RefusesAs : ℕ → ℕ → Request → View → SendFault → View → Type 0
-RefusesAs C correlation request v TooLong w = (IsSendable request → ⊥) × (w ≡ v)
-RefusesAs C correlation request v (Refused id reason) w =
+abbrev pub RefusesAs : Refusing → ℕ → ℕ → Request → View → SendFault → View → Type 0
+RefusesAs R C correlation request v TooLong w = (IsSendable request → ⊥) × (w ≡ v)
+RefusesAs R C correlation request v (Refused id reason) w =
     let command = asked request correlation in IsSendable request × (id ≡ correlation)
-    × RefusesTry C (type_id_of command) (length (spelling_of command)) v reason w
+    × R C (type_id_of command) (length (spelling_of command)) v reason w
 
 -- an id was drawn, and the command with that correlation id is one committed claim more
-pub record Sends (C : ℕ) (request : Request) (v : View) (correlation : ℕ) (w : View) : Type 0 where
+pub record Sends (W : Writing) (C : ℕ) (request : Request) (v : View) (correlation : ℕ) (w : View) : Type 0 where
   pub between : View
   pub draws : DrawsId v correlation between
-  pub sent : SendsAs C correlation request between w
+  pub sent : SendsAs W C correlation request between w
 
 -- an id was drawn, and the ring refused the command with that correlation id
-pub record RefusesDrawn (C : ℕ) (request : Request) (v : View) (correlation : ℕ) (reason : TryFault)
+pub record RefusesDrawn (R : Refusing) (C : ℕ) (request : Request) (v : View) (correlation : ℕ) (reason : TryFault)
     (w : View) : Type 0 where
   pub between : View
   pub draws : DrawsId v correlation between
-  pub refused : RefusesAs C correlation request between (Refused correlation reason) w
+  pub refused : RefusesAs R C correlation request between (Refused correlation reason) w
 
 -- no id was drawn for a command that is too long
-abbrev pub RefusesSend : ℕ → Request → View → SendFault → View → Type 0
-RefusesSend C request v TooLong w = (IsSendable request → ⊥) × (w ≡ v)
-RefusesSend C request v (Refused correlation reason) w = RefusesDrawn C request v correlation reason w
+abbrev pub RefusesSend : Refusing → ℕ → Request → View → SendFault → View → Type 0
+RefusesSend R C request v TooLong w = (IsSendable request → ⊥) × (w ≡ v)
+RefusesSend R C request v (Refused correlation reason) w = RefusesDrawn R C request v correlation reason w
 
 -- Hearing ----------------------------------------------------------------------
 

@@ -36,7 +36,7 @@ use Rattle.ring_conductor.specs.declared.storming.shared.Shared.{Shared}
 use Rattle.ring_conductor.specs.Applied.{applied}
 use Rattle.ring_conductor.specs.Asking.{draws_of, producer_of, receiver_of, services_of}
 use Rattle.ring_conductor.specs.Conducting.{IsConductorOf, manager_in, received_of, ring_view, transmitter_of}
-use Rattle.ring_conductor.specs.Finishing.{IsFoldOfReceived, IsWhole, joined_by, replies_of}
+use Rattle.ring_conductor.specs.Finishing.{HasAllReplies, IsFoldOfReceived, IsWhole, joined_by, replies_of}
 use Rattle.ring_conductor.specs.Account.{IsFoldOf, messages_in}
 use Rattle.ring_conductor.specs.Turns.{AreAllTurns, Deeds, claims_by, copies_by, drawn_in, draws_by, label_of, last_set}
 
@@ -179,20 +179,25 @@ pub record HasAll (hub : Hub) : Type 0 where
 
 -- The end ----------------------------------------------------------------------
 
--- What is left of a storm, whether all is done or some gave up. Hub is what came back from the threads, and with it the
--- conductor finished: claims, no more than all commands and none open, lie one behind the other from the ring's start
--- on. What was received, followed by what still lies in the ring, is their messages, each whole and once. What the
--- receivers copied are runs of the replies, and counters and replies are the fold of what was received
-pub record HasFinished (p : StormPlan) (e : StormEnd) : Type 0 where
+-- What is left of a storm, whether all is done or some gave up. Hub has all seats of this ring, this board and these
+-- values, and with it the conductor finished: claims, no more than all commands, lie one behind the other from the ring's
+-- start on. What was received, followed by what still lies in the ring, is their messages, each whole and once. What the
+-- receivers copied are runs of the replies, which the closed board has, and counters and replies are the fold of what was
+-- received
+pub record HasFinished {K : Type 0} (p : StormPlan) (ring : Ring K) (board : Board) (values : CounterValues)
+    (e : StormEnd) : Type 0 where
   pub hub : Hub
+  pub of : IsHubOf p ring board values hub
+  pub all : HasAll hub
   pub few : sent_by hub.producer ≤ all_commands p
-  pub settled : open_claims_of hub.producer ≡ 0
   pub whole : IsWhole (claims_of hub.producer) (received_of hub.conductor) e.finished.rest
   pub left : HandsOut p.ring 0 (view_of hub.producer) (ring_view hub.conductor) e.finished.rest
   pub received : e.finished.received ≡ length (received_of hub.conductor)
   pub runs : AreAllRuns (replies_of hub.conductor) (joined_by hub.conductor)
   pub folded : ∥ IsFoldOfReceived hub.conductor e.finished.counters ∥₁
-  pub counters : registry_of e.finished.counters ≡ storm_counters p (messages_of (received_of hub.conductor))
+  pub counters : e.finished.counters ≡ manager_in hub.conductor
+  pub replies : HasAllReplies board (replies_of hub.conductor) e.finished.board
+  pub handed : e.finished.values ≡ values
   pub drawn : ℕ
   pub once : (x : ℕ) → drawn_in x (services_of hub.producer) ≡ once_below x drawn
   pub done : (e.failure ≡ None)

@@ -9,7 +9,7 @@ use ring_protocol::{LONGEST_COMMAND, Reply};
 use ring_rings::{Producer, TryFault};
 use thiserror::Error;
 
-/// One who sends commands through a many-to-one ring and hears the replies on a board. One thread has it at a time.
+/// One who sends commands through a ring of either kind and hears the replies on a board. One thread has it at a time.
 #[derive(Drop)]
 pub struct Client {
     pub(crate) producer: Producer,

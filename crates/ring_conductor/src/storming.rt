@@ -96,7 +96,7 @@ fn run<R: Threads + Wait, G: Gate + Sync>(
     requires hub { IsHubOf plan.now ring board values hub }
     requires whole { HasAll hub }
     requires unused { IsUnused hub }
-    ensures { HasFinished plan.now result }
+    ensures { HasFinished plan.now ring board values result }
 {
     let LevelEnd { hub, seen, failure } = run_threads(
         rt, alloc, plan, gate, &ring, &board, &values, hub,

@@ -16,7 +16,7 @@ use Rattle.ring_loose.specs.Claims.{Holder, SettlesAt}
 use Rattle.ring_loose.specs.Held.{HasAt, IsFree}
 use Rattle.ring_loose.proofs.ClaimsLemmas.{same_open}
 use Rattle.ring_loose.proofs.HeldLemmas.{front, none_at}
-use Rattle.ring_loose.proofs.TryLemmas.{Keeps}
+use Rattle.ring_rings.proofs.LeavingLemmas.{Keeps}
 use Rattle.ring_loose.specs.Loose.{AreSeats, Loose, aborted_view, all_aborted, with_holder}
 
 -- what the producer knows once the claims from an index on are aborted

@@ -1,51 +1,18 @@
--- What the claims and writes of a producer leave of its view.
-use Rattle.std.proofs.Common.{Result, Ok, Err, OnOk, OnErr, IfErr, IsTrue, is_err, Option, ◌≡◌, ℕ, ◌+◌, ◌<◌, ℤ, List, [], ◌∷◌, ◌++◌, length, refl, ap, sym, subst, ◌∙◌, inl, inr}
+-- What the claims and writes that try again leave of a producer's view.
+use Rattle.std.proofs.Common.{Result, Ok, Err, OnOk, OnErr, IfErr, IsTrue, is_err, Option, ◌≡◌, ℕ, ◌+◌, ◌<◌, ℤ, List, [], ◌∷◌, ◌++◌, length, refl, ap, sym, subst, ◌∙◌}
 use Rattle.ring_words.specs.Open.{ClaimAt}
 use Rattle.ring_words.specs.declared.fault.ClaimFault.{ClaimFault}
 use Rattle.ring_table.specs.declared.claim.StagedClaim.{StagedClaim}
 use Rattle.ring_table.specs.declared.view.View.{View}
-use Rattle.ring_table.specs.Views.{with_claim}
-use Rattle.ring_rings.specs.Claiming.{AfterTries, AreContended, Claims, Refuses, Writes, claim_behind, looked, record_behind}
+use Rattle.ring_rings.specs.Claiming.{AfterTries, AreContended, Claims, Refuses, Writes, claim_behind, record_behind}
 use Rattle.ring_rings.specs.declared.ring.Producer.{Producer}
+use Rattle.ring_rings.proofs.LeavingLemmas.{Keeps, Gains, keeps_as, keeps_looked, keeps_refused, gains_looked}
 use Rattle.ring_rings.specs.Bodies.{PutsBytes}
 use Rattle.ring_rings.specs.Seats.{view_of}
 use Rattle.ring_words.specs.declared.fault.PutRange.{PutRange}
 use Rattle.ring_loose.specs.Claims.{AreHeld, Declines, Holder, Puts, holder}
 use Rattle.ring_loose.specs.Held.{IsHeld}
 use Rattle.ring_loose.proofs.ClaimsLemmas.{held_settled_more}
-
--- shares and claims stay
-pub record Keeps (v w : View) : Type 0 where
-  pub shares : w.producer.shares ≡ v.producer.shares
-  pub claims : w.producer.claims ≡ v.producer.claims
-
--- the shares stay, and one claim comes
-pub record Gains (c : StagedClaim) (v w : View) : Type 0 where
-  pub shares : w.producer.shares ≡ v.producer.shares
-  pub claims : w.producer.claims ≡ v.producer.claims ++ c ∷ []
-
--- a view with the same shares and claims
-pub keeps_as : (v u w : View) → w ≡ u → u.producer.shares ≡ v.producer.shares → u.producer.claims ≡ v.producer.claims
-    → Keeps v w
-keeps_as v u w is shares claims = record {
-  shares = ap (λ (x : View). x.producer.shares) is
-      ∙ shares;
-  claims = ap (λ (x : View). x.producer.claims) is ∙ claims;
-}
-
-keeps_looked : (loads : List (ℕ × ℕ)) (tail head : ℕ) (v w : View) → w ≡ looked loads tail head v → Keeps v w
-keeps_looked loads tail head v w is = keeps_as v (looked loads tail head v) w is refl refl
-
-gains_looked : (c : StagedClaim) (end : ℕ) (loads : List (ℕ × ℕ)) (tail head : ℕ) (v w : View)
-    → w ≡ with_claim c end (looked loads tail head v) → Gains c v w
-gains_looked c end loads tail head v w is =
-    record { shares = ap (λ (u : View). u.producer.shares) is; claims = ap (λ (u : View). u.producer.claims) is }
-
-keeps_refused : (C : ℕ) (type_id : ℤ) (len : ℕ) (v : View) (fault : ClaimFault) (w : View)
-    → Refuses C type_id len v fault w → Keeps v w
-keeps_refused C type_id len v fault w (inl at_once) = keeps_as v v w at_once.1 refl refl
-keeps_refused C type_id len v fault w (inr (inl limit)) = keeps_looked _ _ _ v w limit.view
-keeps_refused C type_id len v fault w (inr (inr full)) = keeps_looked _ _ _ v w full.view
 
 keeps_tried : (C : ℕ) (type_id : ℤ) (len : ℕ) (ts : List (ℕ × ℕ)) (v w : View) → AreContended C type_id len ts v w
     → Keeps v w

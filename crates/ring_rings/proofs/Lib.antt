@@ -18,4 +18,5 @@ pub mod ReadingHeeds
 pub mod ReadingTurns
 pub mod AcrossLemmas
 pub mod WaitLemmas
+pub mod LeavingLemmas
 pub mod IndexLemmas

@@ -17,6 +17,20 @@ use Rattle.ring_table.specs.Views.{with_claim}
 use Rattle.ring_rings.specs.declared.fault.TryFault.{TryFault}
 use Rattle.ring_rings.specs.declared.fault.TryFault.TheVariants.{Refused, Contended}
 
+-- What a call does, as a relation on the producer's view ------------------------
+
+-- of the capacity, a type id, a length, the view before, the claim in the producer's hands and the view after
+abbrev pub Claiming : Type 1
+Claiming = ℕ → ℤ → ℕ → View → ClaimAt → View → Type 0
+
+-- of the capacity, a type id, a body, the view before and the view after
+abbrev pub Writing : Type 1
+Writing = ℕ → ℤ → List ℕ → View → View → Type 0
+
+-- of the capacity, a type id, a length, the view before, the fault of the try and the view after
+abbrev pub Refusing : Type 1
+Refusing = ℕ → ℤ → ℕ → View → TryFault → View → Type 0
+
 -- Looking ----------------------------------------------------------------------
 
 -- the view with these loads, the greatest tail and the greatest head seen
@@ -122,6 +136,11 @@ pub record IsFullAlone (C : ℕ) (type_id : ℤ) (len : ℕ) (v : View) (fault :
 abbrev pub RefusesAlone : ℕ → ℤ → ℕ → View → ClaimFault → View → Type 0
 RefusesAlone C type_id len v fault w =
     ((tail_refusal_of C v.producer.seen_tail type_id len ≡ Some fault) × (w ≡ v)) ⊎ IsFullAlone C type_id len v fault w
+
+-- the same of a try, with which nobody contends
+abbrev pub RefusesTryAlone : Refusing
+RefusesTryAlone C type_id len v (Refused fault) w = RefusesAlone C type_id len v fault w
+RefusesTryAlone C type_id len v (Contended tail seen) w = ⊥
 
 -- Many producers ---------------------------------------------------------------
 

@@ -46,6 +46,10 @@ pub record IsProducerOf {K : Type 0} (ring : Ring K) (p : Producer) : Type 0 whe
   pub table : p.seat.table_id ≡ ring.table.shared.table_id
   pub capacity : p.seat.me.0.capacity ≡ ring.capacity
 
+-- where the ring is for one producer, this one holds all shares
+abbrev pub MayClaim : Type 0 → Producer → Type 0
+MayClaim is_for_one p = is_for_one → shares_of p ≡ 65536
+
 -- The consumer ---------------------------------------------------------------
 
 -- what its seat knows

@@ -4,13 +4,15 @@
 //! - `producer`: `one_to_one` and `many_to_one` have the calls, `wait` those that try again. A claim is made of
 //!   `admission`, `room`, `claim` (one try), `headers`, `body` and `settle`. `service`: ids, heartbeats and positions.
 //! - `consumer`: `read` has the calls, `turn` one turn of a read, made of `find`, `load` and `pass`. `heartbeat`.
-//! - `source`: what a conductor needs of a ring. `claim`, `fault`: an open claim, and why calls refuse.
+//! - `kind`: how the kinds claim, one as the other. `source`: what a conductor needs of a ring.
+//! - `claim`, `fault`: an open claim, and why calls refuse.
 #![tactic(auto)]
 
 mod claim;
 mod close;
 mod consumer;
 mod fault;
+mod kind;
 mod open;
 mod producer;
 mod ring;
@@ -18,6 +20,7 @@ mod source;
 
 pub use claim::Claim;
 pub use fault::{CloseFault, TryFault};
+pub use kind::Kind;
 pub use ring::{
     CloseRefused, Consumer, ManyToOne, ManyToOneRing, OneToOne, OneToOneRing, Producer, Ring,
 };

@@ -1,86 +1,15 @@
 //! A ring of either kind with its sole producer and its consumer.
-ghost use Rattle.std.specs.Prelude.{◌≡◌, ◌≢◌, IfErr, IfOk};
-ghost use Rattle.ring_words.specs.Open.{ClaimAt};
+ghost use Rattle.std.specs.Prelude.{◌≡◌};
 ghost use Rattle.ring_rings.specs.Seats.{shares_of, IsConsumerOf, IsOpenClaimOf, IsProducerOf};
 
 use crate::script::Script;
 use ring_rings::{
-    Claim, ClaimFault, CloseFault, CloseRefused, Consumer, MakeFault, ManyToOne, OneToOne,
-    Positions, Producer, PutRange, ReadEnd, Ring, Stop, TryFault,
+    Claim, ClaimFault, CloseFault, CloseRefused, Consumer, Kind, MakeFault, Positions, Producer,
+    ReadEnd, Ring, Stop, TryFault,
 };
 use ring_words::SoloRing;
 use std::alloc::Global;
 use std::test::Fail;
-
-/// A kind of ring, with the calls that make claims of it, as a sole producer makes them.
-pub trait Kind: Sized {
-    fn write(
-        ring: &Ring<Self>,
-        producer: &mut Producer,
-        type_id: i32,
-        body: &[u8],
-    ) -> Result<(), TryFault>
-        requires producer { IsProducerOf ring.now producer.old }
-        requires sole { shares_of producer.old ≡ 65536 }
-        ensures producer { IsProducerOf ring.now producer.new }
-        ensures sole { shares_of producer.new ≡ 65536 }
-        ensures claims { (t : ClaimAt) → IsOpenClaimOf ring.now producer.old t
-            → IsOpenClaimOf ring.now producer.new t };
-
-    fn claim(
-        ring: &Ring<Self>,
-        producer: &mut Producer,
-        type_id: i32,
-        len: usize,
-    ) -> Result<Claim, TryFault>
-        requires producer { IsProducerOf ring.now producer.old }
-        requires sole { shares_of producer.old ≡ 65536 }
-        ensures producer { IsProducerOf ring.now producer.new }
-        ensures sole { shares_of producer.new ≡ 65536 }
-        ensures is_open { IfOk result (IsOpenClaimOf ring.now producer.new) }
-        ensures claims { (t : ClaimAt) → IsOpenClaimOf ring.now producer.old t → IsOpenClaimOf ring.now producer.new t }
-        ensures apart { IfOk result (λ new. (t : ClaimAt) → IsOpenClaimOf ring.now producer.old t → t.place ≢ new.place) };
-}
-
-impl Kind for OneToOne {
-    fn write(
-        ring: &Ring<Self>,
-        producer: &mut Producer,
-        type_id: i32,
-        body: &[u8],
-    ) -> Result<(), TryFault> {
-        Ok(ring.write(producer, type_id, body)?)
-    }
-
-    fn claim(
-        ring: &Ring<Self>,
-        producer: &mut Producer,
-        type_id: i32,
-        len: usize,
-    ) -> Result<Claim, TryFault> {
-        Ok(ring.claim(producer, type_id, len)?)
-    }
-}
-
-impl Kind for ManyToOne {
-    fn write(
-        ring: &Ring<Self>,
-        producer: &mut Producer,
-        type_id: i32,
-        body: &[u8],
-    ) -> Result<(), TryFault> {
-        ring.write_once(producer, type_id, body)
-    }
-
-    fn claim(
-        ring: &Ring<Self>,
-        producer: &mut Producer,
-        type_id: i32,
-        len: usize,
-    ) -> Result<Claim, TryFault> {
-        ring.claim_once(producer, type_id, len)
-    }
-}
 
 /// Bytes that are put at an offset into a claim, and whether they fit.
 pub type Fill<'a> = (usize, &'a [u8], bool);
@@ -170,7 +99,7 @@ impl<K: Kind> Bench<K> {
     }
 
     fn commit(&mut self, type_id: i32, len: usize, fills: &[Fill<'_>]) -> Said {
-        match K::claim(&self.ring, &mut self.producer, type_id, len) {
+        match K::claim_once(&self.ring, &mut self.producer, type_id, len) {
             Ok(mut claim) => {
                 let index = claim.index();
                 let filled = fill(&self.ring, &mut self.producer, &mut claim, fills);
@@ -186,7 +115,7 @@ impl<K: Kind> Bench<K> {
     }
 
     fn abort(&mut self, type_id: i32, len: usize) -> Said {
-        match K::claim(&self.ring, &mut self.producer, type_id, len) {
+        match K::claim_once(&self.ring, &mut self.producer, type_id, len) {
             Ok(claim) => {
                 let index = claim.index();
                 self.ring.abort(&mut self.producer, claim);
@@ -197,7 +126,7 @@ impl<K: Kind> Bench<K> {
     }
 
     fn write(&mut self, type_id: i32, body: &[u8]) -> Said {
-        match K::write(&self.ring, &mut self.producer, type_id, body) {
+        match K::write_once(&self.ring, &mut self.producer, type_id, body) {
             Ok(()) => Said::Done,
             Err(fault) => refused(fault),
         }

@@ -1,10 +1,10 @@
 //! Claims that are filled, settled and given up.
 use crate::bench::Call::{Abort, Commit, Read, Write};
+use crate::bench::Fill;
 use crate::bench::Said::{self, Done, Made};
-use crate::bench::{Fill, Kind};
 use crate::play::{PLAY, Play, plays, was_shown};
 use crate::script::{BODY, Script, end};
-use ring_rings::{ManyToOne, OneToOne, ReadEnd, Ring, Stop};
+use ring_rings::{Kind, ManyToOne, OneToOne, ReadEnd, Ring, Stop};
 use std::alloc::Global;
 use std::test::Fail;
 
@@ -24,8 +24,8 @@ fn settles_the_second_first<K: Kind>(
     script: &mut Script<'_>,
 ) -> Result<((u64, u32), [ReadEnd; 2]), Fail> {
     let (ring, mut producer, mut consumer) = Ring::<K>::new_at(alloc, 128, 0)?;
-    let first = K::claim(&ring, &mut producer, 1, 0)?;
-    let second = K::claim(&ring, &mut producer, 2, 0)?;
+    let first = K::claim_once(&ring, &mut producer, 1, 0)?;
+    let second = K::claim_once(&ring, &mut producer, 2, 0)?;
     let lies = (second.place(), second.index());
     ring.commit(&mut producer, second);
     let before = ring.read(&mut consumer, 9, script);
@@ -48,8 +48,8 @@ fn claims_are_settled_in_any_order(rt: HostRuntime) -> Result<(), Fail> {
 /// What is read when the first of two claims was aborted, and the second one committed.
 fn aborts_the_first<K: Kind>(alloc: Global, script: &mut Script<'_>) -> Result<ReadEnd, Fail> {
     let (ring, mut producer, mut consumer) = Ring::<K>::new_at(alloc, 128, 0)?;
-    let first = K::claim(&ring, &mut producer, 1, 0)?;
-    let second = K::claim(&ring, &mut producer, 2, 0)?;
+    let first = K::claim_once(&ring, &mut producer, 1, 0)?;
+    let second = K::claim_once(&ring, &mut producer, 2, 0)?;
     ring.abort(&mut producer, first);
     ring.commit(&mut producer, second);
     Ok(ring.read(&mut consumer, 9, script))
@@ -115,7 +115,7 @@ fn others_and_reads<K: Kind>(
     script: &mut Script<'_>,
 ) -> Result<([u64; 4], [ReadEnd; 3]), Fail> {
     let (ring, mut producer, mut consumer) = Ring::<K>::new_at(alloc, 128, 0)?;
-    let mut claim = K::claim(&ring, &mut producer, 1, 8)?;
+    let mut claim = K::claim_once(&ring, &mut producer, 1, 8)?;
     let others = [
         producer.open_claims(),
         ring.positions(&mut producer).tail,

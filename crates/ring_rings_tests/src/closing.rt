@@ -3,12 +3,12 @@ ghost use Rattle.std.specs.Prelude.{◌≡◌, IfOk};
 ghost use Rattle.ring_rings.specs.Seats.{IsConsumerOf, IsProducerOf};
 
 use crate::bench::Call::{Read, Write};
-use crate::bench::{Call, Kind, Said};
+use crate::bench::{Call, Said};
 use crate::play::{PLAY, Play, plays, was_shown};
 use crate::script::{BODY, Script, end};
 use ring_rings::{
-    ClaimFault, CloseFault, CloseRefused, Consumer, ManyToOne, ManyToOneRing, NoShares, OneToOne,
-    Producer, ReadEnd, Ring, Stop, TryFault,
+    ClaimFault, CloseFault, CloseRefused, Consumer, Kind, ManyToOne, ManyToOneRing, NoShares,
+    OneToOne, Producer, ReadEnd, Ring, Stop, TryFault,
 };
 use std::alloc::Global;
 use std::test::Fail;
@@ -44,7 +44,7 @@ fn closed_late<K: Kind>(
     script: &mut Script<'_>,
 ) -> Result<ReadEnd, Fail> {
     let (ring, mut producer, consumer) = Ring::<K>::new_at(alloc, 128, 0)?;
-    let claim = K::claim(&ring, &mut producer, 1, 0)?;
+    let claim = K::claim_once(&ring, &mut producer, 1, 0)?;
     let open = CloseFault::ClaimsOpen { claims: 1 };
     let back = refused(ring, producer, consumer, open)?;
     let mut back = refused(back.ring, back.producer, back.consumer, open)?;

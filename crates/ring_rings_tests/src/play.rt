@@ -1,7 +1,7 @@
 //! Calls on rings of both kinds, with what each answers and what they leave.
-use crate::bench::{Bench, Call, Kind, Said, closed};
+use crate::bench::{Bench, Call, Said, closed};
 use crate::script::{Script, note};
-use ring_rings::{Action, ManyToOne, OneToOne, Positions};
+use ring_rings::{Action, Kind, ManyToOne, OneToOne, Positions};
 use ring_words::SoloRing;
 use std::alloc::Global;
 use std::process::Abort;

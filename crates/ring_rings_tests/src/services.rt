@@ -1,11 +1,10 @@
 //! Ids, heartbeats and positions.
 use crate::bench::Call::{Capacity, CorrelationId, Heartbeat, Positions, SetHeartbeat};
-use crate::bench::Kind;
 use crate::bench::Said::{At, Done, Number};
 use crate::play::{PLAY, Play, plays};
 use crate::script::end;
 use ring_rings::{
-    Action, Handler, ManyToOne, ManyToOneRing, OneToOne, Producer, ReadEnd, Ring, Stop,
+    Action, Handler, Kind, ManyToOne, ManyToOneRing, OneToOne, Producer, ReadEnd, Ring, Stop,
 };
 use std::alloc::Global;
 use std::test::Fail;
@@ -59,9 +58,9 @@ impl<K> Handler for HeadNotes<'_, K> {
 /// What a handler sees of the head that always answers this.
 fn heads_seen<K: Kind>(alloc: Global, action: Action) -> Result<(ReadEnd, usize, [u64; 3]), Fail> {
     let (ring, mut producer, mut consumer) = Ring::<K>::new_at(alloc, 128, 0)?;
-    K::write(&ring, &mut producer, 1, &[])?;
-    K::write(&ring, &mut producer, 1, &[])?;
-    K::write(&ring, &mut producer, 1, &[])?;
+    K::write_once(&ring, &mut producer, 1, &[])?;
+    K::write_once(&ring, &mut producer, 1, &[])?;
+    K::write_once(&ring, &mut producer, 1, &[])?;
     let mut notes = HeadNotes {
         ring: &ring,
         producer,

@@ -1,9 +1,8 @@
 //! What a client does.
 
 ghost use Rattle.std.specs.Prelude.{◌≡◌, IfErr, IfOk, OnOk};
-ghost use Rattle.ring_words.specs.Open.{ClaimAt};
 ghost use Rattle.ring_table.specs.ServiceSteps.{DrawsId, LoadsHeartbeat};
-ghost use Rattle.ring_rings.specs.Seats.{capacity_of, open_claims_of, shares_of, IsOpenClaimOf, IsProducerOf};
+ghost use Rattle.ring_rings.specs.Seats.{capacity_of, open_claims_of, shares_of, IsProducerOf, KeepsClaims, MayClaim};
 ghost use Rattle.ring_board.specs.Seats.{IsReceiverOf};
 ghost use Rattle.ring_conductor.specs.Asking.{IsHeard, IsSendable, RefusesAs, RefusesSend, Sends, SendsAs};
 ghost use Rattle.ring_conductor.specs.Asking.{client_seat, client_view, producer_of, receiver_of};
@@ -12,7 +11,7 @@ use crate::client::request::Request;
 use crate::client::{Client, Polled, SendFault};
 use ring_board::{Board, CopyReceiver};
 use ring_protocol::{LONGEST_COMMAND, decode_reply, encode_command};
-use ring_rings::{ManyToOneRing, Producer};
+use ring_rings::{Kind, Producer, Ring};
 
 impl Client {
     /// Makes a client of a producer of the command ring and a receiver of the board with the replies.
@@ -41,7 +40,7 @@ impl Client {
     }
 
     /// Draws the correlation id of a command that `send_as` is to send.
-    pub fn next_correlation_id(&mut self, ring: &ManyToOneRing) -> u64
+    pub fn next_correlation_id<K>(&mut self, ring: &Ring<K>) -> u64
         requires { IsProducerOf ring.now (producer_of self.old) }
         ensures producer { IsProducerOf ring.now (producer_of self.new) }
         ensures draws { DrawsId (client_view self.old) result (client_view self.new) }
@@ -55,7 +54,7 @@ impl Client {
     /// Loads the heartbeat that the conductor stores, by one step: 0 where it stored none, and no value before one that
     /// this client loaded. What was sent and heard stays as it was. Whether a conductor that stores none any more lives
     /// is the caller's to judge.
-    pub fn heartbeat(&mut self, ring: &ManyToOneRing) -> u64
+    pub fn heartbeat<K>(&mut self, ring: &Ring<K>) -> u64
         requires { IsProducerOf ring.now (producer_of self.old) }
         ensures producer { IsProducerOf ring.now (producer_of self.new) }
         ensures loads { LoadsHeartbeat (capacity_of ring.now) (client_view self.old) result (client_view self.new) }
@@ -70,21 +69,21 @@ impl Client {
     /// memory.
     ///
     /// It refuses with `TooLong` a command of more than `LONGEST_COMMAND` bytes, and with `Refused` where
-    /// `ManyToOneRing::write_once` does. Nothing was written then, and the call can be made again with the same id.
-    pub fn send_as(
+    /// `Kind::write_once` does. Nothing was written then, and the call can be made again with the same id.
+    pub fn send_as<K: Kind>(
         &mut self,
-        ring: &ManyToOneRing,
+        ring: &Ring<K>,
         correlation: u64,
         request: Request<'_>,
     ) -> Result<(), SendFault>
-        requires { IsProducerOf ring.now (producer_of self.old) }
+        requires producer { IsProducerOf ring.now (producer_of self.old) }
+        requires sole { MayClaim K.is_for_one (producer_of self.old) }
         ensures producer { IsProducerOf ring.now (producer_of self.new) }
-        ensures sent { OnOk result (IsSendable request.entry
-            × SendsAs (capacity_of ring.now) correlation request.entry (client_view self.old) (client_view self.new)) }
-        ensures refused { IfErr result (λ fault. RefusesAs (capacity_of ring.now) correlation request.entry
+        ensures sent { OnOk result (IsSendable request.entry × SendsAs K.writes (capacity_of ring.now) correlation
+            request.entry (client_view self.old) (client_view self.new)) }
+        ensures refused { IfErr result (λ fault. RefusesAs K.refuses (capacity_of ring.now) correlation request.entry
             (client_view self.old) fault (client_view self.new)) }
-        ensures claims { (t : ClaimAt) → IsOpenClaimOf ring.now (producer_of self.old) t
-            → IsOpenClaimOf ring.now (producer_of self.new) t }
+        ensures claims { KeepsClaims ring.now (producer_of self.old) (producer_of self.new) }
         ensures shares { shares_of (producer_of self.new) ≡ shares_of (producer_of self.old) }
         ensures open_claims { open_claims_of (producer_of self.new) ≡ open_claims_of (producer_of self.old) }
         ensures receiver { receiver_of self.new ≡ receiver_of self.old }
@@ -93,7 +92,12 @@ impl Client {
         let Some(len) = encode_command(&command, self.buffer.as_mut_slice()) else {
             return Err(SendFault::TooLong);
         };
-        match ring.write_once(&mut self.producer, command.type_id(), &self.buffer[..len]) {
+        match K::write_once(
+            ring,
+            &mut self.producer,
+            command.type_id(),
+            &self.buffer[..len],
+        ) {
             Ok(()) => Ok(()),
             Err(reason) => Err(SendFault::Refused {
                 correlation,
@@ -106,14 +110,15 @@ impl Client {
     /// and takes no memory.
     ///
     /// It refuses with `TooLong` a command of more than `LONGEST_COMMAND` bytes, for which no id was drawn, and with
-    /// `Refused` where `ManyToOneRing::write_once` does. Nothing was written then; the id, which the refusal gives,
+    /// `Refused` where `Kind::write_once` does. Nothing was written then; the id, which the refusal gives,
     /// stays drawn, and `send_as` can try again with it.
-    pub fn send(&mut self, ring: &ManyToOneRing, request: Request<'_>) -> Result<u64, SendFault>
-        requires { IsProducerOf ring.now (producer_of self.old) }
+    pub fn send<K: Kind>(&mut self, ring: &Ring<K>, request: Request<'_>) -> Result<u64, SendFault>
+        requires producer { IsProducerOf ring.now (producer_of self.old) }
+        requires sole { MayClaim K.is_for_one (producer_of self.old) }
         ensures producer { IsProducerOf ring.now (producer_of self.new) }
-        ensures sent { IfOk result (λ correlation. IsSendable request.entry
-            × Sends (capacity_of ring.now) request.entry (client_view self.old) correlation (client_view self.new)) }
-        ensures refused { IfErr result (λ fault. RefusesSend (capacity_of ring.now) request.entry
+        ensures sent { IfOk result (λ correlation. IsSendable request.entry × Sends K.writes (capacity_of ring.now)
+            request.entry (client_view self.old) correlation (client_view self.new)) }
+        ensures refused { IfErr result (λ fault. RefusesSend K.refuses (capacity_of ring.now) request.entry
             (client_view self.old) fault (client_view self.new)) }
         ensures shares { shares_of (producer_of self.new) ≡ shares_of (producer_of self.old) }
         ensures open_claims { open_claims_of (producer_of self.new) ≡ open_claims_of (producer_of self.old) }

@@ -1,5 +1,5 @@
-use Rattle.ring_board.specs.Seats.{IsReceiverOf}
+use Rattle.ring_conductor.specs.Asking.{IsSeatedAt}
 use Rattle.ring_bench.proofs.trips.set_often.Given as goal
 
 abbrev pub invariant-loop-value : goal.invariant-loop-value
-invariant-loop-value g l = g.S.SharedRing.writes l.ring l.producer × IsReceiverOf l.board l.receiver
+invariant-loop-value g l = IsSeatedAt g.K.Kind.is_for_one l.ring l.board l.client

@@ -1,6 +1,3 @@
-use Rattle.std.proofs.Common.{◌∙◌, ap}
-use Rattle.ring_counters.specs.declared.manager.CountersManager.{CountersManager}
-use Rattle.ring_counters.specs.Manager.{registry_of}
 use Rattle.ring_rings.specs.Seats.{view_of}
 use Rattle.ring_conductor.specs.Conducting.{ring_view}
 use Rattle.ring_conductor.proofs.SeatLemmas.{drawn_once}
@@ -15,15 +12,18 @@ returns g c =
     let knows = view_of hub.producer in
     record {
       hub = hub;
+      of = threads.hub;
+      all = threads.whole;
       few = threads.sent;
-      settled = threads.whole.settled;
       whole = e.whole;
       left = handed_at _ _ _ knows (ring_view hub.conductor) c.in-Ok.finished.rest c.requires.ring.0 c.requires.ring.1
           e.left;
       received = e.received;
       runs = e.runs;
       folded = e.folded;
-      counters = ap (λ (m : CountersManager). registry_of m) e.counters ∙ threads.hub.2;
+      counters = e.counters;
+      replies = e.replies;
+      handed = e.values;
       drawn = e.services.drawn;
       once = drawn_once knows.producer _ threads.hub.3 e.services.once;
       done = threads.done;

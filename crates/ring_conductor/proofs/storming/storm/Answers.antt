@@ -1,16 +1,30 @@
-use Rattle.std.proofs.Common.{◌∙◌, ap, arith}
+use Rattle.std.proofs.Common.{◌≡◌, ◌∙◌, ap, arith}
+use Rattle.ring_counters.specs.declared.manager.CountersManager.{CountersManager}
+use Rattle.ring_counters.specs.Manager.{registry_of}
 use Rattle.ring_counters.specs.Registry.{count_of}
+use Rattle.ring_conductor.specs.declared.storming.plan.StormPlan.{StormPlan}
+use Rattle.ring_conductor.specs.declared.storming.seats.StormEnd.{StormEnd}
+use Rattle.ring_conductor.specs.Storming.{HasFinished, storm_counters}
+use Rattle.ring_rings.specs.declared.ring.Ring.{Ring}
+use Rattle.ring_board.specs.declared.board.Board.{Board}
+use Rattle.ring_counters.specs.declared.values.seats.CounterValues.{CounterValues}
 use Rattle.ring_rings.specs.Reading.{messages_of}
 use Rattle.ring_conductor.specs.Conducting.{received_of}
 use Rattle.ring_conductor.proofs.StormLemmas.{reported, storm_count}
 use Rattle.ring_conductor.proofs.storming.storm.Goals as goal
+
+-- the counters are what the messages taken make of fresh ones
+counted : {K : Type 0} {p : StormPlan} {ring : Ring K} {board : Board} {values : CounterValues} {end : StormEnd}
+    (e : HasFinished p ring board values end)
+    → registry_of end.finished.counters ≡ storm_counters p (messages_of (received_of e.hub.conductor))
+counted e = ap (λ (m : CountersManager). registry_of m) e.counters ∙ e.of.2
 
 pub report-requires : goal.report-requires
 report-requires g c =
     let e = c.run-finished.ensures in
     let lawful = c.is_lawful.ensures.0 c.if-not-is_lawful.false in
     let taken = messages_of (received_of e.hub.conductor) in
-    let counted = ap count_of e.counters ∙ storm_count c.args.plan.now taken in
+    let count = ap count_of (counted e) ∙ storm_count c.args.plan.now taken in
     omega (arith, lawful.clients.1)
 
 pub returns-in-None-clause-report : goal.returns-in-None-clause-report
@@ -22,14 +36,14 @@ returns-in-None-clause-report g c =
       lawful = c.is_lawful.ensures.0 c.if-not-is_lawful.false;
       out = e.left;
       whole = e.whole;
-      settled = e.settled;
+      settled = e.all.settled;
       few = e.few;
       done = done.0;
       turns = done.2;
       drawn = e.drawn;
       once = e.once;
       runs = e.runs;
-      counters_are = e.counters;
+      counters_are = counted e;
       writes = _;
       folded = e.folded;
     } c.report.result _ _ e.received done.1 said.received said.left said.live said.sum

@@ -1,10 +1,9 @@
 use Rattle.std.proofs.Common.{◌∙◌, refl, ap, length}
 use Rattle.ring_conductor.proofs.AskingLemmas.{too_long, encoded, spelled, of_type, written_as, refused_as}
-use Rattle.ring_conductor.proofs.SendingLemmas.{tried}
 use Rattle.ring_conductor.proofs.client.Client.send_as.Goals as goal
 
 pub returns-in_default-clause-refused : goal.returns-in_default-clause-refused
-returns-in_default-clause-refused c =
+returns-in_default-clause-refused g c =
     let is = c.with_correlation-command.ensures in (
       too_long c.args.request c.args.correlation _ _ _ _ is
           (ap length c.as_mut_slice.ensures.value ∙ c.args.self.now.wide) c.encode_command.ensures c.in_default.is,
@@ -12,22 +11,18 @@ returns-in_default-clause-refused c =
     )
 
 pub returns-in-Ok-clause-sent : goal.returns-in-Ok-clause-sent
-returns-in-Ok-clause-sent c =
+returns-in-Ok-clause-sent g c =
     let is = c.with_correlation-command.ensures in let r = c.args.request in let a = c.args.correlation in (
       encoded r a _ _ _ _ is (ap length c.as_mut_slice.ensures.value ∙ c.args.self.now.wide) c.in-Some.ensures,
-      written_as _ _ _ _ _ _ _ (of_type r a _ _ is c.type_id.ensures)
+      written_as g.K.Kind.writes _ _ _ _ _ _ _ (of_type r a _ _ is c.type_id.ensures)
           (spelled r a _ _ _ _ is c.in-Some.ensures) c.in-Ok.ensures.written,
     )
 
-pub returns-in-Ok-clause-open_claims : goal.returns-in-Ok-clause-open_claims
-returns-in-Ok-clause-open_claims c =
-    (tried _ _ _ _ _ c.write_once.result c.write_once.ensures.written c.write_once.ensures.refused).open_claims
-
 pub returns-in-Err-clause-refused : goal.returns-in-Err-clause-refused
-returns-in-Err-clause-refused c =
+returns-in-Err-clause-refused g c =
     let is = c.with_correlation-command.ensures in let r = c.args.request in let a = c.args.correlation in (
       encoded r a _ _ _ _ is (ap length c.as_mut_slice.ensures.value ∙ c.args.self.now.wide) c.in-Some.ensures,
       refl,
-      refused_as _ _ _ _ _ _ _ _ (of_type r a _ _ is c.type_id.ensures)
+      refused_as g.K.Kind.refuses _ _ _ _ _ _ _ _ (of_type r a _ _ is c.type_id.ensures)
           (ap length (spelled r a _ _ _ _ is c.in-Some.ensures)) c.in-Err.ensures.refused,
     )

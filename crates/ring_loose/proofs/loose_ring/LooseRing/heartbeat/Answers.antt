@@ -1,6 +1,6 @@
 use Rattle.std.proofs.Common.{refl}
 use Rattle.ring_loose.proofs.LooseLemmas.{same_seats}
-use Rattle.ring_loose.proofs.TryLemmas.{keeps_as}
+use Rattle.ring_rings.proofs.LeavingLemmas.{keeps_as}
 use Rattle.ring_loose.proofs.loose_ring.LooseRing.heartbeat.Goals as goal
 
 pub invariant_of-self : goal.invariant_of-self

@@ -7,7 +7,7 @@ use Rattle.ring_conductor.specs.Finishing.{joined_by}
 use Rattle.ring_conductor.specs.Storming.{sent_by}
 use Rattle.ring_conductor.specs.Asking.{service_of, services_of}
 use Rattle.ring_conductor.proofs.SeatLemmas.{joins_service}
-use Rattle.ring_conductor.proofs.SendingLemmas.{gathered}
+use Rattle.ring_conductor.proofs.GatheringLemmas.{gathered}
 use Rattle.ring_conductor.proofs.storming.shared.Shared.join_client.Goals as goal
 
 pub returns-clause-claims : goal.returns-clause-claims

@@ -1,0 +1,78 @@
+-- What a write or a refused try leaves of a producer's view.
+use Rattle.std.proofs.Common.{Result, Ok, Err, OnOk, IfErr, ◌≡◌, ◌∙◌, ℕ, ℤ, List, [], ◌∷◌, ◌++◌, length, refl, ap, inl, inr, arith}
+use Rattle.ring_words.specs.declared.fault.ClaimFault.{ClaimFault}
+use Rattle.ring_table.specs.declared.claim.StagedClaim.{StagedClaim}
+use Rattle.ring_table.specs.declared.view.View.{View}
+use Rattle.ring_table.specs.OpenClaims.{open_count}
+use Rattle.ring_table.specs.Views.{with_claim}
+use Rattle.ring_rings.specs.Claiming.{Refuses, RefusesTry, Writes, WritesAlone, looked, record_behind}
+use Rattle.ring_rings.specs.declared.fault.TryFault.{TryFault}
+use Rattle.ring_rings.specs.declared.fault.TryFault.TheVariants.{Refused, Contended}
+use Rattle.ring_rings.proofs.CountLemmas.{open_count-more}
+
+-- shares and claims stay
+pub record Keeps (v w : View) : Type 0 where
+  pub shares : w.producer.shares ≡ v.producer.shares
+  pub claims : w.producer.claims ≡ v.producer.claims
+
+-- the shares stay, and one claim comes
+pub record Gains (c : StagedClaim) (v w : View) : Type 0 where
+  pub shares : w.producer.shares ≡ v.producer.shares
+  pub claims : w.producer.claims ≡ v.producer.claims ++ c ∷ []
+
+-- a view with the same shares and claims
+pub keeps_as : (v u w : View) → w ≡ u → u.producer.shares ≡ v.producer.shares → u.producer.claims ≡ v.producer.claims
+    → Keeps v w
+keeps_as v u w is shares claims = record {
+  shares = ap (λ (x : View). x.producer.shares) is
+      ∙ shares;
+  claims = ap (λ (x : View). x.producer.claims) is ∙ claims;
+}
+
+pub keeps_looked : (loads : List (ℕ × ℕ)) (tail head : ℕ) (v w : View) → w ≡ looked loads tail head v → Keeps v w
+keeps_looked loads tail head v w is = keeps_as v (looked loads tail head v) w is refl refl
+
+pub gains_looked : (c : StagedClaim) (end : ℕ) (loads : List (ℕ × ℕ)) (tail head : ℕ) (v w : View)
+    → w ≡ with_claim c end (looked loads tail head v) → Gains c v w
+gains_looked c end loads tail head v w is =
+    record { shares = ap (λ (u : View). u.producer.shares) is; claims = ap (λ (u : View). u.producer.claims) is }
+
+-- Refused ------------------------------------------------------------------------
+
+pub keeps_refused : (C : ℕ) (type_id : ℤ) (len : ℕ) (v : View) (fault : ClaimFault) (w : View)
+    → Refuses C type_id len v fault w → Keeps v w
+keeps_refused C type_id len v fault w (inl at_once) = keeps_as v v w at_once.1 refl refl
+keeps_refused C type_id len v fault w (inr (inl limit)) = keeps_looked _ _ _ v w limit.view
+keeps_refused C type_id len v fault w (inr (inr full)) = keeps_looked _ _ _ v w full.view
+
+keeps_try : (C : ℕ) (type_id : ℤ) (len : ℕ) (v : View) (fault : TryFault) (w : View)
+    → RefusesTry C type_id len v fault w → Keeps v w
+keeps_try C type_id len v (Refused fault) w h = keeps_refused C type_id len v fault w h
+keeps_try C type_id len v (Contended tail seen) w h = keeps_looked _ _ _ v w h.view
+
+-- Written ------------------------------------------------------------------------
+
+-- the claim that comes is not open, so as many are open as before
+as_many_open : (v w : View) (c : StagedClaim) → open_count (c ∷ []) ≡ 0 → Gains c v w
+    → open_count w.producer.claims ≡ open_count v.producer.claims
+as_many_open v w c settled gained =
+    let counted = ap open_count gained.claims ∙ open_count-more v.producer.claims c in
+    let old : ℕ = open_count v.producer.claims in
+    let new : ℕ = open_count w.producer.claims in
+    omega (arith, counted, settled)
+
+-- after one try to write
+pub open_tried : {T : Type 0} (r : Result T TryFault) (C : ℕ) (type_id : ℤ) (body : List ℕ) (v w : View)
+    → OnOk r (Writes C type_id body v w) → IfErr r (λ fault. RefusesTry C type_id (length body) v fault w)
+    → open_count w.producer.claims ≡ open_count v.producer.claims
+open_tried (Ok done) C type_id body v w written refused =
+    as_many_open v w (record_behind C written.tail type_id body) refl
+    (gains_looked _ _ _ written.tail written.head v w written.view)
+open_tried (Err fault) C type_id body v w written refused =
+    ap open_count (keeps_try C type_id (length body) v fault w refused).claims
+
+pub open_written_alone : (C : ℕ) (type_id : ℤ) (body : List ℕ) (v w : View) → WritesAlone C type_id body v w
+    → open_count w.producer.claims ≡ open_count v.producer.claims
+open_written_alone C type_id body v w written =
+    as_many_open v w (record_behind C v.producer.seen_tail type_id body) refl
+    (gains_looked _ _ _ v.producer.seen_tail written.head v w written.view)
