@@ -5,7 +5,9 @@ use crate::talk::{Call, Said, Talk};
 use ring_board::{Board, Lapped};
 use ring_conductor::Polled::{Another, Answered, Nothing};
 use ring_conductor::{Client, Command, Polled, Reply, Request, WorkStop, encode_command};
-use ring_rings::ManyToOneRing;
+use ring_rings::{Kind, ManyToOne, ManyToOneRing, OneToOne};
+use std::alloc::Global;
+use std::process::Abort;
 use std::test::Fail;
 
 const ASKED: [(Call<'static>, Said); 14] = [
@@ -67,12 +69,17 @@ const ASKED: [(Call<'static>, Said); 14] = [
     (Call::Value(0), Said::Value(Ok(-3))),
 ];
 
-#[test]
-fn each_request_is_the_command_with_the_drawn_id(rt: HostRuntime) -> Result<(), Fail> {
-    let mut talk = Talk::new(rt.alloc(), 1024, 256)?;
-    talk.goes(&rt, &ASKED);
+fn asks_each<K: Kind>(rt: &impl Abort, alloc: Global) -> Result<(), Fail> {
+    let mut talk = Talk::<K>::new(alloc, 1024, 256)?;
+    talk.goes(rt, &ASKED);
     assert_eq!(rt; talk.finish()?.received, 5);
     Ok(())
+}
+
+#[test]
+fn each_request_is_the_command_with_the_drawn_id(rt: HostRuntime) -> Result<(), Fail> {
+    asks_each::<ManyToOne>(&rt, rt.alloc())?;
+    asks_each::<OneToOne>(&rt, rt.alloc())
 }
 
 /// A command to set, whose record takes 32 bytes of the ring.
@@ -101,13 +108,12 @@ const LAST: [(Call<'static>, Said); 3] = [
     (Call::NextId, Id(9)),
 ];
 
-#[test]
-fn a_refused_command_can_be_sent_again_with_its_id(rt: HostRuntime) -> Result<(), Fail> {
-    let mut talk = Talk::new(rt.alloc(), 256, 1024)?;
+fn sends_again<K: Kind>(rt: &impl Abort, alloc: Global) -> Result<(), Fail> {
+    let mut talk = Talk::<K>::new(alloc, 256, 1024)?;
     for id in 0..8 {
         assert_eq!(rt; talk.made(Send(SET)), Id(id));
     }
-    talk.goes(&rt, &AGAIN);
+    talk.goes(rt, &AGAIN);
     assert_eq!(rt; talk.made(Work(9)), Said::Worked(1, WorkStop::Unpublished));
     for correlation in 0..8 {
         let refused = Reply::Refused {
@@ -116,8 +122,14 @@ fn a_refused_command_can_be_sent_again_with_its_id(rt: HostRuntime) -> Result<()
         };
         assert_eq!(rt; talk.made(Poll(8)), Said::Polled(Another(refused)));
     }
-    talk.goes(&rt, &LAST);
+    talk.goes(rt, &LAST);
     Ok(())
+}
+
+#[test]
+fn a_refused_command_can_be_sent_again_with_its_id(rt: HostRuntime) -> Result<(), Fail> {
+    sends_again::<ManyToOne>(&rt, rt.alloc())?;
+    sends_again::<OneToOne>(&rt, rt.alloc())
 }
 
 /// A heartbeat is the last that was stored, and neither a command nor a reply changes it.
@@ -134,7 +146,7 @@ const BEATS: [(Call<'static>, Said); 8] = [
 
 #[test]
 fn a_client_loads_the_last_heartbeat(rt: HostRuntime) -> Result<(), Fail> {
-    let mut talk = Talk::new(rt.alloc(), 256, 256)?;
+    let mut talk = Talk::<ManyToOne>::new(rt.alloc(), 256, 256)?;
     talk.goes(&rt, &BEATS);
     Ok(())
 }
@@ -150,7 +162,7 @@ fn owned<'a>(key: &'a [u8], label: &'a [u8]) -> Request<'a> {
 
 #[test]
 fn no_id_is_drawn_for_a_command_that_is_too_long(rt: HostRuntime) -> Result<(), Fail> {
-    let mut talk = Talk::new(rt.alloc(), 8192, 256)?;
+    let mut talk = Talk::<ManyToOne>::new(rt.alloc(), 8192, 256)?;
     let (key, label) = ([1; 112], [b'l'; 381]);
     let long = owned(&key, &label);
     let said = [
@@ -198,7 +210,7 @@ const LAPPED: [(Call<'static>, Said); 4] = [
 
 #[test]
 fn a_client_is_told_that_it_was_lapped(rt: HostRuntime) -> Result<(), Fail> {
-    let mut talk = Talk::new(rt.alloc(), 1024, 256)?;
+    let mut talk = Talk::<ManyToOne>::new(rt.alloc(), 1024, 256)?;
     for id in 0..11 {
         assert_eq!(rt; talk.made(Send(Request::Free { id: 0 })), Id(id));
     }

@@ -1,5 +1,5 @@
 //! A client that talks to a conductor, with all that both need.
-ghost use Rattle.ring_rings.specs.Seats.{IsConsumerOf, IsProducerOf};
+ghost use Rattle.ring_rings.specs.Seats.{IsConsumerOf, IsProducerOf, MayClaim};
 ghost use Rattle.ring_board.specs.Seats.{IsReceiverOf};
 ghost use Rattle.ring_conductor.specs.Asking.{producer_of, receiver_of};
 ghost use Rattle.ring_conductor.specs.Conducting.{IsConductorOf};
@@ -9,7 +9,7 @@ use ring_conductor::{
     Client, Conductor, FinishFault, Finished, Polled, Request, SendFault, Work, WorkStop, finish,
 };
 use ring_counters::{CounterValues, CountersManager, IdFault};
-use ring_rings::{ClaimFault, ManyToOneRing, TryFault};
+use ring_rings::{ClaimFault, Kind, Ring, TryFault};
 use std::alloc::Global;
 use std::process::Abort;
 use std::test::Fail;
@@ -55,23 +55,24 @@ fn refused(fault: SendFault) -> Said {
     }
 }
 
-/// A client and a conductor of four counters, whose ids are given again after 50 ms.
+/// A client on a ring of either kind, and a conductor of four counters, whose ids are given again after 50 ms.
 #[derive(Drop)]
-pub struct Talk {
-    ring: ManyToOneRing,
+pub struct Talk<K: Kind> {
+    ring: Ring<K>,
     board: Board,
     values: CounterValues,
     conductor: Conductor,
     client: Client,
     ghost conducts: { IsConductorOf IsConsumerOf ring board values conductor },
     ghost sends: { IsProducerOf ring (producer_of client) },
+    ghost sole: { MayClaim K.is_for_one (producer_of client) },
     ghost listens: { IsReceiverOf board (receiver_of client) },
 }
 
-impl Talk {
+impl<K: Kind> Talk<K> {
     /// With a ring and a board of these capacities.
     pub fn new(alloc: Global, ring: u32, board: u32) -> Result<Self, Fail> {
-        let (ring, producer, consumer) = ManyToOneRing::new(alloc, ring)?;
+        let (ring, producer, consumer) = Ring::new(alloc, ring)?;
         let (board, transmitter) = Board::new(alloc, board)?;
         let (values, counters) = CountersManager::new(alloc, 4, 50)?;
         let mut conductor = Conductor::new(consumer, transmitter, counters);
