@@ -4,11 +4,11 @@ ghost use Rattle.ring_rings.specs.Seats.{shares_of, IsConsumerOf, IsProducerOf};
 ghost use Rattle.ring_board.specs.Seats.{IsReceiverOf};
 ghost use Rattle.ring_conductor.specs.Conducting.{IsConductorOf};
 
-use crate::sending::{Kind, hears, send};
+use crate::sending::{hears, send};
 use ring_board::{Board, CopyReceiver};
 use ring_conductor::{Command, Conductor, Cycle, FinishFault, Finished, Reply, Work};
 use ring_counters::{CounterValues, CountersManager, IdFault};
-use ring_rings::{Producer, Ring, TryFault};
+use ring_rings::{Kind, Producer, Ring, TryFault};
 use std::alloc::Global;
 use std::test::Fail;
 
@@ -57,7 +57,7 @@ impl<K: Kind> Bench<K> {
 
     /// Sends bytes that may be no command.
     pub fn write(&mut self, type_id: i32, body: &[u8]) -> Result<(), TryFault> {
-        K::write(&self.ring, &mut self.producer, type_id, body)
+        K::write_once(&self.ring, &mut self.producer, type_id, body)
     }
 
     pub fn run(&mut self, cycles: &[Cycle]) -> Work

@@ -1,8 +1,8 @@
 //! What the conductor does with commands, on rings of both kinds.
 use crate::bench::Bench;
-use crate::sending::{Kind, refused, work};
+use crate::sending::{refused, work};
 use ring_conductor::{Command, Cycle, FinishFault, Reply, WorkStop};
-use ring_rings::{ManyToOne, OneToOne};
+use ring_rings::{Kind, ManyToOne, OneToOne};
 use std::alloc::Global;
 use std::process::Abort;
 use std::test::Fail;

@@ -1,8 +1,8 @@
 //! The conductor's heartbeat, as clients load it.
 use crate::bench::Bench;
-use crate::sending::{Kind, work};
+use crate::sending::work;
 use ring_conductor::WorkStop;
-use ring_rings::{ManyToOne, OneToOne};
+use ring_rings::{Kind, ManyToOne, OneToOne};
 use std::alloc::Global;
 use std::process::Abort;
 use std::test::Fail;

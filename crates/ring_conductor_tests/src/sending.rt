@@ -5,44 +5,8 @@ ghost use Rattle.ring_board.specs.Seats.{IsReceiverOf};
 
 use ring_board::{Board, Copied, CopyReceiver, Lapped};
 use ring_conductor::{Command, Reply, Work, WorkStop, decode_reply, encode_command};
-use ring_rings::{ManyToOne, OneToOne, Producer, Ring, TryFault};
+use ring_rings::{Kind, Producer, Ring};
 use std::test::Fail;
-
-/// A kind of ring, as a sole producer writes into it.
-pub trait Kind: Sized {
-    fn write(
-        ring: &Ring<Self>,
-        producer: &mut Producer,
-        type_id: i32,
-        body: &[u8],
-    ) -> Result<(), TryFault>
-        requires producer { IsProducerOf ring.now producer.old }
-        requires sole { shares_of producer.old ≡ 65536 }
-        ensures producer { IsProducerOf ring.now producer.new }
-        ensures sole { shares_of producer.new ≡ 65536 };
-}
-
-impl Kind for OneToOne {
-    fn write(
-        ring: &Ring<Self>,
-        producer: &mut Producer,
-        type_id: i32,
-        body: &[u8],
-    ) -> Result<(), TryFault> {
-        Ok(ring.write(producer, type_id, body)?)
-    }
-}
-
-impl Kind for ManyToOne {
-    fn write(
-        ring: &Ring<Self>,
-        producer: &mut Producer,
-        type_id: i32,
-        body: &[u8],
-    ) -> Result<(), TryFault> {
-        ring.write_once(producer, type_id, body)
-    }
-}
 
 /// Sends the commands, one after another.
 pub fn send<K: Kind>(
@@ -59,7 +23,7 @@ pub fn send<K: Kind>(
     for command in commands {
         let len = encode_command(command, &mut bytes).ok_or("no room for a command")?;
         let body = bytes.get(..len).ok_or("no such bytes")?;
-        K::write(ring, producer, command.type_id(), body)?;
+        K::write_once(ring, producer, command.type_id(), body)?;
     }
     Ok(())
 }
