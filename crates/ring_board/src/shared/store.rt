@@ -32,7 +32,8 @@ impl Board {
     /// The index of a word of the trailer.
     pub(crate) fn trailer_index(&self, word: usize) -> usize
         requires { word < 16 }
-        ensures { result ≡ self.now.capacity / 8 + word }
+        ensures lies { result ≡ self.now.table.shared.key.capacity / 8 + word }
+        ensures inside { result < self.now.table.shared.table_id.words }
     {
         self.capacity as usize / 8 + word
     }

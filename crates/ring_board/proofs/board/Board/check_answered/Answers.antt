@@ -1,12 +1,10 @@
-use Rattle.std.proofs.Common.{rules, ◌≡◌, ◌/◌, sym, ◌∙◌, arith}
+use Rattle.std.proofs.Common.{rules, ◌∙◌, add-zero, sym}
 use Rattle.ring_board.proofs.BodyLemmas.{checks_answered}
 use Rattle.ring_board.proofs.board.Board.check_answered.Goals as goal
 
 pub load-requires : goal.load-requires
-load-requires c =
-    let is = c.args.self.now.key in let index = c.trailer_index.ensures in let wide = c.args.self.now.wide.0 in (
-      search rules,
-      omega arith,
-      checks_answered _ _ _ _ _ _ c.requires.stage.0 (c.requires.stage.1 ∙ sym is)
-          (let g : c.trailer_index.result ≡ c.args.self.now.table.shared.key.capacity / 8 = omega arith in g),
-    )
+load-requires c = (
+  search rules,
+  c.trailer_index.ensures.inside,
+  checks_answered _ _ _ _ _ _ c.requires.stage.0 (c.requires.stage.1 ∙ sym c.args.self.now.key) (c.trailer_index.ensures.lies ∙ add-zero _),
+)

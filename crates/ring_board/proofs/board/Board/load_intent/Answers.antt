@@ -1,12 +1,10 @@
-use Rattle.std.proofs.Common.{rules, ◌≡◌, ◌/◌, arith}
+use Rattle.std.proofs.Common.{rules, ◌∙◌, add-zero}
 use Rattle.ring_board.proofs.ReceiveLemmas.{loads_intent}
 use Rattle.ring_board.proofs.board.Board.load_intent.Goals as goal
 
 pub load-requires : goal.load-requires
-load-requires c =
-    let is = c.args.self.now.key in let index = c.trailer_index.ensures in let wide = c.args.self.now.wide.0 in (
-      search rules,
-      omega arith,
-      loads_intent _ _ _ _ _ _ c.requires.loaded
-          (let g : c.trailer_index.result ≡ c.args.self.now.table.shared.key.capacity / 8 = omega arith in g),
-    )
+load-requires c = (
+  search rules,
+  c.trailer_index.ensures.inside,
+  loads_intent _ _ _ _ _ _ c.requires.loaded (c.trailer_index.ensures.lies ∙ add-zero _),
+)

@@ -1,13 +1,10 @@
-use Rattle.std.proofs.Common.{rules, ◌≡◌, ◌+◌, ◌/◌, sym, arith}
+use Rattle.std.proofs.Common.{rules}
 use Rattle.ring_board.proofs.TransmitLemmas.{stores_tail}
 use Rattle.ring_board.proofs.board.Board.store_tail.Goals as goal
 
 pub store-requires : goal.store-requires
-store-requires c =
-    let is = sym c.args.self.now.key in let index = c.trailer_index.ensures in let wide = c.args.self.now.wide.0 in (
-      search rules,
-      omega arith,
-      stores_tail _ _ _ _ _ _ _ c.requires.stage.0 c.requires.stage.1
-          (let g : c.trailer_index.result ≡ c.args.self.now.table.shared.key.capacity / 8 + 1 = omega arith in g)
-          c.requires.stage.2,
-    )
+store-requires c = let stage = c.requires.stage in (
+  search rules,
+  c.trailer_index.ensures.inside,
+  stores_tail _ _ _ _ _ _ _ stage.0 stage.1 c.trailer_index.ensures.lies stage.2,
+)
