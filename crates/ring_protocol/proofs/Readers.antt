@@ -1,5 +1,5 @@
 -- A field that is read is the field that was written, and what was written is read again.
-use Rattle.std.proofs.Common.{◌≡◌, ℕ, ℤ, ◌^◌, ◌<◌, ◌≤◌, Bool, true, false, cond, ltb, eqb, List, [], ◌++◌, length, get_or, take, drop, Option, Some, None, FitsSigned, Fits, refl, sym, ap, subst, ◌∙◌, append_assoc, arith, inl, inr}
+use Rattle.std.proofs.Common.{◌≡◌, ℕ, ℤ, ◌^◌, ◌<◌, ◌≤◌, Bool, true, false, cond, ltb, eqb, List, [], ◌++◌, length, get_or, take, drop, Option, Some, None, Ok, FitsSigned, Fits, refl, sym, ap, subst, ◌∙◌, append_assoc, arith, inl, inr}
 use Rattle.std.specs.Int.{Width, w32, w64, to_le_bytes, from_le_bytes, cast_signed, cast_unsigned}
 use Rattle.std.proofs.Math.Facts.{sfits_to_z, Fits-of_z, of_z-to_z, to_z-of_z}
 use Rattle.std.proofs.lemmas.Bool.{cases_lt, ltb-false, le-ltb, eqb-true}
@@ -7,6 +7,7 @@ use Rattle.std.proofs.lemmas.List.{take_at, drop_at, take-append-drop, length-ap
 use Rattle.std.proofs.lemmas.List.Elements.{All-take, All-drop, All-get_or}
 use Rattle.std.proofs.lemmas.Option.{cond_some}
 use Rattle.std.proofs.lemmas.Nat.{le_bytes_4, le_bytes_8, from_le_bytes-to_le_bytes_4, from_le_bytes-to_le_bytes_8}
+use Rattle.ring_protocol.specs.Bad.{or_malformed}
 use Rattle.ring_protocol.specs.Field.{AreBytes, IsSized, Reader, ◌>>=◌, ◌⊗◌, whole, u32_field, u64_field, i32_field, i64_field, sized_field, u32_at, u64_at, i32_at, i64_at, sized_at}
 
 -- what a reader took from the front of bytes
@@ -191,19 +192,32 @@ both_readers {A} {B} P Q f g first second is then = record {
       ∙ rw (is.again v.0 (g v.1 ++ rest) h.0, then.again v.1 rest h.1) refl;
 }
 
+-- a correlation id and one more number
+pub u32_after : IsReaderOf (λ (v : ℕ × ℕ). (v.0 < 2 ^ 64) × (v.1 < 2 ^ 32)) (λ v. u64_field v.0 ++ u32_field v.1)
+    (u64_at ⊗ u32_at)
+u32_after = both_readers _ _ _ _ _ _ u64_reader u32_reader
+
+pub i32_after : IsReaderOf (λ (v : ℕ × ℤ). (v.0 < 2 ^ 64) × FitsSigned w32 v.1) (λ v. u64_field v.0 ++ i32_field v.1)
+    (u64_at ⊗ i32_at)
+i32_after = both_readers _ _ _ _ _ _ u64_reader i32_reader
+
 -- ---- all of the bytes
 
-pub whole_takes : {V X : Type 0} (P : V → Type 0) (field : V → List ℕ) (reader : Reader V) → IsReaderOf P field reader
-    → (made : V → X) (body : List ℕ) (x : X) → AreBytes body → whole made reader body ≡ Some x
-    → (v : V) × P v × (body ≡ field v) × (made v ≡ x)
-whole_takes {V} {X} P field reader is made body x fit e =
+-- what is read of them is what they spell
+pub whole_takes : {V X : Type 0} {P : V → Type 0} {field : V → List ℕ} {reader : Reader V} → IsReaderOf P field reader
+    → (made : V → X) (Spells : List ℕ → X → Type 0) → ((v : V) → P v → Spells (field v) (made v))
+    → (body : List ℕ) (x : X) → AreBytes body → whole made reader body ≡ Some x → Spells body x
+whole_takes {V} {X} {P} {field} {reader} is made Spells spelled body x fit e =
     let a = bind_some (reader body) (λ v. cond (eqb (length v.1) 0) (Some (made v.0)) None) x e in
     let t = is.takes body a.0 fit a.1 in
     let g = cond_some (eqb (length a.0.1) 0) (made a.0.0) x a.2 in
     let nothing : a.0.1 ≡ [] = nil_from_length a.0.1 (eqb-true _ _ g.0) in
-    (a.0.0, t.in_range, t.parts ∙ ap (λ (r : List ℕ). field a.0.0 ++ r) nothing ∙ append-nil (field a.0.0), g.1)
+    let parts = t.parts ∙ ap (λ (r : List ℕ). field a.0.0 ++ r) nothing ∙ append-nil (field a.0.0) in
+    subst (Spells body) g.1 (subst (λ (b : List ℕ). Spells b (made a.0.0)) (sym parts) (spelled a.0.0 t.in_range))
 
-pub whole_again : {V X : Type 0} (P : V → Type 0) (field : V → List ℕ) (reader : Reader V) → IsReaderOf P field reader
-    → (made : V → X) (v : V) → P v → whole made reader (field v) ≡ Some (made v)
-whole_again {V} {X} P field reader is made v h =
-    ap (λ (b : List ℕ). whole made reader b) (sym (append-nil (field v))) ∙ rw (is.again v [] h) refl
+-- what they spell is read of them
+pub whole_again : {V X : Type 0} {P : V → Type 0} {field : V → List ℕ} {reader : Reader V} → IsReaderOf P field reader
+    → (made : V → X) (v : V) → P v → or_malformed (field v) (whole made reader (field v)) ≡ Ok (made v)
+whole_again {V} {X} {P} {field} {reader} is made v h =
+    ap (λ (b : List ℕ). or_malformed (field v) (whole made reader b)) (sym (append-nil (field v)))
+    ∙ rw (is.again v [] h) refl
