@@ -33,6 +33,12 @@ messages_in-append : (a b : List Record) → messages_in (a ++ b) ≡ messages_i
 messages_in-append [] b = refl
 messages_in-append (r ∷ a) b = ap (λ l. r.message ∷ l) (messages_in-append a b)
 
+-- the same by its parts
+pub account_as : (l : Ledger) {registry : Registry} {writes : List ValueWrite} {sent : List Record}
+    → l.registry ≡ registry → l.writes ≡ writes → l.board.sent ≡ sent
+    → account_in l ≡ record { registry = registry; writes = writes; replies = messages_in sent }
+account_as l r w s = λ i. record { registry = r i; writes = w i; replies = messages_in (s i) }
+
 entered_once : (l : Ledger) (now : ℕ) (m : Message) → account_in (served l now m) ≡ entered (account_in l) now m
 entered_once l now m =
     let o = applied now l.registry m in

@@ -1,18 +1,18 @@
 -- A controlled read by the conductor's handler is work.
-use Rattle.std.proofs.Common.{◌≡◌, ◌∙◌, ℕ, ◌+◌, ◌*◌, ◌<◌, ◌≤◌, length, length-append, sym, ap, subst, inl, inr, arith}
+use Rattle.std.proofs.Common.{◌≡◌, ◌∙◌, ℕ, ◌+◌, ◌*◌, ◌<◌, ◌≤◌, ◌⊎◌, length, length-append, sym, ap, subst, inl, inr, arith}
 use Rattle.ring_words.specs.declared.read.end.ReadEnd.{ReadEnd}
 use Rattle.ring_words.specs.declared.read.end.Stop.{Stop}
 use Rattle.ring_words.specs.declared.read.end.Stop.TheVariants.{Limit, Block, Unpublished, Action}
 use Rattle.ring_words.specs.Read.{stop_of}
 use Rattle.ring_layout.specs.Handles.{Handles}
 use Rattle.ring_table.specs.declared.view.View.{View}
-use Rattle.ring_rings.specs.Reading.{Controls, WentOn, Broke, Aborts, FoundUnsettled, messages_of}
+use Rattle.ring_rings.specs.Reading.{Controls, WentOn, Broke, Aborts, FoundUnsettled, Reads, messages_of}
 use Rattle.ring_conductor.specs.declared.conductor.serve.Serving.{Serving}
 use Rattle.ring_conductor.specs.declared.conductor.Work.{Work}
 use Rattle.ring_conductor.specs.declared.conductor.WorkStop.TheVariants as work
 use Rattle.ring_conductor.specs.Fold.{Ledger}
 use Rattle.ring_conductor.specs.Serving.{IsSameHandler, ActsOn, IsAtEnd, ledger_of}
-use Rattle.ring_conductor.specs.Conducting.{Works, work_stop}
+use Rattle.ring_conductor.specs.Conducting.{IsCutOff, IsReadOut, Works, work_stop}
 use Rattle.ring_conductor.proofs.FoldLemmas.{Folds, folded, left, never_breaks, answered, lengths}
 
 is_unpublished : (stop : Stop) → work_stop stop ≡ work.Unpublished → stop ≡ Unpublished
@@ -55,55 +55,38 @@ module _ (limit : ℕ) (v w : View) (s t : Serving) (end : ReadEnd) (done : Work
   abbrev Done : Type 0
   Done = Works s.now limit v w (ledger_of s) (ledger_of t) done
 
-  went_on : WentOn ActsOn limit v w s t end → Done
-  went_on on =
-      let f = folds_on limit v w s t end on in
-      record {
-        messages = on.reads.messages;
-        counted = r.messages ∙ on.reads.counted;
-        few = subst (λ n. n ≤ limit) on.reads.counted r.within;
-        received = on.reads.taken;
-        moves = on.reads.moves;
-        tight = λ e. on.reads.tight (sym r.messages ∙ e);
-        folded = f.1;
-        had_room = f.2;
-        stops = inl (record {
-          bytes = end.bytes;
-          moved = r.bytes;
-          stopped = r.stopped ∙ ap work_stop (on.stopped
-              ∙ ap (λ n. stop_of w.capacity limit n w.consumer.head end.bytes) (sym r.messages));
-        });
-        blocked = λ e. r.blocked (is_unpublished end.stopped (sym r.stopped ∙ e));
-      }
-
-  cut_off : Aborts ActsOn limit v w s t end → Done
-  cut_off off =
-      let a = off.aborted in
-      let f = folds_off limit v w s t end off in
-      record {
-        messages = off.reads.messages;
-        counted = r.messages ∙ off.reads.counted;
-        few = subst (λ n. n ≤ limit) off.reads.counted r.within;
-        received = off.reads.taken;
-        moves = off.reads.moves;
-        tight = λ e. off.reads.tight (sym r.messages ∙ e);
-        folded = f.1;
-        had_room = f.2;
-        stops = inr (record {
-          stopped = r.stopped ∙ ap work_stop off.stopped;
-          command = off.message;
-          next = off.next;
-          before_limit = subst (λ n. n < limit) (sym r.messages) off.before_limit;
-          before_end = off.before_end;
-          full = subst (λ l. IsAtEnd l.board) (sym a.1) a.2;
-        });
-        blocked = λ e. r.blocked (is_unpublished end.stopped (sym r.stopped ∙ e));
-      }
+  -- whatever the read ended by
+  told : {u : Serving} (reads : Reads ActsOn limit v w s u end.messages) → Folds s (messages_of reads.messages) t
+      → IsReadOut limit v w done ⊎ IsCutOff limit v w (ledger_of t).board done → Done
+  told reads f stops = record {
+    messages = reads.messages;
+    counted = r.messages ∙ reads.counted;
+    few = subst (λ n. n ≤ limit) reads.counted r.within;
+    received = reads.taken;
+    moves = reads.moves;
+    tight = λ e. reads.tight (sym r.messages ∙ e);
+    folded = f.1;
+    had_room = f.2;
+    stops = stops;
+    blocked = λ e. r.blocked (is_unpublished end.stopped (sym r.stopped ∙ e));
+  }
 
   pub worked : Controls ActsOn limit v w s t end → Done
-  worked (inl on) = went_on on
+  worked (inl on) = told on.reads (folds_on limit v w s t end on) (inl (record {
+    bytes = end.bytes;
+    moved = r.bytes;
+    stopped = r.stopped ∙ ap work_stop (on.stopped
+        ∙ ap (λ n. stop_of w.capacity limit n w.consumer.head end.bytes) (sym r.messages));
+  }))
   worked (inr (inl broke)) = absurd (broke_off limit v w s t end broke)
-  worked (inr (inr off)) = cut_off off
+  worked (inr (inr off)) = let a = off.aborted in told off.reads (folds_off limit v w s t end off) (inr (record {
+    stopped = r.stopped ∙ ap work_stop off.stopped;
+    command = off.message;
+    next = off.next;
+    before_limit = subst (λ n. n < limit) (sym r.messages) off.before_limit;
+    before_end = off.before_end;
+    full = subst (λ l. IsAtEnd l.board) (sym a.1) a.2;
+  }))
 
 -- What follows for the number of commands taken ------------------------------
 

@@ -14,9 +14,9 @@ use Rattle.ring_board.specs.Closing.{closed_words, IsClosed}
 use Rattle.ring_board.specs.Seats.{capacity_of as board_capacity_of, heard_by, shares_of as board_shares_of, transmitted}
 use Rattle.ring_counters.specs.declared.manager.CountersManager.{CountersManager}
 use Rattle.ring_counters.specs.Manager.{registry_of, writes_of}
-use Rattle.ring_conductor.specs.Account.{fresh_account, messages_in}
+use Rattle.ring_conductor.specs.Account.{fresh_account}
 use Rattle.ring_conductor.specs.Conducting.{ledger_of, received_of, transmitter_of}
-use Rattle.ring_conductor.proofs.AccountLemmas.{account_in}
+use Rattle.ring_conductor.proofs.AccountLemmas.{account_as}
 use Rattle.ring_conductor.proofs.FoldLemmas.{lengths}
 use Rattle.ring_conductor.proofs.StormLemmas.{work_shares}
 use Rattle.ring_conductor.proofs.WholeLemmas.{never_refused, two_folds, two_joined, two_reads}
@@ -68,34 +68,17 @@ returns c =
     let opened = ap (λ (t : Transmitter). transmitted t) c.new-conductor.ensures.transmitter
     ∙ ap (λ (v : BoardView). v.sent) c.in-Ok-new.ensures.transmitter.1 in
     let sent_made = ap (λ (v : BoardView). v.sent) c.in-Ok-subscribe.ensures.fewer ∙ opened in
-    let start : account_in (ledger_of c.subscribe.new.self) ≡ fresh_account 4 50 =
-    (λ i. record { registry = registry_made i; writes = writes_made i; replies = messages_in (sent_made i) }) in
     let counters_kept = c.in-Ok-subscribe-2.ensures.others.counters in
     let sent_kept = ap (λ (v : BoardView). v.sent) c.in-Ok-subscribe-2.ensures.fewer in
-    let same : account_in (ledger_of c.subscribe-2.new.self) ≡ account_in (ledger_of c.do_work.new.self) =
-    (λ i. record {
-      registry = registry_of (counters_kept i);
-      writes = writes_of (counters_kept i);
-      replies =
-          messages_in (sent_kept i);
-    }) in
     let counters_end =
     sym (e.counters ∙ (c.join_receiver-2.ensures.others.counters ∙ c.join_receiver.ensures.others.counters)) in
     let sent_end = sym (ap (λ (v : BoardView). v.sent) c.join_receiver-2.ensures.joined
     ∙ ap (λ (v : BoardView). v.sent) c.join_receiver.ensures.joined) in
-    let out : account_in (ledger_of c.do_work-2.new.self)
-    ≡ record {
-      registry = registry_of c.in-Ok-finish.finished.counters;
-      writes =
-          writes_of c.in-Ok-finish.finished.counters;
-      replies = messages_in sent;
-    } =
-    (λ i. record {
-      registry = registry_of (counters_end i);
-      writes = writes_of (counters_end i);
-      replies =
-          messages_in (sent_end i);
-    }) in
+    let start = account_as (ledger_of c.subscribe.new.self) registry_made writes_made sent_made in
+    let same = account_as (ledger_of c.subscribe-2.new.self) (ap (λ (m : CountersManager). registry_of m) counters_kept)
+    (ap (λ (m : CountersManager). writes_of m) counters_kept) sent_kept in
+    let out = account_as (ledger_of c.do_work-2.new.self) (ap (λ (m : CountersManager). registry_of m) counters_end)
+    (ap (λ (m : CountersManager). writes_of m) counters_end) sent_end in
     let heard_made = ap (λ (v : BoardView). v.heard) c.in-Ok-subscribe.ensures.fewer
     ∙ (ap (λ (t : Transmitter). heard_by t) c.new-conductor.ensures.transmitter
     ∙ ap (λ (v : BoardView). v.heard) c.in-Ok-new.ensures.transmitter.1) in

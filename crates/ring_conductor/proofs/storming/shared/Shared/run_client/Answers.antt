@@ -1,4 +1,4 @@
-use Rattle.std.proofs.Common.{◌≡◌, ◌∙◌, true, not, is_some, length, refl, sym, ap, arith}
+use Rattle.std.proofs.Common.{◌∙◌, not, length, refl, sym, ap, arith}
 use Rattle.ring_conductor.specs.Storming.{deeds_of}
 use Rattle.ring_conductor.proofs.TurnLemmas.{next_turn, no_turn, of_some, same_deeds, turns_as}
 use Rattle.ring_conductor.proofs.storming.shared.Shared.run_client.Goals as goal
@@ -20,44 +20,35 @@ loop-number-init g c =
 
 pub loop-number-preserved : goal.loop-number-preserved
 loop-number-preserved g c =
-    let old = c.loop-number.client in
-    let new = c.command.new.client in
     let e = c.command.ensures in
     let was = c.loop-number.invariant in
-    let some : is_some c.command.result ≡ true = c.is_none.ensures ∙ ap not c.if-is_none.false in
     record {
       client = e.client;
       sent = (let few = e.sent in let before = was.sent in omega arith);
       drawn = (let few = e.drawn in let before = was.drawn in omega arith);
       seen = (let same = e.same.1 in let before = was.seen in omega arith);
       index = e.same.0 ∙ was.index;
-      turns = next_turn old.index new.index old.seen new.seen c.loop-number.number (deeds_of old) (deeds_of new)
-          e.same.0 e.same.1 (sym was.seen) (of_some c.command.result _ some e.turn) was.turns;
+      turns = next_turn _ _ _ _ _ _ _ e.same.0 e.same.1 (sym was.seen)
+          (of_some c.command.result _ (c.is_none.ensures ∙ ap not c.if-is_none.false) e.turn) was.turns;
       within = omega arith;
     }
 
 pub returns-else-is_none-clause-answered : goal.returns-else-is_none-clause-answered
 returns-else-is_none-clause-answered g c =
-    let old = c.loop-number.client in
-    let new = c.command.new.client in
     let e = c.command.ensures in
     let was = c.loop-number.invariant in
-    let some : is_some c.command.result ≡ true = c.is_none.ensures ∙ ap not c.if-is_none.false in
     record {
-      before = deeds_of new;
-      turns = next_turn old.index new.index old.seen new.seen c.loop-number.number (deeds_of old) (deeds_of new)
-          e.same.0 e.same.1 (sym was.seen) (of_some c.command.result _ some e.turn) was.turns;
-      more = same_deeds (deeds_of new);
+      before = deeds_of c.command.new.client;
+      turns = next_turn _ _ _ _ _ _ _ e.same.0 e.same.1 (sym was.seen)
+          (of_some c.command.result _ (c.is_none.ensures ∙ ap not c.if-is_none.false) e.turn) was.turns;
+      more = same_deeds _;
     }
 
 pub returns-then-is_none-clause-answered : goal.returns-then-is_none-clause-answered
 returns-then-is_none-clause-answered g c =
-    let old = c.loop-number.client in
-    let new = c.command.new.client in
     let e = c.command.ensures in
     record {
-      before = deeds_of old;
-      turns = turns_as old.index new.index old.seen new.seen (deeds_of old) e.same.0 e.same.1
-          c.loop-number.invariant.turns;
+      before = deeds_of c.loop-number.client;
+      turns = turns_as _ _ _ _ _ e.same.0 e.same.1 c.loop-number.invariant.turns;
       more = e.grows;
     }
