@@ -6,6 +6,7 @@ use Rattle.ring_rings.specs.Claiming.{Refusing, Writing}
 use Rattle.ring_conductor.specs.declared.client.request.Request.{Request}
 use Rattle.ring_conductor.specs.declared.client.request.Request.TheVariants.{Allocate, Free, Set, AllocateOwned, Close}
 use Rattle.ring_conductor.specs.Asking.{asked, IsSendable}
+use Rattle.ring_protocol.specs.Command as command
 use Rattle.ring_protocol.specs.Command.{Instruction, HasTextLengths, spelling_of, type_id_of}
 use Rattle.ring_protocol.specs.Writing.{Encodes}
 use Rattle.ring_protocol.proofs.Lengths.{free_length, set_length, close_length, allocate_length, allocate_owned_length}
@@ -27,12 +28,12 @@ short_texts (Set id value) a b h = h
 short_texts (AllocateOwned type_id owner key label) a b h = h
 short_texts (Close owner) a b h = h
 
-same_type : (r : Request) (a : ℕ) → to_z w32 (of_z w32 (type_id_of (asked r a))) ≡ type_id_of (asked r a)
-same_type (Allocate type_id key label) a = refl
-same_type (Free id) a = refl
-same_type (Set id value) a = refl
-same_type (AllocateOwned type_id owner key label) a = refl
-same_type (Close owner) a = refl
+same_type : (c : Instruction) → to_z w32 (of_z w32 (type_id_of c)) ≡ type_id_of c
+same_type (command.Allocate correlation type_id key label) = refl
+same_type (command.Free correlation id) = refl
+same_type (command.Set correlation id value) = refl
+same_type (command.AllocateOwned correlation type_id owner key label) = refl
+same_type (command.Close correlation owner) = refl
 
 -- what can be sent fits into the buffer
 pub fits : (r : Request) (a : ℕ) (c : Instruction) (room : ℕ) → c ≡ asked r a → room ≡ 520 → IsSendable r
@@ -60,13 +61,12 @@ pub encoded : (r : Request) (a : ℕ) (c : Instruction) (old new : List ℕ) (n 
     → Encodes c old new (Some n) → IsSendable r
 encoded r a c old new n is wide e = sendable r a c (length old) is wide (e.fits.0 refl)
 
-pub spelled : (r : Request) (a : ℕ) (c : Instruction) (old new : List ℕ) (n : ℕ) → c ≡ asked r a
-    → Encodes c old new (Some n) → take n new ≡ spelling_of (asked r a)
-spelled r a c old new n is e = command_bytes c old new n e ∙ ap spelling_of is
+pub spelled : (c d : Instruction) (old new : List ℕ) (n : ℕ) → c ≡ d → Encodes c old new (Some n)
+    → take n new ≡ spelling_of d
+spelled c d old new n is e = command_bytes c old new n e ∙ ap spelling_of is
 
-pub of_type : (r : Request) (a : ℕ) (c : Instruction) (t : ℤ) → c ≡ asked r a → t ≡ type_id_of c
-    → to_z w32 (of_z w32 t) ≡ type_id_of (asked r a)
-of_type r a c t is type_is = ap (λ z. to_z w32 (of_z w32 z)) (type_is ∙ ap type_id_of is) ∙ same_type r a
+pub of_type : (c d : Instruction) (t : ℤ) → c ≡ d → t ≡ type_id_of c → to_z w32 (of_z w32 t) ≡ type_id_of d
+of_type c d t is type_is = ap (λ z. to_z w32 (of_z w32 z)) (type_is ∙ ap type_id_of is) ∙ same_type d
 
 pub written_as : (W : Writing) (C : ℕ) (t s : ℤ) (b d : List ℕ) (v w : View) → t ≡ s → b ≡ d → W C t b v w → W C s d v w
 written_as W C t s b d v w type_is body_is h =

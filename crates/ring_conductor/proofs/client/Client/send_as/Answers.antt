@@ -14,8 +14,8 @@ pub returns-in-Ok-clause-sent : goal.returns-in-Ok-clause-sent
 returns-in-Ok-clause-sent g c =
     let is = c.with_correlation-command.ensures in let r = c.args.request in let a = c.args.correlation in (
       encoded r a _ _ _ _ is (ap length c.as_mut_slice.ensures.value ∙ c.args.self.now.wide) c.in-Some.ensures,
-      written_as g.K.Kind.writes _ _ _ _ _ _ _ (of_type r a _ _ is c.type_id.ensures)
-          (spelled r a _ _ _ _ is c.in-Some.ensures) c.in-Ok.ensures.written,
+      written_as g.K.Kind.writes _ _ _ _ _ _ _ (of_type _ _ _ is c.type_id.ensures)
+          (spelled _ _ _ _ _ is c.in-Some.ensures) c.in-Ok.ensures.written,
     )
 
 pub returns-in-Err-clause-refused : goal.returns-in-Err-clause-refused
@@ -23,6 +23,6 @@ returns-in-Err-clause-refused g c =
     let is = c.with_correlation-command.ensures in let r = c.args.request in let a = c.args.correlation in (
       encoded r a _ _ _ _ is (ap length c.as_mut_slice.ensures.value ∙ c.args.self.now.wide) c.in-Some.ensures,
       refl,
-      refused_as g.K.Kind.refuses _ _ _ _ _ _ _ _ (of_type r a _ _ is c.type_id.ensures)
-          (ap length (spelled r a _ _ _ _ is c.in-Some.ensures)) c.in-Err.ensures.refused,
+      refused_as g.K.Kind.refuses _ _ _ _ _ _ _ _ (of_type _ _ _ is c.type_id.ensures)
+          (ap length (spelled _ _ _ _ _ is c.in-Some.ensures)) c.in-Err.ensures.refused,
     )
