@@ -1,5 +1,5 @@
 -- What is held by number: a list with None where nothing is.
-use Rattle.std.proofs.Common.{◌≡◌, ◌≢◌, ℕ, suc, ◌+◌, ◌-◌, ◌<◌, IfNone, OnSome, List, [], ◌∷◌, ◌++◌, drop, length, set, slice_index_or, cond, is_some, refl, ap, Option, Some, None, sym, ◌∙◌, subst, arith, ◌⊎◌, inl, inr, get_or-set_same, get_or-set_other}
+use Rattle.std.proofs.Common.{◌≡◌, ◌≢◌, ℕ, suc, ◌+◌, ◌-◌, ◌<◌, ◌≤◌, IfNone, OnSome, List, [], ◌∷◌, ◌++◌, drop, length, set, slice_index_or, cond, is_some, refl, ap, Option, Some, None, sym, ◌∙◌, subst, arith, ◌⊎◌, inl, inr, get_or-set_same, get_or-set_other}
 use mathlib.Core.Logic.{dite}
 use native.Mathlib.Decide.{ℕ_discrete}
 use Rattle.std.proofs.Math.Seq.{drop-cons}
@@ -58,7 +58,7 @@ module _ {A : Type 0} where
       ∙ sum_by-set one_if_some xs k y None (held_inside xs k s has)
 
   -- where nothing is held
-  pub count_none : (xs : List (Option A)) → ((k : ℕ) → k < length xs → slice_index_or xs k None ≡ None)
+  count_none : (xs : List (Option A)) → ((k : ℕ) → k < length xs → slice_index_or xs k None ≡ None)
       → count_by is_some xs ≡ 0
   count_none [] all = refl
   count_none (x ∷ xs) all =
@@ -70,6 +70,12 @@ module _ {A : Type 0} where
   -- nothing is held below the index i
   abbrev pub AreGone : List (Option A) → ℕ → Type 0
   AreGone xs i = (k : ℕ) → k < i → slice_index_or xs k None ≡ None
+
+  -- once nothing is held, all shares are back
+  pub all_back : (xs : List (Option A)) (drawn i shares all : ℕ) → length xs ≡ drawn → drawn ≤ i → AreGone xs i
+      → shares + count_by is_some xs ≡ all → shares ≡ all
+  all_back xs drawn i shares all long past gone sum =
+      let none = count_none xs (λ k lt. gone k (omega (arith, long, past, lt))) in omega (arith, sum)
 
   none_of : (o : Option A) → ((x : A) → o ≡ Some x → ⊥) → o ≡ None
   none_of None free = refl

@@ -1,7 +1,7 @@
-use Rattle.std.proofs.Common.{◌≡◌, ◌∙◌, ◌+◌, ◌<◌, ℕ, length, sym, arith}
-use Rattle.ring_loose.specs.Held.{held_count, held_in}
+use Rattle.std.proofs.Common.{◌∙◌, ◌+◌, ◌<◌, ℕ, length, sym, arith}
+use Rattle.ring_loose.specs.Held.{held_in}
 use Rattle.ring_loose.specs.Receivers.{LeavesCrowd, crowd}
-use Rattle.ring_loose.proofs.HeldLemmas.{count_none, given_up}
+use Rattle.ring_loose.proofs.HeldLemmas.{all_back, given_up}
 use Rattle.ring_loose.proofs.LeavingLemmas.{all_gone, held_where, left_on}
 use Rattle.ring_loose.proofs.loose_board.LooseBoard.join_all.Goals as goal
 
@@ -22,11 +22,8 @@ loop-index-preserved c =
 
 pub returns-clause-shares : goal.returns-clause-shares
 returns-clause-shares c =
-    let board = c.loop-index.self in
     let left = c.loop-index.invariant in
-    let gone : held_count (held_in board.receivers) ≡ 0 =
-    count_none (held_in board.receivers) (λ k lt. left.1 k (omega (arith, left.0, c.loop-index-test.false))) in
-    let shares = board.shares in omega arith
+    all_back _ _ _ _ _ left.0 c.loop-index-test.false left.1 c.loop-index.self.shares
 
 pub returns-clause-left : goal.returns-clause-left
 returns-clause-left c =

@@ -1,8 +1,8 @@
-use Rattle.std.proofs.Common.{◌≡◌, ◌∙◌, ◌+◌, ◌<◌, ℕ, length, arith}
+use Rattle.std.proofs.Common.{◌∙◌, ◌+◌, ◌<◌, ℕ, length, arith}
 use Rattle.ring_conductor.specs.Conducting.{transmitter_of}
 use Rattle.ring_loose.specs.Receivers.{LeavesCrowd, crowd}
-use Rattle.ring_loose.specs.Held.{held_count, held_in}
-use Rattle.ring_loose.proofs.HeldLemmas.{count_none, given_up}
+use Rattle.ring_loose.specs.Held.{held_in}
+use Rattle.ring_loose.proofs.HeldLemmas.{all_back, given_up}
 use Rattle.ring_scenario.proofs.service.CommandService.join_listeners.Goals as goal
 
 pub loop-index-preserved : goal.loop-index-preserved
@@ -28,8 +28,5 @@ loop-index-preserved c =
 
 pub returns-clause-shares : goal.returns-clause-shares
 returns-clause-shares c =
-    let service = c.loop-index.self in
     let left = c.loop-index.invariant in
-    let gone : held_count (held_in service.listeners) ≡ 0 =
-    count_none (held_in service.listeners) (λ k lt. left.1 k (omega (arith, left.0, c.loop-index-test.false))) in
-    let shares = service.shares in omega arith
+    all_back _ _ _ _ _ left.0 c.loop-index-test.false left.1 c.loop-index.self.shares

@@ -1,7 +1,7 @@
-use Rattle.std.proofs.Common.{◌≡◌, ◌∙◌, ◌+◌, ◌<◌, ℕ, length, arith}
+use Rattle.std.proofs.Common.{◌∙◌, ◌+◌, ◌<◌, ℕ, length, arith}
 use Rattle.ring_scenario.specs.Watchers.{Unwatches}
-use Rattle.ring_loose.specs.Held.{held_count, held_in}
-use Rattle.ring_loose.proofs.HeldLemmas.{count_none, given_up}
+use Rattle.ring_loose.specs.Held.{held_in}
+use Rattle.ring_loose.proofs.HeldLemmas.{all_back, given_up}
 use Rattle.ring_scenario.proofs.service.CommandService.join_watchers.Goals as goal
 
 pub loop-index-preserved : goal.loop-index-preserved
@@ -28,8 +28,5 @@ loop-index-preserved c =
 
 pub returns-clause-shares : goal.returns-clause-shares
 returns-clause-shares c =
-    let service = c.loop-index.self in
     let left = c.loop-index.invariant in
-    let gone : held_count (held_in service.watchers) ≡ 0 =
-    count_none (held_in service.watchers) (λ k lt. left.1 k (omega (arith, left.0, c.loop-index-test.false))) in
-    let shares = service.value_shares in omega arith
+    all_back _ _ _ _ _ left.0 c.loop-index-test.false left.1 c.loop-index.self.value_shares
