@@ -35,7 +35,7 @@ use Rattle.ring_conductor.specs.declared.storming.seats.StormEnd.{StormEnd}
 use Rattle.ring_conductor.specs.declared.storming.shared.Shared.{Shared}
 use Rattle.ring_conductor.specs.Applied.{applied}
 use Rattle.ring_conductor.specs.Asking.{draws_of, producer_of, receiver_of, services_of}
-use Rattle.ring_conductor.specs.Conducting.{IsConductorOf, manager_in, received_of, ring_view, transmitter_of}
+use Rattle.ring_conductor.specs.Conducting.{IsConductorOf, manager_in, received_of, ring_view, transmitter_of, value_shares_of}
 use Rattle.ring_conductor.specs.Finishing.{HasAllReplies, IsFoldOfReceived, IsWhole, joined_by, replies_of}
 use Rattle.ring_conductor.specs.Account.{IsFoldOf, messages_in}
 use Rattle.ring_conductor.specs.Turns.{AreAllTurns, Deeds, claims_by, copies_by, drawn_in, draws_by, label_of, last_set}
@@ -140,12 +140,13 @@ SentAtMost n c = (sent_by (producer_of c.client) ≤ n) × (length (draws_by c.c
 abbrev pub taken_by : Conductor → ℕ
 taken_by c = length (received_of c)
 
--- the counters are what the messages that the conductor took make of fresh ones
+-- the counters are what the messages that the conductor took make of fresh ones, and nobody else reads their values
 abbrev pub HasCounters : StormPlan → Conductor → Type 0
-HasCounters p c = registry_of (manager_in c) ≡ storm_counters p (messages_of (received_of c))
+HasCounters p c = (registry_of (manager_in c) ≡ storm_counters p (messages_of (received_of c)))
+    × (value_shares_of c ≡ 65536)
 
 -- producer and conductor belong to this ring, this board and these values, the counters are those of the messages
--- taken, and the producer drew no number
+-- taken, nobody else reads their values, and the producer drew no number
 abbrev pub IsHubOf : {K : Type 0} → StormPlan → Ring K → Board → CounterValues → Hub → Type 0
 IsHubOf p ring board values hub = IsProducerOf ring hub.producer
     × IsConductorOf IsConsumerOf ring board values hub.conductor × HasCounters p hub.conductor
@@ -171,7 +172,7 @@ IsDone p clients end = (all_commands p ≤ taken_by end.hub.conductor) × (end.s
 abbrev pub IsUnused : Hub → Type 0
 IsUnused hub = (claims_of hub.producer ≡ []) × (joined_by hub.conductor ≡ []) × (services_of hub.producer ≡ [])
 
--- no share is away, and no claim is open
+-- no share of ring or board is away, and no claim is open
 pub record HasAll (hub : Hub) : Type 0 where
   pub producers : shares_of hub.producer ≡ 65536
   pub receivers : board_shares_of hub.conductor ≡ 65536

@@ -17,7 +17,7 @@ use Rattle.ring_conductor.proofs.storming.storm.Goals as goal
 counted : {K : Type 0} {p : StormPlan} {ring : Ring K} {board : Board} {values : CounterValues} {end : StormEnd}
     (e : HasFinished p ring board values end)
     → registry_of end.finished.counters ≡ storm_counters p (messages_of (received_of e.hub.conductor))
-counted e = ap (λ (m : CountersManager). registry_of m) e.counters ∙ e.of.2
+counted e = ap (λ (m : CountersManager). registry_of m) e.counters ∙ e.of.2.0
 
 pub report-requires : goal.report-requires
 report-requires g c =

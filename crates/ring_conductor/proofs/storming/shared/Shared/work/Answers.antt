@@ -12,4 +12,7 @@ returns-then-work-gt0-clause-receivers g c =
 
 pub returns-then-work-gt0-clause-counters : goal.returns-then-work-gt0-clause-counters
 returns-then-work-gt0-clause-counters g c =
-    work_counters c.args.self.now.plan _ _ _ _ _ _ c.do_work-work.ensures.works c.loop.invariant.counters
+    let before = c.loop.invariant.counters in (
+      work_counters c.args.self.now.plan _ _ _ _ _ _ c.do_work-work.ensures.works before.0,
+      c.do_work-work.ensures.value_shares ∙ before.1,
+    )
