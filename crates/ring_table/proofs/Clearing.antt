@@ -212,38 +212,43 @@ module _ (C start : ℕ) where
             ∙ sym (ap (λ b. cond b 0 (staged_word_at (all_of h) p)) (le-ltb p q p0));
       }) (omega arith) refl (λ e. omega arith) (λ e. omega arith) (λ e. omega arith) (λ j un. un.not_head))
 
-  pub stores_head : (slots id : ℕ) (me : Mine) → me.0.consumes ≡ true → me.0.consumer.cleared ≡ me.0.consumer.scan
-      → Allows (Ok C start) slots id me (head_index C) (λ _. me.0.consumer.scan)
-      (λ _ me'. (me'.1 ≡ me.1) × StoresHead me.0 me'.0)
-  stores_head slots id me consumes all s r wide at small =
+  pub stores_head : (slots id : ℕ) (me : Mine) (head : ℕ) → me.0.consumes ≡ true → me.0.consumer.scan ≡ head
+      → me.0.consumer.cleared ≡ head
+      → Allows (Ok C start) slots id me (head_index C) (λ _. head) (λ _ me'. (me'.1 ≡ me.1) × StoresHead me.0 me'.0)
+  stores_head slots id me head consumes scan all s r wide at small =
       let v : View = me.0 in
       let mine = ((r.seated.each id v at).consumes consumes).1 in
-      let cleared : v.consumer.cleared ≡ r.consumer.cleared = ap (λ (z : ConsumerView). z.cleared) mine in (
-        with_consumer (stands_at v.consumer.scan v.consumer.got v.consumer) v,
+      let cleared : v.consumer.cleared ≡ r.consumer.cleared = ap (λ (z : ConsumerView). z.cleared) mine in
+      let w : View = with_consumer (stands_at v.consumer.scan v.consumer.got v.consumer) v in (
+        w,
         keeps,
         tt,
-        stores_head_at v.consumer.scan v.consumer.got s r id v at consumes
+        subst (λ q. Kept C start (set s.words (head_index C) q) (set s.views id w)) scan
+            (stores_head_at v.consumer.scan v.consumer.got s r id v at consumes
             (subst (λ (z : ConsumerView). Reaches z.scan start (all_of r.hist) z.got) (sym mine) r.memory.passed)
-            (sym cleared ∙ all),
+            (sym cleared ∙ all ∙ sym scan)),
         (refl, refl),
       )
 
-  pub stores_head_before : (slots id : ℕ) (me : Mine) (front : List PlacedMessage) (last : PlacedMessage)
-      → me.0.consumes ≡ true → me.0.consumer.got ≡ front ++ last ∷ [] → me.0.consumer.cleared ≡ last.place
-      → Allows (Ok C start) slots id me (head_index C) (λ _. last.place)
+  pub stores_head_before : (slots id : ℕ) (me : Mine) (head : ℕ) (front : List PlacedMessage) (last : PlacedMessage)
+      → me.0.consumes ≡ true → me.0.consumer.got ≡ front ++ last ∷ [] → last.place ≡ head
+      → me.0.consumer.cleared ≡ head
+      → Allows (Ok C start) slots id me (head_index C) (λ _. head)
       (λ _ me'. (me'.1 ≡ me.1) × StoresHeadBefore me.0 me'.0)
-  stores_head_before slots id me front last consumes got all s r wide at small =
+  stores_head_before slots id me head front last consumes got place all s r wide at small =
       let v : View = me.0 in
       let mine = ((r.seated.each id v at).consumes consumes).1 in
       let cleared : v.consumer.cleared ≡ r.consumer.cleared = ap (λ (z : ConsumerView). z.cleared) mine in
       let reaches =
-      subst (λ (z : ConsumerView). Reaches z.scan start (all_of r.hist) z.got) (sym mine) r.memory.passed in (
-        with_consumer (stands_at last.place front v.consumer) v,
+      subst (λ (z : ConsumerView). Reaches z.scan start (all_of r.hist) z.got) (sym mine) r.memory.passed in
+      let w : View = with_consumer (stands_at last.place front v.consumer) v in (
+        w,
         keeps,
         tt,
-        stores_head_at last.place front s r id v at consumes
+        subst (λ q. Kept C start (set s.words (head_index C) q) (set s.views id w)) place
+            (stores_head_at last.place front s r id v at consumes
             (back_before_last v.consumer.scan start (all_of r.hist) front last
-            (subst (Reaches v.consumer.scan start (all_of r.hist)) got reaches)) (sym cleared ∙ all),
+            (subst (Reaches v.consumer.scan start (all_of r.hist)) got reaches)) (sym cleared ∙ all ∙ sym place)),
         (
           refl,
           λ front' last' got'. let same = one_end front front' last last' (sym got ∙ got') in λ i. with_consumer

@@ -1,25 +1,20 @@
-use Rattle.std.proofs.Common.{◌≡◌, ℕ, sym, ap, ◌∙◌, subst, arith}
-use Rattle.ring_layout.specs.Places.{index}
+use Rattle.std.proofs.Common.{◌≡◌, ℕ, subst, arith}
 use Rattle.ring_table.specs.Views.{Logs}
 use Rattle.ring_table.specs.ProducerSteps.{Mine}
 use Rattle.ring_table.specs.ConsumerSteps.{LoadsHeader}
-use Rattle.ring_table.proofs.Calls.{at_word, in_records}
+use Rattle.ring_table.proofs.Calls.{same_seat, record_step}
 use Rattle.ring_table.proofs.Consuming.{loads_next}
 use Rattle.ring_table.proofs.steps.consumer.load_next_header.Goals as goal
 
 pub load-requires : goal.load-requires
 load-requires c =
     let s = c.requires.seat in
-    let me : Mine = c.args.consumer.now.me in (
-      s.table_is,
-      in_records _ c.args.capacity _ (c.args.scan) s.words_are s.lawful c.word_index.ensures,
-      at_word c.args.ring.now.key c.args.capacity _ _ _ s.key_is _ _
-          (c.word_index.ensures ∙ ap (index c.args.capacity) (sym c.requires.scan)) (λ n. n)
-          (λ k n me'. (me'.1 ≡ me.1) × LoadsHeader me.0.capacity me.0.consumer.scan me.0.consumer.got me.0 n me'.0
-          × Logs k n me.0 me'.0)
-          (loads_next c.args.capacity c.args.ring.now.key.start _ _ me s.view_is c.requires.consumes
-          (let at = c.requires.scan in let near = c.requires.near in omega arith)),
-    )
+    let at = c.requires.scan in
+    record_step s _ c.args.scan _ c.word_index.ensures at (λ n. n)
+    (λ k me n me'. (me'.1 ≡ me.1) × LoadsHeader me.0.capacity me.0.consumer.scan me.0.consumer.got me.0 n me'.0
+    × Logs k n me.0 me'.0)
+    (loads_next c.args.capacity c.args.ring.now.key.start _ _ c.args.consumer.now.me s.view_is c.requires.consumes
+    (let near = c.requires.near in omega arith))
 
 pub returns-clause-told : goal.returns-clause-told
 returns-clause-told c =
@@ -28,10 +23,4 @@ returns-clause-told c =
     (λ i. (c.requires.seat.view_is i, c.requires.scan i)) c.load.ensures.2.1
 
 pub returns-clause-seat : goal.returns-clause-seat
-returns-clause-seat c = record {
-  table = c.load.ensures.0;
-  id = c.load.ensures.1;
-  slots = c.load.ensures.2.0;
-  capacity =
-      c.load.ensures.2.1.capacity;
-}
+returns-clause-seat c = let h = c.load.ensures in same_seat h.0 h.1 h.2.0 h.2.1.capacity

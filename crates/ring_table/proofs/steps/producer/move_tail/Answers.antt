@@ -4,26 +4,20 @@ use mathlib.Core.Option.{some}
 use native.Mathlib.Decide.{ℕ_discrete}
 use prog.Atomic.{either}
 use Rattle.ring_table.specs.Views.{Logs, View, Wanted}
-use Rattle.ring_table.specs.ProducerSteps.{Mine, MovesTail}
-use Rattle.ring_table.proofs.Calls.{at_word, in_trailer}
+use Rattle.ring_table.specs.ProducerSteps.{MovesTail}
+use Rattle.ring_table.proofs.Calls.{same_seat, trailer_step}
 use Rattle.ring_table.proofs.Claiming.{moves_tail}
 use Rattle.ring_table.proofs.steps.producer.move_tail.Goals as goal
 
 pub compare_exchange_with-requires : goal.compare_exchange_with-requires
 compare_exchange_with-requires c =
-    let s = c.requires.seat in
-    let me : Mine = c.args.producer.now.me in
     let old : ℕ = c.args.old in
-    let new : ℕ = c.args.new in (
-      s.table_is,
-      in_trailer _ c.args.capacity _ 16 s.words_are (omega arith) c.trailer_word-tail.ensures,
-      at_word c.args.ring.now.key c.args.capacity _ _ _ s.key_is _ _ c.trailer_word-tail.ensures
-          (λ n. either (eqb n old) new n)
-          (λ k n me'. (me'.1 ≡ me.1) × ((said : Wanted) → some c.args.wanted ≡ some said
-          → MovesTail me.0.capacity old new said me.0 n me'.0) × (n ≢ old → Logs k n me.0 me'.0))
-          (moves_tail c.args.capacity c.args.ring.now.key.start _ _ me s.view_is old new c.args.wanted c.requires.share
-          c.requires.room),
-    )
+    let new : ℕ = c.args.new in
+    trailer_step c.requires.seat _ 16 (omega arith) c.trailer_word-tail.ensures (λ n. either (eqb n old) new n)
+    (λ k me n me'. (me'.1 ≡ me.1) × ((said : Wanted) → some c.args.wanted ≡ some said
+    → MovesTail me.0.capacity old new said me.0 n me'.0) × (n ≢ old → Logs k n me.0 me'.0))
+    (moves_tail c.args.capacity c.args.ring.now.key.start _ _ c.args.producer.now.me c.requires.seat.view_is old new
+    c.args.wanted c.requires.share c.requires.room)
 
 pub returns-clause-told : goal.returns-clause-told
 returns-clause-told c =
@@ -36,11 +30,5 @@ returns-clause-seat c =
     let h = c.compare_exchange_with.ensures in
     let told = h.2.1 c.args.wanted (λ _. some c.args.wanted) in
     let capacity_of = λ (v : View). v.capacity in
-    record {
-      table = h.0;
-      id = h.1;
-      slots = h.2.0;
-      capacity =
-          dite (ℕ_discrete c.compare_exchange_with.result c.args.old) (λ hit. ap capacity_of (told.hit hit))
-          (λ missed. ap capacity_of (told.miss missed));
-    }
+    same_seat h.0 h.1 h.2.0 (dite (ℕ_discrete c.compare_exchange_with.result c.args.old)
+    (λ hit. ap capacity_of (told.hit hit)) (λ missed. ap capacity_of (told.miss missed)))

@@ -1,10 +1,10 @@
-use Rattle.std.proofs.Common.{◌≡◌, ℕ, ◌+◌, sym, ap, ◌∙◌, arith}
+use Rattle.std.proofs.Common.{◌≡◌, ◌+◌, sym, ap, ◌∙◌, arith}
 use Rattle.ring_layout.specs.Places.{index}
 use Rattle.ring_table.specs.Staged.{AreRising}
 use Rattle.ring_table.specs.Changes.{changed, with_body_word}
 use Rattle.ring_table.specs.Views.{View, with_claims}
-use Rattle.ring_table.specs.ProducerSteps.{Mine, StoresBody}
-use Rattle.ring_table.proofs.Calls.{at_word, in_records}
+use Rattle.ring_table.specs.ProducerSteps.{StoresBody}
+use Rattle.ring_table.proofs.Calls.{same_seat, record_step}
 use Rattle.ring_table.proofs.Storing.{puts}
 use Rattle.ring_table.proofs.steps.producer.store_body_word.Goals as goal
 
@@ -12,16 +12,11 @@ pub store-requires : goal.store-requires
 store-requires c =
     let s = c.requires.seat in
     let h = c.requires.claim in
-    let me : Mine = c.args.producer.now.me in
-    let value : ℕ = c.args.word in (
-      s.table_is,
-      in_records _ c.args.capacity _ (c.args.place + 8 + c.args.at) s.words_are s.lawful c.requires.target,
-      at_word c.args.ring.now.key c.args.capacity _ _ _ s.key_is _ _
-          (c.requires.target ∙ ap (λ p. index c.args.capacity (p + 8 + c.args.at)) (sym h.at_place)) (λ _. value)
-          (λ i _ me'. (me'.1 ≡ me.1) × StoresBody i value me.0 me'.0 × AreRising me.0.producer.claims)
-          (puts c.args.capacity c.args.ring.now.key.start _ _ me s.view_is h.nth h.claim c.args.at value h.there h.holds
-          (omega arith)),
-    )
+    record_step s _ (c.args.place + 8 + c.args.at) _ c.requires.target (ap (λ p. p + 8 + c.args.at) h.at_place)
+    (λ _. c.args.word)
+    (λ i me _ me'. (me'.1 ≡ me.1) × StoresBody i c.args.word me.0 me'.0 × AreRising me.0.producer.claims)
+    (puts c.args.capacity c.args.ring.now.key.start _ _ c.args.producer.now.me s.view_is h.nth h.claim c.args.at
+    c.args.word h.there h.holds (omega arith))
 
 pub returns-clause-view : goal.returns-clause-view
 returns-clause-view c =
@@ -33,10 +28,6 @@ returns-clause-view c =
     ∙ ap (λ p. with_claims (changed p (with_body_word c.args.at c.args.word) v.producer.claims) v) h.at_place
 
 pub returns-clause-seat : goal.returns-clause-seat
-returns-clause-seat c = record {
-  table = c.store.ensures.0;
-  id = c.store.ensures.1;
-  slots =
-      c.store.ensures.2.0;
-  capacity = ap (λ (v : View). v.capacity) (returns-clause-view c);
-}
+returns-clause-seat c =
+    let h = c.store.ensures in
+    same_seat h.0 h.1 h.2.0 (ap (λ (v : View). v.capacity) (returns-clause-view c))

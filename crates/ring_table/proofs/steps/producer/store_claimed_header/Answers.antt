@@ -1,12 +1,12 @@
 use Rattle.std.proofs.Common.{◌≡◌, ℕ, ◌+◌, ◌^◌, ◌<◌, sym, ap, ◌∙◌, arith}
 use Rattle.std.proofs.lemmas.List.{length-replicate}
-use Rattle.ring_table.proofs.HeaderCalls.{packs_open}
 use Rattle.ring_layout.specs.Places.{index}
 use Rattle.ring_table.specs.Staged.{Padded, AreRising}
 use Rattle.ring_table.specs.Changes.{with_header}
 use Rattle.ring_table.specs.Views.{View}
-use Rattle.ring_table.specs.ProducerSteps.{Mine, StoresClaimed}
-use Rattle.ring_table.proofs.Calls.{at_word, in_records, after_change}
+use Rattle.ring_table.specs.ProducerSteps.{StoresClaimed}
+use Rattle.ring_table.proofs.Calls.{same_seat, record_step, after_change}
+use Rattle.ring_table.proofs.HeaderCalls.{packs_open}
 use Rattle.ring_table.proofs.Storing.{opens}
 use Rattle.ring_table.proofs.steps.producer.store_claimed_header.Goals as goal
 
@@ -14,23 +14,14 @@ pub store-requires : goal.store-requires
 store-requires c =
     let s = c.requires.seat in
     let h = c.requires.claim in
-    let me : Mine = c.args.producer.now.me in
     let value : ℕ = c.open_header-header.result in
-    let big = s.lawful.most in
-    let short = c.requires.message.short in
-    let zeros = length-replicate {A = ℕ} c.args.wanted.len 0 in
-    let small : 8 + c.args.wanted.len < 2 ^ 31 = omega arith in
     let value_is = packs_open value c.args.wanted.len c.args.wanted.type_id c.requires.message.type_fits
-    c.open_header-header.ensures in (
-      s.table_is,
-      in_records _ c.args.capacity _ (c.args.place) s.words_are s.lawful c.word_index.ensures,
-      at_word c.args.ring.now.key c.args.capacity _ _ _ s.key_is _ _
-          (c.word_index.ensures ∙ ap (index c.args.capacity) (sym h.at_place)) (λ _. value)
-          (λ i _ me'. (me'.1 ≡ me.1) × StoresClaimed i value me.0 me'.0 × AreRising me.0.producer.claims)
-          (opens c.args.capacity c.args.ring.now.key.start _ _ me s.view_is h.nth h.claim c.args.wanted.type_id
-          c.args.wanted.len value value_is s.lawful.most h.there h.holds.stage h.holds.same_span
-          c.requires.message),
-    )
+    c.open_header-header.ensures in
+    record_step s _ c.args.place _ c.word_index.ensures h.at_place (λ _. value)
+    (λ i me _ me'. (me'.1 ≡ me.1) × StoresClaimed i value me.0 me'.0 × AreRising me.0.producer.claims)
+    (opens c.args.capacity c.args.ring.now.key.start _ _ c.args.producer.now.me s.view_is h.nth h.claim
+    c.args.wanted.type_id c.args.wanted.len value value_is s.lawful.most h.there h.holds.stage h.holds.same_span
+    c.requires.message)
 
 pub returns-clause-view : goal.returns-clause-view
 returns-clause-view c =
@@ -49,10 +40,6 @@ returns-clause-view c =
     c.open_header-header.ensures))
 
 pub returns-clause-seat : goal.returns-clause-seat
-returns-clause-seat c = record {
-  table = c.store.ensures.0;
-  id = c.store.ensures.1;
-  slots =
-      c.store.ensures.2.0;
-  capacity = ap (λ (v : View). v.capacity) (returns-clause-view c);
-}
+returns-clause-seat c =
+    let h = c.store.ensures in
+    same_seat h.0 h.1 h.2.0 (ap (λ (v : View). v.capacity) (returns-clause-view c))

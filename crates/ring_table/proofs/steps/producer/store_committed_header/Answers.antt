@@ -1,50 +1,21 @@
-use Rattle.std.proofs.Common.{◌≡◌, ℕ, ◌+◌, ◌^◌, ◌<◌, sym, ap, ◌∙◌, arith}
-use Rattle.ring_layout.specs.declared.message.ClaimState.TheVariants.{Open, Committed}
-use Rattle.std.proofs.lemmas.List.{length-replicate}
-use Rattle.ring_table.proofs.HeaderCalls.{packs_committed}
-use Rattle.ring_layout.specs.Places.{index}
-use Rattle.ring_table.specs.Staged.{Stored, AreRising}
-use Rattle.ring_table.specs.Changes.{staged}
+use Rattle.std.proofs.Common.{ap}
+use Rattle.ring_layout.specs.declared.message.ClaimState.TheVariants.{Committed}
 use Rattle.ring_table.specs.Views.{View}
-use Rattle.ring_table.specs.ProducerSteps.{Mine, StoresSettled}
-use Rattle.ring_table.proofs.Calls.{at_word, in_records, after_change}
-use Rattle.ring_table.proofs.Storing.{settles}
+use Rattle.ring_table.proofs.Calls.{same_seat, settled_step, settled_view}
+use Rattle.ring_table.proofs.HeaderCalls.{packs_committed}
 use Rattle.ring_table.proofs.steps.producer.store_committed_header.Goals as goal
 
 pub store-requires : goal.store-requires
-store-requires c =
-    let s = c.requires.seat in
-    let h = c.requires.claim in
-    let me : Mine = c.args.producer.now.me in
-    let value : ℕ = c.committed_header-header.result in
-    let big = s.lawful.most in
-    let short = c.requires.message.short in
-    let zeros = length-replicate {A = ℕ} c.args.wanted.len 0 in
-    let small : 8 + c.args.wanted.len < 2 ^ 31 = omega arith in
-    let value_is = packs_committed value c.args.wanted.len c.args.wanted.type_id h.claim c.requires.message.type_fits
-    h.holds c.committed_header-header.ensures in (
-      s.table_is,
-      in_records _ c.args.capacity _ (c.args.place) s.words_are s.lawful c.word_index.ensures,
-      at_word c.args.ring.now.key c.args.capacity _ _ _ s.key_is _ _
-          (c.word_index.ensures ∙ ap (index c.args.capacity) (sym h.at_place)) (λ _. value)
-          (λ i _ me'. (me'.1 ≡ me.1) × StoresSettled Committed i me.0 me'.0 × AreRising me.0.producer.claims)
-          (settles c.args.capacity c.args.ring.now.key.start Committed _ _ me s.view_is h.nth h.claim value h.there
-          h.holds.stage value_is),
-    )
+store-requires c = let h = c.requires.claim in
+    settled_step c.requires.seat Committed h c.word_index.ensures c.committed_header-header.result
+    (packs_committed c.committed_header-header.result c.args.wanted.len c.args.wanted.type_id h.claim
+    c.requires.message.type_fits h.holds c.committed_header-header.ensures)
 
 pub returns-clause-view : goal.returns-clause-view
 returns-clause-view c =
-    let h = c.requires.claim in
-    after_change (Stored Open) (λ c. c.place)
-    (staged (Stored Committed)) c.args.capacity _ c.args.place c.args.producer.now.me.0 _ _ h
-    c.requires.seat.view_is h.holds.stage (c.word_index.ensures ∙ ap (index c.args.capacity) (sym h.at_place))
-    c.store.ensures.2.1
+    settled_view c.requires.seat Committed c.requires.claim c.word_index.ensures _ c.store.ensures.2.1
 
 pub returns-clause-seat : goal.returns-clause-seat
-returns-clause-seat c = record {
-  table = c.store.ensures.0;
-  id = c.store.ensures.1;
-  slots =
-      c.store.ensures.2.0;
-  capacity = ap (λ (v : View). v.capacity) (returns-clause-view c);
-}
+returns-clause-seat c =
+    let h = c.store.ensures in
+    same_seat h.0 h.1 h.2.0 (ap (λ (v : View). v.capacity) (returns-clause-view c))

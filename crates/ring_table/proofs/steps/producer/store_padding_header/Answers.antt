@@ -4,8 +4,8 @@ use Rattle.ring_layout.specs.Places.{index}
 use Rattle.ring_table.specs.Staged.{Moved, Padded, AreRising}
 use Rattle.ring_table.specs.Changes.{staged}
 use Rattle.ring_table.specs.Views.{View}
-use Rattle.ring_table.specs.ProducerSteps.{Mine, StoresPadding}
-use Rattle.ring_table.proofs.Calls.{at_word, in_records, after_change}
+use Rattle.ring_table.specs.ProducerSteps.{StoresPadding}
+use Rattle.ring_table.proofs.Calls.{same_seat, record_step, after_change}
 use Rattle.ring_table.proofs.Storing.{pads}
 use Rattle.ring_table.proofs.steps.producer.store_padding_header.Goals as goal
 
@@ -13,20 +13,13 @@ pub store-requires : goal.store-requires
 store-requires c =
     let s = c.requires.seat in
     let h = c.requires.claim in
-    let me : Mine = c.args.producer.now.me in
     let value : ℕ = c.padding_header-header.result in
-    let big = s.lawful.most in
-    let near = c.requires.near in
-    let value_is = c.padding_header-header.ensures in (
-      s.table_is,
-      in_records _ c.args.capacity _ (c.args.from) s.words_are s.lawful c.word_index.ensures,
-      at_word c.args.ring.now.key c.args.capacity _ _ _ s.key_is _ _
-          (c.word_index.ensures ∙ ap (index c.args.capacity) (sym h.holds.from_is)) (λ _. value)
-          (λ i _ me'. (me'.1 ≡ me.1) × StoresPadding i me.0 me'.0 × AreRising me.0.producer.claims)
-          (pads c.args.capacity c.args.ring.now.key.start _ _ me s.view_is h.nth h.claim value h.there h.holds.stage
-          (subst (λ (z : ℕ × ℕ). z.0 < z.1) (λ i. (sym h.holds.from_is i, h.claim.place)) h.holds.some_padding)
-          (value_is ∙ λ i. padding_header (sym h.at_place i - sym h.holds.from_is i))),
-    )
+    record_step s _ c.args.from _ c.word_index.ensures h.holds.from_is (λ _. value)
+    (λ i me _ me'. (me'.1 ≡ me.1) × StoresPadding i me.0 me'.0 × AreRising me.0.producer.claims)
+    (pads c.args.capacity c.args.ring.now.key.start _ _ c.args.producer.now.me s.view_is h.nth h.claim value h.there
+    h.holds.stage
+    (subst (λ (z : ℕ × ℕ). z.0 < z.1) (λ i. (sym h.holds.from_is i, h.claim.place)) h.holds.some_padding)
+    (c.padding_header-header.ensures ∙ λ i. padding_header (sym h.at_place i - sym h.holds.from_is i)))
 
 pub returns-clause-view : goal.returns-clause-view
 returns-clause-view c =
@@ -36,10 +29,6 @@ returns-clause-view c =
     c.store.ensures.2.1
 
 pub returns-clause-seat : goal.returns-clause-seat
-returns-clause-seat c = record {
-  table = c.store.ensures.0;
-  id = c.store.ensures.1;
-  slots =
-      c.store.ensures.2.0;
-  capacity = ap (λ (v : View). v.capacity) (returns-clause-view c);
-}
+returns-clause-seat c =
+    let h = c.store.ensures in
+    same_seat h.0 h.1 h.2.0 (ap (λ (v : View). v.capacity) (returns-clause-view c))

@@ -1,5 +1,6 @@
 use Rattle.std.proofs.Common.{ap}
 use Rattle.ring_table.specs.ProducerSteps.{Mine}
+use Rattle.ring_table.proofs.Calls.{same_seat}
 use Rattle.ring_table.proofs.Seats.{joins_producer}
 use Rattle.ring_table.proofs.steps.seats.join_producer.Goals as goal
 
@@ -14,10 +15,6 @@ join_seat-requires c = (
 )
 
 pub returns-clause-seat : goal.returns-clause-seat
-returns-clause-seat c = let h = c.join_seat.ensures in record {
-  table = h.0;
-  id = h.1;
-  slots =
-      ap (λ (m : Mine). m.1) h.2;
-  capacity = ap (λ (m : Mine). m.0.capacity) h.2;
-}
+returns-clause-seat c =
+    let h = c.join_seat.ensures in
+    same_seat h.0 h.1 (ap (λ (m : Mine). m.1) h.2) (ap (λ (m : Mine). m.0.capacity) h.2)

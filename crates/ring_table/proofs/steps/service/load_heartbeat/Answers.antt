@@ -1,28 +1,15 @@
-use Rattle.std.proofs.Common.{ap}
-use Rattle.ring_table.specs.Views.{Logs, View}
-use Rattle.std.proofs.Common.{◌≡◌, arith}
+use Rattle.std.proofs.Common.{◌≡◌, ap, arith}
+use Rattle.ring_table.specs.Views.{View, Logs}
 use Rattle.ring_table.specs.ServiceSteps.{LoadsHeartbeat}
-use Rattle.ring_table.specs.ProducerSteps.{Mine}
-use Rattle.ring_table.proofs.Calls.{at_word, in_trailer}
+use Rattle.ring_table.proofs.Calls.{same_seat, trailer_step}
 use Rattle.ring_table.proofs.Serving.{loads_heartbeat}
 use Rattle.ring_table.proofs.steps.service.load_heartbeat.Goals as goal
 
 pub load-requires : goal.load-requires
-load-requires c =
-    let s = c.requires.seat in
-    let me : Mine = c.args.producer.now.me in (
-      s.table_is,
-      in_trailer _ c.args.capacity _ 80 s.words_are (omega arith) c.trailer_word.ensures,
-      at_word c.args.ring.now.key c.args.capacity _ _ _ s.key_is _ _ c.trailer_word.ensures (λ n. n)
-          (λ k n me'. (me'.1 ≡ me.1) × LoadsHeartbeat me.0.capacity me.0 n me'.0 × Logs k n me.0 me'.0)
-          (loads_heartbeat c.args.capacity c.args.ring.now.key.start _ _ me s.view_is c.requires.share),
-    )
+load-requires c = trailer_step c.requires.seat _ 80 (omega arith) c.trailer_word.ensures (λ n. n)
+    (λ k me n me'. (me'.1 ≡ me.1) × LoadsHeartbeat me.0.capacity me.0 n me'.0 × Logs k n me.0 me'.0)
+    (loads_heartbeat c.args.capacity c.args.ring.now.key.start _ _ c.args.producer.now.me c.requires.seat.view_is
+    c.requires.share)
 
 pub returns-clause-seat : goal.returns-clause-seat
-returns-clause-seat c = record {
-  table = c.load.ensures.0;
-  id = c.load.ensures.1;
-  slots = c.load.ensures.2.0;
-  capacity =
-      ap (λ (v : View). v.capacity) (c.load.ensures.2.1.view);
-}
+returns-clause-seat c = let h = c.load.ensures in same_seat h.0 h.1 h.2.0 (ap (λ (v : View). v.capacity) h.2.1.view)

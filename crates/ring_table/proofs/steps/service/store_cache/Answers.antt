@@ -1,27 +1,13 @@
-use Rattle.std.proofs.Common.{ap}
+use Rattle.std.proofs.Common.{◌≡◌, ap, arith}
 use Rattle.ring_table.specs.Views.{View}
-use Rattle.std.proofs.Common.{◌≡◌, arith}
-use Rattle.ring_table.specs.ProducerSteps.{Mine}
-use Rattle.ring_table.proofs.Calls.{at_index, in_trailer}
+use Rattle.ring_table.proofs.Calls.{same_seat, trailer_step}
 use Rattle.ring_table.proofs.Serving.{stores_cache}
 use Rattle.ring_table.proofs.steps.service.store_cache.Goals as goal
 
 pub store-requires : goal.store-requires
-store-requires c =
-    let s = c.requires.seat in
-    let me : Mine = c.args.producer.now.me in (
-      s.table_is,
-      in_trailer _ c.args.capacity _ 32 s.words_are (omega arith) c.trailer_word.ensures,
-      at_index c.args.ring.now.key c.args.capacity _ _ _ s.key_is _ _ c.trailer_word.ensures (λ _. c.args.head)
-          (λ n me'. (me'.1 ≡ me.1) × (me'.0 ≡ me.0))
-          (stores_cache c.args.capacity c.args.ring.now.key.start _ _ c.args.head me c.requires.seen),
-    )
+store-requires c = trailer_step c.requires.seat _ 32 (omega arith) c.trailer_word.ensures (λ _. c.args.head)
+    (λ _ me _ me'. (me'.1 ≡ me.1) × (me'.0 ≡ me.0))
+    (stores_cache c.args.capacity c.args.ring.now.key.start _ _ c.args.head c.args.producer.now.me c.requires.seen)
 
 pub returns-clause-seat : goal.returns-clause-seat
-returns-clause-seat c = record {
-  table = c.store.ensures.0;
-  id = c.store.ensures.1;
-  slots =
-      c.store.ensures.2.0;
-  capacity = ap (λ (v : View). v.capacity) (c.store.ensures.2.1);
-}
+returns-clause-seat c = let h = c.store.ensures in same_seat h.0 h.1 h.2.0 (ap (λ (v : View). v.capacity) h.2.1)
