@@ -84,7 +84,7 @@ module _ (C start : ℕ) where
             })
             refl
             (λ j ne. refl)
-            (sees_top_after views id v (record v { consumer = now; log = log }) top top at refl refl
+            (sees_top_after views id v (record v { consumer = now; log = log }) top top at (λ rich. rich) refl
             (λ e. e) r.seated.latest)
             (λ x. refl);
       }

@@ -50,7 +50,7 @@ module _ (C start : ℕ) where
         service = r.service;
         seated = reseated top r.hist r.reader r.consumer r.drawn views r.seated id v at top r.hist r.consumer r.drawn w
             knows (λ j u ne k. k) rich (λ j ne. refl)
-            (sees_top_after views id v w top top at rich refl (λ e. omega arith) r.seated.latest)
+            (sees_top_after views id v w top top at (λ above. omega arith) refl (λ e. omega arith) r.seated.latest)
             (λ x. ap (λ (k : ℕ). k + once_below x r.drawn) (drawn x));
       }
 

@@ -42,16 +42,16 @@ sole_sees_top views id v top sum latest at all = dite (ℕ_discrete latest.seat 
 
 -- somebody sees the new top where who saw the old one does
 pub sees_top_after : (views : List View) (id : ℕ) (v w : View) (top top' : ℕ) → get_elem? views id ≡ some v
-    → w.producer.shares ≡ v.producer.shares → top' ≡ top → (v.producer.seen_tail ≡ top → w.producer.seen_tail ≡ top')
-    → SeesTop views top → SeesTop (set views id w) top'
-sees_top_after views id v w top top' at same tops sees latest = dite (ℕ_discrete latest.seat id)
+    → (0 < v.producer.shares → 0 < w.producer.shares) → top' ≡ top
+    → (v.producer.seen_tail ≡ top → w.producer.seen_tail ≡ top') → SeesTop views top → SeesTop (set views id w) top'
+sees_top_after views id v w top top' at stays tops sees latest = dite (ℕ_discrete latest.seat id)
     (λ e.
     let is : latest.view ≡ v = one_view views latest.seat id latest.view v latest.there at e in
     record {
       seat = id;
       view = w;
       there = set_here views id w (at_below views id v at);
-      rich = subst (λ n. 0 < n) (ap (λ (z : View). z.producer.shares) is ∙ sym same) latest.rich;
+      rich = stays (subst (λ (z : View). 0 < z.producer.shares) is latest.rich);
       sees = sees (ap (λ (z : View). z.producer.seen_tail) (sym is) ∙ latest.sees);
     })
     (λ ne. record {

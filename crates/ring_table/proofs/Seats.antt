@@ -15,7 +15,7 @@ use Rattle.ring_table.specs.Rule.{IsMemory, Knows, IsSeated, Kept, shares_of}
 use Rattle.ring_table.proofs.OwnerLemmas.{all_of-handed_over, owned_by-handed_over, owned_by-handed_away, owned_by-handed_over_other}
 use Rattle.ring_table.proofs.ServiceLemmas.{served_append}
 use Rattle.ring_table.proofs.Sums.{at_below, at_more, each_after_set, total-set, total-append}
-use Rattle.ring_table.proofs.Seating.{one_view}
+use Rattle.ring_table.proofs.Seating.{one_view, sees_top_after}
 
 module _ (top : ℕ) (hist : OwnedHistory) (reader : ℕ) (consumer : ConsumerView) (n : ℕ) where
   -- one seat becomes two, which share what it had
@@ -50,27 +50,14 @@ module _ (top : ℕ) (hist : OwnedHistory) (reader : ℕ) (consumer : ConsumerVi
             let enough : cut + (right.producer.shares + 0) ≡ 65536 = omega arith in
             all ∙ enough);
         latest =
-            (let l = s.latest in
-            dite (ℕ_discrete l.seat id)
-            (λ e.
-            let is : l.view ≡ v = one_view views l.seat id l.view v l.there at e in
+            (let l = sees_top_after views id v left top top at some_left refl (λ e. seen ∙ e) s.latest in
             record {
-              seat = id;
-              view = left;
-              there =
-                  at_longer (set views id left) (right ∷ []) id left (set_here views id left (at_below views id v at));
-              rich = some_left (subst (λ (z : View). 0 < z.producer.shares) is l.rich);
-              sees = seen ∙ ap (λ (z : View). z.producer.seen_tail) (sym is) ∙ l.sees;
-            })
-            (λ ne. record {
               seat = l.seat;
               view = l.view;
-              there =
-                  at_longer (set views id left) (right ∷ []) l.seat l.view
-                  (set_else views id l.seat left ne ∙ l.there);
+              there = at_longer (set views id left) (right ∷ []) l.seat l.view l.there;
               rich = l.rich;
               sees = l.sees;
-            }));
+            });
         once = λ x.
             let f = λ (z : View). times_drawn x z.producer in
             let before : ℕ = total f views in
@@ -135,43 +122,27 @@ module _ (top : ℕ) (hist : OwnedHistory) (reader : ℕ) (consumer : ConsumerVi
             let done : two ≡ 65536 = omega arith in
             done);
         latest =
-            (let l = s.latest in
-            let at_id = set_else (set views id both) other id spent (λ e. ne (sym e))
-            ∙ set_here views id both (at_below views id v at) in
-            dite (ℕ_discrete l.seat id)
+            (let l = sees_top_after views id v both top top' at (λ rich. omega arith) tops (λ e. seen_v e ∙ sym tops)
+            s.latest in
+            dite (ℕ_discrete l.seat other)
             (λ e.
-            let is : l.view ≡ v = one_view views l.seat id l.view v l.there at e in
+            let is : l.view ≡ w = one_view (set views id both) l.seat other l.view w l.there there e in
             let rich = subst (λ (z : View). 0 < z.producer.shares) is l.rich in
             record {
               seat = id;
               view = both;
-              there = at_id;
+              there = set_else (set views id both) other id spent (λ e. ne (sym e))
+                  ∙ set_here views id both (at_below views id v at);
               rich = omega arith;
-              sees =
-                  seen_v (ap (λ (z : View). z.producer.seen_tail) (sym is) ∙ l.sees) ∙ sym tops;
-            })
-            (λ not_id. dite (ℕ_discrete l.seat other)
-            (λ e.
-            let is : l.view ≡ w =
-            one_view views l.seat other l.view w l.there (other_was views id other both w ne there) e in
-            let rich = subst (λ (z : View). 0 < z.producer.shares) is l.rich in
-            record {
-              seat = id;
-              view = both;
-              there = at_id;
-              rich = omega arith;
-              sees =
-                  seen_w rich (ap (λ (z : View). z.producer.seen_tail) (sym is) ∙ l.sees) ∙ sym tops;
+              sees = seen_w rich (ap (λ (z : View). z.producer.seen_tail) (sym is) ∙ l.sees ∙ tops) ∙ sym tops;
             })
             (λ not_other. record {
               seat = l.seat;
               view = l.view;
-              there =
-                  set_else (set views id both) other l.seat spent not_other ∙ set_else views id l.seat both not_id
-                  ∙ l.there;
+              there = set_else (set views id both) other l.seat spent not_other ∙ l.there;
               rich = l.rich;
-              sees = l.sees ∙ sym tops;
-            })));
+              sees = l.sees;
+            }));
         once = λ x.
             let f = λ (z : View). times_drawn x z.producer in
             let before : ℕ = total f views in

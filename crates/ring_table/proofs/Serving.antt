@@ -144,7 +144,7 @@ module _ (C start : ℕ) where
               })
               refl
               (λ j ne. refl)
-              (sees_top_after s.views id v w top top at refl refl (λ e. e) r.seated.latest)
+              (sees_top_after s.views id v w top top at (λ rich. rich) refl (λ e. e) r.seated.latest)
               (λ x. times_drawn-more x k v.producer);
         },
         (refl, record { number = k; id = is; view = refl; rising = own.served.0.draws }),
@@ -246,7 +246,7 @@ module _ (C start : ℕ) where
               })
               refl
               (λ j ne. refl)
-              (sees_top_after s.views id v w top top at refl refl (λ e. e) r.seated.latest)
+              (sees_top_after s.views id v w top top at (λ rich. rich) refl (λ e. e) r.seated.latest)
               (λ x. refl);
         },
         (refl, refl),

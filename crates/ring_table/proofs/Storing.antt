@@ -127,7 +127,7 @@ module _ (C start : ℕ) where
             })
             refl
             (λ j ne. owned_by-edited_other id p f j h ne)
-            (sees_top_after views id v w top (staged_end start (all_of h')) at refl tops
+            (sees_top_after views id v w top (staged_end start (all_of h')) at (λ rich. rich) tops
             (λ e. e ∙ sym tops) r.seated.latest)
             (λ x. refl);
       }
