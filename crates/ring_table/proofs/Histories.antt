@@ -82,6 +82,13 @@ changed_at_place p f c e = ap (λ b. cond b (f c) c) (eq-eqb c.place p e)
 pub changed_at_other : (p : ℕ) (f : StagedClaim → StagedClaim) (c : StagedClaim) → c.place ≢ p → changed_at p f c ≡ c
 changed_at_other p f c ne = ap (λ b. cond b (f c) c) (ne_eqb c.place p ne)
 
+pub changed_there : (p : ℕ) (f : StagedClaim → StagedClaim) (cs : List StagedClaim) (k : ℕ) (c : StagedClaim)
+    → get_elem? cs k ≡ some c → c.place ≡ p → get_elem? (changed p f cs) k ≡ some (f c)
+changed_there p f [] k c e at = absurd (some-ne-none c (sym e))
+changed_there p f (d ∷ ds) zero c e at =
+    ap some (ap (changed_at p f) (some-injective d c e) ∙ changed_at_place p f c at)
+changed_there p f (d ∷ ds) (suc k) c e at = changed_there p f ds k c e at
+
 module _ (id p : ℕ) (f : StagedClaim → StagedClaim) where
   pub owned_by-edited : (h : OwnedHistory) → owned_by id (edited id p f h) ≡ changed p f (owned_by id h)
   owned_by-edited [] = refl

@@ -1,7 +1,7 @@
 -- What the tests need of their seats.
 use Rattle.std.proofs.Common.{◌≡◌, ℕ, zero, suc, ◌+◌, ◌<◌, ◌≤◌, List, [], ◌∷◌, ◌++◌, length, slice_index, pos, inl, inr, sym, ap, subst, ◌∙◌, refl, arith, rules}
 use Rattle.std.proofs.lemmas.Int.{ints}
-use mathlib.Core.Option.{some, some-injective, some-ne-none}
+use mathlib.Core.Option.{some}
 use lib.ListN.{get_elem?}
 use Rattle.std.specs.Int.{to_le_bytes, w64}
 use Rattle.std.specs.Int.RustNames.{count_ones}
@@ -13,7 +13,7 @@ use Rattle.ring_layout.proofs.PlaceLemmas.{next_cases}
 use Rattle.ring_table.specs.Rule.{IsLawful}
 use Rattle.ring_table.specs.declared.claim.StagedClaim.{StagedClaim}
 use Rattle.ring_table.specs.declared.claim.PlacedMessage.{PlacedMessage}
-use Rattle.ring_table.specs.Changes.{changed, changed_at}
+use Rattle.ring_table.specs.Changes.{changed}
 use Rattle.ring_table.specs.declared.view.Key.{Key}
 use Rattle.ring_table.specs.declared.view.View.{View}
 use Rattle.ring_table.specs.declared.view.Wanted.{Wanted}
@@ -21,7 +21,7 @@ use Rattle.ring_table.specs.Views.{with_claim, with_claims}
 use Rattle.ring_table.specs.ProducerSteps.{HasClaimAt}
 use Rattle.ring_table.specs.ConsumerSteps.{FindsMessage, LoadsHeader, PassesPadding}
 use Rattle.ring_table.specs.Seats.{IsSeatOf, IsSameSeat}
-use Rattle.ring_table.proofs.Histories.{changed_at_place}
+use Rattle.ring_table.proofs.Histories.{changed_there}
 
 pub capacity_128 : IsCapacity 128
 unfolding count_ones
@@ -61,13 +61,6 @@ last_of : (cs : List StagedClaim) (c : StagedClaim) → get_elem? (cs ++ c ∷ [
 last_of [] c = refl
 last_of (d ∷ ds) c = last_of ds c
 
-changed_at_nth : (p : ℕ) (f : StagedClaim → StagedClaim) (cs : List StagedClaim) (k : ℕ) (c : StagedClaim)
-    → get_elem? cs k ≡ some c → c.place ≡ p → get_elem? (changed p f cs) k ≡ some (f c)
-changed_at_nth p f [] k c there at = absurd (some-ne-none c (sym there))
-changed_at_nth p f (d ∷ ds) zero c there at =
-    ap some (ap (changed_at p f) (some-injective d c there) ∙ changed_at_place p f c at)
-changed_at_nth p f (d ∷ ds) (suc k) c there at = changed_at_nth p f ds k c there at
-
 -- what holds of a claim as it is made
 pub claim_made : (v w : View) (c : StagedClaim) (tail place : ℕ) (P : StagedClaim → Type 0) → w ≡ with_claim c tail v
     → c.place ≡ place → P c → HasClaimAt w place P
@@ -92,7 +85,7 @@ claim_changed v w place f P Q h is goes =
       nth = h.nth;
       claim = f h.claim;
       there = ap (λ (u : View). get_elem? u.producer.claims h.nth) is
-          ∙ changed_at_nth place f v.producer.claims h.nth h.claim h.there h.at_place;
+          ∙ changed_there place f v.producer.claims h.nth h.claim h.there h.at_place;
       at_place = t.0
           ∙ h.at_place;
       holds = t.1;
