@@ -1,20 +1,24 @@
 -- How the claims that a producer holds are aborted, one after another.
-use Rattle.std.proofs.Common.{Result, IsOk, ◌≡◌, ℕ, ◌+◌, ◌-◌, ◌<◌, List, ◌∷◌, drop, length, set, Option, Some, None, MatchOption, IfNone, slice_index_or, sym, ap, ◌∙◌, subst, arith, inl, inr, get_or-set_same, get_or-set_other}
+use Rattle.std.proofs.Common.{Result, IsOk, ◌≡◌, ◌≢◌, ℕ, ◌+◌, ◌-◌, ◌<◌, List, ◌∷◌, drop, length, set, Option, Some, None, MatchOption, IfNone, slice_index_or, sym, ap, ◌∙◌, subst, arith, inl, inr, get_or-set_same, get_or-set_other}
 use Rattle.std.proofs.lemmas.Bool.{cases_lt}
 use Rattle.std.proofs.lemmas.List.{drop-set-lt, length-set}
-use Rattle.ring_layout.specs.declared.message.ClaimState.TheVariants.{Aborted}
+use Rattle.ring_layout.specs.declared.message.ClaimState.{ClaimState}
+use Rattle.ring_layout.specs.declared.message.ClaimState.TheVariants.{Open, Aborted}
 use Rattle.ring_words.specs.Open.{ClaimAt}
+use Rattle.ring_table.specs.declared.claim.Stage.TheVariants.{Stored}
 use Rattle.ring_table.specs.declared.view.View.{View}
+use Rattle.ring_table.specs.Changes.{staged}
+use Rattle.ring_table.specs.ProducerSteps.{with_changed}
 use Rattle.ring_table.specs.Views.{with_claims}
 use Rattle.ring_rings.specs.declared.fault.CloseFault.{CloseFault}
 use Rattle.ring_rings.specs.declared.ring.Ring.{Ring}
 use Rattle.ring_rings.specs.declared.ring.Producer.{Producer}
 use Rattle.ring_rings.specs.declared.ring.Consumer.{Consumer}
-use Rattle.ring_rings.specs.Seats.{view_of, IsProducerOf}
+use Rattle.ring_rings.specs.Seats.{view_of, IsProducerOf, KeepsOthers}
 use Rattle.ring_rings.specs.Closing.{close_refusal_of, IsRefusedAs}
-use Rattle.ring_loose.specs.Claims.{Holder, SettlesAt}
-use Rattle.ring_loose.specs.Held.{HasAt, IsFree}
-use Rattle.ring_loose.proofs.ClaimsLemmas.{same_open}
+use Rattle.ring_loose.specs.Claims.{AreOpen, Holder, SettlesAt}
+use Rattle.ring_loose.specs.Held.{Goes, HasAt, IsFree}
+use Rattle.ring_loose.proofs.ClaimsLemmas.{one_less_open, same_open}
 use Rattle.ring_loose.proofs.HeldLemmas.{front, none_at}
 use Rattle.ring_rings.proofs.LeavingLemmas.{Keeps}
 use Rattle.ring_loose.specs.Loose.{AreSeats, Loose, aborted_view, all_aborted, with_holder}
@@ -106,3 +110,18 @@ same_seats ring old new c claims seats is keeps =
       consumer = seats.consumer;
       held = same_open ring old new claims keeps.claims seats.held;
     }
+
+-- a claim that was held is settled
+pub settled_seats : {K : Type 0} (ring : Ring K) (old new : Producer) (c : Consumer) (claims left : List (Option ClaimAt))
+    (n : ℕ) (t : ClaimAt) (s : ClaimState) → s ≢ Open → AreSeats ring old c claims → Goes t claims n left
+    → IsProducerOf ring new → KeepsOthers ring t.place old new
+    → view_of new ≡ with_changed t.place (staged (Stored s)) (view_of old) → AreSeats ring new c left
+settled_seats ring old new c claims left n t s settled seats taken is others change = record {
+  start = seats.start;
+  producer = is;
+  alone = ap (λ (v : View). v.producer.shares) change ∙ seats.alone;
+  consumer = seats.consumer;
+  held = subst (AreOpen ring new) (sym taken.given_up)
+      (one_less_open ring old new claims (n - 1) t s settled seats.held taken.here.has others
+      (ap (λ (v : View). v.producer.claims) change));
+}

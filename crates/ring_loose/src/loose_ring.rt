@@ -1,6 +1,6 @@
 //! The ring of a run, with its numbered claims.
-ghost use Rattle.std.specs.Prelude.{◌≡◌, ◌+◌, ◌≤◌, IfErr, IfNone, IfOk, IfSome, MatchOption, OnErr, OnOk, OnSome, length};
-ghost use Rattle.ring_layout.specs.declared.message.ClaimState.TheVariants.{Committed, Aborted};
+ghost use Rattle.std.specs.Prelude.{◌≡◌, ◌≢◌, ◌+◌, ◌≤◌, IfErr, IfNone, IfOk, IfSome, MatchOption, OnErr, OnOk, length};
+ghost use Rattle.ring_layout.specs.declared.message.ClaimState.TheVariants.{Open, Committed, Aborted};
 ghost use Rattle.ring_layout.specs.Places.{is_capacity};
 ghost use Rattle.ring_layout.specs.Refusals.{make_refusal_of, IsMadeUnless};
 ghost use Rattle.ring_rings.specs.Closing.{HandsOut, Serves};
@@ -16,6 +16,7 @@ ghost use Rattle.ring_words.specs.Read.{stop_of};
 ghost use Rattle.ring_words.specs.declared.read.end.Stop.{Stop};
 
 use crate::numbered::Numbered;
+use ring_layout::ClaimState;
 use ring_rings::{Claim, Consumer, ManyToOneRing, Producer};
 use ring_words::{ClaimFault, Handler, MakeFault, Positions, PutRange, ReadEnd, SoloRing};
 use std::alloc::{AllocError, Global};
@@ -80,50 +81,6 @@ fn put_into(
     let put = ring.put(producer, &mut claim, offset, bytes);
     claims.put_back(number, claim);
     Some(put)
-}
-
-/// Commits the claim of this number, if it is open.
-fn commit_claim(
-    ring: &ManyToOneRing,
-    producer: &mut Producer,
-    claims: &mut Numbered<Claim>,
-    number: usize,
-) -> Option<()>
-    requires producer { IsProducerOf ring.now producer.old }
-    requires claims { AreOpen ring.now producer.old (held_in claims.old) }
-    ensures producer { IsProducerOf ring.now producer.new }
-    ensures claims { AreOpen ring.now producer.new (held_in claims.new) }
-    ensures shares { shares_of producer.new ≡ shares_of producer.old }
-    ensures settled { OnSome result
-        (SettlesAt Committed (holder_of producer.old claims.old) number (holder_of producer.new claims.new)) }
-    ensures same { IfNone result ((producer.new ≡ producer.old) × (held_in claims.new ≡ held_in claims.old)) }
-    ensures free { IfNone result (IsFree (held_in claims.old) number) }
-{
-    let claim = claims.take(number)?;
-    ring.commit(producer, claim);
-    Some(())
-}
-
-/// Aborts the claim of this number, if it is open.
-fn abort_claim(
-    ring: &ManyToOneRing,
-    producer: &mut Producer,
-    claims: &mut Numbered<Claim>,
-    number: usize,
-) -> Option<()>
-    requires producer { IsProducerOf ring.now producer.old }
-    requires claims { AreOpen ring.now producer.old (held_in claims.old) }
-    ensures producer { IsProducerOf ring.now producer.new }
-    ensures claims { AreOpen ring.now producer.new (held_in claims.new) }
-    ensures shares { shares_of producer.new ≡ shares_of producer.old }
-    ensures settled { OnSome result
-        (SettlesAt Aborted (holder_of producer.old claims.old) number (holder_of producer.new claims.new)) }
-    ensures same { IfNone result ((producer.new ≡ producer.old) × (held_in claims.new ≡ held_in claims.old)) }
-    ensures free { IfNone result (IsFree (held_in claims.old) number) }
-{
-    let claim = claims.take(number)?;
-    ring.abort(producer, claim);
-    Some(())
 }
 
 /// Claims room, and keeps the claim under the next number. The room to keep it is made first.
@@ -224,6 +181,23 @@ impl LooseRing {
         )
     }
 
+    /// Settles the claim of this number so; `None` where it is not open.
+    fn settle(&mut self, number: usize, state: ClaimState) -> Option<()>
+        requires { state ≢ Open }
+        ensures settled { MatchOption result (self.new ≡ self.old)
+            (λ _. SettlesAt state self.old.holder number self.new.holder) }
+        ensures free { IfNone result (IsFree self.old.holder.claims number) }
+        ensures rest { self.new ≡ with_holder self.new.holder self.old }
+    {
+        let claim = self.claims.take(number)?;
+        match state {
+            ClaimState::Committed => self.ring.commit(&mut self.producer, claim),
+            ClaimState::Aborted => self.ring.abort(&mut self.producer, claim),
+            ClaimState::Open => unreachable!(),
+        }
+        Some(())
+    }
+
     /// Commits the claim of this number; `None` where it is not open.
     pub fn commit(&mut self, number: usize) -> Option<()>
         ensures settled { MatchOption result (self.new ≡ self.old)
@@ -231,7 +205,7 @@ impl LooseRing {
         ensures free { IfNone result (IsFree self.old.holder.claims number) }
         ensures rest { self.new ≡ with_holder self.new.holder self.old }
     {
-        commit_claim(&self.ring, &mut self.producer, &mut self.claims, number)
+        self.settle(number, ClaimState::Committed)
     }
 
     /// Aborts the claim of this number; `None` where it is not open.
@@ -241,7 +215,7 @@ impl LooseRing {
         ensures free { IfNone result (IsFree self.old.holder.claims number) }
         ensures rest { self.new ≡ with_holder self.new.holder self.old }
     {
-        abort_claim(&self.ring, &mut self.producer, &mut self.claims, number)
+        self.settle(number, ClaimState::Aborted)
     }
 
     /// Reads at most `limit` messages.
