@@ -1,36 +1,10 @@
 //! Rings for C: each export works on handles, and each handle owns what it stands for.
 //!
-//! - `exports`: what C calls, by kind of handle. `work_on`: what these calls have in common. `code`: what they answer.
-//! - `handle`, `held`, `loose`: what C keeps, and what it can stand for. `identity`: what tells two rings apart.
-//! - `producer`, `claims`, `consumer`, `copying`, `batch`, `closing`, `ring`: handles of a ring.
-//! - `boards`, `raw`, `board_ending`: handles of a board. `counters`, `counting`, `reading`: of counters and their
-//!   readers.
-//! - `conductor`, `client`, `lending`, `finishing`: a conductor, its clients, and what it lends.
+//! - `exports`: what C calls, by kind of handle. `work_on`: what these calls have in common.
+//! - What a handle stands for, and what its calls do, is in `ring_handles`.
 #![tactic(auto)]
 
-mod batch;
-mod board_ending;
-mod boards;
-mod claims;
-mod client;
-mod closing;
-mod code;
-mod conductor;
-mod consumer;
-mod copying;
-mod counters;
-mod counting;
 mod exports;
-mod finishing;
-mod handle;
-mod held;
-mod identity;
-mod lending;
-mod loose;
-mod producer;
-mod raw;
-mod reading;
-mod ring;
 mod work_on;
 
 pub use exports::boards::{
@@ -77,4 +51,3 @@ pub use exports::raw::{
 };
 pub use exports::reading::{felter_counters_reader, felter_reader_value};
 pub use exports::sharing::{felter_free, felter_split};
-pub use handle::{Handle, handle_crosses};

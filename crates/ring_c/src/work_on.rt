@@ -7,13 +7,13 @@ macro_rules! work_on {
         match $handle.take($alloc) {
             Some(mut held) => {
                 let code = match &mut *held {
-                    $crate::held::Held::$kind($side) => $work,
-                    _ => $crate::code::WRONG_HANDLE,
+                    ring_handles::Held::$kind($side) => $work,
+                    _ => ring_handles::code::WRONG_HANDLE,
                 };
                 $handle.put(held);
                 code
             }
-            None => $crate::code::NO_HANDLE,
+            None => ring_handles::code::NO_HANDLE,
         }
     };
 }
@@ -23,27 +23,27 @@ macro_rules! work_on {
 macro_rules! make_into {
     ($handle:ident, $alloc:ident, $kind:ident($side:ident) => $make:expr, $other:ident, $made:ident) => {
         match $handle.take($alloc) {
-            Some(mut held) => match Box::new($alloc, $crate::held::Held::Vacant) {
+            Some(mut held) => match Box::new($alloc, ring_handles::Held::Vacant) {
                 Ok(room) => {
                     let code = match &mut *held {
-                        $crate::held::Held::$kind($side) => match $make {
+                        ring_handles::Held::$kind($side) => match $make {
                             Ok(made) => {
-                                $other.refill(room, $crate::held::Held::$made(made));
-                                $crate::code::DONE
+                                $other.refill(room, ring_handles::Held::$made(made));
+                                ring_handles::code::DONE
                             }
                             Err(code) => code,
                         },
-                        _ => $crate::code::WRONG_HANDLE,
+                        _ => ring_handles::code::WRONG_HANDLE,
                     };
                     $handle.put(held);
                     code
                 }
                 Err(_) => {
                     $handle.put(held);
-                    $crate::code::OUT_OF_MEMORY
+                    ring_handles::code::OUT_OF_MEMORY
                 }
             },
-            None => $crate::code::NO_HANDLE,
+            None => ring_handles::code::NO_HANDLE,
         }
     };
 }
@@ -55,24 +55,24 @@ macro_rules! join_into {
         match ($handle.take($alloc), $other.take($alloc)) {
             (Some(mut held), Some(mut room)) => {
                 let code = match &mut *held {
-                    $crate::held::Held::$kind($side) => {
-                        match std::mem::replace(&mut *room, $crate::held::Held::Vacant) {
-                            $crate::held::Held::$second($joining) => match $join {
-                                Ok(()) => $crate::code::DONE,
+                    ring_handles::Held::$kind($side) => {
+                        match std::mem::replace(&mut *room, ring_handles::Held::Vacant) {
+                            ring_handles::Held::$second($joining) => match $join {
+                                Ok(()) => ring_handles::code::DONE,
                                 Err((code, back)) => {
-                                    $other.refill(room, $crate::held::Held::$second(back));
+                                    $other.refill(room, ring_handles::Held::$second(back));
                                     code
                                 }
                             },
                             back => {
                                 $other.refill(room, back);
-                                $crate::code::WRONG_HANDLE
+                                ring_handles::code::WRONG_HANDLE
                             }
                         }
                     }
                     _ => {
                         $other.put(room);
-                        $crate::code::WRONG_HANDLE
+                        ring_handles::code::WRONG_HANDLE
                     }
                 };
                 $handle.put(held);
@@ -80,13 +80,13 @@ macro_rules! join_into {
             }
             (Some(held), None) => {
                 $handle.put(held);
-                $crate::code::NO_HANDLE
+                ring_handles::code::NO_HANDLE
             }
             (None, Some(room)) => {
                 $other.put(room);
-                $crate::code::NO_HANDLE
+                ring_handles::code::NO_HANDLE
             }
-            (None, None) => $crate::code::NO_HANDLE,
+            (None, None) => ring_handles::code::NO_HANDLE,
         }
     };
 }
@@ -96,23 +96,23 @@ macro_rules! join_into {
 macro_rules! end_with {
     ($handle:ident, $alloc:ident, $kind:ident($side:ident) => $end:expr, $told:ident => $out:expr) => {
         match $handle.take($alloc) {
-            Some(mut room) => match std::mem::replace(&mut *room, $crate::held::Held::Vacant) {
-                $crate::held::Held::$kind($side) => match $end {
+            Some(mut room) => match std::mem::replace(&mut *room, ring_handles::Held::Vacant) {
+                ring_handles::Held::$kind($side) => match $end {
                     Ok($told) => {
                         $out;
-                        $crate::code::DONE
+                        ring_handles::code::DONE
                     }
                     Err((code, back)) => {
-                        $handle.refill(room, $crate::held::Held::$kind(back));
+                        $handle.refill(room, ring_handles::Held::$kind(back));
                         code
                     }
                 },
                 back => {
                     $handle.refill(room, back);
-                    $crate::code::WRONG_HANDLE
+                    ring_handles::code::WRONG_HANDLE
                 }
             },
-            None => $crate::code::NO_HANDLE,
+            None => ring_handles::code::NO_HANDLE,
         }
     };
 }
@@ -124,12 +124,12 @@ macro_rules! fill {
             match $make {
                 Ok(made) => {
                     $handle.put(made);
-                    $crate::code::DONE
+                    ring_handles::code::DONE
                 }
                 Err(code) => code,
             }
         } else {
-            $crate::code::HANDLE_IN_USE
+            ring_handles::code::HANDLE_IN_USE
         }
     };
 }
@@ -142,12 +142,12 @@ macro_rules! fill_both {
                 Ok((one, two)) => {
                     $first.put(one);
                     $second.put(two);
-                    $crate::code::DONE
+                    ring_handles::code::DONE
                 }
                 Err(code) => code,
             }
         } else {
-            $crate::code::HANDLE_IN_USE
+            ring_handles::code::HANDLE_IN_USE
         }
     };
 }

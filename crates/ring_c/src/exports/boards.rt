@@ -1,47 +1,14 @@
 //! What handles of a board do.
-ghost use Rattle.std.specs.Prelude.{◌≡◌, ◌≢◌, pos, IfOk, MatchResult};
-ghost use Rattle.std.specs.declared.option.Option.TheVariants.{None, Some};
-ghost use Rattle.ring_c.specs.Boards.{heard_out, IsUnheard, Received, SaysLapped, Subscribes, Transmitted};
-ghost use Rattle.ring_c.specs.Told.{a_receiver, a_transmitter, Gives, GivesInto, HoldNewBoard, IsBoardCode, OpensBoard, Uses, Yields};
+ghost use Rattle.std.specs.Prelude.{◌≡◌};
+ghost use Rattle.std.specs.declared.option.Option.TheVariants.{None};
+ghost use Rattle.ring_handles.specs.Boards.{heard_out, IsUnheard, Received, SaysLapped, Subscribes, Transmitted};
+ghost use Rattle.ring_handles.specs.Kinds.{a_receiver, a_transmitter};
+ghost use Rattle.ring_c.specs.Told.{Gives, GivesInto, OpensBoard, Uses, Yields};
 
-use crate::boards::TransmitterSide;
-use crate::code::{HANDLE_IN_USE, OUT_OF_MEMORY};
-use crate::handle::Handle;
-use crate::held::Held;
-use crate::identity::Identity;
 use crate::work_on::{fill, make_into, work_on};
-use ring_board::Board;
+use ring_handles::code::HANDLE_IN_USE;
+use ring_handles::{Handle, Identity, open_board};
 use std::alloc::Global;
-use std::sync::Arc;
-
-/// Makes a board.
-fn make_board(
-    alloc: Global,
-    identity: Identity,
-    capacity: u32,
-    start: u64,
-) -> Result<Box<Held>, i32>
-    ensures made { IfOk result (λ made. HoldNewBoard identity capacity start (Some made.value)) }
-    ensures code { MatchResult result (λ _. IsBoardCode capacity start (pos 0))
-        (λ code. IsBoardCode capacity start code × (code ≢ pos 0)) }
-{
-    let (board, transmitter) = match Board::new_at(alloc, capacity, start) {
-        Ok(made) => made,
-        Err(fault) => return Err(fault.code()),
-    };
-    let Ok(board) = Arc::new(alloc, board) else {
-        return Err(OUT_OF_MEMORY);
-    };
-    let side = TransmitterSide {
-        board,
-        identity,
-        transmitter,
-    };
-    match Box::new(alloc, Held::Transmitter(side)) {
-        Ok(made) => Ok(made),
-        Err(_) => Err(OUT_OF_MEMORY),
-    }
-}
 
 /// Makes a board that starts at 0, with its transmitter.
 #[unsafe(no_mangle)]
@@ -56,7 +23,7 @@ pub extern "C" fn felter_board_new_numbered(
     fill!(
         transmitter,
         alloc,
-        make_board(alloc, Identity { number }, capacity, 0)
+        open_board(alloc, Identity { number }, capacity, 0)
     )
 }
 
@@ -74,7 +41,7 @@ pub extern "C" fn felter_board_new_at_numbered(
     fill!(
         transmitter,
         alloc,
-        make_board(alloc, Identity { number }, capacity, start)
+        open_board(alloc, Identity { number }, capacity, start)
     )
 }
 

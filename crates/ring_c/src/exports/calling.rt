@@ -1,11 +1,12 @@
 //! What handles of clients do.
 ghost use Rattle.ring_conductor.specs.declared.client.request.Request.TheVariants.{Allocate, AllocateOwned, Close, Free, Set};
-ghost use Rattle.ring_c.specs.Calling.{poll_out, ClientBeat, Polled, WasSent};
-ghost use Rattle.ring_c.specs.Told.{a_client, Yields};
+ghost use Rattle.ring_handles.specs.Calling.{poll_out, ClientBeat, Polled, WasSent};
+ghost use Rattle.ring_handles.specs.Kinds.{a_client};
+ghost use Rattle.ring_c.specs.Told.{Yields};
 
-use crate::handle::Handle;
 use crate::work_on::work_on;
 use ring_conductor::Request;
+use ring_handles::Handle;
 use std::alloc::Global;
 
 /// Sends a command that allocates a counter, and says its correlation id.

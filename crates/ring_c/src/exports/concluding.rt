@@ -1,8 +1,8 @@
 //! Conductors that end.
-ghost use Rattle.ring_c.specs.Concluding.{counts, Ends};
+ghost use Rattle.ring_c.specs.Told.{counts, Ends};
 
-use crate::handle::Handle;
 use crate::work_on::end_with;
+use ring_handles::Handle;
 use std::alloc::Global;
 
 /// Ends a conductor whose clients and receivers were all taken back, empties its handle, and says how many commands it

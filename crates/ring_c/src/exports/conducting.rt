@@ -1,32 +1,14 @@
 //! What handles of conductors do.
-ghost use Rattle.std.specs.Prelude.{◌≡◌, ◌≢◌, pos, IfOk, MatchResult};
-ghost use Rattle.std.specs.declared.option.Option.TheVariants.{None, Some};
-ghost use Rattle.ring_c.specs.Concluding.{HoldNewConductor, OpensConductor};
-ghost use Rattle.ring_c.specs.Conducting.{report_out, ConductorBeat, Hires, IsConductorCode, IsUnhired, Worked};
-ghost use Rattle.ring_c.specs.Told.{a_client, a_conductor, Gives, GivesInto, Uses, Yields};
+ghost use Rattle.std.specs.Prelude.{◌≡◌};
+ghost use Rattle.std.specs.declared.option.Option.TheVariants.{None};
+ghost use Rattle.ring_handles.specs.Conducting.{report_out, ConductorBeat, Hires, IsUnhired, Worked};
+ghost use Rattle.ring_handles.specs.Kinds.{a_client, a_conductor};
+ghost use Rattle.ring_c.specs.Told.{Gives, GivesInto, OpensConductor, Uses, Yields};
 
-use crate::code::{HANDLE_IN_USE, OUT_OF_MEMORY};
-use crate::conductor::ConductorSide;
-use crate::conductor::making::Sizes;
-use crate::handle::Handle;
-use crate::held::Held;
-use crate::identity::Identity;
 use crate::work_on::{fill, make_into, work_on};
+use ring_handles::code::HANDLE_IN_USE;
+use ring_handles::{Handle, Identity, Sizes, open_conductor};
 use std::alloc::Global;
-
-/// Makes a conductor.
-fn make_conductor(alloc: Global, identity: Identity, sizes: Sizes) -> Result<Box<Held>, i32>
-    ensures made { IfOk result (λ made.
-        HoldNewConductor identity sizes.capacity sizes.replies sizes.counters sizes.reuse_ms (Some made.value)) }
-    ensures code { MatchResult result (λ _. IsConductorCode sizes.capacity sizes.replies sizes.counters (pos 0))
-        (λ code. IsConductorCode sizes.capacity sizes.replies sizes.counters code × (code ≢ pos 0)) }
-{
-    let side = ConductorSide::new(alloc, identity, sizes)?;
-    match Box::new(alloc, Held::Conductor(side)) {
-        Ok(made) => Ok(made),
-        Err(_) => Err(OUT_OF_MEMORY),
-    }
-}
 
 /// Makes a conductor, with a ring for the commands, a board for the replies and counters.
 #[unsafe(no_mangle)]
@@ -50,7 +32,7 @@ pub extern "C" fn felter_conductor_new_numbered(
     fill!(
         conductor,
         alloc,
-        make_conductor(alloc, Identity { number }, sizes)
+        open_conductor(alloc, Identity { number }, sizes)
     )
 }
 

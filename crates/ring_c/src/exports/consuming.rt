@@ -1,10 +1,11 @@
 //! What a consumer's handle does.
-ghost use Rattle.ring_c.specs.Batch.{batch, ReadBatch};
-ghost use Rattle.ring_c.specs.Consuming.{out, Beat, ReadOne};
-ghost use Rattle.ring_c.specs.Told.{a_consumer, Uses, Yields};
+ghost use Rattle.ring_handles.specs.Batch.{batch, ReadBatch};
+ghost use Rattle.ring_handles.specs.Consuming.{out, Beat, ReadOne};
+ghost use Rattle.ring_handles.specs.Kinds.{a_consumer};
+ghost use Rattle.ring_c.specs.Told.{Uses, Yields};
 
-use crate::handle::Handle;
 use crate::work_on::work_on;
+use ring_handles::Handle;
 use std::alloc::Global;
 
 /// Reads the next message into a buffer, and says its type id and length.

@@ -1,11 +1,11 @@
 //! What a handle of counters does.
 ghost use Rattle.ring_counters.specs.Registry.{counter_at};
-ghost use Rattle.ring_c.specs.Counting.{label_out, Asked, OwnerClosed, SaysKey, SaysLabel, WasAdded, WasAllocated, WasCounted, WasFound, WasFreed, WasSet};
-ghost use Rattle.ring_c.specs.Told.{some_counters, Uses, Yields};
+ghost use Rattle.ring_handles.specs.Counting.{label_out, Asked, OwnerClosed, SaysKey, SaysLabel, WasAdded, WasAllocated, WasCounted, WasFound, WasFreed, WasSet};
+ghost use Rattle.ring_handles.specs.Kinds.{some_counters};
+ghost use Rattle.ring_c.specs.Told.{Uses, Yields};
 
-use crate::counting::Wanted;
-use crate::handle::Handle;
 use crate::work_on::work_on;
+use ring_handles::{Handle, Wanted};
 use std::alloc::Global;
 
 /// Allocates a counter of value 0, and says its id.

@@ -1,13 +1,14 @@
 //! Rings and boards that end, and what boards and counters take back.
-ghost use Rattle.ring_c.specs.Finishing.{Finishes, IsNotLast, IsUnfinished, TakesLast};
-ghost use Rattle.ring_c.specs.Returning.{EndsAt, IsAstray, IsBoardKept, IsOfOthers, IsOfThese, IsOfThisBoard};
-ghost use Rattle.ring_c.specs.Returning.{IsRawAstray, IsRawOfThisBoard, TakesListener, TakesLoads, TakesWatcher};
-ghost use Rattle.ring_c.specs.Side.{IsOfThisRing};
-ghost use Rattle.ring_c.specs.Told.{a_consumer, a_producer, a_raw_receiver, a_reader, a_receiver, a_transmitter};
-ghost use Rattle.ring_c.specs.Told.{some_counters, EndsAs, JoinsInto, WhereBoth};
+ghost use Rattle.ring_handles.specs.Finishing.{Finishes, IsNotLast, IsUnfinished, TakesLast};
+ghost use Rattle.ring_handles.specs.Returning.{EndsAt, IsAstray, IsBoardKept, IsOfOthers, IsOfThese, IsOfThisBoard};
+ghost use Rattle.ring_handles.specs.Returning.{IsRawAstray, IsRawOfThisBoard, TakesListener, TakesLoads, TakesWatcher};
+ghost use Rattle.ring_handles.specs.Side.{IsOfThisRing};
+ghost use Rattle.ring_handles.specs.Kinds.{a_consumer, a_producer, a_raw_receiver, a_reader, a_receiver, a_transmitter};
+ghost use Rattle.ring_handles.specs.Kinds.{some_counters};
+ghost use Rattle.ring_c.specs.Told.{EndsAs, JoinsInto, WhereBoth};
 
-use crate::handle::Handle;
 use crate::work_on::{end_with, join_into};
+use ring_handles::Handle;
 use std::alloc::Global;
 
 /// Ends writing to a ring: takes the producer of a consumer's ring in, where it has all shares and no open claim, and

@@ -1,10 +1,11 @@
 //! Producers that are put together.
-ghost use Rattle.ring_c.specs.Producing.{IsApart, TakesIn};
-ghost use Rattle.ring_c.specs.Side.{AreOfOneRing};
-ghost use Rattle.ring_c.specs.Told.{a_producer, JoinsInto, WhereBoth};
+ghost use Rattle.ring_handles.specs.Producing.{IsApart, TakesIn};
+ghost use Rattle.ring_handles.specs.Side.{AreOfOneRing};
+ghost use Rattle.ring_handles.specs.Kinds.{a_producer};
+ghost use Rattle.ring_c.specs.Told.{JoinsInto, WhereBoth};
 
-use crate::handle::Handle;
 use crate::work_on::join_into;
+use ring_handles::Handle;
 use std::alloc::Global;
 
 /// Takes another producer of the same ring in, with its shares and its open claims, and empties its handle. 101 where

@@ -1,14 +1,15 @@
 //! What conductors lend and take back.
 ghost use Rattle.std.specs.Prelude.{◌≡◌};
 ghost use Rattle.std.specs.declared.option.Option.TheVariants.{None};
-ghost use Rattle.ring_c.specs.Seating.{lends_client, lends_reader, lends_receiver, AreOfOneConductor};
-ghost use Rattle.ring_c.specs.Seating.{IsForeign, IsUnheard, WhyNotSeated, LendsReader, LendsReceiver};
-ghost use Rattle.ring_c.specs.Seating.{TakesClient, TakesReader, TakesReceiver};
-ghost use Rattle.ring_c.specs.Told.{a_client, a_conductor, a_reader, a_receiver, Gives, GivesInto, JoinsInto};
+ghost use Rattle.ring_handles.specs.Seating.{lends_client, lends_reader, lends_receiver};
+ghost use Rattle.ring_handles.specs.Seating.{IsForeign, IsUnheard, WhyNotSeated, LendsReader, LendsReceiver};
+ghost use Rattle.ring_handles.specs.Seating.{TakesClient, TakesReader, TakesReceiver};
+ghost use Rattle.ring_handles.specs.Kinds.{a_client, a_conductor, a_reader, a_receiver};
+ghost use Rattle.ring_c.specs.Told.{AreOfOneConductor, Gives, GivesInto, JoinsInto};
 
-use crate::code::HANDLE_IN_USE;
-use crate::handle::Handle;
 use crate::work_on::{join_into, make_into};
+use ring_handles::Handle;
+use ring_handles::code::HANDLE_IN_USE;
 use std::alloc::Global;
 
 /// Makes a receiver for an empty handle. The room for it is taken first.

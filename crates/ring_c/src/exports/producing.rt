@@ -1,10 +1,11 @@
 //! What a producer's handle does.
 ghost use Rattle.ring_layout.specs.declared.message.ClaimState.TheVariants.{Aborted, Committed};
-ghost use Rattle.ring_c.specs.Producing.{positions, Claimed, Counted, Drew, HeardBeat, Positioned, Put, Settled, Wrote};
-ghost use Rattle.ring_c.specs.Told.{a_producer, Uses, Yields};
+ghost use Rattle.ring_handles.specs.Producing.{positions, Claimed, Counted, Drew, HeardBeat, Positioned, Put, Settled, Wrote};
+ghost use Rattle.ring_handles.specs.Kinds.{a_producer};
+ghost use Rattle.ring_c.specs.Told.{Uses, Yields};
 
-use crate::handle::Handle;
 use crate::work_on::work_on;
+use ring_handles::Handle;
 use std::alloc::Global;
 
 /// Writes a message, by one try.

@@ -1,12 +1,13 @@
 //! What handles of raw receivers do.
 ghost use Rattle.std.specs.Prelude.{◌≡◌};
 ghost use Rattle.std.specs.declared.option.Option.TheVariants.{None};
-ghost use Rattle.ring_c.specs.Raw.{seen, BodyLoaded, IsUnwatched, NextSeen, SaysLaps, SubscribesRaw, Tested};
-ghost use Rattle.ring_c.specs.Told.{a_raw_receiver, a_transmitter, Gives, GivesInto, Uses, Yields};
+ghost use Rattle.ring_handles.specs.Raw.{seen, BodyLoaded, IsUnwatched, NextSeen, SaysLaps, SubscribesRaw, Tested};
+ghost use Rattle.ring_handles.specs.Kinds.{a_raw_receiver, a_transmitter};
+ghost use Rattle.ring_c.specs.Told.{Gives, GivesInto, Uses, Yields};
 
-use crate::code::HANDLE_IN_USE;
-use crate::handle::Handle;
 use crate::work_on::{make_into, work_on};
+use ring_handles::Handle;
+use ring_handles::code::HANDLE_IN_USE;
 use std::alloc::Global;
 
 /// Subscribes a raw receiver into an empty handle. The room for it is taken first.

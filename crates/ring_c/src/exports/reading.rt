@@ -1,12 +1,13 @@
 //! Readers of counters' values.
 ghost use Rattle.std.specs.Prelude.{◌≡◌};
 ghost use Rattle.std.specs.declared.option.Option.TheVariants.{None};
-ghost use Rattle.ring_c.specs.Lending.{WhyNotLent, Lends, Loaded};
-ghost use Rattle.ring_c.specs.Told.{a_reader, some_counters, Gives, GivesInto, Yields};
+ghost use Rattle.ring_handles.specs.Lending.{WhyNotLent, Lends, Loaded};
+ghost use Rattle.ring_handles.specs.Kinds.{a_reader, some_counters};
+ghost use Rattle.ring_c.specs.Told.{Gives, GivesInto, Yields};
 
-use crate::code::HANDLE_IN_USE;
-use crate::handle::Handle;
 use crate::work_on::{make_into, work_on};
+use ring_handles::Handle;
+use ring_handles::code::HANDLE_IN_USE;
 use std::alloc::Global;
 
 /// Makes a reader for an empty handle. The room for it is taken first.

@@ -1,13 +1,13 @@
 //! Producers that are split off, and handles that are let go.
 ghost use Rattle.std.specs.Prelude.{◌≡◌};
 ghost use Rattle.std.specs.declared.option.Option.TheVariants.{None};
-ghost use Rattle.ring_c.specs.Producing.{WhyNotSplit, Splits};
-ghost use Rattle.ring_c.specs.Told.{a_producer, ClosesHeld, Gives, GivesInto};
+ghost use Rattle.ring_handles.specs.Producing.{WhyNotSplit, Splits};
+ghost use Rattle.ring_handles.specs.Kinds.{a_producer};
+ghost use Rattle.ring_c.specs.Told.{ClosesHeld, Gives, GivesInto};
 
-use crate::code::HANDLE_IN_USE;
-use crate::handle::Handle;
-use crate::held::Held;
 use crate::work_on::make_into;
+use ring_handles::code::HANDLE_IN_USE;
+use ring_handles::{Handle, Held};
 use std::alloc::Global;
 
 /// Splits a producer off into an empty handle. The room for it is taken first.

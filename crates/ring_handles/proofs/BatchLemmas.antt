@@ -1,0 +1,265 @@
+-- A controlled read of messages into a buffer, one behind another.
+use Rattle.std.proofs.Common.{◌≡◌, ◌≢◌, ◌⊎◌, inl, inr, ℕ, zero, suc, ◌+◌, ◌<◌, ◌≤◌, Bool, true, false, arith, ℤ, pos, List, [], ◌∷◌, ◌++◌, All, length, refl, sym, ap, ◌∙◌, subst}
+use Rattle.std.proofs.lemmas.List.{append-nil}
+use Rattle.std.proofs.lemmas.List.Elements.{All-head, All-tail}
+use Rattle.ring_layout.specs.declared.message.Message.{Message}
+use Rattle.ring_layout.specs.Handles.{Handles}
+use Rattle.ring_words.specs.declared.read.action.Action.{Action}
+use Rattle.ring_words.specs.declared.read.action.Action.TheVariants.{Abort, Break, Continue}
+use Rattle.ring_words.specs.declared.read.end.ReadEnd.{ReadEnd}
+use Rattle.ring_words.specs.declared.read.end.Stop.{Stop}
+use Rattle.ring_words.specs.declared.read.end.Stop.TheVariants.{Block, Unpublished}
+use Rattle.ring_words.specs.Controlled.{GoesOn}
+use Rattle.ring_table.specs.declared.claim.PlacedMessage.{PlacedMessage}
+use Rattle.ring_table.specs.declared.view.View.{View}
+use Rattle.ring_rings.specs.Reading.{Controls, FoundUnsettled, IsNext, Reads, messages_of}
+use Rattle.ring_handles.specs.declared.batch.Laying.{Laying}
+use Rattle.ring_handles.specs.Batch.{LaysIn, Batch, IsShort, Lays, LeavesOut, ReadBatch, ReadsBatch, TookBatch, TookSome, batch, laid, laid_end, span_in}
+use Rattle.ring_handles.specs.Consuming.{RanOut, TookNone}
+use Rattle.ring_handles.specs.Side.{Reading, having_read}
+use Rattle.ring_handles.proofs.EndLemmas.{both, had_none, in_words, next_on, none_once, none_twice, ran_out}
+
+-- these messages were laid behind what was used
+record WereLaid (s : Laying) (ms : List PlacedMessage) (t : Laying) : Type 0 where
+  pub buffer : t.buffer.now ≡ laid s.used (messages_of ms) s.buffer.now
+  pub used : t.used ≡ laid_end s.used (messages_of ms)
+  pub room : t.used ≤ length s.buffer.now
+  pub full : t.is_full ≡ s.is_full
+  pub size : length t.buffer.now ≡ length s.buffer.now
+  pub borrow : t.buffer.ghost_name ≡ s.buffer.ghost_name
+
+-- who goes on added the message
+added : (s u : Laying) (m : Message) (a : Action) → Lays s m u a → GoesOn a → LaysIn s m u a
+added s u m a (inl adds) on = adds
+added s u m a (inr leaves) on = absurd (subst GoesOn leaves.action on)
+
+-- a handler that goes on has laid what it was shown
+were_laid : (s t : Laying) (ms : List PlacedMessage) (actions : List Action)
+    → Handles Lays s (messages_of ms) actions t → All GoesOn actions → s.used ≤ length s.buffer.now → WereLaid s ms t
+were_laid s t [] [] handled on room =
+    subst (λ (u : Laying). WereLaid s [] u) handled
+    (record { buffer = refl; used = refl; room = room; full = refl; size = refl; borrow = refl })
+were_laid s t [] (a ∷ actions) handled on room = absurd handled
+were_laid s t (m ∷ ms) [] handled on room = absurd handled
+were_laid s t (m ∷ ms) (a ∷ actions) handled on room =
+    let u = handled.0 in
+    let adds = added s u m.message a handled.1 (All-head GoesOn a actions on) in
+    let fits : u.used ≤ length u.buffer.now = subst (λ (n : ℕ). u.used ≤ n) (sym adds.size)
+    (subst (λ (n : ℕ). n ≤ length s.buffer.now) (sym adds.used) adds.room) in
+    let rest = were_laid u t ms actions handled.2 (All-tail GoesOn a actions on) fits in
+    record {
+      buffer = rest.buffer ∙ (λ i. laid (adds.used i) (messages_of ms) (adds.buffer i));
+      used = rest.used ∙ (λ i. laid_end (adds.used i) (messages_of ms));
+      room = subst (λ (n : ℕ). t.used ≤ n) adds.size rest.room;
+      full = rest.full ∙ adds.full;
+      size = rest.size ∙ adds.size;
+      borrow = rest.borrow ∙ adds.borrow;
+    }
+
+-- it never breaks
+no_break : (s t : Laying) (m : Message) → Lays s m t Break → ⊥
+no_break s t m lays = subst is_break (other lays) tt
+  where
+    is_break : Action → Type 0
+    is_break Break = Unit {0}
+    is_break _ = ⊥
+
+    other : Lays s m t Break → Break ≡ Continue
+    other (inl adds) = adds.action
+    other (inr leaves) = absurd (subst is_break leaves.action tt)
+
+never_broke : (s t : Laying) (ms : List PlacedMessage) (before : List Action)
+    → Handles Lays s (messages_of ms) (before ++ Break ∷ []) t → ⊥
+never_broke s t [] [] handled = handled
+never_broke s t [] (a ∷ before) handled = handled
+never_broke s t (m ∷ ms) [] handled = no_break s handled.0 m.message handled.1
+never_broke s t (m ∷ ms) (a ∷ before) handled = never_broke handled.0 t ms before handled.2
+
+-- Abort is not Continue
+left : (s t : Laying) (m : Message) → Lays s m t Abort → LeavesOut s m t Abort
+left s t m (inr leaves) = leaves
+left s t m (inl adds) = absurd (subst is_abort adds.action tt)
+  where
+    is_abort : Action → Type 0
+    is_abort Abort = Unit {0}
+    is_abort _ = ⊥
+
+-- How a read ends ---------------------------------------------------------------
+
+from_zero : (n k : ℕ) → n < 0 + k → n < k
+from_zero n k less = omega arith
+
+below : (n m : ℕ) → n ≡ 0 → n ≤ m
+below n m is = subst (λ (k : ℕ). k ≤ m) (sym is) (omega arith)
+
+-- messages were laid, and then one more had no room, or none came
+record Ends (limit : ℕ) (v w : View) (s t : Laying) (end : ReadEnd) : Type 0 where
+  pub between : Laying
+  pub reads : Reads Lays limit v w s between end.messages
+  pub were : WereLaid s reads.messages between
+  pub buffer : t.buffer.now ≡ between.buffer.now
+  pub used : t.used ≡ between.used
+  pub borrow : t.buffer.ghost_name ≡ between.buffer.ghost_name
+  pub full : (t.is_full ≡ between.is_full)
+      ⊎ ((m : Message) × IsNext v w m × (length between.buffer.now < between.used + span_in (length m.body)))
+
+ends : (limit : ℕ) (v w : View) (s t : Laying) (end : ReadEnd) → s.used ≡ 0 → Controls Lays limit v w s t end
+    → Ends limit v w s t end
+ends limit v w s t end fresh (inl on) = record {
+  between = t;
+  reads = on.reads;
+  were = were_laid s t on.reads.messages on.reads.actions on.reads.handled on.went_on (below s.used _ fresh);
+  buffer = refl;
+  used = refl;
+  borrow = refl;
+  full = inl refl;
+}
+ends limit v w s t end fresh (inr (inl broke)) =
+    absurd (never_broke s t broke.reads.messages broke.before
+    (subst (λ (answers : List Action). Handles Lays s (messages_of broke.reads.messages) answers t) broke.broke
+    broke.reads.handled))
+ends limit v w s t end fresh (inr (inr aborts)) =
+    let leaves = left aborts.before t aborts.message aborts.aborted in
+    record {
+      between = aborts.before;
+      reads = aborts.reads;
+      were = were_laid s aborts.before aborts.reads.messages aborts.reads.actions aborts.reads.handled aborts.went_on
+          (below s.used _ fresh);
+      buffer = leaves.buffer;
+      used = leaves.used;
+      borrow = leaves.borrow;
+      full = inr (aborts.message, aborts.next, leaves.short);
+    }
+
+-- the buffer is the same one
+pub same_borrow : (limit : ℕ) (v w : View) (s t : Laying) (end : ReadEnd) → s.used ≡ 0
+    → Controls Lays limit v w s t end → t.buffer.ghost_name ≡ s.buffer.ghost_name
+same_borrow limit v w s t end fresh controls =
+    let e = ends limit v w s t end fresh controls in
+    e.borrow ∙ e.were.borrow
+
+no_messages : (ms : List PlacedMessage) (n : ℕ) → n ≡ length ms → n ≡ 0 → ms ≡ []
+no_messages [] n counted none = refl
+no_messages (m ∷ ms) n counted none = absurd (subst is_suc (sym counted ∙ none) tt)
+  where
+    is_suc : ℕ → Type 0
+    is_suc zero = ⊥
+    is_suc (suc n) = Unit {0}
+
+-- some messages were taken
+pub some_taken : (limit : ℕ) (v w : View) (s t : Laying) (end : ReadEnd) → s.used ≡ 0 → end.messages ≤ limit
+    → Controls Lays limit v w s t end → end.messages ≢ 0
+    → TookSome limit v w s.buffer.now (batch end.messages t.used t.buffer.now)
+some_taken limit v w s t end fresh within controls some =
+    let e = ends limit v w s t end fresh controls in
+    let ms = messages_of e.reads.messages in
+    let used : t.used ≡ laid_end 0 ms = e.used ∙ (e.were.used ∙ ap (λ (n : ℕ). laid_end n ms) fresh) in
+    let buffer : t.buffer.now ≡ laid 0 ms s.buffer.now =
+    e.buffer ∙ (e.were.buffer ∙ ap (λ (n : ℕ). laid n ms s.buffer.now) fresh) in
+    record {
+      messages = e.reads.messages;
+      some = λ none. some (e.reads.counted ∙ ap length none);
+      taken = e.reads.taken;
+      within = subst (λ (n : ℕ). n ≤ limit) e.reads.counted within;
+      room = subst (λ (n : ℕ). n ≤ length s.buffer.now) (sym e.used ∙ used) e.were.room;
+      outs = λ i. batch (e.reads.counted i) (used i) (buffer i);
+    }
+
+-- none was taken, and the buffer is as before
+pub none_taken : (limit : ℕ) (v w : View) (s t : Laying) (end : ReadEnd) → s.used ≡ 0
+    → Controls Lays limit v w s t end → end.messages ≡ 0
+    → (w.consumer.taken ≡ v.consumer.taken) × (t.buffer.now ≡ s.buffer.now)
+none_taken limit v w s t end fresh controls none =
+    let e = ends limit v w s t end fresh controls in
+    let empty = no_messages e.reads.messages end.messages e.reads.counted none in (
+      e.reads.taken ∙ (ap (λ (ns : List PlacedMessage). v.consumer.taken ++ ns) empty ∙ append-nil v.consumer.taken),
+      e.buffer ∙ (e.were.buffer ∙ ap (λ (ns : List PlacedMessage). laid s.used (messages_of ns) s.buffer.now) empty),
+    )
+
+is_yes : Bool → Type 0
+is_yes true = Unit {0}
+is_yes false = ⊥
+
+-- the first message had no room
+pub none_fits : (limit : ℕ) (v w : View) (s t : Laying) (end : ReadEnd) → s.used ≡ 0 → s.is_full ≡ false
+    → Controls Lays limit v w s t end → end.messages ≡ 0 → t.is_full ≡ true → IsShort s.buffer.now v w
+unfolding is_yes
+none_fits limit v w s t end fresh open_yet controls none is_full =
+    let e = ends limit v w s t end fresh controls in
+    let empty = no_messages e.reads.messages end.messages e.reads.counted none in
+    let nothing_used : e.between.used ≡ 0 =
+    e.were.used ∙ (ap (λ (ns : List PlacedMessage). laid_end s.used (messages_of ns)) empty ∙ fresh) in
+    short e nothing_used e.full
+  where
+    short : (e : Ends limit v w s t end) → e.between.used ≡ 0
+        → (t.is_full ≡ e.between.is_full)
+        ⊎ ((m : Message) × IsNext v w m × (length e.between.buffer.now < e.between.used + span_in (length m.body)))
+        → IsShort s.buffer.now v w
+    short e used (inl same) = absurd (subst is_yes (sym is_full ∙ (same ∙ (e.were.full ∙ open_yet))) tt)
+    short e used (inr (m, next, less)) = record {
+      message = m;
+      next = next;
+      short = subst (λ (n : ℕ). n < span_in (length m.body)) e.were.size (from_zero _ _
+          (subst (λ (n : ℕ). length e.between.buffer.now < n + span_in (length m.body)) used less));
+    }
+
+-- no message came
+pub none_came : (limit : ℕ) (v w : View) (s t : Laying) (end : ReadEnd)
+    → v.consumer.head + end.bytes ≡ w.consumer.head → (end.stopped ≡ Unpublished → FoundUnsettled v w)
+    → Controls Lays limit v w s t end → end.messages ≡ 0 → t.is_full ≡ false → RanOut limit end.stopped v w
+unfolding is_yes
+none_came limit v w s t end bytes blocked (inl on) none open_yet = ran_out Lays limit v w s t end on none bytes blocked
+none_came limit v w s t end bytes blocked (inr (inl broke)) none open_yet =
+    absurd (never_broke s t broke.reads.messages broke.before
+    (subst (λ (answers : List Action). Handles Lays s (messages_of broke.reads.messages) answers t) broke.broke
+    broke.reads.handled))
+none_came limit v w s t end bytes blocked (inr (inr aborts)) none open_yet =
+    absurd (subst is_yes (sym (left aborts.before t aborts.message aborts.aborted).full ∙ open_yet) tt)
+
+-- Two reads as one -----------------------------------------------------------------
+
+-- one read that took something, or did not come to the end of the buffer
+pub batch_once : (limit : ℕ) (stopped : Stop) (o o' : Batch) (r s : Reading) (code : ℤ)
+    → (code ≡ pos 105 → stopped ≡ Block → ⊥) → ReadsBatch (RanOut limit stopped) limit o o' r s code
+    → ReadBatch limit o o' r s code
+batch_once limit stopped o o' r s code inside (same, on, took) = (
+  same,
+  on,
+  in_words code (λ some. some) (λ is none. none_once limit stopped r.view s.view o o' (inside is) none) (λ short. short)
+      took,
+)
+
+-- one read that came to the end of the buffer and took none, and another
+pub batch_twice : (limit : ℕ) (one two : Stop) (o o' o'' : Batch) (r s t : Reading) (first code : ℤ) → first ≡ pos 105
+    → one ≡ Block → ReadsBatch (RanOut limit one) limit o o' r s first
+    → ReadsBatch (RanOut limit two) limit o' o'' s t code → ReadBatch limit o o'' r t code
+batch_twice limit one two o o' o'' r s t first code is ended (same, on, took) (same', on', took') = (
+  same' ∙ ap (having_read t.view) same,
+  both r.view s.view t.view on on',
+  in_words code takes (λ _ again. none_twice limit one two r.view s.view t.view o o' o'' on on' ended none again) short
+      (subst (λ (x : Batch). TookBatch (RanOut limit two) limit s.view t.view x o'' code) none.outs took'),
+)
+  where
+    none : TookNone (RanOut limit one) r.view s.view o o'
+    none = had_none first is took
+
+    takes : TookSome limit s.view t.view o.buffer o'' → TookSome limit r.view t.view o.buffer o''
+    takes k = record {
+      messages = k.messages;
+      some = k.some;
+      taken = k.taken ∙ ap (λ (ms : List PlacedMessage). ms ++ k.messages) none.taken;
+      within = k.within;
+      room = k.room;
+      outs = k.outs;
+    }
+
+    short : TookNone (IsShort o.buffer) s.view t.view o o'' → TookNone (IsShort o.buffer) r.view t.view o o''
+    short k = record {
+      taken = k.taken ∙ none.taken;
+      why = record {
+        message = k.why.message;
+        next = next_on r.view s.view t.view on k.why.message k.why.next;
+        short = k.why.short;
+      };
+      outs = k.outs;
+    }

@@ -1,0 +1,177 @@
+-- How a read that its handler controls leaves the consumer, why it took nothing, and two reads as one.
+use Rattle.std.proofs.Common.{◌≡◌, inl, inr, ℕ, ◌+◌, ◌%◌, ◌<◌, ◌&&◌, ◌==◌, nat_lt, if◌then◌else◌, ℤ, pos, List, ◌++◌, arith, sym, ap, ◌∙◌, subst}
+use Rattle.std.proofs.lemmas.Bool.{and_parts, cases_Bool, cases_lt, cond-true, cond-false, eqb-true, ltb-true, ne_eqb}
+use Rattle.std.proofs.lemmas.List.{append_assoc}
+use Rattle.ring_layout.specs.declared.message.Message.{Message}
+use Rattle.ring_words.specs.declared.read.action.Action.{Action}
+use Rattle.ring_words.specs.declared.read.end.ReadEnd.{ReadEnd}
+use Rattle.ring_words.specs.declared.read.end.Stop.{Stop}
+use Rattle.ring_words.specs.declared.read.end.Stop.TheVariants.{Limit, Block, Unpublished}
+use Rattle.ring_table.specs.declared.view.View.{View}
+use Rattle.ring_rings.specs.Reading.{Controls, FoundUnsettled, IsNext, MovesHead, WentOn}
+use Rattle.ring_handles.specs.Consuming.{HadNone, RanOut, ReadCode, ReadsOn, TookNone}
+
+module _ {S : Type 0} (step : S → Message → S → Action → Type 0) (limit : ℕ) (v w : View) (s t : S)
+    (end : ReadEnd) where
+  moves_head : Controls step limit v w s t end → MovesHead v w
+  moves_head (inl on) = on.reads.moves
+  moves_head (inr (inl broke)) = broke.reads.moves
+  moves_head (inr (inr aborts)) = aborts.reads.moves
+
+  pub reads_on : Controls step limit v w s t end → ReadsOn v w
+  reads_on controls =
+      let m = moves_head controls in
+      record {
+        loads = m.loads;
+        view = m.view;
+        on = m.on;
+        heartbeats = m.heartbeats;
+        cleared = m.cleared;
+        rest = m.rest;
+      }
+
+  -- below its limit a read that nothing stopped ended where no settled record lay, or at the end of the buffer
+  ran_on : WentOn step limit v w s t end → end.messages ≡ 0 → 0 < limit
+      → v.consumer.head + end.bytes ≡ w.consumer.head → (end.stopped ≡ Unpublished → FoundUnsettled v w)
+      → RanOut limit end.stopped v w
+  ran_on on none some bytes blocked =
+      let zero_there = w.consumer.head % w.capacity == 0 in
+      let at_end = zero_there && nat_lt 0 end.bytes in
+      let rest : Stop = if at_end then Block else Unpublished in
+      let below : end.stopped ≡ rest = on.stopped
+      ∙ cond-false (end.messages == limit) Limit rest (ne_eqb end.messages limit (λ e. omega arith)) in
+      elim (cases_Bool at_end) as (λ _. RanOut limit end.stopped v w) [
+        | inl e ↦
+            let both = and_parts zero_there (nat_lt 0 end.bytes) e in
+            let passed = ltb-true 0 end.bytes both.1 in
+            inr (inr (
+              below ∙ cond-true at_end Block Unpublished e,
+              record { on = omega arith; end = eqb-true (w.consumer.head % w.capacity) 0 both.0 },
+            ))
+        | inr e ↦
+            let is = below ∙ cond-false at_end Block Unpublished e in
+            inr (inl (is, blocked is))
+      ]
+
+  pub ran_out : WentOn step limit v w s t end → end.messages ≡ 0
+      → v.consumer.head + end.bytes ≡ w.consumer.head → (end.stopped ≡ Unpublished → FoundUnsettled v w)
+      → RanOut limit end.stopped v w
+  ran_out on none bytes blocked = elim (cases_lt 0 limit) as (λ _. RanOut limit end.stopped v w) [
+    | inl some ↦ ran_on on none some bytes blocked
+    | inr at_zero ↦ inl (omega arith)
+  ]
+
+-- Two reads ----------------------------------------------------------------------
+
+abbrev Loads : Type 0
+Loads = List (ℕ × ℕ)
+
+longer : (x y z l before last : Loads) → y ≡ x ++ l → z ≡ y ++ (before ++ last) → z ≡ x ++ ((l ++ before) ++ last)
+longer x y z l before last first second =
+    second ∙ ap (λ (a : Loads). a ++ (before ++ last)) first ∙ append_assoc x l (before ++ last)
+    ∙ ap (λ (a : Loads). x ++ a) (sym (append_assoc l before last))
+
+module _ (v u w : View) (first : ReadsOn v u) where
+  log_on : u.log ≡ v.log ++ first.loads
+  log_on = ap (λ (x : View). x.log) first.view
+
+  pub capacity_on : u.capacity ≡ v.capacity
+  capacity_on = ap (λ (x : View). x.capacity) first.view
+
+  pub blocked_on : FoundUnsettled u w → FoundUnsettled v w
+  blocked_on b = record {
+    before = first.loads ++ b.before;
+    found = b.found;
+    loads = longer v.log u.log w.log first.loads b.before _ log_on b.loads;
+    unpublished = b.unpublished;
+  }
+
+  pub next_on : (m : Message) → IsNext u w m → IsNext v w m
+  next_on m n = record {
+    before = first.loads ++ n.before;
+    loads = longer v.log u.log w.log first.loads n.before _ log_on n.loads;
+    lawful = n.lawful;
+  }
+
+  pub both : ReadsOn u w → ReadsOn v w
+  both second = record {
+    loads = first.loads ++ second.loads;
+    view = second.view
+        ∙ ap (λ (x : View). record x { log = x.log ++ second.loads; consumer = w.consumer }) first.view
+        ∙ ap (λ (l : Loads). record v { log = l; consumer = w.consumer })
+        (append_assoc v.log first.loads second.loads);
+    on = omega (arith, first.on, second.on);
+    heartbeats = second.heartbeats ∙ first.heartbeats;
+    cleared = second.cleared;
+    rest = second.rest;
+  }
+
+-- Why nothing was taken -----------------------------------------------------------
+
+-- one read that did not come to the end of the buffer
+pub once : (limit : ℕ) (stopped : Stop) (v w : View) → (stopped ≡ Block → ⊥) → RanOut limit stopped v w
+    → HadNone limit v w
+once limit stopped v w inside (inl zero) = inl zero
+once limit stopped v w inside (inr (inl found)) = inr (inl found.1)
+once limit stopped v w inside (inr (inr ended)) = absurd (inside ended.0)
+
+-- one read that did, and another
+pub twice : (limit : ℕ) (one two : Stop) (v u w : View) → ReadsOn v u → ReadsOn u w → one ≡ Block
+    → RanOut limit one v u → RanOut limit two u w → HadNone limit v w
+twice limit one two v u w first second is (inl zero) out = inl zero
+twice limit one two v u w first second is (inr (inl found)) out = absurd (other is found.0)
+  where
+    other : one ≡ Block → one ≡ Unpublished → ⊥
+    other e f = cc
+twice limit one two v u w first second is (inr (inr ended)) (inl zero) = inl zero
+twice limit one two v u w first second is (inr (inr ended)) (inr (inl found)) =
+    inr (inl (blocked_on v u w first found.1))
+twice limit one two v u w first second is (inr (inr ended)) (inr (inr again)) = inr (inr (record {
+  between = u.consumer.head;
+  on = ended.1.on;
+  end = subst (λ (C : ℕ). u.consumer.head % C ≡ 0) (capacity_on v u w first) ended.1.end;
+  further = again.1.on;
+  last = subst (λ (C : ℕ). w.consumer.head % C ≡ 0)
+      (capacity_on u w w second ∙ capacity_on v u w first) again.1.end;
+}))
+
+-- Codes ----------------------------------------------------------------------------
+
+-- what a code says, in other words
+pub in_words : {A B C A' B' C' : Type 0} (code : ℤ) → (A → A') → (code ≡ pos 105 → B → B') → (C → C')
+    → ReadCode A B C code → ReadCode A' B' C' code
+in_words code f g h (inl (is, a)) = inl (is, f a)
+in_words code f g h (inr (inl (is, b))) = inr (inl (is, g is b))
+in_words code f g h (inr (inr (is, c))) = inr (inr (is, h c))
+
+digits : ℤ → ℕ
+digits (pos n) = n
+digits _ = 0
+
+-- nothing was taken
+pub had_none : {A B C : Type 0} (code : ℤ) → code ≡ pos 105 → ReadCode A B C code → B
+unfolding digits
+had_none code is (inl (zero, a)) = absurd (other (ap digits (sym is ∙ zero)))
+  where
+    other : ◌≡◌ {A = ℕ} 105 0 → ⊥
+    other e = omega arith
+had_none code is (inr (inl (same, b))) = b
+had_none code is (inr (inr (short, c))) = absurd (other (ap digits (sym is ∙ short)))
+  where
+    other : ◌≡◌ {A = ℕ} 105 106 → ⊥
+    other e = omega arith
+
+-- by one read, and by two
+pub none_once : {O : Type 0} (limit : ℕ) (stopped : Stop) (v w : View) (o o' : O) → (stopped ≡ Block → ⊥)
+    → TookNone (RanOut limit stopped) v w o o' → TookNone (HadNone limit) v w o o'
+none_once limit stopped v w o o' inside none =
+    record { taken = none.taken; why = once limit stopped v w inside none.why; outs = none.outs }
+
+pub none_twice : {O : Type 0} (limit : ℕ) (one two : Stop) (v u w : View) (o o' o'' : O) → ReadsOn v u → ReadsOn u w
+    → one ≡ Block → TookNone (RanOut limit one) v u o o' → TookNone (RanOut limit two) u w o o''
+    → TookNone (HadNone limit) v w o o''
+none_twice limit one two v u w o o' o'' first second is none again = record {
+  taken = again.taken ∙ none.taken;
+  why = twice limit one two v u w first second is none.why again.why;
+  outs = again.outs;
+}

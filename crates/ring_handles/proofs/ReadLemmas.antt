@@ -1,0 +1,198 @@
+-- A controlled read of one message into a buffer.
+use Rattle.std.proofs.Common.{◌≡◌, ◌+◌, inl, inr, ℕ, List, [], ◌∷◌, ◌++◌, All, length, ℤ, pos, refl, sym, ap, ◌∙◌, subst}
+use Rattle.std.proofs.lemmas.List.{append-nil}
+use Rattle.std.proofs.lemmas.List.Elements.{All-head}
+use Rattle.ring_layout.specs.declared.message.Message.{Message}
+use Rattle.ring_layout.specs.Handles.{Handles}
+use Rattle.ring_words.specs.declared.read.action.Action.{Action}
+use Rattle.ring_words.specs.declared.read.action.Action.TheVariants.{Abort, Break}
+use Rattle.ring_words.specs.declared.read.end.ReadEnd.{ReadEnd}
+use Rattle.ring_words.specs.declared.read.end.Stop.{Stop}
+use Rattle.ring_words.specs.declared.read.end.Stop.TheVariants.{Block, Unpublished}
+use Rattle.ring_words.specs.Controlled.{GoesOn}
+use Rattle.ring_table.specs.declared.claim.PlacedMessage.{PlacedMessage}
+use Rattle.ring_table.specs.declared.view.View.{View}
+use Rattle.ring_rings.specs.Reading.{Controls, FoundUnsettled, messages_of}
+use Rattle.ring_handles.specs.declared.copying.Copying.{Copying}
+use Rattle.ring_handles.specs.Consuming.{Out, RanOut, ReadOne, ReadsOne, LeavesAtHead, Took, TookNone, TookOne, out}
+use Rattle.ring_handles.specs.Copying.{Copies, Exceeds, CopiesIn}
+use Rattle.ring_handles.specs.Side.{Reading, having_read}
+use Rattle.ring_handles.proofs.EndLemmas.{both, had_none, in_words, next_on, none_once, none_twice, ran_out}
+
+-- it never goes on after a message
+never_on : (s t : Copying) (m : Message) (a : Action) → Copies s m t a → GoesOn a → ⊥
+never_on s t m a (inl fits) on = subst GoesOn fits.action on
+never_on s t m a (inr exceeds) on = subst GoesOn exceeds.action on
+
+-- a handler that goes on was shown nothing
+shown_none : (s t : Copying) (ms : List PlacedMessage) (actions : List Action)
+    → Handles Copies s (messages_of ms) actions t → All GoesOn actions → (ms ≡ []) × (s ≡ t)
+shown_none s t [] [] handled on = (refl, handled)
+shown_none s t [] (a ∷ actions) handled on = absurd handled
+shown_none s t (m ∷ ms) [] handled on = absurd handled
+shown_none s t (m ∷ ms) (a ∷ actions) handled on =
+    absurd (never_on s handled.0 m.message a handled.1 (All-head GoesOn a actions on))
+
+-- one that goes on until it breaks was shown one message
+shown_one : (s t : Copying) (ms : List PlacedMessage) (actions before : List Action)
+    → Handles Copies s (messages_of ms) actions t → All GoesOn before → actions ≡ before ++ Break ∷ []
+    → (m : PlacedMessage) × (ms ≡ m ∷ []) × Copies s m.message t Break
+shown_one s t ms actions before handled on is =
+    one before on (subst (λ answers. Handles Copies s (messages_of ms) answers t) is handled)
+  where
+    last : (ms : List PlacedMessage) → Handles Copies s (messages_of ms) (Break ∷ []) t
+        → (m : PlacedMessage) × (ms ≡ m ∷ []) × Copies s m.message t Break
+    last [] handled = absurd handled
+    last (m ∷ []) handled = (m, refl, subst (λ u. Copies s m.message u Break) handled.2 handled.1)
+    last (m ∷ (n ∷ ms)) handled = absurd handled.2
+
+    one : (before : List Action) → All GoesOn before → Handles Copies s (messages_of ms) (before ++ Break ∷ []) t
+        → (m : PlacedMessage) × (ms ≡ m ∷ []) × Copies s m.message t Break
+    one [] on handled = last ms handled
+    one (a ∷ before) on handled = absurd (first ms handled)
+      where
+        first : (ms : List PlacedMessage) → Handles Copies s (messages_of ms) (a ∷ (before ++ Break ∷ [])) t → ⊥
+        first [] handled = handled
+        first (m ∷ ms) handled = never_on s handled.0 m.message a handled.1 (All-head GoesOn a before on)
+
+-- Break is not Abort
+broken : (s t : Copying) (m : Message) → Copies s m t Break → CopiesIn s m t Break
+broken s t m (inl fits) = fits
+broken s t m (inr exceeds) = absurd (subst is_break exceeds.action tt)
+  where
+    is_break : Action → Type 0
+    is_break Break = Unit {0}
+    is_break _ = ⊥
+
+aborted : (s t : Copying) (m : Message) → Copies s m t Abort → Exceeds s m t Abort
+aborted s t m (inr exceeds) = exceeds
+aborted s t m (inl fits) = absurd (subst is_abort fits.action tt)
+  where
+    is_abort : Action → Type 0
+    is_abort Abort = Unit {0}
+    is_abort _ = ⊥
+
+-- Of the consumer ----------------------------------------------------------------
+
+none_more : (v w : View) (ms : List PlacedMessage) → w.consumer.taken ≡ v.consumer.taken ++ ms → ms ≡ []
+    → w.consumer.taken ≡ v.consumer.taken
+none_more v w ms taken none =
+    taken ∙ ap (λ (ns : List PlacedMessage). v.consumer.taken ++ ns) none ∙ append-nil v.consumer.taken
+
+abbrev outs : Copying → Out
+outs s = out s.type_id s.len s.buffer.now
+
+-- no message is counted where none was shown
+uncounted : (n : ℕ) (ms : List PlacedMessage) → n ≡ length ms → ms ≡ [] → n ≡ 0
+uncounted n ms counted none = counted ∙ ap (λ (ns : List PlacedMessage). length ns) none
+
+-- it took one message, or none, or left one that is too long
+pub took_one : (v w : View) (s t : Copying) (end : ReadEnd) → s.code ≡ pos 105
+    → v.consumer.head + end.bytes ≡ w.consumer.head → (end.stopped ≡ Unpublished → FoundUnsettled v w)
+    → Controls Copies 1 v w s t end
+    → TookOne (RanOut 1 end.stopped) v w (out s.type_id s.len s.buffer.now) (out t.type_id t.len t.buffer.now) t.code
+took_one v w s t end waits bytes blocked (inl on) =
+    let none = shown_none s t on.reads.messages on.reads.actions on.reads.handled on.went_on in
+    inr (inl (
+      ap (λ (u : Copying). u.code) (sym none.1)
+          ∙ waits,
+      record {
+        taken = none_more v w on.reads.messages on.reads.taken none.0;
+        why = ran_out Copies 1 v w s t end on
+            (uncounted end.messages on.reads.messages on.reads.counted none.0) bytes blocked;
+        outs = ap outs (sym none.1);
+      },
+    ))
+took_one v w s t end waits bytes blocked (inr (inl broke)) =
+    let one = shown_one s t broke.reads.messages broke.reads.actions broke.before broke.reads.handled broke.went_on
+    broke.broke in
+    let fits = broken s t one.0.message one.2 in
+    inl (
+      fits.code,
+      record {
+        message = one.0;
+        taken = broke.reads.taken ∙ ap (λ (ns : List PlacedMessage). v.consumer.taken ++ ns) one.1;
+        room = fits.room;
+        outs = λ i. out (fits.tells.type_id i) (fits.tells.len i) (fits.buffer i);
+      },
+    )
+took_one v w s t end waits bytes blocked (inr (inr aborts)) =
+    let none =
+    shown_none s aborts.before aborts.reads.messages aborts.reads.actions aborts.reads.handled aborts.went_on in
+    let exceeds = aborted s t aborts.message
+    (subst (λ (u : Copying). Copies u aborts.message t Abort) (sym none.1) aborts.aborted) in
+    inr (inr (
+      exceeds.code,
+      record {
+        taken = none_more v w aborts.reads.messages aborts.reads.taken none.0;
+        message = aborts.message;
+        next = aborts.next;
+        short = exceeds.short;
+        outs = λ i. out (exceeds.tells.type_id i) (exceeds.tells.len i) (exceeds.buffer i);
+      },
+    ))
+
+-- the same where these are what it tells
+pub told_as : (Why : View → View → Type 0) (v w : View) (o : Out) (t : Copying) (type_id : ℤ) (len : ℕ)
+    (buffer : List ℕ) (code : ℤ) → type_id ≡ t.type_id → len ≡ t.len → buffer ≡ t.buffer.now → code ≡ t.code
+    → TookOne Why v w o (out t.type_id t.len t.buffer.now) t.code → TookOne Why v w o (out type_id len buffer) code
+told_as Why v w o t type_id len buffer code e₁ e₂ e₃ e₄ took =
+    subst (λ (x : Out × ℤ). TookOne Why v w o x.0 x.1) (λ i. (out (sym e₁ i) (sym e₂ i) (sym e₃ i), sym e₄ i)) took
+
+-- the buffer is the same one
+pub same_borrow : (limit : ℕ) (v w : View) (s t : Copying) (end : ReadEnd) → Controls Copies limit v w s t end
+    → t.buffer.ghost_name ≡ s.buffer.ghost_name
+same_borrow limit v w s t end (inl on) =
+    ap (λ (u : Copying). u.buffer.ghost_name)
+    (sym (shown_none s t on.reads.messages on.reads.actions on.reads.handled on.went_on).1)
+same_borrow limit v w s t end (inr (inl broke)) =
+    let one = shown_one s t broke.reads.messages broke.reads.actions broke.before broke.reads.handled broke.went_on
+    broke.broke in
+    (broken s t one.0.message one.2).borrow
+same_borrow limit v w s t end (inr (inr aborts)) =
+    let none =
+    shown_none s aborts.before aborts.reads.messages aborts.reads.actions aborts.reads.handled aborts.went_on in
+    (aborted s t aborts.message (subst (λ (u : Copying). Copies u aborts.message t Abort)
+    (sym none.1) aborts.aborted)).borrow
+
+-- Two reads as one -----------------------------------------------------------------
+
+-- one read that took something, or did not come to the end of the buffer
+pub read_once : (stopped : Stop) (o o' : Out) (r s : Reading) (code : ℤ)
+    → (code ≡ pos 105 → stopped ≡ Block → ⊥) → ReadsOne (RanOut 1 stopped) o o' r s code → ReadOne o o' r s code
+read_once stopped o o' r s code inside (same, on, took) = (
+  same,
+  on,
+  in_words code (λ one. one) (λ is none. none_once 1 stopped r.view s.view o o' (inside is) none) (λ stays. stays)
+      took,
+)
+
+-- one read that came to the end of the buffer and took none, and another
+pub read_twice : (one two : Stop) (o o' o'' : Out) (r s t : Reading) (first code : ℤ) → first ≡ pos 105 → one ≡ Block
+    → ReadsOne (RanOut 1 one) o o' r s first → ReadsOne (RanOut 1 two) o' o'' s t code → ReadOne o o'' r t code
+read_twice one two o o' o'' r s t first code is ended (same, on, took) (same', on', took') = (
+  same' ∙ ap (having_read t.view) same,
+  both r.view s.view t.view on on',
+  in_words code takes (λ _ again. none_twice 1 one two r.view s.view t.view o o' o'' on on' ended none again) stays
+      (subst (λ (x : Out). TookOne (RanOut 1 two) s.view t.view x o'' code) none.outs took'),
+)
+  where
+    none : TookNone (RanOut 1 one) r.view s.view o o'
+    none = had_none first is took
+
+    takes : Took s.view t.view o o'' → Took r.view t.view o o''
+    takes k = record {
+      message = k.message;
+      taken = k.taken ∙ ap (λ (ms : List PlacedMessage). ms ++ k.message ∷ []) none.taken;
+      room = k.room;
+      outs = k.outs;
+    }
+
+    stays : LeavesAtHead s.view t.view o o'' → LeavesAtHead r.view t.view o o''
+    stays k = record {
+      taken = k.taken ∙ none.taken;
+      message = k.message;
+      next = next_on r.view s.view t.view on k.message k.next;
+      short = k.short;
+      outs = k.outs;
+    }

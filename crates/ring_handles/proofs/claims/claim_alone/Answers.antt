@@ -1,0 +1,12 @@
+use Rattle.std.proofs.Common.{◌∙◌, ◌++◌, ◌∷◌, [], ap, subst, sym}
+use Rattle.ring_handles.specs.Claims.{AreOpen}
+use Rattle.ring_handles.proofs.ClaimLemmas.{one_more_open}
+use Rattle.ring_handles.proofs.claims.claim_alone.Goals as goal
+
+pub returns-in-Ok-claim-clause-claims : goal.returns-in-Ok-claim-clause-claims
+returns-in-Ok-claim-clause-claims c =
+    let made = c.in-Ok-claim in
+    let held = c.push_reserved.ensures.items ∙ ap (λ l. l ++ made.claim ∷ []) c.reserve.ensures.items in
+    subst (AreOpen c.args.ring.now c.claim.new.producer) (sym held)
+    (one_more_open c.args.ring.now c.args.producer.now c.claim.new.producer c.args.claims.now.items made.claim
+    c.claim.ensures.claims made.ensures.is_open made.ensures.apart c.requires.claims)

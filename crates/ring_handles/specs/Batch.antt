@@ -1,0 +1,98 @@
+-- How messages are laid one behind another into a buffer.
+use Rattle.std.specs.Prelude.{◌≡◌, ◌≢◌, ◌⊎◌, ℕ, ◌+◌, ◌*◌, ◌/◌, ◌<◌, ◌≤◌, ℤ, true, List, [], ◌∷◌, ◌++◌, length}
+use Rattle.std.specs.Int.{cast_unsigned, to_le_bytes, w64}
+use Rattle.ring_layout.specs.declared.message.Message.{Message}
+use Rattle.ring_layout.specs.History.{overwritten}
+use Rattle.ring_table.specs.declared.claim.PlacedMessage.{PlacedMessage}
+use Rattle.ring_table.specs.declared.view.View.{View}
+use Rattle.ring_words.specs.declared.read.action.Action.{Action}
+use Rattle.ring_words.specs.declared.read.action.Action.TheVariants.{Abort, Continue}
+use Rattle.ring_rings.specs.Reading.{IsNext, messages_of}
+use Rattle.ring_handles.specs.Consuming.{HadNone, ReadCode, ReadsOn, TookNone}
+use Rattle.ring_handles.specs.Side.{Reading, having_read}
+use Rattle.ring_handles.specs.declared.batch.Laying.{Laying}
+
+-- the bytes that a message of n bytes takes: two words, and its own, rounded up to 8
+abbrev pub span_in : ℕ → ℕ
+span_in n = 16 + (n + 7) / 8 * 8
+
+-- the bytes with a message in place of their own from `at` on: its length and its type id as words, and its body
+abbrev pub placed : ℕ → Message → List ℕ → List ℕ
+placed at m bytes = overwritten (at + 16) m.body
+    (overwritten (at + 8) (to_le_bytes w64 (cast_unsigned w64 m.type_id))
+    (overwritten at (to_le_bytes w64 (length m.body)) bytes))
+
+-- the bytes with these messages one behind another from `at` on
+abbrev pub laid : ℕ → List Message → List ℕ → List ℕ
+laid at [] bytes = bytes
+laid at (m ∷ ms) bytes = laid (at + span_in (length m.body)) ms (placed at m bytes)
+
+-- where they end
+abbrev pub laid_end : ℕ → List Message → ℕ
+laid_end at [] = at
+laid_end at (m ∷ ms) = laid_end (at + span_in (length m.body)) ms
+
+-- The handler --------------------------------------------------------------------
+
+-- there was room, and the message stands behind those before it
+pub record LaysIn (s : Laying) (m : Message) (t : Laying) (a : Action) : Type 0 where
+  pub room : s.used + span_in (length m.body) ≤ length s.buffer.now
+  pub action : a ≡ Continue
+  pub buffer : t.buffer.now ≡ placed s.used m s.buffer.now
+  pub used : t.used ≡ s.used + span_in (length m.body)
+  pub full : t.is_full ≡ s.is_full
+  pub size : length t.buffer.now ≡ length s.buffer.now
+  -- it is the same buffer
+  pub borrow : t.buffer.ghost_name ≡ s.buffer.ghost_name
+
+-- there was not, and the message stays
+pub record LeavesOut (s : Laying) (m : Message) (t : Laying) (a : Action) : Type 0 where
+  pub short : length s.buffer.now < s.used + span_in (length m.body)
+  pub action : a ≡ Abort
+  pub buffer : t.buffer.now ≡ s.buffer.now
+  pub used : t.used ≡ s.used
+  pub full : t.is_full ≡ true
+  -- it is the same buffer
+  pub borrow : t.buffer.ghost_name ≡ s.buffer.ghost_name
+
+abbrev pub Lays : Laying → Message → Laying → Action → Type 0
+Lays s m t a = LaysIn s m t a ⊎ LeavesOut s m t a
+
+-- A batch ------------------------------------------------------------------------
+
+-- what a batch puts out: how many messages were laid, the bytes that they take, and the buffer
+pub record Batch : Type 0 where
+  pub count : ℕ
+  pub used : ℕ
+  pub buffer : List ℕ
+
+abbrev pub batch : ℕ → ℕ → List ℕ → Batch
+batch count used buffer = record { count = count; used = used; buffer = buffer }
+
+-- some messages were taken, at most so many, and stand at the front of the buffer, which was these bytes
+pub record TookSome (limit : ℕ) (v w : View) (bytes : List ℕ) (after : Batch) : Type 0 where
+  pub messages : List PlacedMessage
+  pub some : messages ≢ []
+  pub taken : w.consumer.taken ≡ v.consumer.taken ++ messages
+  pub within : length messages ≤ limit
+  pub room : laid_end 0 (messages_of messages) ≤ length bytes
+  pub outs : after ≡ batch (length messages) (laid_end 0 (messages_of messages)) (laid 0 (messages_of messages) bytes)
+
+-- the bytes have no room for the message at the new head
+pub record IsShort (bytes : List ℕ) (v w : View) : Type 0 where
+  pub message : Message
+  pub next : IsNext v w message
+  pub short : length bytes < span_in (length message.body)
+
+-- messages were taken, none was there, or the buffer is too short for the first one, which stays
+abbrev pub TookBatch : (View → View → Type 0) → ℕ → View → View → Batch → Batch → ℤ → Type 0
+TookBatch Why limit v w before after code = ReadCode (TookSome limit v w before.buffer after)
+    (TookNone Why v w before after) (TookNone (IsShort before.buffer) v w before after) code
+
+-- messages were read, or none was
+abbrev pub ReadsBatch : (View → View → Type 0) → ℕ → Batch → Batch → Reading → Reading → ℤ → Type 0
+ReadsBatch Why limit before after r s code = (s ≡ having_read s.view r) × ReadsOn r.view s.view
+    × TookBatch Why limit r.view s.view before after code
+
+abbrev pub ReadBatch : ℕ → Batch → Batch → Reading → Reading → ℤ → Type 0
+ReadBatch limit = ReadsBatch (HadNone limit) limit

@@ -1,0 +1,53 @@
+-- What a handle holds, where it is of one kind.
+use Rattle.std.specs.Prelude.{MatchOption}
+use Rattle.std.specs.declared.option.Option.{Option}
+use Rattle.std.specs.declared.option.Option.TheVariants.{None, Some}
+use Rattle.ring_handles.specs.declared.client.ClientSide.{ClientSide}
+use Rattle.ring_handles.specs.declared.conductor.ConductorSide.{ConductorSide}
+use Rattle.ring_handles.specs.declared.counters.CountersSide.{CountersSide}
+use Rattle.ring_handles.specs.declared.counters.ReaderSide.{ReaderSide}
+use Rattle.ring_handles.specs.declared.held.Held.{Held}
+use Rattle.ring_handles.specs.declared.held.Held.TheVariants.{Producer, Consumer, Transmitter, Receiver, RawReceiver, Counters, Reader, Conductor, Client}
+use Rattle.ring_handles.specs.Boards.{Listening, Sending}
+use Rattle.ring_handles.specs.Raw.{Watching}
+use Rattle.ring_handles.specs.Side.{Reading, Side}
+
+abbrev pub a_producer : Held → Option Side
+a_producer (Producer p) = Some p
+a_producer _ = None
+
+abbrev pub a_consumer : Held → Option Reading
+a_consumer (Consumer c) = Some c
+a_consumer _ = None
+
+abbrev pub a_transmitter : Held → Option Sending
+a_transmitter (Transmitter t) = Some t
+a_transmitter _ = None
+
+abbrev pub a_receiver : Held → Option Listening
+a_receiver (Receiver r) = Some r
+a_receiver _ = None
+
+abbrev pub a_raw_receiver : Held → Option Watching
+a_raw_receiver (RawReceiver r) = Some r
+a_raw_receiver _ = None
+
+abbrev pub some_counters : Held → Option CountersSide
+some_counters (Counters c) = Some c
+some_counters _ = None
+
+abbrev pub a_reader : Held → Option ReaderSide
+a_reader (Reader r) = Some r
+a_reader _ = None
+
+abbrev pub a_conductor : Held → Option ConductorSide
+a_conductor (Conductor c) = Some c
+a_conductor _ = None
+
+abbrev pub a_client : Held → Option ClientSide
+a_client (Client c) = Some c
+a_client _ = None
+
+-- the handle holds one of this kind, of which P holds
+abbrev pub HoldsOne : {S : Type 0} → (Held → Option S) → (S → Type 0) → Option Held → Type 0
+HoldsOne kind P held = MatchOption held ⊥ (λ h. MatchOption (kind h) ⊥ P)

@@ -1,0 +1,42 @@
+-- What calls of readers of values do: c are the counters before, d after, r is the reader before, s after, and the code
+-- is what is answered.
+use Rattle.std.specs.Prelude.{◌≡◌, ◌⊎◌, ◌<◌, ◌≤◌, ℕ, ◌+◌, ℤ, pos, [], ◌∷◌, ◌++◌, None}
+use Rattle.std.specs.Arc.{arc_value}
+use Rattle.ring_counters.specs.Manager.{registry_of, shares_of, writes_of}
+use Rattle.ring_counters.specs.Seats.{loads_of, made_of, seen_by, values_count}
+use Rattle.ring_counters.specs.ValueWrites.{value_after, Begins}
+use Rattle.ring_counters.specs.Views.{value_load}
+use Rattle.ring_handles.specs.declared.counters.CountersSide.{CountersSide}
+use Rattle.ring_handles.specs.declared.counters.ReaderSide.{ReaderSide}
+use Rattle.ring_handles.specs.Serving.{lends_values, values_in}
+
+-- a share was moved to a reader of these counters, with their number, which has seen every write so far
+pub record Lends (c d : CountersSide) (r : ReaderSide) : Type 0 where
+  pub shares : shares_of d.manager + 1 ≡ shares_of c.manager
+  pub registry : registry_of d.manager ≡ registry_of c.manager
+  pub writes : writes_of d.manager ≡ writes_of c.manager
+  pub same : arc_value d.values ≡ arc_value c.values
+  pub identity : (d.identity ≡ c.identity) × (r.identity ≡ c.identity)
+  pub values : values_in r.values ≡ arc_value c.values
+  pub own : lends_values r.values ≡ None
+  pub made : made_of r.reader ≡ writes_of c.manager
+  pub seen : seen_by r.reader ≡ writes_of c.manager
+  pub loads : loads_of r.reader ≡ []
+
+-- why a reader is not made: the counters need their last share, or memory is wanting
+abbrev pub WhyNotLent : CountersSide → ℤ → Type 0
+WhyNotLent c code = ((code ≡ pos 12) × (shares_of c.manager ≤ 1)) ⊎ (code ≡ pos 3)
+
+-- a value was loaded, and is put out: it is the id's after some writes, and none that the reader has seen is missing
+pub record Loads (id : ℕ) (value : ℤ) (r s : ReaderSide) : Type 0 where
+  pub in_range : id < values_count (values_in r.values)
+  pub values : s.values ≡ r.values
+  pub identity : s.identity ≡ r.identity
+  pub made : made_of s.reader ≡ made_of r.reader
+  pub later : Begins (seen_by r.reader) (seen_by s.reader)
+  pub after : value ≡ value_after id (seen_by s.reader)
+  pub loads : loads_of s.reader ≡ loads_of r.reader ++ value_load id value (seen_by s.reader) ∷ []
+
+abbrev pub Loaded : ℕ → ℤ → ℤ → ReaderSide → ReaderSide → ℤ → Type 0
+Loaded id before value r s code = ((code ≡ pos 0) × Loads id value r s)
+    ⊎ ((values_count (values_in r.values) ≤ id) × (code ≡ pos 20) × (s ≡ r) × (value ≡ before))

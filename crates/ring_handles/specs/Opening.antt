@@ -1,0 +1,90 @@
+-- What is made for handles: a new ring, board, counters or conductor, and the code where it is refused.
+use Rattle.std.specs.Prelude.{◌≡◌, ◌⊎◌, ℕ, ℤ, pos, [], MatchOption, Bool}
+use Rattle.std.specs.declared.option.Option.{Option}
+use Rattle.std.specs.declared.option.Option.TheVariants.{None}
+use Rattle.ring_layout.specs.Places.{is_board_capacity, is_capacity}
+use Rattle.ring_layout.specs.Refusals.{make_code, make_refusal_of}
+use Rattle.ring_table.specs.declared.view.View.{View}
+use Rattle.ring_rings.specs.Opening.{first_consumer, first_producer}
+use Rattle.ring_board.specs.Rule.{opening_view}
+use Rattle.ring_counters.specs.Manager.{registry_of, shares_of, writes_of}
+use Rattle.ring_counters.specs.Registry.{fresh_registry}
+use Rattle.ring_counters.specs.Registry.{make_refusal_of as counters_refusal_of}
+use Rattle.ring_counters.specs.Codes.{make_code as counters_code}
+use Rattle.ring_handles.specs.declared.counters.CountersSide.{CountersSide}
+use Rattle.ring_handles.specs.declared.held.Held.{Held}
+use Rattle.ring_handles.specs.declared.identity.Identity.{Identity}
+use Rattle.ring_handles.specs.Conducting.{IsNewConductor}
+use Rattle.ring_handles.specs.Kinds.{a_conductor, a_consumer, a_producer, a_transmitter, some_counters, HoldsOne}
+use Rattle.ring_handles.specs.Side.{Reading, Side}
+
+-- Rings -------------------------------------------------------------------------
+
+-- a ring is refused with the refusal's code; where there is none it is made, unless memory is wanting
+abbrev pub IsMakeCode : ℕ → ℕ → ℤ → Type 0
+IsMakeCode C start code =
+    MatchOption (make_refusal_of (is_capacity C) C start) ((code ≡ pos 0) ⊎ (code ≡ pos 3))
+    (λ fault. code ≡ make_code fault)
+
+-- a producer and the consumer of one ring, with its number, which know this
+pub record ArePaired (many : Bool) (i : Identity) (C : ℕ) (v w : View) (p : Side) (c : Reading) : Type 0 where
+  pub producer : p ≡ record {
+    many = many;
+    table = p.table;
+    identity = i;
+    capacity = C;
+    view = v;
+    claims = [];
+  }
+  pub consumer : c ≡ record {
+    many = many;
+    table = p.table;
+    identity = i;
+    capacity = C;
+    view = w;
+    last = None;
+  }
+
+abbrev pub HoldPair : Bool → Identity → ℕ → View → View → Option Held → Option Held → Type 0
+HoldPair many i C v w p c = HoldsOne a_producer (λ s. HoldsOne a_consumer (λ r. ArePaired many i C v w s r) c) p
+
+-- the producer holds all shares, and both stand at the start
+abbrev pub HoldFresh : Bool → Identity → ℕ → ℕ → Option Held → Option Held → Type 0
+HoldFresh many i C start p c = HoldPair many i C (first_producer C start) (first_consumer C start) p c
+
+-- Boards ------------------------------------------------------------------------
+
+-- a board is refused with the refusal's code; where there is none it is made, unless memory is wanting
+abbrev pub IsBoardCode : ℕ → ℕ → ℤ → Type 0
+IsBoardCode C start code =
+    MatchOption (make_refusal_of (is_board_capacity C) C start) ((code ≡ pos 0) ⊎ (code ≡ pos 3))
+    (λ fault. code ≡ make_code fault)
+
+-- the transmitter holds all shares of a board on which nothing was transmitted
+abbrev pub HoldNewBoard : Identity → ℕ → ℕ → Option Held → Type 0
+HoldNewBoard i C start h =
+    HoldsOne a_transmitter (λ p.
+    p ≡ record { table = p.table; identity = i; capacity = C; view = opening_view C start }) h
+
+-- Counters ----------------------------------------------------------------------
+
+-- counters are refused with the refusal's code; where there is none they are made, unless memory is wanting
+abbrev pub IsCountersCode : ℕ → ℤ → Type 0
+IsCountersCode count code =
+    MatchOption (counters_refusal_of count) ((code ≡ pos 0) ⊎ (code ≡ pos 3)) (λ fault. code ≡ counters_code fault)
+
+-- counters of which none was used, with all shares
+pub record AreNew (i : Identity) (count reuse_ms : ℕ) (c : CountersSide) : Type 0 where
+  pub identity : c.identity ≡ i
+  pub registry : registry_of c.manager ≡ fresh_registry count reuse_ms
+  pub writes : writes_of c.manager ≡ []
+  pub shares : shares_of c.manager ≡ 65536
+
+abbrev pub HoldFreshCounters : Identity → ℕ → ℕ → Option Held → Type 0
+HoldFreshCounters i count reuse_ms h = HoldsOne some_counters (AreNew i count reuse_ms) h
+
+-- Conductors --------------------------------------------------------------------
+
+-- a conductor of these sizes, to which nothing was sent
+abbrev pub HoldNewConductor : Identity → ℕ → ℕ → ℕ → ℕ → Option Held → Type 0
+HoldNewConductor i C R count reuse_ms h = HoldsOne a_conductor (IsNewConductor i C R count reuse_ms) h

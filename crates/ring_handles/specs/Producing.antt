@@ -1,0 +1,162 @@
+-- What a producer's calls do: p is the producer before, q after, and the code is what is answered.
+use Rattle.std.specs.Prelude.{◌≡◌, ◌≢◌, ◌⊎◌, ℕ, ◌+◌, ◌<◌, ℤ, pos, List, [], ◌∷◌, ◌++◌, length, MatchOption, Bool, true, false}
+use Rattle.ring_layout.specs.declared.message.ClaimState.{ClaimState}
+use Rattle.ring_words.specs.Open.{ClaimAt}
+use Rattle.ring_words.specs.declared.fault.ClaimFault.{ClaimFault}
+use Rattle.ring_rings.specs.declared.fault.TryFault.{TryFault}
+use Rattle.ring_table.specs.declared.claim.Stage.TheVariants.{Stored}
+use Rattle.ring_table.specs.declared.view.View.{View}
+use Rattle.ring_table.specs.Changes.{changed, staged}
+use Rattle.ring_table.specs.ServiceSteps.{DrawsId, LoadsHeartbeat}
+use Rattle.ring_table.specs.Views.{producer_alone, with_claims, without_share}
+use Rattle.ring_rings.specs.Bodies.{PutsBytes}
+use Rattle.ring_rings.specs.Claiming.{Claims, ClaimsAlone, RefusesAlone, RefusesTry, Writes, WritesAlone}
+use Rattle.ring_rings.specs.Joining.{Joins, LoadsPositions}
+use Rattle.ring_words.specs.Refusal.{claim_code}
+use Rattle.ring_rings.specs.Claiming.{try_code}
+use Rattle.ring_handles.specs.Claims.{aborted, claim_numbered, without}
+use Rattle.ring_handles.specs.Side.{Side, knowing}
+
+-- it was refused with this number, and nothing changed
+abbrev pub Declined : ℤ → Side → Side → ℤ → Type 0
+Declined number p q code = (code ≡ number) × (q ≡ p)
+
+-- Writing ------------------------------------------------------------------------
+
+-- the try of a producer among many was refused, and this is the refusal's code
+pub record RefusedTry (capacity : ℕ) (type_id : ℤ) (len : ℕ) (v w : View) (code : ℤ) : Type 0 where
+  pub fault : TryFault
+  pub code_is : code ≡ try_code fault
+  pub refused : RefusesTry capacity type_id len v fault w
+
+-- the claim of the only producer was refused
+pub record RefusedAlone (capacity : ℕ) (type_id : ℤ) (len : ℕ) (v w : View) (code : ℤ) : Type 0 where
+  pub fault : ClaimFault
+  pub code_is : code ≡ claim_code fault
+  pub refused : RefusesAlone capacity type_id len v fault w
+
+abbrev pub IsRefused : Bool → ℕ → ℤ → ℕ → View → View → ℤ → Type 0
+IsRefused true capacity type_id len v w code = RefusedTry capacity type_id len v w code
+IsRefused false capacity type_id len v w code = RefusedAlone capacity type_id len v w code
+
+-- a message was written, into a ring of many producers or of one
+abbrev pub IsWritten : Bool → ℕ → ℤ → List ℕ → View → View → Type 0
+IsWritten true capacity type_id body v w = Writes capacity type_id body v w
+IsWritten false capacity type_id body v w = WritesAlone capacity type_id body v w
+
+-- 0 says that the message was written, and another code why it was refused
+abbrev pub Wrote : ℤ → List ℕ → Side → Side → ℤ → Type 0
+Wrote type_id body p q code = (q ≡ knowing q.view p)
+    × (((code ≡ pos 0) × IsWritten p.many p.capacity type_id body p.view q.view)
+    ⊎ IsRefused p.many p.capacity type_id (length body) p.view q.view code)
+
+-- Claims -------------------------------------------------------------------------
+
+abbrev pub IsClaimed : Bool → ℕ → ℤ → ℕ → View → ClaimAt → View → Type 0
+IsClaimed true capacity type_id len v t w = Claims capacity type_id len v t w
+IsClaimed false capacity type_id len v t w = ClaimsAlone capacity type_id len v t w
+
+-- the producer with these open claims
+abbrev pub holding : List ClaimAt → Side → Side
+holding claims p = record p { claims = claims }
+
+-- a claim was made, and its number is its place
+pub record MadeClaim (type_id : ℤ) (len : ℕ) (p q : Side) (number : ℕ) : Type 0 where
+  pub claim : ClaimAt
+  pub made : IsClaimed p.many p.capacity type_id len p.view claim q.view
+  pub side : q ≡ holding (p.claims ++ claim ∷ []) (knowing q.view p)
+  pub number_is : number ≡ claim.place
+
+-- it was refused, and the number out is as it was
+pub record ClaimRefused (type_id : ℤ) (len : ℕ) (p q : Side) (before number : ℕ) (code : ℤ) : Type 0 where
+  pub refused : IsRefused p.many p.capacity type_id len p.view q.view code
+  pub side : q ≡ knowing q.view p
+  pub number_is : number ≡ before
+
+-- a claim was made, or refused, or memory to keep it is wanting
+abbrev pub Claimed : ℤ → ℕ → ℕ → ℕ → Side → Side → ℤ → Type 0
+Claimed type_id len before number p q code = ((code ≡ pos 0) × MadeClaim type_id len p q number)
+    ⊎ (ClaimRefused type_id len p q before number code ⊎ (Declined (pos 3) p q code × (number ≡ before)))
+
+-- the claim of this number is open, and P tells; else 104
+abbrev pub WithClaim : ℕ → (ClaimAt → Type 0) → Side → Side → ℤ → Type 0
+WithClaim number P p q code = MatchOption (claim_numbered number p.claims) (Declined (pos 104) p q code) P
+
+-- bytes were put into the claim of this number, or do not lie inside it
+abbrev pub Put : ℕ → ℕ → List ℕ → Side → Side → ℤ → Type 0
+Put number offset bytes p q code =
+    WithClaim number (λ t. ((code ≡ pos 0) × (q ≡ knowing q.view p) × PutsBytes t.place offset bytes p.view q.view)
+    ⊎ ((t.len < offset + length bytes) × Declined (pos 9) p q code)) p q code
+
+-- the producer whose claim t of this number was settled so
+abbrev pub settling : ClaimState → ℕ → ClaimAt → Side → Side
+settling state number t p = holding (without number p.claims)
+    (knowing (with_claims (changed t.place (staged (Stored state)) p.view.producer.claims) p.view) p)
+
+-- the claim of this number was settled
+abbrev pub Settled : ClaimState → ℕ → Side → Side → ℤ → Type 0
+Settled state number p q code = WithClaim number (λ t. (code ≡ pos 0) × (q ≡ settling state number t p)) p q code
+
+-- the producer whose open claims were all aborted
+abbrev pub closing : Side → Side
+closing p = holding [] (knowing (with_claims (aborted p.claims p.view.producer.claims) p.view) p)
+
+-- What producers load and draw ---------------------------------------------------
+
+-- what a look at the positions puts out
+pub record Positions : Type 0 where
+  pub head : ℕ
+  pub tail : ℕ
+
+abbrev pub positions : ℕ → ℕ → Positions
+positions head tail = record { head = head; tail = tail }
+
+abbrev pub Positioned : Positions → Side → Side → ℤ → Type 0
+Positioned at p q code =
+    (code ≡ pos 0) × (q ≡ knowing q.view p) × LoadsPositions p.capacity p.view at.head at.tail q.view
+
+abbrev pub Drew : ℕ → Side → Side → ℤ → Type 0
+Drew id p q code = (code ≡ pos 0) × (q ≡ knowing q.view p) × DrawsId p.view id q.view
+
+abbrev pub HeardBeat : ℕ → Side → Side → ℤ → Type 0
+HeardBeat value p q code = (code ≡ pos 0) × (q ≡ knowing q.view p) × LoadsHeartbeat p.capacity p.view value q.view
+
+abbrev pub Counted : ℕ → Side → Side → ℤ → Type 0
+Counted shares p q code = (code ≡ pos 0) × (q ≡ p) × (shares ≡ p.view.producer.shares)
+
+-- Splitting and joining ----------------------------------------------------------
+
+-- the other producer of the ring, with one share
+abbrev pub other_of : Side → Side
+other_of p = record {
+  many = true;
+  table = p.table;
+  identity = p.identity;
+  capacity = p.capacity;
+  view = producer_alone p.view;
+  claims = [];
+}
+
+-- a share was moved to another producer
+pub record Splits (p q other : Side) : Type 0 where
+  pub many : p.many ≡ true
+  pub shares : p.view.producer.shares ≢ 1
+  pub left : q ≡ knowing (without_share p.view) p
+  pub right : other ≡ other_of p
+
+-- why a producer is not split: its ring has one producer, it has one share, or memory is wanting
+abbrev pub WhyNotSplit : Side → ℤ → Type 0
+WhyNotSplit p code = ((code ≡ pos 101) × (p.many ≡ false))
+    ⊎ (((code ≡ pos 12) × (p.view.producer.shares ≡ 1)) ⊎ (code ≡ pos 3))
+
+-- the other one, which has the same number, was taken in, with its shares and its open claims
+pub record TakesIn (p other q : Side) : Type 0 where
+  pub identity : p.identity ≡ other.identity
+  pub view : Joins p.capacity p.view other.view q.view
+  pub rest : q ≡ holding (p.claims ++ other.claims) (knowing q.view p)
+
+-- why it was not: a ring has one producer; else the numbers differ; else memory is wanting
+abbrev pub IsApart : Side → Side → ℤ → Type 0
+IsApart p other code = ((code ≡ pos 101) × ((p.many ≡ false) ⊎ (other.many ≡ false)))
+    ⊎ ((p.many ≡ true) × (other.many ≡ true)
+    × (((code ≡ pos 108) × (p.identity ≢ other.identity)) ⊎ ((code ≡ pos 3) × (p.identity ≡ other.identity))))

@@ -1,0 +1,117 @@
+-- What calls of a raw receiver's handle do: r is the receiver before, s after, and the code is what is answered.
+use Rattle.std.specs.Prelude.{◌≡◌, ◌⊎◌, ℕ, ◌<◌, ◌≤◌, ℤ, pos, Bool, true, List, length, take, drop, MatchOption, Option, None, Some, IsSome, if◌then◌else◌}
+use Rattle.atomic_table.specs.Seated.{TableId}
+use Rattle.ring_layout.specs.Refusals.{share_refusal_of}
+use Rattle.ring_board.specs.declared.board.RawRecord.{RawRecord}
+use Rattle.ring_board.specs.declared.fault.Lapped.{Lapped}
+use Rattle.ring_board.specs.Bodies.{GaveBody, IsRight, Validated}
+use Rattle.ring_board.specs.Receiving.{GotLapped, GotNothing, GotRecord}
+use Rattle.ring_board.specs.Seats.{len_of, place_of, type_id_of}
+use Rattle.ring_board.specs.Steps.{Sat, fewer, newcomer}
+use Rattle.ring_handles.specs.Boards.{Sending, knowing}
+use Rattle.ring_handles.specs.declared.identity.Identity.{Identity}
+
+pub record Watching : Type 0 where
+  -- which board it is
+  pub table : TableId
+  -- the board's number
+  pub identity : Identity
+  -- the bytes of the board's buffer
+  pub capacity : ℕ
+  -- what the receiver knows, with the slots of its seat, which has none
+  pub seat : Sat
+  -- the record that it answered last
+  pub latest : Option RawRecord
+
+-- the receiver with this seat
+abbrev pub reseated : Sat → Watching → Watching
+reseated m r = record r { seat = m }
+
+-- Subscribing --------------------------------------------------------------------
+
+-- a share was moved to a raw receiver, which starts at the record at latest and has answered none
+pub record SubscribesRaw (p q : Sending) (r : Watching) : Type 0 where
+  pub spare : share_refusal_of p.view.shares ≡ None
+  pub left : q ≡ knowing (fewer p.view) p
+  pub right : r ≡ record {
+    table = p.table;
+    identity = p.identity;
+    capacity = p.capacity;
+    seat = r.seat;
+    latest = None;
+  }
+  pub knows : r.seat.0 ≡ newcomer p.view
+
+-- why it is not made: the transmitter needs its last share, or memory is wanting
+abbrev pub IsUnwatched : Sending → ℤ → Type 0
+IsUnwatched p code = ((code ≡ pos 12) × IsSome (share_refusal_of p.view.shares)) ⊎ (code ≡ pos 3)
+
+-- Records ------------------------------------------------------------------------
+
+-- what a call puts out: a record's type id and length, and how often the receiver was lapped
+pub record Seen : Type 0 where
+  pub type_id : ℤ
+  pub len : ℕ
+  pub lapped : ℕ
+
+abbrev pub seen : ℤ → ℕ → ℕ → Seen
+seen type_id len lapped = record { type_id = type_id; len = len; lapped = lapped }
+
+-- a record was answered unread, and is the latest one
+pub record Answers (before after : Seen) (latest : Option RawRecord) (m m' : Sat) : Type 0 where
+  pub raw : RawRecord
+  pub got : GotRecord raw m m'
+  pub latest_is : latest ≡ Some raw
+  pub outs : after ≡ seen (type_id_of raw) (len_of raw) before.lapped
+
+-- the receiver was lapped, and how often is put out
+pub record LapsRaw (before after : Seen) (m m' : Sat) : Type 0 where
+  pub lapped : Lapped
+  pub got : GotLapped lapped m m'
+  pub outs : after ≡ record before { lapped = lapped.count }
+
+-- a record was answered, or there was none, or the receiver was lapped
+abbrev pub TellsSeen : Seen → Seen → Option RawRecord → Option RawRecord → Sat → Sat → ℤ → Type 0
+TellsSeen before after latest latest' m m' code = ((code ≡ pos 0) × Answers before after latest' m m')
+    ⊎ (((code ≡ pos 105) × GotNothing m m' × (latest' ≡ latest) × (after ≡ before))
+    ⊎ ((code ≡ pos 13) × LapsRaw before after m m' × (latest' ≡ latest)))
+
+abbrev pub NextSeen : Seen → Seen → Watching → Watching → ℤ → Type 0
+NextSeen before after r s code = (s ≡ record r { seat = s.seat; latest = s.latest })
+    × TellsSeen before after r.latest s.latest r.seat s.seat code
+
+-- Bodies -------------------------------------------------------------------------
+
+-- words were loaded where the record's body lies, and their bytes stand at the front of the buffer
+pub record LoadsBodyInto (raw : RawRecord) (before after : List ℕ) (m m' : Sat) : Type 0 where
+  pub room : len_of raw ≤ length before
+  pub gave : GaveBody (place_of raw) (take (len_of raw) after) m m'
+  pub rest : drop (len_of raw) after ≡ drop (len_of raw) before
+
+-- of the latest record the body was loaded, or the buffer is too short; 105 where none was answered yet
+abbrev pub LoadsAnswered : Option RawRecord → List ℕ → List ℕ → Sat → Sat → ℤ → Type 0
+LoadsAnswered latest before after m m' code = MatchOption latest ((code ≡ pos 105) × (m' ≡ m) × (after ≡ before))
+    (λ raw. ((code ≡ pos 0) × LoadsBodyInto raw before after m m')
+    ⊎ ((length before < len_of raw) × (code ≡ pos 106) × (m' ≡ m) × (after ≡ before)))
+
+abbrev pub BodyLoaded : List ℕ → List ℕ → Watching → Watching → ℤ → Type 0
+BodyLoaded before after r s code = (s ≡ reseated s.seat r) × LoadsAnswered r.latest before after r.seat s.seat code
+
+-- an intent was loaded, and 0 answered where it shows that the record was not overwritten, and else 13. Where it was
+-- not, each body of it that was loaded before is the one that was transmitted
+pub record Tests (raw : RawRecord) (m m' : Sat) (code : ℤ) : Type 0 where
+  pub valid : Bool
+  pub looked : Validated raw valid m m'
+  pub code_is : code ≡ (if valid then pos 0 else pos 13)
+  pub right : valid ≡ true → IsRight m.0 raw
+
+-- the latest record was tested; 105 where none was answered yet
+abbrev pub TestsLatest : Option RawRecord → Sat → Sat → ℤ → Type 0
+TestsLatest latest m m' code = MatchOption latest ((code ≡ pos 105) × (m' ≡ m)) (λ raw. Tests raw m m' code)
+
+abbrev pub Tested : Watching → Watching → ℤ → Type 0
+Tested r s code = (s ≡ reseated s.seat r) × TestsLatest r.latest r.seat s.seat code
+
+-- how often the receiver was lapped so far is put out
+abbrev pub SaysLaps : ℕ → Watching → Watching → ℤ → Type 0
+SaysLaps count r s code = (code ≡ pos 0) × (s ≡ r) × (count ≡ r.seat.0.count)

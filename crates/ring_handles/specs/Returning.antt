@@ -1,0 +1,89 @@
+-- What boards and counters take back, and how a board ends: p is the transmitter before, q after, c are the counters
+-- before, d after, r is a receiver or a reader, and the code is what is answered.
+use Rattle.std.specs.Prelude.{◌≡◌, ◌≢◌, ℕ, ◌+◌, ℤ, pos, MatchOption, None}
+use Rattle.std.specs.Arc.{arc_value}
+use Rattle.atomic_table.specs.Seated.{TableId}
+use Rattle.ring_board.specs.Closing.{close_refusal_of}
+use Rattle.ring_board.specs.Runs.{AreAllRuns, AreRuns}
+use Rattle.ring_board.specs.Steps.{Sat, joined}
+use Rattle.ring_counters.specs.Manager.{registry_of, shares_of, writes_of}
+use Rattle.ring_counters.specs.Seats.{loads_of, made_of}
+use Rattle.ring_counters.specs.ValueWrites.{AreLoads}
+use Rattle.ring_handles.specs.declared.counters.CountersSide.{CountersSide}
+use Rattle.ring_handles.specs.declared.counters.ReaderSide.{ReaderSide}
+use Rattle.ring_handles.specs.Boards.{knowing, tail_in, Listening, Sending}
+use Rattle.ring_handles.specs.Raw.{Watching}
+use Rattle.ring_handles.specs.Serving.{lends_values, values_in}
+
+-- Receivers ----------------------------------------------------------------------
+
+-- a receiver with this seat was taken back, with its share, and its copies are runs of the transmitted list
+pub record TakesBack (p : Sending) (m : Sat) (q : Sending) : Type 0 where
+  pub joined_is : q ≡ knowing (joined p.view m.0) p
+  pub shares : q.view.shares ≡ p.view.shares + 1
+  pub runs : AreRuns p.view.sent m.0.from m.0.copies
+
+-- a receiver with this seat at such a board is of the transmitter's board
+abbrev pub IsAtBoard : Sending → TableId → ℕ → Sat → Type 0
+IsAtBoard p table capacity m = (p.table ≡ table) × (p.capacity ≡ capacity) × (p.view.start ≡ m.0.start)
+
+-- where it has the same number and is no conductor's, the receiver is of the transmitter's board
+abbrev pub IsOfThisBoard : Sending → Listening → Type 0
+IsOfThisBoard p r =
+    MatchOption r.lender (p.identity ≡ r.identity → IsAtBoard p r.table r.capacity r.seat) (λ _. Unit {0})
+
+-- it is no conductor's, has the same number, and was taken back
+abbrev pub TakesListener : Sending → Listening → Sending → Type 0
+TakesListener p r q = (r.lender ≡ None) × (p.identity ≡ r.identity) × TakesBack p r.seat q
+
+-- it is a conductor's, or the numbers differ
+abbrev pub IsAstray : Sending → Listening → ℤ → Type 0
+IsAstray p r code = (code ≡ pos 108) × MatchOption r.lender (p.identity ≢ r.identity) (λ _. Unit {0})
+
+-- where it has the same number, the raw receiver is of the transmitter's board
+abbrev pub IsRawOfThisBoard : Sending → Watching → Type 0
+IsRawOfThisBoard p r = p.identity ≡ r.identity → IsAtBoard p r.table r.capacity r.seat
+
+-- it has the same number, and was taken back
+abbrev pub TakesWatcher : Sending → Watching → Sending → Type 0
+TakesWatcher p r q = (p.identity ≡ r.identity) × TakesBack p r.seat q
+
+-- the numbers differ
+abbrev pub IsRawAstray : Sending → Watching → ℤ → Type 0
+IsRawAstray p r code = (code ≡ pos 108) × (p.identity ≢ r.identity)
+
+-- The end of a board -------------------------------------------------------------
+
+-- all shares were back, the last transmission ended here, and what each receiver that was taken back copied are runs of
+-- the transmitted list
+pub record EndsAt (p : Sending) (tail : ℕ) : Type 0 where
+  pub ready : close_refusal_of p.view.shares ≡ None
+  pub tail_is : tail ≡ tail_in p
+  pub runs : AreAllRuns p.view.sent p.view.heard
+
+-- shares are with receivers; where none is, another handle holds the board
+abbrev pub IsBoardKept : Sending → ℤ → Type 0
+IsBoardKept p code = MatchOption (close_refusal_of p.view.shares) (code ≡ pos 110) (λ _. code ≡ pos 14)
+
+-- Readers ------------------------------------------------------------------------
+
+-- where it has the same number and is no conductor's, the reader is of these counters
+abbrev pub IsOfThese : CountersSide → ReaderSide → Type 0
+IsOfThese c r = MatchOption (lends_values r.values)
+    (c.identity ≡ r.identity → values_in r.values ≡ arc_value c.values) (λ _. Unit {0})
+
+-- a reader of the same number was taken back, with its share: what it loaded are values after first parts of the writes
+pub record TakesLoads (c : CountersSide) (r : ReaderSide) (d : CountersSide) : Type 0 where
+  pub own : lends_values r.values ≡ None
+  pub same : c.identity ≡ r.identity
+  pub shares : shares_of d.manager ≡ shares_of c.manager + 1
+  pub loads : AreLoads (made_of r.reader) (loads_of r.reader) (writes_of d.manager)
+  pub registry : registry_of d.manager ≡ registry_of c.manager
+  pub writes : writes_of d.manager ≡ writes_of c.manager
+  pub values : arc_value d.values ≡ arc_value c.values
+  pub identity : d.identity ≡ c.identity
+
+-- it is a conductor's, or the numbers differ
+abbrev pub IsOfOthers : CountersSide → ReaderSide → ℤ → Type 0
+IsOfOthers c r code =
+    (code ≡ pos 108) × MatchOption (lends_values r.values) (c.identity ≢ r.identity) (λ _. Unit {0})

@@ -1,0 +1,112 @@
+-- Seats that a conductor gives and takes back: c is the conductor before, d after, k is a client, r a receiver or a
+-- reader, and the code is what is answered.
+use Rattle.std.specs.Prelude.{◌≡◌, ◌⊎◌, ◌≤◌, ◌+◌, ℤ, pos, [], IfSome, Option, Some}
+use Rattle.std.specs.Arc.{arc_value}
+use Rattle.ring_rings.specs.Joining.{Joins}
+use Rattle.ring_rings.specs.Seats.{capacity_of as ring_bytes, view_of}
+use Rattle.ring_board.specs.declared.fault.SubscribeFault.TheVariants.{NoShares}
+use Rattle.ring_board.specs.Refusals.{subscribe_refusal_of}
+use Rattle.ring_board.specs.Runs.{AreRuns}
+use Rattle.ring_board.specs.Seats.{capacity_of}
+use Rattle.ring_board.specs.Steps.{Sat, fewer, joined, newcomer}
+use Rattle.ring_counters.specs.Manager.{registry_of, writes_of}
+use Rattle.ring_counters.specs.Seats.{loads_of, made_of, seen_by}
+use Rattle.ring_counters.specs.ValueWrites.{AreLoads}
+use Rattle.ring_conductor.specs.Asking.{client_seat, client_view}
+use Rattle.ring_conductor.specs.Conducting.{board_view, manager_in, value_shares_of, KeepsSeats, KeepsTheRest}
+use Rattle.ring_handles.specs.declared.client.ClientSide.{ClientSide}
+use Rattle.ring_handles.specs.declared.conductor.ConductorSide.{ConductorSide}
+use Rattle.ring_handles.specs.declared.counters.ReaderSide.{ReaderSide}
+use Rattle.ring_handles.specs.declared.lending.Shared.{Shared}
+use Rattle.ring_handles.specs.Boards.{table_of, Listening}
+use Rattle.ring_handles.specs.Conducting.{shared_by, KeepsProducer}
+use Rattle.ring_handles.specs.Serving.{lends_values, IsNumberedOtherwise}
+
+-- Lending ------------------------------------------------------------------------
+
+-- a share of the board was moved to a receiver, which starts at the reply at latest
+pub record LendsReceiver (c d : ConductorSide) (r : Listening) : Type 0 where
+  pub left : board_view d.conductor ≡ fewer (board_view c.conductor)
+  pub right : let s = shared_by c in
+      r ≡ record {
+        table = table_of s.board;
+        identity = s.identity;
+        capacity = capacity_of s.board;
+        lender = Some s;
+        seat = r.seat;
+      }
+  pub knows : r.seat.0 ≡ newcomer (board_view c.conductor)
+  pub others : KeepsTheRest c.conductor d.conductor
+  pub rest : KeepsProducer c d
+
+-- why a receiver is not made: the conductor needs its last share, or memory is wanting
+abbrev pub IsUnheard : ConductorSide → ℤ → Type 0
+IsUnheard c code = ((code ≡ pos 12) × (subscribe_refusal_of (board_view c.conductor).shares ≡ Some NoShares))
+    ⊎ (code ≡ pos 3)
+
+-- the counters and their writes are the same
+pub record KeepsCounters (c d : ConductorSide) : Type 0 where
+  pub registry : registry_of (manager_in d.conductor) ≡ registry_of (manager_in c.conductor)
+  pub writes : writes_of (manager_in d.conductor) ≡ writes_of (manager_in c.conductor)
+  pub others : KeepsSeats c.conductor d.conductor
+  pub rest : KeepsProducer c d
+
+-- a share of the values was moved to a reader, which has seen every write so far
+pub record LendsReader (c d : ConductorSide) (r : ReaderSide) : Type 0 where
+  pub shares : value_shares_of d.conductor + 1 ≡ value_shares_of c.conductor
+  pub lender : lends_values r.values ≡ Some (shared_by c)
+  pub made : made_of r.reader ≡ writes_of (manager_in c.conductor)
+  pub seen : seen_by r.reader ≡ writes_of (manager_in c.conductor)
+  pub loads : loads_of r.reader ≡ []
+  pub keeps : KeepsCounters c d
+
+-- why a reader is not made: the conductor needs its last share, or memory is wanting
+abbrev pub WhyNotSeated : ConductorSide → ℤ → Type 0
+WhyNotSeated c code = ((code ≡ pos 12) × (value_shares_of c.conductor ≤ 1)) ⊎ (code ≡ pos 3)
+
+-- Taking back --------------------------------------------------------------------
+
+-- a receiver with this seat was taken back, with its share, and its copies are runs of the replies
+pub record TakesSeat (c d : ConductorSide) (m : Sat) : Type 0 where
+  pub joined_is : board_view d.conductor ≡ joined (board_view c.conductor) m.0
+  pub runs : AreRuns (board_view c.conductor).sent m.0.from m.0.copies
+  pub others : KeepsTheRest c.conductor d.conductor
+
+-- a client of this conductor was taken back: its claims are the conductor's producer's
+pub record TakesClient (c : ConductorSide) (k : ClientSide) (d : ConductorSide) : Type 0 where
+  pub lender : arc_value k.shared ≡ shared_by c
+  pub shared : shared_by d ≡ shared_by c
+  pub producer : Joins (ring_bytes (shared_by c).ring) (view_of c.producer) (client_view k.client) (view_of d.producer)
+  pub receiver : TakesSeat c d (client_seat k.client)
+
+-- a receiver of this conductor's replies was taken back
+pub record TakesReceiver (c : ConductorSide) (r : Listening) (d : ConductorSide) : Type 0 where
+  pub lender : r.lender ≡ Some (shared_by c)
+  pub receiver : TakesSeat c d r.seat
+  pub rest : KeepsProducer c d
+
+-- a reader of this conductor's values was taken back, with its share: what it loaded are values after first parts of
+-- the writes
+pub record TakesReader (c : ConductorSide) (r : ReaderSide) (d : ConductorSide) : Type 0 where
+  pub lender : lends_values r.values ≡ Some (shared_by c)
+  pub shares : value_shares_of d.conductor ≡ value_shares_of c.conductor + 1
+  pub loads : AreLoads (made_of r.reader) (loads_of r.reader) (writes_of (manager_in d.conductor))
+  pub keeps : KeepsCounters c d
+
+-- it is no conductor's, or that of one with another number
+abbrev pub IsForeign : ConductorSide → Option Shared → ℤ → Type 0
+IsForeign c lender code = (code ≡ pos 108) × IsNumberedOtherwise (shared_by c).identity lender
+
+-- what a conductor shares, where the client, the receiver or the reader is one's
+abbrev pub lends_client : ClientSide → Option Shared
+lends_client k = Some (arc_value k.shared)
+
+abbrev pub lends_reader : ReaderSide → Option Shared
+lends_reader r = lends_values r.values
+
+abbrev pub lends_receiver : Listening → Option Shared
+lends_receiver r = r.lender
+
+-- where it is a conductor's of the same number, it is this one's
+abbrev pub IsOfThisConductor : ConductorSide → Option Shared → Type 0
+IsOfThisConductor c lender = IfSome lender (λ s. s.identity ≡ (shared_by c).identity → s ≡ shared_by c)

@@ -1,0 +1,122 @@
+-- A producer or a consumer with its ring, of either kind.
+use Rattle.std.specs.Prelude.{◌≡◌, ℕ, List, Bool, true, false, Option, None, Some}
+use Rattle.std.specs.Arc.{arc_value}
+use Rattle.atomic_table.specs.Seated.{TableId}
+use Rattle.ring_table.specs.OpenClaims.{open_count}
+use Rattle.ring_table.specs.declared.view.View.{View}
+use Rattle.ring_words.specs.Open.{ClaimAt}
+use Rattle.ring_rings.specs.Closing.{close_refusal_of}
+use Rattle.ring_rings.specs.declared.fault.CloseFault.{CloseFault}
+use Rattle.ring_rings.specs.declared.ring.Ring.{Ring}
+use Rattle.ring_rings.specs.declared.ring.Producer.{Producer}
+use Rattle.ring_rings.specs.declared.ring.Consumer.{Consumer}
+use Rattle.ring_rings.specs.Seats.{capacity_of, shares_of, view_of, IsConsumerOf, IsProducerOf}
+use Rattle.ring_handles.specs.Claims.{AreOpen}
+use Rattle.ring_handles.specs.declared.identity.Identity.{Identity}
+use Rattle.ring_handles.specs.declared.ring.AnyRing.{AnyRing}
+use Rattle.ring_handles.specs.declared.ring.AnyRing.TheVariants.{Many, One}
+
+-- Rings of either kind -----------------------------------------------------------
+
+-- any number of producers write it
+abbrev pub is_many : AnyRing → Bool
+is_many (Many ring) = true
+is_many (One ring) = false
+
+-- which ring it is
+abbrev pub table_in : AnyRing → TableId
+table_in (Many ring) = (arc_value ring).table.shared.table_id
+table_in (One ring) = (arc_value ring).table.shared.table_id
+
+-- the bytes of its buffer
+abbrev pub capacity_in : AnyRing → ℕ
+capacity_in (Many ring) = capacity_of (arc_value ring)
+capacity_in (One ring) = capacity_of (arc_value ring)
+
+-- a producer of it, which holds all shares where it is the only one
+abbrev pub IsProducerIn : AnyRing → Producer → Type 0
+IsProducerIn (Many ring) p = IsProducerOf (arc_value ring) p
+IsProducerIn (One ring) p = IsProducerOf (arc_value ring) p × (shares_of p ≡ 65536)
+
+-- these are open claims of its producer
+abbrev pub AreClaimsIn : AnyRing → Producer → List ClaimAt → Type 0
+AreClaimsIn (Many ring) p claims = AreOpen (arc_value ring) p claims
+AreClaimsIn (One ring) p claims = AreOpen (arc_value ring) p claims
+
+abbrev pub IsConsumerIn : AnyRing → Consumer → Type 0
+IsConsumerIn (Many ring) c = IsConsumerOf (arc_value ring) c
+IsConsumerIn (One ring) c = IsConsumerOf (arc_value ring) c
+
+-- Numbers --------------------------------------------------------------------------
+
+abbrev pub identity_of : ℕ → Identity
+identity_of number = record { number = number }
+
+-- Producers ----------------------------------------------------------------------
+
+pub record Side : Type 0 where
+  -- any number of producers write the ring
+  pub many : Bool
+  -- which ring it is
+  pub table : TableId
+  -- the ring's number
+  pub identity : Identity
+  -- the bytes of the ring's buffer
+  pub capacity : ℕ
+  -- what the producer knows
+  pub view : View
+  -- the claims that are open, the oldest first
+  pub claims : List ClaimAt
+
+-- the producer of a ring of this kind and number, with these open claims
+abbrev pub side : {K : Type 0} → Bool → Identity → Ring K → Producer → List ClaimAt → Side
+side many identity ring p claims = record {
+  many = many;
+  table = ring.table.shared.table_id;
+  identity = identity;
+  capacity = capacity_of ring;
+  view = view_of p;
+  claims = claims;
+}
+
+-- the producer and the claims are the ring's
+pub record IsSide (ring : AnyRing) (producer : Producer) (claims : List ClaimAt) : Type 0 where
+  pub of : IsProducerIn ring producer
+  pub claimed : AreClaimsIn ring producer claims
+
+-- the producer that knows this
+abbrev pub knowing : View → Side → Side
+knowing v s = record s { view = v }
+
+-- where their numbers are the same, both are producers of one ring
+abbrev pub AreOfOneRing : Side → Side → Type 0
+AreOfOneRing p other = p.identity ≡ other.identity → (p.table ≡ other.table) × (p.capacity ≡ other.capacity)
+
+-- Consumers ----------------------------------------------------------------------
+
+-- why a producer that knows this does not close its ring
+abbrev pub close_refusal : View → Option CloseFault
+close_refusal v = close_refusal_of (open_count v.producer.claims) v.producer.shares
+
+-- a producer that was taken in is the ring's, with all shares and no open claim
+abbrev pub IsLastIn : AnyRing → Option Producer → Type 0
+IsLastIn ring None = Unit {0}
+IsLastIn ring (Some p) = IsProducerIn ring p × (close_refusal (view_of p) ≡ None)
+
+pub record Reading : Type 0 where
+  pub many : Bool
+  pub table : TableId
+  pub identity : Identity
+  pub capacity : ℕ
+  -- what the consumer knows
+  pub view : View
+  -- what the ring's producer knows, where it was taken in and nothing is written any more
+  pub last : Option View
+
+-- the consumer that knows this
+abbrev pub having_read : View → Reading → Reading
+having_read v r = record r { view = v }
+
+-- where their numbers are the same, the producer is of the consumer's ring
+abbrev pub IsOfThisRing : Reading → Side → Type 0
+IsOfThisRing r p = r.identity ≡ p.identity → (r.table ≡ p.table) × (r.capacity ≡ p.capacity)

@@ -1,0 +1,148 @@
+//! Messages laid one behind another into a buffer.
+ghost use Rattle.std.specs.Prelude.{◌≡◌, ◌≢◌, ◌+◌, ◌^◌, ◌<◌, ◌≤◌, true, false, length};
+ghost use Rattle.ring_layout.specs.declared.message.Message.{Message};
+ghost use Rattle.ring_rings.specs.Seats.{consumer_view, IsConsumerOf};
+ghost use Rattle.ring_handles.specs.Batch.{batch, placed, span_in, IsShort, Lays, ReadBatch, ReadsBatch, TookBatch, TookSome};
+ghost use Rattle.ring_handles.specs.Consuming.{RanOut, ReadsOn};
+
+use crate::code::{DONE, NO_MESSAGE, SHORT_BUFFER};
+use crate::consumer::ConsumerSide;
+use crate::copying::copy_at;
+use crate::ring::on_ring;
+use ring_rings::{Action, Consumer, Handler, ReadEnd, Ring, Stop};
+
+/// Lays messages into a buffer, as long as there is room.
+#[derive(Drop)]
+pub(crate) struct Laying<'a> {
+    pub(crate) buffer: &'a mut [u8],
+    pub(crate) used: usize,
+    pub(crate) is_full: bool,
+}
+
+/// The bytes that a message takes.
+fn span_in(len: usize) -> usize
+    requires { len < 2 ^ 63 }
+    ensures { result ≡ span_in len }
+{
+    16 + len.div_ceil(8) * 8
+}
+
+/// Places a message into a buffer: its length, its type id and its body.
+fn place(buffer: &mut [u8], at: usize, type_id: i32, body: &[u8])
+    requires { at + span_in (length body.now) ≤ length buffer.old }
+    ensures { buffer.new ≡ placed at (record { type_id = type_id; body = body.now }) buffer.old }
+{
+    copy_at(buffer, at, &(body.len() as u64).to_le_bytes());
+    copy_at(buffer, at + 8, &i64::from(type_id).to_le_bytes());
+    copy_at(buffer, at + 16, body);
+}
+
+impl Handler for Laying<'_> {
+    ghost step = { λ s m t a. Lays s m t a };
+
+    fn on_message(&mut self, type_id: i32, body: &[u8]) -> Action {
+        match self.used.checked_add(span_in(body.len())) {
+            Some(end) if end <= self.buffer.len() => {
+                place(self.buffer, self.used, type_id, body);
+                self.used = end;
+                Action::Continue
+            }
+            _ => {
+                self.is_full = true;
+                Action::Abort
+            }
+        }
+    }
+}
+
+/// Lays up to `limit` messages, as far as the end of the ring's buffer.
+fn lay_some<K>(
+    ring: &Ring<K>,
+    consumer: &mut Consumer,
+    limit: u32,
+    laying: &mut Laying<'_>,
+) -> ReadEnd
+    requires consumer { IsConsumerOf ring.now consumer.old }
+    requires fresh { (laying.old.used ≡ 0) × (laying.old.is_full ≡ false) }
+    ensures consumer { IsConsumerOf ring.now consumer.new }
+    ensures borrow { laying.new.buffer.ghost_name ≡ laying.old.buffer.ghost_name }
+    ensures reads { ReadsOn (consumer_view consumer.old) (consumer_view consumer.new) }
+    ensures some { result.messages ≢ 0 → TookSome limit (consumer_view consumer.old) (consumer_view consumer.new)
+        laying.old.buffer.now (batch result.messages laying.new.used laying.new.buffer.now) }
+    ensures none { result.messages ≡ 0 → ((consumer_view consumer.new).consumer.taken
+        ≡ (consumer_view consumer.old).consumer.taken) × (laying.new.buffer.now ≡ laying.old.buffer.now) }
+    ensures full { result.messages ≡ 0 → laying.new.is_full ≡ true
+        → IsShort laying.old.buffer.now (consumer_view consumer.old) (consumer_view consumer.new) }
+    ensures out { result.messages ≡ 0 → laying.new.is_full ≡ false → RanOut limit result.stopped
+        (consumer_view consumer.old) (consumer_view consumer.new) }
+{
+    ring.controlled_read(consumer, limit, laying)
+}
+
+/// Lays up to `limit` messages into a buffer, and says how many and the bytes that they take, and why it stopped.
+fn lay_into<K>(
+    ring: &Ring<K>,
+    consumer: &mut Consumer,
+    limit: u32,
+    count: &mut u32,
+    used: &mut usize,
+    buffer: &mut [u8],
+) -> (i32, Stop)
+    requires { IsConsumerOf ring.now consumer.old }
+    ensures consumer { IsConsumerOf ring.now consumer.new }
+    ensures reads { ReadsOn (consumer_view consumer.old) (consumer_view consumer.new) }
+    ensures took { TookBatch (RanOut limit result.1) limit (consumer_view consumer.old) (consumer_view consumer.new)
+        (batch count.old used.old buffer.old) (batch count.new used.new buffer.new) result.0 }
+{
+    let mut laying = Laying {
+        buffer,
+        used: 0,
+        is_full: false,
+    };
+    let end = lay_some(ring, consumer, limit, &mut laying);
+    if end.messages == 0 {
+        let code = if laying.is_full {
+            SHORT_BUFFER
+        } else {
+            NO_MESSAGE
+        };
+        return (code, end.stopped);
+    }
+    *count = end.messages;
+    *used = laying.used;
+    (DONE, end.stopped)
+}
+
+impl ConsumerSide {
+    /// Lays up to `limit` messages into a buffer, as far as the end of the ring's buffer.
+    fn try_read_batch(
+        &mut self,
+        limit: u32,
+        count: &mut u32,
+        used: &mut usize,
+        buffer: &mut [u8],
+    ) -> (i32, Stop)
+        ensures { ReadsBatch (RanOut limit result.1) limit (batch count.old used.old buffer.old)
+            (batch count.new used.new buffer.new) self.old self.new result.0 }
+    {
+        on_ring!(self.ring, ring => lay_into(ring, &mut self.consumer, limit, count, used, buffer))
+    }
+
+    /// Lays up to `limit` messages into a buffer, and says how many and the bytes that they take.
+    pub fn read_batch(
+        &mut self,
+        limit: u32,
+        count: &mut u32,
+        used: &mut usize,
+        buffer: &mut [u8],
+    ) -> i32
+        ensures { ReadBatch limit (batch count.old used.old buffer.old) (batch count.new used.new buffer.new) self.old
+            self.new result }
+    {
+        let (code, stopped) = self.try_read_batch(limit, count, used, buffer);
+        if code == NO_MESSAGE && stopped == Stop::Block {
+            return self.try_read_batch(limit, count, used, buffer).0;
+        }
+        code
+    }
+}

@@ -1,0 +1,86 @@
+//! What a transmitter takes back, and how its board ends.
+ghost use Rattle.std.specs.Prelude.{◌≡◌, IfErr, IfOk, OnOk};
+ghost use Rattle.ring_handles.specs.Returning.{EndsAt, IsAstray, IsBoardKept, IsOfThisBoard};
+ghost use Rattle.ring_handles.specs.Returning.{IsRawAstray, IsRawOfThisBoard, TakesListener, TakesWatcher};
+
+use crate::boards::{ReceiverSide, TransmitterSide};
+use crate::code::{IN_USE, OTHER_RING, RECEIVERS_OUT};
+use crate::lending::AnyBoard;
+use crate::raw::RawReceiverSide;
+use ring_layout::ALL_SHARES;
+use std::sync::Arc;
+
+impl TransmitterSide {
+    /// Takes a receiver of the board back, with its share. Else it comes back.
+    pub fn join(&mut self, receiver: ReceiverSide) -> Result<(), (i32, ReceiverSide)>
+        requires { IsOfThisBoard self.old receiver }
+        ensures joined { OnOk result (TakesListener self.old receiver self.new) }
+        ensures refused { IfErr result (λ r. (self.new ≡ self.old) × (r.1 ≡ receiver)
+            × IsAstray self.old receiver r.0) }
+    {
+        let AnyBoard::Own(_) = &receiver.board else {
+            return Err((OTHER_RING, receiver));
+        };
+        if !self.identity.is(receiver.identity) {
+            return Err((OTHER_RING, receiver));
+        }
+        let ReceiverSide {
+            board: _,
+            identity: _,
+            receiver,
+        } = receiver;
+        self.board.join(&mut self.transmitter, receiver);
+        Ok(())
+    }
+
+    /// Takes a raw receiver of the board back, with its share. Else it comes back.
+    pub fn join_raw(&mut self, raw: RawReceiverSide) -> Result<(), (i32, RawReceiverSide)>
+        requires { IsRawOfThisBoard self.old raw }
+        ensures joined { OnOk result (TakesWatcher self.old raw self.new) }
+        ensures refused { IfErr result (λ r. (self.new ≡ self.old) × (r.1 ≡ raw)
+            × IsRawAstray self.old raw r.0) }
+    {
+        if !self.identity.is(raw.identity) {
+            return Err((OTHER_RING, raw));
+        }
+        let RawReceiverSide {
+            board: _,
+            identity: _,
+            receiver,
+            latest: _,
+        } = raw;
+        self.board.join_raw(&mut self.transmitter, receiver);
+        Ok(())
+    }
+
+    /// Takes the board apart, where all shares are back and nobody else holds it, and says where the last transmission
+    /// ended. Else the transmitter comes back.
+    pub fn close(self) -> Result<u64, (i32, TransmitterSide)>
+        ensures closed { IfOk result (EndsAt self) }
+        ensures refused { IfErr result (λ r. (r.1 ≡ self) × IsBoardKept self r.0) }
+    {
+        if self.transmitter.shares() != ALL_SHARES {
+            return Err((RECEIVERS_OUT, self));
+        }
+        let TransmitterSide {
+            board,
+            identity,
+            transmitter,
+        } = self;
+        let board = match Arc::try_unwrap(board) {
+            Ok(board) => board,
+            Err(board) => {
+                let kept = TransmitterSide {
+                    board,
+                    identity,
+                    transmitter,
+                };
+                return Err((IN_USE, kept));
+            }
+        };
+        match board.close(transmitter) {
+            Ok(closed) => Ok(closed.tail()),
+            Err(_refused) => unreachable!(),
+        }
+    }
+}

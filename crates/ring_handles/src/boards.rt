@@ -1,0 +1,174 @@
+//! What a board's handles do.
+ghost use Rattle.std.specs.Prelude.{◌≡◌, length, take, IfErr, IfOk};
+ghost use Rattle.ring_layout.specs.History.{overwritten};
+ghost use Rattle.ring_board.specs.Seats.{receiver_seat, IsReceiverOf};
+ghost use Rattle.ring_handles.specs.Boards.{heard_out, TellsHeard, IsUnheard, Received, SaysLapped, Subscribes, Transmitted};
+
+use crate::code::{DONE, LAPPED, NO_MESSAGE, NO_SHARES, OUT_OF_MEMORY, SHORT_BUFFER};
+use crate::copying::copy_at;
+use crate::identity::Identity;
+use crate::lending::AnyBoard;
+use ring_board::{Board, CopyReceiver, SubscribeFault, Transmitter};
+use std::alloc::Global;
+use std::marker::Model;
+use std::sync::Arc;
+
+/// A transmitter, with its board.
+#[derive(Drop)]
+pub struct TransmitterSide {
+    pub(crate) board: Arc<Board>,
+    /// The board's.
+    pub(crate) identity: Identity,
+    pub(crate) transmitter: Transmitter,
+}
+
+impl Model for TransmitterSide {
+    ghost use Rattle.std.specs.Arc.{arc_value};
+    ghost use Rattle.ring_board.specs.Seats.{capacity_of, view_of, IsTransmitterOf};
+    ghost use Rattle.ring_handles.specs.Boards.{table_of, Sending};
+
+    ghost Value = { Sending };
+
+    ghost view = { λ a. record {
+      table = table_of (arc_value a.board);
+      identity = a.identity;
+      capacity = capacity_of (arc_value a.board);
+      view =
+          view_of a.transmitter;
+    } };
+
+    ghost invariant = { λ a. IsTransmitterOf (arc_value a.board) a.transmitter };
+}
+
+/// A receiver, with its board.
+#[derive(Drop)]
+pub struct ReceiverSide {
+    pub(crate) board: AnyBoard,
+    /// The board's, or its conductor's.
+    pub(crate) identity: Identity,
+    pub(crate) receiver: CopyReceiver,
+}
+
+impl Model for ReceiverSide {
+    ghost use Rattle.ring_board.specs.Seats.{capacity_of, receiver_seat, IsReceiverOf};
+    ghost use Rattle.ring_handles.specs.Boards.{table_of, Listening};
+    ghost use Rattle.ring_handles.specs.Serving.{board_in, lends_board};
+
+    ghost Value = { Listening };
+
+    ghost view = { λ a. record {
+      table = table_of (board_in a.board);
+      identity = a.identity;
+      capacity = capacity_of (board_in a.board);
+      lender = lends_board a.board;
+      seat =
+          receiver_seat a.receiver;
+    } };
+
+    ghost invariant = { λ a. IsReceiverOf (board_in a.board) a.receiver };
+}
+
+impl TransmitterSide {
+    /// Transmits a message.
+    pub fn transmit(&mut self, type_id: i32, body: &[u8]) -> i32
+        ensures { Transmitted type_id body.now self.old self.new result }
+    {
+        match self.board.transmit(&mut self.transmitter, type_id, body) {
+            Ok(()) => DONE,
+            Err(fault) => fault.code(),
+        }
+    }
+
+    /// Makes a receiver of the same board.
+    pub fn subscribe(&mut self, alloc: Global) -> Result<ReceiverSide, i32>
+        ensures subscribed { IfOk result (Subscribes self.old self.new) }
+        ensures refused { IfErr result (λ code. (self.new ≡ self.old) × IsUnheard self.old code) }
+    {
+        let Ok(board) = Arc::try_clone(&self.board) else {
+            return Err(OUT_OF_MEMORY);
+        };
+        match self.board.subscribe(alloc, &mut self.transmitter) {
+            Ok(receiver) => Ok(ReceiverSide {
+                board: AnyBoard::Own(board),
+                identity: self.identity,
+                receiver,
+            }),
+            Err(SubscribeFault::NoShares) => Err(NO_SHARES),
+            Err(SubscribeFault::OutOfMemory) => Err(OUT_OF_MEMORY),
+        }
+    }
+}
+
+/// Copies as much of a message as there is room for to the front of a buffer.
+fn copy_front(buffer: &mut [u8], body: &[u8])
+    ensures { buffer.new ≡ overwritten 0 (take (length buffer.old) body.now) buffer.old }
+{
+    let room = body.len().min(buffer.len());
+    copy_at(buffer, 0, &body[..room]);
+}
+
+/// Receives the next message into a buffer.
+fn hear(
+    board: &Board,
+    receiver: &mut CopyReceiver,
+    type_id: &mut i32,
+    len: &mut usize,
+    lapped: &mut u64,
+    buffer: &mut [u8],
+) -> i32
+    requires { IsReceiverOf board.now receiver.old }
+    ensures receiver { IsReceiverOf board.now receiver.new }
+    ensures heard { TellsHeard (heard_out type_id.old len.old lapped.old buffer.old)
+        (heard_out type_id.new len.new lapped.new buffer.new) (receiver_seat receiver.old) (receiver_seat receiver.new)
+        result }
+{
+    match receiver.receive(board) {
+        Ok(None) => NO_MESSAGE,
+        Ok(Some(copied)) => {
+            *type_id = copied.type_id;
+            *len = copied.body.len();
+            copy_front(buffer, copied.body);
+            DONE
+        }
+        Err(missed) => {
+            *lapped = missed.count;
+            LAPPED
+        }
+    }
+}
+
+impl ReceiverSide {
+    /// Receives the next message into a buffer that has room for the longest one.
+    pub fn receive(
+        &mut self,
+        type_id: &mut i32,
+        len: &mut usize,
+        lapped: &mut u64,
+        buffer: &mut [u8],
+    ) -> i32
+        ensures { Received (heard_out type_id.old len.old lapped.old buffer.old)
+            (heard_out type_id.new len.new lapped.new buffer.new) self.old self.new result }
+    {
+        let longest = self.board.get().max_message() as usize;
+        if buffer.len() < longest {
+            *len = longest;
+            return SHORT_BUFFER;
+        }
+        hear(
+            self.board.get(),
+            &mut self.receiver,
+            type_id,
+            len,
+            lapped,
+            buffer,
+        )
+    }
+
+    /// Says how often the receiver was lapped.
+    pub fn lapped_count(&mut self, count: &mut u64) -> i32
+        ensures { SaysLapped count.new self.old self.new result }
+    {
+        *count = self.receiver.lapped_count();
+        DONE
+    }
+}

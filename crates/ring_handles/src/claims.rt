@@ -1,0 +1,187 @@
+//! The open claims of a producer, by number.
+ghost use Rattle.std.specs.Prelude.{◌≡◌, Bool, MatchOption, [], false, true};
+ghost use Rattle.ring_layout.specs.declared.message.ClaimState.TheVariants.{Aborted, Committed};
+ghost use Rattle.ring_table.specs.Views.{with_claims};
+ghost use Rattle.ring_rings.specs.Seats.{claims_of, shares_of, view_of, IsProducerOf};
+ghost use Rattle.ring_handles.specs.Claims.{aborted, AreOpen, IsNoNumber, HasIndex, Takes};
+ghost use Rattle.ring_handles.specs.Producing.{Claimed, Put, Settled};
+ghost use Rattle.ring_handles.specs.Side.{side};
+ghost use Rattle.ring_handles.specs.declared.identity.Identity.{Identity};
+
+use crate::code::{DONE, NO_CLAIM, OUT_OF_MEMORY, PUT_RANGE};
+use ring_rings::{Claim, ManyToOneRing, OneToOneRing, Producer, Ring};
+
+/// The index of the claim of this number.
+fn index_of(claims: &[Claim], number: u64) -> Option<usize>
+    ensures { MatchOption result (IsNoNumber number claims.now) (HasIndex number claims.now) }
+{
+    for (i, claim) in claims.iter().enumerate() {
+        if claim.place() == number {
+            return Some(i);
+        }
+    }
+    None
+}
+
+/// Takes the claim of this number out, if there is one.
+fn take_numbered(claims: &mut Vec<Claim>, number: u64) -> Option<Claim>
+    ensures { MatchOption result (IsNoNumber number claims.old.items × (claims.new.items ≡ claims.old.items))
+        (λ t. Takes number t claims.old.items claims.new.items) }
+{
+    match index_of(claims, number) {
+        Some(index) => Some(claims.remove(index)),
+        None => None,
+    }
+}
+
+/// Claims room in a ring of many producers, and keeps the claim. The room to keep it is made first.
+pub(crate) fn claim_many(
+    ring: &ManyToOneRing,
+    producer: &mut Producer,
+    claims: &mut Vec<Claim>,
+    type_id: i32,
+    len: usize,
+    number: &mut u64,
+) -> i32
+    requires producer { IsProducerOf ring.now producer.old }
+    requires claims { AreOpen ring.now producer.old claims.old.items }
+    ensures producer { IsProducerOf ring.now producer.new }
+    ensures claims { AreOpen ring.now producer.new claims.new.items }
+    ensures claimed { (identity : Identity) → Claimed type_id len number.old number.new
+        (side true identity ring.now producer.old claims.old.items)
+        (side true identity ring.now producer.new claims.new.items) result }
+{
+    let Ok(()) = claims.reserve(1) else {
+        return OUT_OF_MEMORY;
+    };
+    match ring.claim_once(producer, type_id, len) {
+        Ok(claim) => {
+            *number = claim.place();
+            claims.push_reserved(claim);
+            DONE
+        }
+        Err(fault) => fault.code(),
+    }
+}
+
+/// Claims room in a ring of one producer, and keeps the claim. The room to keep it is made first.
+pub(crate) fn claim_alone(
+    ring: &OneToOneRing,
+    producer: &mut Producer,
+    claims: &mut Vec<Claim>,
+    type_id: i32,
+    len: usize,
+    number: &mut u64,
+) -> i32
+    requires producer { IsProducerOf ring.now producer.old }
+    requires sole { shares_of producer.old ≡ 65536 }
+    requires claims { AreOpen ring.now producer.old claims.old.items }
+    ensures producer { IsProducerOf ring.now producer.new }
+    ensures sole { shares_of producer.new ≡ 65536 }
+    ensures claims { AreOpen ring.now producer.new claims.new.items }
+    ensures claimed { (identity : Identity) → Claimed type_id len number.old number.new
+        (side false identity ring.now producer.old claims.old.items)
+        (side false identity ring.now producer.new claims.new.items) result }
+{
+    let Ok(()) = claims.reserve(1) else {
+        return OUT_OF_MEMORY;
+    };
+    match ring.claim(producer, type_id, len) {
+        Ok(claim) => {
+            *number = claim.place();
+            claims.push_reserved(claim);
+            DONE
+        }
+        Err(fault) => fault.code(),
+    }
+}
+
+/// Puts bytes into the claim of this number.
+pub(crate) fn put_in<K>(
+    ring: &Ring<K>,
+    producer: &mut Producer,
+    claims: &mut Vec<Claim>,
+    number: u64,
+    offset: usize,
+    bytes: &[u8],
+) -> i32
+    requires producer { IsProducerOf ring.now producer.old }
+    requires claims { AreOpen ring.now producer.old claims.old.items }
+    ensures producer { IsProducerOf ring.now producer.new }
+    ensures shares { shares_of producer.new ≡ shares_of producer.old }
+    ensures claims { AreOpen ring.now producer.new claims.new.items }
+    ensures put { (many : Bool) (identity : Identity) → Put number offset bytes.now
+        (side many identity ring.now producer.old claims.old.items)
+        (side many identity ring.now producer.new claims.new.items) result }
+{
+    let Some(index) = index_of(claims, number) else {
+        return NO_CLAIM;
+    };
+    match ring.put(producer, &mut claims[index], offset, bytes) {
+        Ok(()) => DONE,
+        Err(_) => PUT_RANGE,
+    }
+}
+
+/// Commits the claim of this number.
+pub(crate) fn commit_in<K>(
+    ring: &Ring<K>,
+    producer: &mut Producer,
+    claims: &mut Vec<Claim>,
+    number: u64,
+) -> i32
+    requires producer { IsProducerOf ring.now producer.old }
+    requires claims { AreOpen ring.now producer.old claims.old.items }
+    ensures producer { IsProducerOf ring.now producer.new }
+    ensures shares { shares_of producer.new ≡ shares_of producer.old }
+    ensures claims { AreOpen ring.now producer.new claims.new.items }
+    ensures settled { (many : Bool) (identity : Identity) → Settled Committed number
+        (side many identity ring.now producer.old claims.old.items)
+        (side many identity ring.now producer.new claims.new.items) result }
+{
+    let claim = match take_numbered(claims, number) {
+        Some(claim) => claim,
+        None => return NO_CLAIM,
+    };
+    ring.commit(producer, claim);
+    DONE
+}
+
+/// Aborts the claim of this number.
+pub(crate) fn abort_in<K>(
+    ring: &Ring<K>,
+    producer: &mut Producer,
+    claims: &mut Vec<Claim>,
+    number: u64,
+) -> i32
+    requires producer { IsProducerOf ring.now producer.old }
+    requires claims { AreOpen ring.now producer.old claims.old.items }
+    ensures producer { IsProducerOf ring.now producer.new }
+    ensures shares { shares_of producer.new ≡ shares_of producer.old }
+    ensures claims { AreOpen ring.now producer.new claims.new.items }
+    ensures settled { (many : Bool) (identity : Identity) → Settled Aborted number
+        (side many identity ring.now producer.old claims.old.items)
+        (side many identity ring.now producer.new claims.new.items) result }
+{
+    let claim = match take_numbered(claims, number) {
+        Some(claim) => claim,
+        None => return NO_CLAIM,
+    };
+    ring.abort(producer, claim);
+    DONE
+}
+
+/// Aborts all claims, the youngest first.
+pub(crate) fn abort_all<K>(ring: &Ring<K>, producer: &mut Producer, claims: &mut Vec<Claim>)
+    requires producer { IsProducerOf ring.now producer.old }
+    requires claims { AreOpen ring.now producer.old claims.old.items }
+    ensures producer { IsProducerOf ring.now producer.new }
+    ensures shares { shares_of producer.new ≡ shares_of producer.old }
+    ensures none { claims.new.items ≡ [] }
+    ensures aborted { view_of producer.new
+        ≡ with_claims (aborted claims.old.items (claims_of producer.old)) (view_of producer.old) }
+{
+    while let Some(claim) = claims.pop() {
+        ring.abort(producer, claim);
+    }
+}

@@ -1,0 +1,112 @@
+//! A consumer in a handle.
+ghost use Rattle.std.specs.Prelude.{◌≡◌, pos};
+ghost use Rattle.ring_rings.specs.Seats.{consumer_view, IsConsumerOf};
+ghost use Rattle.ring_handles.specs.Consuming.{out, Beat, RanOut, ReadOne, ReadsOn, ReadsOne, TookOne};
+
+use crate::code::{DONE, NO_MESSAGE};
+use crate::copying::Copying;
+use crate::identity::Identity;
+use crate::ring::{AnyRing, on_ring};
+use ring_rings::{Consumer, Producer, Ring, Stop};
+use std::marker::Model;
+
+/// A consumer, with the ring that it reads.
+#[derive(Drop)]
+pub struct ConsumerSide {
+    pub(crate) ring: AnyRing,
+    /// The ring's.
+    pub(crate) identity: Identity,
+    pub(crate) consumer: Consumer,
+    /// The ring's producer, once nothing is written any more.
+    pub(crate) last: Option<Producer>,
+}
+
+impl Model for ConsumerSide {
+    ghost use Rattle.std.specs.Option.{option_map};
+    ghost use Rattle.ring_rings.specs.Seats.{consumer_view, view_of};
+    ghost use Rattle.ring_handles.specs.Side.{capacity_in, is_many, table_in, IsConsumerIn, IsLastIn, Reading};
+
+    ghost Value = { Reading };
+
+    ghost view = { λ a. record {
+      many = is_many a.ring;
+      table = table_in a.ring;
+      identity = a.identity;
+      capacity = capacity_in a.ring;
+      view = consumer_view a.consumer;
+      last =
+          option_map view_of a.last;
+    } };
+
+    ghost invariant = { λ a. IsConsumerIn a.ring a.consumer × IsLastIn a.ring a.last };
+}
+
+/// Reads up to one message, as far as the end of the ring's buffer, and says why it stopped.
+fn take_one<K>(ring: &Ring<K>, consumer: &mut Consumer, copying: &mut Copying<'_>) -> Stop
+    requires consumer { IsConsumerOf ring.now consumer.old }
+    requires waits { copying.old.code ≡ pos 105 }
+    ensures consumer { IsConsumerOf ring.now consumer.new }
+    ensures borrow { copying.new.buffer.ghost_name ≡ copying.old.buffer.ghost_name }
+    ensures reads { ReadsOn (consumer_view consumer.old) (consumer_view consumer.new) }
+    ensures took { TookOne (RanOut 1 result) (consumer_view consumer.old) (consumer_view consumer.new)
+        (out copying.old.type_id copying.old.len copying.old.buffer.now)
+        (out copying.new.type_id copying.new.len copying.new.buffer.now) copying.new.code }
+{
+    ring.controlled_read(consumer, 1, copying).stopped
+}
+
+/// Reads up to one message into a buffer, and says its type id and length, and why it stopped.
+fn read_into<K>(
+    ring: &Ring<K>,
+    consumer: &mut Consumer,
+    type_id: &mut i32,
+    len: &mut usize,
+    buffer: &mut [u8],
+) -> (i32, Stop)
+    requires { IsConsumerOf ring.now consumer.old }
+    ensures consumer { IsConsumerOf ring.now consumer.new }
+    ensures reads { ReadsOn (consumer_view consumer.old) (consumer_view consumer.new) }
+    ensures took { TookOne (RanOut 1 result.1) (consumer_view consumer.old) (consumer_view consumer.new)
+        (out type_id.old len.old buffer.old) (out type_id.new len.new buffer.new) result.0 }
+{
+    let mut copying = Copying {
+        buffer,
+        type_id: *type_id,
+        len: *len,
+        code: NO_MESSAGE,
+    };
+    let stopped = take_one(ring, consumer, &mut copying);
+    *type_id = copying.type_id;
+    *len = copying.len;
+    (copying.code, stopped)
+}
+
+impl ConsumerSide {
+    /// Reads up to one message, as far as the end of the ring's buffer.
+    fn try_read(&mut self, type_id: &mut i32, len: &mut usize, buffer: &mut [u8]) -> (i32, Stop)
+        ensures { ReadsOne (RanOut 1 result.1) (out type_id.old len.old buffer.old)
+            (out type_id.new len.new buffer.new) self.old self.new result.0 }
+    {
+        on_ring!(self.ring, ring => read_into(ring, &mut self.consumer, type_id, len, buffer))
+    }
+
+    /// Reads the next message into a buffer, and says its type id and length.
+    pub fn read(&mut self, type_id: &mut i32, len: &mut usize, buffer: &mut [u8]) -> i32
+        ensures { ReadOne (out type_id.old len.old buffer.old)
+            (out type_id.new len.new buffer.new) self.old self.new result }
+    {
+        let (code, stopped) = self.try_read(type_id, len, buffer);
+        if code == NO_MESSAGE && stopped == Stop::Block {
+            return self.try_read(type_id, len, buffer).0;
+        }
+        code
+    }
+
+    /// Stores the heartbeat.
+    pub fn set_heartbeat(&mut self, value: u64) -> i32
+        ensures { Beat value self.old self.new result }
+    {
+        on_ring!(self.ring, ring => ring.set_heartbeat(&mut self.consumer, value));
+        DONE
+    }
+}

@@ -1,0 +1,31 @@
+//! Counters in a handle.
+ghost use Rattle.std.specs.Prelude.{◌≡◌};
+ghost use Rattle.std.specs.Arc.{arc_value};
+ghost use Rattle.ring_counters.specs.Manager.{IsManagerOf};
+ghost use Rattle.ring_counters.specs.Seats.{IsReaderOf};
+ghost use Rattle.ring_handles.specs.Serving.{values_in};
+
+use crate::identity::Identity;
+use crate::lending::AnyValues;
+use ring_counters::{CounterValues, CountersManager, ValueReader};
+use std::sync::Arc;
+
+/// The counters' manager, with their values.
+#[derive(Drop)]
+pub struct CountersSide {
+    pub(crate) values: Arc<CounterValues>,
+    /// That of these counters.
+    pub(crate) identity: Identity,
+    pub(crate) manager: CountersManager,
+    ghost of: { IsManagerOf (arc_value values) manager },
+}
+
+/// A reader of the values of counters, with those.
+#[derive(Drop)]
+pub struct ReaderSide {
+    pub(crate) values: AnyValues,
+    /// The counters', or their conductor's.
+    pub(crate) identity: Identity,
+    pub(crate) reader: ValueReader,
+    ghost of: { IsReaderOf (values_in values) reader },
+}

@@ -1,0 +1,210 @@
+//! What a handle's counters do.
+ghost use Rattle.std.specs.Prelude.{◌≡◌};
+ghost use Rattle.ring_counters.specs.Registry.{counter_at};
+ghost use Rattle.ring_handles.specs.Counting.{label_out, Asked, OwnerClosed, SaysKey, SaysLabel, WasAdded, WasAllocated, WasCounted, WasFound, WasFreed, WasSet};
+
+use crate::code::{BAD_MOMENT, BAD_OWNER, DONE, NOT_ALLOCATED, SHORT_BUFFER};
+use crate::copying::copy_at;
+use crate::counters::CountersSide;
+use ring_layout::counter_descriptor::{MAX_KEY_LENGTH, MAX_LABEL_LENGTH};
+
+/// The greatest moment, in milliseconds.
+pub(crate) const LAST_MOMENT: u64 = 1 << 62;
+
+/// What a counter is allocated with.
+#[derive(Drop)]
+pub struct Wanted<'a> {
+    pub now: u64,
+    pub type_id: i32,
+    pub key: &'a [u8],
+    pub label: &'a [u8],
+    pub registration: u64,
+    pub owner: u64,
+}
+
+impl CountersSide {
+    /// Allocates a counter, and says its id.
+    pub fn allocate(&mut self, wanted: Wanted<'_>, id: &mut u32) -> i32
+        ensures { WasAllocated wanted.entry.now wanted.entry.type_id wanted.entry.key.now wanted.entry.label.now
+            wanted.entry.registration wanted.entry.owner id.old id.new self.old self.new result }
+    {
+        let made = self.manager.allocate_owned(
+            &self.values,
+            wanted.now,
+            wanted.type_id,
+            wanted.key,
+            wanted.label,
+            wanted.registration,
+            wanted.owner,
+        );
+        match made {
+            Ok(made) => {
+                *id = made;
+                DONE
+            }
+            Err(fault) => fault.code(),
+        }
+    }
+
+    /// Sets a counter's value.
+    pub fn set(&mut self, id: u32, value: i64) -> i32
+        ensures { WasSet id value self.old self.new result }
+    {
+        match self.manager.set(&self.values, id, value) {
+            Ok(()) => DONE,
+            Err(fault) => fault.code(),
+        }
+    }
+
+    /// Adds to a counter's value, and says the value before.
+    pub fn add(&mut self, id: u32, delta: i64, before: &mut i64) -> i32
+        ensures { WasAdded id delta before.old before.new self.old self.new result }
+    {
+        match self.manager.add(&self.values, id, delta) {
+            Ok(value) => {
+                *before = value;
+                DONE
+            }
+            Err(fault) => fault.code(),
+        }
+    }
+
+    /// Frees a counter.
+    pub fn free(&mut self, now: u64, id: u32) -> i32
+        ensures { WasFreed now id self.old self.new result }
+    {
+        if now > LAST_MOMENT {
+            return BAD_MOMENT;
+        }
+        match self.manager.free(now, id) {
+            Ok(()) => DONE,
+            Err(fault) => fault.code(),
+        }
+    }
+
+    /// Frees each counter of an owner, and says how many.
+    pub fn close_owner(&mut self, now: u64, owner: u64, freed: &mut u32) -> i32
+        ensures { OwnerClosed now owner freed.old freed.new self.old self.new result }
+    {
+        if now > LAST_MOMENT {
+            return BAD_MOMENT;
+        }
+        match self.manager.close_owner(now, owner) {
+            Ok(count) => {
+                *freed = count;
+                DONE
+            }
+            Err(_) => BAD_OWNER,
+        }
+    }
+
+    /// Finds the lowest id in use of a type and a registration id.
+    pub fn find(&mut self, type_id: i32, registration: u64, id: &mut u32) -> i32
+        ensures { WasFound type_id registration id.old id.new self.old self.new result }
+    {
+        match self.manager.find(type_id, registration) {
+            Some(found) => {
+                *id = found;
+                DONE
+            }
+            None => NOT_ALLOCATED,
+        }
+    }
+
+    /// Says how many ids there are.
+    pub fn count(&mut self, count: &mut u32) -> i32
+        ensures { WasCounted count.new self.old self.new result }
+    {
+        *count = self.manager.count();
+        DONE
+    }
+
+    /// Says a counter's value.
+    pub fn value(&mut self, id: u32, value: &mut i64) -> i32
+        ensures { Asked (λ r. (counter_at r id).values.value) id value.old value.new self.old self.new result }
+    {
+        match self.manager.value(id) {
+            Ok(answer) => {
+                *value = answer;
+                DONE
+            }
+            Err(fault) => fault.code(),
+        }
+    }
+
+    /// Says a counter's type.
+    pub fn type_id(&mut self, id: u32, type_id: &mut i32) -> i32
+        ensures { Asked (λ r. (counter_at r id).metadata.type_id) id type_id.old type_id.new self.old self.new result }
+    {
+        match self.manager.type_id(id) {
+            Ok(answer) => {
+                *type_id = answer;
+                DONE
+            }
+            Err(fault) => fault.code(),
+        }
+    }
+
+    /// Says a counter's registration id.
+    pub fn registration(&mut self, id: u32, registration: &mut u64) -> i32
+        ensures { Asked (λ r. (counter_at r id).values.registration) id registration.old registration.new self.old
+            self.new result }
+    {
+        match self.manager.registration(id) {
+            Ok(answer) => {
+                *registration = answer;
+                DONE
+            }
+            Err(fault) => fault.code(),
+        }
+    }
+
+    /// Says a counter's label.
+    pub fn label(&mut self, id: u32, len: &mut usize, buffer: &mut [u8]) -> i32
+        ensures { SaysLabel id (label_out len.old buffer.old) (label_out len.new buffer.new) self.old self.new
+            result }
+    {
+        let mut label = [0; MAX_LABEL_LENGTH];
+        match self.manager.label_into(id, &mut label) {
+            Ok(found) => {
+                *len = found;
+                if buffer.len() < found {
+                    return SHORT_BUFFER;
+                }
+                copy_at(buffer, 0, &label[..found]);
+                DONE
+            }
+            Err(fault) => fault.code(),
+        }
+    }
+
+    /// Says a counter's key.
+    pub fn key(&mut self, id: u32, buffer: &mut [u8]) -> i32
+        ensures { SaysKey id buffer.old buffer.new self.old self.new result }
+    {
+        let mut key = [0; MAX_KEY_LENGTH];
+        match self.manager.key_into(id, &mut key) {
+            Ok(()) => {
+                if buffer.len() < key.len() {
+                    return SHORT_BUFFER;
+                }
+                copy_at(buffer, 0, &key);
+                DONE
+            }
+            Err(fault) => fault.code(),
+        }
+    }
+
+    /// Says a counter's owner, 0 for none.
+    pub fn owner(&mut self, id: u32, owner: &mut u64) -> i32
+        ensures { Asked (λ r. (counter_at r id).values.owner) id owner.old owner.new self.old self.new result }
+    {
+        match self.manager.owner(id) {
+            Ok(answer) => {
+                *owner = answer;
+                DONE
+            }
+            Err(fault) => fault.code(),
+        }
+    }
+}

@@ -1,0 +1,53 @@
+//! Rings, boards, counters and conductors by *handle*: one pointer that owns what it stands for together with what that
+//! belongs to, so that a program in another language can keep it.
+//!
+//! - `handle`, `held`, `loose`: what such a program keeps, and what it can stand for. `identity`: what tells two rings
+//!   apart. `code`: what calls answer. `opening`: what is made for handles.
+//! - `producer`, `claims`, `consumer`, `copying`, `batch`, `closing`, `ring`: handles of a ring.
+//! - `boards`, `raw`, `board_ending`: handles of a board. `counters`, `counting`, `reading`: of counters and their
+//!   readers.
+//! - `conductor`, `client`, `lending`, `finishing`: a conductor, its clients, and what it lends.
+//!
+//! One thread calls at a time with a handle, which may cross threads.
+#![tactic(auto)]
+
+mod batch;
+mod board_ending;
+mod boards;
+mod claims;
+mod client;
+mod closing;
+pub mod code;
+mod conductor;
+mod consumer;
+mod copying;
+mod counters;
+mod counting;
+mod finishing;
+mod handle;
+mod held;
+mod identity;
+mod lending;
+mod loose;
+mod opening;
+mod producer;
+mod raw;
+mod reading;
+mod ring;
+
+pub use boards::{ReceiverSide, TransmitterSide};
+pub use client::ClientSide;
+pub use conductor::ConductorSide;
+pub use conductor::making::Sizes;
+pub use consumer::ConsumerSide;
+pub use counters::{CountersSide, ReaderSide};
+pub use counting::Wanted;
+pub use finishing::Ended;
+pub use handle::{Handle, handle_crosses};
+pub use held::Held;
+pub use identity::Identity;
+pub use opening::{
+    Pair, open_board, open_conductor, open_counters, open_many_to_one, open_one_to_one,
+};
+pub use producer::ProducerSide;
+pub use raw::RawReceiverSide;

@@ -1,0 +1,204 @@
+//! What is made for handles: rings, boards, counters and conductors, each in a box.
+ghost use Rattle.std.specs.Prelude.{◌≡◌, ◌≢◌, pos, true, false, IfErr, IfOk, MatchResult};
+ghost use Rattle.std.specs.Arc.{arc_value};
+ghost use Rattle.std.specs.declared.option.Option.TheVariants.{Some};
+ghost use Rattle.ring_rings.specs.Seats.{consumer_view, view_of};
+ghost use Rattle.ring_handles.specs.Conducting.{IsConductorCode};
+ghost use Rattle.ring_handles.specs.Opening.{HoldFresh, HoldFreshCounters, HoldNewBoard, HoldNewConductor, HoldPair};
+ghost use Rattle.ring_handles.specs.Opening.{IsBoardCode, IsCountersCode, IsMakeCode};
+ghost use Rattle.ring_handles.specs.Side.{capacity_in, is_many, table_in, IsConsumerIn, IsProducerIn};
+
+use crate::boards::TransmitterSide;
+use crate::code::OUT_OF_MEMORY;
+use crate::conductor::ConductorSide;
+use crate::conductor::making::Sizes;
+use crate::consumer::ConsumerSide;
+use crate::counters::CountersSide;
+use crate::held::Held;
+use crate::identity::Identity;
+use crate::producer::ProducerSide;
+use crate::ring::AnyRing;
+use ring_board::Board;
+use ring_counters::CountersManager;
+use ring_rings::{Consumer, ManyToOneRing, OneToOneRing, Producer};
+use std::alloc::Global;
+use std::sync::Arc;
+
+/// What two handles are filled with: a producer, and the consumer of its ring.
+pub type Pair = (Box<Held>, Box<Held>);
+
+/// Two references to one value. 3 where there is no memory.
+fn share<T: Drop>(alloc: Global, value: T) -> Result<(Arc<T>, Arc<T>), i32>
+    ensures shared { IfOk result (λ both. (arc_value both.0 ≡ value) × (arc_value both.1 ≡ value)) }
+    ensures refused { IfErr result (λ code. code ≡ pos 3) }
+{
+    let Ok(one) = Arc::new(alloc, value) else {
+        return Err(OUT_OF_MEMORY);
+    };
+    let Ok(two) = Arc::try_clone(&one) else {
+        return Err(OUT_OF_MEMORY);
+    };
+    Ok((one, two))
+}
+
+/// Puts what a handle can stand for into a box. 3 where there is no memory.
+fn boxed(alloc: Global, held: Held) -> Result<Box<Held>, i32>
+    ensures made { IfOk result (λ made. made.value ≡ held) }
+    ensures refused { IfErr result (λ code. code ≡ pos 3) }
+{
+    match Box::new(alloc, held) {
+        Ok(made) => Ok(made),
+        Err(_) => Err(OUT_OF_MEMORY),
+    }
+}
+
+/// Puts a new ring's producer and consumer into boxes, with its number. 3 where there is no memory.
+fn box_both(
+    alloc: Global,
+    identity: Identity,
+    ring: AnyRing,
+    same: AnyRing,
+    producer: Producer,
+    consumer: Consumer,
+) -> Result<Pair, i32>
+    requires same { (is_many same ≡ is_many ring) × (table_in same ≡ table_in ring)
+        × (capacity_in same ≡ capacity_in ring) }
+    requires producer { IsProducerIn ring producer }
+    requires consumer { IsConsumerIn same consumer }
+    ensures made { IfOk result (λ made. HoldPair (is_many ring) identity (capacity_in ring)
+        (view_of producer) (consumer_view consumer) (Some made.0.value) (Some made.1.value)) }
+    ensures refused { IfErr result (λ code. code ≡ pos 3) }
+{
+    let one = Held::Producer(ProducerSide {
+        ring,
+        identity,
+        producer,
+        claims: Vec::new(alloc),
+    });
+    let two = Held::Consumer(ConsumerSide {
+        ring: same,
+        identity,
+        consumer,
+        last: None,
+    });
+    let one = boxed(alloc, one)?;
+    let two = boxed(alloc, two)?;
+    Ok((one, two))
+}
+
+/// Makes a ring of many producers, with a producer that holds all shares, and its consumer.
+///
+/// The code of the library's refusal comes for a capacity or a start that no ring may have, and 3 where there is no
+/// memory.
+pub fn open_many_to_one(
+    alloc: Global,
+    identity: Identity,
+    capacity: u32,
+    start: u64,
+) -> Result<Pair, i32>
+    ensures made { IfOk result (λ made.
+        HoldFresh true identity capacity start (Some made.0.value) (Some made.1.value)) }
+    ensures code { MatchResult result (λ _. IsMakeCode capacity start (pos 0))
+        (λ code. IsMakeCode capacity start code × (code ≢ pos 0)) }
+{
+    let (ring, producer, consumer) = match ManyToOneRing::new_at(alloc, capacity, start) {
+        Ok(made) => made,
+        Err(fault) => return Err(fault.code()),
+    };
+    let (ring, same) = share(alloc, ring)?;
+    let (ring, same) = (AnyRing::Many(ring), AnyRing::Many(same));
+    box_both(alloc, identity, ring, same, producer, consumer)
+}
+
+/// Makes a ring of one producer, which holds all shares, with its consumer. It refuses as `open_many_to_one`.
+pub fn open_one_to_one(
+    alloc: Global,
+    identity: Identity,
+    capacity: u32,
+    start: u64,
+) -> Result<Pair, i32>
+    ensures made { IfOk result (λ made.
+        HoldFresh false identity capacity start (Some made.0.value) (Some made.1.value)) }
+    ensures code { MatchResult result (λ _. IsMakeCode capacity start (pos 0))
+        (λ code. IsMakeCode capacity start code × (code ≢ pos 0)) }
+{
+    let (ring, producer, consumer) = match OneToOneRing::new_at(alloc, capacity, start) {
+        Ok(made) => made,
+        Err(fault) => return Err(fault.code()),
+    };
+    let (ring, same) = share(alloc, ring)?;
+    let (ring, same) = (AnyRing::One(ring), AnyRing::One(same));
+    box_both(alloc, identity, ring, same, producer, consumer)
+}
+
+/// Makes a board, with a transmitter that holds all shares. It refuses as `open_many_to_one`.
+pub fn open_board(
+    alloc: Global,
+    identity: Identity,
+    capacity: u32,
+    start: u64,
+) -> Result<Box<Held>, i32>
+    ensures made { IfOk result (λ made. HoldNewBoard identity capacity start (Some made.value)) }
+    ensures code { MatchResult result (λ _. IsBoardCode capacity start (pos 0))
+        (λ code. IsBoardCode capacity start code × (code ≢ pos 0)) }
+{
+    let (board, transmitter) = match Board::new_at(alloc, capacity, start) {
+        Ok(made) => made,
+        Err(fault) => return Err(fault.code()),
+    };
+    let Ok(board) = Arc::new(alloc, board) else {
+        return Err(OUT_OF_MEMORY);
+    };
+    boxed(
+        alloc,
+        Held::Transmitter(TransmitterSide {
+            board,
+            identity,
+            transmitter,
+        }),
+    )
+}
+
+/// Makes so many counters, of which none is used, with all shares of their values. Their numbers are used again
+/// `reuse_ms` milliseconds after they were freed.
+///
+/// The code of the library's refusal comes for a number that no counters may have, and 3 where there is no memory.
+pub fn open_counters(
+    alloc: Global,
+    identity: Identity,
+    count: u32,
+    reuse_ms: u32,
+) -> Result<Box<Held>, i32>
+    ensures made { IfOk result (λ made. HoldFreshCounters identity count reuse_ms (Some made.value)) }
+    ensures code { MatchResult result (λ _. IsCountersCode count (pos 0))
+        (λ code. IsCountersCode count code × (code ≢ pos 0)) }
+{
+    let (values, manager) = match CountersManager::new(alloc, count, reuse_ms) {
+        Ok(made) => made,
+        Err(fault) => return Err(fault.code()),
+    };
+    let Ok(values) = Arc::new(alloc, values) else {
+        return Err(OUT_OF_MEMORY);
+    };
+    boxed(
+        alloc,
+        Held::Counters(CountersSide {
+            values,
+            identity,
+            manager,
+        }),
+    )
+}
+
+/// Makes a conductor of these sizes, to which nothing was sent.
+///
+/// The first refusal comes of ring, board and counters, and 3 where there is no memory.
+pub fn open_conductor(alloc: Global, identity: Identity, sizes: Sizes) -> Result<Box<Held>, i32>
+    ensures made { IfOk result (λ made.
+        HoldNewConductor identity sizes.capacity sizes.replies sizes.counters sizes.reuse_ms (Some made.value)) }
+    ensures code { MatchResult result (λ _. IsConductorCode sizes.capacity sizes.replies sizes.counters (pos 0))
+        (λ code. IsConductorCode sizes.capacity sizes.replies sizes.counters code × (code ≢ pos 0)) }
+{
+    let side = ConductorSide::new(alloc, identity, sizes)?;
+    boxed(alloc, Held::Conductor(side))
+}

@@ -1,0 +1,213 @@
+//! A producer in a handle.
+ghost use Rattle.std.specs.Prelude.{◌≡◌, IfErr, IfOk, OnOk};
+ghost use Rattle.ring_layout.specs.declared.message.ClaimState.TheVariants.{Aborted, Committed};
+ghost use Rattle.ring_handles.specs.Producing.{closing, positions, Claimed, Counted, Drew, HeardBeat, IsApart, WhyNotSplit, Positioned, Put, Settled, Splits, TakesIn, Wrote};
+ghost use Rattle.ring_handles.specs.Side.{AreOfOneRing};
+
+use crate::claims::{abort_all, abort_in, claim_alone, claim_many, commit_in, put_in};
+use crate::code::{DONE, NO_SHARES, OTHER_RING, OUT_OF_MEMORY, WRONG_HANDLE};
+use crate::identity::Identity;
+use crate::ring::{AnyRing, on_ring};
+use ring_rings::{Claim, Producer};
+use std::alloc::Global;
+use std::marker::Model;
+use std::sync::Arc;
+
+/// A producer, with the ring that it writes into.
+#[derive(Drop)]
+pub struct ProducerSide {
+    pub(crate) ring: AnyRing,
+    /// The ring's.
+    pub(crate) identity: Identity,
+    pub(crate) producer: Producer,
+    /// The claims that are open, the oldest first.
+    pub(crate) claims: Vec<Claim>,
+}
+
+impl Model for ProducerSide {
+    ghost use Rattle.ring_rings.specs.Seats.{view_of};
+    ghost use Rattle.ring_handles.specs.Side.{capacity_in, is_many, table_in, IsSide, Side};
+
+    ghost Value = { Side };
+
+    ghost view = { λ a. record {
+      many = is_many a.ring;
+      table = table_in a.ring;
+      identity = a.identity;
+      capacity = capacity_in a.ring;
+      view =
+          view_of a.producer;
+      claims = a.claims.items;
+    } };
+
+    ghost invariant = { λ a. IsSide a.ring a.producer a.claims.items };
+}
+
+impl ProducerSide {
+    /// Writes a message, by one try.
+    pub fn write(&mut self, type_id: i32, body: &[u8]) -> i32
+        ensures { Wrote type_id body.now self.old self.new result }
+    {
+        match &self.ring {
+            AnyRing::Many(ring) => match ring.write_once(&mut self.producer, type_id, body) {
+                Ok(()) => DONE,
+                Err(fault) => fault.code(),
+            },
+            AnyRing::One(ring) => match ring.write(&mut self.producer, type_id, body) {
+                Ok(()) => DONE,
+                Err(fault) => fault.code(),
+            },
+        }
+    }
+
+    /// Claims room for a message, and keeps the claim.
+    pub fn claim(&mut self, type_id: i32, len: usize, number: &mut u64) -> i32
+        ensures { Claimed type_id len number.old number.new self.old self.new result }
+    {
+        match &self.ring {
+            AnyRing::Many(ring) => claim_many(
+                ring,
+                &mut self.producer,
+                &mut self.claims,
+                type_id,
+                len,
+                number,
+            ),
+            AnyRing::One(ring) => claim_alone(
+                ring,
+                &mut self.producer,
+                &mut self.claims,
+                type_id,
+                len,
+                number,
+            ),
+        }
+    }
+
+    /// Puts bytes into the open claim of this number.
+    pub fn put(&mut self, number: u64, offset: usize, bytes: &[u8]) -> i32
+        ensures { Put number offset bytes.now self.old self.new result }
+    {
+        on_ring!(self.ring, ring => put_in(
+            ring,
+            &mut self.producer,
+            &mut self.claims,
+            number,
+            offset,
+            bytes,
+        ))
+    }
+
+    /// Commits the open claim of this number.
+    pub fn commit(&mut self, number: u64) -> i32
+        ensures { Settled Committed number self.old self.new result }
+    {
+        on_ring!(self.ring, ring => commit_in(ring, &mut self.producer, &mut self.claims, number))
+    }
+
+    /// Aborts the open claim of this number.
+    pub fn abort(&mut self, number: u64) -> i32
+        ensures { Settled Aborted number self.old self.new result }
+    {
+        on_ring!(self.ring, ring => abort_in(ring, &mut self.producer, &mut self.claims, number))
+    }
+
+    /// Aborts all open claims.
+    pub fn abort_open(&mut self)
+        ensures { self.new ≡ closing self.old }
+    {
+        on_ring!(self.ring, ring => abort_all(ring, &mut self.producer, &mut self.claims))
+    }
+
+    /// Loads the head, and then the tail.
+    pub fn positions(&mut self, head: &mut u64, tail: &mut u64) -> i32
+        ensures { Positioned (positions head.new tail.new) self.old self.new result }
+    {
+        let found = on_ring!(self.ring, ring => ring.positions(&mut self.producer));
+        *head = found.head;
+        *tail = found.tail;
+        DONE
+    }
+
+    /// Draws the ring's next correlation id.
+    pub fn next_id(&mut self, id: &mut u64) -> i32
+        ensures { Drew id.new self.old self.new result }
+    {
+        *id = on_ring!(self.ring, ring => ring.next_correlation_id(&mut self.producer));
+        DONE
+    }
+
+    /// Loads the consumer's heartbeat.
+    pub fn heartbeat(&mut self, value: &mut u64) -> i32
+        ensures { HeardBeat value.new self.old self.new result }
+    {
+        *value = on_ring!(self.ring, ring => ring.heartbeat(&mut self.producer));
+        DONE
+    }
+
+    /// Says how many shares it holds.
+    pub fn shares(&mut self, shares: &mut u32) -> i32
+        ensures { Counted shares.new self.old self.new result }
+    {
+        *shares = self.producer.shares();
+        DONE
+    }
+
+    /// Makes another producer of the same ring. Claims that are open stay this one's.
+    pub fn split(&mut self, alloc: Global) -> Result<ProducerSide, i32>
+        ensures split { IfOk result (Splits self.old self.new) }
+        ensures refused { IfErr result (λ code. (self.new ≡ self.old) × WhyNotSplit self.old code) }
+    {
+        let AnyRing::Many(ring) = &self.ring else {
+            return Err(WRONG_HANDLE);
+        };
+        let Ok(same) = Arc::try_clone(ring) else {
+            return Err(OUT_OF_MEMORY);
+        };
+        match ring.split(&mut self.producer) {
+            Ok(producer) => Ok(ProducerSide {
+                ring: AnyRing::Many(same),
+                identity: self.identity,
+                producer,
+                claims: Vec::new(alloc),
+            }),
+            Err(_) => Err(NO_SHARES),
+        }
+    }
+
+    /// Takes another producer of the same ring in, with its shares and its open claims. Else it comes back.
+    pub fn join(&mut self, other: ProducerSide) -> Result<(), (i32, ProducerSide)>
+        requires { AreOfOneRing self.old other }
+        ensures joined { OnOk result (TakesIn self.old other self.new) }
+        ensures refused { IfErr result (λ r. (self.new ≡ self.old) × (r.1 ≡ other) × IsApart self.old other r.0) }
+    {
+        let AnyRing::Many(ring) = &self.ring else {
+            return Err((WRONG_HANDLE, other));
+        };
+        let AnyRing::Many(_) = &other.ring else {
+            return Err((WRONG_HANDLE, other));
+        };
+        if !self.identity.is(other.identity) {
+            return Err((OTHER_RING, other));
+        }
+        let ProducerSide {
+            ring: same,
+            identity,
+            producer,
+            mut claims,
+        } = other;
+        let Ok(()) = self.claims.append(&mut claims) else {
+            return Err((
+                OUT_OF_MEMORY,
+                ProducerSide {
+                    ring: same,
+                    identity,
+                    producer,
+                    claims,
+                },
+            ));
+        };
+        ring.join(&mut self.producer, producer);
+        Ok(())
+    }
+}

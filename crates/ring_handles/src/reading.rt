@@ -1,0 +1,65 @@
+//! What readers of counters' values do.
+ghost use Rattle.std.specs.Prelude.{◌≡◌, IfErr, IfOk, OnOk};
+ghost use Rattle.ring_handles.specs.Lending.{WhyNotLent, Lends, Loaded};
+ghost use Rattle.ring_handles.specs.Returning.{IsOfOthers, IsOfThese, TakesLoads};
+
+use crate::code::{BAD_ID, DONE, NO_SHARES, OTHER_RING, OUT_OF_MEMORY};
+use crate::counters::{CountersSide, ReaderSide};
+use crate::lending::AnyValues;
+use std::sync::Arc;
+
+impl CountersSide {
+    /// Makes a reader of the values.
+    pub fn reader(&mut self) -> Result<ReaderSide, i32>
+        ensures lent { IfOk result (Lends self.old self.new) }
+        ensures refused { IfErr result (λ code. (self.new ≡ self.old) × WhyNotLent self.old code) }
+    {
+        let Ok(values) = Arc::try_clone(&self.values) else {
+            return Err(OUT_OF_MEMORY);
+        };
+        match self.manager.reader(&self.values) {
+            Ok(reader) => Ok(ReaderSide {
+                values: AnyValues::Own(values),
+                identity: self.identity,
+                reader,
+            }),
+            Err(_) => Err(NO_SHARES),
+        }
+    }
+
+    /// Takes a reader of the values back, with its share. Else it comes back.
+    pub fn join(&mut self, reader: ReaderSide) -> Result<(), (i32, ReaderSide)>
+        requires { IsOfThese self.old reader }
+        ensures joined { OnOk result (TakesLoads self.old reader self.new) }
+        ensures refused { IfErr result (λ r. (self.new ≡ self.old) × (r.1 ≡ reader) × IsOfOthers self.old reader r.0) }
+    {
+        let AnyValues::Own(_) = &reader.values else {
+            return Err((OTHER_RING, reader));
+        };
+        if !self.identity.is(reader.identity) {
+            return Err((OTHER_RING, reader));
+        }
+        let ReaderSide {
+            values: _,
+            identity: _,
+            reader,
+        } = reader;
+        self.manager.join_reader(&self.values, reader);
+        Ok(())
+    }
+}
+
+impl ReaderSide {
+    /// Loads a value.
+    pub fn load(&mut self, id: u32, value: &mut i64) -> i32
+        ensures { Loaded id value.old value.new self.old self.new result }
+    {
+        match self.values.get().load(&mut self.reader, id) {
+            Ok(loaded) => {
+                *value = loaded;
+                DONE
+            }
+            Err(_) => BAD_ID,
+        }
+    }
+}
