@@ -1,5 +1,5 @@
 -- Bytes merged into a word of a body.
-use Rattle.std.proofs.Common.{◌≡◌, ℕ, ◌+◌, ◌-◌, ◌*◌, ◌<◌, ◌≤◌, List, [], ◌++◌, length, take, drop, slice_index, refl, sym, ap, ◌∙◌, subst, inl, inr, arith}
+use Rattle.std.proofs.Common.{◌≡◌, ℕ, ◌+◌, ◌-◌, ◌*◌, ◌<◌, ◌≤◌, List, [], ◌++◌, length, take, drop, slice_index, sym, ap, ◌∙◌, subst, inl, inr, arith}
 use Rattle.std.specs.Prelude.{All}
 use Rattle.std.specs.Int.{from_le_bytes, w64}
 use Rattle.std.proofs.lemmas.Bool.{cases_lt}
@@ -15,7 +15,7 @@ use Rattle.ring_table.specs.declared.view.View.{View}
 use Rattle.ring_table.specs.Changes.{changed}
 use Rattle.ring_table.specs.ProducerSteps.{HasClaim}
 use Rattle.ring_rings.specs.Bodies.{put_at, MergesWord}
-use Rattle.ring_rings.proofs.PutLemmas.{changed_there}
+use Rattle.ring_table.proofs.Histories.{changed_there}
 
 pub small_at : (body : List ℕ) → All (λ b. b < 256) body → (j : ℕ) → slice_index body j < 256
 small_at body bytes j = elim (cases_lt j (length body)) as (λ _. slice_index body j < 256) [
@@ -57,8 +57,7 @@ module _ (C place offset done count k byte nth : ℕ) (v0 v : View) (c0 : Staged
       let front = length-take done bytes in
       let long : length now.message.body ≡ length b0 = length-overwritten offset (take done bytes) b0 (omega arith) in
       let has : HasClaim v nth now = ap (λ l. get_elem? l nth) before
-      ∙ changed_there place (put_at offset (take done bytes))
-      (λ c. refl) v0.producer.claims nth c0 there at_place in
+      ∙ changed_there place (put_at offset (take done bytes)) v0.producer.claims nth c0 there at_place in
       let is : chunk ≡ take (length chunk) (drop done bytes) =
       chunk_is ∙ ap (λ n. take n (drop done bytes)) (sym size) in
       let more : overwritten (8 * k + byte) chunk now.message.body ≡ overwritten offset (take (done + count) bytes) b0 =

@@ -14,8 +14,9 @@ use Rattle.ring_table.specs.Views.{with_claims}
 use Rattle.ring_table.specs.ProducerSteps.{HasClaimAt}
 use Rattle.ring_table.proofs.BodyWords.{length-with_word}
 use Rattle.ring_table.proofs.BodyWords as word
-use Rattle.ring_table.proofs.Histories.{changed_at_place, changed_at_other}
+use Rattle.ring_table.proofs.Histories.{changed_at_place, changed_at_other, changed_there}
 use Rattle.ring_table.proofs.LawLemmas.{changed_none}
+use Rattle.ring_rings.proofs.RisingLemmas.{place_after}
 
 -- a change that changes nothing
 pub changed_same : (p : ℕ) (f : StagedClaim → StagedClaim) (cs : List StagedClaim) → ((c : StagedClaim) → f c ≡ c)
@@ -28,34 +29,18 @@ changed_same p f (c ∷ cs) same = λ i. one (eqb c.place p) i ∷ changed_same 
     one false = refl
 
 module _ (p : ℕ) (f : StagedClaim → StagedClaim) (keeps : (c : StagedClaim) → (f c).place ≡ c.place) where
-  place_after : (c : StagedClaim) → (changed_at p f c).place ≡ c.place
-  place_after c = one (eqb c.place p)
-    where
-      one : (b : Bool) → (cond b (f c) c).place ≡ c.place
-      one true = keeps c
-      one false = refl
-
   above_back : (q : ℕ) (cs : List StagedClaim) → AreAbove q (changed p f cs) → AreAbove q cs
   above_back q [] above = tt
-  above_back q (c ∷ cs) above = (subst (λ (n : ℕ). q < n) (place_after c) above.0, above_back q cs above.1)
+  above_back q (c ∷ cs) above = (subst (λ (n : ℕ). q < n) (place_after f p keeps c) above.0, above_back q cs above.1)
 
   -- places that rise after a change rose before
   pub rising_back : (cs : List StagedClaim) → AreRising (changed p f cs) → AreRising cs
   rising_back [] rising = tt
   rising_back (c ∷ cs) rising = (
-    above_back c.place cs (subst (λ (n : ℕ). AreAbove n (changed p f cs)) (place_after c) rising.0),
+    above_back c.place cs (subst (λ (n : ℕ). AreAbove n (changed p f cs)) (place_after f p keeps c) rising.0),
     rising_back cs
         rising.1,
   )
-
-  pub changed_there : (cs : List StagedClaim) (k : ℕ) (c : StagedClaim) → get_elem? cs k ≡ some c → c.place ≡ p
-      → get_elem? (changed p f cs) k ≡ some (f c)
-  changed_there [] k c e at = absurd (some-ne-none c (sym e))
-  changed_there (d ∷ ds) zero c e at =
-      let same : d ≡ c = some-injective d c e in
-      ap some (subst (λ (z : StagedClaim). z.place ≡ p → changed_at p f z ≡ f z) (sym same)
-      (λ here. changed_at_place p f c at) (ap (λ (z : StagedClaim). z.place) same ∙ at) ∙ ap f same)
-  changed_there (d ∷ ds) (suc k) c e at = changed_there ds k c e at
 
   -- the claim at the place after the change
   pub has_changed : (v : View) (P Q : StagedClaim → Type 0) → HasClaimAt v p P → ((c : StagedClaim) → P c → Q (f c))
@@ -63,7 +48,7 @@ module _ (p : ℕ) (f : StagedClaim → StagedClaim) (keeps : (c : StagedClaim) 
   has_changed v P Q h carries = record {
     nth = h.nth;
     claim = f h.claim;
-    there = changed_there v.producer.claims h.nth h.claim h.there h.at_place;
+    there = changed_there p f v.producer.claims h.nth h.claim h.there h.at_place;
     at_place = keeps h.claim ∙ h.at_place;
     holds = carries h.claim h.holds;
   }
