@@ -3,7 +3,6 @@ use Rattle.std.proofs.Common.{◌≡◌, ◌⊎◌, ℕ, ◌+◌, ◌-◌, ◌*�
 use Rattle.std.specs.Int.{from_le_bytes, to_le_bytes, w64}
 use Rattle.std.proofs.lemmas.Bool.{cases_lt}
 use Rattle.std.proofs.lemmas.List.{append-nil, drop_all, ext_get_or, get_or-drop, get_or-replicate, get_or-take, get_or_past, length-drop, length-replicate, length-take}
-use Rattle.std.proofs.Math.Seq.{take-length}
 use Rattle.ring_layout.specs.History.{overwritten}
 use Rattle.ring_layout.proofs.WordBytes.{from_le_bytes-same, length-overwritten, overwritten_before, overwritten_behind, overwritten_inside}
 use Rattle.ring_table.proofs.BodyWords.{length-with_word}
@@ -92,26 +91,24 @@ module _ (k : ℕ) (body b0 : List ℕ) (same : length body ≡ length b0) (insi
             ∙ sym (get_or_past body j 0 far)
       ]
 
-  pub body_word_there : from_le_bytes w64 (take (length body - 8 * k) (drop (8 * k) body))
+  -- also where more bytes follow
+  pub body_word_there : (n : ℕ) → min 8 (length body - 8 * k) ≤ n → from_le_bytes w64 (take n (drop (8 * k) body))
       ≡ from_le_bytes w64 (drop (8 * k) (overwritten 0 (take (8 * (k + 1)) body) b0))
-  body_word_there = from_le_bytes-same (take (length body - 8 * k) (drop (8 * k) body))
+  body_word_there n enough = from_le_bytes-same (take n (drop (8 * k) body))
       (drop (8 * k) (overwritten 0 (take (8 * (k + 1)) body) b0)) (λ i lt.
-      all_of i ∙ get_or-drop (8 * k) body i 0 ∙ sym (byte_there (8 * k + i) (omega arith) (omega arith))
+      taken i lt ∙ get_or-drop (8 * k) body i 0 ∙ sym (byte_there (8 * k + i) (omega arith) (omega arith))
       ∙ sym (get_or-drop (8 * k) (overwritten 0 (take (8 * (k + 1)) body) b0) i 0))
     where
-      all_of : (i : ℕ) → slice_index (take (length body - 8 * k) (drop (8 * k) body)) i
-          ≡ slice_index (drop (8 * k) body) i
-      all_of i = let left = length-drop (8 * k) body in ap (λ (l : List ℕ). slice_index l i)
-          (ap (λ n. take n (drop (8 * k) body)) (sym left) ∙ take-length (drop (8 * k) body))
-
-  -- also where more bytes follow
-  pub whole_word_there : (n : ℕ) → 8 ≤ n → from_le_bytes w64 (take n (drop (8 * k) body))
-      ≡ from_le_bytes w64 (drop (8 * k) (overwritten 0 (take (8 * (k + 1)) body) b0))
-  whole_word_there n long = from_le_bytes-same (take n (drop (8 * k) body))
-      (drop (8 * k) (overwritten 0 (take (8 * (k + 1)) body) b0)) (λ i lt.
-      get_or-take n (drop (8 * k) body) i 0 (omega arith) ∙ get_or-drop (8 * k) body i 0
-      ∙ sym (byte_there (8 * k + i) (omega arith) (omega arith))
-      ∙ sym (get_or-drop (8 * k) (overwritten 0 (take (8 * (k + 1)) body) b0) i 0))
+      taken : (i : ℕ) → i < 8 → slice_index (take n (drop (8 * k) body)) i ≡ slice_index (drop (8 * k) body) i
+      taken i lt =
+          let left = length-drop (8 * k) body in
+          let size = length-take n (drop (8 * k) body) in
+          elim (cases_lt i n) as (λ _. slice_index (take n (drop (8 * k) body)) i
+          ≡ slice_index (drop (8 * k) body) i) [
+            | inl near ↦ get_or-take n (drop (8 * k) body) i 0 near
+            | inr far ↦ get_or_past (take n (drop (8 * k) body)) i 0 (omega arith)
+                ∙ sym (get_or_past (drop (8 * k) body) i 0 (omega arith))
+          ]
 
   pub small_there : ((j : ℕ) → slice_index body j < 256) → (j : ℕ) → 8 * k ≤ j → j < 8 * k + 8
       → slice_index (overwritten 0 (take (8 * (k + 1)) body) b0) j < 256
@@ -154,38 +151,31 @@ module _ (c0 : StagedClaim) (is_open : c0.stage ≡ Stored Open) (offset d m k :
           stage = c0.stage;
         }) body_is
 
--- A turn of a loop that puts bytes into the claim c0 of v0. v is the view before it, where the first d bytes are put
-module _ (v0 v : View) (place nth : ℕ) (c0 : StagedClaim) (there : HasClaim v0 nth c0) (at_place : c0.place ≡ place)
-    (is_open : c0.stage ≡ Stored Open) (offset d m k : ℕ) (bytes : List ℕ)
-    (room : offset + length bytes ≤ length c0.message.body)
-    (least : d ≤ length bytes) (more : d ≤ m) (from : 8 * k ≤ offset + d)
-    (to : offset + length (take m bytes) ≤ 8 * k + 8) (inside : 8 * k < length c0.message.body)
-    (small : (j : ℕ) → 8 * k ≤ j → j < 8 * k + 8
-    → slice_index (overwritten offset (take m bytes) c0.message.body) j < 256)
-    (word : ℕ) (word_is : word ≡ from_le_bytes w64 (drop (8 * k) (overwritten offset (take m bytes) c0.message.body)))
-    (before : v ≡ with_claims (changed place (put_at offset (take d bytes)) v0.producer.claims) v0) where
-  pub turn_takes : HasClaimAt v place (IsWordOfBody (8 * k) word)
-  turn_takes =
-      subst (λ (u : View). HasClaimAt u place (IsWordOfBody (8 * k) word)) (sym before)
-      (has_changed place (put_at offset (take d bytes)) (λ c. refl) v0 (λ c. c ≡ c0) (IsWordOfBody (8 * k) word)
-      (record { nth = nth; claim = c0; there = there; at_place = at_place; holds = refl })
-      (λ c same. subst (λ (e : StagedClaim). IsWordOfBody (8 * k) word (put_at offset (take d bytes) e)) (sym same)
-      (takes_word c0 is_open offset d m k bytes room least more from to inside small word word_is)))
+    -- A turn of a loop that puts bytes into the claim c0 of v0. v is the view before it, where the first d are put
+    module _ (v0 v : View) (place nth : ℕ) (there : HasClaim v0 nth c0) (at_place : c0.place ≡ place)
+        (before : v ≡ with_claims (changed place (put_at offset (take d bytes)) v0.producer.claims) v0) where
+      pub turn_takes : HasClaimAt v place (IsWordOfBody (8 * k) word)
+      turn_takes =
+          subst (λ (u : View). HasClaimAt u place (IsWordOfBody (8 * k) word)) (sym before)
+          (has_changed place (put_at offset (take d bytes)) (λ c. refl) v0 (λ c. c ≡ c0) (IsWordOfBody (8 * k) word)
+          (record { nth = nth; claim = c0; there = there; at_place = at_place; holds = refl })
+          (λ c same. subst (λ (e : StagedClaim). IsWordOfBody (8 * k) word (put_at offset (take d bytes) e)) (sym same)
+          takes_word))
 
-  pub turn_stores : (w : View) → w ≡ with_claims (changed place (with_body_word (8 * k) word) v.producer.claims) v
-      → AreRising v.producer.claims → w ≡ with_claims
-      (changed place (put_at offset (take m bytes)) v0.producer.claims) v0
-  turn_stores w after rising =
-      let f : StagedClaim → StagedClaim = put_at offset (take d bytes) in
-      let g : StagedClaim → StagedClaim = with_body_word (8 * k) word in
-      let rose : AreRising v0.producer.claims =
-      rising_back place f (λ c. refl) v0.producer.claims
-      (subst (λ (u : View). AreRising u.producer.claims) before rising) in
-      after
-      ∙ ap (λ (u : View). with_claims (changed place g u.producer.claims) u) before
-      ∙ ap (λ (l : List StagedClaim). with_claims l v0)
-      (changed_step place f (λ c. refl) g (put_at offset (take m bytes)) v0.producer.claims nth c0 rose there at_place
-      (writes_word c0 is_open offset d m k bytes room least more from to inside small word word_is))
+      pub turn_stores : (w : View) → w ≡ with_claims (changed place (with_body_word (8 * k) word) v.producer.claims) v
+          → AreRising v.producer.claims → w ≡ with_claims
+          (changed place (put_at offset (take m bytes)) v0.producer.claims) v0
+      turn_stores w after rising =
+          let f : StagedClaim → StagedClaim = put_at offset (take d bytes) in
+          let g : StagedClaim → StagedClaim = with_body_word (8 * k) word in
+          let rose : AreRising v0.producer.claims =
+          rising_back place f (λ c. refl) v0.producer.claims
+          (subst (λ (u : View). AreRising u.producer.claims) before rising) in
+          after
+          ∙ ap (λ (u : View). with_claims (changed place g u.producer.claims) u) before
+          ∙ ap (λ (l : List StagedClaim). with_claims l v0)
+          (changed_step place f (λ c. refl) g (put_at offset (take m bytes)) v0.producer.claims nth c0 rose there
+          at_place writes_word)
 
 -- of zeros, those are left that nothing is put over
 pub zeros_left : (d len : ℕ) (bytes b0 : List ℕ) → b0 ≡ replicate len 0 → length bytes ≡ len → d ≤ length bytes
@@ -228,11 +218,12 @@ zero_written at c le zeros =
           ]
     ]))
 
--- A turn of a loop that stores a body into the newest claim c0 of v0. v is the view before it, where k words are stored
+-- A turn of a loop that stores a body into the newest claim c0 of v0. v is the view before it, where k words are
+-- stored. The word is one of n bytes of the body
 module _ (v0 v : View) (place : ℕ) (body : List ℕ) (small : (j : ℕ) → slice_index body j < 256) (cs : List StagedClaim)
     (c0 : StagedClaim) (fresh : IsFreshClaim place (length body) cs c0 v0) (k : ℕ) (inside : 8 * k < length body)
-    (word : ℕ) (word_is : word ≡ from_le_bytes w64
-    (drop (8 * k) (overwritten 0 (take (8 * (k + 1)) body) c0.message.body)))
+    (n : ℕ) (enough : min 8 (length body - 8 * k) ≤ n) (word : ℕ)
+    (word_of : word ≡ from_le_bytes w64 (take n (drop (8 * k) body)))
     (before : v ≡ with_claims (cs ++ put_at 0 (take (8 * k) body) c0 ∷ []) v0) where
   same_length : length body ≡ length c0.message.body
   same_length = sym (ap length fresh.blank.zeros ∙ length-replicate (length body) 0)
@@ -243,6 +234,10 @@ module _ (v0 v : View) (place : ℕ) (body : List ℕ) (small : (j : ℕ) → sl
   small_word : (j : ℕ) → 8 * k ≤ j → j < 8 * k + 8
       → slice_index (overwritten 0 (take (8 * (k + 1)) body) c0.message.body) j < 256
   small_word = let same = same_length in small_there k body c0.message.body same (omega arith) small
+
+  word_is : word ≡ from_le_bytes w64 (drop (8 * k) (overwritten 0 (take (8 * (k + 1)) body) c0.message.body))
+  word_is =
+      let same = same_length in word_of ∙ body_word_there k body c0.message.body same (omega arith) n enough
 
   pub fresh_takes : TakesFresh place (8 * k) word cs (put_at 0 (take (8 * k) body) c0) v
   fresh_takes =

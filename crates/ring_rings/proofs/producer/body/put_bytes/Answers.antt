@@ -74,14 +74,14 @@ turn c =
     let m = merged c.args.capacity c.args.place c.args.offset done count k
     ((c.args.offset + done) % 8) h.nth v0 c.loop-done.seat.me.0 h.claim h.there h.at_place h.holds.stage bytes chunk
     claims cap (omega arith) (omega arith) (omega arith) size is c.merged_word-word.result mw.word in (
-      turn_takes base c.merged_word-word.new.seat.me.0 c.args.place h.nth h.claim h.there h.at_place h.holds.stage
-          c.args.offset done (done + count) k bytes
-          (omega arith) (omega arith) (omega arith) (omega arith) (omega arith)
-          (omega arith) m.1 c.merged_word-word.result m.0 before,
-      turn_stores base c.merged_word-word.new.seat.me.0 c.args.place h.nth h.claim h.there h.at_place h.holds.stage
-          c.args.offset done (done + count) k bytes
-          (omega arith) (omega arith) (omega arith) (omega arith) (omega arith)
-          (omega arith) m.1 c.merged_word-word.result m.0 before,
+      turn_takes h.claim h.holds.stage c.args.offset done (done + count) k bytes
+          (omega arith) (omega arith) (omega arith) (omega arith) (omega arith) (omega arith) m.1
+          c.merged_word-word.result m.0 base c.merged_word-word.new.seat.me.0 c.args.place h.nth h.there h.at_place
+          before,
+      turn_stores h.claim h.holds.stage c.args.offset done (done + count) k bytes
+          (omega arith) (omega arith) (omega arith) (omega arith) (omega arith) (omega arith) m.1
+          c.merged_word-word.result m.0 base c.merged_word-word.new.seat.me.0 c.args.place h.nth h.there h.at_place
+          before,
     )
 
 pub store_body_word-requires-clause-claim : goal.store_body_word-requires-clause-claim
