@@ -24,6 +24,10 @@ pub record Ended (start scan count : ℕ) (stop : Stop) (end : ReadEnd) : Type 0
   pub bytes : start + end.bytes ≡ scan
   pub stopped : end.stopped ≡ stop
 
+pub ended : {start scan count : ℕ} {stop : Stop} {end : ReadEnd} → end.messages ≡ count → start + end.bytes ≡ scan
+    → end.stopped ≡ stop → Ended start scan count stop end
+ended messages bytes stopped = record { messages = messages; bytes = bytes; stopped = stopped }
+
 -- a read that may end
 module _ {S : Type 0} {step : S → Message → S → Action → Type 0} {limit start : ℕ} {v w y : View} {s t : S}
     {scan count : ℕ} {end : ReadEnd} (r : RunsOn step limit v w s t scan count)
@@ -100,16 +104,17 @@ module _ {S : Type 0} {step : S → Message → S → Action → Type 0} {limit 
 
   -- Nothing is found ----------------------------------------------------------
 
-  module _ {x : View} {u : S} (told : FindsNothing C scan got w x × (u ≡ t)) where
+  module _ {x : View} {u : S}
+      (turn : (g : List PlacedMessage) → IsAt scan g w → FindsNothing C scan g w x × (u ≡ t)) where
     finds : FindsNothing v.capacity scan got w x
-    finds = subst (λ (k : ℕ). FindsNothing k scan got w x) (sym q.capacity) told.0
+    finds = subst (λ (k : ℕ). FindsNothing k scan got w x) (sym q.capacity) (turn got stands).0
 
     pub blocked_at : IsAt scan got x
     unfolding r
     blocked_at = nothing_stands v.capacity scan got w x r.stands finds
 
     pub blocked_inside : x.consumer.head % C + scan ≤ x.consumer.head + C
-    blocked_inside = subst (λ (h : ℕ). h % C + scan ≤ h + C) (sym (ap (λ (z : View). z.consumer.head) told.0.view))
+    blocked_inside = subst (λ (h : ℕ). h % C + scan ≤ h + C) (sym (ap (λ (z : View). z.consumer.head) finds.view))
         (runs_inside q.runs.0 q.capacity q.some)
 
     module _ {y : View} (p : SettlesUpTo scan got x y) where
@@ -121,19 +126,21 @@ module _ {S : Type 0} {step : S → Message → S → Action → Type 0} {limit 
           let done = went_on step limit v w y s t scan count q.runs
           ((index v.capacity scan, finds.found) ∷ []) e end d.messages
           (d.stopped ∙ stops_unpublished v.capacity limit count scan end.bytes apart still) in
-          inl (subst (λ (z : S). WentOn step limit (at_rest v) (at_rest y) s z end) (sym told.1) done)
+          inl (subst (λ (z : S). WentOn step limit (at_rest v) (at_rest y) s z end) (sym (turn got stands).1) done)
 
       pub blocked : FoundUnsettled (at_rest v) (at_rest y)
       blocked = is_blocked step limit v w x y s t scan count q.runs.0 finds p
 
   -- Padding or an aborted record is passed -------------------------------------
 
-  module _ {n : ℕ} {x : View} {u : S} (told : FindsQuiet C scan got w n x × (u ≡ t)) where
+  module _ {n : ℕ} {x : View} {u : S}
+      (turn : (g : List PlacedMessage) → IsAt scan g w → FindsQuiet C scan g w n x × (u ≡ t)) where
     passes : FindsQuiet v.capacity scan got w n x
-    passes = subst (λ (k : ℕ). FindsQuiet k scan got w n x) (sym q.capacity) told.0
+    passes = subst (λ (k : ℕ). FindsQuiet k scan got w n x) (sym q.capacity) (turn got stands).0
 
     pub runs_passed : RunsOn step limit v x s u (scan + n) count
-    runs_passed = runs_on_quiet step limit v w s t scan count q.runs q.some apart q.inside n x u told.1 passes
+    runs_passed = runs_on_quiet step limit v w s t scan count q.runs q.some apart q.inside n x u
+        (turn got stands).1 passes
 
     pub less_passed : v.consumer.head + room v.capacity v.consumer.head - (scan + n)
         < v.consumer.head + room v.capacity v.consumer.head - scan
@@ -143,9 +150,10 @@ module _ {S : Type 0} {step : S → Message → S → Action → Type 0} {limit 
 
   -- A message is shown -----------------------------------------------------------
 
-  module _ {n : ℕ} {a : Action} {x : View} {u : S} (told : ShowsOne step C scan got w t n a x u) where
+  module _ {n : ℕ} {a : Action} {x : View} {u : S}
+      (turn : (g : List PlacedMessage) → IsAt scan g w → ShowsOne step C scan g w t n a x u) where
     shows : ShowsOne step v.capacity scan got w t n a x u
-    shows = subst (λ (k : ℕ). ShowsOne step k scan got w t n a x u) (sym q.capacity) told
+    shows = subst (λ (k : ℕ). ShowsOne step k scan got w t n a x u) (sym q.capacity) (turn got stands)
 
     -- what was got with it
     pub got_more : List PlacedMessage

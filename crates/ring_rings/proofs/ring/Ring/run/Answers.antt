@@ -5,7 +5,7 @@ use Rattle.ring_rings.specs.ReadingSteps.{heeded}
 use Rattle.ring_rings.proofs.ReadingSeats.{same_none, same_more}
 use Rattle.ring_rings.proofs.ReadingRuns.{RunsOn, runs_on_none}
 use Rattle.ring_rings.proofs.ReadingEnds.{settled_stands}
-use Rattle.ring_rings.proofs.ReadingTurns.{GoesTo, blocked, blocked_at, blocked_inside, ends_aborted, ends_block, ends_blocked, ends_broken, ends_limit, goes_to, got, got_more, is_near, left_at, left_done, left_inside, left_near, less_passed, less_shown, runs_committed, runs_inside, runs_on, runs_passed, shown_at, shown_inside, stands}
+use Rattle.ring_rings.proofs.ReadingTurns.{GoesTo, blocked, blocked_at, blocked_inside, ended, ends_aborted, ends_block, ends_blocked, ends_broken, ends_limit, goes_to, got, got_more, is_near, left_at, left_done, left_inside, left_near, less_passed, less_shown, runs_committed, runs_inside, runs_on, runs_passed, shown_at, shown_inside}
 use Rattle.ring_rings.proofs.ring.Ring.run.Given.{Over}
 use Rattle.ring_rings.proofs.ring.Ring.run.Goals.{After-is_block_end}
 use Rattle.ring_rings.proofs.ring.Ring.run.Goals as goal
@@ -41,23 +41,14 @@ turns-init g c =
 pub returns-then-messages-limit-clause-controls : goal.returns-then-messages-limit-clause-controls
 returns-then-messages-limit-clause-controls g c =
     ends_limit c.turns.invariant.runs c.finish.ensures.settles c.if-messages-limit.true
-    (record {
-      messages = c.finish.ensures.messages;
-      bytes = c.finish.ensures.bytes;
-      stopped =
-          c.finish.ensures.stopped;
-    })
+    (ended c.finish.ensures.messages c.finish.ensures.bytes c.finish.ensures.stopped)
 
 pub returns-then-is_block_end-clause-controls : goal.returns-then-is_block_end-clause-controls
 returns-then-is_block_end-clause-controls g c =
     ends_block c.turns.invariant.runs c.finish-then-is_block_end.ensures.settles c.requires.consumer.capacity
     c.if-messages-limit.false (sym c.is_block_end.ensures ∙ c.if-is_block_end.true)
-    (record {
-      messages = c.finish-then-is_block_end.ensures.messages;
-      bytes =
-          c.finish-then-is_block_end.ensures.bytes;
-      stopped = c.finish-then-is_block_end.ensures.stopped;
-    })
+    (ended c.finish-then-is_block_end.ensures.messages c.finish-then-is_block_end.ensures.bytes
+    c.finish-then-is_block_end.ensures.stopped)
 
 pub turn-requires-clause-near : goal.turn-requires-clause-near
 turn-requires-clause-near g c =
@@ -67,148 +58,118 @@ turn-requires-clause-near g c =
 pub finish-requires-in-Blocked-clause-at : goal.finish-requires-in-Blocked-clause-at
 finish-requires-in-Blocked-clause-at g c =
     let q = goes g (goal.at.finish-requires-in-Blocked-clause-at g c).After-is_block_end c.if-is_block_end.false in
-    let told = c.in-Blocked.ensures.turn (got q) (stands q) in
-    (got q, blocked_at q told)
+    (got q, blocked_at q c.in-Blocked.ensures.turn)
 
 pub returns-in-Blocked-clause-controls : goal.returns-in-Blocked-clause-controls
 returns-in-Blocked-clause-controls g c =
     let q = goes g (goal.at.returns-in-Blocked-clause-controls g c).After-is_block_end c.if-is_block_end.false in
-    let told = c.in-Blocked.ensures.turn (got q) (stands q) in
-    let p = c.finish-in-Blocked.ensures.settles (got q) (blocked_at q told) in
-    ends_blocked q told p
-    (record {
-      messages = c.finish-in-Blocked.ensures.messages;
-      bytes = c.finish-in-Blocked.ensures.bytes;
-      stopped =
-          c.finish-in-Blocked.ensures.stopped;
-    })
+    let p = c.finish-in-Blocked.ensures.settles (got q) (blocked_at q c.in-Blocked.ensures.turn) in
+    ends_blocked q c.in-Blocked.ensures.turn p
+    (ended c.finish-in-Blocked.ensures.messages c.finish-in-Blocked.ensures.bytes c.finish-in-Blocked.ensures.stopped)
 
 pub returns-in-Blocked-clause-bytes : goal.returns-in-Blocked-clause-bytes
 returns-in-Blocked-clause-bytes g c =
     let q = goes g (goal.at.returns-in-Blocked-clause-bytes g c).After-is_block_end c.if-is_block_end.false in
-    let told = c.in-Blocked.ensures.turn (got q) (stands q) in
-    let p = c.finish-in-Blocked.ensures.settles (got q) (blocked_at q told) in
+    let p = c.finish-in-Blocked.ensures.settles (got q) (blocked_at q c.in-Blocked.ensures.turn) in
     omega (arith, c.finish-in-Blocked.ensures.bytes, p.head, c.args.consumer.now.stands.0)
 
 pub returns-in-Blocked-clause-blocked : goal.returns-in-Blocked-clause-blocked
 returns-in-Blocked-clause-blocked g c =
     let q = goes g (goal.at.returns-in-Blocked-clause-blocked g c).After-is_block_end c.if-is_block_end.false in
-    let told = c.in-Blocked.ensures.turn (got q) (stands q) in
-    let p = c.finish-in-Blocked.ensures.settles (got q) (blocked_at q told) in
-    λ _. blocked q told p
+    let p = c.finish-in-Blocked.ensures.settles (got q) (blocked_at q c.in-Blocked.ensures.turn) in
+    λ _. blocked q c.in-Blocked.ensures.turn p
 
 pub turns-preserved-in-Passed : goal.turns-preserved-in-Passed
 turns-preserved-in-Passed g c =
     let q = goes g (goal.at.turns-preserved-in-Passed g c).After-is_block_end c.if-is_block_end.false in
-    let told = c.in-Passed.ensures.turn (got q) (stands q) in
     record {
       consumer = c.turn.ensures.consumer;
       seat = same_more _ _ _ c.turns.invariant.seat c.turn.ensures.seat;
       ready = c.turn.ensures.ready;
       start = c.turns.invariant.start;
       below = omega (arith, c.turns.invariant.below, c.if-messages-limit.false);
-      runs = runs_passed q told;
+      runs = runs_passed q c.in-Passed.ensures.turn;
     }
 
 pub turns-smaller-in-Passed : goal.turns-smaller-in-Passed
 turns-smaller-in-Passed g c =
     let q = goes g (goal.at.turns-smaller-in-Passed g c).After-is_block_end c.if-is_block_end.false in
-    let told = c.in-Passed.ensures.turn (got q) (stands q) in
-    less_passed q told
+    less_passed q c.in-Passed.ensures.turn
 
 pub finish-requires-in-Abort-clause-from : goal.finish-requires-in-Abort-clause-from
 finish-requires-in-Abort-clause-from g c =
     let q = goes g (goal.at.finish-requires-in-Abort-clause-from g c).After-is_block_end c.if-is_block_end.false in
-    let told = c.in-Shown.ensures.turn (got q) (stands q) in
-    let p = c.move_head_before.ensures.settles (got q) (left_at q told) in
-    left_near q told p
+    let p = c.move_head_before.ensures.settles (got q) (left_at q c.in-Shown.ensures.turn) in
+    left_near q c.in-Shown.ensures.turn p
 
 pub finish-requires-in-Abort-clause-at : goal.finish-requires-in-Abort-clause-at
 finish-requires-in-Abort-clause-at g c =
     let q = goes g (goal.at.finish-requires-in-Abort-clause-at g c).After-is_block_end c.if-is_block_end.false in
-    let told = c.in-Shown.ensures.turn (got q) (stands q) in
-    let p = c.move_head_before.ensures.settles (got q) (left_at q told) in
+    let p = c.move_head_before.ensures.settles (got q) (left_at q c.in-Shown.ensures.turn) in
     (got q, settled_stands p)
 
 pub returns-in-Abort-clause-controls : goal.returns-in-Abort-clause-controls
 returns-in-Abort-clause-controls g c =
     let q = goes g (goal.at.returns-in-Abort-clause-controls g c).After-is_block_end c.if-is_block_end.false in
-    let told = c.in-Shown.ensures.turn (got q) (stands q) in
-    let p = c.move_head_before.ensures.settles (got q) (left_at q told) in
+    let p = c.move_head_before.ensures.settles (got q) (left_at q c.in-Shown.ensures.turn) in
     let p' = c.finish-in-Abort.ensures.settles (got q) (settled_stands p) in
-    ends_aborted q told p c.in-Abort.is p'
-    (record {
-      messages = c.finish-in-Abort.ensures.messages;
-      bytes = c.finish-in-Abort.ensures.bytes;
-      stopped =
-          c.finish-in-Abort.ensures.stopped;
-    })
+    ends_aborted q c.in-Shown.ensures.turn p c.in-Abort.is p'
+    (ended c.finish-in-Abort.ensures.messages c.finish-in-Abort.ensures.bytes c.finish-in-Abort.ensures.stopped)
 
 pub returns-in-Abort-clause-bytes : goal.returns-in-Abort-clause-bytes
 returns-in-Abort-clause-bytes g c =
     let q = goes g (goal.at.returns-in-Abort-clause-bytes g c).After-is_block_end c.if-is_block_end.false in
-    let told = c.in-Shown.ensures.turn (got q) (stands q) in
-    let p = c.move_head_before.ensures.settles (got q) (left_at q told) in
+    let p = c.move_head_before.ensures.settles (got q) (left_at q c.in-Shown.ensures.turn) in
     let p' = c.finish-in-Abort.ensures.settles (got q) (settled_stands p) in
     omega (arith, c.finish-in-Abort.ensures.bytes, p'.head, c.args.consumer.now.stands.0)
 
 pub finish-requires-in-Break-clause-at : goal.finish-requires-in-Break-clause-at
 finish-requires-in-Break-clause-at g c =
     let q = goes g (goal.at.finish-requires-in-Break-clause-at g c).After-is_block_end c.if-is_block_end.false in
-    let told = c.in-Shown.ensures.turn (got q) (stands q) in
-    (got_more q told, shown_at q told)
+    (got_more q c.in-Shown.ensures.turn, shown_at q c.in-Shown.ensures.turn)
 
 pub returns-in-Break-clause-controls : goal.returns-in-Break-clause-controls
 returns-in-Break-clause-controls g c =
     let q = goes g (goal.at.returns-in-Break-clause-controls g c).After-is_block_end c.if-is_block_end.false in
-    let told = c.in-Shown.ensures.turn (got q) (stands q) in
-    let p = c.finish-in-Break.ensures.settles (got_more q told) (shown_at q told) in
-    ends_broken q told c.in-Break.is p
-    (record {
-      messages = c.finish-in-Break.ensures.messages;
-      bytes = c.finish-in-Break.ensures.bytes;
-      stopped =
-          c.finish-in-Break.ensures.stopped;
-    })
+    let turn = c.in-Shown.ensures.turn in
+    let p = c.finish-in-Break.ensures.settles (got_more q turn) (shown_at q turn) in
+    ends_broken q turn c.in-Break.is p
+    (ended c.finish-in-Break.ensures.messages c.finish-in-Break.ensures.bytes c.finish-in-Break.ensures.stopped)
 
 pub returns-in-Break-clause-bytes : goal.returns-in-Break-clause-bytes
 returns-in-Break-clause-bytes g c =
     let q = goes g (goal.at.returns-in-Break-clause-bytes g c).After-is_block_end c.if-is_block_end.false in
-    let told = c.in-Shown.ensures.turn (got q) (stands q) in
-    let p = c.finish-in-Break.ensures.settles (got_more q told) (shown_at q told) in
+    let turn = c.in-Shown.ensures.turn in
+    let p = c.finish-in-Break.ensures.settles (got_more q turn) (shown_at q turn) in
     omega (arith, c.finish-in-Break.ensures.bytes, p.head, c.args.consumer.now.stands.0)
 
 pub move_head-requires-clause-at : goal.move_head-requires-clause-at
 move_head-requires-clause-at g c =
     let q = goes g (goal.at.move_head-requires-clause-at g c).After-is_block_end c.if-is_block_end.false in
-    let told = c.in-Shown.ensures.turn (got q) (stands q) in
-    (got_more q told, shown_at q told)
+    (got_more q c.in-Shown.ensures.turn, shown_at q c.in-Shown.ensures.turn)
 
 pub turns-preserved-in-Commit : goal.turns-preserved-in-Commit
 turns-preserved-in-Commit g c =
     let q = goes g (goal.at.turns-preserved-in-Commit g c).After-is_block_end c.if-is_block_end.false in
-    let told = c.in-Shown.ensures.turn (got q) (stands q) in
     let goes : GoesOn c.in-Shown.action = subst GoesOn (sym c.in-Commit.is) tt in
-    let p = c.move_head.ensures.settles (got_more q told) (shown_at q told) in
+    let p = c.move_head.ensures.settles (got_more q c.in-Shown.ensures.turn) (shown_at q c.in-Shown.ensures.turn) in
     record {
       consumer = c.move_head.ensures.consumer;
       seat = same_more _ _ _ (same_more _ _ _ c.turns.invariant.seat c.turn.ensures.seat) c.move_head.ensures.seat;
       ready = c.turn.ensures.ready;
       start = c.turns.invariant.start;
       below = omega (arith, c.turns.invariant.below, c.if-messages-limit.false);
-      runs = runs_committed q told goes p;
+      runs = runs_committed q c.in-Shown.ensures.turn goes p;
     }
 
 pub turns-smaller-in-Commit : goal.turns-smaller-in-Commit
 turns-smaller-in-Commit g c =
     let q = goes g (goal.at.turns-smaller-in-Commit g c).After-is_block_end c.if-is_block_end.false in
-    let told = c.in-Shown.ensures.turn (got q) (stands q) in
-    less_shown q told
+    less_shown q c.in-Shown.ensures.turn
 
 pub turns-preserved : goal.turns-preserved
 turns-preserved g c =
     let q = goes g (goal.at.turns-preserved g c).After-is_block_end c.if-is_block_end.false in
-    let told = c.in-Shown.ensures.turn (got q) (stands q) in
     let goes : GoesOn c.in-Shown.action = subst GoesOn (sym c.in-Continue.is) tt in
     record {
       consumer = c.turn.ensures.consumer;
@@ -216,14 +177,13 @@ turns-preserved g c =
       ready = c.turn.ensures.ready;
       start = c.turns.invariant.start;
       below = omega (arith, c.turns.invariant.below, c.if-messages-limit.false);
-      runs = runs_on q told goes;
+      runs = runs_on q c.in-Shown.ensures.turn goes;
     }
 
 pub turns-smaller : goal.turns-smaller
 turns-smaller g c =
     let q = goes g (goal.at.turns-smaller g c).After-is_block_end c.if-is_block_end.false in
-    let told = c.in-Shown.ensures.turn (got q) (stands q) in
-    less_shown q told
+    less_shown q c.in-Shown.ensures.turn
 
 pub finish-requires-clause-inside : goal.finish-requires-clause-inside
 finish-requires-clause-inside g c =
@@ -238,30 +198,25 @@ finish-requires-then-is_block_end-clause-inside g c =
 pub finish-requires-in-Blocked-clause-inside : goal.finish-requires-in-Blocked-clause-inside
 finish-requires-in-Blocked-clause-inside g c =
     let q = goes g (goal.at.finish-requires-in-Blocked-clause-inside g c).After-is_block_end c.if-is_block_end.false in
-    let told = c.in-Blocked.ensures.turn (got q) (stands q) in
-    blocked_inside q told
+    blocked_inside q c.in-Blocked.ensures.turn
 
 pub move_head_before-requires-clause-inside : goal.move_head_before-requires-clause-inside
 move_head_before-requires-clause-inside g c =
     let q = goes g (goal.at.move_head_before-requires-clause-inside g c).After-is_block_end c.if-is_block_end.false in
-    let told = c.in-Shown.ensures.turn (got q) (stands q) in
-    left_inside q told
+    left_inside q c.in-Shown.ensures.turn
 
 pub finish-requires-in-Abort-clause-inside : goal.finish-requires-in-Abort-clause-inside
 finish-requires-in-Abort-clause-inside g c =
     let q = goes g (goal.at.finish-requires-in-Abort-clause-inside g c).After-is_block_end c.if-is_block_end.false in
-    let told = c.in-Shown.ensures.turn (got q) (stands q) in
-    let p = c.move_head_before.ensures.settles (got q) (left_at q told) in
-    left_done q told p
+    let p = c.move_head_before.ensures.settles (got q) (left_at q c.in-Shown.ensures.turn) in
+    left_done q c.in-Shown.ensures.turn p
 
 pub finish-requires-in-Break-clause-inside : goal.finish-requires-in-Break-clause-inside
 finish-requires-in-Break-clause-inside g c =
     let q = goes g (goal.at.finish-requires-in-Break-clause-inside g c).After-is_block_end c.if-is_block_end.false in
-    let told = c.in-Shown.ensures.turn (got q) (stands q) in
-    shown_inside q told
+    shown_inside q c.in-Shown.ensures.turn
 
 pub move_head-requires-clause-inside : goal.move_head-requires-clause-inside
 move_head-requires-clause-inside g c =
     let q = goes g (goal.at.move_head-requires-clause-inside g c).After-is_block_end c.if-is_block_end.false in
-    let told = c.in-Shown.ensures.turn (got q) (stands q) in
-    shown_inside q told
+    shown_inside q c.in-Shown.ensures.turn
