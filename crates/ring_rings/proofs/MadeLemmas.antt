@@ -46,7 +46,7 @@ pub keeps_claims : {K : Type 0} {ring : Ring K} {p q : Producer} (c : StagedClai
 keeps_claims {K} {ring} {p} {q} c more t h =
     still_open h (has_more p.seat.me.0 q.seat.me.0 c t.place (IsStagedOpen t.type_id t.len) more h.claim)
 
-module _ (C tail : ℕ) (type_id : ℤ) (len : ℕ) (front : List (ℕ × ℕ)) (v : View) (a : Admission) (w : View)
+module _ {C tail : ℕ} {type_id : ℤ} {len : ℕ} {front : List (ℕ × ℕ)} {v : View} {a : Admission} {w : View}
     (made : Makes C tail type_id len front v a w) where
   pub made_claims : w.producer.claims ≡ v.producer.claims ++ claim_behind C tail type_id len ∷ []
   made_claims = ap (λ (u : View). u.producer.claims) made.view
@@ -57,7 +57,7 @@ module _ (C tail : ℕ) (type_id : ℤ) (len : ℕ) (front : List (ℕ × ℕ)) 
       (sym made.admitted.place) (IsStagedOpen type_id len)
       (record { stage = refl; type_is = refl; len_is = length-replicate len 0 })
 
-  module _ (shares open_claims own_tail : ℕ) (known : Matches v shares open_claims own_tail) where
+  module _ {shares open_claims own_tail : ℕ} (known : Matches v shares open_claims own_tail) where
     pub made_few : open_claims + 1 < 2 ^ 64
     made_few =
         let few = made.few in
@@ -124,9 +124,9 @@ module _ (C tail : ℕ) (type_id : ℤ) (len : ℕ) (front : List (ℕ × ℕ)) 
     pub written_refusal : tail_refusal_of C tail type_id (length body) ≡ None
     written_refusal = subst (λ (n : ℕ). tail_refusal_of C tail type_id n ≡ None) (sym len_is) made.refusal
 
-    pub written_matches : (shares open_claims own_tail : ℕ) → Matches v shares open_claims own_tail
+    pub written_matches : {shares open_claims own_tail : ℕ} → Matches v shares open_claims own_tail
         → Matches u shares open_claims a.end
-    written_matches shares open_claims own_tail known =
+    written_matches {shares} {open_claims} {own_tail} known =
         let counted = known.counted in
         let count : open_count u.producer.claims ≡ open_count v.producer.claims + 0 =
         ap open_count written_claims ∙ open_count-more v.producer.claims (record_behind C tail type_id body) in

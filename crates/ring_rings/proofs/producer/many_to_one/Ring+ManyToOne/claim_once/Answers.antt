@@ -7,16 +7,14 @@ use Rattle.ring_rings.proofs.producer.many_to_one.Ring+ManyToOne.claim_once.Goal
 
 pub overflow_add-producer : goal.overflow_add-producer
 overflow_add-producer c =
-    let p = c.args.producer.now in
-    let few = made_few _ _ _ _ _ _ _ _ c.in_ok-admission.ensures.told.0 p.shares p.open_claims p.own_tail p.known in
-    omega arith
+    let few = made_few c.in_ok-admission.ensures.told.0 c.args.producer.now.known in omega arith
 
 pub invariant_of-producer-2 : goal.invariant_of-producer-2
 invariant_of-producer-2 c =
     let p = c.args.producer.now in
     let told = c.in_ok-admission.ensures.told.0 in
     record {
-      known = made_matches _ _ _ _ _ _ _ _ told p.shares p.open_claims p.own_tail p.known;
+      known = made_matches told p.known;
       produces = (
         ap (λ (v : View). v.consumes) told.view ∙ p.produces.0,
         c.in_ok-admission.ensures.seat.slots
@@ -33,12 +31,12 @@ returns-clause-is_open c =
       limit =
           (let lies = told.admitted.place in let ends = told.admitted.limit in omega arith);
       claim =
-          made_open _ _ _ _ _ _ _ _ told;
+          made_open told;
     }
 
 pub returns-clause-claims : goal.returns-clause-claims
-returns-clause-claims c = keeps_claims _ (made_claims _ _ _ _ _ _ _ _ c.in_ok-admission.ensures.told.0)
+returns-clause-claims c = keeps_claims _ (made_claims c.in_ok-admission.ensures.told.0)
 
 pub returns-clause-apart : goal.returns-clause-apart
-returns-clause-apart c t h same = made_apart _ _ _ _ _ _ _ _ c.in_ok-admission.ensures.told.0 t.place
+returns-clause-apart c t h same = made_apart c.in_ok-admission.ensures.told.0 t.place
     (IsStagedOpen t.type_id t.len) h.claim (same ∙ ap (λ (r : ClaimAt). r.place) c.new.ensures)

@@ -7,10 +7,9 @@ pub invariant_of-producer-2 : goal.invariant_of-producer-2
 invariant_of-producer-2 c =
     let p = c.args.producer.now in
     let told = c.in_ok-admission.ensures.told in
-    let stored = c.store_message.ensures.stored _ _ (just_made _ _ _ _ _ _ _ _ told) in
+    let stored = c.store_message.ensures.stored _ _ (just_made told) in
     record {
-      known = written_matches _ _ _ _ _ _ _ _ told c.args.body.now refl c.store_message.new.seat.me.0 stored p.shares
-          p.open_claims p.own_tail p.known;
+      known = written_matches told c.args.body.now refl c.store_message.new.seat.me.0 stored p.known;
       produces = (
         ap (λ (v : View). v.consumes) stored ∙ ap (λ (v : View). v.consumes) told.view
             ∙ p.produces.0,
@@ -21,5 +20,5 @@ invariant_of-producer-2 c =
 pub returns-clause-claims : goal.returns-clause-claims
 returns-clause-claims c =
     let told = c.in_ok-admission.ensures.told in
-    let stored = c.store_message.ensures.stored _ _ (just_made _ _ _ _ _ _ _ _ told) in
-    keeps_claims _ (written_claims _ _ _ _ _ _ _ _ told c.args.body.now refl c.store_message.new.seat.me.0 stored)
+    let stored = c.store_message.ensures.stored _ _ (just_made told) in
+    keeps_claims _ (written_claims told c.args.body.now refl c.store_message.new.seat.me.0 stored)
