@@ -1,6 +1,5 @@
 -- What follows from a claim that was made.
 use Rattle.std.proofs.Common.{◌≡◌, ◌≢◌, ℕ, ◌+◌, ◌^◌, ◌<◌, ℤ, List, [], ◌∷◌, ◌++◌, length, refl, sym, ap, ◌∙◌, subst, arith}
-use Rattle.std.specs.Prelude.{None}
 use Rattle.std.proofs.lemmas.List.{length-replicate}
 use lib.ListN.{get_elem?}
 use Rattle.atomic_table.proofs.Lists.{at_longer}
@@ -17,8 +16,8 @@ use Rattle.ring_words.specs.Open.{ClaimAt}
 use Rattle.ring_layout.specs.declared.admission.Admission.{Admission}
 use Rattle.ring_rings.specs.declared.ring.Producer.{Producer}
 use Rattle.ring_rings.specs.declared.ring.Ring.{Ring}
-use Rattle.ring_rings.specs.Claiming.{claim_behind, looked, record_behind, tail_refusal_of}
-use Rattle.ring_rings.specs.Making.{HasJustMade, IsJustMade, Makes}
+use Rattle.ring_rings.specs.Claiming.{claim_behind, looked, record_behind}
+use Rattle.ring_rings.specs.Making.{IsJustMade, Makes}
 use Rattle.ring_rings.specs.Matching.{Matches}
 use Rattle.ring_rings.specs.Seats.{IsOpenClaimOf, KeepsClaims}
 use Rattle.ring_rings.proofs.CountLemmas.{open_count-more, open_few, stored_more}
@@ -103,9 +102,6 @@ module _ {C tail : ℕ} {type_id : ℤ} {len : ℕ} {front : List (ℕ × ℕ)} 
   pub just_made : IsJustMade C tail type_id len a.place v.producer.claims w
   just_made = record { claims = made_claims; behind = made.behind; place_is = made.admitted.place }
 
-  pub has_just_made : HasJustMade C type_id len a.place w
-  has_just_made = record { tail = tail; others = v.producer.claims; made = just_made }
-
   -- its body is stored, and it is committed
   module _ (body : List ℕ) (len_is : length body ≡ len) (u : View)
       (stored : u ≡ with_claims (v.producer.claims ++ record_behind C tail type_id body ∷ []) w) where
@@ -120,9 +116,6 @@ module _ {C tail : ℕ} {type_id : ℤ} {len : ℕ} {front : List (ℕ × ℕ)} 
         ∙ ap (with_claims (v.producer.claims ++ record_behind C tail type_id body ∷ [])) made.view
         ∙ ap (λ (n : ℕ). with_claim (record_behind C tail type_id body) (end_after C tail (span n))
         (looked (front ++ made.loads) tail made.head v)) same
-
-    pub written_refusal : tail_refusal_of C tail type_id (length body) ≡ None
-    written_refusal = subst (λ (n : ℕ). tail_refusal_of C tail type_id n ≡ None) (sym len_is) made.refusal
 
     pub written_matches : {shares open_claims own_tail : ℕ} → Matches v shares open_claims own_tail
         → Matches u shares open_claims a.end
