@@ -236,15 +236,16 @@ module _ {K : Type 0} (ring : Ring K) where
   }
 
   -- the claim of a number was taken out and settled
-  pub settled_one : (state : ClaimState) (number : ℕ) (p q : Producer) (claims left : List ClaimAt) (t : ClaimAt)
-      (many : Bool) (identity : Identity) → Takes number t claims left
-      → view_of q ≡ with_changed t.place (staged (Stored state)) (view_of p)
+  pub settled_one : (state did : ClaimState) (number : ℕ) (p q : Producer) (claims left : List ClaimAt) (t : ClaimAt)
+      (many : Bool) (identity : Identity) → Takes number t claims left → state ≡ did
+      → view_of q ≡ with_changed t.place (staged (Stored did)) (view_of p)
       → Settled state number (side many identity ring p claims) (side many identity ring q left) (pos 0)
-  settled_one state number p q claims left t many identity takes view =
+  settled_one state did number p q claims left t many identity takes is view =
       let before = side many identity ring p claims in
       let after = side many identity ring q left in
       let same : after ≡ settling state number t before =
       ap (λ v. holding left (knowing v before)) view
+      ∙ ap (λ s. holding left (knowing (with_changed t.place (staged (Stored s)) (view_of p)) before)) (sym is)
       ∙ ap (λ l. holding l (knowing (with_changed t.place (staged (Stored state)) (view_of p)) before)) takes.rest in
       subst (λ o. MatchOption o (Declined (pos 104) before after (pos 0))
       (λ u. (pos 0 ≡ pos 0) × (after ≡ settling state number u before))) (sym takes.claim) (refl, same)

@@ -1,6 +1,6 @@
 //! The open claims of a producer, by number.
-ghost use Rattle.std.specs.Prelude.{◌≡◌, Bool, MatchOption, [], false, true};
-ghost use Rattle.ring_layout.specs.declared.message.ClaimState.TheVariants.{Aborted, Committed};
+ghost use Rattle.std.specs.Prelude.{◌≡◌, ◌≢◌, Bool, MatchOption, [], false, true};
+ghost use Rattle.ring_layout.specs.declared.message.ClaimState.TheVariants.{Open};
 ghost use Rattle.ring_table.specs.Views.{with_claims};
 ghost use Rattle.ring_rings.specs.Seats.{claims_of, shares_of, view_of, IsProducerOf};
 ghost use Rattle.ring_handles.specs.Claims.{aborted, AreOpen, IsNoNumber, HasIndex, Takes};
@@ -9,6 +9,7 @@ ghost use Rattle.ring_handles.specs.Side.{side};
 ghost use Rattle.ring_handles.specs.declared.identity.Identity.{Identity};
 
 use crate::code::{DONE, NO_CLAIM, OUT_OF_MEMORY, PUT_RANGE};
+use ring_layout::ClaimState;
 use ring_rings::{Claim, ManyToOneRing, OneToOneRing, Producer, Ring};
 
 /// The index of the claim of this number.
@@ -123,19 +124,21 @@ pub(crate) fn put_in<K>(
     }
 }
 
-/// Commits the claim of this number.
-pub(crate) fn commit_in<K>(
+/// Settles the claim of this number so.
+pub(crate) fn settle_in<K>(
     ring: &Ring<K>,
     producer: &mut Producer,
     claims: &mut Vec<Claim>,
     number: u64,
+    state: ClaimState,
 ) -> i32
+    requires settles { state ≢ Open }
     requires producer { IsProducerOf ring.now producer.old }
     requires claims { AreOpen ring.now producer.old claims.old.items }
     ensures producer { IsProducerOf ring.now producer.new }
     ensures shares { shares_of producer.new ≡ shares_of producer.old }
     ensures claims { AreOpen ring.now producer.new claims.new.items }
-    ensures settled { (many : Bool) (identity : Identity) → Settled Committed number
+    ensures settled { (many : Bool) (identity : Identity) → Settled state number
         (side many identity ring.now producer.old claims.old.items)
         (side many identity ring.now producer.new claims.new.items) result }
 {
@@ -143,31 +146,11 @@ pub(crate) fn commit_in<K>(
         Some(claim) => claim,
         None => return NO_CLAIM,
     };
-    ring.commit(producer, claim);
-    DONE
-}
-
-/// Aborts the claim of this number.
-pub(crate) fn abort_in<K>(
-    ring: &Ring<K>,
-    producer: &mut Producer,
-    claims: &mut Vec<Claim>,
-    number: u64,
-) -> i32
-    requires producer { IsProducerOf ring.now producer.old }
-    requires claims { AreOpen ring.now producer.old claims.old.items }
-    ensures producer { IsProducerOf ring.now producer.new }
-    ensures shares { shares_of producer.new ≡ shares_of producer.old }
-    ensures claims { AreOpen ring.now producer.new claims.new.items }
-    ensures settled { (many : Bool) (identity : Identity) → Settled Aborted number
-        (side many identity ring.now producer.old claims.old.items)
-        (side many identity ring.now producer.new claims.new.items) result }
-{
-    let claim = match take_numbered(claims, number) {
-        Some(claim) => claim,
-        None => return NO_CLAIM,
-    };
-    ring.abort(producer, claim);
+    match state {
+        ClaimState::Committed => ring.commit(producer, claim),
+        ClaimState::Aborted => ring.abort(producer, claim),
+        ClaimState::Open => unreachable!(),
+    }
     DONE
 }
 

@@ -4,10 +4,11 @@ ghost use Rattle.ring_layout.specs.declared.message.ClaimState.TheVariants.{Abor
 ghost use Rattle.ring_handles.specs.Producing.{closing, positions, Claimed, Counted, Drew, HeardBeat, IsApart, WhyNotSplit, Positioned, Put, Settled, Splits, TakesIn, Wrote};
 ghost use Rattle.ring_handles.specs.Side.{AreOfOneRing};
 
-use crate::claims::{abort_all, abort_in, claim_alone, claim_many, commit_in, put_in};
+use crate::claims::{abort_all, claim_alone, claim_many, put_in, settle_in};
 use crate::code::{DONE, NO_SHARES, OTHER_RING, OUT_OF_MEMORY, WRONG_HANDLE};
 use crate::identity::Identity;
 use crate::ring::{AnyRing, on_ring};
+use ring_layout::ClaimState;
 use ring_rings::{Claim, Producer};
 use std::alloc::Global;
 use std::marker::Model;
@@ -102,14 +103,26 @@ impl ProducerSide {
     pub fn commit(&mut self, number: u64) -> i32
         ensures { Settled Committed number self.old self.new result }
     {
-        on_ring!(self.ring, ring => commit_in(ring, &mut self.producer, &mut self.claims, number))
+        on_ring!(self.ring, ring => settle_in(
+            ring,
+            &mut self.producer,
+            &mut self.claims,
+            number,
+            ClaimState::Committed,
+        ))
     }
 
     /// Aborts the open claim of this number.
     pub fn abort(&mut self, number: u64) -> i32
         ensures { Settled Aborted number self.old self.new result }
     {
-        on_ring!(self.ring, ring => abort_in(ring, &mut self.producer, &mut self.claims, number))
+        on_ring!(self.ring, ring => settle_in(
+            ring,
+            &mut self.producer,
+            &mut self.claims,
+            number,
+            ClaimState::Aborted,
+        ))
     }
 
     /// Aborts all open claims.
