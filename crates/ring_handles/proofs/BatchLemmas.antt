@@ -58,15 +58,8 @@ were_laid s t (m ∷ ms) (a ∷ actions) handled on room =
 
 -- it never breaks
 no_break : (s t : Laying) (m : Message) → Lays s m t Break → ⊥
-no_break s t m lays = subst is_break (other lays) tt
-  where
-    is_break : Action → Type 0
-    is_break Break = Unit {0}
-    is_break _ = ⊥
-
-    other : Lays s m t Break → Break ≡ Continue
-    other (inl adds) = adds.action
-    other (inr leaves) = absurd (subst is_break leaves.action tt)
+no_break s t m (inl adds) = let clash : Break ≡ Continue = adds.action in absurd cc
+no_break s t m (inr leaves) = let clash : Break ≡ Abort = leaves.action in absurd cc
 
 never_broke : (s t : Laying) (ms : List PlacedMessage) (before : List Action)
     → Handles Lays s (messages_of ms) (before ++ Break ∷ []) t → ⊥
@@ -78,11 +71,7 @@ never_broke s t (m ∷ ms) (a ∷ before) handled = never_broke handled.0 t ms b
 -- Abort is not Continue
 left : (s t : Laying) (m : Message) → Lays s m t Abort → LeavesOut s m t Abort
 left s t m (inr leaves) = leaves
-left s t m (inl adds) = absurd (subst is_abort adds.action tt)
-  where
-    is_abort : Action → Type 0
-    is_abort Abort = Unit {0}
-    is_abort _ = ⊥
+left s t m (inl adds) = let clash : Abort ≡ Continue = adds.action in absurd cc
 
 -- How a read ends ---------------------------------------------------------------
 
@@ -140,11 +129,7 @@ same_borrow limit v w s t end fresh controls =
 
 no_messages : (ms : List PlacedMessage) (n : ℕ) → n ≡ length ms → n ≡ 0 → ms ≡ []
 no_messages [] n counted none = refl
-no_messages (m ∷ ms) n counted none = absurd (subst is_suc (sym counted ∙ none) tt)
-  where
-    is_suc : ℕ → Type 0
-    is_suc zero = ⊥
-    is_suc (suc n) = Unit {0}
+no_messages (m ∷ ms) n counted none = let clash : suc (length ms) ≡ zero = sym counted ∙ none in absurd cc
 
 -- some messages were taken
 pub some_taken : (limit : ℕ) (v w : View) (s t : Laying) (end : ReadEnd) → s.used ≡ 0 → end.messages ≤ limit
@@ -176,14 +161,9 @@ none_taken limit v w s t end fresh controls none =
       e.buffer ∙ (e.were.buffer ∙ ap (λ (ns : List PlacedMessage). laid s.used (messages_of ns) s.buffer.now) empty),
     )
 
-is_yes : Bool → Type 0
-is_yes true = Unit {0}
-is_yes false = ⊥
-
 -- the first message had no room
 pub none_fits : (limit : ℕ) (v w : View) (s t : Laying) (end : ReadEnd) → s.used ≡ 0 → s.is_full ≡ false
     → Controls Lays limit v w s t end → end.messages ≡ 0 → t.is_full ≡ true → IsShort s.buffer.now v w
-unfolding is_yes
 none_fits limit v w s t end fresh open_yet controls none is_full =
     let e = ends limit v w s t end fresh controls in
     let empty = no_messages e.reads.messages end.messages e.reads.counted none in
@@ -195,7 +175,8 @@ none_fits limit v w s t end fresh open_yet controls none is_full =
         → (t.is_full ≡ e.between.is_full)
         ⊎ ((m : Message) × IsNext v w m × (length e.between.buffer.now < e.between.used + span_in (length m.body)))
         → IsShort s.buffer.now v w
-    short e used (inl same) = absurd (subst is_yes (sym is_full ∙ (same ∙ (e.were.full ∙ open_yet))) tt)
+    short e used (inl same) =
+        let clash : true ≡ false = sym is_full ∙ (same ∙ (e.were.full ∙ open_yet)) in absurd cc
     short e used (inr (m, next, less)) = record {
       message = m;
       next = next;
@@ -207,14 +188,13 @@ none_fits limit v w s t end fresh open_yet controls none is_full =
 pub none_came : (limit : ℕ) (v w : View) (s t : Laying) (end : ReadEnd)
     → v.consumer.head + end.bytes ≡ w.consumer.head → (end.stopped ≡ Unpublished → FoundUnsettled v w)
     → Controls Lays limit v w s t end → end.messages ≡ 0 → t.is_full ≡ false → RanOut limit end.stopped v w
-unfolding is_yes
 none_came limit v w s t end bytes blocked (inl on) none open_yet = ran_out Lays limit v w s t end on none bytes blocked
 none_came limit v w s t end bytes blocked (inr (inl broke)) none open_yet =
     absurd (never_broke s t broke.reads.messages broke.before
     (subst (λ (answers : List Action). Handles Lays s (messages_of broke.reads.messages) answers t) broke.broke
     broke.reads.handled))
 none_came limit v w s t end bytes blocked (inr (inr aborts)) none open_yet =
-    absurd (subst is_yes (sym (left aborts.before t aborts.message aborts.aborted).full ∙ open_yet) tt)
+    let clash : true ≡ false = sym (left aborts.before t aborts.message aborts.aborted).full ∙ open_yet in absurd cc
 
 -- Two reads as one -----------------------------------------------------------------
 

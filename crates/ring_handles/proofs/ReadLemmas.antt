@@ -58,19 +58,11 @@ shown_one s t ms actions before handled on is =
 -- Break is not Abort
 broken : (s t : Copying) (m : Message) → Copies s m t Break → CopiesIn s m t Break
 broken s t m (inl fits) = fits
-broken s t m (inr exceeds) = absurd (subst is_break exceeds.action tt)
-  where
-    is_break : Action → Type 0
-    is_break Break = Unit {0}
-    is_break _ = ⊥
+broken s t m (inr exceeds) = let clash : Break ≡ Abort = exceeds.action in absurd cc
 
 aborted : (s t : Copying) (m : Message) → Copies s m t Abort → Exceeds s m t Abort
 aborted s t m (inr exceeds) = exceeds
-aborted s t m (inl fits) = absurd (subst is_abort fits.action tt)
-  where
-    is_abort : Action → Type 0
-    is_abort Abort = Unit {0}
-    is_abort _ = ⊥
+aborted s t m (inl fits) = let clash : Abort ≡ Break = fits.action in absurd cc
 
 -- Of the consumer ----------------------------------------------------------------
 
