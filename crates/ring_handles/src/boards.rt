@@ -4,11 +4,11 @@ ghost use Rattle.ring_layout.specs.History.{overwritten};
 ghost use Rattle.ring_board.specs.Seats.{receiver_seat, IsReceiverOf};
 ghost use Rattle.ring_handles.specs.Boards.{heard_out, TellsHeard, IsUnheard, Received, SaysLapped, Subscribes, Transmitted};
 
-use crate::code::{DONE, LAPPED, NO_MESSAGE, NO_SHARES, OUT_OF_MEMORY, SHORT_BUFFER};
+use crate::code::{DONE, LAPPED, NO_MESSAGE, OUT_OF_MEMORY, SHORT_BUFFER};
 use crate::copying::copy_at;
 use crate::identity::Identity;
 use crate::lending::AnyBoard;
-use ring_board::{Board, CopyReceiver, SubscribeFault, Transmitter};
+use ring_board::{Board, CopyReceiver, Transmitter};
 use std::alloc::Global;
 use std::marker::Model;
 use std::sync::Arc;
@@ -93,8 +93,7 @@ impl TransmitterSide {
                 identity: self.identity,
                 receiver,
             }),
-            Err(SubscribeFault::NoShares) => Err(NO_SHARES),
-            Err(SubscribeFault::OutOfMemory) => Err(OUT_OF_MEMORY),
+            Err(fault) => Err(fault.code()),
         }
     }
 }

@@ -7,7 +7,6 @@ use crate::code::{BAD_MOMENT, DONE, NO_SHARES, OUT_OF_MEMORY};
 use crate::conductor::ConductorSide;
 use crate::counting::LAST_MOMENT;
 use crate::lending::Shared;
-use ring_board::SubscribeFault;
 use ring_conductor::{Client, WorkStop};
 use std::alloc::Global;
 use std::sync::Arc;
@@ -38,8 +37,7 @@ impl ConductorSide {
         };
         let receiver = match self.conductor.subscribe(alloc, &shared.board) {
             Ok(receiver) => receiver,
-            Err(SubscribeFault::NoShares) => return Err(NO_SHARES),
-            Err(SubscribeFault::OutOfMemory) => return Err(OUT_OF_MEMORY),
+            Err(fault) => return Err(fault.code()),
         };
         self.shares -= 1;
         let producer = match shared.ring.split(&mut self.producer) {

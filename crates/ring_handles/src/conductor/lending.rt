@@ -7,7 +7,6 @@ use crate::code::{NO_SHARES, OUT_OF_MEMORY};
 use crate::conductor::ConductorSide;
 use crate::counters::ReaderSide;
 use crate::lending::{AnyBoard, AnyValues};
-use ring_board::SubscribeFault;
 use std::alloc::Global;
 use std::sync::Arc;
 
@@ -22,8 +21,7 @@ impl ConductorSide {
         };
         let receiver = match self.conductor.subscribe(alloc, &shared.board) {
             Ok(receiver) => receiver,
-            Err(SubscribeFault::NoShares) => return Err(NO_SHARES),
-            Err(SubscribeFault::OutOfMemory) => return Err(OUT_OF_MEMORY),
+            Err(fault) => return Err(fault.code()),
         };
         self.shares -= 1;
         Ok(ReceiverSide {
