@@ -10,6 +10,8 @@ mod raw;
 #[cfg(test)]
 mod receiving;
 #[cfg(test)]
+mod sending;
+#[cfg(test)]
 mod threads;
 #[cfg(test)]
 mod transmitting;

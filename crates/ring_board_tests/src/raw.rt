@@ -4,34 +4,11 @@ ghost use mathlib.Core.Option.{some};
 ghost use lib.ListN.{get_elem?};
 ghost use Rattle.ring_board.specs.declared.shared.view.Taken.{Taken};
 ghost use Rattle.ring_board.specs.declared.board.RawRecord.{RawRecord};
-ghost use Rattle.ring_board.specs.Seats.{IsTransmitterOf, IsRawOf, IsAnsweredRecord, raw_view, answered_by, place_of, len_of};
+ghost use Rattle.ring_board.specs.Seats.{IsRawOf, IsAnsweredRecord, raw_view, answered_by, place_of, len_of};
 
-use ring_board::{
-    Begun, Board, Lapped, NoShares, RawRecord, Receiver, ReceiversOut, SubscribeFault,
-    TransmitFault, Transmitter,
-};
+use crate::sending::{begun, send};
+use ring_board::{Board, Lapped, NoShares, RawRecord, Receiver, ReceiversOut, SubscribeFault};
 use std::test::Fail;
-
-/// Transmits so many bodies of this length, up to 32 bytes.
-fn send(board: &Board, transmitter: &mut Transmitter, count: u32, len: usize)
-    requires { IsTransmitterOf board.now transmitter.old }
-    ensures { IsTransmitterOf board.now transmitter.new }
-{
-    let body = [7; 32];
-    let len = len.min(32);
-    'sends: for _ in 0..count {
-        let _ = board.transmit(transmitter, 1, &body[..len]);
-    }
-}
-
-/// Begins a transmission of 24 bytes.
-fn begun(board: &Board, transmitter: Transmitter) -> Result<Begun, TransmitFault>
-    requires { IsTransmitterOf board.now transmitter }
-{
-    board
-        .begin(transmitter, 1, 24)
-        .map_err(|refused| refused.reason)
-}
 
 /// The next record.
 fn next(board: &Board, receiver: &mut Receiver) -> Result<RawRecord, Fail>

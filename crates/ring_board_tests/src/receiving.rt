@@ -1,8 +1,8 @@
 //! What copying receivers answer.
-ghost use Rattle.std.specs.Prelude.{◌≡◌, IfOk};
-ghost use Rattle.ring_board.specs.Seats.{IsTransmitterOf, IsReceiverOf, IsBegunOf, begun_len};
+ghost use Rattle.ring_board.specs.Seats.{IsReceiverOf};
 
-use ring_board::{Begun, Board, CopyReceiver, Lapped, ReceiversOut, TransmitFault, Transmitter};
+use crate::sending::{begun, send};
+use ring_board::{Board, CopyReceiver, Lapped, ReceiversOut};
 use std::test::Fail;
 
 /// What a receiver answers: the place, the type id and the length of a copy.
@@ -37,29 +37,6 @@ fn received(board: &Board, receiver: &mut CopyReceiver) -> Answer
         }
         Ok(None) => Answer::Nothing,
         Err(lapped) => Answer::Lapped(lapped),
-    }
-}
-
-/// Transmits so many bodies of this length.
-fn send(board: &Board, transmitter: &mut Transmitter, count: u32, len: usize)
-    requires { IsTransmitterOf board.now transmitter.old }
-    ensures { IsTransmitterOf board.now transmitter.new }
-{
-    let body = [7; 32];
-    let len = len.min(32);
-    'sends: for _ in 0..count {
-        let _ = board.transmit(transmitter, 1, &body[..len]);
-    }
-}
-
-/// Begins a transmission of 24 bytes.
-fn begun(board: &Board, transmitter: Transmitter) -> Result<Begun, TransmitFault>
-    requires { IsTransmitterOf board.now transmitter }
-    ensures { IfOk result (λ b. IsBegunOf board.now b × (begun_len b ≡ 24)) }
-{
-    match board.begin(transmitter, 1, 24) {
-        Ok(begun) => Ok(begun),
-        Err(refused) => Err(refused.reason),
     }
 }
 

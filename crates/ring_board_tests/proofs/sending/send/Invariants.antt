@@ -1,5 +1,5 @@
 use Rattle.ring_board.specs.Seats.{IsTransmitterOf}
-use Rattle.ring_board_tests.proofs.raw.send.Given as goal
+use Rattle.ring_board_tests.proofs.sending.send.Given as goal
 
 abbrev pub invariant-sends : goal.invariant-sends
 invariant-sends l = IsTransmitterOf l.board l.transmitter
