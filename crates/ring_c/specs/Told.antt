@@ -2,7 +2,6 @@
 use Rattle.std.specs.Prelude.{◌≡◌, ◌≢◌, ◌⊎◌, ℕ, ℤ, pos, MatchOption, Bool}
 use Rattle.std.specs.declared.option.Option.{Option}
 use Rattle.std.specs.declared.option.Option.TheVariants.{None, Some}
-use Rattle.ring_handles.specs.declared.conductor.ConductorSide.{ConductorSide}
 use Rattle.ring_handles.specs.declared.held.Held.{Held}
 use Rattle.ring_handles.specs.declared.lending.Shared.{Shared}
 use Rattle.ring_handles.specs.Closing.{TellsEnd, WhyNotFinished}
