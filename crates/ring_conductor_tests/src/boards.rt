@@ -3,20 +3,7 @@ use crate::bench::Bench;
 use crate::sending::work;
 use ring_conductor::{Command, WorkStop};
 use ring_rings::ManyToOne;
-use ring_words::{Action, Handler};
 use std::test::Fail;
-
-/// Takes any message.
-#[derive(Drop)]
-struct Anyone;
-
-impl Handler for Anyone {
-    ghost step = { λ s m t action. Unit {0} };
-
-    fn on_message(&mut self, _type_id: i32, _body: &[u8]) -> Action {
-        Action::Continue
-    }
-}
 
 fn free(id: u32) -> Command<'static> {
     Command::Free { correlation: 0, id }
@@ -30,7 +17,7 @@ fn leaves_a_command_where_the_board_is_at_its_end(rt: HostRuntime) -> Result<(),
     let finished = bench.finish_alone()?;
     let mut rest = finished.rest;
     assert_eq!(rt; finished.received, 0);
-    assert_eq!(rt; rest.read(9, &mut Anyone).messages, 1);
+    assert_eq!(rt; rest.drain(), 1);
     Ok(())
 }
 
@@ -46,6 +33,6 @@ fn answers_up_to_the_end_of_the_board(rt: HostRuntime) -> Result<(), Fail> {
         (finished.received, finished.board.tail()),
         (10, 4611686018427387888)
     );
-    assert_eq!(rt; rest.read(9, &mut Anyone).messages, 1);
+    assert_eq!(rt; rest.drain(), 1);
     Ok(())
 }

@@ -1,26 +1,13 @@
 //! One run of the whole, as a user sees what comes out.
 use ring_conductor::whole_run;
-use ring_words::{Action, Handler};
 use std::test::Fail;
-
-/// Takes any message.
-#[derive(Drop)]
-struct Anyone;
-
-impl Handler for Anyone {
-    ghost step = { λ s m t action. Unit {0} };
-
-    fn on_message(&mut self, _type_id: i32, _body: &[u8]) -> Action {
-        Action::Continue
-    }
-}
 
 #[test]
 fn one_run_takes_all_and_leaves_its_counter(rt: HostRuntime) -> Result<(), Fail> {
     let finished = whole_run(rt.alloc(), 100, 200)?;
     let mut rest = finished.rest;
     assert_eq!(rt; finished.received, 2);
-    assert_eq!(rt; rest.read(9, &mut Anyone).messages, 0);
+    assert_eq!(rt; rest.drain(), 0);
     assert_eq!(rt; finished.counters.value(0), Ok(7));
     assert_eq!(rt; finished.board.latest(), 24);
     assert_eq!(rt; finished.board.tail(), 40);
