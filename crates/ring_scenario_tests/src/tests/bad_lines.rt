@@ -1,6 +1,5 @@
 //! Each cause of a bad line.
-use super::run;
-use ring_scenario::RunFault;
+use super::{is_bad_at, run};
 use std::test::Fail;
 
 #[test]
@@ -90,9 +89,7 @@ fn refuses_a_line_that_is_no_line(rt: HostRuntime) {
         b"transmit 1 0g",
     ];
     for line in lines {
-        let (outcome, output) = run(&rt, line);
-        assert_eq!(rt; outcome, Err(RunFault::BadLine { line: 1 }), "{line:?}");
-        assert!(rt; output.is_empty());
+        assert!(rt; is_bad_at(&rt, line, 1, b""), "{line:?}");
     }
 }
 
@@ -133,8 +130,6 @@ fn finds_a_bad_line_when_its_turn_comes(rt: HostRuntime) {
         (b"write 1 -\n\n", 3, b"ok\n"),
     ];
     for (script, line, wanted) in scripts {
-        let (outcome, output) = run(&rt, script);
-        assert_eq!(rt; outcome, Err(RunFault::BadLine { line }), "{script:?}");
-        assert_eq!(rt; output.as_slice(), wanted, "{script:?}");
+        assert!(rt; is_bad_at(&rt, script, line, wanted), "{script:?}");
     }
 }

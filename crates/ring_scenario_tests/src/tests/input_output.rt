@@ -1,6 +1,6 @@
 //! The limits of the input, and readers and writers that fail.
 use super::fakes::{FailingReader, FailingWriter};
-use super::run;
+use super::{run, run_from};
 use ring_scenario::{MAX_INPUT, MAX_READS, Options, RunFault, run_scenario};
 use std::io::ErrorKind;
 use std::test::Fail;
@@ -14,21 +14,8 @@ const OUTPUT: &[u8] =
 fn tells_where_the_input_cannot_be_read(rt: HostRuntime) {
     let reads = SCRIPT.len().div_ceil(7) as u32 + 1;
     for fails_at in 1..reads + 2 {
-        let mut reader = FailingReader {
-            rest: SCRIPT,
-            step: 7,
-            fails_at,
-            kind: ErrorKind::BrokenPipe,
-            calls: 0,
-        };
-        let mut output = Vec::new(rt.alloc());
-        let outcome = run_scenario(
-            &rt,
-            rt.alloc(),
-            &Options::default(),
-            &mut reader,
-            &mut output,
-        );
+        let mut reader = FailingReader::new(SCRIPT, fails_at, ErrorKind::BrokenPipe);
+        let (outcome, output) = run_from(&rt, &Options::default(), &mut reader);
         if fails_at <= reads {
             assert_eq!(rt; outcome, Err(RunFault::InputUnread));
             assert!(rt; output.is_empty());
@@ -41,21 +28,8 @@ fn tells_where_the_input_cannot_be_read(rt: HostRuntime) {
 
 #[test]
 fn gives_up_on_a_reader_that_is_always_interrupted(rt: HostRuntime) {
-    let mut reader = FailingReader {
-        rest: SCRIPT,
-        step: 7,
-        fails_at: 3,
-        kind: ErrorKind::Interrupted,
-        calls: 0,
-    };
-    let mut output = Vec::new(rt.alloc());
-    let outcome = run_scenario(
-        &rt,
-        rt.alloc(),
-        &Options::default(),
-        &mut reader,
-        &mut output,
-    );
+    let mut reader = FailingReader::new(SCRIPT, 3, ErrorKind::Interrupted);
+    let (outcome, output) = run_from(&rt, &Options::default(), &mut reader);
     assert_eq!(rt; outcome, Err(RunFault::InputUnread));
     assert_eq!(rt; reader.calls, MAX_READS);
     assert!(rt; output.is_empty());
@@ -106,20 +80,13 @@ fn tells_where_the_output_cannot_be_written(rt: HostRuntime) {
 #[test]
 fn reads_nothing_with_a_bad_capacity(rt: HostRuntime) {
     for (ring, board) in [(100, 256), (128, 128), (100, 128)] {
-        let mut reader = FailingReader {
-            rest: SCRIPT,
-            step: 7,
-            fails_at: 1,
-            kind: ErrorKind::BrokenPipe,
-            calls: 0,
-        };
+        let mut reader = FailingReader::new(SCRIPT, 1, ErrorKind::BrokenPipe);
         let options = Options {
             ring,
             board,
             ..Options::default()
         };
-        let mut output = Vec::new(rt.alloc());
-        let outcome = run_scenario(&rt, rt.alloc(), &options, &mut reader, &mut output);
+        let (outcome, output) = run_from(&rt, &options, &mut reader);
         assert_eq!(rt; outcome, Err(RunFault::BadCapacity));
         assert_eq!(rt; reader.calls, 0);
         assert!(rt; output.is_empty());

@@ -1,7 +1,7 @@
 //! Bad lines of the conductor's side, and the options of its parts.
 use super::fakes::FailingReader;
-use super::{run, run_with};
-use ring_scenario::{Options, RunFault, run_scenario};
+use super::{is_bad_at, run_from, run_with};
+use ring_scenario::{Options, RunFault};
 use std::io::ErrorKind;
 use std::test::Fail;
 
@@ -69,9 +69,7 @@ fn refuses_a_line_that_is_no_line(rt: HostRuntime) {
         b"unwatch 1",
     ];
     for line in lines {
-        let (outcome, output) = run(&rt, line);
-        assert_eq!(rt; outcome, Err(RunFault::BadLine { line: 1 }), "{line:?}");
-        assert!(rt; output.is_empty());
+        assert!(rt; is_bad_at(&rt, line, 1, b""), "{line:?}");
     }
 }
 
@@ -102,9 +100,7 @@ fn refuses_a_number_that_is_not_held(rt: HostRuntime) {
         ),
     ];
     for (script, line, wanted) in scripts {
-        let (outcome, output) = run(&rt, script);
-        assert_eq!(rt; outcome, Err(RunFault::BadLine { line }), "{script:?}");
-        assert_eq!(rt; output.as_slice(), wanted, "{script:?}");
+        assert!(rt; is_bad_at(&rt, script, line, wanted), "{script:?}");
     }
 }
 
@@ -189,15 +185,8 @@ fn tests_the_options_in_their_order(rt: HostRuntime) {
         ),
     ];
     for (options, fault) in cases {
-        let mut reader = FailingReader {
-            rest: b"end",
-            step: 7,
-            fails_at: 1,
-            kind: ErrorKind::BrokenPipe,
-            calls: 0,
-        };
-        let mut output = Vec::new(rt.alloc());
-        let outcome = run_scenario(&rt, rt.alloc(), &options, &mut reader, &mut output);
+        let mut reader = FailingReader::new(b"end", 1, ErrorKind::BrokenPipe);
+        let (outcome, output) = run_from(&rt, &options, &mut reader);
         assert_eq!(rt; outcome, Err(fault), "{options:?}");
         assert_eq!(rt; reader.calls, 0);
         assert!(rt; output.is_empty());
