@@ -42,23 +42,23 @@ Opens many number C start p c p' c' code = (((p ≢ None) ⊎ (c ≢ None)) × (
     ⊎ ((code ≢ pos 0) × (p' ≡ None) × (c' ≡ None))))
 
 -- a handle in use answers 102 and stays as it is; else what Holds says is made for it, or refused with the code
-abbrev pub Fills : (ℤ → Type 0) → (Option Held → Type 0) → Option Held → Option Held → ℤ → Type 0
-Fills IsCode Holds h h' code = ((h ≢ None) × (code ≡ pos 102) × (h' ≡ h))
+abbrev pub FillsHandle : (ℤ → Type 0) → (Option Held → Type 0) → Option Held → Option Held → ℤ → Type 0
+FillsHandle IsCode Holds h h' code = ((h ≢ None) × (code ≡ pos 102) × (h' ≡ h))
     ⊎ ((h ≡ None) × IsCode code × (((code ≡ pos 0) × Holds h') ⊎ ((code ≢ pos 0) × (h' ≡ None))))
 
 -- a board of this number
 abbrev pub OpensBoard : ℕ → ℕ → ℕ → Option Held → Option Held → ℤ → Type 0
-OpensBoard number C start = Fills (IsBoardCode C start) (HoldNewBoard (identity_of number) C start)
+OpensBoard number C start = FillsHandle (IsBoardCode C start) (HoldNewBoard (identity_of number) C start)
 
 -- counters of this number
 abbrev pub OpensCounters : ℕ → ℕ → ℕ → Option Held → Option Held → ℤ → Type 0
 OpensCounters number count reuse_ms =
-    Fills (IsCountersCode count) (HoldFreshCounters (identity_of number) count reuse_ms)
+    FillsHandle (IsCountersCode count) (HoldFreshCounters (identity_of number) count reuse_ms)
 
 -- a conductor of this number
 abbrev pub OpensConductor : ℕ → ℕ → ℕ → ℕ → ℕ → Option Held → Option Held → ℤ → Type 0
 OpensConductor number C R count reuse_ms =
-    Fills (IsConductorCode C R count) (HoldNewConductor (identity_of number) C R count reuse_ms)
+    FillsHandle (IsConductorCode C R count) (HoldNewConductor (identity_of number) C R count reuse_ms)
 
 -- Handles that are filled by another one -------------------------------------------
 

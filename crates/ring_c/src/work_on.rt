@@ -48,8 +48,8 @@ macro_rules! make_into {
     };
 }
 
-/// Takes what another handle stands for in, where both are of these kinds, empties that handle, and gives the code. What
-/// is not taken in comes back into its room.
+/// Takes what another handle stands for in, where both are of these kinds, empties that handle, and gives the code.
+/// What is not taken in comes back into its room.
 macro_rules! join_into {
     ($handle:ident, $other:ident, $alloc:ident, $kind:ident($side:ident), $second:ident($joining:ident) => $join:expr) => {
         match ($handle.take($alloc), $other.take($alloc)) {

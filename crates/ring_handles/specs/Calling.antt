@@ -1,5 +1,5 @@
--- What calls of clients do: k is the client before, l after, m is its seat at the board before, n after, and the code is
--- what is answered.
+-- What calls of clients do: k is the client before, l after, m is its seat at the board before, n after, and the code
+-- is what is answered.
 use Rattle.std.specs.Prelude.{◌≡◌, ◌⊎◌, ℕ, ℤ, pos}
 use Rattle.std.specs.Arc.{arc_value}
 use Rattle.ring_table.specs.ServiceSteps.{LoadsHeartbeat}

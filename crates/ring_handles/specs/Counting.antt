@@ -99,8 +99,8 @@ abbrev pub WasCounted : ℕ → CountersSide → CountersSide → ℤ → Type 0
 WasCounted count c d code = (d ≡ c) × (code ≡ pos 0) × (count ≡ count_of (registry_of c.manager))
 
 -- these bytes stand at the front of the buffer, or it is too short for them, and stays
-abbrev pub Fills : List ℕ → List ℕ → List ℕ → ℤ → Type 0
-Fills bytes before after code =
+abbrev pub FillsBuffer : List ℕ → List ℕ → List ℕ → ℤ → Type 0
+FillsBuffer bytes before after code =
     ((code ≡ pos 0) × (length bytes ≤ length before) × (after ≡ overwritten 0 bytes before))
     ⊎ ((code ≡ pos 106) × (length before < length bytes) × (after ≡ before))
 
@@ -119,12 +119,12 @@ label_out len buffer = record { len = len; buffer = buffer }
 abbrev pub SaysLabel : ℕ → LabelOut → LabelOut → CountersSide → CountersSide → ℤ → Type 0
 SaysLabel id before after c d code =
     ((answer (id_refusal_of (registry_of c.manager) id) (length (label_at c id)) ≡ Ok after.len) × (d ≡ c)
-    × Fills (label_at c id) before.buffer after.buffer code)
+    × FillsBuffer (label_at c id) before.buffer after.buffer code)
     ⊎ (IdRefused (length (label_at c id)) id c d code × (after ≡ before))
 
 -- the key of 112 bytes is put out, where there is room for it
 abbrev pub SaysKey : ℕ → List ℕ → List ℕ → CountersSide → CountersSide → ℤ → Type 0
 SaysKey id before after c d code =
     ((answer {T = Unit {0}} (id_refusal_of (registry_of c.manager) id) tt ≡ Ok tt) × (d ≡ c)
-    × Fills (counter_at (registry_of c.manager) id).metadata.key before after code)
+    × FillsBuffer (counter_at (registry_of c.manager) id).metadata.key before after code)
     ⊎ (IdRefused {T = Unit {0}} tt id c d code × (after ≡ before))

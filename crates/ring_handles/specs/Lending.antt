@@ -8,7 +8,7 @@ use Rattle.ring_counters.specs.ValueWrites.{value_after, Begins}
 use Rattle.ring_counters.specs.Views.{value_load}
 use Rattle.ring_handles.specs.declared.counters.CountersSide.{CountersSide}
 use Rattle.ring_handles.specs.declared.counters.ReaderSide.{ReaderSide}
-use Rattle.ring_handles.specs.Serving.{lends_values, values_in}
+use Rattle.ring_handles.specs.Serving.{conductor_of, values_in}
 
 -- a share was moved to a reader of these counters, with their number, which has seen every write so far
 pub record Lends (c d : CountersSide) (r : ReaderSide) : Type 0 where
@@ -18,7 +18,7 @@ pub record Lends (c d : CountersSide) (r : ReaderSide) : Type 0 where
   pub same : arc_value d.values ≡ arc_value c.values
   pub identity : (d.identity ≡ c.identity) × (r.identity ≡ c.identity)
   pub values : values_in r.values ≡ arc_value c.values
-  pub own : lends_values r.values ≡ None
+  pub own : conductor_of r.values ≡ None
   pub made : made_of r.reader ≡ writes_of c.manager
   pub seen : seen_by r.reader ≡ writes_of c.manager
   pub loads : loads_of r.reader ≡ []
@@ -37,6 +37,6 @@ pub record Loads (id : ℕ) (value : ℤ) (r s : ReaderSide) : Type 0 where
   pub after : value ≡ value_after id (seen_by s.reader)
   pub loads : loads_of s.reader ≡ loads_of r.reader ++ value_load id value (seen_by s.reader) ∷ []
 
-abbrev pub Loaded : ℕ → ℤ → ℤ → ReaderSide → ReaderSide → ℤ → Type 0
-Loaded id before value r s code = ((code ≡ pos 0) × Loads id value r s)
+abbrev pub SaysValue : ℕ → ℤ → ℤ → ReaderSide → ReaderSide → ℤ → Type 0
+SaysValue id before value r s code = ((code ≡ pos 0) × Loads id value r s)
     ⊎ ((values_count (values_in r.values) ≤ id) × (code ≡ pos 20) × (s ≡ r) × (value ≡ before))

@@ -13,7 +13,7 @@ use Rattle.ring_handles.specs.declared.counters.CountersSide.{CountersSide}
 use Rattle.ring_handles.specs.declared.counters.ReaderSide.{ReaderSide}
 use Rattle.ring_handles.specs.Boards.{knowing, tail_in, Listening, Sending}
 use Rattle.ring_handles.specs.Raw.{Watching}
-use Rattle.ring_handles.specs.Serving.{lends_values, values_in}
+use Rattle.ring_handles.specs.Serving.{conductor_of, values_in}
 
 -- Receivers ----------------------------------------------------------------------
 
@@ -69,12 +69,12 @@ IsBoardKept p code = MatchOption (close_refusal_of p.view.shares) (code ≡ pos 
 
 -- where it has the same number and is no conductor's, the reader is of these counters
 abbrev pub IsOfThese : CountersSide → ReaderSide → Type 0
-IsOfThese c r = MatchOption (lends_values r.values)
+IsOfThese c r = MatchOption (conductor_of r.values)
     (c.identity ≡ r.identity → values_in r.values ≡ arc_value c.values) (λ _. Unit {0})
 
 -- a reader of the same number was taken back, with its share: what it loaded are values after first parts of the writes
 pub record TakesLoads (c : CountersSide) (r : ReaderSide) (d : CountersSide) : Type 0 where
-  pub own : lends_values r.values ≡ None
+  pub own : conductor_of r.values ≡ None
   pub same : c.identity ≡ r.identity
   pub shares : shares_of d.manager ≡ shares_of c.manager + 1
   pub loads : AreLoads (made_of r.reader) (loads_of r.reader) (writes_of d.manager)
@@ -86,4 +86,4 @@ pub record TakesLoads (c : CountersSide) (r : ReaderSide) (d : CountersSide) : T
 -- it is a conductor's, or the numbers differ
 abbrev pub IsOfOthers : CountersSide → ReaderSide → ℤ → Type 0
 IsOfOthers c r code =
-    (code ≡ pos 108) × MatchOption (lends_values r.values) (c.identity ≢ r.identity) (λ _. Unit {0})
+    (code ≡ pos 108) × MatchOption (conductor_of r.values) (c.identity ≢ r.identity) (λ _. Unit {0})

@@ -20,7 +20,7 @@ use Rattle.ring_handles.specs.declared.counters.ReaderSide.{ReaderSide}
 use Rattle.ring_handles.specs.declared.lending.Shared.{Shared}
 use Rattle.ring_handles.specs.Boards.{table_of, Listening}
 use Rattle.ring_handles.specs.Conducting.{shared_by, KeepsProducer}
-use Rattle.ring_handles.specs.Serving.{lends_values, IsNumberedOtherwise}
+use Rattle.ring_handles.specs.Serving.{conductor_of, IsNumberedOtherwise}
 
 -- Lending ------------------------------------------------------------------------
 
@@ -54,7 +54,7 @@ pub record KeepsCounters (c d : ConductorSide) : Type 0 where
 -- a share of the values was moved to a reader, which has seen every write so far
 pub record LendsReader (c d : ConductorSide) (r : ReaderSide) : Type 0 where
   pub shares : value_shares_of d.conductor + 1 ≡ value_shares_of c.conductor
-  pub lender : lends_values r.values ≡ Some (shared_by c)
+  pub lender : conductor_of r.values ≡ Some (shared_by c)
   pub made : made_of r.reader ≡ writes_of (manager_in c.conductor)
   pub seen : seen_by r.reader ≡ writes_of (manager_in c.conductor)
   pub loads : loads_of r.reader ≡ []
@@ -88,7 +88,7 @@ pub record TakesReceiver (c : ConductorSide) (r : Listening) (d : ConductorSide)
 -- a reader of this conductor's values was taken back, with its share: what it loaded are values after first parts of
 -- the writes
 pub record TakesReader (c : ConductorSide) (r : ReaderSide) (d : ConductorSide) : Type 0 where
-  pub lender : lends_values r.values ≡ Some (shared_by c)
+  pub lender : conductor_of r.values ≡ Some (shared_by c)
   pub shares : value_shares_of d.conductor ≡ value_shares_of c.conductor + 1
   pub loads : AreLoads (made_of r.reader) (loads_of r.reader) (writes_of (manager_in d.conductor))
   pub keeps : KeepsCounters c d
@@ -102,7 +102,7 @@ abbrev pub lends_client : ClientSide → Option Shared
 lends_client k = Some (arc_value k.shared)
 
 abbrev pub lends_reader : ReaderSide → Option Shared
-lends_reader r = lends_values r.values
+lends_reader r = conductor_of r.values
 
 abbrev pub lends_receiver : Listening → Option Shared
 lends_receiver r = r.lender

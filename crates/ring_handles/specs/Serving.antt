@@ -5,30 +5,23 @@ use Rattle.ring_board.specs.declared.board.Board.{Board}
 use Rattle.ring_counters.specs.declared.values.seats.CounterValues.{CounterValues}
 use Rattle.ring_handles.specs.declared.identity.Identity.{Identity}
 use Rattle.ring_handles.specs.declared.lending.Shared.{Shared}
-use Rattle.ring_handles.specs.declared.lending.AnyBoard.{AnyBoard}
-use Rattle.ring_handles.specs.declared.lending.AnyBoard.TheVariants as board
-use Rattle.ring_handles.specs.declared.lending.AnyValues.{AnyValues}
-use Rattle.ring_handles.specs.declared.lending.AnyValues.TheVariants as values
+use Rattle.ring_handles.specs.declared.lending.Lender.{Lender}
+use Rattle.ring_handles.specs.declared.lending.Lender.TheVariants.{Own, Lent}
 
 -- the board that a receiver listens to
-abbrev pub board_in : AnyBoard → Board
-board_in (board.Own own) = arc_value own
-board_in (board.Lent shared) = (arc_value shared).board
-
--- what a conductor shares, where the board is one's
-abbrev pub lends_board : AnyBoard → Option Shared
-lends_board (board.Own own) = None
-lends_board (board.Lent shared) = Some (arc_value shared)
+abbrev pub board_in : Lender Board → Board
+board_in (Own board) = arc_value board
+board_in (Lent shared) = (arc_value shared).board
 
 -- the values that a reader reads
-abbrev pub values_in : AnyValues → CounterValues
-values_in (values.Own own) = arc_value own
-values_in (values.Lent shared) = (arc_value shared).values
+abbrev pub values_in : Lender CounterValues → CounterValues
+values_in (Own values) = arc_value values
+values_in (Lent shared) = (arc_value shared).values
 
--- what a conductor shares, where the values are one's
-abbrev pub lends_values : AnyValues → Option Shared
-lends_values (values.Own own) = None
-lends_values (values.Lent shared) = Some (arc_value shared)
+-- what a conductor shares, where the lender is one
+abbrev pub conductor_of : {T : Type 0} → Lender T → Option Shared
+conductor_of (Own own) = None
+conductor_of (Lent shared) = Some (arc_value shared)
 
 -- it is a conductor's of this number
 abbrev pub IsNumbered : Identity → Option Shared → Type 0

@@ -79,6 +79,17 @@ side many identity ring p claims = record {
   claims = claims;
 }
 
+-- the same, of a ring of either kind
+abbrev pub side_in : AnyRing → Identity → Producer → List ClaimAt → Side
+side_in ring identity p claims = record {
+  many = is_many ring;
+  table = table_in ring;
+  identity = identity;
+  capacity = capacity_in ring;
+  view = view_of p;
+  claims = claims;
+}
+
 -- the producer and the claims are the ring's
 pub record IsSide (ring : AnyRing) (producer : Producer) (claims : List ClaimAt) : Type 0 where
   pub of : IsProducerIn ring producer

@@ -5,7 +5,7 @@ ghost use Rattle.ring_handles.specs.Returning.{IsRawAstray, IsRawOfThisBoard, Ta
 
 use crate::boards::{ReceiverSide, TransmitterSide};
 use crate::code::{IN_USE, OTHER_RING, RECEIVERS_OUT};
-use crate::lending::AnyBoard;
+use crate::lending::Lender;
 use crate::raw::RawReceiverSide;
 use ring_layout::ALL_SHARES;
 use std::sync::Arc;
@@ -18,7 +18,7 @@ impl TransmitterSide {
         ensures refused { IfErr result (λ r. (self.new ≡ self.old) × (r.1 ≡ receiver)
             × IsAstray self.old receiver r.0) }
     {
-        let AnyBoard::Own(_) = &receiver.board else {
+        let Lender::Own(_) = &receiver.board else {
             return Err((OTHER_RING, receiver));
         };
         if !self.identity.is(receiver.identity) {

@@ -7,7 +7,7 @@ ghost use Rattle.ring_handles.specs.Boards.{heard_out, TellsHeard, IsUnheard, Re
 use crate::code::{DONE, LAPPED, NO_MESSAGE, OUT_OF_MEMORY, SHORT_BUFFER};
 use crate::copying::copy_at;
 use crate::identity::Identity;
-use crate::lending::AnyBoard;
+use crate::lending::Lender;
 use ring_board::{Board, CopyReceiver, Transmitter};
 use std::alloc::Global;
 use std::marker::Model;
@@ -43,7 +43,7 @@ impl Model for TransmitterSide {
 /// A receiver, with its board.
 #[derive(Drop)]
 pub struct ReceiverSide {
-    pub(crate) board: AnyBoard,
+    pub(crate) board: Lender<Board>,
     /// The board's, or its conductor's.
     pub(crate) identity: Identity,
     pub(crate) receiver: CopyReceiver,
@@ -52,7 +52,7 @@ pub struct ReceiverSide {
 impl Model for ReceiverSide {
     ghost use Rattle.ring_board.specs.Seats.{capacity_of, receiver_seat, IsReceiverOf};
     ghost use Rattle.ring_handles.specs.Boards.{table_of, Listening};
-    ghost use Rattle.ring_handles.specs.Serving.{board_in, lends_board};
+    ghost use Rattle.ring_handles.specs.Serving.{board_in, conductor_of};
 
     ghost Value = { Listening };
 
@@ -60,7 +60,7 @@ impl Model for ReceiverSide {
       table = table_of (board_in a.board);
       identity = a.identity;
       capacity = capacity_of (board_in a.board);
-      lender = lends_board a.board;
+      lender = conductor_of a.board;
       seat =
           receiver_seat a.receiver;
     } };
@@ -89,7 +89,7 @@ impl TransmitterSide {
         };
         match self.board.subscribe(alloc, &mut self.transmitter) {
             Ok(receiver) => Ok(ReceiverSide {
-                board: AnyBoard::Own(board),
+                board: Lender::Own(board),
                 identity: self.identity,
                 receiver,
             }),
@@ -148,13 +148,13 @@ impl ReceiverSide {
         ensures { Received (heard_out type_id.old len.old lapped.old buffer.old)
             (heard_out type_id.new len.new lapped.new buffer.new) self.old self.new result }
     {
-        let longest = self.board.get().max_message() as usize;
+        let longest = self.board.board().max_message() as usize;
         if buffer.len() < longest {
             *len = longest;
             return SHORT_BUFFER;
         }
         hear(
-            self.board.get(),
+            self.board.board(),
             &mut self.receiver,
             type_id,
             len,

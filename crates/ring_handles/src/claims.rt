@@ -1,16 +1,16 @@
 //! The open claims of a producer, by number.
-ghost use Rattle.std.specs.Prelude.{◌≡◌, ◌≢◌, Bool, MatchOption, [], false, true};
+ghost use Rattle.std.specs.Prelude.{◌≡◌, ◌≢◌, Bool, MatchOption, []};
 ghost use Rattle.ring_layout.specs.declared.message.ClaimState.TheVariants.{Open};
 ghost use Rattle.ring_table.specs.Views.{with_claims};
-ghost use Rattle.ring_rings.specs.Seats.{claims_of, shares_of, view_of, IsProducerOf};
+ghost use Rattle.ring_rings.specs.Seats.{claims_of, shares_of, view_of, IsProducerOf, MayClaim};
 ghost use Rattle.ring_handles.specs.Claims.{aborted, AreOpen, IsNoNumber, HasIndex, Takes};
-ghost use Rattle.ring_handles.specs.Producing.{Claimed, Put, Settled};
+ghost use Rattle.ring_handles.specs.Producing.{ClaimedAs, Put, Settled};
 ghost use Rattle.ring_handles.specs.Side.{side};
 ghost use Rattle.ring_handles.specs.declared.identity.Identity.{Identity};
 
 use crate::code::{DONE, NO_CLAIM, OUT_OF_MEMORY, PUT_RANGE};
 use ring_layout::ClaimState;
-use ring_rings::{Claim, ManyToOneRing, OneToOneRing, Producer, Ring};
+use ring_rings::{Claim, Kind, Producer, Ring};
 
 /// The index of the claim of this number.
 fn index_of(claims: &[Claim], number: u64) -> Option<usize>
@@ -35,9 +35,9 @@ fn take_numbered(claims: &mut Vec<Claim>, number: u64) -> Option<Claim>
     }
 }
 
-/// Claims room in a ring of many producers, and keeps the claim. The room to keep it is made first.
-pub(crate) fn claim_many(
-    ring: &ManyToOneRing,
+/// Claims room in a ring, and keeps the claim. The room to keep it is made first.
+pub(crate) fn claim_in<K: Kind>(
+    ring: &Ring<K>,
     producer: &mut Producer,
     claims: &mut Vec<Claim>,
     type_id: i32,
@@ -45,49 +45,20 @@ pub(crate) fn claim_many(
     number: &mut u64,
 ) -> i32
     requires producer { IsProducerOf ring.now producer.old }
+    requires sole { MayClaim K.is_for_one producer.old }
     requires claims { AreOpen ring.now producer.old claims.old.items }
     ensures producer { IsProducerOf ring.now producer.new }
+    ensures shares { shares_of producer.new ≡ shares_of producer.old }
     ensures claims { AreOpen ring.now producer.new claims.new.items }
-    ensures claimed { (identity : Identity) → Claimed type_id len number.old number.new
-        (side true identity ring.now producer.old claims.old.items)
-        (side true identity ring.now producer.new claims.new.items) result }
+    ensures claimed { (many : Bool) (identity : Identity)
+        → ClaimedAs K.claims K.refuses type_id len number.old number.new
+        (side many identity ring.now producer.old claims.old.items)
+        (side many identity ring.now producer.new claims.new.items) result }
 {
     let Ok(()) = claims.reserve(1) else {
         return OUT_OF_MEMORY;
     };
-    match ring.claim_once(producer, type_id, len) {
-        Ok(claim) => {
-            *number = claim.place();
-            claims.push_reserved(claim);
-            DONE
-        }
-        Err(fault) => fault.code(),
-    }
-}
-
-/// Claims room in a ring of one producer, and keeps the claim. The room to keep it is made first.
-pub(crate) fn claim_alone(
-    ring: &OneToOneRing,
-    producer: &mut Producer,
-    claims: &mut Vec<Claim>,
-    type_id: i32,
-    len: usize,
-    number: &mut u64,
-) -> i32
-    requires producer { IsProducerOf ring.now producer.old }
-    requires sole { shares_of producer.old ≡ 65536 }
-    requires claims { AreOpen ring.now producer.old claims.old.items }
-    ensures producer { IsProducerOf ring.now producer.new }
-    ensures sole { shares_of producer.new ≡ 65536 }
-    ensures claims { AreOpen ring.now producer.new claims.new.items }
-    ensures claimed { (identity : Identity) → Claimed type_id len number.old number.new
-        (side false identity ring.now producer.old claims.old.items)
-        (side false identity ring.now producer.new claims.new.items) result }
-{
-    let Ok(()) = claims.reserve(1) else {
-        return OUT_OF_MEMORY;
-    };
-    match ring.claim(producer, type_id, len) {
+    match K::claim_once(ring, producer, type_id, len) {
         Ok(claim) => {
             *number = claim.place();
             claims.push_reserved(claim);

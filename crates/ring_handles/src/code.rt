@@ -1,33 +1,12 @@
-//! The codes that exports answer.
+//! The codes that exports answer: 0, the number of a refusal, or what only handles refuse or tell, from 100 on.
+
+pub use ring_layout::refusal_codes::{
+    BAD_CAPACITY, BAD_COUNT, BAD_ID, BAD_OWNER, CLAIMS_OPEN, LAPPED, NO_SHARES, NOT_ALLOCATED,
+    OUT_OF_MEMORY, PRODUCERS_OUT, PUT_RANGE, RECEIVERS_OUT, TOO_LONG,
+};
 
 /// The call did what it says.
 pub const DONE: i32 = 0;
-/// A capacity is none that a ring or a board may have.
-pub const BAD_CAPACITY: i32 = 1;
-/// There was no memory, or no random number for what was to be made.
-pub const OUT_OF_MEMORY: i32 = 3;
-/// The command is too long.
-pub const TOO_LONG: i32 = 5;
-/// Bytes do not lie inside a claim.
-pub const PUT_RANGE: i32 = 9;
-/// Claims of the producer are open.
-pub const CLAIMS_OPEN: i32 = 10;
-/// Shares of the ring are with other producers.
-pub const PRODUCERS_OUT: i32 = 11;
-/// One share is left, and is needed.
-pub const NO_SHARES: i32 = 12;
-/// The receiver was lapped.
-pub const LAPPED: i32 = 13;
-/// Shares of the board are with receivers.
-pub const RECEIVERS_OUT: i32 = 14;
-/// The number of counters is 0 or above 4,096.
-pub const BAD_COUNT: i32 = 15;
-/// The id is not below the number of counters.
-pub const BAD_ID: i32 = 20;
-/// No counter with this id is in use.
-pub const NOT_ALLOCATED: i32 = 21;
-/// The owner is 0.
-pub const BAD_OWNER: i32 = 28;
 /// The handle is empty.
 pub const NO_HANDLE: i32 = 100;
 /// The handle stands for something else.

@@ -6,7 +6,7 @@ ghost use Rattle.ring_counters.specs.Seats.{IsReaderOf};
 ghost use Rattle.ring_handles.specs.Serving.{values_in};
 
 use crate::identity::Identity;
-use crate::lending::AnyValues;
+use crate::lending::Lender;
 use ring_counters::{CounterValues, CountersManager, ValueReader};
 use std::sync::Arc;
 
@@ -23,7 +23,7 @@ pub struct CountersSide {
 /// A reader of the values of counters, with those.
 #[derive(Drop)]
 pub struct ReaderSide {
-    pub(crate) values: AnyValues,
+    pub(crate) values: Lender<CounterValues>,
     /// The counters', or their conductor's.
     pub(crate) identity: Identity,
     pub(crate) reader: ValueReader,

@@ -1,7 +1,6 @@
 //! What a conductor shares with its handles.
 ghost use Rattle.std.specs.Prelude.{◌≡◌, false, true};
-ghost use Rattle.ring_handles.specs.Serving.{board_in, lends_board, lends_values, values_in};
-ghost use Rattle.ring_handles.specs.Serving.{IsNumbered, IsNumberedOtherwise};
+ghost use Rattle.ring_handles.specs.Serving.{board_in, conductor_of, values_in, IsNumbered, IsNumberedOtherwise};
 
 use crate::identity::Identity;
 use ring_board::Board;
@@ -20,68 +19,48 @@ pub struct Shared {
     pub(crate) values: CounterValues,
 }
 
-impl Shared {
-    /// Tests whether a board is a conductor's of the same number.
-    pub(crate) fn lends_board(&self, board: &AnyBoard) -> bool
-        ensures lent { result ≡ true → IsNumbered self.now.identity (lends_board board.now) }
-        ensures foreign { result ≡ false → IsNumberedOtherwise self.now.identity (lends_board board.now) }
-    {
-        match board {
-            AnyBoard::Own(_) => false,
-            AnyBoard::Lent(shared) => shared.identity.is(self.identity),
-        }
-    }
-
-    /// Tests whether values are a conductor's of the same number.
-    pub(crate) fn lends_values(&self, values: &AnyValues) -> bool
-        ensures lent { result ≡ true → IsNumbered self.now.identity (lends_values values.now) }
-        ensures foreign { result ≡ false → IsNumberedOtherwise self.now.identity (lends_values values.now) }
-    {
-        match values {
-            AnyValues::Own(_) => false,
-            AnyValues::Lent(shared) => shared.identity.is(self.identity),
-        }
-    }
-}
-
-/// A board that a handle listens to.
+/// Where a handle has its board, or its values, from.
 #[derive(Drop)]
-pub enum AnyBoard {
-    /// Handles of the board alone share it.
-    Own(Arc<Board>),
+pub enum Lender<T> {
+    /// Handles of it alone share it.
+    Own(Arc<T>),
     /// It is a conductor's.
     Lent(Arc<Shared>),
 }
 
-impl AnyBoard {
-    /// The board.
-    pub(crate) fn get(&self) -> &Board
-        ensures { result.now ≡ board_in self.now }
+impl Shared {
+    /// Tests whether the lender is a conductor of the same number.
+    pub(crate) fn lends<T>(&self, lender: &Lender<T>) -> bool
+        ensures lent { result ≡ true → IsNumbered self.now.identity (conductor_of lender.now) }
+        ensures foreign { result ≡ false → IsNumberedOtherwise self.now.identity (conductor_of lender.now) }
     {
-        match self {
-            AnyBoard::Own(board) => board,
-            AnyBoard::Lent(shared) => &shared.board,
+        match lender {
+            Lender::Own(_) => false,
+            Lender::Lent(shared) => shared.identity.is(self.identity),
         }
     }
 }
 
-/// Values of counters that a handle reads.
-#[derive(Drop)]
-pub enum AnyValues {
-    /// Handles of the counters alone share them.
-    Own(Arc<CounterValues>),
-    /// They are a conductor's.
-    Lent(Arc<Shared>),
+impl Lender<Board> {
+    /// The board.
+    pub(crate) fn board(&self) -> &Board
+        ensures { result.now ≡ board_in self.now }
+    {
+        match self {
+            Lender::Own(board) => board,
+            Lender::Lent(shared) => &shared.board,
+        }
+    }
 }
 
-impl AnyValues {
+impl Lender<CounterValues> {
     /// The values.
-    pub(crate) fn get(&self) -> &CounterValues
+    pub(crate) fn values(&self) -> &CounterValues
         ensures { result.now ≡ values_in self.now }
     {
         match self {
-            AnyValues::Own(values) => values,
-            AnyValues::Lent(shared) => &shared.values,
+            Lender::Own(values) => values,
+            Lender::Lent(shared) => &shared.values,
         }
     }
 }

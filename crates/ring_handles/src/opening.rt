@@ -159,7 +159,7 @@ pub fn open_board(
     )
 }
 
-/// Makes so many counters, of which none is used, with all shares of their values. Their numbers are used again
+/// Makes so many counters, of which none is used, with all shares of their values. Their ids are used again
 /// `reuse_ms` milliseconds after they were freed.
 ///
 /// The code of the library's refusal comes for a number that no counters may have, and 3 where there is no memory.

@@ -1,15 +1,18 @@
 //! A producer in a handle.
-ghost use Rattle.std.specs.Prelude.{◌≡◌, IfErr, IfOk, OnOk};
+ghost use Rattle.std.specs.Prelude.{◌≡◌, Bool, IfErr, IfOk, List, OnOk};
 ghost use Rattle.ring_layout.specs.declared.message.ClaimState.TheVariants.{Aborted, Committed};
-ghost use Rattle.ring_handles.specs.Producing.{closing, positions, Claimed, Counted, Drew, HeardBeat, IsApart, WhyNotSplit, Positioned, Put, Settled, Splits, TakesIn, Wrote};
-ghost use Rattle.ring_handles.specs.Side.{AreOfOneRing};
+ghost use Rattle.ring_handles.specs.Producing.{closing, positions, Claimed, Counted, Drew, HeardBeat, IsApart, WhyNotSplit, Positioned, Put, Settled, Splits, TakesIn, Wrote, WroteAs};
+ghost use Rattle.ring_handles.specs.Side.{side, AreOfOneRing};
+ghost use Rattle.ring_handles.specs.declared.identity.Identity.{Identity};
+ghost use Rattle.ring_rings.specs.Seats.{shares_of, IsProducerOf, KeepsClaims, MayClaim};
+ghost use Rattle.ring_words.specs.Open.{ClaimAt};
 
-use crate::claims::{abort_all, claim_alone, claim_many, put_in, settle_in};
+use crate::claims::{abort_all, claim_in, put_in, settle_in};
 use crate::code::{DONE, NO_SHARES, OTHER_RING, OUT_OF_MEMORY, WRONG_HANDLE};
 use crate::identity::Identity;
 use crate::ring::{AnyRing, on_ring};
 use ring_layout::ClaimState;
-use ring_rings::{Claim, Producer};
+use ring_rings::{Claim, Kind, Producer, Ring};
 use std::alloc::Global;
 use std::marker::Model;
 use std::sync::Arc;
@@ -26,22 +29,30 @@ pub struct ProducerSide {
 }
 
 impl Model for ProducerSide {
-    ghost use Rattle.ring_rings.specs.Seats.{view_of};
-    ghost use Rattle.ring_handles.specs.Side.{capacity_in, is_many, table_in, IsSide, Side};
+    ghost use Rattle.ring_handles.specs.Side.{side_in, IsSide, Side};
 
     ghost Value = { Side };
 
-    ghost view = { λ a. record {
-      many = is_many a.ring;
-      table = table_in a.ring;
-      identity = a.identity;
-      capacity = capacity_in a.ring;
-      view =
-          view_of a.producer;
-      claims = a.claims.items;
-    } };
+    ghost view = { λ a. side_in a.ring a.identity a.producer a.claims.items };
 
     ghost invariant = { λ a. IsSide a.ring a.producer a.claims.items };
+}
+
+/// Writes a message into a ring, by one try.
+fn write_in<K: Kind>(ring: &Ring<K>, producer: &mut Producer, type_id: i32, body: &[u8]) -> i32
+    requires producer { IsProducerOf ring.now producer.old }
+    requires sole { MayClaim K.is_for_one producer.old }
+    ensures producer { IsProducerOf ring.now producer.new }
+    ensures shares { shares_of producer.new ≡ shares_of producer.old }
+    ensures claims { KeepsClaims ring.now producer.old producer.new }
+    ensures wrote { (many : Bool) (identity : Identity) (claims : List ClaimAt)
+        → WroteAs K.writes K.refuses type_id body.now (side many identity ring.now producer.old claims)
+        (side many identity ring.now producer.new claims) result }
+{
+    match K::write_once(ring, producer, type_id, body) {
+        Ok(()) => DONE,
+        Err(fault) => fault.code(),
+    }
 }
 
 impl ProducerSide {
@@ -49,40 +60,21 @@ impl ProducerSide {
     pub fn write(&mut self, type_id: i32, body: &[u8]) -> i32
         ensures { Wrote type_id body.now self.old self.new result }
     {
-        match &self.ring {
-            AnyRing::Many(ring) => match ring.write_once(&mut self.producer, type_id, body) {
-                Ok(()) => DONE,
-                Err(fault) => fault.code(),
-            },
-            AnyRing::One(ring) => match ring.write(&mut self.producer, type_id, body) {
-                Ok(()) => DONE,
-                Err(fault) => fault.code(),
-            },
-        }
+        on_ring!(self.ring, ring => write_in(ring, &mut self.producer, type_id, body))
     }
 
     /// Claims room for a message, and keeps the claim.
     pub fn claim(&mut self, type_id: i32, len: usize, number: &mut u64) -> i32
         ensures { Claimed type_id len number.old number.new self.old self.new result }
     {
-        match &self.ring {
-            AnyRing::Many(ring) => claim_many(
-                ring,
-                &mut self.producer,
-                &mut self.claims,
-                type_id,
-                len,
-                number,
-            ),
-            AnyRing::One(ring) => claim_alone(
-                ring,
-                &mut self.producer,
-                &mut self.claims,
-                type_id,
-                len,
-                number,
-            ),
-        }
+        on_ring!(self.ring, ring => claim_in(
+            ring,
+            &mut self.producer,
+            &mut self.claims,
+            type_id,
+            len,
+            number,
+        ))
     }
 
     /// Puts bytes into the open claim of this number.

@@ -1,11 +1,11 @@
 //! What readers of counters' values do.
 ghost use Rattle.std.specs.Prelude.{◌≡◌, IfErr, IfOk, OnOk};
-ghost use Rattle.ring_handles.specs.Lending.{WhyNotLent, Lends, Loaded};
+ghost use Rattle.ring_handles.specs.Lending.{WhyNotLent, Lends, SaysValue};
 ghost use Rattle.ring_handles.specs.Returning.{IsOfOthers, IsOfThese, TakesLoads};
 
 use crate::code::{BAD_ID, DONE, NO_SHARES, OTHER_RING, OUT_OF_MEMORY};
 use crate::counters::{CountersSide, ReaderSide};
-use crate::lending::AnyValues;
+use crate::lending::Lender;
 use std::sync::Arc;
 
 impl CountersSide {
@@ -19,7 +19,7 @@ impl CountersSide {
         };
         match self.manager.reader(&self.values) {
             Ok(reader) => Ok(ReaderSide {
-                values: AnyValues::Own(values),
+                values: Lender::Own(values),
                 identity: self.identity,
                 reader,
             }),
@@ -33,7 +33,7 @@ impl CountersSide {
         ensures joined { OnOk result (TakesLoads self.old reader self.new) }
         ensures refused { IfErr result (λ r. (self.new ≡ self.old) × (r.1 ≡ reader) × IsOfOthers self.old reader r.0) }
     {
-        let AnyValues::Own(_) = &reader.values else {
+        let Lender::Own(_) = &reader.values else {
             return Err((OTHER_RING, reader));
         };
         if !self.identity.is(reader.identity) {
@@ -52,9 +52,9 @@ impl CountersSide {
 impl ReaderSide {
     /// Loads a value.
     pub fn load(&mut self, id: u32, value: &mut i64) -> i32
-        ensures { Loaded id value.old value.new self.old self.new result }
+        ensures { SaysValue id value.old value.new self.old self.new result }
     {
-        match self.values.get().load(&mut self.reader, id) {
+        match self.values.values().load(&mut self.reader, id) {
             Ok(loaded) => {
                 *value = loaded;
                 DONE

@@ -77,8 +77,8 @@ pub extern "C" fn felter_conductor_join(
     join_into!(conductor, client, alloc, Conductor(side), Client(joining) => side.join(joining))
 }
 
-/// Takes a receiver of this conductor's back, with its share, and empties its handle. 108 for a board's, and for another
-/// conductor's, which its number tells; both handles stay as they are then.
+/// Takes a receiver of this conductor's back, with its share, and empties its handle. 108 for a board's, and for
+/// another conductor's, which its number tells; both handles stay as they are then.
 #[unsafe(no_mangle)]
 pub extern "C" fn felter_conductor_join_receiver(
     alloc: Global,

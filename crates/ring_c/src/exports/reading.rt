@@ -1,7 +1,7 @@
 //! Readers of counters' values.
 ghost use Rattle.std.specs.Prelude.{◌≡◌};
 ghost use Rattle.std.specs.declared.option.Option.TheVariants.{None};
-ghost use Rattle.ring_handles.specs.Lending.{WhyNotLent, Lends, Loaded};
+ghost use Rattle.ring_handles.specs.Lending.{WhyNotLent, Lends, SaysValue};
 ghost use Rattle.ring_handles.specs.Kinds.{a_reader, some_counters};
 ghost use Rattle.ring_c.specs.Told.{Gives, GivesInto, Yields};
 
@@ -42,7 +42,7 @@ pub extern "C" fn felter_reader_value(
     id: u32,
     value: &mut i64,
 ) -> i32
-    ensures { Yields a_reader (Loaded id) value.old value.new reader.old.held reader.new.held result }
+    ensures { Yields a_reader (SaysValue id) value.old value.new reader.old.held reader.new.held result }
 {
     work_on!(reader, alloc, Reader(side) => side.load(id, value))
 }

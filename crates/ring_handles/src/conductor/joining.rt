@@ -37,7 +37,7 @@ impl ConductorSide {
         ensures refused { IfErr result (λ r. (self.new ≡ self.old) × (r.1 ≡ receiver)
             × IsForeign self.old (lends_receiver receiver) r.0) }
     {
-        if !self.shared.lends_board(&receiver.board) {
+        if !self.shared.lends(&receiver.board) {
             return Err((OTHER_RING, receiver));
         }
         let ReceiverSide {
@@ -58,7 +58,7 @@ impl ConductorSide {
         ensures refused { IfErr result (λ r. (self.new ≡ self.old) × (r.1 ≡ reader)
             × IsForeign self.old (lends_reader reader) r.0) }
     {
-        if !self.shared.lends_values(&reader.values) {
+        if !self.shared.lends(&reader.values) {
             return Err((OTHER_RING, reader));
         }
         let ReaderSide {

@@ -6,7 +6,7 @@ use crate::boards::ReceiverSide;
 use crate::code::{NO_SHARES, OUT_OF_MEMORY};
 use crate::conductor::ConductorSide;
 use crate::counters::ReaderSide;
-use crate::lending::{AnyBoard, AnyValues};
+use crate::lending::Lender;
 use std::alloc::Global;
 use std::sync::Arc;
 
@@ -26,7 +26,7 @@ impl ConductorSide {
         self.shares -= 1;
         Ok(ReceiverSide {
             identity: shared.identity,
-            board: AnyBoard::Lent(shared),
+            board: Lender::Lent(shared),
             receiver,
         })
     }
@@ -42,7 +42,7 @@ impl ConductorSide {
         match self.conductor.value_reader(&shared.values) {
             Ok(reader) => Ok(ReaderSide {
                 identity: shared.identity,
-                values: AnyValues::Lent(shared),
+                values: Lender::Lent(shared),
                 reader,
             }),
             Err(_) => Err(NO_SHARES),

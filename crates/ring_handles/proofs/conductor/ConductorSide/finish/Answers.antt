@@ -23,7 +23,8 @@ returns-clause-ended c =
     record {
       ready = no_refusal _ (refusal_to me.conductor me.producer) c.finish.result c.in-Ok-finish.finished
           c.finish.ensures.refused c.in-Ok-finish.is;
-      ordered = subst (λ (s : Shared). AreOrdered (capacity_of s.ring) (start_of s.ring) cs) c.in-Ok.ensures.ok e.ordered;
+      ordered = subst (λ (s : Shared). AreOrdered (capacity_of s.ring) (start_of s.ring) cs) c.in-Ok.ensures.ok
+          e.ordered;
       received_is = e.received;
       rest = committed_of h;
       left_is = c.from.ensures ∙ rest_counts _ _ _ _ whole all;

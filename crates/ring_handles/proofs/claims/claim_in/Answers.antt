@@ -1,10 +1,10 @@
 use Rattle.std.proofs.Common.{◌∙◌, ◌++◌, ◌∷◌, [], ap, subst, sym}
 use Rattle.ring_handles.specs.Claims.{AreOpen}
 use Rattle.ring_handles.proofs.ClaimLemmas.{one_more_open}
-use Rattle.ring_handles.proofs.claims.claim_many.Goals as goal
+use Rattle.ring_handles.proofs.claims.claim_in.Goals as goal
 
 pub returns-in-Ok-claim_once-clause-claims : goal.returns-in-Ok-claim_once-clause-claims
-returns-in-Ok-claim_once-clause-claims c =
+returns-in-Ok-claim_once-clause-claims g c =
     let made = c.in-Ok-claim_once in
     let held = c.push_reserved.ensures.items ∙ ap (λ l. l ++ made.claim ∷ []) c.reserve.ensures.items in
     subst (AreOpen c.args.ring.now c.claim_once.new.producer) (sym held)
