@@ -86,8 +86,8 @@ fn check(plan: &StormPlan, report: &StormReport) -> Result<(), Fault> {
 /// Runs a storm in which each client sends so many commands. Its time runs from the start of the first thread until the
 /// last reply has come, as that of the twins nearly does; the time of the whole call, in which all is made, joined and
 /// taken apart, stands beside it. `NoContender` where the contender is no storm; `NoStorm` where its numbers are not
-/// allowed, memory or a thread is wanting, or nothing came for a long time; `WrongMessage` where commands or replies are
-/// lost; `NoSystem` where the clock cannot be read.
+/// allowed, memory or a thread is wanting, or nothing came for a long time; `WrongMessage` where commands or replies
+/// are lost; `NoSystem` where the clock cannot be read.
 pub fn run_storm<R: Clock + Threads + Sync + Wait>(
     rt: &R,
     alloc: Global,

@@ -20,7 +20,8 @@ use Rattle.ring_protocol.specs.Reply.{type_id_of, spelling_of}
 use Rattle.ring_conductor.specs.Applied.{applied}
 use Rattle.ring_conductor.specs.Fold.{Ledger, fold_of, served, at_moment, with_receivers}
 use Rattle.ring_conductor.specs.Account.{Account, IsFoldOf, account_of, entered, fresh_account, messages_in, untimed}
-use Rattle.ring_conductor.specs.Conducting.{Begins, Works}
+use Rattle.ring_layout.specs.Lists.{Begins}
+use Rattle.ring_conductor.specs.Conducting.{Works}
 use Rattle.ring_conductor.specs.Running.{Runs}
 use Rattle.ring_conductor.proofs.FinishLemmas.{messages_of-append}
 use Rattle.ring_conductor.proofs.SizeLemmas.{folds_size, fresh_again}

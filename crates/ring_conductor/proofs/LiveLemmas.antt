@@ -26,7 +26,8 @@ use Rattle.ring_board.specs.declared.shared.view.Joined.{Joined}
 use Rattle.ring_counters.specs.declared.fault.AllocateRefused.TheVariants.{LabelNotAscii, LabelTooLong}
 use Rattle.ring_counters.specs.declared.fault.IdFault.{IdFault}
 use Rattle.ring_counters.specs.Counter.{Status, Unused, Allocated, Reclaimed, Counter, unused_counter}
-use Rattle.ring_counters.specs.Registry.{Registry, allocated_in, allocation_of, answer, count_of, counter_at, fresh_registry, given, id_refusal_of, ids_of, is_allocated, is_due, is_unused, live_ids, live_of, new_counter, or_else, status_at, text_refusal_of, unused_id, with_value, without}
+use Rattle.ring_layout.specs.Lists.{or_else}
+use Rattle.ring_counters.specs.Registry.{Registry, allocated_in, allocation_of, answer, count_of, counter_at, fresh_registry, given, id_refusal_of, ids_of, is_allocated, is_due, is_unused, live_ids, live_of, new_counter, status_at, text_refusal_of, unused_id, with_value, without}
 use Rattle.ring_counters.specs.Views.{value_write}
 use Rattle.ring_counters.proofs.AgreeLemmas.{accepted_inside}
 use Rattle.ring_counters.proofs.QueueLemmas.{count_less, count_more, count_same, used_from_allocated}

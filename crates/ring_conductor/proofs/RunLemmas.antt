@@ -7,7 +7,8 @@ use Rattle.ring_conductor.specs.declared.conductor.Work.{Work}
 use Rattle.ring_conductor.specs.declared.conductor.WorkStop.{WorkStop}
 use Rattle.ring_conductor.specs.declared.conductor.WorkStop.TheVariants.{BoardEnd, Limit}
 use Rattle.ring_conductor.specs.Fold.{Ledger}
-use Rattle.ring_conductor.specs.Conducting.{Begins, Works}
+use Rattle.ring_layout.specs.Lists.{Begins}
+use Rattle.ring_conductor.specs.Conducting.{Works}
 use Rattle.ring_conductor.specs.Running.{Runs, report}
 use Rattle.ring_conductor.proofs.AccountLemmas.{runs_grow, runs_heard}
 

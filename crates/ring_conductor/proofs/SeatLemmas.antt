@@ -109,7 +109,8 @@ refused C type_id len v (Contended tail seen) w h =
 
 -- after one try to send, whatever came of it
 pub leaves : {T : Type 0} (C id : ℕ) (r : Request) (v w : View) (result : Result T SendFault)
-    → OnOk result (IsSendable r × SendsAs Writes C id r v w) → IfErr result (λ f. RefusesAs RefusesTry C id r v f w) → Leaves v w
+    → OnOk result (IsSendable r × SendsAs Writes C id r v w) → IfErr result (λ f. RefusesAs RefusesTry C id r v f w)
+    → Leaves v w
 leaves C id r v w (Ok done) sent not_sent =
     written C (type_id_of (asked r id)) (spelling_of (asked r id)) v w sent.1
 leaves C id r v w (Err fault.TooLong) sent not_sent = same v w not_sent.1

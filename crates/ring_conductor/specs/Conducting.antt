@@ -11,7 +11,6 @@ use Rattle.ring_rings.specs.Reading.{messages_of, MovesHead, IsTight, FoundUnset
 use Rattle.ring_rings.specs.Seats.{consumer_view}
 use Rattle.ring_board.specs.declared.board.Board.{Board}
 use Rattle.ring_board.specs.declared.board.Transmitter.{Transmitter}
-use Rattle.ring_board.specs.declared.shared.view.Record.{Record}
 use Rattle.ring_board.specs.declared.shared.view.View.{View as BoardView}
 use Rattle.ring_board.specs.Seats.{IsTransmitterOf, view_of}
 use Rattle.ring_counters.specs.declared.values.seats.CounterValues.{CounterValues}
@@ -73,10 +72,6 @@ pub record KeepsWhatItServes (old new : Conductor) : Type 0 where
 pub record KeepsSeats (old new : Conductor) : Type 0 where
   pub consumer : consumer_of new ≡ consumer_of old
   pub transmitter : transmitter_of new ≡ transmitter_of old
-
--- the second list begins with the first
-abbrev pub Begins : List Record → List Record → Type 0
-Begins old new = (more : List Record) × (new ≡ old ++ more)
 
 -- no counter was ever used, and no value written
 abbrev pub AreUnused : CountersManager → Type 0

@@ -181,10 +181,10 @@ pub record HasAll (hub : Hub) : Type 0 where
 -- The end ----------------------------------------------------------------------
 
 -- What is left of a storm, whether all is done or some gave up. Hub has all seats of this ring, this board and these
--- values, and with it the conductor finished: claims, no more than all commands, lie one behind the other from the ring's
--- start on. What was received, followed by what still lies in the ring, is their messages, each whole and once. What the
--- receivers copied are runs of the replies, which the closed board has, and counters and replies are the fold of what was
--- received
+-- values, and with it the conductor finished: claims, no more than all commands, lie one behind the other from the
+-- ring's start on. What was received, followed by what still lies in the ring, is their messages, each whole and once.
+-- What the receivers copied are runs of the replies, which the closed board has, and counters and replies are the fold
+-- of what was received
 pub record HasFinished {K : Type 0} (p : StormPlan) (ring : Ring K) (board : Board) (values : CounterValues)
     (e : StormEnd) : Type 0 where
   pub hub : Hub

@@ -3,7 +3,7 @@ ghost use Rattle.std.specs.Prelude.{◌≡◌, ◌++◌, ℕ, List};
 ghost use Rattle.ring_layout.specs.declared.message.Message.{Message};
 ghost use Rattle.ring_board.specs.declared.shared.view.Joined.{Joined};
 ghost use Rattle.ring_board.specs.declared.shared.view.Taken.{Taken};
-ghost use Rattle.ring_conductor.specs.Conducting.{Begins};
+ghost use Rattle.ring_layout.specs.Lists.{Begins};
 ghost use Rattle.ring_conductor.specs.Fold.{Ledger, fold_of, with_receivers};
 
 /// The fold of two lists of messages, one behind the other, is a fold of the second from where the first came to.

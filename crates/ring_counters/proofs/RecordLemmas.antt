@@ -9,8 +9,9 @@ use Rattle.std.proofs.lemmas.Nat.{mod_low, shr_high, from_le_bytes-to_le_bytes_4
 use Rattle.std.proofs.lemmas.List.{ext_get_or, length-append, length-replicate, get_or-drop, get_or_past, get_or_append_left, get_or-append_right}
 use Rattle.std.proofs.lemmas.List.Elements.{All-get_or, All-from_get_or}
 use Rattle.std.proofs.lemmas.List.FromFn.{length-map-range_with_len, get_or-map-range_with_len}
-use Rattle.ring_counters.specs.Counter.{Status, Unused, Allocated, Reclaimed, Metadata, Values, zero_padded, unused_metadata, state_of, deadline_of, word_of_bytes, state_word, label_text, metadata_word, value_word}
+use Rattle.ring_counters.specs.Counter.{Status, Unused, Allocated, Reclaimed, Metadata, Values, zero_padded, unused_metadata, state_of, deadline_of, state_word, label_text, metadata_word, value_word}
 use Rattle.ring_counters.specs.Records.{byte_at, bytes_at, status_from, metadata_of, IsMetadata, SomeMetadata, IsValues}
+use Rattle.ring_layout.specs.Bytes.{word_of_bytes}
 use Rattle.ring_layout.proofs.HeaderLemmas.{pattern_below}
 use Rattle.ring_layout.proofs.WordBytes.{byte_of_word, from_le_bytes-same}
 

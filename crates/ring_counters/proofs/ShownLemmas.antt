@@ -7,7 +7,8 @@ use Rattle.std.proofs.lemmas.Bool.{cases_lt, lt-ltb, le-ltb, le-leb, lt-leb, leb
 use Rattle.std.proofs.lemmas.List.{get_or_default, length-replicate}
 use Rattle.std.proofs.lemmas.List.Sums.{position_or_len_is}
 use Rattle.ring_counters.specs.Counter.{Status, Unused, Allocated, Reclaimed, Metadata, Values, Counter, unused_metadata, unused_values, deadline_of}
-use Rattle.ring_counters.specs.Registry.{Registry, count_of, counter_at, status_at, is_allocated, is_reclaimed, is_due, unused_id, next_id, or_else, without, allocated_in, reclaimed_in, with_value, fresh_registry}
+use Rattle.ring_layout.specs.Lists.{or_else}
+use Rattle.ring_counters.specs.Registry.{Registry, count_of, counter_at, status_at, is_allocated, is_reclaimed, is_due, unused_id, next_id, without, allocated_in, reclaimed_in, with_value, fresh_registry}
 use Rattle.ring_counters.specs.Kept.{counters_of, deadline_at, live_flags, IsKept}
 use Rattle.ring_counters.proofs.QueueLemmas.{absent_from_status, at, counter, counters_of-at, counters_of-replicate, counters_of-set, counters_of-set_metadata, counters_of-set_values, first_found, first_is_least, inside_from_status, length-counters_of, none_found, reclaimed_at, used_from_allocated, used_from_reclaimed, without_absent}
 use Rattle.ring_counters.proofs.KeptLemmas.{kept_begun, kept_changed, kept_fresh, kept_reclaimed, kept_reused, room_for_one, unused_id-kept}

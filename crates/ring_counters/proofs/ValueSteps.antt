@@ -13,7 +13,8 @@ use Rattle.ring_counters.specs.declared.values.rule.ValueWrite.{ValueWrite}
 use Rattle.ring_counters.specs.declared.values.rule.ValueLoad.{ValueLoad}
 use Rattle.ring_counters.specs.declared.values.rule.ValuesView.{ValuesView}
 use Rattle.ring_counters.specs.Views.{value_write, value_load, values_view}
-use Rattle.ring_counters.specs.ValueWrites.{value_from, value_after, Begins, AreLoads}
+use Rattle.ring_layout.specs.Lists.{Begins}
+use Rattle.ring_counters.specs.ValueWrites.{value_from, value_after, AreLoads}
 use Rattle.ring_counters.specs.ValuesRule.{sum_of_shares, KnowsWrites, ValuesRule, Loads, LearnsLoads, WritesValue}
 
 -- ---- values after writes

@@ -1,6 +1,7 @@
 -- What the two records of a counter say, and their words.
-use Rattle.std.specs.Prelude.{ℕ, ◌+◌, ◌-◌, ◌*◌, ◌^◌, ◌==◌, nat_lt, if◌then◌else◌, ℤ, pos, negsuc, List, [], ◌++◌, length, drop, replicate}
-use Rattle.std.specs.Int.{cast_unsigned, from_le_bytes, to_le_bytes, w32, w64}
+use Rattle.std.specs.Prelude.{ℕ, ◌+◌, ◌-◌, ◌*◌, ◌^◌, ◌==◌, nat_lt, if◌then◌else◌, ℤ, pos, negsuc, List, [], ◌++◌, length, replicate}
+use Rattle.std.specs.Int.{cast_unsigned, to_le_bytes, w32, w64}
+use Rattle.ring_layout.specs.Bytes.{word_of_bytes}
 
 -- a freed counter's id may be given again from a moment on
 pub data Status : Type 0 where
@@ -46,10 +47,6 @@ abbrev pub deadline_of : Status → ℕ
 deadline_of Unused = 0
 deadline_of Allocated = 2 ^ 63 - 1
 deadline_of (Reclaimed deadline) = deadline
-
--- the k-th word of these bytes, little-endian, with zeros behind them
-abbrev pub word_of_bytes : List ℕ → ℕ → ℕ
-word_of_bytes bytes k = from_le_bytes w64 (drop (8 * k) bytes)
 
 -- the state in the low half, the type id in the high half, both as patterns of 32 bits
 abbrev pub state_word : ℤ → ℤ → ℕ

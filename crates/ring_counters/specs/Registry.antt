@@ -3,6 +3,7 @@ use Rattle.std.specs.Prelude.{ℕ, ◌+◌, ◌-◌, ◌≤◌, ◌==◌, Bool, 
 use Rattle.std.specs.List.{list_all, range_with_len}
 use Rattle.std.specs.Int.{int_wrapping_add, w64}
 use Rattle.std.specs.Ordering.{int_eq}
+use Rattle.ring_layout.specs.Lists.{or_else}
 use Rattle.ring_counters.specs.declared.fault.AllocateRefused.{AllocateRefused}
 use Rattle.ring_counters.specs.declared.fault.AllocateRefused.TheVariants.{KeyTooLong, LabelTooLong, LabelNotAscii, NoFreeCounter}
 use Rattle.ring_counters.specs.declared.fault.MakeFault.{MakeFault}
@@ -64,10 +65,6 @@ due_id r now = find (λ id. is_due now (status_at r id)) r.freed
 -- the lowest id that was never used
 abbrev pub unused_id : Registry → Option ℕ
 unused_id r = position (λ c. is_unused c.metadata.status) r.counters
-
-abbrev pub or_else : Option ℕ → Option ℕ → Option ℕ
-or_else (Some id) other = Some id
-or_else None other = other
 
 abbrev pub next_id : Registry → ℕ → Option ℕ
 next_id r now = or_else (due_id r now) (unused_id r)

@@ -1,5 +1,6 @@
 -- The values after writes, and what readers load of them.
-use Rattle.std.specs.Prelude.{◌≡◌, ℕ, ◌==◌, ℤ, pos, if◌then◌else◌, List, [], ◌∷◌, ◌++◌}
+use Rattle.std.specs.Prelude.{◌≡◌, ℕ, ◌==◌, ℤ, pos, if◌then◌else◌, List, [], ◌∷◌}
+use Rattle.ring_layout.specs.Lists.{Begins}
 use Rattle.ring_counters.specs.declared.values.rule.ValueWrite.{ValueWrite}
 use Rattle.ring_counters.specs.declared.values.rule.ValueLoad.{ValueLoad}
 
@@ -11,10 +12,6 @@ value_from before id (w ∷ ws) = value_from (if w.id == id then w.value else be
 -- the value of an id after these writes: its last one, 0 where there is none
 abbrev pub value_after : ℕ → List ValueWrite → ℤ
 value_after id writes = value_from (pos 0) id writes
-
--- the second list begins with the first
-abbrev pub Begins : List ValueWrite → List ValueWrite → Type 0
-Begins xs ys = (rest : List ValueWrite) × (ys ≡ xs ++ rest)
 
 -- each of these loads gave its id's value after some first part of all writes, and no part is shorter than the one
 -- before

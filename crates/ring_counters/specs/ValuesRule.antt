@@ -6,7 +6,8 @@ use lib.ListN.{get_elem?}
 use Rattle.ring_counters.specs.declared.values.rule.ValueWrite.{ValueWrite}
 use Rattle.ring_counters.specs.declared.values.rule.ValuesView.{ValuesView}
 use Rattle.ring_counters.specs.Views.{value_write, value_load, values_view}
-use Rattle.ring_counters.specs.ValueWrites.{value_after, Begins, AreLoads}
+use Rattle.ring_layout.specs.Lists.{Begins}
+use Rattle.ring_counters.specs.ValueWrites.{value_after, AreLoads}
 
 abbrev pub sum_of_shares : List ValuesView → ℕ
 sum_of_shares [] = 0

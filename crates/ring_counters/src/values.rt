@@ -5,7 +5,8 @@ pub(crate) mod seats;
 ghost use Rattle.std.specs.Prelude.{◌≡◌, ℕ, ◌+◌, ◌<◌, ◌≤◌, ◌↔◌, List, [], ◌∷◌, ◌++◌, IfOk, IfErr, IsOk};
 ghost use Rattle.ring_counters.specs.declared.values.rule.ValueWrite.{ValueWrite};
 ghost use Rattle.ring_counters.specs.Views.{value_write, value_load};
-ghost use Rattle.ring_counters.specs.ValueWrites.{value_after, Begins, AreLoads};
+ghost use Rattle.ring_layout.specs.Lists.{Begins};
+ghost use Rattle.ring_counters.specs.ValueWrites.{value_after, AreLoads};
 ghost use Rattle.ring_counters.specs.Seats.{IsReaderOf, IsWriterOf, loads_of, made_of, seen_by};
 ghost use Rattle.ring_counters.specs.Seats.{values_count, writer_writes};
 

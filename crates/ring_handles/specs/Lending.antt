@@ -4,7 +4,8 @@ use Rattle.std.specs.Prelude.{◌≡◌, ◌⊎◌, ◌<◌, ◌≤◌, ℕ, ◌
 use Rattle.std.specs.Arc.{arc_value}
 use Rattle.ring_counters.specs.Manager.{registry_of, shares_of, writes_of}
 use Rattle.ring_counters.specs.Seats.{loads_of, made_of, seen_by, values_count}
-use Rattle.ring_counters.specs.ValueWrites.{value_after, Begins}
+use Rattle.ring_layout.specs.Lists.{Begins}
+use Rattle.ring_counters.specs.ValueWrites.{value_after}
 use Rattle.ring_counters.specs.Views.{value_load}
 use Rattle.ring_handles.specs.declared.counters.CountersSide.{CountersSide}
 use Rattle.ring_handles.specs.declared.counters.ReaderSide.{ReaderSide}

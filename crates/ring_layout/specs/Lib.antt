@@ -4,4 +4,6 @@ pub mod Headers
 pub mod Picture
 pub mod Handles
 pub mod Layout
+pub mod Bytes
+pub mod Lists
 pub mod Refusals

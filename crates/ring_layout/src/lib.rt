@@ -2,7 +2,7 @@
 //!
 //! - `ring_buffer_descriptor`, `broadcast_buffer_descriptor`, `counter_descriptor`: where each word lies. `formats`
 //!   holds the rows of the formats against them.
-//! - `record_descriptor`, `word_bytes`: headers of records, and bytes inside a word.
+//! - `record_descriptor`, `word_bytes`: headers of records, and bytes inside words.
 //! - `capacity`, `placement`, `admission`: which capacities there are, where a record goes, and whether it may.
 //! - `make_fault`, `share`, `refusal_codes`: the refusals that several crates have, and the number of each.
 //! - `message`, `picture_law`: messages and claims as contracts name them, and what a word of a ring depends on.
@@ -34,4 +34,4 @@ pub use record_descriptor::{
     unpack_header,
 };
 pub use share::{ALL_SHARES, NoShares, has_spare_share};
-pub use word_bytes::{first_word, get_byte_word, put_bytes_word, put_part, put_word};
+pub use word_bytes::{first_word, get_byte_word, put_bytes_word, put_part, put_word, store_bytes};

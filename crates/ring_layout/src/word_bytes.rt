@@ -1,6 +1,7 @@
-//! Bytes inside a word, the first one lowest.
-ghost use Rattle.std.specs.Prelude.{◌≡◌, ◌+◌, ◌-◌, ◌*◌, ◌/◌, ◌%◌, ◌^◌, ◌<◌, ◌≤◌, length, slice_index, take};
+//! Bytes inside a word, the first one lowest, and bytes in several words.
+ghost use Rattle.std.specs.Prelude.{◌≡◌, ℕ, ◌+◌, ◌-◌, ◌*◌, ◌/◌, ◌%◌, ◌^◌, ◌<◌, ◌≤◌, length, slice_index, take};
 ghost use Rattle.std.specs.Int.{from_le_bytes, to_le_bytes, w64};
+ghost use Rattle.ring_layout.specs.Bytes.{HoldsBytes};
 ghost use Rattle.ring_layout.specs.History.{overwritten};
 
 /// The word with these bytes in place of its own from the byte `at` on. The bytes lie inside the word.
@@ -46,6 +47,25 @@ fn padded_word(bytes: &[u8]) -> u64
         byte_or_zero(bytes, 6),
         0,
     ])
+}
+
+/// Stores bytes in the words from the index `at` on, with zeros up to the end of their last word.
+///
+/// A word of the slice holds 8 of them, the first one lowest. The words before and behind stay as they were.
+#[inline]
+pub fn store_bytes(words: &mut [u64], at: usize, bytes: &[u8])
+    requires { at + (length bytes.now + 7) / 8 ≤ length words.old }
+    ensures inside { HoldsBytes words.new at bytes.now }
+    ensures below { (i : ℕ) → i < at → slice_index words.new i ≡ slice_index words.old i }
+    ensures above { (i : ℕ) → at + (length bytes.now + 7) / 8 ≤ i → slice_index words.new i ≡ slice_index words.old i }
+{
+    let whole = bytes.len() / 8;
+    for k in 0..whole {
+        words[at + k] = first_word(&bytes[8 * k..8 * k + 8]);
+    }
+    if bytes.len() % 8 > 0 {
+        words[at + whole] = first_word(&bytes[8 * whole..]);
+    }
 }
 
 /// Writes the 8 bytes of a word over those from `at` on.

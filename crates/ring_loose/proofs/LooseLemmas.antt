@@ -112,8 +112,8 @@ same_seats ring old new c claims seats is keeps =
     }
 
 -- a claim that was held is settled
-pub settled_seats : {K : Type 0} (ring : Ring K) (old new : Producer) (c : Consumer) (claims left : List (Option ClaimAt))
-    (n : ℕ) (t : ClaimAt) (s : ClaimState) → s ≢ Open → AreSeats ring old c claims → Goes t claims n left
+pub settled_seats : {K : Type 0} (ring : Ring K) (old new : Producer) (c : Consumer)
+    (claims left : List (Option ClaimAt)) (n : ℕ) (t : ClaimAt) (s : ClaimState) → s ≢ Open → AreSeats ring old c claims → Goes t claims n left
     → IsProducerOf ring new → KeepsOthers ring t.place old new
     → view_of new ≡ with_changed t.place (staged (Stored s)) (view_of old) → AreSeats ring new c left
 settled_seats ring old new c claims left n t s settled seats taken is others change = record {

@@ -1,8 +1,7 @@
 -- What a running read does: v is the consumer's view before a turn, w the view after it, and `scan` how far the read
 -- had come.
-use Rattle.std.specs.Prelude.{◌≡◌, ◌≢◌, ℕ, ◌+◌, ◌/◌, ◌%◌, ◌*◌, ◌≤◌, ◌<◌, List, [], ◌∷◌, ◌++◌, length, slice_index, take, All, ℤ, pos, Bool, true, false}
+use Rattle.std.specs.Prelude.{◌≡◌, ◌≢◌, ℕ, ◌+◌, ◌/◌, ◌%◌, ◌*◌, ◌≤◌, ◌<◌, List, [], ◌∷◌, ◌++◌, length, slice_index, take, All, ℤ, pos}
 use Rattle.ring_words.specs.declared.read.action.Action.{Action}
-use Rattle.ring_words.specs.declared.read.action.Action.TheVariants.{Continue}
 use Rattle.ring_layout.specs.declared.message.Message.{Message}
 use Rattle.ring_layout.specs.History.{IsMessage, span}
 use Rattle.ring_layout.specs.Headers.{header}
@@ -102,15 +101,6 @@ abbrev pub Finds : ℕ → ℕ → List PlacedMessage → Found → View → Vie
 Finds C scan got Nothing v w = FindsNothing C scan got v w
 Finds C scan got (Quiet n) v w = FindsQuiet C scan got v n w
 Finds C scan got (OneMessage type_id len) v w = FindsOne C scan got v type_id len w
-
--- the action that a read goes by: the handler's, where it heeds that
-abbrev pub heard : Bool → Action → Action
-heard true a = a
-heard false a = Continue
-
--- a handler's step, with the action that the read goes by
-abbrev pub heeded : {S : Type 0} → Bool → (S → Message → S → Action → Type 0) → S → Message → S → Action → Type 0
-heeded heeds step s m t a = (b : Action) × step s m t b × (a ≡ heard heeds b)
 
 -- a message with a record of n bytes was shown, and the read goes by the action a
 pub record ShowsOne {S : Type 0} (step : S → Message → S → Action → Type 0) (C scan : ℕ) (got : List PlacedMessage)

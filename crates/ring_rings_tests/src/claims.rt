@@ -18,7 +18,8 @@ const OUTSIDE: [Fill<'static>; 3] = [
     (8, &[], true),
 ];
 
-/// Place and index of the second of two claims, and what is read when it was committed, and then when the first one was.
+/// Place and index of the second of two claims, and what is read when it was committed, and then when the first one
+/// was.
 fn settles_the_second_first<K: Kind>(
     alloc: Global,
     script: &mut Script<'_>,

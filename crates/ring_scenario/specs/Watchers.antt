@@ -4,7 +4,8 @@ use Rattle.ring_counters.specs.declared.values.seats.CounterValues.{CounterValue
 use Rattle.ring_counters.specs.declared.values.seats.ValueReader.{ValueReader}
 use Rattle.ring_counters.specs.declared.values.rule.ValueWrite.{ValueWrite}
 use Rattle.ring_counters.specs.Seats.{IsReaderOf, loads_of, seen_by}
-use Rattle.ring_counters.specs.ValueWrites.{Begins, value_after}
+use Rattle.ring_layout.specs.Lists.{Begins}
+use Rattle.ring_counters.specs.ValueWrites.{value_after}
 use Rattle.ring_counters.specs.Views.{value_load}
 use Rattle.ring_loose.specs.Held.{Comes, Goes, HasAt, Stays, held_in}
 use Rattle.ring_loose.specs.declared.numbered.Numbered.{Numbered}

@@ -14,7 +14,8 @@ use Rattle.ring_snapshot.specs.declared.board_finding.BoardFinding.{BoardFinding
 use Rattle.ring_snapshot.specs.declared.board_finding.BoardFinding.TheVariants.{UnalignedPosition, TailBeforeLatest, IntentBeforeTail, TailTooFar, IntentTooFar, OutsideOfRecords, BadLength, BadType}
 use Rattle.ring_snapshot.specs.declared.board.BoardRecords.{BoardRecords}
 use Rattle.ring_snapshot.specs.declared.board.BoardSnapshot.{BoardSnapshot}
-use Rattle.ring_snapshot.specs.Listing.{up_to_eight, lies_inside, listed_by, ok_records, or_else}
+use Rattle.ring_layout.specs.Lists.{or_else}
+use Rattle.ring_snapshot.specs.Listing.{up_to_eight, lies_inside, listed_by, ok_records}
 use Rattle.ring_snapshot.specs.RingRecords.{length_in, type_in, is_padding_type}
 
 abbrev pub BoardEntry : Type 0

@@ -1,5 +1,5 @@
 -- One record behind the other, of a ring or of a board. R is what a record is, F what may be wrong with the words.
-use Rattle.std.specs.Prelude.{ℕ, zero, suc, ◌+◌, ◌*◌, ◌/◌, Bool, ◌&&◌, nat_le, if◌then◌else◌, List, [], ◌∷◌, Result, Ok, Err, Option, Some, None}
+use Rattle.std.specs.Prelude.{ℕ, zero, suc, ◌+◌, ◌*◌, ◌/◌, Bool, ◌&&◌, nat_le, if◌then◌else◌, List, [], ◌∷◌, Result, Ok, Err}
 use Rattle.ring_layout.specs.Places.{room}
 
 -- the bytes from a record's begin to the next one's
@@ -25,8 +25,3 @@ listed_by length_of entry tail (suc n) at =
 abbrev pub ok_records : {R F : Type 0} → List R → List (Result R F)
 ok_records [] = []
 ok_records (r ∷ rs) = Ok r ∷ ok_records rs
-
--- the first finding of two
-abbrev pub or_else : {F : Type 0} → Option F → Option F → Option F
-or_else (Some finding) other = Some finding
-or_else None other = other

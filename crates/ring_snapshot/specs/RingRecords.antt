@@ -11,7 +11,8 @@ use Rattle.ring_layout.specs.Picture.{word_at}
 use Rattle.ring_layout.specs.Headers.{padding_type}
 use Rattle.ring_layout.specs.Layout.{tail_index, head_index}
 use Rattle.ring_counters.specs.Records.{bytes_at}
-use Rattle.ring_snapshot.specs.Listing.{up_to_eight, lies_inside, listed_by, or_else}
+use Rattle.ring_layout.specs.Lists.{or_else}
+use Rattle.ring_snapshot.specs.Listing.{up_to_eight, lies_inside, listed_by}
 use Rattle.ring_snapshot.specs.declared.record.Record.{Record}
 use Rattle.ring_snapshot.specs.declared.record.RecordState.{RecordState}
 use Rattle.ring_snapshot.specs.declared.record.RecordState.TheVariants.{Open, Committed, Aborted, AbortedOrPadding, Unstored}

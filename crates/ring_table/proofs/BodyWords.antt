@@ -90,7 +90,8 @@ unfolding body_word
 body_word-with_word_other body at other word le a8 o8 ne =
     from_le_bytes-same (drop other (with_word at word body)) (drop other body) (λ i lt.
     get_or-drop other (with_word at word body) i 0
-    ∙ elim (cases_lt other at) as (λ _. slice_index (with_word at word body) (other + i) ≡ slice_index body (other + i)) [
+    ∙ elim (cases_lt other at) as (λ _. slice_index (with_word at word body) (other + i)
+    ≡ slice_index body (other + i)) [
       | inl low ↦ before at word body (other + i) le (omega arith)
       | inr high ↦ behind at word body (other + i) le (omega arith)
     ]

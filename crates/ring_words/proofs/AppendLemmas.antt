@@ -7,7 +7,7 @@ use Rattle.std.proofs.lemmas.Bool.{cases_lt, lt-ltb, le-ltb, cond-true, cond-fal
 use Rattle.std.proofs.lemmas.List.{length-set, get_or-drop, get_or-replicate, get_or_past, length-replicate}
 use Rattle.std.proofs.lemmas.Nat.{mod_below}
 use Rattle.ring_layout.specs.declared.message.Claim.{Claim}
-use Rattle.ring_layout.specs.History.{IsMessage, span_of}
+use Rattle.ring_layout.specs.History.{IsMessage, span, span_of}
 use Rattle.ring_layout.specs.Places.{index, next_place}
 use Rattle.ring_layout.specs.Headers.{header_of, open_header, padding_header}
 use Rattle.ring_layout.specs.Layout.{tail_index}
@@ -26,6 +26,11 @@ length-padded C tail place ws =
     elim (nat_lt tail place) as (λ b. length
     (if b then slice_set ws (index C tail) (padding_header (place - tail)) else ws) ≡ length ws)
     [ true ↦ length-set ws _ _ | false ↦ refl ]
+
+-- an admitted claim does not lie before the tail
+pub tail_first : (r : Ring) (tail len place end : ℕ) → tail ≡ tail_of r → IsAdmitted r len place end → tail ≤ place
+tail_first r tail len place end at admitted =
+    omega (arith, at, admitted.is_place, next_le r.capacity (tail_of r) (span len))
 
 -- a body of zeros is words of zero
 pub zero_words : (n k : ℕ) → from_le_bytes w64 (drop k (replicate n 0)) ≡ 0

@@ -7,6 +7,8 @@ pub mod TakeLemmas
 pub mod BodyLemmas
 pub mod ReadLemmas
 pub mod ReadTurns
+pub mod HeedLemmas
+pub mod ReadHeeds
 pub mod UniqueLemmas
 pub mod MiddleLemmas
 pub mod OpenLemmas

@@ -5,7 +5,7 @@ use Rattle.std.proofs.lemmas.List.Elements.{All-append, All-cons, All-tail, All-
 use Rattle.ring_words.specs.Ring.{Ring, ring, Has, IsRing, head_of, tail_of}
 use Rattle.ring_words.specs.Open.{ClaimAt, IsOpen, IsOpenClaim, IsOpenIn}
 use Rattle.ring_words.specs.Change.{ChangesClaim, changed_at}
-use Rattle.ring_words.specs.Storing.{HoldsBody}
+use Rattle.ring_layout.specs.Bytes.{HoldsBytes}
 use Rattle.ring_words.proofs.OpenLemmas.{Stands, open_stands, open_replaced, changed_at_there}
 use Rattle.ring_words.proofs.UniqueLemmas.{open_in_each}
 use Rattle.ring_words.proofs.StoreLemmas.{record_inside}
@@ -154,7 +154,7 @@ lies r front back c place ok has is =
 -- the words of the ring hold the claim's body
 pub holds : (r : Ring) (front back : List Claim) (c : Claim) (place : ℕ) → IsRing r → Has r (front ++ c ∷ back)
     → place_behind r.capacity (head_of r) front c ≡ place
-    → HoldsBody r.words (index r.capacity place + 1) c.message.body
+    → HoldsBytes r.words (index r.capacity place + 1) c.message.body
 holds r front back c place ok has is = λ k lt.
     let C : ℕ = r.capacity in
     let c8 : C % 8 ≡ 0 = omega (arith, capacity_blocks C ok.capacity) in
@@ -183,8 +183,8 @@ pub record Rewrites (r : Ring) (t : ClaimAt) (change : Claim → Claim) (new : L
       → slice_index r.words (index r.capacity t.place) ≡ header_of c
       → slice_index new (index r.capacity t.place) ≡ header_of (change c)
   pub body_words : (c : Claim) → length c.message.body ≡ t.len → IsMessage r.capacity c.message
-      → HoldsBody r.words (index r.capacity t.place + 1) c.message.body
-      → HoldsBody new (index r.capacity t.place + 1) (change c).message.body
+      → HoldsBytes r.words (index r.capacity t.place + 1) c.message.body
+      → HoldsBytes new (index r.capacity t.place + 1) (change c).message.body
   pub others : (i : ℕ) → (i < index r.capacity t.place) ⊎ (index r.capacity t.place + span t.len / 8 ≤ i)
       → slice_index new i ≡ slice_index r.words i
 

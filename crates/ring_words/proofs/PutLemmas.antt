@@ -6,7 +6,7 @@ use Rattle.std.proofs.lemmas.List.{ext_get_or, get_or-take, get_or_past, length-
 use Rattle.std.proofs.lemmas.List.Elements.{All-get_or, All-from_get_or}
 use Rattle.ring_layout.specs.History.{overwritten}
 use Rattle.ring_layout.proofs.WordBytes.{length-overwritten, overwritten_before, overwritten_inside, overwritten_behind, overwritten_word, overwritten_word_apart, overwritten_more}
-use Rattle.ring_words.specs.Storing.{HoldsBody}
+use Rattle.ring_layout.specs.Bytes.{HoldsBytes}
 
 pub overwritten_small : (at : ℕ) (bs xs : List ℕ) → at + length bs ≤ length xs → All (λ b. b < 256) xs
     → All (λ b. b < 256) bs → All (λ b. b < 256) (overwritten at bs xs)
@@ -54,8 +54,8 @@ pub holds_more : (at offset done n word : ℕ) (bytes chunk words body : List �
     → at + (offset + done) / 8 < length words
     → word ≡ from_le_bytes w64 (overwritten ((offset + done) % 8) chunk
     (to_le_bytes w64 (slice_index words (at + (offset + done) / 8))))
-    → (0 < n) → HoldsBody words at (overwritten offset (take done bytes) body)
-    → HoldsBody (slice_set words (at + (offset + done) / 8) word) at (overwritten offset (take (done + n) bytes) body)
+    → (0 < n) → HoldsBytes words at (overwritten offset (take done bytes) body)
+    → HoldsBytes (slice_set words (at + (offset + done) / 8) word) at (overwritten offset (take (done + n) bytes) body)
 holds_more at offset done n word bytes chunk words body small small' fits more size is in_word room stored some held =
     let k : ℕ = (offset + done) / 8 in
     let b : ℕ = (offset + done) % 8 in
@@ -71,7 +71,7 @@ holds_more at offset done n word bytes chunk words body small small' fits more s
     let small_mid =
     small_at mid (overwritten_small offset (take done bytes) body (omega arith) small
     (small_front done bytes (omega arith) small')) in
-    subst (λ (l : List ℕ). HoldsBody (slice_set words (at + k) word) at l) whole (λ j lt.
+    subst (λ (l : List ℕ). HoldsBytes (slice_set words (at + k) word) at l) whole (λ j lt.
     let size_new : length (overwritten (8 * k + b) chunk mid) ≡ length mid =
     length-overwritten (8 * k + b) chunk mid in_mid in
     elim (cases_eq j k) as (λ _. slice_index (slice_set words (at + k) word) (at + j)

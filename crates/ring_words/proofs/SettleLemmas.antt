@@ -11,7 +11,7 @@ use Rattle.ring_layout.proofs.WordBytes.{length-overwritten}
 use Rattle.ring_words.specs.Ring.{Ring, IsRing}
 use Rattle.ring_words.specs.Open.{ClaimAt, IsOpenClaim}
 use Rattle.ring_words.specs.Change.{put_into, settled_as}
-use Rattle.ring_words.specs.Storing.{HoldsBody}
+use Rattle.ring_layout.specs.Bytes.{HoldsBytes}
 use Rattle.ring_words.proofs.HeadLemmas.{header_open}
 use Rattle.ring_words.proofs.MiddleLemmas.{Rewrites}
 use Rattle.ring_words.proofs.PutLemmas.{overwritten_small}
@@ -45,8 +45,8 @@ settled_stays C place state d ne c e p here there = absurd (ne (sym there ∙ he
 pub put_rewrites : (r : Ring) (t : ClaimAt) (offset : ℕ) (bytes new : List ℕ) → offset + length bytes ≤ t.len
     → All (λ b. b < 256) bytes → length new ≡ length r.words
     → ((body : List ℕ) → All (λ b. b < 256) body → offset + length bytes ≤ length body
-    → HoldsBody r.words (index r.capacity t.place + 1) body
-    → HoldsBody new (index r.capacity t.place + 1) (overwritten offset bytes body))
+    → HoldsBytes r.words (index r.capacity t.place + 1) body
+    → HoldsBytes new (index r.capacity t.place + 1) (overwritten offset bytes body))
     → ((i : ℕ) → i < index r.capacity t.place + 1 → slice_index new i ≡ slice_index r.words i)
     → ((i : ℕ) → index r.capacity t.place + 1 + (offset + length bytes + 7) / 8 ≤ i
     → slice_index new i ≡ slice_index r.words i)

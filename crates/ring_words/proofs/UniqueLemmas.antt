@@ -346,30 +346,20 @@ module _ (C : ℕ) (cap : IsCapacity C) where
         ]
       ]
 
+  -- where there is a claim, the history ends behind where it begins
+  ends_behind : (e : ℕ) (c : Claim) (h : List Claim) → e < end_of C e (c ∷ h)
+  ends_behind e c h =
+      let behind = end_of_le C (end_after C e (span_of c)) h in
+      omega (arith, next_le C e (span_of c), span_bounds (length c.message.body), behind)
+
   flip : (e : ℕ) (h g : List Claim) → Same e h g → Same e g h
   flip e h g s = (sym s.0, λ p p8 le. sym (s.1 p p8 le))
 
   pub unique : (n e : ℕ) (h g : List Claim) → length h + length g ≤ n → e % 8 ≡ 0 → Lawful C h → Lawful C g → Same e h g
       → Alike C e h g
   unique n e [] [] le e8 lh lg same = record { messages = refl; claims = λ t. ((λ o. o), (λ o. o)) }
-  unique n e [] (d ∷ g) le e8 lh lg same =
-      absurd (omega (
-        arith,
-        same.0,
-        next_le C e (span_of d),
-        span_bounds (length d.message.body),
-        end_of_le C
-            (end_after C e (span_of d)) g,
-      ))
-  unique n e (c ∷ h) [] le e8 lh lg same =
-      absurd (omega (
-        arith,
-        same.0,
-        next_le C e (span_of c),
-        span_bounds (length c.message.body),
-        end_of_le C
-            (end_after C e (span_of c)) h,
-      ))
+  unique n e [] (d ∷ g) le e8 lh lg same = absurd (omega (arith, same.0, ends_behind e d g))
+  unique n e (c ∷ h) [] le e8 lh lg same = absurd (omega (arith, same.0, ends_behind e c h))
   unique zero e (c ∷ h) (d ∷ g) le e8 lh lg same = absurd (omega arith)
   unique (suc n) e (c ∷ h) (d ∷ g) le e8 lh lg same =
       let P : Claim → Type 0 = λ x. IsMessage C x.message in

@@ -1,11 +1,20 @@
 -- How a read ends that its handler controls, whatever it takes. `Takes t n`: n messages were taken, after which the
 -- handler is t. `answers` are its answers to them.
-use Rattle.std.specs.Prelude.{◌≡◌, ◌<◌, ℕ, List, [], ◌∷◌, ◌++◌, All}
+use Rattle.std.specs.Prelude.{◌≡◌, ◌<◌, ℕ, Bool, true, false, List, [], ◌∷◌, ◌++◌, All}
 use Rattle.ring_words.specs.declared.read.action.Action.{Action}
 use Rattle.ring_words.specs.declared.read.action.Action.TheVariants.{Abort, Break, Commit, Continue}
 use Rattle.ring_words.specs.declared.read.end.ReadEnd.{ReadEnd}
 use Rattle.ring_words.specs.declared.read.end.Stop.{Stop}
 use Rattle.ring_layout.specs.declared.message.Message.{Message}
+
+-- the action that a read goes by: the handler's, where it heeds that
+abbrev pub heard : Bool → Action → Action
+heard true a = a
+heard false a = Continue
+
+-- a handler's step, with the action that the read goes by
+abbrev pub heeded : {S : Type 0} → Bool → (S → Message → S → Action → Type 0) → S → Message → S → Action → Type 0
+heeded heeds step s m t a = (b : Action) × step s m t b × (a ≡ heard heeds b)
 
 -- an action after which a controlled read goes on
 abbrev pub GoesOn : Action → Type 0

@@ -74,8 +74,8 @@ WentOn step limit old new s t end = LetOn (Reads step limit old new s) (λ t n r
 -- it stopped the read by Break
 abbrev pub Broke : {S : Type 0} → (S → Message → S → Action → Type 0) → ℕ → Ring → Ring → S → S → ReadEnd → Type 0
 Broke step limit old new s t end = BrokenOff (Reads step limit old new s) (λ t n r. r.actions)
-    (λ t n r. (h : List Claim) (has : Has old h) → IsTight old.capacity (head_of old) (r.passes h has).passed (head_of new))
-    t end
+    (λ t n r. (h : List Claim) (has : Has old h)
+    → IsTight old.capacity (head_of old) (r.passes h has).passed (head_of new)) t end
 
 -- it stopped the read by Abort
 abbrev pub Aborts : {S : Type 0} → (S → Message → S → Action → Type 0) → ℕ → Ring → Ring → S → S → ReadEnd → Type 0

@@ -1,6 +1,5 @@
 -- Storing a record behind the tail.
-use Rattle.std.specs.Prelude.{◌≡◌, ℕ, ◌+◌, ◌-◌, ◌*◌, ◌%◌, ◌/◌, ◌<◌, ◌≤◌, List, [], ◌∷◌, length, drop, slice_index, slice_set, if◌then◌else◌, nat_lt}
-use Rattle.std.specs.Int.{from_le_bytes, w64}
+use Rattle.std.specs.Prelude.{◌≡◌, ℕ, ◌+◌, ◌-◌, ◌%◌, ◌/◌, ◌<◌, ◌≤◌, List, [], ◌∷◌, length, slice_index, slice_set, if◌then◌else◌, nat_lt}
 use Rattle.ring_layout.specs.declared.message.Claim.{Claim}
 use Rattle.ring_layout.specs.History.{span, span_of}
 use Rattle.ring_layout.specs.Places.{index, next_place, end_after, max_position}
@@ -20,11 +19,6 @@ pub record IsAdmitted (r : Ring) (len place end : ℕ) : Type 0 where
 abbrev pub padded : ℕ → ℕ → ℕ → List ℕ → List ℕ
 padded C tail place words =
     if nat_lt tail place then slice_set words (index C tail) (padding_header (place - tail)) else words
-
--- a body stands in the words from `at` on, with zeros to the end of its last word
-abbrev pub HoldsBody : List ℕ → ℕ → List ℕ → Type 0
-HoldsBody words at body =
-    (k : ℕ) → 8 * k < length body → slice_index words (at + k) ≡ from_le_bytes w64 (drop (8 * k) body)
 
 -- an index of a position from `from` on and before `to`
 abbrev pub IsBetween : ℕ → ℕ → ℕ → ℕ → Type 0

@@ -1,32 +1,15 @@
 //! Bodies in a slice of words.
 ghost use Rattle.std.specs.Prelude.{◌≡◌, ℕ, ◌+◌, ◌*◌, ◌/◌, ◌%◌, ◌^◌, ◌<◌, ◌≤◌, List, All, length, slice_index};
-ghost use Rattle.std.specs.Int.{from_le_bytes, w64};
+ghost use Rattle.ring_layout.specs.Bytes.{HoldsBytes};
 ghost use Rattle.ring_layout.specs.History.{overwritten};
-ghost use Rattle.ring_words.specs.Storing.{HoldsBody};
 
-use ring_layout::{first_word, put_bytes_word, put_part, put_word};
-
-/// Stores a body from the word `at` on, with zeros up to the end of its last word.
-pub(crate) fn store_body(words: &mut [u64], at: usize, body: &[u8])
-    requires { at + (length body.now + 7) / 8 ≤ length words.old }
-    ensures inside { HoldsBody words.new at body.now }
-    ensures below { (i : ℕ) → i < at → slice_index words.new i ≡ slice_index words.old i }
-    ensures above { (i : ℕ) → at + (length body.now + 7) / 8 ≤ i → slice_index words.new i ≡ slice_index words.old i }
-{
-    let whole = body.len() / 8;
-    for k in 0..whole {
-        words[at + k] = first_word(&body[8 * k..8 * k + 8]);
-    }
-    if body.len() % 8 > 0 {
-        words[at + whole] = first_word(&body[8 * whole..]);
-    }
-}
+use ring_layout::{put_bytes_word, put_part, put_word};
 
 /// Puts bytes into a body that stands in the words from `at` on, from its byte `offset` on.
 pub(crate) fn overwrite_body(words: &mut [u64], at: usize, offset: usize, bytes: &[u8])
     requires { at + (offset + length bytes.now + 7) / 8 ≤ length words.old }
     ensures inside { (body : List ℕ) → All (λ b. b < 256) body → offset + length bytes.now ≤ length body
-        → HoldsBody words.old at body → HoldsBody words.new at (overwritten offset bytes.now body) }
+        → HoldsBytes words.old at body → HoldsBytes words.new at (overwritten offset bytes.now body) }
     ensures below { (i : ℕ) → i < at → slice_index words.new i ≡ slice_index words.old i }
     ensures above { (i : ℕ) → at + (offset + length bytes.now + 7) / 8 ≤ i
         → slice_index words.new i ≡ slice_index words.old i }

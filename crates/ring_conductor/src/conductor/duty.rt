@@ -3,7 +3,8 @@
 ghost use Rattle.std.specs.Prelude.{◌≡◌, ◌^◌, ◌≤◌, []};
 ghost use Rattle.ring_rings.specs.Seats.{consumer_view, taken_of};
 ghost use Rattle.ring_board.specs.Seats.{heard_by, transmitted};
-ghost use Rattle.ring_conductor.specs.Conducting.{AreUnused, Begins, IsConductorOf, Works, work_stop};
+ghost use Rattle.ring_layout.specs.Lists.{Begins};
+ghost use Rattle.ring_conductor.specs.Conducting.{AreUnused, IsConductorOf, Works, work_stop};
 ghost use Rattle.ring_conductor.specs.Conducting.{consumer_of, manager_in, ledger_of, ring_view};
 ghost use Rattle.ring_conductor.specs.Conducting.{transmitter_of, value_shares_of};
 ghost use Rattle.ring_conductor.specs.Serving.{IsReady, IsSameHandler, ledger_of as served_of};

@@ -3,7 +3,8 @@
 ghost use Rattle.std.specs.Prelude.{◌≡◌, ◌^◌, ◌≤◌, All};
 ghost use Rattle.ring_board.specs.Seats.{heard_by, transmitted};
 ghost use Rattle.ring_conductor.specs.declared.conductor.WorkStop.TheVariants.{Limit};
-ghost use Rattle.ring_conductor.specs.Conducting.{Begins, IsConductorOf};
+ghost use Rattle.ring_layout.specs.Lists.{Begins};
+ghost use Rattle.ring_conductor.specs.Conducting.{IsConductorOf};
 ghost use Rattle.ring_conductor.specs.Conducting.{ledger_of, ring_view, transmitter_of, value_shares_of};
 ghost use Rattle.ring_conductor.specs.Running.{Runs};
 

@@ -137,7 +137,8 @@ impl<G: Gate> Shared<'_, G> {
         None
     }
 
-    /// Tells the gate that the client's newest command, which has this number, was answered. The gate is told here alone.
+    /// Tells the gate that the client's newest command, which has this number, was answered. The gate is told here
+    /// alone.
     fn tell_answered(&self, client: &StormClient, number: u32)
         requires heard { (before : Deeds) × Turns client.now.index number before (deeds_of client.now) }
     {

@@ -1,16 +1,16 @@
 //! A metadata record of 64 words.
 ghost use Rattle.std.specs.Prelude.{◌≡◌, ℕ, ◌+◌, ◌*◌, ◌/◌, ◌^◌, ◌<◌, ◌≤◌, length, slice_index};
+ghost use Rattle.ring_layout.specs.Bytes.{word_of_bytes};
 ghost use Rattle.ring_counters.specs.Counter.{Allocated, Metadata, Reclaimed, zero_padded, unused_metadata};
 ghost use Rattle.ring_counters.specs.Counter.{deadline_of, label_text, metadata_word, state_of, state_word};
-ghost use Rattle.ring_counters.specs.Counter.{word_of_bytes};
 
-use crate::records::bytes::{load_bytes, store_bytes};
+use crate::records::bytes::load_bytes;
 use ring_layout::counter_descriptor::{
     FREE_FOR_REUSE_DEADLINE_WORD, KEY_OFFSET, KEY_WORD, LABEL_LENGTH_BYTES, LABEL_OFFSET,
     LABEL_WORD, MAX_KEY_LENGTH, MAX_LABEL_LENGTH, METADATA_WORDS, NOT_FREE_FOR_REUSE,
     RECORD_ALLOCATED, RECORD_RECLAIMED, STATE_WORD,
 };
-use ring_layout::first_word;
+use ring_layout::{first_word, store_bytes};
 use std::marker::Model;
 
 #[derive(Drop)]

@@ -6,8 +6,9 @@ ghost use Rattle.ring_table.specs.Seats.{IsSameSeat};
 ghost use Rattle.ring_words.specs.Read.{stop_of};
 ghost use Rattle.ring_rings.specs.Seats.{IsConsumerOf, capacity_of, consumer_view, head_of, seat_view};
 ghost use Rattle.ring_words.specs.Across.{ReadsAcross};
+ghost use Rattle.ring_words.specs.Controlled.{heeded};
 ghost use Rattle.ring_rings.specs.Reading.{Controls, FoundUnsettled, Reads, ReadsTo};
-ghost use Rattle.ring_rings.specs.ReadingSteps.{HasCome, IsInBlock, SettlesAll, heeded};
+ghost use Rattle.ring_rings.specs.ReadingSteps.{HasCome, IsInBlock, SettlesAll};
 
 use crate::consumer::turn::Turn;
 use crate::ring::{Consumer, Ring};

@@ -3,8 +3,9 @@ ghost use Rattle.std.specs.Prelude.{◌≡◌, ◌≢◌, ℕ, ◌+◌, ◌%◌,
 ghost use Rattle.ring_layout.specs.Places.{max_position};
 ghost use Rattle.ring_table.specs.declared.claim.PlacedMessage.{PlacedMessage};
 ghost use Rattle.ring_table.specs.Seats.{IsSameSeat};
+ghost use Rattle.ring_words.specs.Controlled.{heeded};
 ghost use Rattle.ring_rings.specs.Seats.{IsConsumerOf, capacity_of, head_of, seat_view};
-ghost use Rattle.ring_rings.specs.ReadingSteps.{HasCome, HasGotLast, IsAt, LoadsWholeBody, TurnIs, heeded};
+ghost use Rattle.ring_rings.specs.ReadingSteps.{HasCome, HasGotLast, IsAt, LoadsWholeBody, TurnIs};
 
 use super::find::{Found, find};
 use super::load::load_body;

@@ -86,7 +86,8 @@ impl CommandService {
     pub fn request<R: Wait>(&mut self, rt: &R, request: &Request) -> Option<Result<u64, ClaimFault>>
         ensures fits { IsSome result ↔ FitsRoom request.now }
         ensures sent { IfSome result (λ answer. IfOk answer (λ correlation. SendsRequest
-            (capacity_of self.old.ring) request.now (view_of self.old.producer) correlation (view_of self.new.producer))) }
+            (capacity_of self.old.ring) request.now (view_of self.old.producer) correlation
+            (view_of self.new.producer))) }
         ensures refused { IfSome result (λ answer. IfErr answer (λ fault. RefusesRequest
             (capacity_of self.old.ring) request.now (view_of self.old.producer) fault (view_of self.new.producer))) }
         ensures none { IfNone result (self.new.producer ≡ self.old.producer) }

@@ -1,4 +1,6 @@
 //! What a handler answers.
+ghost use Rattle.std.specs.Prelude.{◌≡◌};
+ghost use Rattle.ring_words.specs.Controlled.{heard};
 
 /// What a handler wants after a message.
 #[derive(Clone, Copy, Debug, PartialEq, Eq)]
@@ -11,4 +13,13 @@ pub enum Action {
     Commit,
     /// Go on.
     Continue,
+}
+
+impl Action {
+    /// The action that a read goes by: this one where it heeds the handler's, else `Continue`.
+    pub(crate) fn heard(self, heeds: bool) -> Action
+        ensures { result ≡ heard heeds self }
+    {
+        if heeds { self } else { Action::Continue }
+    }
 }

@@ -7,6 +7,7 @@ ghost use Rattle.ring_words.specs.Ring.{Has, IsRing, head_of};
 ghost use Rattle.ring_words.specs.Open.{ClaimAt, IsOpen};
 ghost use Rattle.ring_words.specs.Reading.{Sees, SeesCommitted, IsBlocked, Leaves, MovesHead};
 ghost use Rattle.ring_words.specs.Across.{ReadsAcross};
+ghost use Rattle.ring_words.specs.Controlled.{heeded};
 ghost use Rattle.ring_words.specs.Read.{Reads, ReadsTo, Controls, stop_of};
 
 use crate::read::action::Action;
@@ -27,15 +28,21 @@ impl SoloRing {
         settled_at_head(&self.words, self.capacity, head)
     }
 
-    /// Shows the message at the head to the handler.
-    fn show<H: Handler>(&mut self, head: u64, settled: Settled, handler: &mut H) -> Action
+    /// Shows the message at the head to the handler. Answers its action, or `Continue` where that is not heeded.
+    fn show<H: Handler>(
+        &mut self,
+        head: u64,
+        settled: Settled,
+        heeds: bool,
+        handler: &mut H,
+    ) -> Action
         requires head { head ≡ head_of self.old }
         requires seen { (h : List Claim) → Has self.old h → Sees self.old h (Some settled) }
         requires message { settled.type_id ≢ padding_type }
         requires ready { H.ready handler.old }
         ensures same { self.new ≡ self.old }
         ensures ready { H.ready handler.new }
-        ensures shown { (m : Message) × H.step handler.old m handler.new result
+        ensures shown { (m : Message) × heeded heeds H.step handler.old m handler.new result
             × ((c : Claim) (rest : List Claim) → Has self.old (c ∷ rest) → SeesCommitted self.old c settled
             → c.message ≡ m) }
     {
@@ -47,6 +54,7 @@ impl SoloRing {
             settled,
             handler,
         )
+        .heard(heeds)
     }
 
     /// Passes the settled record or padding at the head, and answers the new head.
@@ -84,6 +92,49 @@ impl SoloRing {
         }
     }
 
+    /// Reads at most `limit` messages. It heeds the handler's actions, or takes each as `Continue`.
+    #[inline]
+    fn run<H: Handler>(&mut self, limit: u32, heeds: bool, handler: &mut H) -> ReadEnd
+        requires { H.ready handler.old }
+        ensures ready { H.ready handler.new }
+        ensures controls { Controls (heeded heeds H.step) limit
+            self.old self.new handler.old handler.new result }
+        ensures within { result.messages ≤ limit }
+        ensures bytes { head_of self.old + result.bytes ≡ head_of self.new }
+        ensures blocked { result.stopped ≡ Stop.Unpublished → (h : List Claim) → Has self.new h → IsBlocked self.new h }
+        ensures claims { (t : ClaimAt) → IsOpen self.old t → IsOpen self.new t }
+    {
+        let start = self.positions().head;
+        let mut head = start;
+        let mut messages = 0;
+        'turns: loop {
+            if messages == limit {
+                return self.read_end(start, head, messages, Stop::Limit);
+            }
+            if self.is_at_end(start, head) {
+                return self.read_end(start, head, messages, Stop::Block);
+            }
+            let Some(settled) = self.settled(head) else {
+                return self.read_end(start, head, messages, Stop::Unpublished);
+            };
+            if settled.type_id == PADDING_MSG_TYPE_ID {
+                head = self.pass(head, settled);
+                continue;
+            }
+            match self.show(head, settled, heeds, handler) {
+                Action::Abort => return self.read_end(start, head, messages, Stop::Action),
+                Action::Break => {
+                    head = self.pass(head, settled);
+                    return self.read_end(start, head, messages + 1, Stop::Action);
+                }
+                Action::Commit | Action::Continue => {
+                    head = self.pass(head, settled);
+                    messages += 1;
+                }
+            }
+        }
+    }
+
     /// Reads at most `limit` messages, and takes every action of the handler as `Continue`. The handler is shown each
     /// message in a copy.
     ///
@@ -101,25 +152,7 @@ impl SoloRing {
         ensures blocked { result.stopped ≡ Stop.Unpublished → (h : List Claim) → Has self.new h → IsBlocked self.new h }
         ensures claims { (t : ClaimAt) → IsOpen self.old t → IsOpen self.new t }
     {
-        let start = self.positions().head;
-        let mut head = start;
-        let mut messages = 0;
-        'turns: loop {
-            if messages == limit {
-                return self.read_end(start, head, messages, Stop::Limit);
-            }
-            if self.is_at_end(start, head) {
-                return self.read_end(start, head, messages, Stop::Block);
-            }
-            let Some(settled) = self.settled(head) else {
-                return self.read_end(start, head, messages, Stop::Unpublished);
-            };
-            if settled.type_id != PADDING_MSG_TYPE_ID {
-                self.show(head, settled, handler);
-                messages += 1;
-            }
-            head = self.pass(head, settled);
-        }
+        self.run(limit, false, handler)
     }
 
     /// Reads as `read` does, and goes on behind the end of the buffer: where the first read stops with `Block`, a
@@ -156,34 +189,6 @@ impl SoloRing {
         ensures blocked { result.stopped ≡ Stop.Unpublished → (h : List Claim) → Has self.new h → IsBlocked self.new h }
         ensures claims { (t : ClaimAt) → IsOpen self.old t → IsOpen self.new t }
     {
-        let start = self.positions().head;
-        let mut head = start;
-        let mut messages = 0;
-        'turns: loop {
-            if messages == limit {
-                return self.read_end(start, head, messages, Stop::Limit);
-            }
-            if self.is_at_end(start, head) {
-                return self.read_end(start, head, messages, Stop::Block);
-            }
-            let Some(settled) = self.settled(head) else {
-                return self.read_end(start, head, messages, Stop::Unpublished);
-            };
-            if settled.type_id == PADDING_MSG_TYPE_ID {
-                head = self.pass(head, settled);
-                continue;
-            }
-            match self.show(head, settled, handler) {
-                Action::Abort => return self.read_end(start, head, messages, Stop::Action),
-                Action::Break => {
-                    head = self.pass(head, settled);
-                    return self.read_end(start, head, messages + 1, Stop::Action);
-                }
-                Action::Commit | Action::Continue => {
-                    head = self.pass(head, settled);
-                    messages += 1;
-                }
-            }
-        }
+        self.run(limit, true, handler)
     }
 }

@@ -6,9 +6,10 @@ ghost use Rattle.ring_words.specs.Ring.{ring, IsRing, tail_of};
 ghost use Rattle.ring_words.specs.Change.{AppendsClaim, opened, written};
 ghost use Rattle.ring_words.specs.Storing.{IsAdmitted, padded};
 
-use crate::words::store_body;
 use ring_layout::ring_buffer_descriptor::TAIL_POSITION_WORD;
-use ring_layout::{Admission, committed_header, open_header, padding_header, word_index};
+use ring_layout::{
+    Admission, committed_header, open_header, padding_header, store_bytes, word_index,
+};
 
 /// Stores the header of the padding before a record, if it has any, and the record's own.
 fn store_headers(words: &mut [u64], capacity: u32, admission: Admission, header: u64)
@@ -63,6 +64,6 @@ pub(crate) fn append_message(
     let header = committed_header(type_id, body.len());
     store_headers(words, capacity, admission, header);
     let at = word_index(capacity, admission.place);
-    store_body(words, at + 1, body);
+    store_bytes(words, at + 1, body);
     words[capacity as usize / 8 + TAIL_POSITION_WORD] = admission.end;
 }

@@ -2,14 +2,14 @@ use Rattle.std.proofs.Common.{◌≡◌, ℕ, ◌+◌, ◌-◌, ◌/◌, ◌<◌
 use Rattle.std.proofs.lemmas.List.{length-drop, length-take-le}
 use Rattle.std.proofs.Math.Seq.{take-length}
 use Rattle.ring_layout.specs.History.{overwritten}
-use Rattle.ring_words.specs.Storing.{HoldsBody}
+use Rattle.ring_layout.specs.Bytes.{HoldsBytes}
 use Rattle.ring_words.proofs.PutLemmas.{overwritten_none, holds_more}
 use Rattle.ring_words.proofs.words.overwrite_body.Goals as goal
 
 pub loop-done-init : goal.loop-done-init
 loop-done-init c = record {
   most = omega arith;
-  inside = λ body small le held. subst (λ (l : List ℕ). HoldsBody c.args.words.now c.args.at l)
+  inside = λ body small le held. subst (λ (l : List ℕ). HoldsBytes c.args.words.now c.args.at l)
       (sym (overwritten_none c.args.offset (take 0 c.args.bytes.now) body (omega arith) refl)) held;
   below = λ i lt. refl;
   above = λ i le. refl;
@@ -49,5 +49,5 @@ returns-clause-inside c = λ body small le held.
     omega (arith, c.loop-done.invariant.most, c.loop-done-test.false) in
     let whole : take c.loop-done.done c.args.bytes.now ≡ c.args.bytes.now =
     ap (λ n. take n c.args.bytes.now) done ∙ take-length c.args.bytes.now in
-    subst (λ (l : List ℕ). HoldsBody c.loop-done.words c.args.at (overwritten c.args.offset l body)) whole
+    subst (λ (l : List ℕ). HoldsBytes c.loop-done.words c.args.at (overwritten c.args.offset l body)) whole
     (c.loop-done.invariant.inside body small le held)

@@ -1,13 +1,13 @@
 use Rattle.std.proofs.Common.{length, ◌-◌, ◌≡◌, ℕ, ◌+◌, ◌/◌, ◌<◌, ◌≤◌, List, All, take, slice_index}
 use Rattle.ring_layout.specs.History.{overwritten}
-use Rattle.ring_words.specs.Storing.{HoldsBody}
+use Rattle.ring_layout.specs.Bytes.{HoldsBytes}
 use Rattle.ring_words.proofs.words.overwrite_body.Given as goal
 
 -- the first bytes are put, and nothing else is changed
 pub record Puts (old new bytes : List ℕ) (at offset done : ℕ) : Type 0 where
   pub most : done ≤ length bytes
-  pub inside : (body : List ℕ) → All (λ b. b < 256) body → offset + length bytes ≤ length body → HoldsBody old at body
-      → HoldsBody new at (overwritten offset (take done bytes) body)
+  pub inside : (body : List ℕ) → All (λ b. b < 256) body → offset + length bytes ≤ length body → HoldsBytes old at body
+      → HoldsBytes new at (overwritten offset (take done bytes) body)
   pub below : (i : ℕ) → i < at → slice_index new i ≡ slice_index old i
   pub above : (i : ℕ) → at + (offset + length bytes + 7) / 8 ≤ i → slice_index new i ≡ slice_index old i
 

@@ -18,7 +18,8 @@ returns-clause-done g c none =
     let counted = e.seen in
     let few = c.requires.seen.0 in
     let all : client.seen ≡ commands = omega (arith, same, enough, counted, few) in
-    let answered = subst (λ i. AreAnswered i client.seen (deeds_of client)) c.requires.its_index c.requires.answered in (
+    let answered = subst (λ i. AreAnswered i client.seen (deeds_of client)) c.requires.its_index
+    c.requires.answered in (
       omega (arith, done.0, e.taken),
       omega (arith, done.1, counted, all),
       all_turns commands c.args.index client.seen (deeds_of client) _ _ _ _

@@ -2,7 +2,8 @@ use Rattle.std.proofs.Common.{◌≡◌, ℕ, zero, suc, ◌+◌, ◌*◌, ◌%�
 use Rattle.std.specs.Int.{from_le_bytes, w64}
 use Rattle.std.proofs.lemmas.List.{length-drop, take_rest}
 use Rattle.std.proofs.lemmas.Nat.{or_shifted}
-use Rattle.ring_counters.specs.Counter.{label_text, word_of_bytes}
+use Rattle.ring_layout.specs.Bytes.{word_of_bytes}
+use Rattle.ring_counters.specs.Counter.{label_text}
 use Rattle.ring_counters.proofs.RecordLemmas.{AreSmall, first_of_text, rest_of_text}
 use Rattle.ring_counters.proofs.records.metadata.store_label.Goals as goal
 

@@ -1,7 +1,6 @@
 use Rattle.std.proofs.Common.{◌≡◌, false, ℕ, sym, ◌∙◌, subst, arith}
-use Rattle.ring_words.specs.Controlled.{GoesOn}
+use Rattle.ring_words.specs.Controlled.{GoesOn, heeded}
 use Rattle.ring_rings.specs.Seats.{seat_view}
-use Rattle.ring_rings.specs.ReadingSteps.{heeded}
 use Rattle.ring_rings.proofs.ReadingSeats.{same_none, same_more}
 use Rattle.ring_rings.proofs.ReadingRuns.{RunsOn, runs_on_none}
 use Rattle.ring_rings.proofs.ReadingEnds.{settled_stands}

@@ -2,7 +2,7 @@ use Rattle.std.proofs.Common.{◌-◌, ◌≡◌, ◌+◌, ◌≤◌}
 use Rattle.ring_layout.specs.Places.{room}
 use Rattle.ring_table.specs.Seats.{IsSameSeat}
 use Rattle.ring_rings.specs.Seats.{IsConsumerOf, seat_view, head_of}
-use Rattle.ring_rings.specs.ReadingSteps.{heeded}
+use Rattle.ring_words.specs.Controlled.{heeded}
 use Rattle.ring_rings.proofs.ReadingRuns.{RunsOn}
 use Rattle.ring_rings.proofs.ring.Ring.run.Given as goal
 

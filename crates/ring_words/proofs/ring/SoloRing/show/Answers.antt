@@ -10,7 +10,7 @@ returns-clause-shown g c =
     ap (ring c.self.inside.capacity) c.deref.ensures.value ∙ c.self.view_is in
     let e = c.show_at_head.ensures.shown in (
       e.0,
-      e.1,
+      (c.show_at_head.result, e.1, c.heard.ensures),
       subst (λ (r : Ring). (claim : Claim) (rest : List Claim) → Has r (claim ∷ rest)
           → SeesCommitted r claim c.args.settled → claim.message ≡ e.0) is e.2,
     )

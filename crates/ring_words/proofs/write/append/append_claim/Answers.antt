@@ -1,22 +1,14 @@
-use Rattle.std.proofs.Common.{◌≡◌, ℕ, List, slice_set, subst, sym, arith, ◌∙◌}
-use Rattle.ring_layout.specs.History.{span}
+use Rattle.std.proofs.Common.{◌≡◌, ℕ, List, slice_set, subst, sym, ◌∙◌}
 use Rattle.ring_layout.specs.Headers.{header_of}
 use Rattle.ring_layout.specs.Layout.{tail_index}
-use Rattle.ring_layout.proofs.PlaceLemmas.{next_le}
-use Rattle.ring_words.specs.Ring.{Ring, ring, IsRing, tail_of}
+use Rattle.ring_words.specs.Ring.{Ring, ring, IsRing}
 use Rattle.ring_words.specs.Change.{AppendsClaim, opened}
-use Rattle.ring_words.proofs.AppendLemmas.{appended_empty, headed_is, opened_lawful, opened_header, length-opened, zero_words}
+use Rattle.ring_words.proofs.AppendLemmas.{appended_empty, headed_is, opened_lawful, opened_header, length-opened, tail_first, zero_words}
 use Rattle.ring_words.proofs.write.append.append_claim.Goals as goal
 
 pub store_headers-requires-clause-order : goal.store_headers-requires-clause-order
 store_headers-requires-clause-order c =
-    omega (
-      arith,
-      c.requires.tail,
-      c.requires.admitted.is_place,
-      next_le c.args.capacity
-          (tail_of (ring c.args.capacity c.args.words.now)) (span c.args.len),
-    )
+    tail_first (ring c.args.capacity c.args.words.now) _ c.args.len _ _ c.requires.tail c.requires.admitted
 
 pub returns : goal.returns
 returns c =

@@ -2,14 +2,14 @@ use Rattle.std.proofs.Common.{◌≡◌, ℕ, ◌+◌, ◌*◌, ◌-◌, ◌<◌
 use Rattle.std.proofs.lemmas.List.{get_or-take}
 use Rattle.std.specs.Int.{from_le_bytes, w64}
 use Rattle.ring_layout.proofs.WordBytes.{from_le_bytes-same}
-use Rattle.ring_words.proofs.words.store_body.Invariants.{Stored}
-use Rattle.ring_words.proofs.words.store_body.Goals as goal
+use Rattle.ring_layout.proofs.word_bytes.store_bytes.Invariants.{Stored}
+use Rattle.ring_layout.proofs.word_bytes.store_bytes.Goals as goal
 
--- one more word of the body is stored
-stored_on : (old words body : List ℕ) (at k word : ℕ) → at + k < length words
-    → word ≡ from_le_bytes w64 (drop (8 * k) body) → Stored old words body at k
-    → Stored old (slice_set words (at + k) word) body at (k + 1)
-stored_on old words body at k word fits is before = record {
+-- one more word is stored
+stored_on : (old words bytes : List ℕ) (at k word : ℕ) → at + k < length words
+    → word ≡ from_le_bytes w64 (drop (8 * k) bytes) → Stored old words bytes at k
+    → Stored old (slice_set words (at + k) word) bytes at (k + 1)
+stored_on old words bytes at k word fits is before = record {
   inside = below_more _ _
       (λ j h. let ne : at + j ≢ at + k = omega arith in get_or-set_other words (at + k) (at + j) word 0 ne
       ∙ before.inside j h)
@@ -25,6 +25,6 @@ word_of_eight n bytes is = from_le_bytes-same (take n bytes) bytes (λ i lt. get
 
 pub loop-k-preserved : goal.loop-k-preserved
 loop-k-preserved c =
-    stored_on c.args.words.now c.loop-k.words c.args.body.now c.args.at c.loop-k.k c.first_word.result (omega arith)
-    (c.first_word.ensures ∙ word_of_eight (8 * c.loop-k.k + 8 - 8 * c.loop-k.k) (drop (8 * c.loop-k.k) c.args.body.now)
+    stored_on c.args.words.now c.loop-k.words c.args.bytes.now c.args.at c.loop-k.k c.first_word.result (omega arith)
+    (c.first_word.ensures ∙ word_of_eight (8 * c.loop-k.k + 8 - 8 * c.loop-k.k) (drop (8 * c.loop-k.k) c.args.bytes.now)
     (omega arith)) c.loop-k.invariant

@@ -1,12 +1,14 @@
 use Rattle.std.proofs.Common.{◌-◌, ◌≡◌, ◌+◌, ◌≤◌}
 use Rattle.ring_layout.specs.Places.{room}
+use Rattle.ring_words.specs.Controlled.{heeded}
 use Rattle.ring_words.specs.Ring.{head_of}
-use Rattle.ring_words.specs.Read.{Reads}
-use Rattle.ring_words.proofs.ring.SoloRing.read.Given as goal
+use Rattle.ring_words.proofs.ReadLemmas.{ReadsOn}
+use Rattle.ring_words.proofs.ring.SoloRing.run.Given as goal
 
 -- what was read so far
 abbrev pub invariant-turns : goal.invariant-turns
-invariant-turns g l = Reads g.H.Handler.step l.limit l.initial.self l.self l.initial.handler l.handler l.messages
+invariant-turns g l = ReadsOn (heeded l.heeds g.H.Handler.step) l.limit l.initial.self l.self
+    l.initial.handler l.handler l.messages
     × (l.start ≡ head_of l.initial.self) × (l.messages ≤ l.limit) × g.H.Handler.ready l.handler
     × (l.head ≡ head_of l.self)
 

@@ -1,6 +1,6 @@
 use Rattle.std.proofs.Common.{◌≡◌, ℕ, ◌+◌, ◌*◌, ◌<◌, ◌≤◌, drop, slice_index, List}
 use Rattle.std.specs.Int.{from_le_bytes, w64}
-use Rattle.ring_counters.proofs.records.bytes.store_bytes.Given as goal
+use Rattle.ring_layout.proofs.word_bytes.store_bytes.Given as goal
 
 -- the first k words of the bytes are stored, and nothing else
 pub record Stored (old new bytes : List ℕ) (at k : ℕ) : Type 0 where
