@@ -18,9 +18,9 @@ macro_rules! work_on {
     };
 }
 
-/// Makes something of what a handle stands for, where it is of this kind, for another handle, and gives the code. The
-/// room for it is taken first, so that nothing is made where memory is wanting.
-macro_rules! make_into {
+/// Makes something of what a handle stands for, where it is of this kind, for another handle, which is empty, and gives
+/// the code. The room for it is taken first, so that nothing is made where memory is wanting.
+macro_rules! make_for {
     ($handle:ident, $alloc:ident, $kind:ident($side:ident) => $make:expr, $other:ident, $made:ident) => {
         match $handle.take($alloc) {
             Some(mut held) => match Box::new($alloc, ring_handles::Held::Vacant) {
@@ -44,6 +44,17 @@ macro_rules! make_into {
                 }
             },
             None => ring_handles::code::NO_HANDLE,
+        }
+    };
+}
+
+/// Fills an empty handle by `make_for`, and gives the code: 102 for one in use, for which nothing is made.
+macro_rules! make_into {
+    ($handle:ident, $alloc:ident, $kind:ident($side:ident) => $make:expr, $other:ident, $made:ident) => {
+        if $other.is_empty($alloc) {
+            $crate::work_on::make_for!($handle, $alloc, $kind($side) => $make, $other, $made)
+        } else {
+            ring_handles::code::HANDLE_IN_USE
         }
     };
 }
@@ -156,5 +167,6 @@ pub(crate) use end_with;
 pub(crate) use fill;
 pub(crate) use fill_both;
 pub(crate) use join_into;
+pub(crate) use make_for;
 pub(crate) use make_into;
 pub(crate) use work_on;

@@ -22,6 +22,19 @@ pub struct Wanted<'a> {
     pub owner: u64,
 }
 
+/// Puts out what a call answers, and gives the code: 0, or the number of the refusal, with what is out as it was.
+macro_rules! tell {
+    ($out:ident, $answer:expr) => {
+        match $answer {
+            Ok(answer) => {
+                *$out = answer;
+                DONE
+            }
+            Err(fault) => fault.code(),
+        }
+    };
+}
+
 impl CountersSide {
     /// Allocates a counter, and says its id.
     pub fn allocate(&mut self, wanted: Wanted<'_>, id: &mut u32) -> i32
@@ -37,13 +50,7 @@ impl CountersSide {
             wanted.registration,
             wanted.owner,
         );
-        match made {
-            Ok(made) => {
-                *id = made;
-                DONE
-            }
-            Err(fault) => fault.code(),
-        }
+        tell!(id, made)
     }
 
     /// Sets a counter's value.
@@ -60,13 +67,7 @@ impl CountersSide {
     pub fn add(&mut self, id: u32, delta: i64, before: &mut i64) -> i32
         ensures { WasAdded id delta before.old before.new self.old self.new result }
     {
-        match self.manager.add(&self.values, id, delta) {
-            Ok(value) => {
-                *before = value;
-                DONE
-            }
-            Err(fault) => fault.code(),
-        }
+        tell!(before, self.manager.add(&self.values, id, delta))
     }
 
     /// Frees a counter.
@@ -123,26 +124,14 @@ impl CountersSide {
     pub fn value(&mut self, id: u32, value: &mut i64) -> i32
         ensures { Asked (λ r. (counter_at r id).values.value) id value.old value.new self.old self.new result }
     {
-        match self.manager.value(id) {
-            Ok(answer) => {
-                *value = answer;
-                DONE
-            }
-            Err(fault) => fault.code(),
-        }
+        tell!(value, self.manager.value(id))
     }
 
     /// Says a counter's type.
     pub fn type_id(&mut self, id: u32, type_id: &mut i32) -> i32
         ensures { Asked (λ r. (counter_at r id).metadata.type_id) id type_id.old type_id.new self.old self.new result }
     {
-        match self.manager.type_id(id) {
-            Ok(answer) => {
-                *type_id = answer;
-                DONE
-            }
-            Err(fault) => fault.code(),
-        }
+        tell!(type_id, self.manager.type_id(id))
     }
 
     /// Says a counter's registration id.
@@ -150,13 +139,7 @@ impl CountersSide {
         ensures { Asked (λ r. (counter_at r id).values.registration) id registration.old registration.new self.old
             self.new result }
     {
-        match self.manager.registration(id) {
-            Ok(answer) => {
-                *registration = answer;
-                DONE
-            }
-            Err(fault) => fault.code(),
-        }
+        tell!(registration, self.manager.registration(id))
     }
 
     /// Says a counter's label.
@@ -199,12 +182,6 @@ impl CountersSide {
     pub fn owner(&mut self, id: u32, owner: &mut u64) -> i32
         ensures { Asked (λ r. (counter_at r id).values.owner) id owner.old owner.new self.old self.new result }
     {
-        match self.manager.owner(id) {
-            Ok(answer) => {
-                *owner = answer;
-                DONE
-            }
-            Err(fault) => fault.code(),
-        }
+        tell!(owner, self.manager.owner(id))
     }
 }

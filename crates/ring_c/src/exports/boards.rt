@@ -1,12 +1,10 @@
 //! What handles of a board do.
 ghost use Rattle.std.specs.Prelude.{◌≡◌};
-ghost use Rattle.std.specs.declared.option.Option.TheVariants.{None};
 ghost use Rattle.ring_handles.specs.Boards.{heard_out, IsUnheard, Received, SaysLapped, Subscribes, Transmitted};
 ghost use Rattle.ring_handles.specs.Kinds.{a_receiver, a_transmitter};
-ghost use Rattle.ring_c.specs.Told.{Gives, GivesInto, OpensBoard, Uses, Yields};
+ghost use Rattle.ring_c.specs.Told.{GivesInto, OpensBoard, Uses, Yields};
 
 use crate::work_on::{fill, make_into, work_on};
-use ring_handles::code::HANDLE_IN_USE;
 use ring_handles::{Handle, Identity, open_board};
 use std::alloc::Global;
 
@@ -58,15 +56,6 @@ pub extern "C" fn felter_transmit(
     work_on!(transmitter, alloc, Transmitter(side) => side.transmit(type_id, body))
 }
 
-/// Subscribes a receiver into an empty handle. The room for it is taken first.
-fn subscribe_into(alloc: Global, transmitter: &mut Handle, receiver: &mut Handle) -> i32
-    requires { receiver.old.held ≡ None }
-    ensures { Gives a_transmitter a_receiver Subscribes IsUnheard transmitter.old.held transmitter.new.held
-        receiver.new.held result }
-{
-    make_into!(transmitter, alloc, Transmitter(side) => side.subscribe(alloc), receiver, Receiver)
-}
-
 /// Makes a receiver, which starts with the record at latest.
 #[unsafe(no_mangle)]
 pub extern "C" fn felter_subscribe(
@@ -77,10 +66,7 @@ pub extern "C" fn felter_subscribe(
     ensures { GivesInto a_transmitter a_receiver Subscribes IsUnheard transmitter.old.held receiver.old.held
         transmitter.new.held receiver.new.held result }
 {
-    if !receiver.is_empty(alloc) {
-        return HANDLE_IN_USE;
-    }
-    subscribe_into(alloc, transmitter, receiver)
+    make_into!(transmitter, alloc, Transmitter(side) => side.subscribe(alloc), receiver, Receiver)
 }
 
 /// Receives the next message into a buffer that has room for the longest one, or says how often it was lapped.

@@ -1,12 +1,10 @@
 //! What handles of conductors do.
 ghost use Rattle.std.specs.Prelude.{◌≡◌};
-ghost use Rattle.std.specs.declared.option.Option.TheVariants.{None};
 ghost use Rattle.ring_handles.specs.Conducting.{report_out, ConductorBeat, Hires, IsUnhired, Worked};
 ghost use Rattle.ring_handles.specs.Kinds.{a_client, a_conductor};
-ghost use Rattle.ring_c.specs.Told.{Gives, GivesInto, OpensConductor, Uses, Yields};
+ghost use Rattle.ring_c.specs.Told.{GivesInto, OpensConductor, Uses, Yields};
 
 use crate::work_on::{fill, make_into, work_on};
-use ring_handles::code::HANDLE_IN_USE;
 use ring_handles::{Handle, Identity, Sizes, open_conductor};
 use std::alloc::Global;
 
@@ -36,14 +34,6 @@ pub extern "C" fn felter_conductor_new_numbered(
     )
 }
 
-/// Makes a client for an empty handle. The room for it is taken first.
-fn hire_into(alloc: Global, conductor: &mut Handle, client: &mut Handle) -> i32
-    requires { client.old.held ≡ None }
-    ensures { Gives a_conductor a_client Hires IsUnhired conductor.old.held conductor.new.held client.new.held result }
-{
-    make_into!(conductor, alloc, Conductor(side) => side.client(alloc), client, Client)
-}
-
 /// Makes a client, with one share of the ring and one of the board.
 #[unsafe(no_mangle)]
 pub extern "C" fn felter_conductor_client(
@@ -54,10 +44,7 @@ pub extern "C" fn felter_conductor_client(
     ensures { GivesInto a_conductor a_client Hires IsUnhired conductor.old.held client.old.held conductor.new.held
         client.new.held result }
 {
-    if !client.is_empty(alloc) {
-        return HANDLE_IN_USE;
-    }
-    hire_into(alloc, conductor, client)
+    make_into!(conductor, alloc, Conductor(side) => side.client(alloc), client, Client)
 }
 
 /// Takes up to `limit` commands at the moment `now`, and says how many it took and why it stopped.

@@ -1,25 +1,14 @@
 //! What conductors lend and take back.
 ghost use Rattle.std.specs.Prelude.{◌≡◌};
-ghost use Rattle.std.specs.declared.option.Option.TheVariants.{None};
 ghost use Rattle.ring_handles.specs.Seating.{lends_client, lends_reader, lends_receiver};
 ghost use Rattle.ring_handles.specs.Seating.{IsForeign, IsUnheard, WhyNotSeated, LendsReader, LendsReceiver};
 ghost use Rattle.ring_handles.specs.Seating.{TakesClient, TakesReader, TakesReceiver};
 ghost use Rattle.ring_handles.specs.Kinds.{a_client, a_conductor, a_reader, a_receiver};
-ghost use Rattle.ring_c.specs.Told.{AreOfOneConductor, Gives, GivesInto, JoinsInto};
+ghost use Rattle.ring_c.specs.Told.{AreOfOneConductor, GivesInto, JoinsInto};
 
 use crate::work_on::{join_into, make_into};
 use ring_handles::Handle;
-use ring_handles::code::HANDLE_IN_USE;
 use std::alloc::Global;
-
-/// Makes a receiver for an empty handle. The room for it is taken first.
-fn listen_into(alloc: Global, conductor: &mut Handle, receiver: &mut Handle) -> i32
-    requires { receiver.old.held ≡ None }
-    ensures { Gives a_conductor a_receiver LendsReceiver IsUnheard conductor.old.held conductor.new.held
-        receiver.new.held result }
-{
-    make_into!(conductor, alloc, Conductor(side) => side.subscribe(alloc), receiver, Receiver)
-}
 
 /// Makes a receiver of the replies, which starts with the one at latest.
 #[unsafe(no_mangle)]
@@ -31,19 +20,7 @@ pub extern "C" fn felter_conductor_subscribe(
     ensures { GivesInto a_conductor a_receiver LendsReceiver IsUnheard conductor.old.held receiver.old.held
         conductor.new.held receiver.new.held result }
 {
-    if !receiver.is_empty(alloc) {
-        return HANDLE_IN_USE;
-    }
-    listen_into(alloc, conductor, receiver)
-}
-
-/// Makes a reader for an empty handle. The room for it is taken first.
-fn read_into(alloc: Global, conductor: &mut Handle, reader: &mut Handle) -> i32
-    requires { reader.old.held ≡ None }
-    ensures { Gives a_conductor a_reader LendsReader WhyNotSeated conductor.old.held conductor.new.held reader.new.held
-        result }
-{
-    make_into!(conductor, alloc, Conductor(side) => side.reader(), reader, Reader)
+    make_into!(conductor, alloc, Conductor(side) => side.subscribe(alloc), receiver, Receiver)
 }
 
 /// Makes a reader of the counters' values, for another thread, with one share.
@@ -56,10 +33,7 @@ pub extern "C" fn felter_conductor_reader(
     ensures { GivesInto a_conductor a_reader LendsReader WhyNotSeated conductor.old.held reader.old.held
         conductor.new.held reader.new.held result }
 {
-    if !reader.is_empty(alloc) {
-        return HANDLE_IN_USE;
-    }
-    read_into(alloc, conductor, reader)
+    make_into!(conductor, alloc, Conductor(side) => side.reader(), reader, Reader)
 }
 
 /// Takes a client of this conductor's back, with its shares, and empties its handle. 108 for another conductor's, which

@@ -1,23 +1,12 @@
 //! What handles of raw receivers do.
 ghost use Rattle.std.specs.Prelude.{◌≡◌};
-ghost use Rattle.std.specs.declared.option.Option.TheVariants.{None};
 ghost use Rattle.ring_handles.specs.Raw.{seen, BodyLoaded, IsUnwatched, NextSeen, SaysLaps, SubscribesRaw, Tested};
 ghost use Rattle.ring_handles.specs.Kinds.{a_raw_receiver, a_transmitter};
-ghost use Rattle.ring_c.specs.Told.{Gives, GivesInto, Uses, Yields};
+ghost use Rattle.ring_c.specs.Told.{GivesInto, Uses, Yields};
 
 use crate::work_on::{make_into, work_on};
 use ring_handles::Handle;
-use ring_handles::code::HANDLE_IN_USE;
 use std::alloc::Global;
-
-/// Subscribes a raw receiver into an empty handle. The room for it is taken first.
-fn subscribe_raw_into(alloc: Global, transmitter: &mut Handle, receiver: &mut Handle) -> i32
-    requires { receiver.old.held ≡ None }
-    ensures { Gives a_transmitter a_raw_receiver SubscribesRaw IsUnwatched transmitter.old.held transmitter.new.held
-        receiver.new.held result }
-{
-    make_into!(transmitter, alloc, Transmitter(side) => side.subscribe_raw(), receiver, RawReceiver)
-}
 
 /// Makes a raw receiver, which starts with the record at latest.
 #[unsafe(no_mangle)]
@@ -29,10 +18,7 @@ pub extern "C" fn felter_subscribe_raw(
     ensures { GivesInto a_transmitter a_raw_receiver SubscribesRaw IsUnwatched transmitter.old.held receiver.old.held
         transmitter.new.held receiver.new.held result }
 {
-    if !receiver.is_empty(alloc) {
-        return HANDLE_IN_USE;
-    }
-    subscribe_raw_into(alloc, transmitter, receiver)
+    make_into!(transmitter, alloc, Transmitter(side) => side.subscribe_raw(), receiver, RawReceiver)
 }
 
 /// Answers the next record unread, by its type id and length, or says how often the receiver was lapped.

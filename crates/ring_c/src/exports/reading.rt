@@ -1,22 +1,12 @@
 //! Readers of counters' values.
 ghost use Rattle.std.specs.Prelude.{◌≡◌};
-ghost use Rattle.std.specs.declared.option.Option.TheVariants.{None};
 ghost use Rattle.ring_handles.specs.Lending.{WhyNotLent, Lends, SaysValue};
 ghost use Rattle.ring_handles.specs.Kinds.{a_reader, some_counters};
-ghost use Rattle.ring_c.specs.Told.{Gives, GivesInto, Yields};
+ghost use Rattle.ring_c.specs.Told.{GivesInto, Yields};
 
 use crate::work_on::{make_into, work_on};
 use ring_handles::Handle;
-use ring_handles::code::HANDLE_IN_USE;
 use std::alloc::Global;
-
-/// Makes a reader for an empty handle. The room for it is taken first.
-fn lend_into(alloc: Global, counters: &mut Handle, reader: &mut Handle) -> i32
-    requires { reader.old.held ≡ None }
-    ensures { Gives some_counters a_reader Lends WhyNotLent counters.old.held counters.new.held reader.new.held result }
-{
-    make_into!(counters, alloc, Counters(side) => side.reader(), reader, Reader)
-}
 
 /// Makes a reader of the counters' values, for another thread, with one share.
 #[unsafe(no_mangle)]
@@ -28,10 +18,7 @@ pub extern "C" fn felter_counters_reader(
     ensures { GivesInto some_counters a_reader Lends WhyNotLent counters.old.held reader.old.held counters.new.held
         reader.new.held result }
 {
-    if !reader.is_empty(alloc) {
-        return HANDLE_IN_USE;
-    }
-    lend_into(alloc, counters, reader)
+    make_into!(counters, alloc, Counters(side) => side.reader(), reader, Reader)
 }
 
 /// Loads a counter's value: of an id that was never used 0, of a freed one its last value.

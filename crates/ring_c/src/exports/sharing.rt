@@ -3,20 +3,11 @@ ghost use Rattle.std.specs.Prelude.{◌≡◌};
 ghost use Rattle.std.specs.declared.option.Option.TheVariants.{None};
 ghost use Rattle.ring_handles.specs.Producing.{WhyNotSplit, Splits};
 ghost use Rattle.ring_handles.specs.Kinds.{a_producer};
-ghost use Rattle.ring_c.specs.Told.{ClosesHeld, Gives, GivesInto};
+ghost use Rattle.ring_c.specs.Told.{ClosesHeld, GivesInto};
 
 use crate::work_on::make_into;
-use ring_handles::code::HANDLE_IN_USE;
 use ring_handles::{Handle, Held};
 use std::alloc::Global;
-
-/// Splits a producer off into an empty handle. The room for it is taken first.
-fn split_off(alloc: Global, producer: &mut Handle, other: &mut Handle) -> i32
-    requires { other.old.held ≡ None }
-    ensures { Gives a_producer a_producer Splits WhyNotSplit producer.old.held producer.new.held other.new.held result }
-{
-    make_into!(producer, alloc, Producer(side) => side.split(alloc), other, Producer)
-}
 
 /// Makes another producer of the same ring, with one share. Claims that are open stay the first one's.
 #[unsafe(no_mangle)]
@@ -24,10 +15,7 @@ pub extern "C" fn felter_split(alloc: Global, producer: &mut Handle, other: &mut
     ensures { GivesInto a_producer a_producer Splits WhyNotSplit producer.old.held other.old.held producer.new.held
         other.new.held result }
 {
-    if !other.is_empty(alloc) {
-        return HANDLE_IN_USE;
-    }
-    split_off(alloc, producer, other)
+    make_into!(producer, alloc, Producer(side) => side.split(alloc), other, Producer)
 }
 
 /// Aborts the open claims of what is to be let go.
