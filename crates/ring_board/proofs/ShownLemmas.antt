@@ -1,5 +1,5 @@
 -- What the running transmission says of the list that latest shows, by cases on how far it has come.
-use Rattle.std.proofs.Common.{◌≡◌, ℕ, suc, ◌+◌, ◌-◌, ◌/◌, ◌%◌, ◌<◌, ◌≤◌, ◌⊎◌, List, [], ◌∷◌, length, refl, sym, ap, subst, inl, inr, ⊎_elim, arith}
+use Rattle.std.proofs.Common.{◌≡◌, ℕ, suc, ◌+◌, ◌-◌, ◌/◌, ◌%◌, ◌<◌, ◌≤◌, ◌⊎◌, List, [], ◌∷◌, ◌++◌, length, refl, sym, ap, subst, inl, inr, ⊎_elim, arith}
 use Rattle.std.proofs.lemmas.Bool.{cases_lt}
 use mathlib.Core.Option.{some, some-ne-none}
 use lib.ListN.{get_elem?}
@@ -31,71 +31,50 @@ module _ (C e : ℕ) (roomy : 256 ≤ C) (whole : C % 64 ≡ 0) (ws : List ℕ) 
   intent_after (Reading w l) h = absurd h
   intent_after Behind h = absurd h
 
+  -- what latest shows is what is sent, and one more once the running record is shown
+  latest_list : (P : List Record → Type 0) (st : Stage) → P sent
+      → ((r : Record) → st ≡ Shown r → P (sent ++ r ∷ [])) → P (with_latest sent st)
+  latest_list P (Shown r) was more = more r refl
+  latest_list P Idle was more = was
+  latest_list P (Begun d) was more = was
+  latest_list P (Storing d) was more = was
+  latest_list P (Written r) was more = was
+  latest_list P Spent was more = was
+  latest_list P Resting was more = was
+  latest_list P Sure was more = was
+  latest_list P (Headed w) was more = was
+  latest_list P (Padded w) was more = was
+  latest_list P (Again w) was more = was
+  latest_list P (Reading w l) was more = was
+  latest_list P Behind was more = was
+
+  -- a record that is shown follows what is sent
+  follows : (st : Stage) → Running C (end_of e sent) ws st → (r : Record) → st ≡ Shown r → Follows C (end_of e sent) r
+  follows st h r is = (subst (Running C (end_of e sent) ws) is h).0
+
   -- an entry of what latest shows is sent, or begins at the tail
   pub shown_at : (st : Stage) → Running C (end_of e sent) ws st → (k : ℕ) (q : Record)
       → get_elem? (with_latest sent st) k ≡ some q
       → (get_elem? sent k ≡ some q) ⊎ (Follows C (end_of e sent) q)
-  shown_at (Shown r) h k q at =
-      ⊎_elim (λ t. inl t) (λ is. inr (subst (Follows C (end_of e sent)) is h.0)) (at_snoc sent r q k at)
-  shown_at Idle h k q at = inl at
-  shown_at (Begun d) h k q at = inl at
-  shown_at (Storing d) h k q at = inl at
-  shown_at (Written r) h k q at = inl at
-  shown_at Spent h k q at = absurd h
-  shown_at Resting h k q at = absurd h
-  shown_at Sure h k q at = absurd h
-  shown_at (Headed w) h k q at = absurd h
-  shown_at (Padded w) h k q at = absurd h
-  shown_at (Again w) h k q at = absurd h
-  shown_at (Reading w l) h k q at = absurd h
-  shown_at Behind h k q at = absurd h
+  shown_at st h k q =
+      latest_list (λ l. get_elem? l k ≡ some q → (get_elem? sent k ≡ some q) ⊎ (Follows C (end_of e sent) q)) st
+      (λ at. inl at)
+      (λ r is at. ⊎_elim (λ t. inl t) (λ same. inr (subst (Follows C (end_of e sent)) same (follows st h r is)))
+      (at_snoc sent r q k at))
 
   -- what is sent is shown
   pub shown_has : (st : Stage) (k : ℕ) (q : Record) → get_elem? sent k ≡ some q
       → get_elem? (with_latest sent st) k ≡ some q
-  shown_has (Shown r) k q at = at_longer sent (r ∷ []) k q at
-  shown_has Idle k q at = at
-  shown_has (Begun d) k q at = at
-  shown_has (Storing d) k q at = at
-  shown_has (Written r) k q at = at
-  shown_has Spent k q at = at
-  shown_has Resting k q at = at
-  shown_has Sure k q at = at
-  shown_has (Headed w) k q at = at
-  shown_has (Padded w) k q at = at
-  shown_has (Again w) k q at = at
-  shown_has (Reading w l) k q at = at
-  shown_has Behind k q at = at
+  shown_has st k q at =
+      latest_list (λ l. get_elem? l k ≡ some q) st at (λ r _. at_longer sent (r ∷ []) k q at)
 
   pub shown_chain : (st : Stage) → Running C (end_of e sent) ws st → Chain C e sent → Chain C e (with_latest sent st)
-  shown_chain (Shown r) h c = chain_snoc C e sent r c h.0
-  shown_chain Idle h c = c
-  shown_chain (Begun d) h c = c
-  shown_chain (Storing d) h c = c
-  shown_chain (Written r) h c = c
-  shown_chain Spent h c = c
-  shown_chain Resting h c = c
-  shown_chain Sure h c = c
-  shown_chain (Headed w) h c = c
-  shown_chain (Padded w) h c = c
-  shown_chain (Again w) h c = c
-  shown_chain (Reading w l) h c = c
-  shown_chain Behind h c = c
+  shown_chain st h c = latest_list (Chain C e) st c (λ r is. chain_snoc C e sent r c (follows st h r is))
 
   pub shown_end : (st : Stage) → Running C (end_of e sent) ws st → end_of e sent ≤ end_of e (with_latest sent st)
-  shown_end (Shown r) h = let on = lies_on r.before r.place (end r) h.0.fits in let s = end_snoc e sent r in omega arith
-  shown_end Idle h = omega arith
-  shown_end (Begun d) h = omega arith
-  shown_end (Storing d) h = omega arith
-  shown_end (Written r) h = omega arith
-  shown_end Spent h = absurd h
-  shown_end Resting h = absurd h
-  shown_end Sure h = absurd h
-  shown_end (Headed w) h = absurd h
-  shown_end (Padded w) h = absurd h
-  shown_end (Again w) h = absurd h
-  shown_end (Reading w l) h = absurd h
-  shown_end Behind h = absurd h
+  shown_end st h = latest_list (λ l. end_of e sent ≤ end_of e l) st (omega arith)
+      (λ r is.
+      let on = lies_on r.before r.place (end r) (follows st h r is).fits in let s = end_snoc e sent r in omega arith)
 
   -- latest shows an entry that the intent has not lapped
   abbrev pub IsLatest : Stage → Type 0

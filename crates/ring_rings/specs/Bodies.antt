@@ -5,7 +5,7 @@ use Rattle.ring_layout.specs.declared.message.ClaimState.TheVariants.{Open}
 use Rattle.ring_layout.specs.History.{overwritten}
 use Rattle.ring_layout.specs.Places.{index}
 use Rattle.ring_table.specs.declared.view.View.{View}
-use Rattle.ring_table.specs.Changes.{changed}
+use Rattle.ring_table.specs.Changes.{changed, with_body}
 use Rattle.ring_table.specs.Views.{with_claims}
 use Rattle.ring_table.specs.ProducerSteps.{EndBelow, HasClaim, IsWordOfBody}
 use Rattle.ring_table.specs.declared.claim.StagedClaim.{StagedClaim}
@@ -13,13 +13,7 @@ use Rattle.ring_table.specs.declared.claim.Stage.TheVariants.{Stored}
 
 -- the claim with these bytes in its body from the offset on
 abbrev pub put_at : ℕ → List ℕ → StagedClaim → StagedClaim
-put_at offset bytes c = record {
-  from = c.from;
-  place = c.place;
-  message =
-      record { type_id = c.message.type_id; body = overwritten offset bytes c.message.body };
-  stage = c.stage;
-}
+put_at offset bytes c = with_body (overwritten offset bytes c.message.body) c
 
 -- an open claim with room for so many bytes
 pub record HasRoom (len : ℕ) (c : StagedClaim) : Type 0 where

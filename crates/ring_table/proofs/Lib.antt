@@ -17,6 +17,7 @@ pub mod ServiceLemmas
 pub mod Serving
 pub mod RestLemmas
 pub mod Opening
+mod SeatSums
 pub mod Seats
 pub mod Closing
 pub mod Calls

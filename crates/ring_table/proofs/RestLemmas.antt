@@ -102,52 +102,32 @@ splits C s e (c ∷ cs) got big placed r =
     let short = lies.message.short in
     let n : ℕ = length c.message.body in
     let d : StagedClaim = record { from = s; place = c.place; message = c.message; stage = c.stage } in
-    let stays = λ (no_padding : (p : ℕ) → s ≤ p → staged_word c p ≡ staged_word d p) (p : ℕ)
-    (le : s ≤ p). ap (λ k. cond (ltb p (claim_end c)) k (staged_word_at cs p)) (no_padding p le) in
+    let left : got ≡ [] → c.place ≡ next_place C s a → ((p : ℕ) → s ≤ p → staged_word c p ≡ staged_word d p)
+    → Splits C s e (c ∷ cs) got =
+    λ none place plain. record {
+      taken = [];
+      rest = c ∷ cs;
+      whole = refl;
+      settled = tt;
+      messages = none;
+      placed = (record { from = refl; place = place; message = lies.message }, placed.1);
+      ends = refl;
+      words = λ p le. ap (λ k. cond (ltb p (claim_end c)) k (staged_word_at cs p)) (plain p le);
+    } in
     ⊎_elim
     (λ alt.
     let at : s ≡ e = alt.0 in
     let same : c ≡ d =
     λ i. record { from = (lies.from ∙ sym at) i; place = c.place; message = c.message; stage = c.stage } in
-    record {
-      taken = [];
-      rest = c ∷ cs;
-      whole = refl;
-      settled = tt;
-      messages = alt.1;
-      placed = (
-        record {
-          from = refl;
-          place = lies.place
-              ∙ ap (λ k. next_place C k a) (sym at);
-          message = lies.message;
-        },
-        placed.1,
-      );
-      ends = refl;
-      words = stays (λ p le. ap (λ (x : StagedClaim). staged_word x p) same);
-    })
+    left alt.1 (lies.place ∙ ap (λ k. next_place C k a) (sym at))
+    (λ p le. ap (λ (x : StagedClaim). staged_word x p) same))
     (⊎_elim
     (λ alt.
     let at : s ≡ c.place = alt.0 in
-    record {
-      taken = [];
-      rest = c ∷ cs;
-      whole = refl;
-      settled = tt;
-      messages = alt.2;
-      placed = (
-        record {
-          from = refl;
-          place = lies.place ∙ sym (next_fixed C e a (omega arith) (omega arith))
-              ∙ ap (λ k. next_place C k a) (sym (at ∙ lies.place));
-          message = lies.message;
-        },
-        placed.1,
-      );
-      ends = refl;
-      words = stays (λ p le. staged_word-record c p (omega arith) ∙ sym (staged_word-record d p (omega arith)));
-    })
+    left alt.2
+    (lies.place ∙ sym (next_fixed C e a (omega arith) (omega arith))
+    ∙ ap (λ k. next_place C k a) (sym (at ∙ lies.place)))
+    (λ p le. staged_word-record c p (omega arith) ∙ sym (staged_word-record d p (omega arith))))
     (λ alt.
     let later : List PlacedMessage = alt.1.0 in
     let bounds = reach_bounds C s (claim_end c) cs later placed.1 alt.1.2 in

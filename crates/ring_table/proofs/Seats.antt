@@ -9,13 +9,14 @@ use Rattle.atomic_table.specs.Table.{State, Splits, Joins}
 use Rattle.atomic_table.proofs.Lists.{at_set, at_longer, set_here, set_else}
 use Rattle.ring_table.specs.Staged.{staged_end}
 use Rattle.ring_table.specs.Owners.{OwnedHistory, all_of, owned_by, interleaved, handed_over}
-use Rattle.ring_table.specs.Services.{Service, total, times, times_drawn, once_below}
+use Rattle.ring_table.specs.Services.{Service, total, times, times_drawn}
 use Rattle.ring_table.specs.Views.{ConsumerView, View, Wanted, without_consumer, consumer_alone, with_consumer_of, without_share, producer_alone, with_producer_of, spent}
 use Rattle.ring_table.specs.Rule.{IsMemory, Knows, IsSeated, Kept, shares_of}
 use Rattle.ring_table.proofs.OwnerLemmas.{all_of-handed_over, owned_by-handed_over, owned_by-handed_away, owned_by-handed_over_other}
 use Rattle.ring_table.proofs.ServiceLemmas.{served_append}
-use Rattle.ring_table.proofs.Sums.{at_below, at_more, each_after_set, total-set, total-append}
+use Rattle.ring_table.proofs.Sums.{at_below, at_more, each_after_set, total-append}
 use Rattle.ring_table.proofs.Seating.{one_view, sees_top_after}
+use Rattle.ring_table.proofs.SeatSums.{total-parted, total-met}
 
 module _ (top : ℕ) (hist : OwnedHistory) (reader : ℕ) (consumer : ConsumerView) (n : ℕ) where
   -- one seat becomes two, which share what it had
@@ -39,16 +40,7 @@ module _ (top : ℕ) (hist : OwnedHistory) (reader : ℕ) (consumer : ConsumerVi
             (at_more (set views id left) right u j e);
         nobody = λ j past. let a = length-append (set views id left) (right ∷ []) in let b =
             length-set views id left in s.nobody j (omega arith);
-        shares =
-            (let before : ℕ = total shares_of views in
-            let cut : ℕ = total shares_of (set views id left) in
-            let all : total shares_of (set views id left ++ right ∷ []) ≡ cut + (right.producer.shares + 0) =
-            total-append shares_of (set views id left) (right ∷ []) in
-            let exchange : cut + v.producer.shares ≡ before + left.producer.shares =
-            total-set shares_of views id v left at in
-            let whole : before ≡ 65536 = s.shares in
-            let enough : cut + (right.producer.shares + 0) ≡ 65536 = omega arith in
-            all ∙ enough);
+        shares = total-parted shares_of views id v left right at sum ∙ s.shares;
         latest =
             (let l = sees_top_after views id v left top top at some_left refl (λ e. seen ∙ e) s.latest in
             record {
@@ -59,21 +51,13 @@ module _ (top : ℕ) (hist : OwnedHistory) (reader : ℕ) (consumer : ConsumerVi
               sees = l.sees;
             });
         once = λ x.
-            let f = λ (z : View). times_drawn x z.producer in
-            let before : ℕ = total f views in
-            let cut : ℕ = total f (set views id left) in
             let l : ℕ = times_drawn x left.producer in
             let r : ℕ = times_drawn x right.producer in
             let w : ℕ = times_drawn x v.producer in
-            let is : ℕ = once_below x n in
-            let all : total f (set views id left ++ right ∷ []) ≡ cut + (r + 0) =
-            total-append f (set views id left) (right ∷ []) in
-            let exchange : cut + w ≡ before + l = total-set f views id v left at in
             let same : l ≡ w = drawn_left x in
             let none : r ≡ 0 = drawn_right x in
-            let whole : before ≡ is = s.once x in
-            let enough : cut + (r + 0) ≡ is = omega arith in
-            all ∙ enough;
+            let as_before : l + r ≡ w = omega arith in
+            total-parted (λ (z : View). times_drawn x z.producer) views id v left right at as_before ∙ s.once x;
       }
 
   -- the other seat, as it was
@@ -110,17 +94,7 @@ module _ (top : ℕ) (hist : OwnedHistory) (reader : ℕ) (consumer : ConsumerVi
         nobody = λ j past. let a = length-set (set views id both) other spent in let b =
             length-set views id both in let past' : length views ≤ j =
             omega arith in outside j past' ∙ s.nobody j past';
-        shares =
-            (let before : ℕ = total shares_of views in
-            let one : ℕ = total shares_of (set views id both) in
-            let two : ℕ = total shares_of (set (set views id both) other spent) in
-            let first : one + v.producer.shares ≡ before + both.producer.shares =
-            total-set shares_of views id v both at in
-            let second : two + w.producer.shares ≡ one + 0 =
-            total-set shares_of (set views id both) other w spent there in
-            let whole : before ≡ 65536 = s.shares in
-            let done : two ≡ 65536 = omega arith in
-            done);
+        shares = total-met shares_of views id other v w both spent at there sum refl ∙ s.shares;
         latest =
             (let l = sees_top_after views id v both top top' at (λ rich. omega arith) tops (λ e. seen_v e ∙ sym tops)
             s.latest in
@@ -143,21 +117,8 @@ module _ (top : ℕ) (hist : OwnedHistory) (reader : ℕ) (consumer : ConsumerVi
               rich = l.rich;
               sees = l.sees;
             }));
-        once = λ x.
-            let f = λ (z : View). times_drawn x z.producer in
-            let before : ℕ = total f views in
-            let one : ℕ = total f (set views id both) in
-            let two : ℕ = total f (set (set views id both) other spent) in
-            let a : ℕ = times_drawn x v.producer in
-            let b : ℕ = times_drawn x w.producer in
-            let c : ℕ = times_drawn x both.producer in
-            let is : ℕ = once_below x n in
-            let first : one + a ≡ before + c = total-set f views id v both at in
-            let second : two + b ≡ one + 0 = total-set f (set views id both) other w spent there in
-            let joined : c ≡ a + b = drawn x in
-            let whole : before ≡ is = s.once x in
-            let done : two ≡ is = omega arith in
-            done;
+        once = λ x. let f = λ (z : View). times_drawn x z.producer in
+            total-met f views id other v w both spent at there (drawn x) refl ∙ s.once x;
       }
 
 module _ (C start : ℕ) where

@@ -32,14 +32,12 @@ with_header type_id n c = record { from = c.from; place = c.place; message = bla
 abbrev pub with_word : ℕ → ℕ → List ℕ → List ℕ
 with_word at word body = overwritten at (take (length body - at) (to_le_bytes w64 word)) body
 
+-- the claim with this body
+abbrev pub with_body : List ℕ → StagedClaim → StagedClaim
+with_body body c = record c { message = record c.message { body = body } }
+
 abbrev pub with_body_word : ℕ → ℕ → StagedClaim → StagedClaim
-with_body_word at word c = record {
-  from = c.from;
-  place = c.place;
-  message =
-      record { type_id = c.message.type_id; body = with_word at word c.message.body };
-  stage = c.stage;
-}
+with_body_word at word c = with_body (with_word at word c.message.body) c
 
 abbrev pub changed_at : ℕ → (StagedClaim → StagedClaim) → StagedClaim → StagedClaim
 changed_at p f c = if c.place == p then f c else c

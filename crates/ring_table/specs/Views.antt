@@ -105,15 +105,13 @@ no_consumer = consumer_from 0
 abbrev pub without_consumer : View → View
 without_consumer v = record v { consumes = false; consumer = no_consumer }
 
+-- a seat of its own, with so many shares, which has seen what this one has
+abbrev pub alone : ℕ → View → View
+alone shares v =
+    record v { log = []; producer = new_producer shares v.producer.seen_tail v.producer.seen_head }
+
 abbrev pub consumer_alone : View → View
-consumer_alone v = record {
-  capacity = v.capacity;
-  log = [];
-  producer =
-      new_producer 0 v.producer.seen_tail v.producer.seen_head;
-  consumes = v.consumes;
-  consumer = v.consumer;
-}
+consumer_alone v = alone 0 v
 
 -- a producer takes the consumer's part in
 abbrev pub with_consumer_of : View → View → View
@@ -124,14 +122,7 @@ abbrev pub without_share : View → View
 without_share v = with_producer (record v.producer { shares = v.producer.shares - 1 }) v
 
 abbrev pub producer_alone : View → View
-producer_alone v = record {
-  capacity = v.capacity;
-  log = [];
-  producer =
-      new_producer 1 v.producer.seen_tail v.producer.seen_head;
-  consumes = false;
-  consumer = no_consumer;
-}
+producer_alone v = without_consumer (alone 1 v)
 
 -- what one producer has that took another in
 abbrev pub both_producers : ProducerView → ProducerView → ProducerView

@@ -3,6 +3,7 @@
 ghost use Rattle.std.specs.Prelude.{◌≡◌, ◌^◌, ◌≤◌};
 ghost use Rattle.ring_counters.specs.Manager.{registry_of, IsManagerOf};
 ghost use Rattle.ring_protocol.specs.Command.{content_of, Free as FreeOf, Set as SetOf, Close as CloseOf};
+ghost use Rattle.ring_protocol.specs.declared.reply.Reply.TheVariants.{Refused};
 ghost use Rattle.ring_conductor.specs.Applied.{applied, obeyed};
 ghost use Rattle.ring_conductor.specs.Applying.{Applies, allocates};
 
@@ -16,6 +17,13 @@ struct Wanted<'a> {
     owner: u64,
     key: &'a [u8],
     label: &'a [u8],
+}
+
+/// The reply to a command that was refused.
+fn refused(correlation: u64, code: i32) -> Reply
+    ensures { result ≡ Refused correlation code }
+{
+    Reply::Refused { correlation, code }
 }
 
 fn allocate(
@@ -37,10 +45,7 @@ fn allocate(
     } = wanted;
     match counters.allocate_owned(values, now, type_id, key, label, correlation, owner) {
         Ok(id) => Reply::Allocated { correlation, id },
-        Err(fault) => Reply::Refused {
-            correlation,
-            code: fault.code(),
-        },
+        Err(fault) => refused(correlation, fault.code()),
     }
 }
 
@@ -51,10 +56,7 @@ fn free(counters: &mut CountersManager, now: u64, correlation: u64, id: u32) -> 
 {
     match counters.free(now, id) {
         Ok(()) => Reply::Done { correlation },
-        Err(fault) => Reply::Refused {
-            correlation,
-            code: fault.code(),
-        },
+        Err(fault) => refused(correlation, fault.code()),
     }
 }
 
@@ -71,10 +73,7 @@ fn set(
 {
     match counters.set(values, id, value) {
         Ok(()) => Reply::Done { correlation },
-        Err(fault) => Reply::Refused {
-            correlation,
-            code: fault.code(),
-        },
+        Err(fault) => refused(correlation, fault.code()),
     }
 }
 
@@ -85,10 +84,7 @@ fn close(counters: &mut CountersManager, now: u64, correlation: u64, owner: u64)
 {
     match counters.close_owner(now, owner) {
         Ok(freed) => Reply::Closed { correlation, freed },
-        Err(fault) => Reply::Refused {
-            correlation,
-            code: fault.code(),
-        },
+        Err(fault) => refused(correlation, fault.code()),
     }
 }
 
@@ -160,9 +156,6 @@ pub(crate) fn apply(
 {
     match decode_command(type_id, body) {
         Ok(command) => obey(counters, values, now, command),
-        Err(bad) => Reply::Refused {
-            correlation: bad.correlation(),
-            code: bad.code(),
-        },
+        Err(bad) => refused(bad.correlation(), bad.code()),
     }
 }
