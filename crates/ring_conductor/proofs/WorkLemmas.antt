@@ -6,7 +6,7 @@ use Rattle.ring_words.specs.declared.read.end.Stop.TheVariants.{Limit, Block, Un
 use Rattle.ring_words.specs.Read.{stop_of}
 use Rattle.ring_layout.specs.Handles.{Handles}
 use Rattle.ring_table.specs.declared.view.View.{View}
-use Rattle.ring_rings.specs.Reading.{Controls, WentOn, Broke, Aborts, FoundUnsettled, Reads, messages_of}
+use Rattle.ring_rings.specs.Reading.{Controls, WentOn, Broke, Aborts, EndsAt, Reads, messages_of}
 use Rattle.ring_conductor.specs.declared.conductor.serve.Serving.{Serving}
 use Rattle.ring_conductor.specs.declared.conductor.Work.{Work}
 use Rattle.ring_conductor.specs.declared.conductor.WorkStop.TheVariants as work
@@ -47,9 +47,7 @@ module _ (limit : ℕ) (v w : View) (s t : Serving) (end : ReadEnd) where
 pub record Reported (limit : ℕ) (v w : View) (end : ReadEnd) (done : Work) : Type 0 where
   pub messages : done.messages ≡ end.messages
   pub stopped : done.stopped ≡ work_stop end.stopped
-  pub within : end.messages ≤ limit
-  pub bytes : v.consumer.head + end.bytes ≡ w.consumer.head
-  pub blocked : end.stopped ≡ Unpublished → FoundUnsettled v w
+  pub ends : EndsAt limit v w end
 
 module _ (limit : ℕ) (v w : View) (s t : Serving) (end : ReadEnd) (done : Work) (r : Reported limit v w end done) where
   abbrev Done : Type 0
@@ -61,20 +59,20 @@ module _ (limit : ℕ) (v w : View) (s t : Serving) (end : ReadEnd) (done : Work
   told reads f stops = record {
     messages = reads.messages;
     counted = r.messages ∙ reads.counted;
-    few = subst (λ n. n ≤ limit) reads.counted r.within;
+    few = subst (λ n. n ≤ limit) reads.counted r.ends.within;
     received = reads.taken;
     moves = reads.moves;
     tight = λ e. reads.tight (sym r.messages ∙ e);
     folded = f.1;
     had_room = f.2;
     stops = stops;
-    blocked = λ e. r.blocked (is_unpublished end.stopped (sym r.stopped ∙ e));
+    blocked = λ e. r.ends.blocked (is_unpublished end.stopped (sym r.stopped ∙ e));
   }
 
   pub worked : Controls ActsOn limit v w s t end → Done
   worked (inl on) = told on.reads (folds_on limit v w s t end on) (inl (record {
     bytes = end.bytes;
-    moved = r.bytes;
+    moved = r.ends.bytes;
     stopped = r.stopped ∙ ap work_stop (on.stopped
         ∙ ap (λ n. stop_of w.capacity limit n w.consumer.head end.bytes) (sym r.messages));
   }))

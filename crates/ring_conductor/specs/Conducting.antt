@@ -1,5 +1,5 @@
 -- What clauses say of a conductor and its work.
-use Rattle.std.specs.Prelude.{◌≡◌, ◌≢◌, ◌⊎◌, ℕ, ◌+◌, ◌%◌, ◌<◌, ◌≤◌, List, [], ◌++◌, length}
+use Rattle.std.specs.Prelude.{◌≡◌, ◌≢◌, ◌⊎◌, ℕ, ◌+◌, ◌%◌, ◌<◌, ◌≤◌, List, [], ◌∷◌, ◌++◌, length}
 use Rattle.ring_words.specs.declared.read.end.Stop.{Stop}
 use Rattle.ring_words.specs.declared.read.end.Stop.TheVariants.{Limit, Block, Unpublished, Action}
 use Rattle.ring_words.specs.Read.{stop_of}
@@ -10,13 +10,15 @@ use Rattle.ring_rings.specs.declared.ring.Consumer.{Consumer}
 use Rattle.ring_rings.specs.Reading.{messages_of, MovesHead, IsTight, FoundUnsettled, IsNext}
 use Rattle.ring_rings.specs.Seats.{consumer_view}
 use Rattle.ring_board.specs.declared.board.Board.{Board}
+use Rattle.ring_board.specs.declared.board.CopyReceiver.{CopyReceiver}
 use Rattle.ring_board.specs.declared.board.Transmitter.{Transmitter}
 use Rattle.ring_board.specs.declared.shared.view.View.{View as BoardView}
-use Rattle.ring_board.specs.Seats.{IsTransmitterOf, view_of}
+use Rattle.ring_board.specs.Seats.{IsTransmitterOf, heard_by, receiver_view, shares_of as board_shares_of, view_of}
+use Rattle.ring_board.specs.Steps.{as_joined, joined}
 use Rattle.ring_counters.specs.declared.values.seats.CounterValues.{CounterValues}
 use Rattle.ring_counters.specs.declared.manager.CountersManager.{CountersManager}
 use Rattle.ring_counters.specs.Registry.{fresh_registry}
-use Rattle.ring_counters.specs.Manager.{registry_of, writes_of, shares_of, IsManagerOf}
+use Rattle.ring_counters.specs.Manager.{registry_of, writes_of, shares_of, IsManagerOf, KeepsCounters}
 use Rattle.ring_conductor.specs.declared.conductor.Conductor.{Conductor}
 use Rattle.ring_conductor.specs.declared.conductor.Work.{Work}
 use Rattle.ring_conductor.specs.declared.conductor.WorkStop.{WorkStop}
@@ -72,6 +74,17 @@ pub record KeepsWhatItServes (old new : Conductor) : Type 0 where
 pub record KeepsSeats (old new : Conductor) : Type 0 where
   pub consumer : consumer_of new ≡ consumer_of old
   pub transmitter : transmitter_of new ≡ transmitter_of old
+
+-- only how many shares of these values are out, and what their readers loaded, may be another
+pub record KeepsAllCounters (values : CounterValues) (old new : Conductor) : Type 0 where
+  pub counters : KeepsCounters values (manager_in old) (manager_in new)
+  pub seats : KeepsSeats old new
+
+-- a receiver is joined: the transmitter has its share back, and the receiver stands behind those joined before
+pub record JoinsReceiver (r : CopyReceiver) (old new : Conductor) : Type 0 where
+  pub view : board_view new ≡ joined (board_view old) (receiver_view r)
+  pub shares : board_shares_of (transmitter_of new) ≡ board_shares_of (transmitter_of old) + 1
+  pub heard : heard_by (transmitter_of new) ≡ heard_by (transmitter_of old) ++ as_joined (receiver_view r) ∷ []
 
 -- no counter was ever used, and no value written
 abbrev pub AreUnused : CountersManager → Type 0

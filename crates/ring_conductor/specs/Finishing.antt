@@ -1,29 +1,33 @@
 -- What a conductor hands out when it finishes.
-use Rattle.std.specs.Prelude.{◌≡◌, ℕ, ◌-◌, nat_lt, if◌then◌else◌, ℤ, pos, List, ◌++◌, Option, Some, None}
+use Rattle.std.specs.Prelude.{◌≡◌, ℕ, ◌-◌, nat_lt, if◌then◌else◌, ℤ, pos, List, ◌++◌, length, Option, Some, None}
 use Rattle.ring_layout.specs.declared.message.Claim.{Claim}
 use Rattle.ring_layout.specs.History.{committed_of}
 use Rattle.ring_words.specs.Ring.{Ring, Has}
 use Rattle.ring_table.specs.declared.claim.PlacedMessage.{PlacedMessage}
 use Rattle.ring_table.specs.declared.claim.StagedClaim.{StagedClaim}
 use Rattle.ring_table.specs.Passing.{placed_committed_of}
+use Rattle.ring_rings.specs.declared.ring.Consumer.{Consumer}
 use Rattle.ring_rings.specs.declared.ring.Producer.{Producer}
+use Rattle.ring_rings.specs.Closing.{AreOrdered, HandsOut, Serves}
 use Rattle.ring_rings.specs.Reading.{messages_of}
-use Rattle.ring_rings.specs.Seats.{open_claims_of, shares_of}
+use Rattle.ring_rings.specs.Seats.{claims_of, open_claims_of, shares_of, view_of}
 use Rattle.ring_board.specs.declared.board.Board.{Board}
 use Rattle.ring_board.specs.declared.board.ClosedBoard.{ClosedBoard}
 use Rattle.ring_board.specs.declared.shared.view.Joined.{Joined}
 use Rattle.ring_board.specs.declared.shared.view.Record.{Record}
 use Rattle.ring_board.specs.Closing.{IsClosed, closed_capacity, closed_words}
+use Rattle.ring_board.specs.Runs.{AreAllRuns}
 use Rattle.ring_board.specs.Seats.{capacity_of, heard_by, shares_of as board_shares_of, start_of, transmitted}
 use Rattle.ring_counters.specs.declared.manager.CountersManager.{CountersManager}
 use Rattle.ring_counters.specs.Manager.{registry_of, writes_of}
 use Rattle.ring_counters.specs.declared.values.seats.CounterValues.{CounterValues}
 use Rattle.ring_conductor.specs.declared.conductor.Conductor.{Conductor}
+use Rattle.ring_conductor.specs.declared.finishing.Finished.{Finished}
 use Rattle.ring_conductor.specs.declared.finishing.fault.FinishFault.{FinishFault}
 use Rattle.ring_conductor.specs.declared.finishing.fault.FinishFault.TheVariants.{ClaimsOpen, ProducersOut, ReceiversOut}
 use Rattle.ring_conductor.specs.declared.finishing.fault.FinishRefused.{FinishRefused}
 use Rattle.ring_conductor.specs.Account.{IsFoldOf, messages_in}
-use Rattle.ring_conductor.specs.Conducting.{received_of, transmitter_of}
+use Rattle.ring_conductor.specs.Conducting.{IsConductorOf, manager_in, received_of, ring_view, transmitter_of}
 
 -- why a conductor does not finish, with so many open claims of the producer, and so many shares of producer and
 -- transmitter, in the order of the tests
@@ -78,3 +82,34 @@ abbrev pub HasAllReplies : Board → List Record → ClosedBoard → Type 0
 HasAllReplies board replies closed =
     (closed_capacity closed ≡ capacity_of board)
     × IsClosed (capacity_of board) (start_of board) replies (closed_words closed)
+
+-- Where a conductor does not finish, all five come back as they were, so that the call can be made again
+pub record ComesBack {R : Type 0} (is_consumer : R → Consumer → Type 0) (is_producer : R → Producer → Type 0) (ring : R)
+    (board : Board) (values : CounterValues) (c : Conductor) (p : Producer) (r : FinishRefused R) : Type 0 where
+  pub same : HasBack ring board values c p r
+  pub conductor : IsConductorOf is_consumer r.ring r.board r.values r.conductor
+  pub producer : is_producer r.ring r.producer
+
+-- What the headline says of what one run hands out, in the order of its words. C and start are the ring's; the producer
+-- p and the conductor c are those that were given
+pub record Headline (C start : ℕ) (p : Producer) (c : Conductor) (f : Finished) : Type 0 where
+  -- The claims, in tail-exchange order: one behind the other from the ring's start on, so that none occurs twice.
+  pub ordered : AreOrdered C start (claims_of p)
+  -- What was received, followed by what still lies in the ring, is the committed records, each whole and once.
+  pub whole : IsWhole (claims_of p) (received_of c) f.rest
+  pub left : HandsOut C start (view_of p) (ring_view c) f.rest
+  -- Each receiver's validated copies are rising contiguous runs of the transmitted list, broken only where its count
+  -- rose.
+  pub runs : AreAllRuns (replies_of c) (joined_by c)
+  -- The counters and the transmitted replies are the fold of the commands received, each applied at a moment.
+  pub folded : ∥ IsFoldOfReceived c f.counters ∥₁
+
+-- What is handed on: the counters, the board with all replies, how many commands were received, the values, and in the
+-- rest the words of ids and heartbeat, which are those that were drawn and stored
+pub record HandsOn (C : ℕ) (board : Board) (v : CounterValues) (p : Producer) (c : Conductor) (f : Finished)
+    : Type 0 where
+  pub counters : f.counters ≡ manager_in c
+  pub replies : HasAllReplies board (replies_of c) f.board
+  pub received : f.received ≡ length (received_of c)
+  pub values : f.values ≡ v
+  pub services : Serves C (view_of p) (ring_view c) f.rest

@@ -1,29 +1,32 @@
 -- What clauses say of a storm.
-use Rattle.std.specs.Prelude.{◌≡◌, ◌⊎◌, ℕ, ◌*◌, ◌/◌, ◌<◌, ◌≤◌, ◌^◌, ℤ, pos, ◌+ℤ◌, IsTrue, List, [], ◌∷◌, fold, length, None}
+use Rattle.std.specs.Prelude.{◌≡◌, ◌⊎◌, ℕ, ◌+◌, ◌*◌, ◌/◌, ◌<◌, ◌≤◌, ◌^◌, ℤ, pos, ◌+ℤ◌, IsTrue, List, [], ◌∷◌, ◌++◌, fold, length, None}
 use Rattle.std.specs.Int.{is_power_of_two, IsPowerOfTwo, saturate_signed, w64}
 use Rattle.ring_layout.specs.declared.message.Message.{Message}
 use Rattle.ring_table.specs.declared.claim.StagedClaim.{StagedClaim}
 use Rattle.ring_table.specs.declared.view.Service.{Service}
+use Rattle.ring_table.specs.Owners.{interleaved}
 use Rattle.ring_table.specs.Passing.{placed_committed_of}
 use Rattle.ring_table.specs.ProducerSteps.{EndBelow}
 use Rattle.ring_table.specs.Services.{once_below}
 use Rattle.ring_table.specs.Staged.{AreRising}
 use Rattle.ring_rings.specs.declared.ring.Ring.{Ring}
-use Rattle.ring_rings.specs.Closing.{AreOrdered, HandsOut}
+use Rattle.ring_rings.specs.Closing.{AreOrdered}
 use Rattle.ring_rings.specs.declared.ring.Producer.{Producer}
 use Rattle.ring_rings.specs.Reading.{messages_of}
-use Rattle.ring_rings.specs.Seats.{claims_of, open_claims_of, seen_tail_of, shares_of, view_of, IsConsumerOf, IsProducerOf}
+use Rattle.ring_rings.specs.Seats.{capacity_of, claims_of, open_claims_of, seen_tail_of, shares_of, start_of, IsConsumerOf, IsProducerOf}
 use Rattle.ring_board.specs.declared.board.Board.{Board}
 use Rattle.ring_board.specs.declared.shared.view.Joined.{Joined}
 use Rattle.ring_board.specs.declared.shared.view.Record.{Record}
 use Rattle.ring_board.specs.Runs.{AreAllRuns}
-use Rattle.ring_board.specs.Seats.{IsReceiverOf, shares_of as board_shares}
+use Rattle.ring_board.specs.Seats.{IsReceiverOf, receiver_view, shares_of as board_shares}
+use Rattle.ring_board.specs.Steps.{as_joined}
 use Rattle.ring_counters.specs.declared.values.rule.ValueWrite.{ValueWrite}
 use Rattle.ring_counters.specs.declared.values.seats.CounterValues.{CounterValues}
 use Rattle.ring_counters.specs.Counter.{Counter}
 use Rattle.ring_counters.specs.Manager.{registry_of}
 use Rattle.ring_counters.specs.Registry.{Registry, counter_at, fresh_registry, is_allocated, live_of, status_at, value_at}
 use Rattle.ring_conductor.specs.declared.conductor.Conductor.{Conductor}
+use Rattle.ring_conductor.specs.declared.storming.conductor.ConductorEnd.{ConductorEnd}
 use Rattle.ring_conductor.specs.declared.storming.plan.StormFault.{StormFault}
 use Rattle.ring_conductor.specs.declared.storming.plan.StormFault.TheVariants.{BadPlan, OutOfMemory, TurnsSpent}
 use Rattle.ring_conductor.specs.declared.storming.plan.StormPlan.{StormPlan}
@@ -34,11 +37,11 @@ use Rattle.ring_conductor.specs.declared.storming.seats.LevelEnd.{LevelEnd}
 use Rattle.ring_conductor.specs.declared.storming.seats.StormEnd.{StormEnd}
 use Rattle.ring_conductor.specs.declared.storming.shared.Shared.{Shared}
 use Rattle.ring_conductor.specs.Applied.{applied}
-use Rattle.ring_conductor.specs.Asking.{draws_of, producer_of, receiver_of, services_of}
-use Rattle.ring_conductor.specs.Conducting.{IsConductorOf, manager_in, received_of, ring_view, transmitter_of, value_shares_of}
-use Rattle.ring_conductor.specs.Finishing.{HasAllReplies, IsFoldOfReceived, IsWhole, joined_by, replies_of}
+use Rattle.ring_conductor.specs.Asking.{draws_of, producer_of, receiver_of, service_of, services_of}
+use Rattle.ring_conductor.specs.Conducting.{IsConductorOf, manager_in, received_of, transmitter_of, value_shares_of}
+use Rattle.ring_conductor.specs.Finishing.{HandsOn, Headline, joined_by}
 use Rattle.ring_conductor.specs.Account.{IsFoldOf, messages_in}
-use Rattle.ring_conductor.specs.Turns.{AreAllTurns, Deeds, claims_by, copies_by, drawn_in, draws_by, label_of, last_set}
+use Rattle.ring_conductor.specs.Turns.{AreAllTurns, AreAnswered, Deeds, claims_by, copies_by, drawn_in, draws_by, label_of, last_set}
 
 -- The plan ---------------------------------------------------------------------
 
@@ -136,6 +139,13 @@ IsNew c = (sent_by (producer_of c.client) ≡ 0) × (c.seen ≡ 0) × (draws_by 
 abbrev pub SentAtMost : ℕ → StormClient → Type 0
 SentAtMost n c = (sent_by (producer_of c.client) ≤ n) × (length (draws_by c.client) ≤ n)
 
+-- the client with this number has sent so many commands at the most, and each one that it counts was answered
+pub record HasWorked (commands client : ℕ) (c : StormClient) : Type 0 where
+  pub sent : SentAtMost commands c
+  pub seen : c.seen ≤ commands
+  pub index : c.index ≡ client
+  pub answered : AreAnswered c.index c.seen (deeds_of c)
+
 -- how many commands the conductor took
 abbrev pub taken_by : Conductor → ℕ
 taken_by c = length (received_of c)
@@ -168,9 +178,27 @@ IsDone p clients end = (all_commands p ≤ taken_by end.hub.conductor) × (end.s
     × AreAllTurns p.commands clients (claims_of end.hub.producer) (joined_by end.hub.conductor)
     (services_of end.hub.producer)
 
+-- what the conductor's thread gives back: the conductor with the counters of the messages taken; it has joined no
+-- receiver, and where it is done it took all commands
+pub record HasConducted {K : Type 0} (p : StormPlan) (ring : Ring K) (board : Board) (values : CounterValues)
+    (end : ConductorEnd) : Type 0 where
+  pub conductor : IsConductorOf IsConsumerOf ring board values end.conductor
+  pub counters : HasCounters p end.conductor
+  pub none_joined : joined_by end.conductor ≡ []
+  pub done : IsTrue end.is_done → all_commands p ≤ taken_by end.conductor
+
 -- nobody has sent a command, and neither a receiver nor a producer was joined
 abbrev pub IsUnused : Hub → Type 0
 IsUnused hub = (claims_of hub.producer ≡ []) × (joined_by hub.conductor ≡ []) × (services_of hub.producer ≡ [])
+
+-- hub as it is before the first client: of this ring, this board and these values, and unused
+pub record IsFreshOf {K : Type 0} (p : StormPlan) (ring : Ring K) (board : Board) (values : CounterValues)
+    (hub : Hub) : Type 0 where
+  pub of : IsHubOf p ring board values hub
+  pub unused : IsUnused hub
+
+abbrev pub IsFreshAt : {G : Type 0} → Shared G → Hub → Type 0
+IsFreshAt s hub = IsFreshOf s.plan s.ring.now s.board.now s.values.now hub
 
 -- no share of ring or board is away, and no claim is open
 pub record HasAll (hub : Hub) : Type 0 where
@@ -178,31 +206,59 @@ pub record HasAll (hub : Hub) : Type 0 where
   pub receivers : board_shares_of hub.conductor ≡ 65536
   pub settled : open_claims_of hub.producer ≡ 0
 
+-- as many shares of ring and board as before, and as many open claims
+pub record HasSeatsBack (old new : Hub) : Type 0 where
+  pub producers : shares_of new.producer ≡ shares_of old.producer
+  pub receivers : board_shares_of new.conductor ≡ board_shares_of old.conductor
+  pub open_claims : open_claims_of new.producer ≡ open_claims_of old.producer
+
+-- one share of the ring and one of the board are lent, and nothing else that is counted is another
+pub record LendsSeats (old new : Hub) : Type 0 where
+  pub producers : shares_of new.producer + 1 ≡ shares_of old.producer
+  pub receivers : board_shares_of new.conductor + 1 ≡ board_shares_of old.conductor
+  pub open_claims : open_claims_of new.producer ≡ open_claims_of old.producer
+  pub claims : claims_of new.producer ≡ claims_of old.producer
+  pub joined : joined_by new.conductor ≡ joined_by old.conductor
+  pub services : services_of new.producer ≡ services_of old.producer
+  pub taken : taken_by new.conductor ≡ taken_by old.conductor
+
+-- a client's seats are joined: one share of the ring and one of the board more, its claims put among the others, and
+-- its receiver and its service behind the others
+pub record TakesSeats (c : StormClient) (old new : Hub) : Type 0 where
+  pub producers : shares_of new.producer ≡ shares_of old.producer + 1
+  pub receivers : board_shares_of new.conductor ≡ board_shares_of old.conductor + 1
+  pub open_claims : open_claims_of new.producer ≡ open_claims_of old.producer
+  pub sent : sent_by new.producer ≡ sent_by old.producer + sent_by (producer_of c.client)
+  pub claims : claims_of new.producer ≡ interleaved (claims_of old.producer) (claims_by c.client)
+  pub joined : joined_by new.conductor
+      ≡ joined_by old.conductor ++ as_joined (receiver_view (receiver_of c.client)) ∷ []
+  pub services : services_of new.producer ≡ services_of old.producer ++ service_of (producer_of c.client) ∷ []
+  pub taken : taken_by new.conductor ≡ taken_by old.conductor
+
+-- The end of a level: hub with the seats of so many clients, which sent no more commands and saw no more replies than
+-- the plan has for them; all of these, each in its turn, where nothing failed
+pub record IsEndOf {K : Type 0} (p : StormPlan) (ring : Ring K) (board : Board) (values : CounterValues)
+    (clients : ℕ) (end : LevelEnd) : Type 0 where
+  pub hub : IsHubOf p ring board values end.hub
+  pub sent : sent_by end.hub.producer ≤ clients * p.commands
+  pub seen : end.seen ≤ clients * p.commands
+  pub done : (end.failure ≡ None) → IsDone p clients end
+
+abbrev pub IsEndAt : {G : Type 0} → Shared G → ℕ → LevelEnd → Type 0
+IsEndAt s clients end = IsEndOf s.plan s.ring.now s.board.now s.values.now clients end
+
 -- The end ----------------------------------------------------------------------
 
 -- What is left of a storm, whether all is done or some gave up. Hub has all seats of this ring, this board and these
--- values, and with it the conductor finished: claims, no more than all commands, lie one behind the other from the
--- ring's start on. What was received, followed by what still lies in the ring, is their messages, each whole and once.
--- What the receivers copied are runs of the replies, which the closed board has, and counters and replies are the fold
--- of what was received
+-- values, with no more claims than all commands, and with it the conductor finished: the headline holds of it, and all
+-- that it hands on is handed on
 pub record HasFinished {K : Type 0} (p : StormPlan) (ring : Ring K) (board : Board) (values : CounterValues)
     (e : StormEnd) : Type 0 where
   pub hub : Hub
-  pub of : IsHubOf p ring board values hub
+  pub end : IsEndOf p ring board values p.clients (record { hub = hub; seen = e.seen; failure = e.failure })
   pub all : HasAll hub
-  pub few : sent_by hub.producer ≤ all_commands p
-  pub whole : IsWhole (claims_of hub.producer) (received_of hub.conductor) e.finished.rest
-  pub left : HandsOut p.ring 0 (view_of hub.producer) (ring_view hub.conductor) e.finished.rest
-  pub received : e.finished.received ≡ length (received_of hub.conductor)
-  pub runs : AreAllRuns (replies_of hub.conductor) (joined_by hub.conductor)
-  pub folded : ∥ IsFoldOfReceived hub.conductor e.finished.counters ∥₁
-  pub counters : e.finished.counters ≡ manager_in hub.conductor
-  pub replies : HasAllReplies board (replies_of hub.conductor) e.finished.board
-  pub handed : e.finished.values ≡ values
-  pub drawn : ℕ
-  pub once : (x : ℕ) → drawn_in x (services_of hub.producer) ≡ once_below x drawn
-  pub done : (e.failure ≡ None)
-      → IsDone p p.clients (record { hub = hub; seen = e.seen; failure = e.failure })
+  pub headline : Headline (capacity_of ring) (start_of ring) hub.producer hub.conductor e.finished
+  pub hands_on : HandsOn (capacity_of ring) board values hub.producer hub.conductor e.finished
 
 -- The report -------------------------------------------------------------------
 

@@ -1,14 +1,12 @@
 //! How a conductor finishes.
 pub(crate) mod fault;
 
-ghost use Rattle.std.specs.Prelude.{◌≡◌, IfErr, IfOk, OnOk, length};
-ghost use Rattle.ring_rings.specs.Closing.{AreOrdered, HandsOut, IsRefusedAs, Serves};
-ghost use Rattle.ring_rings.specs.Seats.{claims_of, open_claims_of, shares_of, view_of};
-ghost use Rattle.ring_board.specs.Runs.{AreAllRuns};
+ghost use Rattle.std.specs.Prelude.{◌≡◌, IfErr, IfOk, OnOk};
+ghost use Rattle.ring_rings.specs.Closing.{IsRefusedAs};
+ghost use Rattle.ring_rings.specs.Seats.{open_claims_of, shares_of};
 ghost use Rattle.ring_board.specs.Seats.{shares_of as board_shares_of};
-ghost use Rattle.ring_conductor.specs.Conducting.{IsConductorOf, manager_in, received_of, ring_view, transmitter_of};
-ghost use Rattle.ring_conductor.specs.Finishing.{HasAllReplies, HasBack, IsFoldOfReceived, IsWhole};
-ghost use Rattle.ring_conductor.specs.Finishing.{finish_refusal_of, handed_back, joined_by, refusal_to, replies_of};
+ghost use Rattle.ring_conductor.specs.Conducting.{IsConductorOf, transmitter_of};
+ghost use Rattle.ring_conductor.specs.Finishing.{ComesBack, HandsOn, Headline, handed_back, refusal_to};
 
 use crate::conductor::Conductor;
 use crate::finishing::fault::{FinishFault, FinishRefused};
@@ -75,31 +73,16 @@ pub fn finish<R: CommandSource>(
     // Once the producers have returned. Else all comes back as it was.
     ensures refused { IsRefusedAs (handed_back ring board values conductor producer)
         (refusal_to conductor producer) result }
-    ensures same { IfErr result (HasBack ring board values conductor producer) }
-    ensures returned { IfErr result (λ r. IsConductorOf R.is_consumer r.ring r.board r.values r.conductor
-        × R.is_producer r.ring r.producer) }
+    ensures back { IfErr result (ComesBack R.is_consumer R.is_producer ring board values conductor producer) }
 
-    // The claims, in tail-exchange order: one behind the other from the ring's start on, so that none occurs twice.
-    ensures ordered { IfOk result (λ _. AreOrdered (R.bytes ring) (R.start ring) (claims_of producer)) }
+    // What was received, followed by what still lies in the ring, is the committed records in tail-exchange order, each
+    // whole and once; each receiver's copies are runs of the replies; and counters and replies are the fold of what was
+    // received.
+    ensures headline { IfOk result (Headline (R.bytes ring) (R.start ring) producer conductor) }
 
-    // What was received, followed by what still lies in the ring, is the committed records, each whole and once.
-    ensures whole { IfOk result (λ f. IsWhole (claims_of producer) (received_of conductor) f.rest) }
-    ensures left { IfOk result (λ f.
-        HandsOut (R.bytes ring) (R.start ring) (view_of producer) (ring_view conductor) f.rest) }
-
-    // Each receiver's validated copies are rising contiguous runs of the transmitted list, broken only where its count
-    // rose.
-    ensures runs { IfOk result (λ _. AreAllRuns (replies_of conductor) (joined_by conductor)) }
-
-    // The counters and the transmitted replies are the fold of the commands received, each applied at a moment.
-    ensures folded { IfOk result (λ f. ∥ IsFoldOfReceived conductor f.counters ∥₁) }
-    ensures counters { IfOk result (λ f. f.counters ≡ manager_in conductor) }
-    ensures replies { IfOk result (λ f. HasAllReplies board (replies_of conductor) f.board) }
-    ensures received { IfOk result (λ f. f.received ≡ length (received_of conductor)) }
-
-    // The values are handed on, and the words of ids and heartbeat are those that were drawn and stored.
-    ensures values { IfOk result (λ f. f.values ≡ values) }
-    ensures services { IfOk result (λ f. Serves (R.bytes ring) (view_of producer) (ring_view conductor) f.rest) }
+    // Counters, replies and values are handed on, and the words of ids and heartbeat are those that were drawn and
+    // stored.
+    ensures hands_on { IfOk result (HandsOn (R.bytes ring) board values producer conductor) }
 {
     if let Err(reason) = test_finish(&conductor, &producer) {
         return Err(FinishRefused {

@@ -1,9 +1,7 @@
 //! Clients on threads of their own, against one conductor.
-ghost use Rattle.std.specs.Prelude.{◌≡◌, ◌↔◌, ◌≤◌, IfOk, Err, None};
+ghost use Rattle.std.specs.Prelude.{◌≡◌, ◌↔◌, IfOk, Err};
 ghost use Rattle.ring_conductor.specs.declared.storming.plan.StormFault.TheVariants.{BadPlan};
-ghost use Rattle.ring_rings.specs.Seats.{capacity_of, start_of};
-ghost use Rattle.ring_conductor.specs.Storming.{HasAll, HasFinished, IsDone, IsHubOf, IsPlan, IsReportOf, IsUnused};
-ghost use Rattle.ring_conductor.specs.Storming.{all_commands, sent_by};
+ghost use Rattle.ring_conductor.specs.Storming.{HasAll, HasFinished, IsEndOf, IsFreshOf, IsPlan, IsReportOf};
 
 mod client;
 mod conductor;
@@ -92,10 +90,8 @@ fn run<R: Threads + Wait, G: Gate + Sync>(
     hub: Hub,
 ) -> StormEnd
     requires plan { IsPlan plan.now }
-    requires ring { (capacity_of ring ≡ plan.now.ring) × (start_of ring ≡ 0) }
-    requires hub { IsHubOf plan.now ring board values hub }
+    requires hub { IsFreshOf plan.now ring board values hub }
     requires whole { HasAll hub }
-    requires unused { IsUnused hub }
     ensures { HasFinished plan.now ring board values result }
 {
     let LevelEnd { hub, seen, failure } = run_threads(
@@ -124,13 +120,10 @@ fn run_threads<R: Threads + Wait, G: Gate + Sync>(
     hub: Hub,
 ) -> LevelEnd
     requires plan { IsPlan plan.now }
-    requires hub { IsHubOf plan.now ring.now board.now values.now hub }
+    requires hub { IsFreshOf plan.now ring.now board.now values.now hub }
     requires whole { HasAll hub }
-    requires unused { IsUnused hub }
-    ensures hub { IsHubOf plan.now ring.now board.now values.now result.hub }
+    ensures end { IsEndOf plan.now ring.now board.now values.now plan.now.clients result }
     ensures whole { HasAll result.hub }
-    ensures sent { sent_by result.hub.producer ≤ all_commands plan.now }
-    ensures done { (result.failure ≡ None) → IsDone plan.now plan.now.clients result }
 {
     let flag = AtomicBool::new(false);
     let stopped = &flag;
@@ -140,13 +133,10 @@ fn run_threads<R: Threads + Wait, G: Gate + Sync>(
         rt,
         |scope| -> LevelEnd
             requires plan { IsPlan plan }
-            requires hub { IsHubOf plan ring.now board.now values.now hub }
+            requires hub { IsFreshOf plan ring.now board.now values.now hub }
             requires whole { HasAll hub }
-            requires unused { IsUnused hub }
-            ensures hub { IsHubOf plan ring.entry.now board.entry.now values.entry.now result.hub }
+            ensures end { IsEndOf plan ring.entry.now board.entry.now values.entry.now plan.clients result }
             ensures whole { HasAll result.hub }
-            ensures sent { sent_by result.hub.producer ≤ all_commands plan }
-            ensures done { (result.failure ≡ None) → IsDone plan plan.clients result }
         {
             let shared = Shared {
                 ring,

@@ -1,12 +1,13 @@
 -- What a manager shows.
-use Rattle.std.specs.Prelude.{◌≡◌, ℕ, List, Option}
+use Rattle.std.specs.Prelude.{◌≡◌, ℕ, ℤ, List, [], ◌∷◌, ◌++◌, Option}
 use Rattle.atomic_table.specs.Seated.{TableId}
 use Rattle.ring_counters.specs.declared.values.rule.ValueWrite.{ValueWrite}
 use Rattle.ring_counters.specs.declared.values.seats.CounterValues.{CounterValues}
 use Rattle.ring_counters.specs.declared.manager.CountersManager.{CountersManager}
 use Rattle.ring_counters.specs.declared.fault.IdFault.{IdFault}
 use Rattle.ring_counters.specs.Counter.{Counter}
-use Rattle.ring_counters.specs.Registry.{Registry, counter_at, id_refusal_of, range_refusal_of}
+use Rattle.ring_counters.specs.Registry.{Registry, counter_at, id_refusal_of, range_refusal_of, with_value}
+use Rattle.ring_counters.specs.Views.{value_write}
 
 -- the counters
 abbrev pub registry_of : CountersManager → Registry
@@ -45,3 +46,14 @@ pub record KeepsValues (old new : CountersManager) : Type 0 where
   pub same_writes : writes_of new ≡ writes_of old
   pub same_shares : shares_of new ≡ shares_of old
   pub same_values : table_of new ≡ table_of old
+
+-- it is the manager of these values, and counters and writes are as before
+pub record KeepsCounters (values : CounterValues) (old new : CountersManager) : Type 0 where
+  pub manager : IsManagerOf values new
+  pub registry : registry_of new ≡ registry_of old
+  pub writes : writes_of new ≡ writes_of old
+
+-- the counter with this id has this value, which was written once, and no other counter changed
+pub record SetsValue (id : ℕ) (value : ℤ) (old new : CountersManager) : Type 0 where
+  pub registry : registry_of new ≡ with_value (registry_of old) id value
+  pub writes : writes_of new ≡ writes_of old ++ value_write id value ∷ []

@@ -1,10 +1,13 @@
 -- The seats of the values.
-use Rattle.std.specs.Prelude.{◌≡◌, ℕ, List}
+use Rattle.std.specs.Prelude.{◌≡◌, ℕ, ℤ, List, [], ◌∷◌, ◌++◌}
 use Rattle.ring_counters.specs.declared.values.rule.ValueWrite.{ValueWrite}
 use Rattle.ring_counters.specs.declared.values.rule.ValueLoad.{ValueLoad}
 use Rattle.ring_counters.specs.declared.values.seats.CounterValues.{CounterValues}
 use Rattle.ring_counters.specs.declared.values.seats.ValueWriter.{ValueWriter}
 use Rattle.ring_counters.specs.declared.values.seats.ValueReader.{ValueReader}
+use Rattle.ring_layout.specs.Lists.{Begins}
+use Rattle.ring_counters.specs.ValueWrites.{value_after}
+use Rattle.ring_counters.specs.Views.{value_load}
 
 abbrev pub IsWriterOf : CounterValues → ValueWriter → Type 0
 IsWriterOf values writer = writer.seat.table_id ≡ values.table.shared.table_id
@@ -32,3 +35,17 @@ seen_by reader = reader.seat.me.0.seen
 -- what the reader loaded, in order
 abbrev pub loads_of : ValueReader → List ValueLoad
 loads_of reader = reader.seat.me.0.loads
+
+-- it reads these values, was made after these writes, which it has seen, and has loaded nothing
+pub record IsNewReaderOf (values : CounterValues) (writes : List ValueWrite) (r : ValueReader) : Type 0 where
+  pub reader : IsReaderOf values r
+  pub made : made_of r ≡ writes
+  pub seen : seen_by r ≡ writes
+  pub loads : loads_of r ≡ []
+
+-- the value is the id's after the writes that the reader has now seen, it is one more load, and no write that the
+-- reader had seen is missing
+pub record LoadsValue (id : ℕ) (value : ℤ) (old new : ValueReader) : Type 0 where
+  pub value_is : value ≡ value_after id (seen_by new)
+  pub loaded : loads_of new ≡ loads_of old ++ value_load id value (seen_by new) ∷ []
+  pub later : Begins (seen_by old) (seen_by new)

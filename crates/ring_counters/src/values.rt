@@ -4,10 +4,9 @@ pub(crate) mod seats;
 
 ghost use Rattle.std.specs.Prelude.{◌≡◌, ℕ, ◌+◌, ◌<◌, ◌≤◌, ◌↔◌, List, [], ◌∷◌, ◌++◌, IfOk, IfErr, IsOk};
 ghost use Rattle.ring_counters.specs.declared.values.rule.ValueWrite.{ValueWrite};
-ghost use Rattle.ring_counters.specs.Views.{value_write, value_load};
-ghost use Rattle.ring_layout.specs.Lists.{Begins};
-ghost use Rattle.ring_counters.specs.ValueWrites.{value_after, AreLoads};
-ghost use Rattle.ring_counters.specs.Seats.{IsReaderOf, IsWriterOf, loads_of, made_of, seen_by};
+ghost use Rattle.ring_counters.specs.Views.{value_write};
+ghost use Rattle.ring_counters.specs.ValueWrites.{AreLoads};
+ghost use Rattle.ring_counters.specs.Seats.{IsNewReaderOf, IsReaderOf, IsWriterOf, LoadsValue, loads_of, made_of};
 ghost use Rattle.ring_counters.specs.Seats.{values_count, writer_writes};
 
 use crate::fault::BadId;
@@ -61,10 +60,7 @@ impl CounterValues {
         ensures in_range { IsOk result ↔ (id < values_count self.now) }
 
         // The value is the id's after some writes, loaded in this call, and none that the reader has seen is missing.
-        ensures value { IfOk result (λ value. value ≡ value_after id (seen_by reader.new)) }
-        ensures loaded { IfOk result (λ value. loads_of reader.new
-            ≡ loads_of reader.old ++ value_load id value (seen_by reader.new) ∷ []) }
-        ensures later { IfOk result (λ _. Begins (seen_by reader.old) (seen_by reader.new)) }
+        ensures loads { IfOk result (λ value. LoadsValue id value reader.old reader.new) }
         ensures made { made_of reader.new ≡ made_of reader.old }
         ensures err { IfErr result (λ _. reader.new ≡ reader.old) }
     {
@@ -84,8 +80,7 @@ impl CounterValues {
         ensures writer { IsWriterOf self.now writer.new }
         ensures writes { writer_writes writer.new ≡ writer_writes writer.old }
         ensures enough { IsOk result ↔ (1 < writer.old.shares) }
-        ensures reader { IfOk result (λ r. IsReaderOf self.now r × (made_of r ≡ writer_writes writer.old)
-            × (seen_by r ≡ writer_writes writer.old) × (loads_of r ≡ [])) }
+        ensures reader { IfOk result (IsNewReaderOf self.now (writer_writes writer.old)) }
         ensures shares { IfOk result (λ _. writer.new.shares + 1 ≡ writer.old.shares) }
         ensures err { IfErr result (λ _. writer.new ≡ writer.old) }
     {

@@ -14,7 +14,7 @@ use Rattle.ring_table.specs.declared.claim.PlacedMessage.{PlacedMessage}
 use Rattle.ring_table.specs.declared.view.View.{View}
 use Rattle.ring_rings.specs.Reading.{Controls, FoundUnsettled, IsNext, Reads, messages_of}
 use Rattle.ring_handles.specs.declared.batch.Laying.{Laying}
-use Rattle.ring_handles.specs.Batch.{LaysIn, Batch, IsShort, Lays, LeavesOut, ReadBatch, ReadsBatch, TookBatch, TookSome, batch, laid, laid_end, span_in}
+use Rattle.ring_handles.specs.Batch.{LaysIn, Batch, IsShort, LaidNone, Lays, LeavesOut, ReadBatch, ReadsBatch, TookBatch, TookSome, batch, laid, laid_end, span_in}
 use Rattle.ring_handles.specs.Consuming.{RanOut, TookNone}
 use Rattle.ring_handles.specs.Side.{Reading, having_read}
 use Rattle.ring_handles.proofs.EndLemmas.{both, had_none, in_words, next_on, none_once, none_twice, ran_out}
@@ -151,7 +151,7 @@ some_taken limit v w s t end fresh within controls some =
     }
 
 -- none was taken, and the buffer is as before
-pub none_taken : (limit : ℕ) (v w : View) (s t : Laying) (end : ReadEnd) → s.used ≡ 0
+none_taken : (limit : ℕ) (v w : View) (s t : Laying) (end : ReadEnd) → s.used ≡ 0
     → Controls Lays limit v w s t end → end.messages ≡ 0
     → (w.consumer.taken ≡ v.consumer.taken) × (t.buffer.now ≡ s.buffer.now)
 none_taken limit v w s t end fresh controls none =
@@ -162,7 +162,7 @@ none_taken limit v w s t end fresh controls none =
     )
 
 -- the first message had no room
-pub none_fits : (limit : ℕ) (v w : View) (s t : Laying) (end : ReadEnd) → s.used ≡ 0 → s.is_full ≡ false
+none_fits : (limit : ℕ) (v w : View) (s t : Laying) (end : ReadEnd) → s.used ≡ 0 → s.is_full ≡ false
     → Controls Lays limit v w s t end → end.messages ≡ 0 → t.is_full ≡ true → IsShort s.buffer.now v w
 none_fits limit v w s t end fresh open_yet controls none is_full =
     let e = ends limit v w s t end fresh controls in
@@ -185,7 +185,7 @@ none_fits limit v w s t end fresh open_yet controls none is_full =
     }
 
 -- no message came
-pub none_came : (limit : ℕ) (v w : View) (s t : Laying) (end : ReadEnd)
+none_came : (limit : ℕ) (v w : View) (s t : Laying) (end : ReadEnd)
     → v.consumer.head + end.bytes ≡ w.consumer.head → (end.stopped ≡ Unpublished → FoundUnsettled v w)
     → Controls Lays limit v w s t end → end.messages ≡ 0 → t.is_full ≡ false → RanOut limit end.stopped v w
 none_came limit v w s t end bytes blocked (inl on) none open_yet = ran_out Lays limit v w s t end on none bytes blocked
@@ -195,6 +195,19 @@ none_came limit v w s t end bytes blocked (inr (inl broke)) none open_yet =
     broke.reads.handled))
 none_came limit v w s t end bytes blocked (inr (inr aborts)) none open_yet =
     let clash : true ≡ false = sym (left aborts.before t aborts.message aborts.aborted).full ∙ open_yet in absurd cc
+
+-- none was laid
+pub laid_none : (limit : ℕ) (v w : View) (s t : Laying) (end : ReadEnd) → s.used ≡ 0 → s.is_full ≡ false
+    → v.consumer.head + end.bytes ≡ w.consumer.head → (end.stopped ≡ Unpublished → FoundUnsettled v w)
+    → Controls Lays limit v w s t end → end.messages ≡ 0 → LaidNone limit end.stopped v w s t
+laid_none limit v w s t end fresh open_yet bytes blocked controls none =
+    let same = none_taken limit v w s t end fresh controls none in
+    record {
+      taken = same.0;
+      buffer = same.1;
+      full = none_fits limit v w s t end fresh open_yet controls none;
+      out = none_came limit v w s t end bytes blocked controls none;
+    }
 
 -- Two reads as one -----------------------------------------------------------------
 

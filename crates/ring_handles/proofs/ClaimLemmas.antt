@@ -199,14 +199,16 @@ module _ {K : Type 0} (ring : Ring K) where
       → claim_numbered number claims ≡ Some t → KeepsOthers ring t.place p q → AreOpen ring p claims
       → AreOpen ring q (without number claims)
   one_less_open p q claims number t is keeps are =
-      let less = one_less (IsOpenClaimOf ring p) (IsOpenClaimOf ring q) t keeps number claims is are.each are.apart in
+      let less = one_less (IsOpenClaimOf ring p) (IsOpenClaimOf ring q) t keeps.claims number claims is
+      are.each are.apart in
       record { each = less.0; apart = less.1 }
 
   pub one_changed_open : (p q : Producer) (claims : List ClaimAt) (number : ℕ) (t : ClaimAt)
       → claim_numbered number claims ≡ Some t → KeepsOthers ring t.place p q → IsOpenClaimOf ring q t
       → AreOpen ring p claims → AreOpen ring q claims
   one_changed_open p q claims number t is keeps here are = record {
-    each = one_changed (IsOpenClaimOf ring p) (IsOpenClaimOf ring q) t keeps number claims is are.each are.apart here;
+    each = one_changed (IsOpenClaimOf ring p) (IsOpenClaimOf ring q) t keeps.claims number claims is
+        are.each are.apart here;
     apart = are.apart;
   }
 
@@ -220,7 +222,10 @@ module _ {K : Type 0} (ring : Ring K) where
   front_open p q claims t are keeps =
       let all = All-pop (IsOpenClaimOf ring p) (claims ++ t ∷ []) claims (Some t) refl are.each in
       let front = apart_front claims t are.apart in
-      record { each = λ k d lt. keeps (slice_index_or claims k d) (all.0 k d lt) (front.1 k d lt); apart = front.0 }
+      record {
+        each = λ k d lt. keeps.claims (slice_index_or claims k d) (all.0 k d lt) (front.1 k d lt);
+        apart = front.0;
+      }
 
   -- of a ring, what is open goes by the capacity alone
   pub open_in : (same : Ring K) (p : Producer) (claims : List ClaimAt) → ring.capacity ≡ same.capacity

@@ -1,5 +1,5 @@
 -- How messages are laid one behind another into a buffer.
-use Rattle.std.specs.Prelude.{◌≡◌, ◌≢◌, ◌⊎◌, ℕ, ◌+◌, ◌*◌, ◌/◌, ◌<◌, ◌≤◌, ℤ, true, List, [], ◌∷◌, ◌++◌, length}
+use Rattle.std.specs.Prelude.{◌≡◌, ◌≢◌, ◌⊎◌, ℕ, ◌+◌, ◌*◌, ◌/◌, ◌<◌, ◌≤◌, ℤ, true, false, List, [], ◌∷◌, ◌++◌, length}
 use Rattle.std.specs.Int.{cast_unsigned, to_le_bytes, w64}
 use Rattle.ring_layout.specs.declared.message.Message.{Message}
 use Rattle.ring_layout.specs.History.{overwritten}
@@ -7,8 +7,9 @@ use Rattle.ring_table.specs.declared.claim.PlacedMessage.{PlacedMessage}
 use Rattle.ring_table.specs.declared.view.View.{View}
 use Rattle.ring_words.specs.declared.read.action.Action.{Action}
 use Rattle.ring_words.specs.declared.read.action.Action.TheVariants.{Abort, Continue}
+use Rattle.ring_words.specs.declared.read.end.Stop.{Stop}
 use Rattle.ring_rings.specs.Reading.{IsNext, messages_of}
-use Rattle.ring_handles.specs.Consuming.{HadNone, ReadCode, ReadsOn, TookNone}
+use Rattle.ring_handles.specs.Consuming.{HadNone, RanOut, ReadCode, ReadsOn, TookNone}
 use Rattle.ring_handles.specs.Side.{Reading, having_read}
 use Rattle.ring_handles.specs.declared.batch.Laying.{Laying}
 
@@ -83,6 +84,13 @@ pub record IsShort (bytes : List ℕ) (v w : View) : Type 0 where
   pub message : Message
   pub next : IsNext v w message
   pub short : length bytes < span_in (length message.body)
+
+-- none was taken, and the buffer is as before: it is too short for the first one, or the read ran out
+pub record LaidNone (limit : ℕ) (stopped : Stop) (v w : View) (s t : Laying) : Type 0 where
+  pub taken : w.consumer.taken ≡ v.consumer.taken
+  pub buffer : t.buffer.now ≡ s.buffer.now
+  pub full : t.is_full ≡ true → IsShort s.buffer.now v w
+  pub out : t.is_full ≡ false → RanOut limit stopped v w
 
 -- messages were taken, none was there, or the buffer is too short for the first one, which stays
 abbrev pub TookBatch : (View → View → Type 0) → ℕ → View → View → Batch → Batch → ℤ → Type 0

@@ -56,7 +56,7 @@ IsRawAstray p r code = (code ≡ pos 108) × (p.identity ≢ r.identity)
 
 -- all shares were back, the last transmission ended here, and what each receiver that was taken back copied are runs of
 -- the transmitted list
-pub record EndsAt (p : Sending) (tail : ℕ) : Type 0 where
+pub record BoardEndsAt (p : Sending) (tail : ℕ) : Type 0 where
   pub ready : close_refusal_of p.view.shares ≡ None
   pub tail_is : tail ≡ tail_in p
   pub runs : AreAllRuns p.view.sent p.view.heard

@@ -45,7 +45,7 @@ IsUnheard c code = ((code ≡ pos 12) × (subscribe_refusal_of (board_view c.con
     ⊎ (code ≡ pos 3)
 
 -- the counters and their writes are the same
-pub record KeepsCounters (c d : ConductorSide) : Type 0 where
+pub record KeepsSideCounters (c d : ConductorSide) : Type 0 where
   pub registry : registry_of (manager_in d.conductor) ≡ registry_of (manager_in c.conductor)
   pub writes : writes_of (manager_in d.conductor) ≡ writes_of (manager_in c.conductor)
   pub others : KeepsSeats c.conductor d.conductor
@@ -58,7 +58,7 @@ pub record LendsReader (c d : ConductorSide) (r : ReaderSide) : Type 0 where
   pub made : made_of r.reader ≡ writes_of (manager_in c.conductor)
   pub seen : seen_by r.reader ≡ writes_of (manager_in c.conductor)
   pub loads : loads_of r.reader ≡ []
-  pub keeps : KeepsCounters c d
+  pub keeps : KeepsSideCounters c d
 
 -- why a reader is not made: the conductor needs its last share, or memory is wanting
 abbrev pub WhyNotSeated : ConductorSide → ℤ → Type 0
@@ -91,7 +91,7 @@ pub record TakesReader (c : ConductorSide) (r : ReaderSide) (d : ConductorSide) 
   pub lender : conductor_of r.values ≡ Some (shared_by c)
   pub shares : value_shares_of d.conductor ≡ value_shares_of c.conductor + 1
   pub loads : AreLoads (made_of r.reader) (loads_of r.reader) (writes_of (manager_in d.conductor))
-  pub keeps : KeepsCounters c d
+  pub keeps : KeepsSideCounters c d
 
 -- it is no conductor's, or that of one with another number
 abbrev pub IsForeign : ConductorSide → Option Shared → ℤ → Type 0

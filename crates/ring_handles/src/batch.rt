@@ -1,8 +1,8 @@
 //! Messages laid one behind another into a buffer.
-ghost use Rattle.std.specs.Prelude.{◌≡◌, ◌≢◌, ◌+◌, ◌^◌, ◌<◌, ◌≤◌, true, false, length};
+ghost use Rattle.std.specs.Prelude.{◌≡◌, ◌≢◌, ◌+◌, ◌^◌, ◌<◌, ◌≤◌, false, length};
 ghost use Rattle.ring_layout.specs.declared.message.Message.{Message};
 ghost use Rattle.ring_rings.specs.Seats.{consumer_view, IsConsumerOf};
-ghost use Rattle.ring_handles.specs.Batch.{batch, placed, span_in, IsShort, Lays, ReadBatch, ReadsBatch, TookBatch, TookSome};
+ghost use Rattle.ring_handles.specs.Batch.{batch, placed, span_in, LaidNone, Lays, ReadBatch, ReadsBatch, TookBatch, TookSome};
 ghost use Rattle.ring_handles.specs.Consuming.{RanOut, ReadsOn};
 
 use crate::code::{DONE, NO_MESSAGE, SHORT_BUFFER};
@@ -69,12 +69,8 @@ fn lay_some<K>(
     ensures reads { ReadsOn (consumer_view consumer.old) (consumer_view consumer.new) }
     ensures some { result.messages ≢ 0 → TookSome limit (consumer_view consumer.old) (consumer_view consumer.new)
         laying.old.buffer.now (batch result.messages laying.new.used laying.new.buffer.now) }
-    ensures none { result.messages ≡ 0 → ((consumer_view consumer.new).consumer.taken
-        ≡ (consumer_view consumer.old).consumer.taken) × (laying.new.buffer.now ≡ laying.old.buffer.now) }
-    ensures full { result.messages ≡ 0 → laying.new.is_full ≡ true
-        → IsShort laying.old.buffer.now (consumer_view consumer.old) (consumer_view consumer.new) }
-    ensures out { result.messages ≡ 0 → laying.new.is_full ≡ false → RanOut limit result.stopped
-        (consumer_view consumer.old) (consumer_view consumer.new) }
+    ensures none { result.messages ≡ 0 → LaidNone limit result.stopped (consumer_view consumer.old)
+        (consumer_view consumer.new) laying.old laying.new }
 {
     ring.controlled_read(consumer, limit, laying)
 }

@@ -1,6 +1,6 @@
 //! What a transmitter takes back, and how its board ends.
 ghost use Rattle.std.specs.Prelude.{◌≡◌, IfErr, IfOk, OnOk};
-ghost use Rattle.ring_handles.specs.Returning.{EndsAt, IsAstray, IsBoardKept, IsOfThisBoard};
+ghost use Rattle.ring_handles.specs.Returning.{BoardEndsAt, IsAstray, IsBoardKept, IsOfThisBoard};
 ghost use Rattle.ring_handles.specs.Returning.{IsRawAstray, IsRawOfThisBoard, TakesListener, TakesWatcher};
 
 use crate::boards::{ReceiverSide, TransmitterSide};
@@ -56,7 +56,7 @@ impl TransmitterSide {
     /// Takes the board apart, where all shares are back and nobody else holds it, and says where the last transmission
     /// ended. Else the transmitter comes back.
     pub fn close(self) -> Result<u64, (i32, TransmitterSide)>
-        ensures closed { IfOk result (EndsAt self) }
+        ensures closed { IfOk result (BoardEndsAt self) }
         ensures refused { IfErr result (λ r. (r.1 ≡ self) × IsBoardKept self r.0) }
     {
         if self.transmitter.shares() != ALL_SHARES {

@@ -104,24 +104,26 @@ pub same_seats : {K : Type 0} (ring : Ring K) (old new : Producer) (c : Consumer
 same_seats ring old new c claims seats is keeps =
     record {
       start = seats.start;
-      producer = is;
+      holder = record { producer = is; held = same_open ring old new claims keeps.claims seats.holder.held };
       alone = keeps.shares
           ∙ seats.alone;
       consumer = seats.consumer;
-      held = same_open ring old new claims keeps.claims seats.held;
     }
 
 -- a claim that was held is settled
 pub settled_seats : {K : Type 0} (ring : Ring K) (old new : Producer) (c : Consumer)
-    (claims left : List (Option ClaimAt)) (n : ℕ) (t : ClaimAt) (s : ClaimState) → s ≢ Open → AreSeats ring old c claims → Goes t claims n left
+    (claims left : List (Option ClaimAt)) (n : ℕ) (t : ClaimAt) (s : ClaimState) → s ≢ Open
+    → AreSeats ring old c claims → Goes t claims n left
     → IsProducerOf ring new → KeepsOthers ring t.place old new
     → view_of new ≡ with_changed t.place (staged (Stored s)) (view_of old) → AreSeats ring new c left
 settled_seats ring old new c claims left n t s settled seats taken is others change = record {
   start = seats.start;
-  producer = is;
+  holder = record {
+    producer = is;
+    held = subst (AreOpen ring new) (sym taken.given_up)
+        (one_less_open ring old new claims (n - 1) t s settled seats.holder.held taken.here.has others.claims
+        (ap (λ (v : View). v.producer.claims) change));
+  };
   alone = ap (λ (v : View). v.producer.shares) change ∙ seats.alone;
   consumer = seats.consumer;
-  held = subst (AreOpen ring new) (sym taken.given_up)
-      (one_less_open ring old new claims (n - 1) t s settled seats.held taken.here.has others
-      (ap (λ (v : View). v.producer.claims) change));
 }

@@ -11,8 +11,8 @@ use Rattle.ring_rings.specs.declared.ring.Ring.{Ring}
 use Rattle.ring_rings.specs.declared.ring.Producer.{Producer}
 use Rattle.ring_rings.specs.declared.ring.Consumer.{Consumer}
 use Rattle.ring_rings.specs.Opening.{first_consumer, first_producer}
-use Rattle.ring_rings.specs.Seats.{shares_of, start_of, IsConsumerOf, IsProducerOf}
-use Rattle.ring_loose.specs.Claims.{AreOpen, Holder, holder}
+use Rattle.ring_rings.specs.Seats.{shares_of, start_of, IsConsumerOf}
+use Rattle.ring_loose.specs.Claims.{Holder, IsHolderOf, holder}
 
 -- a ring's capacity, what its producer knows and holds, and what its consumer knows
 pub record Loose : Type 0 where
@@ -20,15 +20,14 @@ pub record Loose : Type 0 where
   pub holder : Holder
   pub consumer : View
 
--- the ring began at 0, the producer and the consumer are its own, no other producer has a share, and the claims are the
--- producer's open ones
+-- the ring began at 0, the producer and the consumer are its own, the claims are the producer's open ones, and no other
+-- producer has a share
 pub record AreSeats {K : Type 0} (ring : Ring K) (p : Producer) (c : Consumer)
     (claims : List (Option ClaimAt)) : Type 0 where
   pub start : start_of ring ≡ 0
-  pub producer : IsProducerOf ring p
+  pub holder : IsHolderOf ring p claims
   pub alone : shares_of p ≡ 65536
   pub consumer : IsConsumerOf ring c
-  pub held : AreOpen ring p claims
 
 -- a ring as it is made
 abbrev pub fresh_loose : ℕ → Loose

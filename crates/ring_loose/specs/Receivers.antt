@@ -1,13 +1,13 @@
 -- Numbered receivers of a broadcast buffer.
-use Rattle.std.specs.Prelude.{◌≡◌, ℕ, List, [], ◌∷◌, Option, Some, None}
+use Rattle.std.specs.Prelude.{◌≡◌, ℕ, ◌+◌, List, [], ◌∷◌, Option, Some, None}
 use Rattle.ring_board.specs.declared.board.Board.{Board}
 use Rattle.ring_board.specs.declared.shared.view.View.{View}
 use Rattle.ring_board.specs.declared.board.Transmitter.{Transmitter}
 use Rattle.ring_board.specs.declared.board.CopyReceiver.{CopyReceiver}
 use Rattle.ring_board.specs.Receiving.{GotCopy, GotLapped, GotNothing}
-use Rattle.ring_board.specs.Seats.{view_of, IsReceiverOf, receiver_seat, receiver_view}
+use Rattle.ring_board.specs.Seats.{shares_of, view_of, IsReceiverOf, IsTransmitterOf, receiver_seat, receiver_view}
 use Rattle.ring_board.specs.Steps.{Sat, fewer, newcomer, joined}
-use Rattle.ring_loose.specs.Held.{Comes, Goes, HasAt, Stays, held_in}
+use Rattle.ring_loose.specs.Held.{Comes, Goes, HasAt, Stays, held_count, held_in}
 use Rattle.ring_loose.specs.declared.numbered.Numbered.{Numbered}
 use Rattle.ring_loose.specs.declared.received.Received.{Received}
 use Rattle.ring_loose.specs.declared.received.Received.TheVariants.{Copy, Nothing, Lapped}
@@ -17,12 +17,21 @@ pub record Crowd : Type 0 where
   pub transmitter : Transmitter
   pub receivers : List (Option CopyReceiver)
 
--- the receivers are this board's
-abbrev pub AreReceivers : Board → Numbered CopyReceiver → Type 0
-AreReceivers board receivers = (i : ℕ) (r : CopyReceiver) → HasAt (held_in receivers) i r → IsReceiverOf board r
-
 abbrev pub crowd : Transmitter → Numbered CopyReceiver → Crowd
 crowd t receivers = record { transmitter = t; receivers = held_in receivers }
+
+-- the receivers are this board's
+abbrev pub AreReceivers : Board → List (Option CopyReceiver) → Type 0
+AreReceivers board receivers = (i : ℕ) (r : CopyReceiver) → HasAt receivers i r → IsReceiverOf board r
+
+-- the transmitter is this board's, and so are the receivers
+pub record IsCrowdOf (board : Board) (c : Crowd) : Type 0 where
+  pub transmitter : IsTransmitterOf board c.transmitter
+  pub receivers : AreReceivers board c.receivers
+
+-- the shares that the transmitter and the receivers have together
+abbrev pub shares_in : Crowd → ℕ
+shares_in c = shares_of c.transmitter + held_count c.receivers
 
 -- a receiver was made, and has the next number
 pub record Subscribes (old : Crowd) (next : ℕ) (new : Crowd) : Type 0 where

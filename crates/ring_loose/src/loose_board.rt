@@ -1,5 +1,5 @@
 //! The broadcast buffer of a run, with its numbered receivers.
-ghost use Rattle.std.specs.Prelude.{◌≡◌, ◌+◌, [], IfNone, IfOk, IfSome, OnErr, OnOk, OnSome, length};
+ghost use Rattle.std.specs.Prelude.{◌≡◌, [], IfNone, IfOk, IfSome, OnErr, OnOk, OnSome, length};
 ghost use Rattle.ring_layout.specs.Places.{is_board_capacity};
 ghost use Rattle.ring_layout.specs.Refusals.{all_shares, make_refusal_of, IsMadeUnless, IsRefusedBy};
 ghost use Rattle.ring_board.specs.Closing.{IsClosed, closed_capacity, closed_words};
@@ -7,10 +7,10 @@ ghost use Rattle.ring_board.specs.Refusals.{subscribe_refusal_of, transmit_refus
 ghost use Rattle.ring_board.specs.Rule.{opening_view};
 ghost use Rattle.ring_board.specs.Runs.{AreAllRuns};
 ghost use Rattle.ring_board.specs.Seats.{capacity_of, next_record, shares_of, start_of, tail_of, transmitted, view_of};
-ghost use Rattle.ring_board.specs.Seats.{IsTransmitterOf};
 ghost use Rattle.ring_board.specs.Steps.{sent_on};
-ghost use Rattle.ring_loose.specs.Held.{IsFree, held_count, held_in};
-ghost use Rattle.ring_loose.specs.Receivers.{AreReceivers, LeavesCrowd, ReceivesAt, Subscribes, all_left, crowd};
+ghost use Rattle.ring_loose.specs.Held.{IsFree, held_in};
+ghost use Rattle.ring_loose.specs.Receivers.{LeavesCrowd, ReceivesAt, Subscribes};
+ghost use Rattle.ring_loose.specs.Receivers.{all_left, crowd, shares_in, IsCrowdOf};
 
 use crate::numbered::Numbered;
 use crate::received::Received;
@@ -27,9 +27,8 @@ pub struct LooseBoard {
     transmitter: Transmitter,
     /// The receivers that have not left.
     receivers: Numbered<CopyReceiver>,
-    ghost transmits: { IsTransmitterOf board transmitter },
-    ghost receive: { AreReceivers board receivers },
-    ghost shares: { shares_of transmitter + held_count (held_in receivers) ≡ all_shares },
+    ghost belong: { IsCrowdOf board (crowd transmitter receivers) },
+    ghost shares: { shares_in (crowd transmitter receivers) ≡ all_shares },
 }
 
 /// Makes a receiver, and keeps it under the next number, which is given. The room to keep it is made first.
@@ -39,17 +38,15 @@ fn make_receiver(
     transmitter: &mut Transmitter,
     receivers: &mut Numbered<CopyReceiver>,
 ) -> Result<Result<usize, SubscribeFault>, AllocError>
-    requires transmitter { IsTransmitterOf board.now transmitter.old }
-    requires receivers { AreReceivers board.now receivers.old }
-    ensures transmitter { IsTransmitterOf board.now transmitter.new }
-    ensures receivers { AreReceivers board.now receivers.new }
+    requires { IsCrowdOf board.now (crowd transmitter.old receivers.old) }
+    ensures crowd { IsCrowdOf board.now (crowd transmitter.new receivers.new) }
     ensures made { IfOk result (λ made. IfOk made (λ number.
         Subscribes (crowd transmitter.old receivers.old) number (crowd transmitter.new receivers.new))) }
     ensures same { IfOk result (λ made. OnErr made
         ((transmitter.new ≡ transmitter.old) × (held_in receivers.new ≡ held_in receivers.old))) }
     ensures refused { IfOk result (λ made. IsSubscribedUnless (subscribe_refusal_of (shares_of transmitter.old)) made) }
-    ensures shares { shares_of transmitter.new + held_count (held_in receivers.new)
-        ≡ shares_of transmitter.old + held_count (held_in receivers.old) }
+    ensures shares { shares_in (crowd transmitter.new receivers.new)
+        ≡ shares_in (crowd transmitter.old receivers.old) }
 {
     receivers.reserve()?;
     let receiver = match board.subscribe(alloc, transmitter) {
@@ -66,17 +63,15 @@ fn join_receiver(
     receivers: &mut Numbered<CopyReceiver>,
     number: usize,
 ) -> Option<()>
-    requires transmitter { IsTransmitterOf board.now transmitter.old }
-    requires receivers { AreReceivers board.now receivers.old }
-    ensures transmitter { IsTransmitterOf board.now transmitter.new }
-    ensures receivers { AreReceivers board.now receivers.new }
+    requires { IsCrowdOf board.now (crowd transmitter.old receivers.old) }
+    ensures crowd { IsCrowdOf board.now (crowd transmitter.new receivers.new) }
     ensures left { OnSome result
         (LeavesCrowd (crowd transmitter.old receivers.old) number (crowd transmitter.new receivers.new)) }
     ensures same { IfNone result
         ((transmitter.new ≡ transmitter.old) × (held_in receivers.new ≡ held_in receivers.old)) }
     ensures free { IfNone result (IsFree (held_in receivers.old) number) }
-    ensures shares { shares_of transmitter.new + held_count (held_in receivers.new)
-        ≡ shares_of transmitter.old + held_count (held_in receivers.old) }
+    ensures shares { shares_in (crowd transmitter.new receivers.new)
+        ≡ shares_in (crowd transmitter.old receivers.old) }
 {
     let receiver = receivers.take(number)?;
     board.join(transmitter, receiver);

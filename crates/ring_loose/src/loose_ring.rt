@@ -1,19 +1,18 @@
 //! The ring of a run, with its numbered claims.
-ghost use Rattle.std.specs.Prelude.{◌≡◌, ◌≢◌, ◌+◌, ◌≤◌, IfErr, IfNone, IfOk, IfSome, MatchOption, OnErr, OnOk, length};
+ghost use Rattle.std.specs.Prelude.{◌≡◌, ◌≢◌, ◌≤◌, IfErr, IfNone, IfOk, IfSome, MatchOption, OnErr, OnOk, length};
 ghost use Rattle.ring_layout.specs.declared.message.ClaimState.TheVariants.{Open, Committed, Aborted};
 ghost use Rattle.ring_layout.specs.Places.{is_capacity};
 ghost use Rattle.ring_layout.specs.Refusals.{make_refusal_of, IsMadeUnless};
 ghost use Rattle.ring_rings.specs.Closing.{HandsOut, Serves};
 ghost use Rattle.ring_rings.specs.Joining.{LoadsPositions};
-ghost use Rattle.ring_rings.specs.Reading.{Controls, FoundUnsettled, Reads};
-ghost use Rattle.ring_rings.specs.Seats.{capacity_of, shares_of, IsProducerOf};
-ghost use Rattle.ring_loose.specs.Claims.{AreOpen, Declines, HoldsNothing, Puts, SettlesAt, Tries, WritesAfter, holder_of};
+ghost use Rattle.ring_rings.specs.Reading.{Controls, EndsAt, Reads};
+ghost use Rattle.ring_rings.specs.Seats.{capacity_of, shares_of};
+ghost use Rattle.ring_loose.specs.Claims.{Declines, HoldsNothing, IsHolderOf, Puts, SettlesAt, Tries, WritesAfter, holder_of};
 ghost use Rattle.ring_loose.specs.Held.{IsFree, held_in};
 ghost use Rattle.ring_loose.specs.Loose.{aborted_view, beaten_view, fresh_loose, head_in, with_holder, with_reader, with_view};
 ghost use Rattle.ring_table.specs.Passing.{AreSettled};
 ghost use Rattle.ring_table.specs.ServiceSteps.{DrawsId, LoadsHeartbeat};
 ghost use Rattle.ring_words.specs.Read.{stop_of};
-ghost use Rattle.ring_words.specs.declared.read.end.Stop.{Stop};
 
 use crate::numbered::Numbered;
 use ring_layout::ClaimState;
@@ -67,10 +66,8 @@ fn put_into(
     offset: usize,
     bytes: &[u8],
 ) -> Option<Result<(), PutRange>>
-    requires producer { IsProducerOf ring.now producer.old }
-    requires claims { AreOpen ring.now producer.old (held_in claims.old) }
-    ensures producer { IsProducerOf ring.now producer.new }
-    ensures claims { AreOpen ring.now producer.new (held_in claims.new) }
+    requires { IsHolderOf ring.now producer.old (held_in claims.old) }
+    ensures holder { IsHolderOf ring.now producer.new (held_in claims.new) }
     ensures shares { shares_of producer.new ≡ shares_of producer.old }
     ensures put { IfSome result (λ put. Puts number offset bytes.now
         (holder_of producer.old claims.old) put (holder_of producer.new claims.new)) }
@@ -92,10 +89,8 @@ fn make_claim<R: Wait>(
     type_id: i32,
     len: usize,
 ) -> Result<Result<Claimed, ClaimFault>, AllocError>
-    requires producer { IsProducerOf ring.now producer.old }
-    requires claims { AreOpen ring.now producer.old (held_in claims.old) }
-    ensures producer { IsProducerOf ring.now producer.new }
-    ensures claims { AreOpen ring.now producer.new (held_in claims.new) }
+    requires { IsHolderOf ring.now producer.old (held_in claims.old) }
+    ensures holder { IsHolderOf ring.now producer.new (held_in claims.new) }
     ensures shares { shares_of producer.new ≡ shares_of producer.old }
     ensures tried { IfOk result (λ tried. Tries (capacity_of ring.now) type_id len
         (holder_of producer.old claims.old) tried (holder_of producer.new claims.new)) }
@@ -223,11 +218,9 @@ impl LooseRing {
         requires { H.ready handler.old }
         ensures ready { H.ready handler.new }
         ensures reads { Reads H.step limit self.old.consumer self.new.consumer handler.old handler.new result.messages }
-        ensures bytes { head_in self.old + result.bytes ≡ head_in self.new }
         ensures stopped { result.stopped
             ≡ stop_of self.old.capacity limit result.messages (head_in self.new) result.bytes }
-        ensures within { result.messages ≤ limit }
-        ensures blocked { result.stopped ≡ Stop.Unpublished → FoundUnsettled self.old.consumer self.new.consumer }
+        ensures ends { EndsAt limit self.old.consumer self.new.consumer result }
         ensures rest { self.new ≡ with_reader self.new.consumer self.old }
     {
         self.ring.read(&mut self.consumer, limit, handler)
@@ -238,9 +231,7 @@ impl LooseRing {
         requires { H.ready handler.old }
         ensures ready { H.ready handler.new }
         ensures controls { Controls H.step limit self.old.consumer self.new.consumer handler.old handler.new result }
-        ensures bytes { head_in self.old + result.bytes ≡ head_in self.new }
-        ensures within { result.messages ≤ limit }
-        ensures blocked { result.stopped ≡ Stop.Unpublished → FoundUnsettled self.old.consumer self.new.consumer }
+        ensures ends { EndsAt limit self.old.consumer self.new.consumer result }
         ensures rest { self.new ≡ with_reader self.new.consumer self.old }
     {
         self.ring

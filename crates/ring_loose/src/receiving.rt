@@ -15,8 +15,8 @@ pub fn receive_at(
     receivers: &mut Numbered<CopyReceiver>,
     number: usize,
 ) -> Option<Result<Received, AllocError>>
-    requires { AreReceivers board.now receivers.old }
-    ensures receivers { AreReceivers board.now receivers.new }
+    requires { AreReceivers board.now (held_in receivers.old) }
+    ensures receivers { AreReceivers board.now (held_in receivers.new) }
     ensures told { IfSome result (λ answer. IfOk answer (λ told.
         ReceivesAt told receivers.old number receivers.new)) }
     ensures free { IfNone result (IsFree (held_in receivers.old) number) }

@@ -52,27 +52,32 @@ keeps_try C type_id len v (Contended tail seen) w h = keeps_looked _ _ _ v w h.v
 
 -- Written ------------------------------------------------------------------------
 
--- the claim that comes is not open, so as many are open as before
-as_many_open : (v w : View) (c : StagedClaim) → open_count (c ∷ []) ≡ 0 → Gains c v w
-    → open_count w.producer.claims ≡ open_count v.producer.claims
+-- the shares stay, and as many claims are open
+pub record AsManyOpen (v w : View) : Type 0 where
+  pub shares : w.producer.shares ≡ v.producer.shares
+  pub open_claims : open_count w.producer.claims ≡ open_count v.producer.claims
+
+-- the claim that comes is not open
+as_many_open : (v w : View) (c : StagedClaim) → open_count (c ∷ []) ≡ 0 → Gains c v w → AsManyOpen v w
 as_many_open v w c settled gained =
     let counted = ap open_count gained.claims ∙ open_count-more v.producer.claims c in
     let old : ℕ = open_count v.producer.claims in
     let new : ℕ = open_count w.producer.claims in
-    omega (arith, counted, settled)
+    record { shares = gained.shares; open_claims = omega (arith, counted, settled) }
 
 -- after one try to write
 pub open_tried : {T : Type 0} (r : Result T TryFault) (C : ℕ) (type_id : ℤ) (body : List ℕ) (v w : View)
     → OnOk r (Writes C type_id body v w) → IfErr r (λ fault. RefusesTry C type_id (length body) v fault w)
-    → open_count w.producer.claims ≡ open_count v.producer.claims
+    → AsManyOpen v w
 open_tried (Ok done) C type_id body v w written refused =
     as_many_open v w (record_behind C written.tail type_id body) refl
     (gains_looked _ _ _ written.tail written.head v w written.view)
 open_tried (Err fault) C type_id body v w written refused =
-    ap open_count (keeps_try C type_id (length body) v fault w refused).claims
+    let kept = keeps_try C type_id (length body) v fault w refused in
+    record { shares = kept.shares; open_claims = ap open_count kept.claims }
 
 pub open_written_alone : (C : ℕ) (type_id : ℤ) (body : List ℕ) (v w : View) → WritesAlone C type_id body v w
-    → open_count w.producer.claims ≡ open_count v.producer.claims
+    → AsManyOpen v w
 open_written_alone C type_id body v w written =
     as_many_open v w (record_behind C v.producer.seen_tail type_id body) refl
     (gains_looked _ _ _ v.producer.seen_tail written.head v w written.view)

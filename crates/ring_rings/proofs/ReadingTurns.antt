@@ -9,24 +9,23 @@ use Rattle.ring_words.specs.declared.read.end.Stop.{Stop}
 use Rattle.ring_words.specs.declared.read.end.Stop.TheVariants.{Limit, Block, Unpublished}
 use Rattle.ring_words.specs.Controlled.{GoesOn}
 use Rattle.ring_layout.specs.declared.message.Message.{Message}
-use Rattle.ring_layout.specs.Places.{index, max_position, room}
+use Rattle.ring_layout.specs.Places.{index, room}
 use Rattle.ring_table.specs.declared.claim.PlacedMessage.{PlacedMessage}
 use Rattle.ring_table.specs.declared.view.View.{View}
-use Rattle.ring_rings.specs.Reading.{at_rest, Controls, FoundUnsettled, WentOn}
-use Rattle.ring_rings.specs.ReadingSteps.{FindsNothing, FindsQuiet, IsAt, IsLeft, SettlesUpTo, ShowsOne}
+use Rattle.ring_rings.specs.Reading.{at_rest, Controls, EndsAt, FoundUnsettled, WentOn}
+use Rattle.ring_rings.specs.ReadingSteps.{Ended, FindsNothing, FindsQuiet, HasComeNear, IsAt, IsLeft, MayMoveTo, SettlesUpTo, ShowsOne}
 use Rattle.ring_rings.proofs.IndexLemmas.{inside_block}
 use Rattle.ring_rings.proofs.ReadingRuns.{Runs, RunsOn, inside_of, runs_on_broken, runs_on_committed, runs_on_quiet, runs_on_shown, runs_quiet, runs_shown, stands_shown, stays_near}
 use Rattle.ring_rings.proofs.ReadingEnds.{aborts, broke, ends_nothing, ends_now, is_blocked, nothing_stands, settles_more, shown_left, stops_block, stops_limit, stops_unpublished, went_on}
 
--- what a read that began at `start` answers
-pub record Ended (start scan count : ℕ) (stop : Stop) (end : ReadEnd) : Type 0 where
-  pub messages : end.messages ≡ count
-  pub bytes : start + end.bytes ≡ scan
-  pub stopped : end.stopped ≡ stop
-
-pub ended : {start scan count : ℕ} {stop : Stop} {end : ReadEnd} → end.messages ≡ count → start + end.bytes ≡ scan
-    → end.stopped ≡ stop → Ended start scan count stop end
-ended messages bytes stopped = record { messages = messages; bytes = bytes; stopped = stopped }
+pub ends_as : {limit start scan count : ℕ} {stop : Stop} {end : ReadEnd} {v w : View} → Ended start scan count stop end
+    → count ≤ limit → v.consumer.head ≡ start → w.consumer.head ≡ scan → (stop ≡ Unpublished → FoundUnsettled v w)
+    → EndsAt limit v w end
+ends_as d few from to blocked = record {
+  within = omega (arith, d.messages, few);
+  bytes = omega (arith, d.bytes, from, to);
+  blocked = λ e. blocked (sym d.stopped ∙ e);
+}
 
 -- a read that may end
 module _ {S : Type 0} {step : S → Message → S → Action → Type 0} {limit start : ℕ} {v w y : View} {s t : S}
@@ -51,13 +50,17 @@ module _ {S : Type 0} {step : S → Message → S → Action → Type 0} {limit 
       inl (went_on step limit v w y s t scan count r [] e end d.messages
       (d.stopped ∙ stops_block v.capacity limit count scan end.bytes below at_end (omega (arith, on, d.bytes))))
 
--- what was read so far lies in the block of the head
-pub runs_inside : {S : Type 0} {step : S → Message → S → Action → Type 0} {limit C : ℕ} {v w : View} {s t : S}
+-- the head may move to where the read has come
+pub runs_to : {S : Type 0} {step : S → Message → S → Action → Type 0} {limit C : ℕ} {v w : View} {s t : S}
     {scan count : ℕ} → Runs step limit v w s t scan count → v.capacity ≡ C → 0 < v.capacity
-    → w.consumer.head % C + scan ≤ w.consumer.head + C
-runs_inside {S} {step} {limit} {C} {v} {w} {s} {t} {scan} {count} r cap some =
-    subst (λ (k : ℕ). w.consumer.head % k + scan ≤ w.consumer.head + k) cap
-    (inside_block v.capacity v.consumer.head w.consumer.head scan some r.from r.to r.within)
+    → MayMoveTo C w.consumer.head scan
+runs_to {S} {step} {limit} {C} {v} {w} {s} {t} {scan} {count} r cap some = record {
+  on = r.to;
+  whole = r.whole;
+  limit = r.low;
+  inside = subst (λ (k : ℕ). w.consumer.head % k + scan ≤ w.consumer.head + k) cap
+      (inside_block v.capacity v.consumer.head w.consumer.head scan some r.from r.to r.within);
+}
 
 -- a read that goes on: it has come neither to the limit nor to the end of the buffer
 pub record GoesTo {S : Type 0} (step : S → Message → S → Action → Type 0) (limit C start : ℕ) (v w : View) (s t : S)
@@ -96,11 +99,17 @@ module _ {S : Type 0} {step : S → Message → S → Action → Type 0} {limit 
   apart : count ≢ limit
   apart = λ e. omega (arith, q.below, e)
 
-  pub is_near : (w.consumer.head ≤ scan) × (scan < w.consumer.head + C) × (scan ≤ max_position) × (scan % 8 ≡ 0)
+  pub is_near : HasComeNear C scan w
   unfolding r
   is_near =
       let near = stays_near v.capacity v.consumer.head scan q.some r.within q.inside in
-      (r.to, omega (arith, near, q.capacity, r.from), r.low, r.whole)
+      record {
+        come = (got, r.stands);
+        on = r.to;
+        near = omega (arith, near, q.capacity, r.from);
+        whole = r.whole;
+        limit = r.low;
+      }
 
   -- Nothing is found ----------------------------------------------------------
 
@@ -113,9 +122,9 @@ module _ {S : Type 0} {step : S → Message → S → Action → Type 0} {limit 
     unfolding r
     blocked_at = nothing_stands v.capacity scan got w x r.stands finds
 
-    pub blocked_inside : x.consumer.head % C + scan ≤ x.consumer.head + C
-    blocked_inside = subst (λ (h : ℕ). h % C + scan ≤ h + C) (sym (ap (λ (z : View). z.consumer.head) finds.view))
-        (runs_inside q.runs.0 q.capacity q.some)
+    pub blocked_to : MayMoveTo C x.consumer.head scan
+    blocked_to = subst (λ (h : ℕ). MayMoveTo C h scan) (sym (ap (λ (z : View). z.consumer.head) finds.view))
+        (runs_to q.runs.0 q.capacity q.some)
 
     module _ {y : View} (p : SettlesUpTo scan got x y) where
       pub ends_blocked : {end : ReadEnd} → Ended start scan count Unpublished end
@@ -163,9 +172,8 @@ module _ {S : Type 0} {step : S → Message → S → Action → Type 0} {limit 
     unfolding got_more
     shown_at = stands_shown step limit v w s t scan count q.runs.0 q.some apart q.inside n a x u shows
 
-    -- and it lies in the block of the head too
-    pub shown_inside : x.consumer.head % C + (scan + n) ≤ x.consumer.head + C
-    shown_inside = runs_inside (runs_shown step limit v w s t scan count q.runs.0 q.some apart q.inside n a x u shows)
+    pub shown_to : MayMoveTo C x.consumer.head (scan + n)
+    shown_to = runs_to (runs_shown step limit v w s t scan count q.runs.0 q.some apart q.inside n a x u shows)
         q.capacity q.some
 
     pub runs_on : GoesOn a → RunsOn step limit v x s u (scan + n) (count + 1)
@@ -196,21 +204,37 @@ module _ {S : Type 0} {step : S → Message → S → Action → Type 0} {limit 
         (count + 1) more.0 q.runs.0.actions q.runs.1 last more.3 p' end d.messages d.stopped))
 
     -- it is to be left
-    pub left_inside : x.consumer.head % C + scan ≤ x.consumer.head + C
-    left_inside = let all = shown_inside in omega (arith, all)
+    pub left_to : MayMoveTo C x.consumer.head scan
+    unfolding r
+    left_to =
+        let all = shown_to.inside in
+        let same = ap (λ (z : View). z.consumer.head) shows.view in
+        record {
+          on = omega (arith, same, r.to);
+          whole = r.whole;
+          limit = r.low;
+          inside = omega (arith, all);
+        }
 
     pub left_at : IsLeft scan got x
     unfolding r
     left_at = shown_left step v.capacity scan got w x t u n a r.stands shows
 
     module _ {z : View} (p : SettlesUpTo scan got x z) where
-      pub left_near : (start ≤ z.consumer.head) × (z.consumer.head ≤ scan) × (scan % 8 ≡ 0) × (scan ≤ max_position)
+      pub left_from : start ≤ z.consumer.head
       unfolding r
-      left_near = (omega (arith, p.head, r.from, r.to, q.head), omega (arith, p.head), r.whole, r.low)
+      left_from = omega (arith, p.head, r.from, r.to, q.head)
 
-      pub left_done : z.consumer.head % C + scan ≤ z.consumer.head + C
+      pub left_done : MayMoveTo C z.consumer.head scan
+      unfolding r
       left_done =
-          let low = mod_below z.consumer.head C (omega (arith, q.capacity, q.some)) in omega (arith, low, p.head)
+          let low = mod_below z.consumer.head C (omega (arith, q.capacity, q.some)) in
+          record {
+            on = omega (arith, p.head);
+            whole = r.whole;
+            limit = r.low;
+            inside = omega (arith, low, p.head);
+          }
 
       pub ends_aborted : {y : View} {end : ReadEnd} → a ≡ Abort → SettlesUpTo scan got z y
           → Ended start scan count Stop.Action end → Controls step limit (at_rest v) (at_rest y) s u end

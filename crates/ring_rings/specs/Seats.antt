@@ -8,6 +8,7 @@ use Rattle.ring_table.specs.ProducerSteps.{HasClaimAt, IsStagedOpen}
 use Rattle.ring_table.specs.declared.claim.StagedClaim.{StagedClaim}
 use Rattle.ring_table.specs.declared.claim.PlacedMessage.{PlacedMessage}
 use Rattle.ring_table.specs.OpenClaims.{open_count}
+use Rattle.ring_table.specs.Staged.{AreRising}
 use Rattle.ring_table.specs.declared.view.View.{View}
 use Rattle.ring_rings.specs.Reading.{at_rest}
 use Rattle.ring_rings.specs.declared.ring.Ring.{Ring}
@@ -84,13 +85,29 @@ pub record IsOpenClaimOf {K : Type 0} (ring : Ring K) (p : Producer) (t : ClaimA
 abbrev pub KeepsClaims : {K : Type 0} → Ring K → Producer → Producer → Type 0
 KeepsClaims ring old new = (t : ClaimAt) → IsOpenClaimOf ring old t → IsOpenClaimOf ring new t
 
--- what was open stays open, but at this place
-abbrev pub KeepsOthers : {K : Type 0} → Ring K → ℕ → Producer → Producer → Type 0
-KeepsOthers ring place old new = (t : ClaimAt) → IsOpenClaimOf ring old t → t.place ≢ place → IsOpenClaimOf ring new t
+-- what a producer holds stays: its open claims and its shares
+pub record KeepsHoldings {K : Type 0} (ring : Ring K) (old new : Producer) : Type 0 where
+  pub claims : KeepsClaims ring old new
+  pub shares : shares_of new ≡ shares_of old
+
+-- and no claim more is open
+pub record OpensNone {K : Type 0} (ring : Ring K) (old new : Producer) : Type 0 where
+  pub holdings : KeepsHoldings ring old new
+  pub open_claims : open_claims_of new ≡ open_claims_of old
+
+-- claims lie at different places, and what was open stays open, but at this place
+pub record KeepsOthers {K : Type 0} (ring : Ring K) (place : ℕ) (old new : Producer) : Type 0 where
+  pub rising : AreRising (claims_of old)
+  pub claims : (t : ClaimAt) → IsOpenClaimOf ring old t → t.place ≢ place → IsOpenClaimOf ring new t
 
 -- a claim lies where no open one of the producer lies
 abbrev pub LiesApart : {K : Type 0} → Ring K → Producer → ClaimAt → Type 0
 LiesApart ring p new = (t : ClaimAt) → IsOpenClaimOf ring p t → t.place ≢ new.place
+
+-- a claim that was opened lies apart from those that were open before
+pub record IsNewClaimOf {K : Type 0} (ring : Ring K) (old new : Producer) (t : ClaimAt) : Type 0 where
+  pub is_open : IsOpenClaimOf ring new t
+  pub apart : LiesApart ring old t
 
 -- what was open of either of two producers is open in the one that has both, at different places
 pub record KeepsBoth {K : Type 0} (ring : Ring K) (p q joined : Producer) : Type 0 where

@@ -1,9 +1,9 @@
 //! How the kinds of rings claim, one as the other, for code that takes a ring of either.
-ghost use Rattle.std.specs.Prelude.{◌≡◌, length, IfErr, IfOk, OnOk};
+ghost use Rattle.std.specs.Prelude.{length, IfErr, IfOk, OnOk};
 ghost use Rattle.ring_rings.specs.Claiming.{Claiming, Refusing, Writing};
 ghost use Rattle.ring_rings.specs.Claiming.{Claims, ClaimsAlone, RefusesTry, RefusesTryAlone, Writes, WritesAlone};
-ghost use Rattle.ring_rings.specs.Seats.{capacity_of, open_claims_of, shares_of, view_of};
-ghost use Rattle.ring_rings.specs.Seats.{IsOpenClaimOf, IsProducerOf, KeepsClaims, LiesApart, MayClaim};
+ghost use Rattle.ring_rings.specs.Seats.{capacity_of, view_of, IsNewClaimOf, IsProducerOf, KeepsHoldings};
+ghost use Rattle.ring_rings.specs.Seats.{MayClaim, OpensNone};
 
 use crate::claim::Claim;
 use crate::fault::TryFault;
@@ -37,10 +37,8 @@ pub trait Kind: Sized {
             claims (capacity_of ring.now) type_id len (view_of producer.old) t (view_of producer.new)) }
         ensures refused { IfErr result (λ fault.
             refuses (capacity_of ring.now) type_id len (view_of producer.old) fault (view_of producer.new)) }
-        ensures is_open { IfOk result (IsOpenClaimOf ring.now producer.new) }
-        ensures claims { KeepsClaims ring.now producer.old producer.new }
-        ensures apart { IfOk result (LiesApart ring.now producer.old) }
-        ensures shares { shares_of producer.new ≡ shares_of producer.old };
+        ensures opened { IfOk result (IsNewClaimOf ring.now producer.old producer.new) }
+        ensures holdings { KeepsHoldings ring.now producer.old producer.new };
 
     /// Makes one try to write, as `OneToOneRing::write` or `ManyToOneRing::write_once` does. It never waits.
     fn write_once(
@@ -57,9 +55,7 @@ pub trait Kind: Sized {
         ensures refused { IfErr result (λ fault.
             refuses (capacity_of ring.now) type_id (length body.now)
             (view_of producer.old) fault (view_of producer.new)) }
-        ensures claims { KeepsClaims ring.now producer.old producer.new }
-        ensures shares { shares_of producer.new ≡ shares_of producer.old }
-        ensures open_claims { open_claims_of producer.new ≡ open_claims_of producer.old };
+        ensures holdings { OpensNone ring.now producer.old producer.new };
 }
 
 impl Kind for OneToOne {

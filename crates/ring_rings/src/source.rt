@@ -5,7 +5,7 @@ ghost use Rattle.ring_table.specs.Views.{with_beat};
 ghost use Rattle.ring_rings.specs.declared.ring.Consumer.{Consumer as TheConsumer};
 ghost use Rattle.ring_rings.specs.declared.ring.Producer.{Producer as TheProducer};
 ghost use Rattle.ring_rings.specs.Closing.{close_refusal_of, kept_open, HandsOut, IsRefusedAs, Serves};
-ghost use Rattle.ring_rings.specs.Reading.{Controls, FoundUnsettled};
+ghost use Rattle.ring_rings.specs.Reading.{Controls, EndsAt};
 ghost use Rattle.ring_rings.specs.Seats.{capacity_of, consumer_view, head_of, open_claims_of, shares_of, start_of};
 ghost use Rattle.ring_rings.specs.Seats.{view_of, IsConsumerOf, IsProducerOf};
 
@@ -40,10 +40,7 @@ pub trait CommandSource: Sized {
         ensures seat { IsSameSeat consumer.old.seat consumer.new.seat }
         ensures controls { Controls H.step limit (consumer_view consumer.old) (consumer_view consumer.new)
             handler.old handler.new result }
-        ensures within { result.messages ≤ limit }
-        ensures bytes { head_of consumer.old + result.bytes ≡ head_of consumer.new }
-        ensures blocked { result.stopped ≡ Stop.Unpublished
-            → FoundUnsettled (consumer_view consumer.old) (consumer_view consumer.new) };
+        ensures ends { EndsAt limit (consumer_view consumer.old) (consumer_view consumer.new) result };
 
     /// Stores the consumer's heartbeat, as `Ring::set_heartbeat` does.
     fn set_heartbeat(&self, consumer: &mut Consumer, value: u64)

@@ -1,18 +1,22 @@
 -- Numbered readers of counter values.
-use Rattle.std.specs.Prelude.{◌≡◌, ℕ, ◌++◌, ◌∷◌, ℤ, List, []}
+use Rattle.std.specs.Prelude.{◌≡◌, ℕ, ℤ, List, []}
 use Rattle.ring_counters.specs.declared.values.seats.CounterValues.{CounterValues}
 use Rattle.ring_counters.specs.declared.values.seats.ValueReader.{ValueReader}
 use Rattle.ring_counters.specs.declared.values.rule.ValueWrite.{ValueWrite}
-use Rattle.ring_counters.specs.Seats.{IsReaderOf, loads_of, seen_by}
-use Rattle.ring_layout.specs.Lists.{Begins}
-use Rattle.ring_counters.specs.ValueWrites.{value_after}
-use Rattle.ring_counters.specs.Views.{value_load}
+use Rattle.ring_counters.specs.declared.manager.CountersManager.{CountersManager}
+use Rattle.ring_counters.specs.Manager.{IsManagerOf}
+use Rattle.ring_counters.specs.Seats.{IsReaderOf, LoadsValue, loads_of, seen_by}
 use Rattle.ring_loose.specs.Held.{Comes, Goes, HasAt, Stays, held_in}
 use Rattle.ring_loose.specs.declared.numbered.Numbered.{Numbered}
 
 -- the readers are of these values
 abbrev pub AreWatchers : CounterValues → Numbered ValueReader → Type 0
 AreWatchers values watchers = (i : ℕ) (r : ValueReader) → HasAt (held_in watchers) i r → IsReaderOf values r
+
+-- the manager is of these values, and so are the readers
+pub record AreWatchedBy (values : CounterValues) (m : CountersManager) (readers : Numbered ValueReader) : Type 0 where
+  pub manager : IsManagerOf values m
+  pub watchers : AreWatchers values readers
 
 -- a reader was made after these writes, and has the next number
 pub record Watches (writes : List ValueWrite) (old : Numbered ValueReader) (next : ℕ) (new : Numbered ValueReader)
@@ -28,9 +32,7 @@ pub record Peeks (id : ℕ) (value : ℤ) (old : Numbered ValueReader) (number :
     (new : Numbered ValueReader) : Type 0 where
   pub before : ValueReader
   pub after : ValueReader
-  pub value_is : value ≡ value_after id (seen_by after)
-  pub loaded : loads_of after ≡ loads_of before ++ value_load id value (seen_by after) ∷ []
-  pub later : Begins (seen_by before) (seen_by after)
+  pub loads : LoadsValue id value before after
   pub stays : Stays before after (held_in old) number (held_in new)
 
 -- the reader of this number is given up

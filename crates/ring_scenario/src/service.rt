@@ -1,12 +1,10 @@
 //! The conductor's side of a run: a ring for commands, a broadcast buffer for replies, and counters.
 ghost use Rattle.std.specs.Prelude.{◌≡◌, ◌+◌};
 ghost use Rattle.ring_rings.specs.Seats.{open_claims_of, shares_of, IsConsumerOf, IsProducerOf};
-ghost use Rattle.ring_board.specs.Seats.{shares_of as board_shares_of, IsTransmitterOf};
-ghost use Rattle.ring_counters.specs.Manager.{IsManagerOf};
 ghost use Rattle.ring_conductor.specs.Conducting.{consumer_of, manager_in, transmitter_of, value_shares_of};
 ghost use Rattle.ring_loose.specs.Held.{held_count, held_in};
-ghost use Rattle.ring_loose.specs.Receivers.{AreReceivers};
-ghost use Rattle.ring_scenario.specs.Watchers.{AreWatchers};
+ghost use Rattle.ring_loose.specs.Receivers.{crowd, shares_in, IsCrowdOf};
+ghost use Rattle.ring_scenario.specs.Watchers.{AreWatchedBy};
 
 mod closing;
 mod listening;
@@ -36,11 +34,9 @@ pub struct CommandService {
     watchers: Numbered<ValueReader>,
     ghost produces: { IsProducerOf ring producer },
     ghost consumes: { IsConsumerOf ring (consumer_of conductor) },
-    ghost replies: { IsTransmitterOf board (transmitter_of conductor) },
-    ghost counts: { IsManagerOf values (manager_in conductor) },
     ghost whole: { (open_claims_of producer ≡ 0) × (shares_of producer ≡ 65536) },
-    ghost listen: { AreReceivers board listeners },
-    ghost shares: { board_shares_of (transmitter_of conductor) + held_count (held_in listeners) ≡ 65536 },
-    ghost watch: { AreWatchers values watchers },
+    ghost listen: { IsCrowdOf board (crowd (transmitter_of conductor) listeners) },
+    ghost shares: { shares_in (crowd (transmitter_of conductor) listeners) ≡ 65536 },
+    ghost watch: { AreWatchedBy values (manager_in conductor) watchers },
     ghost value_shares: { value_shares_of conductor + held_count (held_in watchers) ≡ 65536 },
 }

@@ -52,8 +52,8 @@ pub fn close(table: RingTable, seat: RingSeat) -> Closed<Wanted, Global>
     requires table { seat.table_id ≡ table.shared.table_id }
     requires shares { seat.me.0.producer.shares ≡ 65536 }
     requires consumes { seat.me.0.consumes ≡ true }
-    ensures word_count { slots_len result.words ≡ table.shared.table_id.words }
-    ensures slot_count { slots_len result.slots ≡ table.shared.table_id.slots }
+    ensures sizes { (slots_len result.words ≡ table.shared.table_id.words)
+        × (slots_len result.slots ≡ table.shared.table_id.slots) }
     ensures full { IsFull result.words }
     ensures closed { IsClosed table.shared.key.capacity table.shared.key.start (slots_items result.words) seat.me.0 }
 

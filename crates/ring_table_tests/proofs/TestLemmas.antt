@@ -1,5 +1,5 @@
 -- What the tests need of their seats.
-use Rattle.std.proofs.Common.{◌≡◌, ℕ, zero, suc, ◌+◌, ◌<◌, ◌≤◌, List, [], ◌∷◌, ◌++◌, length, slice_index, pos, inl, inr, sym, ap, subst, ◌∙◌, refl, arith, rules}
+use Rattle.std.proofs.Common.{◌≡◌, ℕ, zero, suc, ◌+◌, ◌<◌, ◌≤◌, List, [], ◌∷◌, ◌++◌, length, slice_index, pos, inl, inr, ap, subst, ◌∙◌, refl, arith, rules}
 use Rattle.std.proofs.lemmas.Int.{ints}
 use mathlib.Core.Option.{some}
 use lib.ListN.{get_elem?}

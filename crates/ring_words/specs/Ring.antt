@@ -35,3 +35,8 @@ pub record IsRing (r : Ring) : Type 0 where
   pub room : tail_of r ≤ head_of r + r.capacity
   pub limit : tail_of r ≤ max_position
   pub history : (h : List Claim) × Has r h
+
+-- a ring whose head is at this position
+pub record IsRingAt (r : Ring) (position : ℕ) : Type 0 where
+  pub ring : IsRing r
+  pub head : position ≡ head_of r

@@ -1,6 +1,6 @@
 //! Rings and boards that end, and what boards and counters take back.
 ghost use Rattle.ring_handles.specs.Finishing.{Finishes, IsNotLast, IsUnfinished, TakesLast};
-ghost use Rattle.ring_handles.specs.Returning.{EndsAt, IsAstray, IsBoardKept, IsOfOthers, IsOfThese, IsOfThisBoard};
+ghost use Rattle.ring_handles.specs.Returning.{BoardEndsAt, IsAstray, IsBoardKept, IsOfOthers, IsOfThese, IsOfThisBoard};
 ghost use Rattle.ring_handles.specs.Returning.{IsRawAstray, IsRawOfThisBoard, TakesListener, TakesLoads, TakesWatcher};
 ghost use Rattle.ring_handles.specs.Side.{IsOfThisRing};
 ghost use Rattle.ring_handles.specs.Kinds.{a_consumer, a_producer, a_raw_receiver, a_reader, a_receiver, a_transmitter};
@@ -69,7 +69,7 @@ pub extern "C" fn felter_board_join_raw(
 /// handle stays as it is.
 #[unsafe(no_mangle)]
 pub extern "C" fn felter_board_close(alloc: Global, transmitter: &mut Handle, tail: &mut u64) -> i32
-    ensures { EndsAs a_transmitter EndsAt IsBoardKept tail.old tail.new transmitter.old.held transmitter.new.held
+    ensures { EndsAs a_transmitter BoardEndsAt IsBoardKept tail.old tail.new transmitter.old.held transmitter.new.held
         result }
 {
     end_with!(transmitter, alloc, Transmitter(side) => side.close(), end => *tail = end)

@@ -2,7 +2,7 @@
 
 ghost use Rattle.std.specs.Prelude.{◌≡◌, IfErr, IfOk, OnOk};
 ghost use Rattle.ring_table.specs.ServiceSteps.{DrawsId, LoadsHeartbeat};
-ghost use Rattle.ring_rings.specs.Seats.{capacity_of, open_claims_of, shares_of, IsProducerOf, KeepsClaims, MayClaim};
+ghost use Rattle.ring_rings.specs.Seats.{capacity_of, IsProducerOf, MayClaim, OpensNone};
 ghost use Rattle.ring_board.specs.Seats.{IsReceiverOf};
 ghost use Rattle.ring_conductor.specs.Asking.{IsHeard, IsSendable, RefusesAs, RefusesSend, Sends, SendsAs};
 ghost use Rattle.ring_conductor.specs.Asking.{client_seat, client_view, producer_of, receiver_of};
@@ -44,8 +44,7 @@ impl Client {
         requires { IsProducerOf ring.now (producer_of self.old) }
         ensures producer { IsProducerOf ring.now (producer_of self.new) }
         ensures draws { DrawsId (client_view self.old) result (client_view self.new) }
-        ensures shares { shares_of (producer_of self.new) ≡ shares_of (producer_of self.old) }
-        ensures open_claims { open_claims_of (producer_of self.new) ≡ open_claims_of (producer_of self.old) }
+        ensures holdings { OpensNone ring.now (producer_of self.old) (producer_of self.new) }
         ensures receiver { receiver_of self.new ≡ receiver_of self.old }
     {
         ring.next_correlation_id(&mut self.producer)
@@ -58,8 +57,7 @@ impl Client {
         requires { IsProducerOf ring.now (producer_of self.old) }
         ensures producer { IsProducerOf ring.now (producer_of self.new) }
         ensures loads { LoadsHeartbeat (capacity_of ring.now) (client_view self.old) result (client_view self.new) }
-        ensures shares { shares_of (producer_of self.new) ≡ shares_of (producer_of self.old) }
-        ensures open_claims { open_claims_of (producer_of self.new) ≡ open_claims_of (producer_of self.old) }
+        ensures holdings { OpensNone ring.now (producer_of self.old) (producer_of self.new) }
         ensures receiver { receiver_of self.new ≡ receiver_of self.old }
     {
         ring.heartbeat(&mut self.producer)
@@ -83,9 +81,7 @@ impl Client {
             request.entry (client_view self.old) (client_view self.new)) }
         ensures refused { IfErr result (λ fault. RefusesAs K.refuses (capacity_of ring.now) correlation request.entry
             (client_view self.old) fault (client_view self.new)) }
-        ensures claims { KeepsClaims ring.now (producer_of self.old) (producer_of self.new) }
-        ensures shares { shares_of (producer_of self.new) ≡ shares_of (producer_of self.old) }
-        ensures open_claims { open_claims_of (producer_of self.new) ≡ open_claims_of (producer_of self.old) }
+        ensures holdings { OpensNone ring.now (producer_of self.old) (producer_of self.new) }
         ensures receiver { receiver_of self.new ≡ receiver_of self.old }
     {
         let command = request.with_correlation(correlation);
@@ -120,8 +116,7 @@ impl Client {
             request.entry (client_view self.old) correlation (client_view self.new)) }
         ensures refused { IfErr result (λ fault. RefusesSend K.refuses (capacity_of ring.now) request.entry
             (client_view self.old) fault (client_view self.new)) }
-        ensures shares { shares_of (producer_of self.new) ≡ shares_of (producer_of self.old) }
-        ensures open_claims { open_claims_of (producer_of self.new) ≡ open_claims_of (producer_of self.old) }
+        ensures holdings { OpensNone ring.now (producer_of self.old) (producer_of self.new) }
         ensures receiver { receiver_of self.new ≡ receiver_of self.old }
     {
         match request.with_correlation(0).encoded_len() {

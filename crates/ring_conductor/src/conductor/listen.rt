@@ -1,16 +1,16 @@
 //! Those who listen to the conductor's replies, and those who read the counters' values.
 
-ghost use Rattle.std.specs.Prelude.{◌≡◌, ◌+◌, ◌++◌, ◌<◌, ◌↔◌, [], ◌∷◌, IfOk, IsOk, OnErr, OnOk};
+ghost use Rattle.std.specs.Prelude.{◌≡◌, ◌+◌, ◌<◌, ◌↔◌, IfOk, IsOk, OnErr, OnOk};
 ghost use Rattle.ring_board.specs.Refusals.{subscribe_refusal_of, IsSubscribedUnless};
 ghost use Rattle.ring_board.specs.Runs.{AreRuns};
-ghost use Rattle.ring_board.specs.Seats.{heard_by, shares_of, transmitted, IsTransmitterOf, IsReceiverOf};
+ghost use Rattle.ring_board.specs.Seats.{shares_of, transmitted, IsTransmitterOf, IsReceiverOf};
 ghost use Rattle.ring_board.specs.Seats.{receiver_view, subscribed_at, copies_of};
-ghost use Rattle.ring_board.specs.Steps.{as_joined, fewer, newcomer, joined};
+ghost use Rattle.ring_board.specs.Steps.{fewer, newcomer};
 ghost use Rattle.ring_counters.specs.Agree.{Agree};
 ghost use Rattle.ring_counters.specs.Manager.{registry_of, writes_of, IsManagerOf};
-ghost use Rattle.ring_counters.specs.Seats.{IsReaderOf, made_of, seen_by, loads_of};
+ghost use Rattle.ring_counters.specs.Seats.{IsNewReaderOf, IsReaderOf, made_of, loads_of};
 ghost use Rattle.ring_counters.specs.ValueWrites.{AreLoads};
-ghost use Rattle.ring_conductor.specs.Conducting.{KeepsSeats, KeepsTheRest};
+ghost use Rattle.ring_conductor.specs.Conducting.{JoinsReceiver, KeepsAllCounters, KeepsTheRest};
 ghost use Rattle.ring_conductor.specs.Conducting.{board_view, manager_in, transmitter_of, value_shares_of};
 
 use crate::conductor::Conductor;
@@ -44,10 +44,7 @@ impl Conductor {
         requires receiver { IsReceiverOf board.now receiver }
         ensures board { IsTransmitterOf board.now (transmitter_of self.new) }
         ensures runs { AreRuns (transmitted (transmitter_of self.old)) (subscribed_at receiver) (copies_of receiver) }
-        ensures joined { board_view self.new ≡ joined (board_view self.old) (receiver_view receiver) }
-        ensures shares { shares_of (transmitter_of self.new) ≡ shares_of (transmitter_of self.old) + 1 }
-        ensures heard { heard_by (transmitter_of self.new)
-            ≡ heard_by (transmitter_of self.old) ++ as_joined (receiver_view receiver) ∷ [] }
+        ensures joined { JoinsReceiver receiver self.old self.new }
         ensures others { KeepsTheRest self.old self.new }
     {
         board.join(&mut self.transmitter, receiver);
@@ -58,15 +55,10 @@ impl Conductor {
     /// `NoShares` comes where one share is left; all is then as before.
     pub fn value_reader(&mut self, values: &CounterValues) -> Result<ValueReader, NoShares>
         requires { IsManagerOf values.now (manager_in self.old) }
-        ensures values { IsManagerOf values.now (manager_in self.new) }
         ensures enough { IsOk result ↔ (1 < value_shares_of self.old) }
-        ensures reader { IfOk result (λ r. IsReaderOf values.now r) }
-        ensures made { IfOk result (λ r. (made_of r ≡ writes_of (manager_in self.old))
-            × (seen_by r ≡ writes_of (manager_in self.old)) × (loads_of r ≡ [])) }
+        ensures reader { IfOk result (IsNewReaderOf values.now (writes_of (manager_in self.old))) }
         ensures shares { OnOk result (value_shares_of self.new + 1 ≡ value_shares_of self.old) }
-        ensures registry { registry_of (manager_in self.new) ≡ registry_of (manager_in self.old) }
-        ensures writes { writes_of (manager_in self.new) ≡ writes_of (manager_in self.old) }
-        ensures others { KeepsSeats self.old self.new }
+        ensures keeps { KeepsAllCounters values.now self.old self.new }
         ensures err { OnErr result (self.new ≡ self.old) }
     {
         self.counters.reader(values)
@@ -77,13 +69,10 @@ impl Conductor {
     pub fn join_value_reader(&mut self, values: &CounterValues, reader: ValueReader)
         requires counters { IsManagerOf values.now (manager_in self.old) }
         requires reader { IsReaderOf values.now reader }
-        ensures values { IsManagerOf values.now (manager_in self.new) }
         ensures loads { AreLoads (made_of reader) (loads_of reader) (writes_of (manager_in self.new)) }
         ensures agree { Agree (registry_of (manager_in self.new)) (writes_of (manager_in self.new)) }
         ensures shares { value_shares_of self.new ≡ value_shares_of self.old + 1 }
-        ensures registry { registry_of (manager_in self.new) ≡ registry_of (manager_in self.old) }
-        ensures writes { writes_of (manager_in self.new) ≡ writes_of (manager_in self.old) }
-        ensures others { KeepsSeats self.old self.new }
+        ensures keeps { KeepsAllCounters values.now self.old self.new }
     {
         self.counters.join_reader(values, reader);
     }

@@ -4,8 +4,8 @@ ghost use Rattle.std.specs.Prelude.{IfNone, IfSome, OnSome};
 ghost use Rattle.std.specs.Bool.{OnFalse, OnTrue};
 ghost use Rattle.ring_board.specs.Seats.{IsReceiverOf};
 ghost use Rattle.ring_conductor.specs.Asking.{asked, producer_of, receiver_of};
-ghost use Rattle.ring_conductor.specs.Storming.{IsClientAt, IsClientSeat, IsNew, SentAtMost, deeds_of, sent_by};
-ghost use Rattle.ring_conductor.specs.Turns.{Adds, AreAnswered, Deeds, Extends, IsAnswered, Lengthens, Turns};
+ghost use Rattle.ring_conductor.specs.Storming.{HasWorked, IsClientAt, IsClientSeat, IsNew, deeds_of, sent_by};
+ghost use Rattle.ring_conductor.specs.Turns.{Adds, Deeds, Extends, IsAnswered, Lengthens, Turns};
 ghost use Rattle.ring_conductor.specs.Turns.{claims_by, copies_by, draws_by, label_of, numbered};
 
 use crate::client::request::Request;
@@ -173,10 +173,7 @@ impl<G: Gate> Shared<'_, G> {
         requires client { IsClientAt self.now client }
         requires new { IsNew client }
         ensures client { IsClientAt self.now result }
-        ensures sent { SentAtMost self.now.plan.commands result }
-        ensures seen { result.seen ≤ self.now.plan.commands }
-        ensures index { result.index ≡ client.index }
-        ensures answered { AreAnswered result.index result.seen (deeds_of result) }
+        ensures worked { HasWorked self.now.plan.commands client.index result }
     {
         for number in 1..=self.plan.commands {
             if self.command(&mut client, number).is_none() {

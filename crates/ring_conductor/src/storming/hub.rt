@@ -1,13 +1,7 @@
 //! How clients get their seats, and give them back.
-ghost use Rattle.std.specs.Prelude.{◌≡◌, ◌+◌, ◌<◌, [], ◌∷◌, ◌++◌, IfOk, OnErr, OnOk};
-ghost use Rattle.ring_table.specs.Owners.{interleaved};
-ghost use Rattle.ring_rings.specs.Seats.{claims_of, open_claims_of, shares_of};
-ghost use Rattle.ring_board.specs.Seats.{receiver_view};
-ghost use Rattle.ring_board.specs.Steps.{as_joined};
-ghost use Rattle.ring_conductor.specs.Asking.{producer_of, receiver_of, service_of, services_of};
-ghost use Rattle.ring_conductor.specs.Finishing.{joined_by};
-ghost use Rattle.ring_conductor.specs.Storming.{IsClientAt, IsHubAt, IsNew, board_shares_of, sent_by, taken_by};
-ghost use Rattle.ring_conductor.specs.Turns.{claims_by};
+ghost use Rattle.std.specs.Prelude.{◌≡◌, ◌<◌, IfOk, OnErr, OnOk};
+ghost use Rattle.ring_rings.specs.Seats.{shares_of};
+ghost use Rattle.ring_conductor.specs.Storming.{IsClientAt, IsHubAt, IsNew, LendsSeats, TakesSeats, board_shares_of};
 
 use crate::client::Client;
 use crate::storming::seats::{Hub, StormClient};
@@ -28,13 +22,7 @@ impl<G> Shared<'_, G> {
         requires shares { (1 < shares_of hub.old.producer) × (1 < board_shares_of hub.old.conductor) }
         ensures hub { IsHubAt self.now hub.new }
         ensures client { IfOk result (λ c. IsClientAt self.now c × IsNew c × (c.index ≡ index)) }
-        ensures producers { OnOk result (shares_of hub.new.producer + 1 ≡ shares_of hub.old.producer) }
-        ensures receivers { OnOk result (board_shares_of hub.new.conductor + 1 ≡ board_shares_of hub.old.conductor) }
-        ensures claims { OnOk result ((open_claims_of hub.new.producer ≡ open_claims_of hub.old.producer)
-            × (claims_of hub.new.producer ≡ claims_of hub.old.producer)) }
-        ensures receivers_joined { OnOk result (joined_by hub.new.conductor ≡ joined_by hub.old.conductor) }
-        ensures services { OnOk result (services_of hub.new.producer ≡ services_of hub.old.producer) }
-        ensures taken { OnOk result (taken_by hub.new.conductor ≡ taken_by hub.old.conductor) }
+        ensures lends { OnOk result (LendsSeats hub.old hub.new) }
         ensures err { OnErr result (hub.new ≡ hub.old) }
     {
         let receiver = hub.conductor.subscribe(alloc, self.board)?;
@@ -55,17 +43,7 @@ impl<G> Shared<'_, G> {
         requires hub { IsHubAt self.now hub.old }
         requires client { IsClientAt self.now client }
         ensures hub { IsHubAt self.now hub.new }
-        ensures producers { shares_of hub.new.producer ≡ shares_of hub.old.producer + 1 }
-        ensures receivers { board_shares_of hub.new.conductor ≡ board_shares_of hub.old.conductor + 1 }
-        ensures claims { (open_claims_of hub.new.producer ≡ open_claims_of hub.old.producer)
-            × (sent_by hub.new.producer ≡ sent_by hub.old.producer + sent_by (producer_of client.client)) }
-        ensures together { claims_of hub.new.producer
-            ≡ interleaved (claims_of hub.old.producer) (claims_by client.client) }
-        ensures receivers_joined { joined_by hub.new.conductor
-            ≡ joined_by hub.old.conductor ++ as_joined (receiver_view (receiver_of client.client)) ∷ [] }
-        ensures services { services_of hub.new.producer
-            ≡ services_of hub.old.producer ++ service_of (producer_of client.client) ∷ [] }
-        ensures taken { taken_by hub.new.conductor ≡ taken_by hub.old.conductor }
+        ensures seats { TakesSeats client hub.old hub.new }
         ensures seen { result ≡ client.seen }
     {
         let StormClient {

@@ -1,13 +1,12 @@
 //! How the threads of a storm are started and joined.
-ghost use Rattle.std.specs.Prelude.{◌≡◌, ◌+◌, ◌*◌, ◌<◌, ◌≤◌, [], IsTrue, None, Some};
+ghost use Rattle.std.specs.Prelude.{◌≡◌, ◌+◌, ◌<◌, ◌≤◌, [], None, Some};
 ghost use Rattle.ring_conductor.specs.declared.storming.seats.Failure.TheVariants.{OutOfMemory};
-ghost use Rattle.ring_rings.specs.Seats.{open_claims_of, shares_of, IsConsumerOf};
+ghost use Rattle.ring_rings.specs.Seats.{shares_of, IsConsumerOf};
 ghost use Rattle.ring_conductor.specs.Conducting.{IsConductorOf};
 ghost use Rattle.ring_conductor.specs.Finishing.{joined_by};
-ghost use Rattle.ring_conductor.specs.Storming.{HasCounters, IsClientAt, IsClientOf, IsDone, IsHubAt, IsNew, IsPlan};
-ghost use Rattle.ring_conductor.specs.Storming.{IsUnused, SentAtMost};
-ghost use Rattle.ring_conductor.specs.Turns.{AreAnswered};
-ghost use Rattle.ring_conductor.specs.Storming.{all_commands, board_shares_of, deeds_of, sent_by, taken_by};
+ghost use Rattle.ring_conductor.specs.Storming.{HasConducted, HasCounters, HasSeatsBack, HasWorked, IsClientAt};
+ghost use Rattle.ring_conductor.specs.Storming.{IsClientOf, IsEndAt, IsFreshAt, IsNew, IsPlan, TakesSeats};
+ghost use Rattle.ring_conductor.specs.Storming.{all_commands, board_shares_of, taken_by};
 
 use crate::storming::conductor::ConductorEnd;
 use crate::storming::gate::Gate;
@@ -49,12 +48,10 @@ fn conduct<'s, E, R: Threads, G: Gate + Sync>(
     hub: Hub,
 ) -> LevelEnd
     requires plan { IsPlan shared.plan }
-    requires hub { IsHubAt shared hub }
-    requires unused { IsUnused hub }
-    ensures hub { IsHubAt shared.entry result.hub }
+    requires hub { IsFreshAt shared hub }
+    ensures hub { IsFreshAt shared.entry result.hub }
     ensures producer { result.hub.producer ≡ hub.producer }
     ensures receivers { board_shares_of result.hub.conductor ≡ board_shares_of hub.conductor }
-    ensures unused { IsUnused result.hub }
     ensures seen { result.seen ≡ 0 }
     ensures done { (result.failure ≡ None) → all_commands shared.entry.plan ≤ taken_by result.hub.conductor }
 {
@@ -84,12 +81,8 @@ fn conduct<'s, E, R: Threads, G: Gate + Sync>(
         move || -> ConductorEnd
             requires { IsPlan plan × IsConductorOf IsConsumerOf ring.now board.now values.now conductor
                 × HasCounters plan conductor × (joined_by conductor ≡ []) }
-            ensures conductor { IsConductorOf IsConsumerOf ring.entry.now board.entry.now values.entry.now
-                result.conductor }
-            ensures counters { HasCounters plan result.conductor }
+            ensures conducted { HasConducted plan ring.entry.now board.entry.now values.entry.now result }
             ensures shares { board_shares_of result.conductor ≡ board_shares_of conductor }
-            ensures none_joined { joined_by result.conductor ≡ [] }
-            ensures done { IsTrue result.is_done → all_commands plan ≤ taken_by result.conductor }
         {
             let shared = Shared {
                 ring,
@@ -141,16 +134,10 @@ pub(crate) fn level<'s, E, R: Threads, G: Gate + Sync>(
     mut hub: Hub,
 ) -> LevelEnd
     requires plan { IsPlan shared.plan × (remaining ≤ 64) }
-    requires hub { IsHubAt shared hub }
-    requires unused { IsUnused hub }
+    requires hub { IsFreshAt shared hub }
     requires shares { (remaining < shares_of hub.producer) × (remaining < board_shares_of hub.conductor) }
-    ensures hub { IsHubAt shared.entry result.hub }
-    ensures producers { shares_of result.hub.producer ≡ shares_of hub.producer }
-    ensures receivers { board_shares_of result.hub.conductor ≡ board_shares_of hub.conductor }
-    ensures open_claims { open_claims_of result.hub.producer ≡ open_claims_of hub.producer }
-    ensures sent { sent_by result.hub.producer ≤ remaining * shared.entry.plan.commands }
-    ensures seen { result.seen ≤ remaining * shared.entry.plan.commands }
-    ensures done { (result.failure ≡ None) → IsDone shared.entry.plan remaining result }
+    ensures end { IsEndAt shared.entry remaining result }
+    ensures seats { HasSeatsBack hub result.hub }
 {
     if remaining == 0 {
         return conduct(scope, rt, shared, hub);
@@ -180,10 +167,7 @@ pub(crate) fn level<'s, E, R: Threads, G: Gate + Sync>(
             requires client { IsClientOf ring.now board.now client }
             requires new { IsNew client }
             ensures client { IsClientOf ring.entry.now board.entry.now result }
-            ensures sent { SentAtMost plan.commands result }
-            ensures seen { result.seen ≤ plan.commands }
-            ensures index { result.index ≡ client.index }
-            ensures answered { AreAnswered result.index result.seen (deeds_of result) }
+            ensures worked { HasWorked plan.commands client.index result }
         {
             let shared = Shared {
                 ring,
@@ -214,20 +198,11 @@ pub(crate) fn level<'s, E, R: Threads, G: Gate + Sync>(
 /// Takes a client's seats back. It has spent its turns if a reply is wanting.
 fn gather<G>(shared: Shared<'_, G>, index: u32, end: LevelEnd, client: StormClient) -> LevelEnd
     requires plan { IsPlan shared.plan × (index < 64) }
-    requires hub { IsHubAt shared end.hub }
+    requires end { IsEndAt shared index end }
     requires client { IsClientAt shared client }
-    requires sent { SentAtMost shared.plan.commands client }
-    requires seen { (client.seen ≤ shared.plan.commands) × (end.seen ≤ index * shared.plan.commands) }
-    requires its_index { client.index ≡ index }
-    requires answered { AreAnswered client.index client.seen (deeds_of client) }
-    requires done { (end.failure ≡ None) → IsDone shared.plan index end }
-    ensures hub { IsHubAt shared.entry result.hub }
-    ensures producers { shares_of result.hub.producer ≡ shares_of end.hub.producer + 1 }
-    ensures receivers { board_shares_of result.hub.conductor ≡ board_shares_of end.hub.conductor + 1 }
-    ensures open_claims { open_claims_of result.hub.producer ≡ open_claims_of end.hub.producer }
-    ensures sent { sent_by result.hub.producer ≤ sent_by end.hub.producer + shared.entry.plan.commands }
-    ensures seen { result.seen ≤ (index + 1) * shared.entry.plan.commands }
-    ensures done { (result.failure ≡ None) → IsDone shared.entry.plan (index + 1) result }
+    requires worked { HasWorked shared.plan.commands index client }
+    ensures end { IsEndAt shared.entry (index + 1) result }
+    ensures seats { TakesSeats client end.hub result.hub }
 {
     let LevelEnd {
         mut hub,

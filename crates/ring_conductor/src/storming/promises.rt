@@ -1,11 +1,6 @@
 //! What threads promise of what they give back.
-ghost use Rattle.std.specs.Prelude.{◌≡◌, ◌≤◌, [], IsTrue};
-ghost use Rattle.ring_rings.specs.Seats.{IsConsumerOf};
-ghost use Rattle.ring_conductor.specs.Conducting.{IsConductorOf};
-ghost use Rattle.ring_conductor.specs.Finishing.{joined_by};
-ghost use Rattle.ring_conductor.specs.Storming.{HasCounters, IsClientOf, SentAtMost};
-ghost use Rattle.ring_conductor.specs.Storming.{all_commands, board_shares_of, deeds_of, taken_by};
-ghost use Rattle.ring_conductor.specs.Turns.{AreAnswered};
+ghost use Rattle.std.specs.Prelude.{◌≡◌};
+ghost use Rattle.ring_conductor.specs.Storming.{HasConducted, HasWorked, IsClientOf, board_shares_of};
 
 use crate::storming::conductor::ConductorEnd;
 use crate::storming::plan::StormPlan;
@@ -25,9 +20,7 @@ pub(crate) struct ClientBack<'a> {
 }
 
 impl<'a> Promise<StormClient> for ClientBack<'a> {
-    ghost kept_by = { λ p r. IsClientOf p.ring.now p.board.now r
-        × SentAtMost p.plan.commands r × (r.seen ≤ p.plan.commands)
-        × (r.index ≡ p.index) × AreAnswered r.index r.seen (deeds_of r) };
+    ghost kept_by = { λ p r. IsClientOf p.ring.now p.board.now r × HasWorked p.plan.commands p.index r };
 }
 
 /// The conductor comes back with its shares, and has joined no receiver.
@@ -41,7 +34,6 @@ pub(crate) struct ConductorBack<'a> {
 }
 
 impl<'a> Promise<ConductorEnd> for ConductorBack<'a> {
-    ghost kept_by = { λ p r. IsConductorOf IsConsumerOf p.ring.now p.board.now p.values.now r.conductor
-        × HasCounters p.plan r.conductor × (board_shares_of r.conductor ≡ p.shares) × (joined_by r.conductor ≡ [])
-        × (IsTrue r.is_done → all_commands p.plan ≤ taken_by r.conductor) };
+    ghost kept_by = { λ p r. HasConducted p.plan p.ring.now p.board.now p.values.now r
+        × (board_shares_of r.conductor ≡ p.shares) };
 }

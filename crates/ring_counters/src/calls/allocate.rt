@@ -4,10 +4,11 @@ ghost use Rattle.std.specs.Prelude.{Err, IfOk, IsErr, IsOkUnless, MatchOption, O
 ghost use Rattle.std.specs.List.{list_all};
 ghost use Rattle.ring_counters.specs.Registry.{allocated_in, allocation_of, answer, closed_in, fresh_registry};
 ghost use Rattle.ring_counters.specs.Registry.{make_refusal_of, new_counter, owned_ids, reclaimed_in};
-ghost use Rattle.ring_counters.specs.Registry.{text_refusal_of, with_value};
+ghost use Rattle.ring_counters.specs.Registry.{text_refusal_of};
 ghost use Rattle.ring_counters.specs.Views.{value_write};
 ghost use Rattle.ring_counters.specs.Seats.{values_count};
 ghost use Rattle.ring_counters.specs.Manager.{refusal_at, registry_of, writes_of, shares_of, IsManagerOf, KeepsValues};
+ghost use Rattle.ring_counters.specs.Manager.{SetsValue};
 
 use crate::fault::{AllocateRefused, BadOwner, IdFault, MakeFault};
 use crate::manager::CountersManager;
@@ -147,8 +148,7 @@ impl CountersManager {
     pub fn set(&mut self, values: &CounterValues, id: u32, value: i64) -> Result<(), IdFault>
         requires { IsManagerOf values.now self.old }
         ensures result { result ≡ answer (refusal_at self.old id) tt }
-        ensures registry { OnOk result (registry_of self.new ≡ with_value (registry_of self.old) id value) }
-        ensures writes { OnOk result (writes_of self.new ≡ writes_of self.old ++ value_write id value ∷ []) }
+        ensures sets { OnOk result (SetsValue id value self.old self.new) }
         ensures shares { shares_of self.new ≡ shares_of self.old }
         ensures values { IsManagerOf values.now self.new }
         ensures err { OnErr result (self.new ≡ self.old) }

@@ -1,14 +1,14 @@
 //! Reading counters, and readers for other threads.
-ghost use Rattle.std.specs.Prelude.{◌≡◌, ℕ, ◌+◌, ◌<◌, ◌↔◌, [], length, IfOk, IfErr, OnOk, OnErr, IsOk};
+ghost use Rattle.std.specs.Prelude.{◌≡◌, ℕ, ◌+◌, ◌<◌, ◌↔◌, length, IfOk, IfErr, OnOk, OnErr, IsOk};
 ghost use Rattle.ring_counters.specs.Counter.{zero_padded, state_of, deadline_of};
 ghost use Rattle.ring_counters.specs.Counter.{metadata_word as metadata_word_of, value_word as value_word_of};
 ghost use Rattle.ring_counters.specs.Registry.{answer, count_of, live_of, registered_id};
 ghost use Rattle.ring_counters.specs.Infos.{AreInfos};
 ghost use Rattle.ring_counters.specs.Agree.{Agree};
 ghost use Rattle.ring_counters.specs.ValueWrites.{AreLoads};
-ghost use Rattle.ring_counters.specs.Seats.{IsReaderOf, made_of, seen_by, loads_of};
+ghost use Rattle.ring_counters.specs.Seats.{IsNewReaderOf, IsReaderOf, made_of, loads_of};
 ghost use Rattle.ring_counters.specs.Manager.{counter_in, range_refusal_at, refusal_at};
-ghost use Rattle.ring_counters.specs.Manager.{registry_of, writes_of, shares_of, IsManagerOf};
+ghost use Rattle.ring_counters.specs.Manager.{registry_of, writes_of, shares_of, IsManagerOf, KeepsCounters};
 
 use crate::fault::{IdFault, OutOfMemory};
 use crate::info::CounterInfo;
@@ -147,13 +147,9 @@ impl CountersManager {
     pub fn reader(&mut self, values: &CounterValues) -> Result<ValueReader, NoShares>
         requires { IsManagerOf values.now self.old }
         ensures enough { IsOk result ↔ (1 < shares_of self.old) }
-        ensures reader { IfOk result (λ r. IsReaderOf values.now r) }
-        ensures made { IfOk result (λ r. (made_of r ≡ writes_of self.old)
-            × (seen_by r ≡ writes_of self.old) × (loads_of r ≡ [])) }
+        ensures reader { IfOk result (IsNewReaderOf values.now (writes_of self.old)) }
         ensures shares { IfOk result (λ _. shares_of self.new + 1 ≡ shares_of self.old) }
-        ensures registry { registry_of self.new ≡ registry_of self.old }
-        ensures writes { writes_of self.new ≡ writes_of self.old }
-        ensures values { IsManagerOf values.now self.new }
+        ensures keeps { KeepsCounters values.now self.old self.new }
         ensures err { OnErr result (self.new ≡ self.old) }
     {
         values.split(&mut self.writer)
@@ -168,9 +164,7 @@ impl CountersManager {
         ensures loads { AreLoads (made_of reader) (loads_of reader) (writes_of self.new) }
         ensures agree { Agree (registry_of self.new) (writes_of self.new) }
         ensures shares { shares_of self.new ≡ shares_of self.old + 1 }
-        ensures registry { registry_of self.new ≡ registry_of self.old }
-        ensures writes { writes_of self.new ≡ writes_of self.old }
-        ensures values { IsManagerOf values.now self.new }
+        ensures keeps { KeepsCounters values.now self.old self.new }
     {
         values.join(&mut self.writer, reader);
     }

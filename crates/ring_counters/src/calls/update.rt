@@ -1,8 +1,7 @@
 //! Adding to a counter's value, and raising it.
-ghost use Rattle.std.specs.Prelude.{◌≡◌, true, false, ◌∷◌, [], ◌++◌, IfOk, OnOk, OnErr};
-ghost use Rattle.ring_counters.specs.Registry.{answer, with_value, value_at, value_plus, is_raised_by};
-ghost use Rattle.ring_counters.specs.Views.{value_write};
-ghost use Rattle.ring_counters.specs.Manager.{refusal_at, registry_of, writes_of, shares_of, IsManagerOf};
+ghost use Rattle.std.specs.Prelude.{◌≡◌, true, false, IfOk, OnOk, OnErr};
+ghost use Rattle.ring_counters.specs.Registry.{answer, value_at, value_plus, is_raised_by};
+ghost use Rattle.ring_counters.specs.Manager.{refusal_at, registry_of, shares_of, IsManagerOf, SetsValue};
 
 use crate::fault::IdFault;
 use crate::manager::CountersManager;
@@ -16,10 +15,7 @@ impl CountersManager {
     pub fn add(&mut self, values: &CounterValues, id: u32, delta: i64) -> Result<i64, IdFault>
         requires { IsManagerOf values.now self.old }
         ensures before { result ≡ answer (refusal_at self.old id) (value_at (registry_of self.old) id) }
-        ensures registry { OnOk result (registry_of self.new
-            ≡ with_value (registry_of self.old) id (value_plus (registry_of self.old) id delta)) }
-        ensures writes { OnOk result (writes_of self.new
-            ≡ writes_of self.old ++ value_write id (value_plus (registry_of self.old) id delta) ∷ []) }
+        ensures sets { OnOk result (SetsValue id (value_plus (registry_of self.old) id delta) self.old self.new) }
         ensures shares { shares_of self.new ≡ shares_of self.old }
         ensures values { IsManagerOf values.now self.new }
         ensures err { OnErr result (self.new ≡ self.old) }
@@ -41,10 +37,7 @@ impl CountersManager {
     ) -> Result<bool, IdFault>
         requires { IsManagerOf values.now self.old }
         ensures raised { result ≡ answer (refusal_at self.old id) (is_raised_by (registry_of self.old) id value) }
-        ensures registry { IfOk result (λ raised. raised ≡ true
-            → registry_of self.new ≡ with_value (registry_of self.old) id value) }
-        ensures writes { IfOk result (λ raised. raised ≡ true
-            → writes_of self.new ≡ writes_of self.old ++ value_write id value ∷ []) }
+        ensures sets { IfOk result (λ raised. raised ≡ true → SetsValue id value self.old self.new) }
         ensures kept { IfOk result (λ raised. raised ≡ false → self.new ≡ self.old) }
         ensures shares { shares_of self.new ≡ shares_of self.old }
         ensures values { IsManagerOf values.now self.new }

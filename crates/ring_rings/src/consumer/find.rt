@@ -1,8 +1,8 @@
 //! What a running read finds where it has come to.
 ghost use Rattle.std.specs.Prelude.{◌≡◌, ℕ, ◌+◌, ◌<◌, List, true};
 ghost use Rattle.ring_table.specs.declared.claim.PlacedMessage.{PlacedMessage};
-ghost use Rattle.ring_table.specs.Seats.{IsSameSeat, IsSeatOf};
-ghost use Rattle.ring_rings.specs.ReadingSteps.{Finds, HasCome, IsAt, OnlyScans};
+ghost use Rattle.ring_table.specs.Seats.{IsSameSeat};
+ghost use Rattle.ring_rings.specs.ReadingSteps.{Finds, HasCome, IsAt, IsReaderSeatOf, OnlyScans};
 
 use super::load::load_header;
 use ring_layout::record_descriptor::{HEADER_LENGTH, PADDING_MSG_TYPE_ID};
@@ -28,8 +28,7 @@ pub(super) fn find(
     head: u64,
     scan: u64,
 ) -> Found
-    requires seat { IsSeatOf ring.now.table_id ring.now.key capacity seat.old }
-    requires consumes { seat.old.me.0.consumes ≡ true }
+    requires seat { IsReaderSeatOf ring.now.table_id ring.now.key capacity seat.old }
     requires stands { (seat.old.me.0.consumer.head ≡ head) × (seat.old.me.0.consumer.cleared ≡ head) }
     requires at { HasCome scan seat.old.me.0 }
     requires near { scan < head + capacity }

@@ -2,9 +2,10 @@
 ghost use Rattle.std.specs.Prelude.{◌≡◌, ◌≢◌, ℕ, ◌+◌, ◌*◌, ◌/◌, ◌%◌, ◌<◌, ◌≤◌, List, length, true};
 ghost use Rattle.ring_layout.specs.Places.{index, max_position};
 ghost use Rattle.ring_table.specs.declared.claim.PlacedMessage.{PlacedMessage};
-ghost use Rattle.ring_table.specs.Seats.{IsSameSeat, IsSeatOf};
+ghost use Rattle.ring_table.specs.Seats.{IsSameSeat};
 ghost use Rattle.ring_table.specs.ConsumerSteps.{LoadsHeader};
-ghost use Rattle.ring_rings.specs.ReadingSteps.{CopiesBody, CopiesWord, HasCome, HasGotLast, IsAt, OnlyLoads};
+ghost use Rattle.ring_rings.specs.ReadingSteps.{CopiesBody, CopiesWord, HasBodyAt, HasCome, HasGotLast, IsAt};
+ghost use Rattle.ring_rings.specs.ReadingSteps.{IsReaderSeatOf, OnlyLoads};
 
 use ring_layout::record_descriptor::HEADER_LENGTH;
 use ring_layout::{put_word, word_index};
@@ -18,8 +19,7 @@ pub(super) fn load_header(
     head: u64,
     scan: u64,
 ) -> u64
-    requires seat { IsSeatOf ring.now.table_id ring.now.key capacity seat.old }
-    requires consumes { seat.old.me.0.consumes ≡ true }
+    requires seat { IsReaderSeatOf ring.now.table_id ring.now.key capacity seat.old }
     requires stands { (seat.old.me.0.consumer.head ≡ head) × (seat.old.me.0.consumer.cleared ≡ head) }
     requires at { HasCome scan seat.old.me.0 }
     requires near { scan < head + capacity }
@@ -45,11 +45,10 @@ fn load_word(
     k: usize,
     scratch: &mut [u8],
 )
-    requires seat { IsSeatOf ring.now.table_id ring.now.key capacity seat.old }
-    requires consumes { seat.old.me.0.consumes ≡ true }
-    requires place { (seat.old.me.0.consumer.cleared ≤ place) × (place ≤ max_position) }
+    requires seat { IsReaderSeatOf ring.now.table_id ring.now.key capacity seat.old }
+    requires place { (seat.old.me.0.consumer.cleared ≤ place) × (place ≤ max_position)
+        × (place % capacity + 8 + 8 * k < capacity) }
     requires first { first ≡ index capacity place + 1 }
-    requires inside { place % capacity + 8 + 8 * k < capacity }
     requires room { 8 * k + 8 ≤ length scratch.old }
     ensures seat { IsSameSeat seat.old seat.new }
     ensures rest { OnlyLoads seat.old.me.0 seat.new.me.0 }
@@ -69,11 +68,9 @@ pub(super) fn load_body(
     len: usize,
     scratch: &mut [u8],
 )
-    requires seat { IsSeatOf ring.now.table_id ring.now.key capacity seat.old }
-    requires consumes { seat.old.me.0.consumes ≡ true }
-    requires place { (seat.old.me.0.consumer.cleared ≤ place) × (place ≤ max_position) }
-    requires inside { place % capacity + 8 + len ≤ capacity }
-    requires room { (length scratch.old ≡ capacity / 8) × (len ≤ capacity / 8) }
+    requires seat { IsReaderSeatOf ring.now.table_id ring.now.key capacity seat.old }
+    requires body { HasBodyAt capacity seat.old.me.0.consumer.cleared place len }
+    requires room { length scratch.old ≡ capacity / 8 }
     ensures seat { IsSameSeat seat.old seat.new }
     ensures rest { OnlyLoads seat.old.me.0 seat.new.me.0 }
     ensures copies { (m : PlacedMessage) → HasGotLast m seat.old.me.0 → m.place ≡ place → length m.message.body ≡ len

@@ -1,12 +1,13 @@
 //! How a read gives the producers room: it clears what it has passed, and then stores the head.
 ghost use Rattle.std.specs.Prelude.{◌≡◌, ◌≢◌, ℕ, ◌+◌, ◌%◌, ◌≤◌, ◌<◌, List, true};
-ghost use Rattle.ring_layout.specs.Places.{index, max_position};
+ghost use Rattle.ring_layout.specs.Places.{index};
 ghost use Rattle.ring_table.specs.declared.claim.PlacedMessage.{PlacedMessage};
-ghost use Rattle.ring_table.specs.Seats.{IsSameSeat, IsSeatOf};
+ghost use Rattle.ring_table.specs.Seats.{IsSameSeat};
 ghost use Rattle.ring_table.specs.ConsumerSteps.{ClearsWord};
 ghost use Rattle.ring_table.specs.Views.{cleared_to, with_consumer};
 ghost use Rattle.ring_rings.specs.Seats.{IsConsumerOf, capacity_of, head_of, seat_view};
-ghost use Rattle.ring_rings.specs.ReadingSteps.{HasCome, IsInBlock, IsLeft, SettlesAll, SettlesBefore};
+ghost use Rattle.ring_rings.specs.ReadingSteps.{HasCome, IsInBlock, IsLeft, IsReaderSeatOf, MayMoveTo};
+ghost use Rattle.ring_rings.specs.ReadingSteps.{SettlesAll, SettlesBefore};
 
 use crate::ring::{Consumer, Ring};
 use ring_layout::word_index;
@@ -17,9 +18,8 @@ use ring_table::{
 /// Sees to it that the next word that the read has passed is 0. Its index in the buffer is `target`.
 #[inline(always)]
 fn pass_word(ring: &SharedRing, seat: &mut RingSeat, capacity: u32, cleared: u64, target: usize)
-    requires seat { IsSeatOf ring.now.table_id ring.now.key capacity seat.old }
+    requires seat { IsReaderSeatOf ring.now.table_id ring.now.key capacity seat.old }
     requires target { target ≡ index capacity cleared }
-    requires consumes { seat.old.me.0.consumes ≡ true }
     requires cleared { seat.old.me.0.consumer.cleared ≡ cleared }
     requires passed { cleared < seat.old.me.0.consumer.scan }
     ensures seat { IsSameSeat seat.old seat.new }
@@ -34,8 +34,7 @@ fn pass_word(ring: &SharedRing, seat: &mut RingSeat, capacity: u32, cleared: u64
 /// Sees to it that the words from the head up to the position `to`, which the read has passed, are 0.
 #[inline(always)]
 fn clear_up(ring: &SharedRing, seat: &mut RingSeat, capacity: u32, head: u64, to: u64)
-    requires seat { IsSeatOf ring.now.table_id ring.now.key capacity seat.old }
-    requires consumes { seat.old.me.0.consumes ≡ true }
+    requires seat { IsReaderSeatOf ring.now.table_id ring.now.key capacity seat.old }
     requires cleared { seat.old.me.0.consumer.cleared ≡ head }
     requires passed { (head ≤ to) × (to ≤ seat.old.me.0.consumer.scan) }
     requires whole { (head % 8 ≡ 0) × (to % 8 ≡ 0) }
@@ -65,9 +64,8 @@ impl<K> Ring<K> {
     #[inline(always)]
     pub(super) fn move_head(&self, consumer: &mut Consumer, scan: u64)
         requires consumer { IsConsumerOf self.now consumer.old }
-        requires from { (head_of consumer.old ≤ scan) × (scan % 8 ≡ 0) × (scan ≤ max_position) }
+        requires to { MayMoveTo (capacity_of self.now) (head_of consumer.old) scan }
         requires at { HasCome scan (seat_view consumer.old) }
-        requires inside { IsInBlock (capacity_of self.now) (head_of consumer.old) scan }
         ensures consumer { IsConsumerOf self.now consumer.new }
         ensures seat { IsSameSeat consumer.old.seat consumer.new.seat }
         ensures settles { SettlesAll scan (seat_view consumer.old) (seat_view consumer.new) }
@@ -89,9 +87,8 @@ impl<K> Ring<K> {
     #[inline(always)]
     pub(super) fn move_head_before(&self, consumer: &mut Consumer, place: u64)
         requires consumer { IsConsumerOf self.now consumer.old }
-        requires from { (head_of consumer.old ≤ place) × (place % 8 ≡ 0) × (place ≤ max_position) }
+        requires to { MayMoveTo (capacity_of self.now) (head_of consumer.old) place }
         requires left { (got : List PlacedMessage) × IsLeft place got (seat_view consumer.old) }
-        requires inside { IsInBlock (capacity_of self.now) (head_of consumer.old) place }
         ensures consumer { IsConsumerOf self.now consumer.new }
         ensures seat { IsSameSeat consumer.old.seat consumer.new.seat }
         ensures settles { SettlesBefore place (seat_view consumer.old) (seat_view consumer.new) }

@@ -1,14 +1,12 @@
 //! Reads of a shared ring.
 
 ghost use Rattle.std.specs.Prelude.{◌≡◌, ◌≢◌, ℕ, ◌+◌, ◌%◌, ◌<◌, ◌≤◌, ◌&&◌, ◌==◌, nat_lt};
-ghost use Rattle.ring_layout.specs.Places.{max_position};
 ghost use Rattle.ring_table.specs.Seats.{IsSameSeat};
-ghost use Rattle.ring_words.specs.Read.{stop_of};
 ghost use Rattle.ring_rings.specs.Seats.{IsConsumerOf, capacity_of, consumer_view, head_of, seat_view};
 ghost use Rattle.ring_words.specs.Across.{ReadsAcross};
 ghost use Rattle.ring_words.specs.Controlled.{heeded};
-ghost use Rattle.ring_rings.specs.Reading.{Controls, FoundUnsettled, Reads, ReadsTo};
-ghost use Rattle.ring_rings.specs.ReadingSteps.{HasCome, IsInBlock, SettlesAll};
+ghost use Rattle.ring_rings.specs.Reading.{Controls, EndsAt, ReadsTo};
+ghost use Rattle.ring_rings.specs.ReadingSteps.{Ended, HasCome, MayMoveTo, SettlesAll};
 
 use crate::consumer::turn::Turn;
 use crate::ring::{Consumer, Ring};
@@ -34,16 +32,13 @@ impl<K> Ring<K> {
         stopped: Stop,
     ) -> ReadEnd
         requires consumer { IsConsumerOf self.now consumer.old }
-        requires from { (start ≤ head_of consumer.old) × (head_of consumer.old ≤ scan)
-            × (scan % 8 ≡ 0) × (scan ≤ max_position) }
-        requires at { HasCome scan (seat_view consumer.old) }
-        requires inside { IsInBlock (capacity_of self.now) (head_of consumer.old) scan }
+        requires start { start ≤ head_of consumer.old }
+        requires to { HasCome scan (seat_view consumer.old)
+            × MayMoveTo (capacity_of self.now) (head_of consumer.old) scan }
         ensures consumer { IsConsumerOf self.now consumer.new }
         ensures seat { IsSameSeat consumer.old.seat consumer.new.seat }
         ensures settles { SettlesAll scan (seat_view consumer.old) (seat_view consumer.new) }
-        ensures messages { result.messages ≡ messages }
-        ensures bytes { start + result.bytes ≡ scan }
-        ensures stopped { result.stopped ≡ stopped }
+        ensures ended { Ended start scan messages stopped result }
     {
         self.move_head(consumer, scan);
         ReadEnd {
@@ -68,10 +63,7 @@ impl<K> Ring<K> {
         ensures seat { IsSameSeat consumer.old.seat consumer.new.seat }
         ensures controls { Controls (heeded heeds H.step) limit
             (consumer_view consumer.old) (consumer_view consumer.new) handler.old handler.new result }
-        ensures within { result.messages ≤ limit }
-        ensures bytes { head_of consumer.old + result.bytes ≡ head_of consumer.new }
-        ensures blocked { result.stopped ≡ Stop.Unpublished
-            → FoundUnsettled (consumer_view consumer.old) (consumer_view consumer.new) }
+        ensures ends { EndsAt limit (consumer_view consumer.old) (consumer_view consumer.new) result }
     {
         let start = consumer.head;
         let mut scan = start;
@@ -124,14 +116,9 @@ impl<K> Ring<K> {
         ensures consumer { IsConsumerOf self.now consumer.new }
         ensures ready { H.ready handler.new }
         ensures seat { IsSameSeat consumer.old.seat consumer.new.seat }
-        ensures reads { Reads H.step limit (consumer_view consumer.old) (consumer_view consumer.new)
-            handler.old handler.new result.messages }
-        ensures within { result.messages ≤ limit }
-        ensures bytes { head_of consumer.old + result.bytes ≡ head_of consumer.new }
-        ensures stopped { result.stopped
-            ≡ stop_of (capacity_of self.now) limit result.messages (head_of consumer.new) result.bytes }
-        ensures blocked { result.stopped ≡ Stop.Unpublished
-            → FoundUnsettled (consumer_view consumer.old) (consumer_view consumer.new) }
+        ensures reads { ReadsTo H.step limit (consumer_view consumer.old) (consumer_view consumer.new)
+            handler.old handler.new result }
+        ensures ends { EndsAt limit (consumer_view consumer.old) (consumer_view consumer.new) result }
     {
         self.run(consumer, limit, false, handler)
     }
@@ -152,10 +139,7 @@ impl<K> Ring<K> {
         ensures seat { IsSameSeat consumer.old.seat consumer.new.seat }
         ensures reads { ReadsAcross (ReadsTo H.step) limit (consumer_view consumer.old) (consumer_view consumer.new)
             handler.old handler.new result }
-        ensures within { result.messages ≤ limit }
-        ensures bytes { head_of consumer.old + result.bytes ≡ head_of consumer.new }
-        ensures blocked { result.stopped ≡ Stop.Unpublished
-            → FoundUnsettled (consumer_view consumer.old) (consumer_view consumer.new) }
+        ensures ends { EndsAt limit (consumer_view consumer.old) (consumer_view consumer.new) result }
     {
         let first = self.read(consumer, limit, handler);
         if first.stopped != Stop::Block {
@@ -185,10 +169,7 @@ impl<K> Ring<K> {
         ensures seat { IsSameSeat consumer.old.seat consumer.new.seat }
         ensures controls { Controls H.step limit (consumer_view consumer.old) (consumer_view consumer.new)
             handler.old handler.new result }
-        ensures within { result.messages ≤ limit }
-        ensures bytes { head_of consumer.old + result.bytes ≡ head_of consumer.new }
-        ensures blocked { result.stopped ≡ Stop.Unpublished
-            → FoundUnsettled (consumer_view consumer.old) (consumer_view consumer.new) }
+        ensures ends { EndsAt limit (consumer_view consumer.old) (consumer_view consumer.new) result }
     {
         self.run(consumer, limit, true, handler)
     }

@@ -1,11 +1,10 @@
 //! One turn of a read.
 ghost use Rattle.std.specs.Prelude.{◌≡◌, ◌≢◌, ℕ, ◌+◌, ◌%◌, ◌/◌, ◌<◌, ◌≤◌, List, length, true};
-ghost use Rattle.ring_layout.specs.Places.{max_position};
 ghost use Rattle.ring_table.specs.declared.claim.PlacedMessage.{PlacedMessage};
 ghost use Rattle.ring_table.specs.Seats.{IsSameSeat};
 ghost use Rattle.ring_words.specs.Controlled.{heeded};
 ghost use Rattle.ring_rings.specs.Seats.{IsConsumerOf, capacity_of, head_of, seat_view};
-ghost use Rattle.ring_rings.specs.ReadingSteps.{HasCome, HasGotLast, IsAt, LoadsWholeBody, TurnIs};
+ghost use Rattle.ring_rings.specs.ReadingSteps.{HasBodyAt, HasComeNear, HasGotLast, IsAt, LoadsWholeBody, TurnIs};
 
 use super::find::{Found, find};
 use super::load::load_body;
@@ -36,9 +35,7 @@ impl<K> Ring<K> {
     ) -> Action
         requires consumer { IsConsumerOf self.now consumer.old }
         requires ready { H.ready handler.old }
-        requires place { (head_of consumer.old ≤ place) × (place ≤ max_position) }
-        requires room { len ≤ capacity_of self.now / 8 }
-        requires inside { place % capacity_of self.now + 8 + len ≤ capacity_of self.now }
+        requires body { HasBodyAt (capacity_of self.now) (head_of consumer.old) place len }
         ensures consumer { IsConsumerOf self.now consumer.new }
         ensures ready { H.ready handler.new }
         ensures seat { IsSameSeat consumer.old.seat consumer.new.seat }
@@ -68,9 +65,7 @@ impl<K> Ring<K> {
     ) -> Turn
         requires consumer { IsConsumerOf self.now consumer.old }
         requires ready { H.ready handler.old }
-        requires at { HasCome scan (seat_view consumer.old) }
-        requires near { (head_of consumer.old ≤ scan) × (scan < head_of consumer.old + capacity_of self.now)
-            × (scan ≤ max_position) × (scan % 8 ≡ 0) }
+        requires near { HasComeNear (capacity_of self.now) scan (seat_view consumer.old) }
         ensures consumer { IsConsumerOf self.now consumer.new }
         ensures ready { H.ready handler.new }
         ensures seat { IsSameSeat consumer.old.seat consumer.new.seat }

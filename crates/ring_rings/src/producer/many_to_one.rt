@@ -5,7 +5,7 @@ ghost use Rattle.ring_table.specs.Views.{producer_alone, without_share};
 ghost use Rattle.ring_rings.specs.Claiming.{Claims, RefusesTry, Writes};
 ghost use Rattle.ring_rings.specs.Joining.{Joins};
 ghost use Rattle.ring_rings.specs.Seats.{capacity_of, claims_of, shares_of, view_of};
-ghost use Rattle.ring_rings.specs.Seats.{IsOpenClaimOf, IsProducerOf, KeepsBoth, KeepsClaims, LiesApart};
+ghost use Rattle.ring_rings.specs.Seats.{IsNewClaimOf, IsProducerOf, KeepsBoth, KeepsClaims};
 
 use crate::claim::Claim;
 use crate::fault::TryFault;
@@ -36,9 +36,8 @@ impl Ring<ManyToOne> {
             Claims (capacity_of self.now) type_id len (view_of producer.old) t (view_of producer.new)) }
         ensures refused { IfErr result (λ fault.
             RefusesTry (capacity_of self.now) type_id len (view_of producer.old) fault (view_of producer.new)) }
-        ensures is_open { IfOk result (IsOpenClaimOf self.now producer.new) }
+        ensures opened { IfOk result (IsNewClaimOf self.now producer.old producer.new) }
         ensures claims { KeepsClaims self.now producer.old producer.new }
-        ensures apart { IfOk result (LiesApart self.now producer.old) }
     {
         let wanted = Wanted { type_id, len };
         let admission = try_claim(

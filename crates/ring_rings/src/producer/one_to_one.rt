@@ -2,7 +2,7 @@
 ghost use Rattle.std.specs.Prelude.{◌≡◌, length, IfErr, IfOk, OnOk};
 ghost use Rattle.ring_rings.specs.Claiming.{ClaimsAlone, RefusesAlone, WritesAlone};
 ghost use Rattle.ring_rings.specs.Seats.{capacity_of, shares_of, view_of};
-ghost use Rattle.ring_rings.specs.Seats.{IsOpenClaimOf, IsProducerOf, KeepsClaims, LiesApart};
+ghost use Rattle.ring_rings.specs.Seats.{IsNewClaimOf, IsProducerOf, KeepsClaims};
 
 use crate::claim::Claim;
 use crate::producer::body::store_message;
@@ -30,9 +30,8 @@ impl Ring<OneToOne> {
             ClaimsAlone (capacity_of self.now) type_id len (view_of producer.old) t (view_of producer.new)) }
         ensures refused { IfErr result (λ fault.
             RefusesAlone (capacity_of self.now) type_id len (view_of producer.old) fault (view_of producer.new)) }
-        ensures is_open { IfOk result (IsOpenClaimOf self.now producer.new) }
+        ensures opened { IfOk result (IsNewClaimOf self.now producer.old producer.new) }
         ensures claims { KeepsClaims self.now producer.old producer.new }
-        ensures apart { IfOk result (LiesApart self.now producer.old) }
     {
         let wanted = Wanted { type_id, len };
         let tail = producer.own_tail;

@@ -8,7 +8,7 @@ ghost use Rattle.ring_table.specs.ProducerSteps.{with_changed, HasClaimAt, IsSta
 ghost use Rattle.ring_table.specs.Seats.{IsSameSeat, IsSeatOf};
 ghost use Rattle.ring_table.specs.Staged.{AreRising};
 ghost use Rattle.ring_rings.specs.Bodies.{PutsBytes};
-ghost use Rattle.ring_rings.specs.Seats.{claims_of, view_of, IsOpenClaimOf, IsProducerOf, KeepsOthers};
+ghost use Rattle.ring_rings.specs.Seats.{view_of, IsOpenClaimOf, IsProducerOf, KeepsOthers};
 
 use crate::claim::Claim;
 use crate::producer::body::put_bytes;
@@ -56,13 +56,11 @@ impl<K> Ring<K> {
         requires producer { IsProducerOf self.now producer.old }
         requires claim { IsOpenClaimOf self.now producer.old claim.old }
         ensures producer { IsProducerOf self.now producer.new }
-        ensures refused { IsTrue (is_err result) ↔ (claim.old.len < offset + length bytes.now) }
-        ensures same { OnErr result (producer.new ≡ producer.old) }
-        ensures rising { AreRising (claims_of producer.old) }
+        ensures refused { (IsTrue (is_err result) ↔ (claim.old.len < offset + length bytes.now))
+            × OnErr result (producer.new ≡ producer.old) }
         ensures put { OnOk result
             (PutsBytes claim.old.place offset bytes.now (view_of producer.old) (view_of producer.new)) }
-        ensures claim { claim.new ≡ claim.old }
-        ensures is_open { IsOpenClaimOf self.now producer.new claim.new }
+        ensures claim { (claim.new ≡ claim.old) × IsOpenClaimOf self.now producer.new claim.new }
         ensures others { KeepsOthers self.now claim.old.place producer.old producer.new }
     {
         let len = claim.len();
@@ -87,7 +85,6 @@ impl<K> Ring<K> {
         requires claim { IsOpenClaimOf self.now producer.old claim }
         requires settled { state ≢ Open }
         ensures producer { IsProducerOf self.now producer.new }
-        ensures rising { AreRising (claims_of producer.old) }
         ensures settled { view_of producer.new
             ≡ with_changed claim.place (staged (Stored state)) (view_of producer.old) }
         ensures others { KeepsOthers self.now claim.place producer.old producer.new }
@@ -112,7 +109,6 @@ impl<K> Ring<K> {
         requires producer { IsProducerOf self.now producer.old }
         requires claim { IsOpenClaimOf self.now producer.old claim }
         ensures producer { IsProducerOf self.now producer.new }
-        ensures rising { AreRising (claims_of producer.old) }
         ensures settled { view_of producer.new
             ≡ with_changed claim.place (staged (Stored Committed)) (view_of producer.old) }
         ensures others { KeepsOthers self.now claim.place producer.old producer.new }
@@ -125,7 +121,6 @@ impl<K> Ring<K> {
         requires producer { IsProducerOf self.now producer.old }
         requires claim { IsOpenClaimOf self.now producer.old claim }
         ensures producer { IsProducerOf self.now producer.new }
-        ensures rising { AreRising (claims_of producer.old) }
         ensures settled { view_of producer.new
             ≡ with_changed claim.place (staged (Stored Aborted)) (view_of producer.old) }
         ensures others { KeepsOthers self.now claim.place producer.old producer.new }

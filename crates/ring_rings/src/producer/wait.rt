@@ -1,7 +1,7 @@
 //! Claims and writes that try again while another producer is faster.
 ghost use Rattle.std.specs.Prelude.{◌≡◌, length, IfErr, IfOk, OnOk};
 ghost use Rattle.ring_rings.specs.Claiming.{AfterTries, Claims, Refuses, Writes};
-ghost use Rattle.ring_rings.specs.Seats.{capacity_of, view_of, IsOpenClaimOf, IsProducerOf, KeepsClaims, LiesApart};
+ghost use Rattle.ring_rings.specs.Seats.{capacity_of, view_of, IsNewClaimOf, IsProducerOf, KeepsClaims};
 
 use crate::claim::Claim;
 use crate::fault::TryFault;
@@ -25,9 +25,8 @@ impl Ring<ManyToOne> {
             (λ v. Claims (capacity_of self.now) type_id len v t (view_of producer.new))) }
         ensures refused { IfErr result (λ fault. AfterTries (capacity_of self.now) type_id len (view_of producer.old)
             (λ v. Refuses (capacity_of self.now) type_id len v fault (view_of producer.new))) }
-        ensures is_open { IfOk result (IsOpenClaimOf self.now producer.new) }
+        ensures opened { IfOk result (IsNewClaimOf self.now producer.old producer.new) }
         ensures claims { KeepsClaims self.now producer.old producer.new }
-        ensures apart { IfOk result (LiesApart self.now producer.old) }
     {
         let backoff = Backoff::new();
         for _ in rt.forever() {

@@ -1,10 +1,10 @@
 //! The listeners to the conductor's replies.
-ghost use Rattle.std.specs.Prelude.{◌≡◌, ◌+◌, IfNone, IfOk, IfSome, OnErr, OnSome};
+ghost use Rattle.std.specs.Prelude.{◌≡◌, IfNone, IfOk, IfSome, OnErr, OnSome};
 ghost use Rattle.ring_board.specs.Refusals.{subscribe_refusal_of, IsSubscribedUnless};
-ghost use Rattle.ring_board.specs.Seats.{shares_of, IsTransmitterOf};
+ghost use Rattle.ring_board.specs.Seats.{shares_of};
 ghost use Rattle.ring_conductor.specs.Conducting.{KeepsTheRest, transmitter_of};
-ghost use Rattle.ring_loose.specs.Held.{IsFree, held_count, held_in};
-ghost use Rattle.ring_loose.specs.Receivers.{AreReceivers, LeavesCrowd, ReceivesAt, Subscribes, crowd};
+ghost use Rattle.ring_loose.specs.Held.{IsFree, held_in};
+ghost use Rattle.ring_loose.specs.Receivers.{LeavesCrowd, ReceivesAt, Subscribes, crowd, shares_in, IsCrowdOf};
 
 use super::CommandService;
 use ring_board::{Board, CopyReceiver, SubscribeFault};
@@ -19,10 +19,8 @@ fn make_listener(
     conductor: &mut Conductor,
     listeners: &mut Numbered<CopyReceiver>,
 ) -> Result<Result<usize, SubscribeFault>, AllocError>
-    requires transmitter { IsTransmitterOf board.now (transmitter_of conductor.old) }
-    requires listeners { AreReceivers board.now listeners.old }
-    ensures transmitter { IsTransmitterOf board.now (transmitter_of conductor.new) }
-    ensures listeners { AreReceivers board.now listeners.new }
+    requires { IsCrowdOf board.now (crowd (transmitter_of conductor.old) listeners.old) }
+    ensures crowd { IsCrowdOf board.now (crowd (transmitter_of conductor.new) listeners.new) }
     ensures made { IfOk result (λ made. IfOk made (λ number. Subscribes
         (crowd (transmitter_of conductor.old) listeners.old) number
         (crowd (transmitter_of conductor.new) listeners.new))) }
@@ -30,8 +28,8 @@ fn make_listener(
         ((conductor.new ≡ conductor.old) × (held_in listeners.new ≡ held_in listeners.old))) }
     ensures refused { IfOk result (λ made.
         IsSubscribedUnless (subscribe_refusal_of (shares_of (transmitter_of conductor.old))) made) }
-    ensures shares { shares_of (transmitter_of conductor.new) + held_count (held_in listeners.new)
-        ≡ shares_of (transmitter_of conductor.old) + held_count (held_in listeners.old) }
+    ensures shares { shares_in (crowd (transmitter_of conductor.new) listeners.new)
+        ≡ shares_in (crowd (transmitter_of conductor.old) listeners.old) }
     ensures others { KeepsTheRest conductor.old conductor.new }
 {
     listeners.reserve()?;
@@ -49,18 +47,16 @@ fn join_listener(
     listeners: &mut Numbered<CopyReceiver>,
     number: usize,
 ) -> Option<()>
-    requires transmitter { IsTransmitterOf board.now (transmitter_of conductor.old) }
-    requires listeners { AreReceivers board.now listeners.old }
-    ensures transmitter { IsTransmitterOf board.now (transmitter_of conductor.new) }
-    ensures listeners { AreReceivers board.now listeners.new }
+    requires { IsCrowdOf board.now (crowd (transmitter_of conductor.old) listeners.old) }
+    ensures crowd { IsCrowdOf board.now (crowd (transmitter_of conductor.new) listeners.new) }
     ensures left { OnSome result (LeavesCrowd
         (crowd (transmitter_of conductor.old) listeners.old) number
         (crowd (transmitter_of conductor.new) listeners.new)) }
     ensures same { IfNone result
         ((conductor.new ≡ conductor.old) × (held_in listeners.new ≡ held_in listeners.old)) }
     ensures free { IfNone result (IsFree (held_in listeners.old) number) }
-    ensures shares { shares_of (transmitter_of conductor.new) + held_count (held_in listeners.new)
-        ≡ shares_of (transmitter_of conductor.old) + held_count (held_in listeners.old) }
+    ensures shares { shares_in (crowd (transmitter_of conductor.new) listeners.new)
+        ≡ shares_in (crowd (transmitter_of conductor.old) listeners.old) }
     ensures others { KeepsTheRest conductor.old conductor.new }
 {
     let listener = listeners.take(number)?;

@@ -1,7 +1,7 @@
 //! Commands go into the ring.
 ghost use Rattle.std.specs.Prelude.{◌≡◌, ◌↔◌, length, IfErr, IfNone, IfOk, IfSome, IsSome, OnOk};
 ghost use Rattle.ring_loose.specs.Claims.{RefusesAfter, WritesAfter};
-ghost use Rattle.ring_rings.specs.Seats.{capacity_of, open_claims_of, shares_of, view_of, IsProducerOf};
+ghost use Rattle.ring_rings.specs.Seats.{capacity_of, view_of, IsProducerOf, OpensNone};
 ghost use Rattle.ring_scenario.specs.Instructions.{FitsRoom};
 ghost use Rattle.ring_scenario.specs.Serving.{RefusesRequest, SendsRequest};
 
@@ -29,8 +29,7 @@ fn write_message<R: Wait>(
         (WritesAfter (capacity_of ring.now) type_id body.now (view_of producer.old) (view_of producer.new)) }
     ensures refused { IfErr result (λ fault. RefusesAfter (capacity_of ring.now) type_id (length body.now)
         (view_of producer.old) fault (view_of producer.new)) }
-    ensures open_claims { open_claims_of producer.new ≡ open_claims_of producer.old }
-    ensures shares { shares_of producer.new ≡ shares_of producer.old }
+    ensures holdings { OpensNone ring.now producer.old producer.new }
 {
     ring.write(rt, producer, type_id, body)
 }
@@ -51,8 +50,7 @@ fn send_request<R: Wait>(
     ensures refused { IfSome result (λ answer. IfErr answer (λ fault.
         RefusesRequest (capacity_of ring.now) request.now (view_of producer.old) fault (view_of producer.new))) }
     ensures none { IfNone result (producer.new ≡ producer.old) }
-    ensures open_claims { open_claims_of producer.new ≡ open_claims_of producer.old }
-    ensures shares { shares_of producer.new ≡ shares_of producer.old }
+    ensures holdings { OpensNone ring.now producer.old producer.new }
 {
     let mut body = [0; MAX_COMMAND];
     encode_command(&command(request, 0), &mut body)?;

@@ -1,10 +1,10 @@
 //! The watchers of the counters' values.
 ghost use Rattle.std.specs.Prelude.{◌≡◌, ◌+◌, ◌<◌, ◌↔◌, IfNone, IfOk, IfSome, IsOk, OnErr, OnSome};
-ghost use Rattle.ring_counters.specs.Manager.{registry_of, writes_of, IsManagerOf};
+ghost use Rattle.ring_counters.specs.Manager.{writes_of};
 ghost use Rattle.ring_counters.specs.Seats.{values_count};
-ghost use Rattle.ring_conductor.specs.Conducting.{KeepsSeats, manager_in, value_shares_of};
+ghost use Rattle.ring_conductor.specs.Conducting.{manager_in, value_shares_of, KeepsAllCounters};
 ghost use Rattle.ring_loose.specs.Held.{IsFree, held_count, held_in};
-ghost use Rattle.ring_scenario.specs.Watchers.{AreWatchers, Peeks, Unwatches, Watches};
+ghost use Rattle.ring_scenario.specs.Watchers.{AreWatchedBy, AreWatchers, Peeks, Unwatches, Watches};
 
 use super::CommandService;
 use ring_conductor::Conductor;
@@ -18,10 +18,8 @@ fn make_watcher(
     conductor: &mut Conductor,
     watchers: &mut Numbered<ValueReader>,
 ) -> Result<Result<usize, NoShares>, AllocError>
-    requires values { IsManagerOf values.now (manager_in conductor.old) }
-    requires watchers { AreWatchers values.now watchers.old }
-    ensures values { IsManagerOf values.now (manager_in conductor.new) }
-    ensures watchers { AreWatchers values.now watchers.new }
+    requires { AreWatchedBy values.now (manager_in conductor.old) watchers.old }
+    ensures watched { AreWatchedBy values.now (manager_in conductor.new) watchers.new }
     ensures made { IfOk result (λ made. IfOk made (λ number.
         Watches (writes_of (manager_in conductor.old)) watchers.old number watchers.new)) }
     ensures same { IfOk result (λ made. OnErr made
@@ -29,8 +27,7 @@ fn make_watcher(
     ensures enough { IfOk result (λ made. IsOk made ↔ (1 < value_shares_of conductor.old)) }
     ensures shares { value_shares_of conductor.new + held_count (held_in watchers.new)
         ≡ value_shares_of conductor.old + held_count (held_in watchers.old) }
-    ensures registry { registry_of (manager_in conductor.new) ≡ registry_of (manager_in conductor.old) }
-    ensures others { KeepsSeats conductor.old conductor.new }
+    ensures keeps { KeepsAllCounters values.now conductor.old conductor.new }
 {
     watchers.reserve()?;
     let watcher = match conductor.value_reader(values) {
@@ -68,18 +65,15 @@ fn join_watcher(
     watchers: &mut Numbered<ValueReader>,
     number: usize,
 ) -> Option<()>
-    requires values { IsManagerOf values.now (manager_in conductor.old) }
-    requires watchers { AreWatchers values.now watchers.old }
-    ensures values { IsManagerOf values.now (manager_in conductor.new) }
-    ensures watchers { AreWatchers values.now watchers.new }
+    requires { AreWatchedBy values.now (manager_in conductor.old) watchers.old }
+    ensures watched { AreWatchedBy values.now (manager_in conductor.new) watchers.new }
     ensures left { OnSome result (Unwatches watchers.old number watchers.new) }
     ensures same { IfNone result
         ((conductor.new ≡ conductor.old) × (held_in watchers.new ≡ held_in watchers.old)) }
     ensures free { IfNone result (IsFree (held_in watchers.old) number) }
     ensures shares { value_shares_of conductor.new + held_count (held_in watchers.new)
         ≡ value_shares_of conductor.old + held_count (held_in watchers.old) }
-    ensures registry { registry_of (manager_in conductor.new) ≡ registry_of (manager_in conductor.old) }
-    ensures others { KeepsSeats conductor.old conductor.new }
+    ensures keeps { KeepsAllCounters values.now conductor.old conductor.new }
 {
     let watcher = watchers.take(number)?;
     conductor.join_value_reader(values, watcher);
@@ -93,8 +87,7 @@ impl CommandService {
             Watches (writes_of (manager_in self.old.conductor)) self.old.watchers number self.new.watchers)) }
         ensures same { IfOk result (λ made. OnErr made (self.new.conductor ≡ self.old.conductor)) }
         ensures enough { IfOk result (λ made. IsOk made ↔ (1 < value_shares_of self.old.conductor)) }
-        ensures registry { registry_of (manager_in self.new.conductor) ≡ registry_of (manager_in self.old.conductor) }
-        ensures others { KeepsSeats self.old.conductor self.new.conductor }
+        ensures keeps { KeepsAllCounters self.new.values self.old.conductor self.new.conductor }
     {
         make_watcher(&self.values, &mut self.conductor, &mut self.watchers)
     }
@@ -120,8 +113,7 @@ impl CommandService {
         ensures left { OnSome result (Unwatches self.old.watchers number self.new.watchers) }
         ensures same { IfNone result (held_in self.new.watchers ≡ held_in self.old.watchers) }
         ensures free { IfNone result (IsFree (held_in self.old.watchers) number) }
-        ensures registry { registry_of (manager_in self.new.conductor) ≡ registry_of (manager_in self.old.conductor) }
-        ensures others { KeepsSeats self.old.conductor self.new.conductor }
+        ensures keeps { KeepsAllCounters self.new.values self.old.conductor self.new.conductor }
         ensures producer { self.new.producer ≡ self.old.producer }
     {
         join_watcher(
@@ -135,8 +127,7 @@ impl CommandService {
     /// Takes all watchers away, in rising order of their numbers. The counters have all shares of the values then.
     pub(super) fn join_watchers(&mut self)
         ensures shares { value_shares_of self.new.conductor ≡ 65536 }
-        ensures registry { registry_of (manager_in self.new.conductor) ≡ registry_of (manager_in self.old.conductor) }
-        ensures others { KeepsSeats self.old.conductor self.new.conductor }
+        ensures keeps { KeepsAllCounters self.new.values self.old.conductor self.new.conductor }
         ensures producer { self.new.producer ≡ self.old.producer }
     {
         for index in 0..self.watchers.drawn() {

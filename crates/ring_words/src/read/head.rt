@@ -1,6 +1,6 @@
 //! Records at the head of a ring.
 ghost use Rattle.std.specs.Prelude.{◌≡◌, ◌≢◌, ℕ, ◌+◌, ◌-◌, ◌*◌, ◌/◌, ◌%◌, ◌^◌, ◌<◌, ◌≤◌, List, ◌∷◌, length, slice_index};
-ghost use Rattle.ring_words.specs.Ring.{ring, IsRing, Has, head_of};
+ghost use Rattle.ring_words.specs.Ring.{ring, IsRingAt, Has, head_of};
 ghost use Rattle.ring_layout.specs.declared.message.Claim.{Claim};
 ghost use Rattle.ring_layout.specs.declared.message.Message.{Message};
 ghost use Rattle.ring_layout.specs.History.{span};
@@ -23,8 +23,7 @@ pub(crate) struct Settled {
 
 /// The settled record or padding at the head, if there is one.
 pub(crate) fn settled_at_head(words: &[u64], capacity: u32, head: u64) -> Option<Settled>
-    requires ring { IsRing (ring capacity words.now) }
-    requires head { head ≡ head_of (ring capacity words.now) }
+    requires { IsRingAt (ring capacity words.now) head }
     ensures { (h : List Claim) → Has (ring capacity words.now) h → Sees (ring capacity words.now) h result }
 {
     let (len, type_id) = unpack_header(words[word_index(capacity, head)]);
@@ -40,8 +39,7 @@ pub(crate) fn settled_at_head(words: &[u64], capacity: u32, head: u64) -> Option
 
 /// Copies the body of the committed record at the head out of the words.
 pub(crate) fn load_at_head(words: &[u64], capacity: u32, head: u64, body: &mut [u8])
-    requires ring { IsRing (ring capacity words.now) }
-    requires head { head ≡ head_of (ring capacity words.now) }
+    requires ring { IsRingAt (ring capacity words.now) head }
     requires within { head_of (ring capacity words.now) % capacity + span (length body.old) ≤ capacity }
     ensures { (c : Claim) (rest : List Claim) → Has (ring capacity words.now) (c ∷ rest)
         → IsAtHead (ring capacity words.now) c
@@ -59,8 +57,7 @@ pub(crate) fn show_at_head<H: Handler>(
     settled: Settled,
     handler: &mut H,
 ) -> Action
-    requires ring { IsRing (ring capacity words.now) }
-    requires head { head ≡ head_of (ring capacity words.now) }
+    requires ring { IsRingAt (ring capacity words.now) head }
     requires room { length scratch.old ≡ capacity / 8 }
     requires seen { (h : List Claim) → Has (ring capacity words.now) h
         → Sees (ring capacity words.now) h (Some settled) }
@@ -79,12 +76,10 @@ pub(crate) fn show_at_head<H: Handler>(
 
 /// Clears the settled record or padding at the head, moves the head behind it, and answers the new head.
 pub(crate) fn take_at_head(words: &mut [u64], capacity: u32, head: u64, settled: Settled) -> u64
-    requires ring { IsRing (ring capacity words.old) }
-    requires head { head ≡ head_of (ring capacity words.old) }
+    requires ring { IsRingAt (ring capacity words.old) head }
     requires seen { (h : List Claim) → Has (ring capacity words.old) h
         → Sees (ring capacity words.old) h (Some settled) }
-    ensures next { result ≡ head_of (ring capacity words.new) }
-    ensures ring { IsRing (ring capacity words.new) }
+    ensures ring { IsRingAt (ring capacity words.new) result }
     ensures moves { MovesHead (ring capacity words.old) (ring capacity words.new) }
     ensures on { head_of (ring capacity words.old) < head_of (ring capacity words.new) }
     ensures leaves { (h : List Claim) → Has (ring capacity words.old) h

@@ -8,7 +8,7 @@ ghost use Rattle.ring_words.specs.Open.{ClaimAt, IsOpen};
 ghost use Rattle.ring_words.specs.Reading.{Sees, SeesCommitted, IsBlocked, Leaves, MovesHead};
 ghost use Rattle.ring_words.specs.Across.{ReadsAcross};
 ghost use Rattle.ring_words.specs.Controlled.{heeded};
-ghost use Rattle.ring_words.specs.Read.{Reads, ReadsTo, Controls, stop_of};
+ghost use Rattle.ring_words.specs.Read.{ReadsTo, Controls};
 
 use crate::read::action::Action;
 use crate::read::end::{ReadEnd, Stop};
@@ -144,11 +144,8 @@ impl SoloRing {
     pub fn read<H: Handler>(&mut self, limit: u32, handler: &mut H) -> ReadEnd
         requires { H.ready handler.old }
         ensures ready { H.ready handler.new }
-        ensures reads { Reads H.step limit self.old self.new handler.old handler.new result.messages }
+        ensures reads { ReadsTo H.step limit self.old self.new handler.old handler.new result }
         ensures within { result.messages ≤ limit }
-        ensures bytes { head_of self.old + result.bytes ≡ head_of self.new }
-        ensures stopped { result.stopped ≡ stop_of self.new.capacity limit result.messages
-            (head_of self.new) result.bytes }
         ensures blocked { result.stopped ≡ Stop.Unpublished → (h : List Claim) → Has self.new h → IsBlocked self.new h }
         ensures claims { (t : ClaimAt) → IsOpen self.old t → IsOpen self.new t }
     {

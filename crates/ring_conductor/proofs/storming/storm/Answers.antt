@@ -9,15 +9,17 @@ use Rattle.ring_rings.specs.declared.ring.Ring.{Ring}
 use Rattle.ring_board.specs.declared.board.Board.{Board}
 use Rattle.ring_counters.specs.declared.values.seats.CounterValues.{CounterValues}
 use Rattle.ring_rings.specs.Reading.{messages_of}
-use Rattle.ring_conductor.specs.Conducting.{received_of}
-use Rattle.ring_conductor.proofs.StormLemmas.{reported, storm_count}
+use Rattle.ring_rings.specs.Seats.{view_of}
+use Rattle.ring_conductor.specs.Conducting.{received_of, ring_view}
+use Rattle.ring_conductor.proofs.SeatLemmas.{drawn_once}
+use Rattle.ring_conductor.proofs.StormLemmas.{handed_at, reported, storm_count}
 use Rattle.ring_conductor.proofs.storming.storm.Goals as goal
 
 -- the counters are what the messages taken make of fresh ones
 counted : {K : Type 0} {p : StormPlan} {ring : Ring K} {board : Board} {values : CounterValues} {end : StormEnd}
     (e : HasFinished p ring board values end)
     → registry_of end.finished.counters ≡ storm_counters p (messages_of (received_of e.hub.conductor))
-counted e = ap (λ (m : CountersManager). registry_of m) e.counters ∙ e.of.2.0
+counted e = ap (λ (m : CountersManager). registry_of m) e.hands_on.counters ∙ e.end.hub.2.0
 
 pub report-requires : goal.report-requires
 report-requires g c =
@@ -30,20 +32,24 @@ report-requires g c =
 pub returns-in-None-clause-report : goal.returns-in-None-clause-report
 returns-in-None-clause-report g c =
     let e = c.run-finished.ensures in
-    let done = e.done c.in-None.is in
+    let done = e.end.done c.in-None.is in
     let said = c.report.ensures in
+    let knows = view_of e.hub.producer in
+    let ring = c.in-Ok.ensures.ring in
+    let served = e.hands_on.services in
     reported _ _ _ _ _ _ _ _ record {
       lawful = c.is_lawful.ensures.0 c.if-not-is_lawful.false;
-      out = e.left;
-      whole = e.whole;
+      out = handed_at _ _ _ knows (ring_view e.hub.conductor) c.run-finished.result.finished.rest ring.0 ring.1
+          e.headline.left;
+      whole = e.headline.whole;
       settled = e.all.settled;
-      few = e.few;
+      few = e.end.sent;
       done = done.0;
       turns = done.2;
-      drawn = e.drawn;
-      once = e.once;
-      runs = e.runs;
+      drawn = served.drawn;
+      once = drawn_once knows.producer _ e.end.hub.3 served.once;
+      runs = e.headline.runs;
       counters_are = counted e;
       writes = _;
-      folded = e.folded;
-    } c.report.result _ _ e.received done.1 said.received said.left said.live said.sum
+      folded = e.headline.folded;
+    } c.report.result _ _ e.hands_on.received done.1 said.received said.left said.live said.sum

@@ -26,11 +26,11 @@ pub unreachable-requires : goal.unreachable-requires
 unreachable-requires c =
     let is = c.into_parts-producer.ensures.producer ∙ c.poll-told.ensures.producer in
     let shares = ap (λ (p : Producer). shares_of p) is
-    ∙ (c.send-set.ensures.shares ∙ (c.send-asked.ensures.shares
+    ∙ (c.send-set.ensures.holdings.holdings.shares ∙ (c.send-asked.ensures.holdings.holdings.shares
     ∙ (ap (λ (p : Producer). shares_of p) c.new-client.ensures.producer
     ∙ ap (λ (v : View). v.producer.shares) c.in-Ok.ensures.producer.1))) in
     let settled = ap (λ (p : Producer). open_claims_of p) is
-    ∙ (c.send-set.ensures.open_claims ∙ (c.send-asked.ensures.open_claims
+    ∙ (c.send-set.ensures.holdings.open_claims ∙ (c.send-asked.ensures.holdings.open_claims
     ∙ (ap (λ (p : Producer). open_claims_of p) c.new-client.ensures.producer
     ∙ ap (λ (v : View). open_count v.producer.claims) c.in-Ok.ensures.producer.1))) in
     let made = ap (λ (t : Transmitter). board_shares_of t) c.new-conductor.ensures.transmitter
@@ -39,8 +39,8 @@ unreachable-requires c =
     let first = work_shares _ _ _ _ _ _ _ c.do_work.ensures.works in
     let two = ap (λ (v : BoardView). v.shares) c.in-Ok-subscribe-2.ensures.fewer in
     let second = work_shares _ _ _ _ _ _ _ c.do_work-2.ensures.works in
-    let back = c.join_receiver.ensures.shares in
-    let all = c.join_receiver-2.ensures.shares in
+    let back = c.join_receiver.ensures.joined.shares in
+    let all = c.join_receiver-2.ensures.joined.shares in
     never_refused _ _ _ _ c.finish.result c.in-Err._refused settled shares
     (omega (arith, made, one, first, two, second, back, all)) c.finish.ensures.refused c.in-Err.is
 
@@ -71,9 +71,9 @@ returns c =
     let counters_kept = c.in-Ok-subscribe-2.ensures.others.counters in
     let sent_kept = ap (λ (v : BoardView). v.sent) c.in-Ok-subscribe-2.ensures.fewer in
     let counters_end =
-    sym (e.counters ∙ (c.join_receiver-2.ensures.others.counters ∙ c.join_receiver.ensures.others.counters)) in
-    let sent_end = sym (ap (λ (v : BoardView). v.sent) c.join_receiver-2.ensures.joined
-    ∙ ap (λ (v : BoardView). v.sent) c.join_receiver.ensures.joined) in
+    sym (e.hands_on.counters ∙ (c.join_receiver-2.ensures.others.counters ∙ c.join_receiver.ensures.others.counters)) in
+    let sent_end = sym (ap (λ (v : BoardView). v.sent) c.join_receiver-2.ensures.joined.view
+    ∙ ap (λ (v : BoardView). v.sent) c.join_receiver.ensures.joined.view) in
     let start = account_as (ledger_of c.subscribe.new.self) registry_made writes_made sent_made in
     let same = account_as (ledger_of c.subscribe-2.new.self) (ap (λ (m : CountersManager). registry_of m) counters_kept)
     (ap (λ (m : CountersManager). writes_of m) counters_kept) sent_kept in
@@ -87,11 +87,11 @@ returns c =
     record {
       claims = cs;
       ordered = subst (λ n. AreOrdered n 0 cs) c.in-Ok.ensures.ring.0
-          (subst (λ n. AreOrdered (capacity_of ring) n cs) c.in-Ok.ensures.ring.1 e.ordered);
+          (subst (λ n. AreOrdered (capacity_of ring) n cs) c.in-Ok.ensures.ring.1 e.headline.ordered);
       first = messages_of early.messages;
       others = messages_of late.messages;
-      received = e.received ∙ (sym (lengths (received_of end)) ∙ ap length taken);
-      whole = λ h has. subst (λ l. l ++ committed_of h ≡ messages_of (placed_committed_of cs)) taken (e.whole h has);
+      received = e.hands_on.received ∙ (sym (lengths (received_of end)) ∙ ap length taken);
+      whole = λ h has. subst (λ l. l ++ committed_of h ≡ messages_of (placed_committed_of cs)) taken (e.headline.whole h has);
       sent = sent;
       folded = two_folds (ledger_of c.subscribe.new.self) (ledger_of c.do_work.new.self)
           (ledger_of c.subscribe-2.new.self) (ledger_of c.do_work-2.new.self)
@@ -99,8 +99,9 @@ returns c =
           (messages_of late.messages) start early.folded same late.folded ∙ out;
       board = subst (λ n. IsClosed n 0 sent (closed_words c.in-Ok-finish.finished.board)) c.in-Ok-new.ensures.board.0
           (subst (λ n. IsClosed (board_capacity_of board) n sent (closed_words c.in-Ok-finish.finished.board))
-          c.in-Ok-new.ensures.board.1 e.replies.1);
+          c.in-Ok-new.ensures.board.1 e.hands_on.replies.1);
       listeners = heard_by (transmitter_of end);
-      both = two_joined _ _ _ _ _ heard c.join_receiver.ensures.heard c.join_receiver-2.ensures.heard;
-      runs = e.runs;
+      both = two_joined _ _ _ _ _ heard c.join_receiver.ensures.joined.heard
+          c.join_receiver-2.ensures.joined.heard;
+      runs = e.headline.runs;
     }

@@ -1,4 +1,4 @@
-use Rattle.ring_handles.proofs.BatchLemmas.{none_came, none_fits, none_taken, same_borrow, some_taken}
+use Rattle.ring_handles.proofs.BatchLemmas.{laid_none, same_borrow, some_taken}
 use Rattle.ring_handles.proofs.EndLemmas.{reads_on}
 use Rattle.ring_handles.proofs.batch.lay_some.Goals as goal
 
@@ -10,15 +10,9 @@ returns-clause-reads g c = reads_on _ _ _ _ _ _ _ c.controlled_read.ensures.cont
 
 pub returns-clause-some : goal.returns-clause-some
 returns-clause-some g c =
-    some_taken _ _ _ _ _ _ c.requires.fresh.0 c.controlled_read.ensures.within c.controlled_read.ensures.controls
+    some_taken _ _ _ _ _ _ c.requires.fresh.0 c.controlled_read.ensures.ends.within c.controlled_read.ensures.controls
 
 pub returns-clause-none : goal.returns-clause-none
-returns-clause-none g c = none_taken _ _ _ _ _ _ c.requires.fresh.0 c.controlled_read.ensures.controls
-
-pub returns-clause-full : goal.returns-clause-full
-returns-clause-full g c =
-    none_fits _ _ _ _ _ _ c.requires.fresh.0 c.requires.fresh.1 c.controlled_read.ensures.controls
-
-pub returns-clause-out : goal.returns-clause-out
-returns-clause-out g c = none_came _ _ _ _ _ _ c.controlled_read.ensures.bytes c.controlled_read.ensures.blocked
-    c.controlled_read.ensures.controls
+returns-clause-none g c =
+    let read = c.controlled_read.ensures in
+    laid_none _ _ _ _ _ _ c.requires.fresh.0 c.requires.fresh.1 read.ends.bytes read.ends.blocked read.controls

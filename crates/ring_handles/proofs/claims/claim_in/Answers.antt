@@ -9,4 +9,4 @@ returns-in-Ok-claim_once-clause-claims g c =
     let held = c.push_reserved.ensures.items ∙ ap (λ l. l ++ made.claim ∷ []) c.reserve.ensures.items in
     subst (AreOpen c.args.ring.now c.claim_once.new.producer) (sym held)
     (one_more_open c.args.ring.now c.args.producer.now c.claim_once.new.producer c.args.claims.now.items made.claim
-    c.claim_once.ensures.claims made.ensures.is_open made.ensures.apart c.requires.claims)
+    c.claim_once.ensures.holdings.claims made.ensures.opened.is_open made.ensures.opened.apart c.requires.claims)

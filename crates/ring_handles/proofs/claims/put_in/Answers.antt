@@ -17,9 +17,10 @@ returns-in-Ok-clause-claims g c =
     let r = c.index_mut.result.now in
     let stands : HasIndex c.args.number items i =
     subst (λ l. HasIndex c.args.number l i) c.deref.ensures.value c.in-Some.ensures in
-    let there = c.put.ensures.claim ∙ c.index_mut.ensures.value in
+    let there = c.put.ensures.claim.0 ∙ c.index_mut.ensures.value in
     let here : claim_numbered c.args.number items ≡ Some t = stands.claim r ∙ ap Some (sym there) in
     let same : slice_set items i t ≡ items = ap (slice_set items i) there ∙ set-get_or items i r in
-    let others = subst (λ (x : ClaimAt). KeepsOthers ring x.place p q) (sym c.put.ensures.claim) c.put.ensures.others in
+    let others = subst (λ (x : ClaimAt). KeepsOthers ring x.place p q) (sym c.put.ensures.claim.0)
+    c.put.ensures.others in
     subst (AreOpen ring q) (sym same)
-    (one_changed_open ring p q items c.args.number t here others c.put.ensures.is_open c.requires.claims)
+    (one_changed_open ring p q items c.args.number t here others c.put.ensures.claim.1 c.requires.claims)

@@ -6,8 +6,8 @@ pub returns-clause-reads : goal.returns-clause-reads
 returns-clause-reads g c = reads_on _ _ _ _ _ _ _ c.controlled_read.ensures.controls
 
 pub returns-clause-took : goal.returns-clause-took
-returns-clause-took g c = took_one _ _ _ _ _ c.requires.waits c.controlled_read.ensures.bytes
-    c.controlled_read.ensures.blocked c.controlled_read.ensures.controls
+returns-clause-took g c = took_one _ _ _ _ _ c.requires.waits c.controlled_read.ensures.ends.bytes
+    c.controlled_read.ensures.ends.blocked c.controlled_read.ensures.controls
 
 pub returns-clause-borrow : goal.returns-clause-borrow
 returns-clause-borrow g c = same_borrow _ _ _ _ _ _ c.controlled_read.ensures.controls

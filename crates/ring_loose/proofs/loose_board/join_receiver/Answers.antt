@@ -7,6 +7,8 @@ pub join-requires-clause-receiver : goal.join-requires-clause-receiver
 join-requires-clause-receiver c =
     c.requires.receivers (c.args.number - 1) c.in_ok-receiver.receiver c.in_ok-receiver.ensures.taken.here.has
 
-pub returns-clause-receivers : goal.returns-clause-receivers
-returns-clause-receivers c =
-    of_goes (IsReceiverOf c.args.board.now) _ _ _ _ c.requires.receivers c.in_ok-receiver.ensures.taken
+pub returns-clause-crowd : goal.returns-clause-crowd
+returns-clause-crowd c = record {
+  transmitter = c.join.ensures.board;
+  receivers = of_goes (IsReceiverOf c.args.board.now) _ _ _ _ c.requires.receivers c.in_ok-receiver.ensures.taken;
+}

@@ -4,11 +4,15 @@ use Rattle.ring_loose.specs.Held.{Comes, held_in}
 use Rattle.ring_loose.proofs.HeldLemmas.{of_comes}
 use Rattle.ring_loose.proofs.loose_board.make_receiver.Goals as goal
 
-pub returns-clause-receivers : goal.returns-clause-receivers
-returns-clause-receivers c =
+pub returns-clause-crowd : goal.returns-clause-crowd
+returns-clause-crowd c =
     let comes = subst (λ l. Comes c.in-Ok.receiver l c.hold.result (held_in c.hold.new.self)) c.reserve.ensures.same
     c.hold.ensures in
-    of_comes (IsReceiverOf c.args.board.now) _ _ _ _ c.requires.receivers comes c.in-Ok.ensures.receiver.0
+    record {
+      transmitter = c.subscribe.ensures.board;
+      receivers = of_comes (IsReceiverOf c.args.board.now) _ _ _ _ c.requires.receivers comes
+          c.in-Ok.ensures.receiver.0;
+    }
 
 pub returns-clause-made : goal.returns-clause-made
 returns-clause-made c =

@@ -8,12 +8,15 @@ use Rattle.ring_loose.proofs.ClaimsLemmas.{one_more_open, same_open}
 use Rattle.ring_loose.proofs.TryLemmas.{gains_claim, keeps_after}
 use Rattle.ring_loose.proofs.loose_ring.make_claim.Goals as goal
 
-pub returns-in-Err-clause-claims : goal.returns-in-Err-clause-claims
-returns-in-Err-clause-claims g c =
+pub returns-in-Err-clause-holder : goal.returns-in-Err-clause-holder
+returns-in-Err-clause-holder g c =
     let kept = keeps_after _ _ _ _ _ _ c.in-Err.ensures.refused in
-    subst (AreOpen c.args.ring.now c.claim.new.producer) (sym c.reserve.ensures.same)
-    (same_open c.args.ring.now c.args.producer.now c.claim.new.producer
-    (held_in c.args.claims.now) kept.claims c.requires.claims)
+    record {
+      producer = c.claim.ensures.producer;
+      held = subst (AreOpen c.args.ring.now c.claim.new.producer) (sym c.reserve.ensures.same)
+          (same_open c.args.ring.now c.args.producer.now c.claim.new.producer
+          (held_in c.args.claims.now) kept.claims c.requires.held);
+    }
 
 pub returns-in-Err-clause-tried : goal.returns-in-Err-clause-tried
 returns-in-Err-clause-tried g c = record {
@@ -23,15 +26,18 @@ returns-in-Err-clause-tried g c = record {
   same = c.reserve.ensures.same;
 }
 
-pub returns-clause-claims : goal.returns-clause-claims
-returns-clause-claims g c =
+pub returns-clause-holder : goal.returns-clause-holder
+returns-clause-holder g c =
     let gained = gains_claim _ _ _ c.in-Ok.claim _ _ c.in-Ok.ensures.claimed in
-    subst (AreOpen c.args.ring.now c.claim.new.producer) (sym c.hold-number.ensures.held)
-    (subst (λ l. AreOpen c.args.ring.now c.claim.new.producer (l ++ Some c.in-Ok.claim ∷ []))
-    (sym c.reserve.ensures.same)
-    (one_more_open c.args.ring.now c.args.producer.now c.claim.new.producer
-    (held_in c.args.claims.now) c.in-Ok.claim gained.0 c.requires.claims c.claim.ensures.claims
-    c.in-Ok.ensures.is_open c.in-Ok.ensures.apart gained.1 gained.2.claims))
+    record {
+      producer = c.claim.ensures.producer;
+      held = subst (AreOpen c.args.ring.now c.claim.new.producer) (sym c.hold-number.ensures.held)
+          (subst (λ l. AreOpen c.args.ring.now c.claim.new.producer (l ++ Some c.in-Ok.claim ∷ []))
+          (sym c.reserve.ensures.same)
+          (one_more_open c.args.ring.now c.args.producer.now c.claim.new.producer
+          (held_in c.args.claims.now) c.in-Ok.claim gained.0 c.requires.held c.claim.ensures.claims
+          c.in-Ok.ensures.opened.is_open c.in-Ok.ensures.opened.apart gained.1 gained.2.claims));
+    }
 
 pub returns-in-Err-clause-shares : goal.returns-in-Err-clause-shares
 returns-in-Err-clause-shares g c = (keeps_after _ _ _ _ _ _ c.in-Err.ensures.refused).shares

@@ -8,10 +8,4 @@ pub returns-clause-works : goal.returns-clause-works
 returns-clause-works g c =
     let e = c.controlled_read-end.ensures in
     worked _ _ _ _ _ _ _
-    (record {
-      messages = c.from.ensures;
-      stopped = c.work_stop.ensures;
-      within = e.within;
-      bytes = e.bytes;
-      blocked = e.blocked;
-    }) e.controls
+    (record { messages = c.from.ensures; stopped = c.work_stop.ensures; ends = e.ends }) e.controls

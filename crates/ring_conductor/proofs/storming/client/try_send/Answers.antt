@@ -9,8 +9,8 @@ returns-clause-seat c =
     let e = c.send_as.ensures in
     let left = leaves _ _ _ _ _ c.send_as.result e.sent e.refused in (
       e.producer,
-      e.shares ∙ c.requires.1,
-      e.open_claims ∙ c.requires.2,
+      e.holdings.holdings.shares ∙ c.requires.1,
+      e.holdings.open_claims ∙ c.requires.2,
       left.risen c.requires.3,
       left.joined ∙ c.requires.4,
     )

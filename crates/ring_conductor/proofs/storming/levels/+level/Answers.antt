@@ -1,23 +1,30 @@
-use Rattle.std.proofs.Common.{◌≡◌, ◌+◌, ◌-◌, sym, subst, arith}
+use Rattle.std.proofs.Common.{◌≡◌, ◌+◌, ◌-◌, ℕ, sym, subst, arith}
+use Rattle.ring_conductor.specs.declared.storming.promises.ClientBack.{ClientBack}
 use Rattle.ring_conductor.specs.declared.storming.seats.LevelEnd.{LevelEnd}
 use Rattle.ring_conductor.specs.declared.storming.seats.StormClient.{StormClient}
-use Rattle.ring_conductor.specs.Storming.{IsDone, deeds_of}
-use Rattle.ring_conductor.specs.Turns.{AreAnswered}
+use Rattle.ring_conductor.specs.Storming.{HasWorked, IsEndAt}
 use Rattle.ring_conductor.proofs.storming.levels.+level.Goals as goal
 use Rattle.ring_conductor.proofs.storming.levels.+level.Goals.{in-Ok-started, in-Err}
 
 -- of a level's end and its client
-abbrev Answers : LevelEnd × StormClient → Type 0
-Answers end = AreAnswered end.1.index end.1.seen (deeds_of end.1)
+abbrev Worked : ℕ → ℕ → LevelEnd × StormClient → Type 0
+Worked commands index end = HasWorked commands index end.1
 
-pub gather-requires-clause-answered : goal.gather-requires-clause-answered
-gather-requires-clause-answered g t c =
-    elim c.match-started.branch as (λ _. Answers c.match-started.end) [
-      | in-Ok-started w ↦ subst Answers (sym w.end-is) w.join.ensures.4
-      | in-Err w ↦ subst Answers (sym w.end-is) w.spawn_scoped_with-client.ensures.answered
+-- a thread gives back the client that it was given, which has its number from the split
+pub gather-requires-clause-worked : goal.gather-requires-clause-worked
+gather-requires-clause-worked g t c =
+    elim c.match-started.branch as (λ _. Worked c.args.shared.plan.commands (c.args.remaining - 1) c.match-started.end) [
+      | in-Ok-started w ↦ subst (Worked c.args.shared.plan.commands (c.args.remaining - 1)) (sym w.end-is)
+          (subst (λ (p : ClientBack). HasWorked p.plan.commands p.index w.join.result) w.in-Ok-started.ensures.ok
+          w.join.ensures.1)
+      | in-Err w ↦ subst (Worked c.args.shared.plan.commands (c.args.remaining - 1)) (sym w.end-is)
+          (subst (λ i. HasWorked c.args.shared.plan.commands i w.spawn_scoped_with-client.result)
+          c.in-Ok.ensures.client.2
+          (subst (λ f. HasWorked f.5.commands f.6.index w.spawn_scoped_with-client.result) w.in-Err.ensures.err
+          w.spawn_scoped_with-client.ensures.worked))
     ]
 
-pub returns-clause-done : goal.returns-clause-done
-returns-clause-done g t c none =
+pub returns-clause-end : goal.returns-clause-end
+returns-clause-end g t c =
     let last : c.args.remaining - 1 + 1 ≡ c.args.remaining = omega (arith, c.if-remaining-eq0.false) in
-    subst (λ n. IsDone c.args.shared.plan n c.gather.result) last (c.gather.ensures.done none)
+    subst (λ n. IsEndAt c.args.shared n c.gather.result) last c.gather.ensures.end

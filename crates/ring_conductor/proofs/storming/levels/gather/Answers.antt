@@ -7,22 +7,31 @@ use Rattle.ring_conductor.specs.Turns.{AreAnswered}
 use Rattle.ring_conductor.proofs.TurnLemmas.{all_turns}
 use Rattle.ring_conductor.proofs.storming.levels.gather.Goals as goal
 
-pub returns-clause-done : goal.returns-clause-done
-returns-clause-done g c none =
-    let done = c.requires.done none in
+pub returns-clause-end : goal.returns-clause-end
+returns-clause-end g c =
+    let before = c.requires.end in
+    let worked = c.requires.worked in
     let e = c.join_client-replies.ensures in
+    let seats = e.seats in
     let client = c.args.client in
     let commands = c.args.shared.plan.commands in
-    let same = c.from.ensures in
-    let enough = c.if-replies-from.false in
     let counted = e.seen in
-    let few = c.requires.seen.0 in
-    let all : client.seen ≡ commands = omega (arith, same, enough, counted, few) in
-    let answered = subst (λ i. AreAnswered i client.seen (deeds_of client)) c.requires.its_index
-    c.requires.answered in (
-      omega (arith, done.0, e.taken),
-      omega (arith, done.1, counted, all),
-      all_turns commands c.args.index client.seen (deeds_of client) _ _ _ _
-          (as_joined (receiver_view (receiver_of client.client))) _ _ (service_of (producer_of client.client)) done.2
-          answered all c.requires.sent c.requires.client.0.3.0 e.together e.receivers_joined refl e.services refl,
-    )
+    let few = worked.seen in
+    record {
+      hub = e.hub;
+      sent = omega (arith, before.sent, seats.sent, worked.sent.0);
+      seen = omega (arith, before.seen, counted, few);
+      done = λ none.
+          let done = before.done none in
+          let same = c.from.ensures in
+          let enough = c.if-replies-from.false in
+          let all : client.seen ≡ commands = omega (arith, same, enough, counted, few) in
+          let answered = subst (λ i. AreAnswered i client.seen (deeds_of client)) worked.index worked.answered in (
+            omega (arith, done.0, seats.taken),
+            omega (arith, done.1, counted, all),
+            all_turns commands c.args.index client.seen (deeds_of client) _ _ _ _
+                (as_joined (receiver_view (receiver_of client.client))) _ _ (service_of (producer_of client.client))
+                done.2 answered all worked.sent c.requires.client.0.3.0 seats.claims seats.joined refl seats.services
+                refl,
+          );
+    }

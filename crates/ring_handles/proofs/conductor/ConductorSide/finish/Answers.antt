@@ -15,20 +15,22 @@ returns-clause-ended c =
     let e = c.in-Ok-finish.ensures in
     let me = c.args.self in
     let cs = claims_of me.producer in
-    let h = history_of e.left.left in
+    let line = e.headline in
+    let h = history_of line.left.left in
     let settled = none_open cs me.settled in
-    let all = drained _ _ _ _ _ e.left settled.0 c.drain.result (λ g has closed. (c.drain.ensures.whole g has closed).0)
+    let all = drained _ _ _ _ _ line.left settled.0 c.drain.result
+    (λ g has closed. (c.drain.ensures.whole g has closed).0)
     in
-    let whole = e.whole h e.left.has in
+    let whole = line.whole h line.left.has in
     record {
       ready = no_refusal _ (refusal_to me.conductor me.producer) c.finish.result c.in-Ok-finish.finished
           c.finish.ensures.refused c.in-Ok-finish.is;
       ordered = subst (λ (s : Shared). AreOrdered (capacity_of s.ring) (start_of s.ring) cs) c.in-Ok.ensures.ok
-          e.ordered;
-      received_is = e.received;
+          line.ordered;
+      received_is = e.hands_on.received;
       rest = committed_of h;
       left_is = c.from.ensures ∙ rest_counts _ _ _ _ whole all;
       whole = whole;
-      folded = subst (λ m. ∥ IsFoldOfReceived me.conductor m ∥₁) e.counters e.folded;
-      runs = e.runs;
+      folded = subst (λ m. ∥ IsFoldOfReceived me.conductor m ∥₁) e.hands_on.counters line.folded;
+      runs = line.runs;
     }

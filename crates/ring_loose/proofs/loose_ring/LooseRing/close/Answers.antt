@@ -16,7 +16,7 @@ returns-clause-settled c =
     let held : held_in inside.claims ≡ c.abort_all.new.self.holder.claims =
     ap (λ (l : Loose). l.holder.claims) c.self.view_is in
     let none = none_counted (claims_of inside.producer) (held_in inside.claims)
-    (subst HoldsNothing (sym held) c.abort_all.ensures.none) c.self.invariant.held.all in
+    (subst HoldsNothing (sym held) c.abort_all.ensures.none) c.self.invariant.holder.held.all in
     subst AreSettled (ap (λ (l : Loose). l.holder.view.producer.claims) c.self.view_is
     ∙ ap (λ (v : View). v.producer.claims) c.abort_all.ensures.view) (none_open (claims_of inside.producer) none).0
 
@@ -26,6 +26,6 @@ unreachable-requires c =
     let held : held_in inside.claims ≡ c.abort_all.new.self.holder.claims =
     ap (λ (l : Loose). l.holder.claims) c.self.view_is in
     let none = none_counted (claims_of inside.producer) (held_in inside.claims)
-    (subst HoldsNothing (sym held) c.abort_all.ensures.none) c.self.invariant.held.all in
+    (subst HoldsNothing (sym held) c.abort_all.ensures.none) c.self.invariant.holder.held.all in
     let ok = not_refused _ _ _ c.close.result none c.self.invariant.alone c.close.ensures.refused in
     let clash : false ≡ true = subst IsOk c.in-Err.is ok in absurd cc

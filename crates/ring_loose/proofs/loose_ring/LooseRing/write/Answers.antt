@@ -15,12 +15,13 @@ invariant_of-self g c =
     let done = wrote c.write.result _ _ _ _ _ c.write.ensures.written c.write.ensures.refused in
     record {
       start = seats.start;
-      producer = c.write.ensures.producer;
+      holder = record {
+        producer = c.write.ensures.producer;
+        held = still_open _ _ _ _ seats.holder.held c.write.ensures.claims (done.1 _ seats.holder.held.all);
+      };
       alone = done.0
           ∙ seats.alone;
       consumer = seats.consumer;
-      held =
-          still_open _ _ _ _ seats.held c.write.ensures.claims (done.1 _ seats.held.all);
     }
 
 pub returns-clause-refused : goal.returns-clause-refused

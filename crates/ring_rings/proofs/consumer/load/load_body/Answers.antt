@@ -8,12 +8,13 @@ use Rattle.ring_rings.proofs.consumer.load.load_body.Goals as goal
 
 pub load_word-requires-in-loop-k-3-clause-room : goal.load_word-requires-in-loop-k-3-clause-room
 load_word-requires-in-loop-k-3-clause-room c =
-    let blocks = capacity_blocks c.args.capacity c.requires.seat.lawful in
+    let blocks = capacity_blocks c.args.capacity c.requires.seat.seat.lawful in
     omega (
       arith,
       blocks,
       c.loop-k-test.true,
       c.requires.room,
+      c.requires.body.few,
       c.load_word-in-loop-k-2.auto.scratch,
       c.load_word-in-loop-k.auto.scratch,
       c.load_word.auto.scratch,
@@ -52,12 +53,13 @@ loop-k-preserved c =
 
 pub load_word-requires-in-loop-j-clause-room : goal.load_word-requires-in-loop-j-clause-room
 load_word-requires-in-loop-j-clause-room c =
-    let blocks = capacity_blocks c.args.capacity c.requires.seat.lawful in
+    let blocks = capacity_blocks c.args.capacity c.requires.seat.seat.lawful in
     omega (
       arith,
       blocks,
       c.loop-j-test.true,
       c.requires.room,
+      c.requires.body.few,
       c.loop-j.auto.scratch,
       c.loop-k.auto.scratch,
       c.div_ceil-count.ensures,
@@ -67,5 +69,5 @@ pub returns-clause-copies : goal.returns-clause-copies
 returns-clause-copies c = λ m last at len.
     copies_all c.args.capacity m c.loop-j.j c.args.seat.now.me.0 c.loop-j.seat.me.0 c.loop-j.scratch
     (omega (arith, c.loop-j-test.false, c.div_ceil-count.ensures, c.loop-j.auto.j-end, c.loop-j.auto.j, len))
-    (omega (arith, c.requires.room, c.loop-j.auto.scratch, c.loop-k.auto.scratch, len))
+    (omega (arith, c.requires.room, c.requires.body.few, c.loop-j.auto.scratch, c.loop-k.auto.scratch, len))
     (c.loop-j.invariant.copied m last at len)

@@ -39,39 +39,45 @@ invariant_of-producer g c =
       produces = (ap (λ (v : View). v.consumes) put.view ∙ p.produces.0, c.put_bytes.ensures.seat.slots ∙ p.produces.1);
     }
 
-pub returns-clause-is_open : goal.returns-clause-is_open
-returns-clause-is_open g c =
+pub returns-clause-claim : goal.returns-clause-claim
+returns-clause-claim g c =
     let h = c.requires.claim in
     let t = c.args.claim.now in
     let v : View = c.args.producer.now.seat.me.0 in
     let put = c.put_bytes.ensures.put in
-    let f : StagedClaim → StagedClaim = put_at c.args.offset c.args.bytes.now in
-    record {
-      index = h.index;
-      message = h.message;
-      limit = h.limit;
-      claim = subst (λ (u : View). HasClaimAt u t.place (IsStagedOpen t.type_id t.len)) (sym put.view)
-          (rw c.place.ensures (has_changed t.place f (λ d. refl) (loaded put.loads v) (IsStagedOpen t.type_id t.len)
-          (IsStagedOpen t.type_id t.len)
-          (record {
-            nth = h.claim.nth;
-            claim = h.claim.claim;
-            there = h.claim.there;
-            at_place =
-                h.claim.at_place;
-            holds = h.claim.holds;
-          })
-          (λ d is. let n = is.len_is in record {
-            stage = is.stage;
-            type_is = is.type_is;
-            len_is =
-                length-overwritten c.args.offset c.args.bytes.now d.message.body (omega arith) ∙ is.len_is;
-          })));
-    }
+    let f : StagedClaim → StagedClaim = put_at c.args.offset c.args.bytes.now in (
+      refl,
+      record {
+        index = h.index;
+        message = h.message;
+        limit = h.limit;
+        claim = subst (λ (u : View). HasClaimAt u t.place (IsStagedOpen t.type_id t.len)) (sym put.view)
+            (rw c.place.ensures (has_changed t.place f (λ d. refl) (loaded put.loads v) (IsStagedOpen t.type_id t.len)
+            (IsStagedOpen t.type_id t.len)
+            (record {
+              nth = h.claim.nth;
+              claim = h.claim.claim;
+              there = h.claim.there;
+              at_place =
+                  h.claim.at_place;
+              holds = h.claim.holds;
+            })
+            (λ d is. let n = is.len_is in record {
+              stage = is.stage;
+              type_is = is.type_is;
+              len_is =
+                  length-overwritten c.args.offset c.args.bytes.now d.message.body (omega arith) ∙ is.len_is;
+            })));
+      },
+    )
 
 pub returns-clause-others : goal.returns-clause-others
-returns-clause-others g c t h other =
+returns-clause-others g c =
     let put = c.put_bytes.ensures.put in
-    still_open h (has_other c.args.producer.now.seat.me.0 c.put_bytes.new.seat.me.0 c.place.result t.place
-    (put_at c.args.offset c.args.bytes.now) (IsStagedOpen t.type_id t.len)
-    (ap (λ (v : View). v.producer.claims) put.view) h.claim (λ here. other (here ∙ c.place.ensures)))
+    record {
+      rising = c.args.producer.now.known.rising;
+      claims = λ t h other.
+          still_open h (has_other c.args.producer.now.seat.me.0 c.put_bytes.new.seat.me.0 c.place.result t.place
+          (put_at c.args.offset c.args.bytes.now) (IsStagedOpen t.type_id t.len)
+          (ap (λ (v : View). v.producer.claims) put.view) h.claim (λ here. other (here ∙ c.place.ensures)));
+    }

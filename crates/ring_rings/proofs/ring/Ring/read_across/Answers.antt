@@ -1,12 +1,18 @@
-use Rattle.std.proofs.Common.{ap}
+use Rattle.std.proofs.Common.{ap, arith}
 use Rattle.ring_table.specs.declared.view.View.{View}
 use Rattle.ring_rings.specs.Seats.{consumer_view}
 use Rattle.ring_rings.proofs.AcrossLemmas.{blocked_on}
 use Rattle.ring_rings.proofs.ring.Ring.read_across.Goals as goal
 
-pub returns-clause-blocked : goal.returns-clause-blocked
-returns-clause-blocked g c =
-    let moves = c.read-first.ensures.reads.moves in
-    λ stopped. blocked_on (consumer_view c.args.consumer.now) (consumer_view c.read-first.new.consumer)
-    (consumer_view c.read-second.new.consumer) moves.loads (ap (λ (x : View). x.log) moves.view)
-    (c.read-second.ensures.blocked stopped)
+pub returns-clause-ends : goal.returns-clause-ends
+returns-clause-ends g c =
+    let first = c.read-first.ensures.ends in
+    let second = c.read-second.ensures.ends in
+    let moves = c.read-first.ensures.reads.reads.moves in
+    record {
+      within = omega (arith, first.within, second.within);
+      bytes = omega (arith, first.bytes, second.bytes);
+      blocked = λ stopped. blocked_on (consumer_view c.args.consumer.now) (consumer_view c.read-first.new.consumer)
+          (consumer_view c.read-second.new.consumer) moves.loads (ap (λ (x : View). x.log) moves.view)
+          (second.blocked stopped);
+    }

@@ -1,10 +1,10 @@
-use Rattle.std.proofs.Common.{◌≡◌, false, ℕ, sym, ◌∙◌, subst, arith}
+use Rattle.std.proofs.Common.{rules, ◌≡◌, false, ℕ, sym, ◌∙◌, subst, arith}
 use Rattle.ring_words.specs.Controlled.{GoesOn, heeded}
 use Rattle.ring_rings.specs.Seats.{seat_view}
 use Rattle.ring_rings.proofs.ReadingSeats.{same_none, same_more}
 use Rattle.ring_rings.proofs.ReadingRuns.{RunsOn, runs_on_none}
 use Rattle.ring_rings.proofs.ReadingEnds.{settled_stands}
-use Rattle.ring_rings.proofs.ReadingTurns.{GoesTo, blocked, blocked_at, blocked_inside, ended, ends_aborted, ends_block, ends_blocked, ends_broken, ends_limit, goes_to, got, got_more, is_near, left_at, left_done, left_inside, left_near, less_passed, less_shown, runs_committed, runs_inside, runs_on, runs_passed, shown_at, shown_inside}
+use Rattle.ring_rings.proofs.ReadingTurns.{GoesTo, blocked, blocked_at, blocked_to, ends_aborted, ends_as, ends_block, ends_blocked, ends_broken, ends_limit, goes_to, got, got_more, is_near, left_at, left_done, left_from, left_to, less_passed, less_shown, runs_committed, runs_on, runs_passed, runs_to, shown_at, shown_to}
 use Rattle.ring_rings.proofs.ring.Ring.run.Given.{Over}
 use Rattle.ring_rings.proofs.ring.Ring.run.Goals.{After-is_block_end}
 use Rattle.ring_rings.proofs.ring.Ring.run.Goals as goal
@@ -40,43 +40,32 @@ turns-init g c =
 pub returns-then-messages-limit-clause-controls : goal.returns-then-messages-limit-clause-controls
 returns-then-messages-limit-clause-controls g c =
     ends_limit c.turns.invariant.runs c.finish.ensures.settles c.if-messages-limit.true
-    (ended c.finish.ensures.messages c.finish.ensures.bytes c.finish.ensures.stopped)
+    c.finish.ensures.ended
 
 pub returns-then-is_block_end-clause-controls : goal.returns-then-is_block_end-clause-controls
 returns-then-is_block_end-clause-controls g c =
     ends_block c.turns.invariant.runs c.finish-then-is_block_end.ensures.settles c.requires.consumer.capacity
     c.if-messages-limit.false (sym c.is_block_end.ensures ∙ c.if-is_block_end.true)
-    (ended c.finish-then-is_block_end.ensures.messages c.finish-then-is_block_end.ensures.bytes
-    c.finish-then-is_block_end.ensures.stopped)
+    c.finish-then-is_block_end.ensures.ended
 
 pub turn-requires-clause-near : goal.turn-requires-clause-near
 turn-requires-clause-near g c =
     let q = goes g (goal.at.turn-requires-clause-near g c).After-is_block_end c.if-is_block_end.false in
     is_near q
 
-pub finish-requires-in-Blocked-clause-at : goal.finish-requires-in-Blocked-clause-at
-finish-requires-in-Blocked-clause-at g c =
-    let q = goes g (goal.at.finish-requires-in-Blocked-clause-at g c).After-is_block_end c.if-is_block_end.false in
-    (got q, blocked_at q c.in-Blocked.ensures.turn)
-
 pub returns-in-Blocked-clause-controls : goal.returns-in-Blocked-clause-controls
 returns-in-Blocked-clause-controls g c =
     let q = goes g (goal.at.returns-in-Blocked-clause-controls g c).After-is_block_end c.if-is_block_end.false in
     let p = c.finish-in-Blocked.ensures.settles (got q) (blocked_at q c.in-Blocked.ensures.turn) in
     ends_blocked q c.in-Blocked.ensures.turn p
-    (ended c.finish-in-Blocked.ensures.messages c.finish-in-Blocked.ensures.bytes c.finish-in-Blocked.ensures.stopped)
+    c.finish-in-Blocked.ensures.ended
 
-pub returns-in-Blocked-clause-bytes : goal.returns-in-Blocked-clause-bytes
-returns-in-Blocked-clause-bytes g c =
-    let q = goes g (goal.at.returns-in-Blocked-clause-bytes g c).After-is_block_end c.if-is_block_end.false in
+pub returns-in-Blocked-clause-ends : goal.returns-in-Blocked-clause-ends
+returns-in-Blocked-clause-ends g c =
+    let q = goes g (goal.at.returns-in-Blocked-clause-ends g c).After-is_block_end c.if-is_block_end.false in
     let p = c.finish-in-Blocked.ensures.settles (got q) (blocked_at q c.in-Blocked.ensures.turn) in
-    omega (arith, c.finish-in-Blocked.ensures.bytes, p.head, c.args.consumer.now.stands.0)
-
-pub returns-in-Blocked-clause-blocked : goal.returns-in-Blocked-clause-blocked
-returns-in-Blocked-clause-blocked g c =
-    let q = goes g (goal.at.returns-in-Blocked-clause-blocked g c).After-is_block_end c.if-is_block_end.false in
-    let p = c.finish-in-Blocked.ensures.settles (got q) (blocked_at q c.in-Blocked.ensures.turn) in
-    λ _. blocked q c.in-Blocked.ensures.turn p
+    ends_as c.finish-in-Blocked.ensures.ended c.turns.invariant.below c.args.consumer.now.stands.0 p.head
+    (λ _. blocked q c.in-Blocked.ensures.turn p)
 
 pub turns-preserved-in-Passed : goal.turns-preserved-in-Passed
 turns-preserved-in-Passed g c =
@@ -95,37 +84,21 @@ turns-smaller-in-Passed g c =
     let q = goes g (goal.at.turns-smaller-in-Passed g c).After-is_block_end c.if-is_block_end.false in
     less_passed q c.in-Passed.ensures.turn
 
-pub finish-requires-in-Abort-clause-from : goal.finish-requires-in-Abort-clause-from
-finish-requires-in-Abort-clause-from g c =
-    let q = goes g (goal.at.finish-requires-in-Abort-clause-from g c).After-is_block_end c.if-is_block_end.false in
-    let p = c.move_head_before.ensures.settles (got q) (left_at q c.in-Shown.ensures.turn) in
-    left_near q c.in-Shown.ensures.turn p
-
-pub finish-requires-in-Abort-clause-at : goal.finish-requires-in-Abort-clause-at
-finish-requires-in-Abort-clause-at g c =
-    let q = goes g (goal.at.finish-requires-in-Abort-clause-at g c).After-is_block_end c.if-is_block_end.false in
-    let p = c.move_head_before.ensures.settles (got q) (left_at q c.in-Shown.ensures.turn) in
-    (got q, settled_stands p)
-
 pub returns-in-Abort-clause-controls : goal.returns-in-Abort-clause-controls
 returns-in-Abort-clause-controls g c =
     let q = goes g (goal.at.returns-in-Abort-clause-controls g c).After-is_block_end c.if-is_block_end.false in
     let p = c.move_head_before.ensures.settles (got q) (left_at q c.in-Shown.ensures.turn) in
     let p' = c.finish-in-Abort.ensures.settles (got q) (settled_stands p) in
     ends_aborted q c.in-Shown.ensures.turn p c.in-Abort.is p'
-    (ended c.finish-in-Abort.ensures.messages c.finish-in-Abort.ensures.bytes c.finish-in-Abort.ensures.stopped)
+    c.finish-in-Abort.ensures.ended
 
-pub returns-in-Abort-clause-bytes : goal.returns-in-Abort-clause-bytes
-returns-in-Abort-clause-bytes g c =
-    let q = goes g (goal.at.returns-in-Abort-clause-bytes g c).After-is_block_end c.if-is_block_end.false in
+pub returns-in-Abort-clause-ends : goal.returns-in-Abort-clause-ends
+returns-in-Abort-clause-ends g c =
+    let q = goes g (goal.at.returns-in-Abort-clause-ends g c).After-is_block_end c.if-is_block_end.false in
     let p = c.move_head_before.ensures.settles (got q) (left_at q c.in-Shown.ensures.turn) in
     let p' = c.finish-in-Abort.ensures.settles (got q) (settled_stands p) in
-    omega (arith, c.finish-in-Abort.ensures.bytes, p'.head, c.args.consumer.now.stands.0)
-
-pub finish-requires-in-Break-clause-at : goal.finish-requires-in-Break-clause-at
-finish-requires-in-Break-clause-at g c =
-    let q = goes g (goal.at.finish-requires-in-Break-clause-at g c).After-is_block_end c.if-is_block_end.false in
-    (got_more q c.in-Shown.ensures.turn, shown_at q c.in-Shown.ensures.turn)
+    ends_as c.finish-in-Abort.ensures.ended c.turns.invariant.below c.args.consumer.now.stands.0 p'.head
+    (search rules)
 
 pub returns-in-Break-clause-controls : goal.returns-in-Break-clause-controls
 returns-in-Break-clause-controls g c =
@@ -133,14 +106,15 @@ returns-in-Break-clause-controls g c =
     let turn = c.in-Shown.ensures.turn in
     let p = c.finish-in-Break.ensures.settles (got_more q turn) (shown_at q turn) in
     ends_broken q turn c.in-Break.is p
-    (ended c.finish-in-Break.ensures.messages c.finish-in-Break.ensures.bytes c.finish-in-Break.ensures.stopped)
+    c.finish-in-Break.ensures.ended
 
-pub returns-in-Break-clause-bytes : goal.returns-in-Break-clause-bytes
-returns-in-Break-clause-bytes g c =
-    let q = goes g (goal.at.returns-in-Break-clause-bytes g c).After-is_block_end c.if-is_block_end.false in
+pub returns-in-Break-clause-ends : goal.returns-in-Break-clause-ends
+returns-in-Break-clause-ends g c =
+    let q = goes g (goal.at.returns-in-Break-clause-ends g c).After-is_block_end c.if-is_block_end.false in
     let turn = c.in-Shown.ensures.turn in
     let p = c.finish-in-Break.ensures.settles (got_more q turn) (shown_at q turn) in
-    omega (arith, c.finish-in-Break.ensures.bytes, p.head, c.args.consumer.now.stands.0)
+    ends_as c.finish-in-Break.ensures.ended (omega (arith, q.below)) c.args.consumer.now.stands.0 p.head
+    (search rules)
 
 pub move_head-requires-clause-at : goal.move_head-requires-clause-at
 move_head-requires-clause-at g c =
@@ -184,38 +158,50 @@ turns-smaller g c =
     let q = goes g (goal.at.turns-smaller g c).After-is_block_end c.if-is_block_end.false in
     less_shown q c.in-Shown.ensures.turn
 
-pub finish-requires-clause-inside : goal.finish-requires-clause-inside
-finish-requires-clause-inside g c =
-    runs_inside c.turns.invariant.runs.0 c.requires.consumer.capacity
-    (omega (arith, c.requires.consumer.capacity, c.args.self.now.lawful.least))
+pub finish-requires-clause-to : goal.finish-requires-clause-to
+finish-requires-clause-to g c =
+    let runs = c.turns.invariant.runs.0 in (
+      (_, runs.stands),
+      runs_to runs c.requires.consumer.capacity
+          (omega (arith, c.requires.consumer.capacity, c.args.self.now.lawful.least)),
+    )
 
-pub finish-requires-then-is_block_end-clause-inside : goal.finish-requires-then-is_block_end-clause-inside
-finish-requires-then-is_block_end-clause-inside g c =
-    runs_inside c.turns.invariant.runs.0 c.requires.consumer.capacity
-    (omega (arith, c.requires.consumer.capacity, c.args.self.now.lawful.least))
+pub finish-requires-then-is_block_end-clause-to : goal.finish-requires-then-is_block_end-clause-to
+finish-requires-then-is_block_end-clause-to g c =
+    let runs = c.turns.invariant.runs.0 in (
+      (_, runs.stands),
+      runs_to runs c.requires.consumer.capacity
+          (omega (arith, c.requires.consumer.capacity, c.args.self.now.lawful.least)),
+    )
 
-pub finish-requires-in-Blocked-clause-inside : goal.finish-requires-in-Blocked-clause-inside
-finish-requires-in-Blocked-clause-inside g c =
-    let q = goes g (goal.at.finish-requires-in-Blocked-clause-inside g c).After-is_block_end c.if-is_block_end.false in
-    blocked_inside q c.in-Blocked.ensures.turn
+pub finish-requires-in-Blocked-clause-to : goal.finish-requires-in-Blocked-clause-to
+finish-requires-in-Blocked-clause-to g c =
+    let q = goes g (goal.at.finish-requires-in-Blocked-clause-to g c).After-is_block_end c.if-is_block_end.false in
+    ((got q, blocked_at q c.in-Blocked.ensures.turn), blocked_to q c.in-Blocked.ensures.turn)
 
-pub move_head_before-requires-clause-inside : goal.move_head_before-requires-clause-inside
-move_head_before-requires-clause-inside g c =
-    let q = goes g (goal.at.move_head_before-requires-clause-inside g c).After-is_block_end c.if-is_block_end.false in
-    left_inside q c.in-Shown.ensures.turn
+pub move_head_before-requires-clause-to : goal.move_head_before-requires-clause-to
+move_head_before-requires-clause-to g c =
+    let q = goes g (goal.at.move_head_before-requires-clause-to g c).After-is_block_end c.if-is_block_end.false in
+    left_to q c.in-Shown.ensures.turn
 
-pub finish-requires-in-Abort-clause-inside : goal.finish-requires-in-Abort-clause-inside
-finish-requires-in-Abort-clause-inside g c =
-    let q = goes g (goal.at.finish-requires-in-Abort-clause-inside g c).After-is_block_end c.if-is_block_end.false in
+pub finish-requires-in-Abort-clause-start : goal.finish-requires-in-Abort-clause-start
+finish-requires-in-Abort-clause-start g c =
+    let q = goes g (goal.at.finish-requires-in-Abort-clause-start g c).After-is_block_end c.if-is_block_end.false in
     let p = c.move_head_before.ensures.settles (got q) (left_at q c.in-Shown.ensures.turn) in
-    left_done q c.in-Shown.ensures.turn p
+    left_from q c.in-Shown.ensures.turn p
 
-pub finish-requires-in-Break-clause-inside : goal.finish-requires-in-Break-clause-inside
-finish-requires-in-Break-clause-inside g c =
-    let q = goes g (goal.at.finish-requires-in-Break-clause-inside g c).After-is_block_end c.if-is_block_end.false in
-    shown_inside q c.in-Shown.ensures.turn
+pub finish-requires-in-Abort-clause-to : goal.finish-requires-in-Abort-clause-to
+finish-requires-in-Abort-clause-to g c =
+    let q = goes g (goal.at.finish-requires-in-Abort-clause-to g c).After-is_block_end c.if-is_block_end.false in
+    let p = c.move_head_before.ensures.settles (got q) (left_at q c.in-Shown.ensures.turn) in
+    ((got q, settled_stands p), left_done q c.in-Shown.ensures.turn p)
 
-pub move_head-requires-clause-inside : goal.move_head-requires-clause-inside
-move_head-requires-clause-inside g c =
-    let q = goes g (goal.at.move_head-requires-clause-inside g c).After-is_block_end c.if-is_block_end.false in
-    shown_inside q c.in-Shown.ensures.turn
+pub finish-requires-in-Break-clause-to : goal.finish-requires-in-Break-clause-to
+finish-requires-in-Break-clause-to g c =
+    let q = goes g (goal.at.finish-requires-in-Break-clause-to g c).After-is_block_end c.if-is_block_end.false in
+    ((got_more q c.in-Shown.ensures.turn, shown_at q c.in-Shown.ensures.turn), shown_to q c.in-Shown.ensures.turn)
+
+pub move_head-requires-clause-to : goal.move_head-requires-clause-to
+move_head-requires-clause-to g c =
+    let q = goes g (goal.at.move_head-requires-clause-to g c).After-is_block_end c.if-is_block_end.false in
+    shown_to q c.in-Shown.ensures.turn

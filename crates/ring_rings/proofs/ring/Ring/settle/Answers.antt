@@ -29,8 +29,12 @@ invariant_of-producer g c =
     }
 
 pub returns-clause-others : goal.returns-clause-others
-returns-clause-others g c t h other =
+returns-clause-others g c =
     let e = c.store_settled_header.ensures in
-    still_open h (has_other c.args.producer.now.seat.me.0 c.store_settled_header.new.seat.me.0 c.place.result t.place
-    (staged (Stored c.args.state)) (IsStagedOpen t.type_id t.len) (ap (λ (v : View). v.producer.claims) e.view) h.claim
-    (λ here. other (here ∙ c.place.ensures)))
+    record {
+      rising = e.rising;
+      claims = λ t h other.
+          still_open h (has_other c.args.producer.now.seat.me.0 c.store_settled_header.new.seat.me.0 c.place.result
+          t.place (staged (Stored c.args.state)) (IsStagedOpen t.type_id t.len)
+          (ap (λ (v : View). v.producer.claims) e.view) h.claim (λ here. other (here ∙ c.place.ensures)));
+    }

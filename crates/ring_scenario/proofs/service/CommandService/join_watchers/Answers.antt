@@ -10,20 +10,25 @@ loop-index-preserved c =
     let xs = held_in c.loop-index.self.watchers in
     let ys = held_in c.unwatch.new.self.watchers in
     let i : ℕ = c.loop-index.index in
+    let keeps = c.unwatch.ensures.keeps in
     let inside : i < length xs = omega (arith, was.0, c.loop-index-test.true) in
     let step =
     given_up c.unwatch.result xs ys i (Unwatches c.loop-index.self.watchers (i + 1) c.unwatch.new.self.watchers)
     c.unwatch.ensures.same c.unwatch.ensures.left (λ left. left.goes.given_up) c.unwatch.ensures.free inside was.1 in (
       step.0 ∙ was.0,
       step.1,
-      c.unwatch.ensures.registry
-          ∙ was.2,
       record {
-        consumer = c.unwatch.ensures.others.consumer
-            ∙ was.3.consumer;
-        transmitter = c.unwatch.ensures.others.transmitter ∙ was.3.transmitter;
+        counters = record {
+          manager = keeps.counters.manager;
+          registry = keeps.counters.registry ∙ was.2.counters.registry;
+          writes = keeps.counters.writes ∙ was.2.counters.writes;
+        };
+        seats = record {
+          consumer = keeps.seats.consumer ∙ was.2.seats.consumer;
+          transmitter = keeps.seats.transmitter ∙ was.2.seats.transmitter;
+        };
       },
-      c.unwatch.ensures.producer ∙ was.4,
+      c.unwatch.ensures.producer ∙ was.3,
     )
 
 pub returns-clause-shares : goal.returns-clause-shares

@@ -5,8 +5,10 @@ use Rattle.ring_scenario.proofs.service.listening.join_listener.Goals as goal
 
 pub join_receiver-requires-clause-receiver : goal.join_receiver-requires-clause-receiver
 join_receiver-requires-clause-receiver c =
-    c.requires.listeners (c.args.number - 1) c.in_ok-listener.listener c.in_ok-listener.ensures.taken.here.has
+    c.requires.receivers (c.args.number - 1) c.in_ok-listener.listener c.in_ok-listener.ensures.taken.here.has
 
-pub returns-clause-listeners : goal.returns-clause-listeners
-returns-clause-listeners c =
-    of_goes (IsReceiverOf c.args.board.now) _ _ _ _ c.requires.listeners c.in_ok-listener.ensures.taken
+pub returns-clause-crowd : goal.returns-clause-crowd
+returns-clause-crowd c = record {
+  transmitter = c.join_receiver.ensures.board;
+  receivers = of_goes (IsReceiverOf c.args.board.now) _ _ _ _ c.requires.receivers c.in_ok-listener.ensures.taken;
+}

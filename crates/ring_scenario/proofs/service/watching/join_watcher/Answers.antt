@@ -7,6 +7,8 @@ pub join_value_reader-requires-clause-reader : goal.join_value_reader-requires-c
 join_value_reader-requires-clause-reader c =
     c.requires.watchers (c.args.number - 1) c.in_ok-watcher.watcher c.in_ok-watcher.ensures.taken.here.has
 
-pub returns-clause-watchers : goal.returns-clause-watchers
-returns-clause-watchers c =
-    of_goes (IsReaderOf c.args.values.now) _ _ _ _ c.requires.watchers c.in_ok-watcher.ensures.taken
+pub returns-clause-watched : goal.returns-clause-watched
+returns-clause-watched c = record {
+  manager = c.join_value_reader.ensures.keeps.counters.manager;
+  watchers = of_goes (IsReaderOf c.args.values.now) _ _ _ _ c.requires.watchers c.in_ok-watcher.ensures.taken;
+}

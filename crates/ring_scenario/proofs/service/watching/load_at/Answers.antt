@@ -1,7 +1,8 @@
 use Rattle.std.proofs.Common.{◌-◌}
+use Rattle.std.proofs.lemmas.Result.{IfOk-weaker}
 use Rattle.ring_counters.specs.Seats.{IsReaderOf}
 use Rattle.ring_loose.proofs.HeldLemmas.{count_stays, of_stays, stays, stays_same, vacated}
-use Rattle.ring_scenario.proofs.ServiceLemmas.{OnErr-from, peeks}
+use Rattle.ring_scenario.proofs.ServiceLemmas.{OnErr-from}
 use Rattle.ring_scenario.proofs.service.watching.load_at.Goals as goal
 
 pub load-loaded-requires : goal.load-loaded-requires
@@ -18,8 +19,13 @@ returns-clause-watchers c =
 pub returns-clause-loaded : goal.returns-clause-loaded
 returns-clause-loaded c =
     let held = stays _ _ _ _ _ _ c.in_ok-watcher.ensures.taken c.put_back.ensures in
-    let load = c.load-loaded.ensures in peeks c.load-loaded.result _ _ _ c.in_ok-watcher.watcher
-    c.load-loaded.new.reader _ held load.value load.loaded load.later
+    IfOk-weaker c.load-loaded.result _ _
+    (λ value did. record {
+      before = c.in_ok-watcher.watcher;
+      after = c.load-loaded.new.reader;
+      loads = did;
+      stays = held;
+    }) c.load-loaded.ensures.loads
 
 pub returns-clause-refused : goal.returns-clause-refused
 returns-clause-refused c =

@@ -4,5 +4,5 @@ use Rattle.ring_words.proofs.read.head.load_at_head.Goals as goal
 
 pub returns : goal.returns
 returns c = λ claim rest has at len. body_is
-    (ring c.args.capacity c.args.words.now) claim rest c.requires.ring has at c.load_body.new.body len
-    (rw (c.word_index.ensures, c.requires.head) at c.load_body.ensures)
+    (ring c.args.capacity c.args.words.now) claim rest c.requires.ring.ring has at c.load_body.new.body len
+    (rw (c.word_index.ensures, c.requires.ring.head) at c.load_body.ensures)

@@ -9,21 +9,21 @@ use Rattle.ring_words.proofs.read.head.show_at_head.Goals as goal
 
 pub slice_bounds-body-end : goal.slice_bounds-body-end
 slice_bounds-body-end g c =
-    let ok = c.requires.ring in
+    let ok = c.requires.ring.ring in
     let told = message_of (ring c.args.capacity c.args.words.now) ok.history.0 c.args.settled ok ok.history.1
     (c.requires.seen ok.history.0 ok.history.1) c.requires.message in
     omega (arith, told.short, c.requires.room)
 
 pub slice_bounds-body-end-2 : goal.slice_bounds-body-end-2
 slice_bounds-body-end-2 g c =
-    let ok = c.requires.ring in
+    let ok = c.requires.ring.ring in
     let told = message_of (ring c.args.capacity c.args.words.now) ok.history.0 c.args.settled ok ok.history.1
     (c.requires.seen ok.history.0 ok.history.1) c.requires.message in
     sym (length-take-le (c.args.settled.len - 8) c.args.scratch.now (omega (arith, told.short, c.requires.room)))
 
 pub load_at_head-requires-clause-within : goal.load_at_head-requires-clause-within
 load_at_head-requires-clause-within g c =
-    let ok = c.requires.ring in
+    let ok = c.requires.ring.ring in
     let told = message_of (ring c.args.capacity c.args.words.now) ok.history.0 c.args.settled ok ok.history.1
     (c.requires.seen ok.history.0 ok.history.1) c.requires.message in
     rw (length-take-le (c.args.settled.len - 8) c.args.scratch.now (omega (arith, told.short, c.requires.room)))
@@ -31,7 +31,7 @@ load_at_head-requires-clause-within g c =
 
 pub returns-clause-shown : goal.returns-clause-shown
 returns-clause-shown g c =
-    let ok = c.requires.ring in
+    let ok = c.requires.ring.ring in
     let told = message_of (ring c.args.capacity c.args.words.now) ok.history.0 c.args.settled ok ok.history.1
     (c.requires.seen ok.history.0 ok.history.1) c.requires.message in
     let len = length-take-le (c.args.settled.len - 8) c.args.scratch.now (omega (arith, told.short, c.requires.room)) in

@@ -1,6 +1,6 @@
-use Rattle.std.proofs.Common.{◌∙◌, ◌+◌, [], ◌∷◌, ◌++◌, ap, arith}
+use Rattle.std.proofs.Common.{◌∙◌, ◌+◌, [], ◌∷◌, ◌++◌, length, ap, arith}
 use Rattle.ring_table.specs.Owners.{interleaved}
-use Rattle.ring_rings.specs.Seats.{claims_of, open_claims_of}
+use Rattle.ring_rings.specs.Seats.{claims_of, open_claims_of, shares_of, taken_of}
 use Rattle.ring_board.specs.Seats.{receiver_view}
 use Rattle.ring_board.specs.Steps.{as_joined}
 use Rattle.ring_conductor.specs.Finishing.{joined_by}
@@ -10,29 +10,25 @@ use Rattle.ring_conductor.proofs.SeatLemmas.{joins_service}
 use Rattle.ring_conductor.proofs.GatheringLemmas.{gathered}
 use Rattle.ring_conductor.proofs.storming.shared.Shared.join_client.Goals as goal
 
-pub returns-clause-claims : goal.returns-clause-claims
-returns-clause-claims g c =
+pub returns-clause-seats : goal.returns-clause-seats
+returns-clause-seats g c =
     let both = gathered _ _ _ _ c.join.ensures.joined in
     let is = c.into_parts-producer.ensures.producer in
     let old = c.args.hub.now.producer in
+    let shares = both.shares ∙ ap (λ p. shares_of old + shares_of p) is in
+    let one = c.requires.client.0.1 in
     let open_claims = both.open_claims ∙ ap (λ p. open_claims_of old + open_claims_of p) is in
     let settled = c.requires.client.0.2 in
-    (omega (arith, open_claims, settled), both.claims ∙ ap (λ p. sent_by old + sent_by p) is)
-
-pub returns-clause-together : goal.returns-clause-together
-returns-clause-together g c =
-    let both = gathered _ _ _ _ c.join.ensures.joined in
-    both.together ∙ ap (λ p. interleaved (claims_of c.args.hub.now.producer) (claims_of p))
-    c.into_parts-producer.ensures.producer
-
-pub returns-clause-services : goal.returns-clause-services
-returns-clause-services g c =
-    let is = c.into_parts-producer.ensures.producer in
-    let none = ap services_of is ∙ c.requires.client.0.4 in
-    joins_service _ _ _ _ c.join.ensures.joined none
-    ∙ ap (λ p. services_of c.args.hub.now.producer ++ service_of p ∷ []) is
-
-pub returns-clause-receivers_joined : goal.returns-clause-receivers_joined
-returns-clause-receivers_joined g c =
-    c.join_receiver.ensures.heard ∙ ap (λ r. joined_by c.args.hub.now.conductor ++ as_joined (receiver_view r) ∷ [])
-    c.into_parts-producer.ensures.receiver
+    let receiver = c.join_receiver.ensures in
+    record {
+      producers = omega (arith, shares, one);
+      receivers = receiver.joined.shares;
+      open_claims = omega (arith, open_claims, settled);
+      sent = both.claims ∙ ap (λ p. sent_by old + sent_by p) is;
+      claims = both.together ∙ ap (λ p. interleaved (claims_of old) (claims_of p)) is;
+      joined = receiver.joined.heard ∙ ap (λ r. joined_by c.args.hub.now.conductor ++ as_joined (receiver_view r) ∷ [])
+          c.into_parts-producer.ensures.receiver;
+      services = joins_service _ _ _ _ c.join.ensures.joined (ap services_of is ∙ c.requires.client.0.4)
+          ∙ ap (λ p. services_of old ++ service_of p ∷ []) is;
+      taken = ap (λ x. length (taken_of x)) receiver.others.consumer;
+    }

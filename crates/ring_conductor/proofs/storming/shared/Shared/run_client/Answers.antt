@@ -33,22 +33,47 @@ loop-number-preserved g c =
       within = omega arith;
     }
 
-pub returns-else-is_none-clause-answered : goal.returns-else-is_none-clause-answered
-returns-else-is_none-clause-answered g c =
+pub returns-else-is_none-clause-worked : goal.returns-else-is_none-clause-worked
+returns-else-is_none-clause-worked g c =
     let e = c.command.ensures in
     let was = c.loop-number.invariant in
+    let few = e.sent in
+    let drew = e.drawn in
+    let before = was.sent in
+    let draws = was.drawn in
+    let same = e.same.1 in
+    let seen = was.seen in
     record {
-      before = deeds_of c.command.new.client;
-      turns = next_turn _ _ _ _ _ _ _ e.same.0 e.same.1 (sym was.seen)
-          (of_some c.command.result _ (c.is_none.ensures ∙ ap not c.if-is_none.false) e.turn) was.turns;
-      more = same_deeds _;
+      sent = (omega arith, omega arith);
+      seen = omega arith;
+      index = e.same.0 ∙ was.index;
+      answered =
+          record {
+            before = deeds_of c.command.new.client;
+            turns = next_turn _ _ _ _ _ _ _ e.same.0 e.same.1 (sym was.seen)
+                (of_some c.command.result _ (c.is_none.ensures ∙ ap not c.if-is_none.false) e.turn) was.turns;
+            more = same_deeds _;
+          };
     }
 
-pub returns-then-is_none-clause-answered : goal.returns-then-is_none-clause-answered
-returns-then-is_none-clause-answered g c =
+pub returns-then-is_none-clause-worked : goal.returns-then-is_none-clause-worked
+returns-then-is_none-clause-worked g c =
     let e = c.command.ensures in
+    let was = c.loop-number.invariant in
+    let few = e.sent in
+    let drew = e.drawn in
+    let before = was.sent in
+    let draws = was.drawn in
+    let same = e.same.1 in
+    let seen = was.seen in
     record {
-      before = deeds_of c.loop-number.client;
-      turns = turns_as _ _ _ _ _ e.same.0 e.same.1 c.loop-number.invariant.turns;
-      more = e.grows;
+      sent = (omega arith, omega arith);
+      seen = omega arith;
+      index = e.same.0 ∙ was.index;
+      answered =
+          record {
+            before = deeds_of c.loop-number.client;
+            turns = turns_as _ _ _ _ _ e.same.0 e.same.1 was.turns;
+            more = e.grows;
+          };
     }

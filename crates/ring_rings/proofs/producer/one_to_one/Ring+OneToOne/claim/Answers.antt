@@ -22,21 +22,21 @@ invariant_of-producer-2 c =
       );
     }
 
-pub returns-clause-is_open : goal.returns-clause-is_open
-returns-clause-is_open c =
+pub returns-clause-opened : goal.returns-clause-opened
+returns-clause-opened c =
     let told = c.in_ok-admission.ensures.told in
-    rw c.new.ensures record {
-      index = refl;
-      message = told.admitted.message;
-      limit =
-          (let lies = told.admitted.place in let ends = told.admitted.limit in omega arith);
-      claim =
-          made_open told;
+    record {
+      is_open = rw c.new.ensures record {
+        index = refl;
+        message = told.admitted.message;
+        limit =
+            (let lies = told.admitted.place in let ends = told.admitted.limit in omega arith);
+        claim =
+            made_open told;
+      };
+      apart = λ t h same. made_apart told t.place (IsStagedOpen t.type_id t.len) h.claim
+          (same ∙ ap (λ (r : ClaimAt). r.place) c.new.ensures);
     }
 
 pub returns-clause-claims : goal.returns-clause-claims
 returns-clause-claims c = keeps_claims _ (made_claims c.in_ok-admission.ensures.told)
-
-pub returns-clause-apart : goal.returns-clause-apart
-returns-clause-apart c t h same = made_apart c.in_ok-admission.ensures.told t.place
-    (IsStagedOpen t.type_id t.len) h.claim (same ∙ ap (λ (r : ClaimAt). r.place) c.new.ensures)
