@@ -162,13 +162,19 @@ pub copies_kept : (m m1 : Sat) (loads : List Load) (n : ℕ) (c : Taken)
     → get_elem? m.0.copies n ≡ some c → get_elem? m1.0.copies n ≡ some c
 copies_kept m m1 loads n c is on = ap (λ (s : Sat). get_elem? s.0.copies n) is ∙ on
 
+-- i is the index of the word number k of a body at a place below the tail t, of which `out` has room
+pub record IsWordAt (C place k t i : ℕ) (out : List ℕ) : Type 0 where
+  pub index_is : i ≡ index C (place + 8 + 8 * k)
+  pub below : place + 8 + 8 * k < t
+  pub room : 8 * k < length out
+
 -- one word more was loaded
 pub loaded_on : (place k i x t : ℕ) (out out' : List ℕ) (m m1 m2 : Sat) → LoadedWords place k out m m1
-    → m2 ≡ (logged m1.0 (Word i t x), m1.1)
-    → i ≡ index m.0.capacity (place + 8 + 8 * k) → place + 8 + 8 * k < t → 8 * k < length out
+    → m2 ≡ (logged m1.0 (Word i t x), m1.1) → IsWordAt m.0.capacity place k t i out
     → out' ≡ overwritten (8 * k) (take (length out - 8 * k) (to_le_bytes w64 x)) out → length out' ≡ length out
     → LoadedWords place (k + 1) out' m m2
-loaded_on place k i x t out out' m m1 m2 h is there beyond room put same =
+loaded_on place k i x t out out' m m1 m2 h is at put same =
+    let there = at.index_is in let beyond = at.below in let room = at.room in
     let ws : List ℕ = h.0 in let loads : List Load = h.1 in
     let l : Load = Word i t x in (
       ws ++ x ∷ [],

@@ -38,9 +38,10 @@ heard_sure m m1 m2 t i w a b lt = b ∙ ap (λ (st : Stage). (header_loaded m1.0
 -- the receiver behind its padding
 pub padded_as : (m m1 m2 m3 : Sat) (t i w x : ℕ) → m1 ≡ (tail_loaded m.0 t, m.1)
     → m2 ≡ (header_loaded m1.0 i Sure w, m1.1) → m3 ≡ (validated m2.0 x, m2.1)
-    → m.0.at < t → x < m.0.at + m.0.capacity → is_padding w ≡ true
+    → (m.0.at < t) × (x < m.0.at + m.0.capacity) → is_padding w ≡ true
     → m3 ≡ (record m.0 { stage = Padded w; log = m.0.log ++ padding_loads m.0 t i w x }, m.1)
-padded_as m m1 m2 m3 t i w x a b c beyond lt pads =
+padded_as m m1 m2 m3 t i w x a b c near pads =
+    let lt = near.1 in
     let l1 : List Load = m.0.log ++ Tail t ∷ [] in let u : Load = Word i (last_tail l1 0) w in
     let l2 : List Load = l1 ++ u ∷ [] in
     let two : m2 ≡ (record m.0 { stage = Headed w; log = l2 }, m.1) =

@@ -262,16 +262,17 @@ module _ (C e : ℕ) (s : St) (by : ℕ) (mine : View) (h : IsBoard C e by mine 
   word_right : (r : Record) (k : ℕ) → get_elem? mine.sent k ≡ some r → v.at ≡ r.place → (ws : List ℕ) (x : ℕ)
       → length ws < length (body_of r)
       → x ≡ get_or s.words (index C (v.at + 8 + 8 * length ws)) 0
-      → (now < v.at + C → ws ≡ take (length ws) (body_of r)) → now < v.at + C
+      → (now < v.at + C) × (ws ≡ take (length ws) (body_of r))
       → ws ++ x ∷ [] ≡ take (length (ws ++ x ∷ [])) (body_of r)
-  word_right r k on there ws x room is sofar lt = let j : ℕ = length ws in let p : ℕ = r.place + 8 + 8 * j in
+  word_right r k on there ws x room is sofar = let lt = sofar.0 in let j : ℕ = length ws in let p : ℕ = r.place + 8 +
+      8 * j in
       let right : x ≡ get_or (body_of r) j 0 = is ∙ (ap (λ (q : ℕ). get_or s.words (index C (q + 8 + 8 * j)) 0) there
       ∙ h.memory.valid k r on (length (gap r.before r.place) + j) (p, get_or (body_of r) j 0) (word_at r j room)
       (let g : now < p + C = omega arith in
       g)) in
       let longer : length (ws ++ x ∷ []) ≡ suc j =
       length-append ws (x ∷ []) ∙ (let g : j + 1 ≡ suc j = omega arith in g) in
-      ap (λ (l : List ℕ). l ++ x ∷ []) (sofar lt) ∙ (ap (λ (y : ℕ). take j (body_of r) ++ y ∷ []) right
+      ap (λ (l : List ℕ). l ++ x ∷ []) sofar.1 ∙ (ap (λ (y : ℕ). take j (body_of r) ++ y ∷ []) right
       ∙ (sym (take_next (body_of r) j room) ∙ ap (λ (m : ℕ). take m (body_of r)) (sym longer)))
 
   -- what a receiver is when it has loaded a word more
@@ -294,8 +295,8 @@ module _ (C e : ℕ) (s : St) (by : ℕ) (mine : View) (h : IsBoard C e by mine 
           (
             m.2.0,
             m.2.1,
-            word_right r v.next m.1 m.2.0 ws x room
-                (is ∙ ap (λ (j : ℕ). get_or s.words j 0) at_i) m.2.2,
+            λ lt. word_right r v.next m.1 m.2.0 ws x room
+                (is ∙ ap (λ (j : ℕ). get_or s.words j 0) at_i) (lt, m.2.2 lt),
           ),
         ),
       )

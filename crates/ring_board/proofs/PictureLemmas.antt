@@ -15,7 +15,7 @@ use Rattle.ring_board.specs.Records.{end, Chain, stores, stores_of, last_at, IsN
 use Rattle.ring_board.specs.Rule.{Holds, intent, latest, so_far}
 use Rattle.ring_board.specs.Runs.{AreAllRuns}
 use Rattle.ring_board.specs.Closing.{IsClosed}
-use Rattle.ring_board.proofs.PlaceLemmas.{apart, lies_after, lies_near, lies_whole}
+use Rattle.ring_board.proofs.PlaceLemmas.{board_lap, apart, lies_after, lies_near, lies_whole}
 use Rattle.ring_board.proofs.StoreLemmas.{stores_where, at_joined}
 use Rattle.ring_board.proofs.SeatLemmas.{owner}
 
@@ -97,7 +97,8 @@ module _ (C : ℕ) (roomy : 256 ≤ C) (whole : C % 64 ≡ 0) where
   rising_window b [] h = tt
   rising_window b (x ∷ xs) h = (
     (λ j y e same. ⊎_elim (λ lt. let hy = h (suc j) y e in let hx = h 0 x refl in let p = hy.0 in let q = hx.1 in
-        absurd (apart y.0 x.0 C roomy whole hy.2 hx.2 lt (omega arith) same)) (λ le. le) (cases_lt y.0 x.0)),
+        absurd (apart y.0 x.0 C (board_lap C roomy whole) hy.2 hx.2 lt (omega arith) same)) (λ le. le)
+        (cases_lt y.0 x.0)),
     rising_window b xs
         (λ j y e. h (suc j) y e),
   )

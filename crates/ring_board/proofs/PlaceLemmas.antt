@@ -5,20 +5,25 @@ use Rattle.std.proofs.lemmas.Nat.{mod_below}
 use mathlib.Core.Option.{some, some-injective, some-ne-none}
 use lib.ListN.{get_elem?}
 use Rattle.ring_layout.specs.Places.{index, room}
-use Rattle.ring_layout.proofs.Laps.{same_index}
+use Rattle.ring_layout.proofs.Laps.{IsLap, same_index}
 use Rattle.ring_layout.proofs.PlaceLemmas.{next_cases, next_le, next_within, next_aligned}
 use Rattle.ring_board.specs.declared.shared.view.Record.{Record}
 use Rattle.ring_board.specs.Records.{end, Lies, Follows, Chain, end_of, last_of}
 use Rattle.ring_board.specs.Steps.{place_before}
 
+-- the capacity of a board is a lap of whole words
+pub board_lap : (C : ℕ) → 256 ≤ C → C % 64 ≡ 0 → IsLap C
+board_lap C roomy whole = record { some = omega arith; whole = omega arith }
+
 -- a later position with the same index is a lap further
-pub a_lap_on : (a b C : ℕ) → 256 ≤ C → C % 64 ≡ 0 → a % 8 ≡ 0 → b % 8 ≡ 0 → a < b → index C a ≡ index C b → a + C ≤ b
-a_lap_on a b C roomy whole a8 b8 lt e = ⊎_elim
-    (λ near. let same : a ≡ b = same_index C a b (omega arith) (omega arith) a8 b8 e (omega arith) near in
+pub a_lap_on : (a b C : ℕ) → IsLap C → a % 8 ≡ 0 → b % 8 ≡ 0 → a < b → index C a ≡ index C b → a + C ≤ b
+a_lap_on a b C lap a8 b8 lt e = ⊎_elim
+    (λ near. let same : a ≡ b =
+    same_index C a b lap a8 (record { whole = b8; from = omega arith; below = near }) e in
     absurd (omega arith)) (λ far. far) (cases_lt b (a + C))
 
-pub apart : (a b C : ℕ) → 256 ≤ C → C % 64 ≡ 0 → a % 8 ≡ 0 → b % 8 ≡ 0 → a < b → b < a + C → index C a ≢ index C b
-apart a b C roomy whole a8 b8 lt near e = let far = a_lap_on a b C roomy whole a8 b8 lt e in omega arith
+pub apart : (a b C : ℕ) → IsLap C → a % 8 ≡ 0 → b % 8 ≡ 0 → a < b → b < a + C → index C a ≢ index C b
+apart a b C lap a8 b8 lt near e = let far = a_lap_on a b C lap a8 b8 lt e in omega arith
 
 pub index_below : (C p : ℕ) → 256 ≤ C → C % 64 ≡ 0 → index C p < C / 8
 index_below C p roomy whole = let lt = mod_below p C (omega arith) in omega arith

@@ -18,7 +18,7 @@ use Rattle.ring_board.specs.Records.{end, Lies, end_of, last_of, placed_words, g
 use Rattle.ring_board.specs.Layout.{IsUnnamed}
 use Rattle.ring_board.specs.Rule.{LoadOk, intent, latest, with_latest, so_far, Stand, Running, Receives, Knows, IsBoard, Holds}
 use Rattle.ring_board.specs.Steps.{Sat, at_stage, sent_on, place_before, draft, after_intent, with_words, after_padding, after_words, with_entry, after_header, after_latest, after_tail, StoresIntent, StoresPadding, StoresWord, StoresHeader, StoresLatest, StoresTail}
-use Rattle.ring_board.proofs.PlaceLemmas.{lies_after, lies_near, lies_whole, a_lap_on, apart, index_below, chain_at, chain_snoc, end_snoc, last_snoc, last_low}
+use Rattle.ring_board.proofs.PlaceLemmas.{board_lap, lies_after, lies_near, lies_whole, a_lap_on, apart, index_below, chain_at, chain_snoc, end_snoc, last_snoc, last_low}
 use Rattle.ring_board.proofs.StoreLemmas.{append_nil, stores_one, placed_snoc, stores_of_snoc, filled_where, stores_where}
 use Rattle.ring_board.proofs.ByteLemmas.{message_back}
 use Rattle.ring_board.proofs.SeatLemmas.{St, runs_more, receives_more, sent_more, loads_rise, loads_sent, knows_moves, owner, staged_alike, sent_alike, rebuilt}
@@ -56,14 +56,26 @@ module _ (C e : ℕ) where
     unnamed_kept j x few i is =
         get_or-set_other s.words j i x 0 (λ e. let behind = is.0 in omega arith) ∙ h.memory.unnamed i is
 
+    -- a word's position behind what was sent, and before the intent
+    record IsFree (p : ℕ) : Type 0 where
+      pub whole : p % 8 ≡ 0
+      pub after : end_of e me.sent ≤ p
+      pub below : p < intent e me.sent me.stage
+
+    -- at the stage st the intent and the record at latest are as they are, and one store more was made
+    record StoresMore (st : Stage) (p x : ℕ) : Type 0 where
+      pub intends : intent e me.sent st ≡ intent e me.sent me.stage
+      pub latest_is : latest e me.sent st ≡ latest e me.sent me.stage
+      pub shows : with_latest me.sent st ≡ with_latest me.sent me.stage
+      pub grows : so_far me.sent st ≡ so_far me.sent me.stage ++ (p, x) ∷ []
+
     -- a store into the buffer
-    word_stored_at : (st : Stage) (p x : ℕ) → p % 8 ≡ 0 → end_of e me.sent ≤ p → p < intent e me.sent me.stage
-        → intent e me.sent st ≡ intent e me.sent me.stage → latest e me.sent st ≡ latest e me.sent me.stage
-        → with_latest me.sent st ≡ with_latest me.sent me.stage
-        → so_far me.sent st ≡ so_far me.sent me.stage ++ (p, x) ∷ []
+    word_stored_at : (st : Stage) (p x : ℕ) → IsFree p → StoresMore st p x
         → Running C (end_of e me.sent) (set s.words (index C p) x) st
         → Knows C e id (at_stage me st) id (at_stage me st) st → Kept (index C p) x (at_stage me st)
-    word_stored_at st p x p8 after below i l sh grows running mine =
+    word_stored_at st p x free more running mine =
+        let p8 = free.whole in let after = free.after in let below = free.below in
+        let i = more.intends in let l = more.latest_is in let sh = more.shows in let grows = more.grows in
         let wide = h.memory.wide in let roomy = h.lawful.roomy in let whole = h.lawful.whole in
         let lt : index C p < C / 8 = index_below C p roomy whole in
         let out : (c : ℕ) → C / 8 ≤ c → get_or (set s.words (index C p) x) c 0 ≡ get_or s.words c 0 =
@@ -84,7 +96,7 @@ module _ (C e : ℕ) where
               let c2 = c.2 in let b1 = b.1 in
               let now' : intent e me.sent me.stage < y.0 + C = subst (λ (u : ℕ). u < y.0 + C) i now in
               get_or-set_other s.words (index C p) (index C y.0) x 0
-              (λ same. let far = a_lap_on y.0 p C roomy whole b.2 p8 (omega arith) same in
+              (λ same. let far = a_lap_on y.0 p C (board_lap C roomy whole) b.2 p8 (omega arith) same in
               omega arith) ∙ h.memory.valid k r at j y on now';
           running = running;
           exact =
@@ -121,10 +133,12 @@ module _ (C e : ℕ) where
           let near = lies_near C (end_of e me.sent) d.before d.place d.end l roomy whole in let so = ran.1 in
           let w = filled_where d.before d.place d.words j y l.begins_whole p_whole on in
           ⊎_elim (λ (c : (y.0 ≡ d.before) × (d.before < d.place)). let f = c.0 in let g = c.1 in
-          apart y.0 p C roomy whole w.1 p8 (omega arith) (omega arith))
+          apart y.0 p C (board_lap C roomy whole) w.1 p8 (omega arith) (omega arith))
           (λ (c : (d.place < y.0) × (y.0 < d.place + 8 + 8 * length d.words)). let f = c.0 in let g = c.1 in
-          ⊎_elim (λ (is : p ≡ d.place). λ same. apart p y.0 C roomy whole p8 w.1 (omega arith) (omega arith) (sym same))
-          (λ (past : d.place + 8 + 8 * length d.words ≤ p). apart y.0 p C roomy whole w.1 p8 (omega arith)
+          ⊎_elim (λ (is : p ≡ d.place). λ same. apart p y.0 C (board_lap C roomy whole) p8 w.1 (omega arith)
+          (omega arith)
+          (sym same))
+          (λ (past : d.place + 8 + 8 * length d.words ≤ p). apart y.0 p C (board_lap C roomy whole) w.1 p8 (omega arith)
           (omega arith)) fresh) w.0
 
       word_stored : (x : ℕ) → d.place + 8 + 8 * length d.words < d.end
@@ -139,11 +153,19 @@ module _ (C e : ℕ) where
           (placed_snoc (d.place + 8) d.words x) ∙ sym
           (append_assoc (gap d.before d.place) (placed_words (d.place + 8) d.words) ((p, x) ∷ [])) in
           let long : length d'.words ≡ length d.words + 1 = length-append d.words (x ∷ []) in
-          word_stored_at (Storing d') p x (omega arith) (omega arith)
-          (subst (λ (u : Stage). p < intent e me.sent u) (sym eq) room)
-          (ap (intent e me.sent) (sym eq)) (ap (latest e me.sent) (sym eq)) (ap (with_latest me.sent) (sym eq))
-          (ap (λ m. stores_of me.sent ++ m) grow ∙ (sym (append_assoc (stores_of me.sent) drawn ((p, x) ∷ []))
-          ∙ ap (λ (u : Stage). so_far me.sent u ++ (p, x) ∷ []) (sym eq))) (
+          word_stored_at (Storing d') p x
+          (record {
+            whole = omega arith;
+            after = omega arith;
+            below = subst (λ (u : Stage). p < intent e me.sent u) (sym eq) room;
+          })
+          (record {
+            intends = ap (intent e me.sent) (sym eq);
+            latest_is = ap (latest e me.sent) (sym eq);
+            shows = ap (with_latest me.sent) (sym eq);
+            grows = ap (λ m. stores_of me.sent ++ m) grow ∙ (sym (append_assoc (stores_of me.sent) drawn ((p, x) ∷ []))
+                ∙ ap (λ (u : Stage). so_far me.sent u ++ (p, x) ∷ []) (sym eq));
+          }) (
             l,
             omega arith,
             subst (Stand C (set s.words (index C p) x)) (sym grow)
@@ -164,12 +186,20 @@ module _ (C e : ℕ) where
           let b = l.begins in let so = l.some_room in let wide = h.memory.wide in let lt : index C p < C / 8 =
           index_below C p roomy whole in
           let same : filled d.before d.place (words_of_body m.body) ≡ drawn = ap (filled d.before d.place) is in
-          word_stored_at (Written r) p x p_whole (omega arith)
-          (subst (λ (u : Stage). p < intent e me.sent u) (sym eq) (omega arith))
-          (full ∙ ap (intent e me.sent) (sym eq)) (ap (latest e me.sent) (sym eq)) (ap (with_latest me.sent) (sym eq))
-          (ap (λ m. stores_of me.sent ++ (m ++ (p, x) ∷ [])) same
-          ∙ (sym (append_assoc (stores_of me.sent) drawn ((p, x) ∷ []))
-          ∙ ap (λ (u : Stage). so_far me.sent u ++ (p, x) ∷ []) (sym eq))) (
+          word_stored_at (Written r) p x
+          (record {
+            whole = p_whole;
+            after = omega arith;
+            below = subst (λ (u : Stage). p < intent e me.sent u) (sym eq) (omega arith);
+          })
+          (record {
+            intends = full ∙ ap (intent e me.sent) (sym eq);
+            latest_is = ap (latest e me.sent) (sym eq);
+            shows = ap (with_latest me.sent) (sym eq);
+            grows = ap (λ m. stores_of me.sent ++ (m ++ (p, x) ∷ [])) same
+                ∙ (sym (append_assoc (stores_of me.sent) drawn ((p, x) ∷ []))
+                ∙ ap (λ (u : Stage). so_far me.sent u ++ (p, x) ∷ []) (sym eq));
+          }) (
             record {
               fits = subst (λ (u : ℕ). Lies C (end_of e me.sent) d.before d.place u) (sym full) l;
               lawful =
@@ -192,10 +222,18 @@ module _ (C e : ℕ) where
         let is : filled d.before d.place d.words ≡ (p, x) ∷ [] =
         ap (λ (c : Bool). cond c ((p, x) ∷ []) [] ++ placed_words (d.place + 8) d.words)
         (lt-ltb d.before d.place lt0) ∙ ap (λ (ws : List ℕ). (p, x) ∷ placed_words (d.place + 8) ws) run.2 in
-        word_stored_at (Storing d) p x l.begins_whole (omega arith)
-        (subst (λ (u : Stage). p < intent e me.sent u) (sym eq) (omega arith))
-        (ap (intent e me.sent) (sym eq)) (ap (latest e me.sent) (sym eq)) (ap (with_latest me.sent) (sym eq))
-        (ap (λ m. stores_of me.sent ++ m) is ∙ ap (λ (u : Stage). so_far me.sent u ++ (p, x) ∷ []) (sym eq)) (
+        word_stored_at (Storing d) p x
+        (record {
+          whole = l.begins_whole;
+          after = omega arith;
+          below = subst (λ (u : Stage). p < intent e me.sent u) (sym eq) (omega arith);
+        })
+        (record {
+          intends = ap (intent e me.sent) (sym eq);
+          latest_is = ap (latest e me.sent) (sym eq);
+          shows = ap (with_latest me.sent) (sym eq);
+          grows = ap (λ m. stores_of me.sent ++ m) is ∙ ap (λ (u : Stage). so_far me.sent u ++ (p, x) ∷ []) (sym eq);
+        }) (
           l,
           omega arith,
           subst (Stand C (set s.words (index C p) x)) (sym is)
@@ -217,14 +255,21 @@ module _ (C e : ℕ) where
       outer_0 : k ≢ 0 → get_or (set s.words (C / 8 + k) x) (C / 8) 0 ≡ get_or s.words (C / 8) 0
       outer_0 ne = get_or-set_other s.words (C / 8 + k) (C / 8) x 0 (λ e. ne (omega arith))
 
-    intent_stored_as : (st : Stage) (z : ℕ) → me.stage ≡ Idle → z ≤ max_position → end_of e me.sent ≤ z
-        → intent e me.sent st ≡ z
-        → latest e me.sent st ≡ last_of e me.sent → with_latest me.sent st ≡ me.sent
-        → so_far me.sent st ≡ stores_of me.sent
+    -- at the stage st the intent is z, and no store of the record was made
+    record Intends (st : Stage) (z : ℕ) : Type 0 where
+      pub intends : intent e me.sent st ≡ z
+      pub latest_is : latest e me.sent st ≡ last_of e me.sent
+      pub shows : with_latest me.sent st ≡ me.sent
+      pub stored : so_far me.sent st ≡ stores_of me.sent
+
+    intent_stored_as : (st : Stage) (z : ℕ) → me.stage ≡ Idle → (z ≤ max_position) × (end_of e me.sent ≤ z)
+        → Intends st z
         → Running C (end_of e me.sent) (set s.words (C / 8 + 0) z) st
         → Knows C e id (at_stage me st) id (at_stage me st) st
         → Kept (C / 8 + 0) z (at_stage me st)
-    intent_stored_as st z eq low later i l sh grows running mine =
+    intent_stored_as st z eq lies new running mine =
+        let low = lies.0 in let later = lies.1 in
+        let i = new.intends in let l = new.latest_is in let sh = new.shows in let grows = new.stored in
         let roomy = h.lawful.roomy in let whole = h.lawful.whole in
         let ws : List ℕ = set s.words (C / 8 + 0) z in
         let risen : intent e me.sent me.stage ≤ intent e me.sent st =
@@ -261,11 +306,17 @@ module _ (C e : ℕ) where
         let a = lies_after C (end_of e me.sent) me.at p z l roomy h.lawful.whole in
         let b = l.begins in let so = l.some_room in let later : end_of e me.sent ≤ z = omega arith in
         cond_both (ltb me.at p) (Begun d) (Storing d) (λ (st : Stage). Kept (C / 8 + 0) z (at_stage me st))
-        (λ t. intent_stored_as (Begun d) z eq low later refl refl refl refl (l, ltb-true me.at p t, refl) refl)
+        (λ t. intent_stored_as (Begun d) z eq (low, later)
+        (record { intends = refl; latest_is = refl; shows = refl; stored = refl }) (l, ltb-true me.at p t, refl) refl)
         (λ f. let none : filled me.at p [] ≡ [] =
         ap (λ (c : Bool). cond c ((me.at, padding_header (p - me.at)) ∷ []) [] ++ []) f in
-        intent_stored_as (Storing d) z eq low later refl refl refl
-        (ap (λ m. stores_of me.sent ++ m) none ∙ append_nil (stores_of me.sent)) (
+        intent_stored_as (Storing d) z eq (low, later)
+        (record {
+          intends = refl;
+          latest_is = refl;
+          shows = refl;
+          stored = ap (λ m. stores_of me.sent ++ m) none ∙ append_nil (stores_of me.sent);
+        }) (
           l,
           omega arith,
           subst (Stand C (set s.words (C / 8 + 0) z)) (sym none)
@@ -389,10 +440,11 @@ module _ (C e : ℕ) where
         )
 
     pub stores_header : (d : Draft) (m : Message) → me.0.stage ≡ Storing d → i ≡ index C d.place → IsMessage C m
-        → words_of_body m.body ≡ d.words
-        → d.place + span (length m.body) ≡ d.end → x ≡ header_of m
+        → (words_of_body m.body ≡ d.words) × (d.place + span (length m.body) ≡ d.end) → x ≡ header_of m
         → Allows (Holds C e) slots id me i (λ _. x) (λ _. StoresHeader me x)
-    stores_header d m eq is lawful words full num s b _ at _ =
+    stores_header d m eq is lawful filled num s b _ at _ =
+        let words = filled.0 in
+        let full = filled.1 in
         let h = owner C e s b id me.0 (Storing d) (λ by mine k. k) at eq in
         let w : View = at_stage me.0 (after_header me.0.stage x) in
         let held : with_entry d x ≡ record { before = d.before; place = d.place; message = m } =

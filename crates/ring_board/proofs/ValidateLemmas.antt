@@ -61,11 +61,13 @@ module _ (C e : ℕ) (s : St) (by : ℕ) (mine : View) (h : IsBoard C e by mine 
   Kept i cs u = Holds C e (stepped s i (get_or s.words i 0) id cs u keeps)
 
   -- A failed validation
-  behind_kept : id ≢ by → Receives e mine.sent seen v → v.capacity ≡ C → (r : Record)
+  behind_kept : id ≢ by → (v.capacity ≡ C) × Receives e mine.sent seen v → (r : Record)
       → get_elem? mine.sent v.next ≡ some r → (log : List Load)
       → v.at + C ≤ here_now → Logged C e mine.sent mine.stage log → (i : ℕ) (cs : List (ℕ × (Unit {0})))
       → Kept i cs (record v { stage = Behind; log = log })
-  behind_kept ne k capacity r on log far logs i cs =
+  behind_kept ne receives r on log far logs i cs =
+      let capacity = receives.0 in
+      let k = receives.1 in
       let w : View = record v { stage = Behind; log = log } in looked C e s by mine h id v at w ne
       (capacity, record { before = k.before; climbs = k.climbs; past = k.past; fresh = k.fresh }, (r, on, far))
       (same_runs C e s by mine h id v at w refl refl) refl logs i cs
@@ -230,7 +232,7 @@ module _ (C e : ℕ) (s : St) (by : ℕ) (mine : View) (h : IsBoard C e by mine 
         record { before = k.1.before; climbs = k.1.climbs; past = k.1.past; fresh = k.1.fresh },
         (t.0, t.1, (c.0, c.1, λ _. refl)),
       ) (same_runs C e s by mine h id v at u refl refl) refl logs i cs)))
-      (λ far. behind_kept ne k.1 k.0 t.0 t.1 (v.log ++ Intent x ∷ []) far logs i cs)
+      (λ far. behind_kept ne (k.0, k.1) t.0 t.1 (v.log ++ Intent x ∷ []) far logs i cs)
 
   pub behind_intent_keeps : (w : ℕ) → v.stage ≡ Again w → (x i : ℕ) (cs : List (ℕ × (Unit {0}))) → x ≡ here_now
       → Kept i cs (validated v x)
@@ -244,7 +246,7 @@ module _ (C e : ℕ) (s : St) (by : ℕ) (mine : View) (h : IsBoard C e by mine 
         record { before = k.1.before; climbs = k.1.climbs; past = k.1.past; fresh = k.1.fresh },
         (t.0, t.1, (t.2.0, t.2.1 lt, λ _. refl)),
       ) (same_runs C e s by mine h id v at u refl refl) refl logs i cs))
-      (λ far. behind_kept ne k.1 k.0 t.0 t.1 (v.log ++ Intent x ∷ []) far logs i cs)
+      (λ far. behind_kept ne (k.0, k.1) t.0 t.1 (v.log ++ Intent x ∷ []) far logs i cs)
 
   pub sound_now : (x : ℕ) → x ≡ here_now → x < v.at + v.capacity → (st : Stage) → Knows C e by mine id v st
       → IsSoundAt v st
@@ -289,7 +291,7 @@ module _ (C e : ℕ) (s : St) (by : ℕ) (mine : View) (h : IsBoard C e by mine 
                 (λ lt. copy_kept (message_of w body) (v.log ++ Intent x ∷ []) ne capacity k r on (right lt).0
                 (ap (λ (y : ℕ). message_of y body) (right lt).1 ∙ message_whole C r.message h.lawful.narrow f.lawful)
                 logs i cs)
-                (λ far. behind_kept ne k capacity r on (v.log ++ Intent x ∷ []) far logs i cs),
+                (λ far. behind_kept ne (capacity, k) r on (v.log ++ Intent x ∷ []) far logs i cs),
             λ lt. let q = right (omega arith) in (
               sym (ap body_len q.1 ∙ body_announced C e s by mine h id v at r v.next on),
               sound_at r on capacity w q.0 q.1,
@@ -312,7 +314,7 @@ module _ (C e : ℕ) (s : St) (by : ℕ) (mine : View) (h : IsBoard C e by mine 
       (copy_kept (message_in w ws) (v.log ++ Intent x ∷ []) ne k.0 k.1 r t.1 t.2.0
       ((λ j. message_in (t.2.1 j) ((t.2.2 lt ∙ take_whole (words_of_body r.message.body) (length ws) whole) j))
       ∙ message_back C r.message h.lawful.narrow f.lawful) logs i cs))
-      (λ far. behind_kept ne k.1 k.0 r t.1 (v.log ++ Intent x ∷ []) far logs i cs)
+      (λ far. behind_kept ne (k.0, k.1) r t.1 (v.log ++ Intent x ∷ []) far logs i cs)
 
   -- Latest
   pub latest_keeps : v.stage ≡ Behind → (x i : ℕ) (cs : List (ℕ × (Unit {0}))) → x ≡ latest e mine.sent mine.stage

@@ -147,18 +147,18 @@ module _ (clients : ℕ) (cs : List Counter) (p q p' q' : ℕ → ℕ) (holds : 
             ∙ (old.value ∙ ap (λ n. pos (last_set n)) (sym (same_sent d e)));
       }
 
-  apart_new : (d e : ℕ) → d < clients → e < clients → 1 ≤ p' d → 1 ≤ p' e → q' d ≡ q' e
+  apart_new : (d e : ℕ) → (d < clients) × (1 ≤ p' d) → (e < clients) × (1 ≤ p' e) → q' d ≡ q' e
       → (d ≡ c) ⊎ (d ≡ c → ⊥) → (e ≡ c) ⊎ (e ≡ c → ⊥) → d ≡ e
-  apart_new d e low low_too some some_too same (inl f) (inl g) = f ∙ sym g
-  apart_new d e low low_too some some_too same (inl f) (inr g) =
-      absurd (apart e low_too (subst (λ n. 1 ≤ n) (same_sent e g) some_too) g
+  apart_new d e one other same (inl f) (inl g) = f ∙ sym g
+  apart_new d e one other same (inl f) (inr g) =
+      absurd (apart e other.0 (subst (λ n. 1 ≤ n) (same_sent e g) other.1) g
       (sym (same_counter e g) ∙ (sym same ∙ (ap q' f ∙ here))))
-  apart_new d e low low_too some some_too same (inr f) (inl g) =
-      absurd (apart d low (subst (λ n. 1 ≤ n) (same_sent d f) some) f
+  apart_new d e one other same (inr f) (inl g) =
+      absurd (apart d one.0 (subst (λ n. 1 ≤ n) (same_sent d f) one.1) f
       (sym (same_counter d f) ∙ (same ∙ (ap q' g ∙ here))))
-  apart_new d e low low_too some some_too same (inr f) (inr g) =
-      holds.apart d e low low_too (subst (λ n. 1 ≤ n) (same_sent d f) some)
-      (subst (λ n. 1 ≤ n) (same_sent e g) some_too)
+  apart_new d e one other same (inr f) (inr g) =
+      holds.apart d e one.0 other.0 (subst (λ n. 1 ≤ n) (same_sent d f) one.1)
+      (subst (λ n. 1 ≤ n) (same_sent e g) other.1)
       (sym (same_counter d f) ∙ (same ∙ same_counter e g))
 
   owned_new : (k : ℕ) → is_live (at (slice_set cs id new) k) ≡ true → (k ≡ id) ⊎ (k ≡ id → ⊥)
@@ -177,7 +177,7 @@ module _ (clients : ℕ) (cs : List Counter) (p q p' q' : ℕ → ℕ) (holds : 
   still_holds = record {
     own = λ d low some. own_new d low some (cases_eq d c);
     apart = λ d e low low_too some some_too same.
-        apart_new d e low low_too some some_too same (cases_eq d c) (cases_eq e c);
+        apart_new d e (low, some) (low_too, some_too) same (cases_eq d c) (cases_eq e c);
     owned = λ k is. owned_new k is (cases_eq k id);
   }
 
@@ -224,16 +224,21 @@ module _ (clients : ℕ) (few : clients ≤ 64) (all : List Message) (once : (x 
   known : step.correlation < 2 ^ 64
   known = subst (λ n. n < 2 ^ 64) step.answers (known_correlation step.told step.spells.has_spelling)
 
+  -- the client's counter after this command
+  record IsClients (new : Counter) : Type 0 where
+    pub in_use : is_live new ≡ true
+    pub label : new.metadata.label ≡ label_of client
+    pub value : new.values.value ≡ pos (last_set (suc (p client)))
+
   -- the counter of the client becomes this one
-  becomes : (id : ℕ) (new : Counter) → id < count_of r → is_live new ≡ true
-      → new.metadata.label ≡ label_of client → new.values.value ≡ pos (last_set (suc (p client)))
+  becomes : (id : ℕ) (new : Counter) → id < count_of r → IsClients new
       → counter_told step.told (q client) ≡ id
       → ((d : ℕ) → d < clients → 1 ≤ p d → (d ≡ client → ⊥) → q d ≡ id → ⊥) → (1 ≤ p client → q client ≡ id)
       → Holds clients (slice_set r.counters id new) sent_then counters_then
-  becomes id new less is label value told apart before =
+  becomes id new less its told apart before =
       let now_sent = put_here client (suc (p client)) p client refl in
-      still_holds clients r.counters p q sent_then counters_then holds client id new below less is label
-      (value ∙ ap (λ n. pos (last_set n)) (sym now_sent)) (omega arith)
+      still_holds clients r.counters p q sent_then counters_then holds client id new below less its.in_use its.label
+      (its.value ∙ ap (λ n. pos (last_set n)) (sym now_sent)) (omega arith)
       (put_here client (counter_told step.told (q client)) q client refl ∙ told) apart before
       (put_there client (suc (p client)) p) (put_there client (counter_told step.told (q client)) q)
 
@@ -279,8 +284,9 @@ module _ (clients : ℕ) (few : clients ≤ 64) (all : List Message) (once : (x 
           let count = alive.counted in
           let told = told_is all once client (suc (p client)) (q client) c step (told.Allocated step.correlation id)
           (known, omega arith) refl has in
-          becomes id (new_counter (pos 1) [] (label_of client) step.correlation 0) found.0 refl refl
-          (ap (λ n. pos (last_set (suc n))) (sym none)) (ap (λ t. counter_told t (q client)) told)
+          becomes id (new_counter (pos 1) [] (label_of client) step.correlation 0) found.0
+          (record { in_use = refl; label = refl; value = ap (λ n. pos (last_set (suc n))) (sym none) })
+          (ap (λ t. counter_told t (q client)) told)
           (λ d low some other same. apart_from_free id found.1 d low some same) (λ some. absurd (omega arith))
 
   later : 1 ≤ p client → Does (applied now r c.message)
@@ -298,7 +304,8 @@ module _ (clients : ℕ) (few : clients ≤ 64) (all : List Message) (once : (x 
       ap (λ b. pos (cond b 0 (suc (p client)))) (sym (ne_eqb (suc (p client)) 1 (λ e. omega arith))) in
       subst Does (sym o) (becomes (q client)
       (let k = counter_at r (q client) in record k { values = record k.values { value = pos (suc (p client)) } })
-      less own.live own.label value (ap (λ t. counter_told t (q client)) told)
+      less (record { in_use = own.live; label = own.label; value = value })
+      (ap (λ t. counter_told t (q client)) told)
       (λ d low some_too other same. other (holds.apart d client low below some_too some same)) (λ s. refl))
 
   pub one_done : Holds clients (applied now r c.message).registry.counters sent_then counters_then
@@ -321,20 +328,25 @@ module _ (clients commands : ℕ) (few : clients ≤ 64) (all : List Message)
     (once : (x : ℕ) → times x (stamps all) ≤ 1) where
   pub all_done : (a : Account) (ts : List (ℕ × Message)) (cs : List StagedClaim) (p q : ℕ → ℕ) (live asked : ℕ)
       → untimed ts ≡ messages_of (placed_committed_of cs) → AllRest all commands p q clients cs
-      → HasLive clients a.registry live → Ask cs asked → live + asked ≤ clients → Holds clients a.registry.counters p q
+      → HasLive clients a.registry live × Holds clients a.registry.counters p q → Ask cs asked ×
+      (live + asked ≤ clients)
       → ((m : Message) → Has m (account_of a ts).replies → Has m all)
       → Ends clients commands (live + asked) (account_of a ts).registry
-  all_done a [] [] p q live asked e rest alive ask room holds has = record {
+  all_done a [] [] p q live asked e rest hold ask has = record {
     sent = p;
     counters = q;
-    holds = holds;
+    holds = hold.1;
     all_were = all_sent all commands p q clients rest;
-    live_are = subst (HasLive clients a.registry) (omega arith) alive;
+    live_are = subst (HasLive clients a.registry) (omega arith) hold.0;
   }
-  all_done a (t ∷ ts) [] p q live asked e rest alive ask room holds has = absurd cc
-  all_done a [] (c ∷ cs) p q live asked e rest alive ask room holds has =
-      absurd (let clash = e ∙ shown c cs ask.2 in cc)
-  all_done a (t ∷ ts) (c ∷ cs) p q live asked e rest alive ask room holds has =
+  all_done a (t ∷ ts) [] p q live asked e rest hold ask has = absurd cc
+  all_done a [] (c ∷ cs) p q live asked e rest hold ask has =
+      absurd (let clash = e ∙ shown c cs ask.0.2 in cc)
+  all_done a (t ∷ ts) (c ∷ cs) p q live asked e rest hold asking has =
+      let alive = hold.0 in
+      let holds = hold.1 in
+      let ask = asking.0 in
+      let room = asking.1 in
       let sum = ask.5 in
       let lists = e ∙ shown c cs ask.2 in
       let here : t.1 ≡ c.message = same_head t.1 c.message (untimed ts) (messages_of (placed_committed_of cs)) lists in
@@ -349,9 +361,10 @@ module _ (clients commands : ℕ) (few : clients ≤ 64) (all : List Message)
       let alive_then = one_served clients live ask.0 t.0 a.registry c.message alive ask.3 (omega arith) in
       subst (λ n. Ends clients commands n (account_of a (t ∷ ts)).registry) (omega arith)
       (all_done (entered a t.0 t.1) ts cs (put first.client (suc (p first.client)) p)
-      (put first.client (counter_told first.step.told (q first.client)) q) (live + ask.0) ask.1 others first.rest
-      (subst (λ m. HasLive clients (applied t.0 a.registry m).registry (live + ask.0)) (sym here) alive_then) ask.4
-      (omega arith)
-      (subst (λ m. Holds clients (applied t.0 a.registry m).registry.counters
-      (put first.client (suc (p first.client)) p)
-      (put first.client (counter_told first.step.told (q first.client)) q)) (sym here) done) has)
+      (put first.client (counter_told first.step.told (q first.client)) q) (live + ask.0) ask.1 others first.rest (
+        subst (λ m. HasLive clients (applied t.0 a.registry m).registry (live + ask.0)) (sym here) alive_then,
+        subst (λ m. Holds clients (applied t.0 a.registry m).registry.counters
+            (put first.client (suc (p first.client)) p)
+            (put first.client (counter_told first.step.told (q first.client)) q)) (sym here) done,
+      )
+      (ask.4, omega arith) has)

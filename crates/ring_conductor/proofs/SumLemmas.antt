@@ -217,8 +217,8 @@ module _ (clients commands : ℕ) (claims : List StagedClaim) (receivers : List 
       (fresh (count_of registry) registry.reuse_ms) in
       let ends = all_done clients commands few all unique a f.timed claims (λ c. 0) (λ c. 0) 0 clients f.each
       (at_first all commands short clients claims receivers services few (runs_heard sent receivers runs) turns)
-      alive (all_ask commands clients claims receivers services some few turns) (omega arith)
-      (none_held clients (count_of registry) registry.reuse_ms)
+      (alive, none_held clients (count_of registry) registry.reuse_ms)
+      (all_ask commands clients claims receivers services some few turns, omega arith)
       (λ m h. subst (Has m) replies h) in
       subst (Ends clients commands (0 + clients)) after ends
 

@@ -133,15 +133,31 @@ no_more old new more few =
 
 -- the turns of one client more, which had all its replies: it made no more claims and draws than were answered, so that
 -- they are those of its turns
+-- a client did all that it had to, and each of its commands was answered
+pub record HasDoneAll (commands client seen : ℕ) (d : Deeds) : Type 0 where
+  pub answered : AreAnswered client seen d
+  pub counted : seen ≡ commands
+  pub few : (length d.claims ≤ commands) × (length d.draws ≤ commands)
+  pub rising : AreRising d.claims
+
+-- the deeds of a client are put among those of others: its claims by place, receiver and service behind the others
+pub record PutAmong (d : Deeds) (claims others : List StagedClaim) (receivers before : List Joined) (receiver : Joined)
+    (services served : List Service) (service : Service) : Type 0 where
+  pub together : claims ≡ interleaved others d.claims
+  pub joined : receivers ≡ before ++ receiver ∷ []
+  pub copies : receiver.copies ≡ d.copies
+  pub more : services ≡ served ++ service ∷ []
+  pub draws : service.draws ≡ d.draws
+
 pub all_turns : (commands client seen : ℕ) (d : Deeds) (claims others : List StagedClaim)
     (receivers before : List Joined) (receiver : Joined) (services served : List Service) (service : Service)
-    → AreAllTurns commands client others before served → AreAnswered client seen d → seen ≡ commands
-    → (length d.claims ≤ commands) × (length d.draws ≤ commands) → AreRising d.claims
-    → claims ≡ interleaved others d.claims → receivers ≡ before ++ receiver ∷ [] → receiver.copies ≡ d.copies
-    → services ≡ served ++ service ∷ [] → service.draws ≡ d.draws
+    → AreAllTurns commands client others before served → HasDoneAll commands client seen d
+    → PutAmong d claims others receivers before receiver services served service
     → AreAllTurns commands (client + 1) claims receivers services
-all_turns commands client seen d claims others receivers before receiver services served service rest answered counted
-    few rising together joined copies more draws =
+all_turns commands client seen d claims others receivers before receiver services served service rest done among =
+    let answered = done.answered in
+    let counted = done.counted in
+    let few = done.few in
     let own = answered.before in
     let turns = subst (λ k. AreTurns client k own) counted answered.turns in
     let sent = sent_all client commands own turns in
@@ -156,14 +172,14 @@ all_turns commands client seen d claims others receivers before receiver service
       record {
         own = own;
         turns = turns;
-        rising = subst AreRising same rising;
-        together = together ∙ ap (interleaved others) same;
+        rising = subst AreRising same done.rising;
+        together = among.together ∙ ap (interleaved others) same;
         receiver = receiver;
-        joined = joined;
-        copies = subst (Lengthens own.copies) (sym copies) answered.more.copies;
+        joined = among.joined;
+        copies = subst (Lengthens own.copies) (sym among.copies) answered.more.copies;
         service = service;
-        served = more;
-        draws = draws ∙ same_draws;
+        served = among.more;
+        draws = among.draws ∙ same_draws;
       },
     )
 

@@ -316,25 +316,36 @@ reclaimed_shown words m state deadline h len is = record {
       (λ k lo hi. first k (omega arith) ∙ h.shows k hi ∙ metadata_word-label m k lo);
 }
 
+-- n bytes of a text were stored as words from the index `at` on, and nothing else
+pub record StoresText (at n : ℕ) (text old new : List ℕ) : Type 0 where
+  pub inside : (k : ℕ) → 8 * k < n → slice_index new (at + k) ≡ word_of_bytes text k
+  pub below : (i : ℕ) → i < at → slice_index new i ≡ slice_index old i
+  pub above : (i : ℕ) → at + (n + 7) / 8 ≤ i → slice_index new i ≡ slice_index old i
+
+-- type id, key and label have room in a record
+pub record FitRecord (type_id : ℤ) (key label : List ℕ) : Type 0 where
+  pub type_fits : FitsSigned w32 type_id
+  pub small_key : AreSmall key
+  pub small_label : AreSmall label
+  pub few_key : length key ≤ 112
+  pub few_label : length label ≤ 380
+
 -- a record of zeros after all of an allocated counter was stored
-pub allocated_shown : (type_id : ℤ) (key label w0 w1 w2 : List ℕ) (state : ℕ) → FitsSigned w32 type_id → AreSmall key
-    → AreSmall label → length key ≤ 112 → length label ≤ 380
+pub allocated_shown : (type_id : ℤ) (key label w0 w1 w2 : List ℕ) (state : ℕ) → FitRecord type_id key label
     → state ≡ state_word (pos 1) type_id
     → w0 ≡ set (set (replicate 64 0) 0 state) 1 (2 ^ 63 - 1)
-    → ((k : ℕ) → 8 * k < length key → slice_index w1 (2 + k) ≡ word_of_bytes key k)
-    → ((i : ℕ) → i < 2 → slice_index w1 i ≡ slice_index w0 i)
-    → ((i : ℕ) → 2 + (length key + 7) / 8 ≤ i → slice_index w1 i ≡ slice_index w0 i)
-    → ((k : ℕ) → 8 * k < length label + 4 → slice_index w2 (16 + k) ≡ word_of_bytes (label_text label) k)
-    → ((i : ℕ) → i < 16 → slice_index w2 i ≡ slice_index w1 i)
-    → ((i : ℕ) → 16 + (length label + 11) / 8 ≤ i → slice_index w2 i ≡ slice_index w1 i)
+    → StoresText 2 (length key) key w0 w1 → StoresText 16 (length label + 4) (label_text label) w1 w2
     → IsMetadata w2 record { status = Allocated; type_id = type_id; key = zero_padded 112 key; label = label }
 unfolding AreSmall
-allocated_shown type_id key label w0 w1 w2 state fits small_key small_label few_key few_label is_state is_w0 inside
-    below above text_inside text_below text_above =
+allocated_shown type_id key label w0 w1 w2 state fit is_state is_w0 of_key of_label =
+    let few_key = fit.few_key in
+    let few_label = fit.few_label in
+    let below = of_key.below in
+    let text_below = of_label.below in
     let m : Metadata = record { status = Allocated; type_id = type_id; key = zero_padded 112 key; label = label } in
     record {
       lawful = record {
-        type_id = fits;
+        type_id = fit.type_fits;
         key_length = omega (
           arith,
           length-append key (replicate (112 - length key) 0),
@@ -342,9 +353,9 @@ allocated_shown type_id key label w0 w1 w2 state fits small_key small_label few_
               (112 - length key) 0,
         );
         key = All-from_get_or (λ (b : ℕ). b < 256) (zero_padded 112 key) 0
-            (λ i h. omega (arith, slice_index-padded 112 key i, small_key i));
+            (λ i h. omega (arith, slice_index-padded 112 key i, fit.small_key i));
         label_length = few_label;
-        label = All-from_get_or (λ (b : ℕ). b < 256) label 0 (λ i h. small_label i);
+        label = All-from_get_or (λ (b : ℕ). b < 256) label 0 (λ i h. fit.small_label i);
       };
       shows = shows_from w2 m
           (text_below 0 (omega arith) ∙ below 0 (omega arith) ∙ ap (λ l. slice_index l 0) is_w0 ∙ is_state)
@@ -363,8 +374,9 @@ allocated_shown type_id key label w0 w1 w2 state fits small_key small_label few_
     key_word : (k : ℕ) → 2 ≤ k → k < 16 → slice_index w1 k ≡ word_of_bytes key (k - 2)
     key_word k lo hi =
         elim (cases_lt (8 * (k - 2)) (length key)) as (λ _. slice_index w1 k ≡ word_of_bytes key (k - 2)) [
-          | inl less ↦ (let at : 2 + (k - 2) ≡ k = omega arith in sym (ap (slice_index w1) at) ∙ inside (k - 2) less)
-          | inr more ↦ above k (omega arith) ∙ blank k lo ∙ sym (word_of-past key (k - 2) more)
+          | inl less ↦ (let at : 2 + (k - 2) ≡ k = omega arith in sym (ap (slice_index w1) at) ∙ of_key.inside
+              (k - 2) less)
+          | inr more ↦ of_key.above k (omega (arith, fit.few_key)) ∙ blank k lo ∙ sym (word_of-past key (k - 2) more)
         ]
 
     label_word : (k : ℕ) → 16 ≤ k → slice_index w2 k ≡ word_of_bytes (label_text label) (k - 16)
@@ -372,7 +384,8 @@ allocated_shown type_id key label w0 w1 w2 state fits small_key small_label few_
         elim (cases_lt (8 * (k - 16)) (length label + 4)) as (λ _. slice_index w2 k
         ≡ word_of_bytes (label_text label) (k - 16)) [
           | inl less ↦ (let at : 16 + (k - 16) ≡ k = omega arith in sym (ap (slice_index w2) at)
-              ∙ text_inside (k - 16) less)
-          | inr more ↦ text_above k (omega arith) ∙ above k (omega arith) ∙ blank k (omega arith)
+              ∙ of_label.inside (k - 16) less)
+          | inr more ↦ of_label.above k (omega (arith, fit.few_label)) ∙ of_key.above k (omega (arith, fit.few_key))
+              ∙ blank k (omega arith)
               ∙ sym (word_of-past (label_text label) (k - 16) (omega arith))
         ]

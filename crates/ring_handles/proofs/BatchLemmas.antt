@@ -12,7 +12,7 @@ use Rattle.ring_words.specs.declared.read.end.Stop.TheVariants.{Block, Unpublish
 use Rattle.ring_words.specs.Controlled.{GoesOn}
 use Rattle.ring_table.specs.declared.claim.PlacedMessage.{PlacedMessage}
 use Rattle.ring_table.specs.declared.view.View.{View}
-use Rattle.ring_rings.specs.Reading.{Controls, FoundUnsettled, IsNext, Reads, messages_of}
+use Rattle.ring_rings.specs.Reading.{Controls, EndsAt, FoundUnsettled, IsNext, Reads, messages_of}
 use Rattle.ring_handles.specs.declared.batch.Laying.{Laying}
 use Rattle.ring_handles.specs.Batch.{LaysIn, Batch, IsShort, LaidNone, Lays, LeavesOut, ReadBatch, ReadsBatch, TookBatch, TookSome, batch, laid, laid_end, span_in}
 use Rattle.ring_handles.specs.Consuming.{RanOut, TookNone}
@@ -197,16 +197,15 @@ none_came limit v w s t end bytes blocked (inr (inr aborts)) none open_yet =
     let clash : true ≡ false = sym (left aborts.before t aborts.message aborts.aborted).full ∙ open_yet in absurd cc
 
 -- none was laid
-pub laid_none : (limit : ℕ) (v w : View) (s t : Laying) (end : ReadEnd) → s.used ≡ 0 → s.is_full ≡ false
-    → v.consumer.head + end.bytes ≡ w.consumer.head → (end.stopped ≡ Unpublished → FoundUnsettled v w)
-    → Controls Lays limit v w s t end → end.messages ≡ 0 → LaidNone limit end.stopped v w s t
-laid_none limit v w s t end fresh open_yet bytes blocked controls none =
-    let same = none_taken limit v w s t end fresh controls none in
+pub laid_none : (limit : ℕ) (v w : View) (s t : Laying) (end : ReadEnd) → (s.used ≡ 0) × (s.is_full ≡ false)
+    → EndsAt limit v w end → Controls Lays limit v w s t end → end.messages ≡ 0 → LaidNone limit end.stopped v w s t
+laid_none limit v w s t end fresh ends controls none =
+    let same = none_taken limit v w s t end fresh.0 controls none in
     record {
       taken = same.0;
       buffer = same.1;
-      full = none_fits limit v w s t end fresh open_yet controls none;
-      out = none_came limit v w s t end bytes blocked controls none;
+      full = none_fits limit v w s t end fresh.0 fresh.1 controls none;
+      out = none_came limit v w s t end ends.bytes ends.blocked controls none;
     }
 
 -- Two reads as one -----------------------------------------------------------------

@@ -40,21 +40,40 @@ same_place c p q pos e le lt =
           omega arith
     ]
 
--- the index of a word: positions of one window at one index are one
-pub same_index : (c p q : ℕ) → 0 < c → c % 8 ≡ 0 → p % 8 ≡ 0 → q % 8 ≡ 0 → p % c / 8 ≡ q % c / 8 → p ≤ q → q < p + c
-    → p ≡ q
-same_index c p q pos c8 p8 q8 e le lt =
-    let pm = mod_aligned c p c8 p8 in
-    let qm = mod_aligned c q c8 q8 in
-    same_place c p q pos (omega arith) le lt
+-- a lap of a buffer has some bytes, whole words
+pub record IsLap (c : ℕ) : Type 0 where
+  pub some : 0 < c
+  pub whole : c % 8 ≡ 0
 
--- so two positions of a window have two indices
-pub apart : (c base p q : ℕ) → 0 < c → c % 8 ≡ 0 → p % 8 ≡ 0 → q % 8 ≡ 0 → base ≤ p → p < base + c → base ≤ q
-    → q < base + c → p % c / 8 ≡ q % c / 8 → p ≡ q
-apart c base p q pos c8 p8 q8 bp pb bq qb e =
+-- a word lies at p, less than a lap behind base
+pub record IsInLap (c base p : ℕ) : Type 0 where
+  pub whole : p % 8 ≡ 0
+  pub from : base ≤ p
+  pub below : p < base + c
+
+-- n bytes from place on are whole words that do not cross the end of the buffer, and end less than a lap behind base
+pub record LieInLap (c base place n : ℕ) : Type 0 where
+  pub whole : place % 8 ≡ 0
+  pub words : n % 8 ≡ 0
+  pub within : place % c + n ≤ c
+  pub from : base ≤ place
+  pub to : place + n ≤ base + c
+
+-- the index of a word: words of one lap at one index are one
+pub same_index : (c p q : ℕ) → IsLap c → p % 8 ≡ 0 → IsInLap c p q → p % c / 8 ≡ q % c / 8 → p ≡ q
+same_index c p q lap p8 at e =
+    let pm = mod_aligned c p lap.whole p8 in
+    let qm = mod_aligned c q lap.whole at.whole in
+    same_place c p q lap.some (omega arith) at.from at.below
+
+-- so two words of a lap have two indices
+pub apart : (c base p q : ℕ) → IsLap c → IsInLap c base p → IsInLap c base q → p % c / 8 ≡ q % c / 8 → p ≡ q
+apart c base p q lap at there e =
     elim (cases_lt q p) as (λ _. p ≡ q) [
-      | inl h ↦ sym (same_index c q p pos c8 q8 p8 (sym e) (omega arith) (omega arith))
-      | inr h ↦ same_index c p q pos c8 p8 q8 e h (omega arith)
+      | inl h ↦ sym (same_index c q p lap there.whole
+          (record { whole = at.whole; from = omega arith; below = omega (arith, at.below, there.from) }) (sym e))
+      | inr h ↦ same_index c p q lap at.whole
+          (record { whole = there.whole; from = h; below = omega (arith, there.below, at.from) }) e
     ]
 
 -- the index of a word of a record
@@ -65,20 +84,25 @@ index_step c place k c8 p8 h =
     let m8 = mod_aligned c place c8 p8 in
     omega arith
 
--- a position outside a record has its index outside the record's
-pub index_outside : (c base place n p : ℕ) → 0 < c → c % 8 ≡ 0 → place % 8 ≡ 0 → p % 8 ≡ 0 → n % 8 ≡ 0
-    → place % c + n ≤ c → base ≤ place → place + n ≤ base + c → base ≤ p → p < base + c
+-- a word outside a record has its index outside the record's
+pub index_outside : (c base place n p : ℕ) → IsLap c → LieInLap c base place n → IsInLap c base p
     → (p < place) ⊎ (place + n ≤ p) → (p % c / 8 < place % c / 8) ⊎ (place % c / 8 + n / 8 ≤ p % c / 8)
-index_outside c base place n p pos c8 l8 p8 n8 within bl lb bp pb out =
+index_outside c base place n p lap lies there out =
     let i : ℕ = p % c / 8 in
     let at : ℕ = place % c / 8 in
+    let within = lies.within in
     elim (cases_lt i at) as (λ _. (i < at) ⊎ (at + n / 8 ≤ i)) [
       | inl h ↦ inl h
       | inr h ↦ elim (cases_lt i (at + n / 8)) as (λ _. (i < at) ⊎ (at + n / 8 ≤ i)) [
         | inl k ↦
-            let step = index_step c place (i - at) c8 l8 (omega arith) in
-            let same : p ≡ place + 8 * (i - at) = apart c base p (place + 8 * (i - at)) pos c8 p8 (omega arith) bp pb
-            (omega arith) (omega arith) (omega arith) in
+            let step = index_step c place (i - at) lap.whole lies.whole (omega arith) in
+            let inside : IsInLap c base (place + 8 * (i - at)) = record {
+              whole = omega (arith, lies.whole);
+              from = omega (arith, lies.from);
+              below = omega (arith, lies.to, lies.words);
+            } in
+            let same : p ≡ place + 8 * (i - at) = apart c base p (place + 8 * (i - at)) lap there inside
+            (omega arith) in
             elim out as (λ _. (i < at) ⊎ (at + n / 8 ≤ i))
             [ inl o ↦ absurd (omega arith) | inr o ↦ absurd (omega arith) ]
         | inr k ↦ inr k

@@ -18,7 +18,7 @@ use Rattle.ring_table.proofs.Histories.{changed_at_place, changed_at_other}
 use Rattle.ring_rings.specs.declared.ring.Ring.{Ring}
 use Rattle.ring_rings.specs.declared.ring.Producer.{Producer}
 use Rattle.ring_rings.specs.Bodies.{put_at, PutsBytes}
-use Rattle.ring_rings.specs.Seats.{claims_of, view_of, IsOpenClaimOf}
+use Rattle.ring_rings.specs.Seats.{claims_of, view_of, IsNewClaimOf, IsOpenClaimOf}
 use Rattle.ring_loose.specs.Claims.{HoldsNothing, HoldsPlace, IsHeldIfOpen, AreHeld, AreOpen}
 use Rattle.ring_loose.specs.Held.{HasAt}
 use Rattle.ring_loose.proofs.HeldLemmas.{held_inside, in_pushed, in_set}
@@ -156,10 +156,9 @@ module _ {K : Type 0} (ring : Ring K) where
   -- one more claim
   pub one_more_open : (old new : Producer) (claims : List (Option ClaimAt)) (t : ClaimAt) (c : StagedClaim)
       → AreOpen ring old claims → ((s : ClaimAt) → IsOpenClaimOf ring old s → IsOpenClaimOf ring new s)
-      → IsOpenClaimOf ring new t
-      → ((s : ClaimAt) → IsOpenClaimOf ring old s → s.place ≢ t.place) → t.place ≡ c.place
+      → IsNewClaimOf ring old new t → t.place ≡ c.place
       → claims_of new ≡ claims_of old ++ c ∷ [] → AreOpen ring new (claims ++ Some t ∷ [])
-  one_more_open old new claims t c are keeps is_open elsewhere at more =
+  one_more_open old new claims t c are keeps opened at more =
       record {
         open_of = of_new;
         apart = apart;
@@ -172,7 +171,7 @@ module _ {K : Type 0} (ring : Ring K) where
       of_new i s has =
           elim (in_pushed claims t s i has) as (λ _. IsOpenClaimOf ring new s) [
             | inl before ↦ keeps s (are.open_of i s before)
-            | inr last ↦ subst (IsOpenClaimOf ring new) last.1 is_open
+            | inr last ↦ subst (IsOpenClaimOf ring new) last.1 opened.is_open
           ]
 
       apart : (i j : ℕ) (a b : ClaimAt) → i ≢ j → HasAt (claims ++ Some t ∷ []) i a → HasAt (claims ++ Some t ∷ []) j b
@@ -182,12 +181,12 @@ module _ {K : Type 0} (ring : Ring K) where
             | inl first ↦
                 elim (in_pushed claims t b j has_b) as (λ _. a.place ≢ b.place) [
                   | inl second ↦ are.apart i j a b differ first second
-                  | inr last ↦ subst (λ c. a.place ≢ c.place) last.1 (elsewhere a (are.open_of i a first))
+                  | inr last ↦ subst (λ c. a.place ≢ c.place) last.1 (opened.apart a (are.open_of i a first))
                 ]
             | inr last_a ↦
                 elim (in_pushed claims t b j has_b) as (λ _. a.place ≢ b.place) [
                   | inl second ↦ subst (λ c. c.place ≢ b.place) last_a.1
-                      (λ e. elsewhere b (are.open_of j b second) (sym e))
+                      (λ e. opened.apart b (are.open_of j b second) (sym e))
                   | inr last_b ↦ absurd (differ (last_a.0 ∙ sym last_b.0))
                 ]
           ]
@@ -235,13 +234,13 @@ module _ {K : Type 0} (ring : Ring K) where
 
   -- bytes are put into a claim, or refused
   pub put_open : {T E : Type 0} (r : Result T E) (old new : Producer) (claims : List (Option ClaimAt)) (k : ℕ)
-      (t : ClaimAt) (offset : ℕ) (bytes : List ℕ) → OnOk r (PutsBytes t.place offset bytes (view_of old) (view_of new))
-      → OnErr r (new ≡ old)
+      (t : ClaimAt) (offset : ℕ) (bytes : List ℕ)
+      → OnOk r (PutsBytes t.place offset bytes (view_of old) (view_of new)) × OnErr r (new ≡ old)
       → AreOpen ring old claims → HasAt claims k t → IsOpenClaimOf ring new t
       → ((s : ClaimAt) → IsOpenClaimOf ring old s → s.place ≢ t.place → IsOpenClaimOf ring new s)
       → AreOpen ring new claims
-  put_open (Ok x) old new claims k t offset bytes put same are had is_open others =
+  put_open (Ok x) old new claims k t offset bytes done are had is_open others =
       one_put_open old new claims k t offset bytes are had is_open others
-      (ap (λ (v : View). v.producer.claims) put.view)
-  put_open (Err e) old new claims k t offset bytes put same are had is_open others =
-      subst (λ p. AreOpen ring p claims) (sym same) are
+      (ap (λ (v : View). v.producer.claims) done.0.view)
+  put_open (Err e) old new claims k t offset bytes done are had is_open others =
+      subst (λ p. AreOpen ring p claims) (sym done.1) are

@@ -111,14 +111,14 @@ module _ {A : Type 0} where
   -- once what is held at the index i is given up, nothing is held up to there
   pub given_up : {U : Type 0} (r : Option U) (xs ys : List (Option A)) (i : ℕ) (P : Type 0) → IfNone r (ys ≡ xs)
       → OnSome r P → (P → ys ≡ set xs (i + 1 - 1) None) → IfNone r (IsFree xs (i + 1))
-      → i < length xs → AreGone xs i → (length ys ≡ length xs) × AreGone ys (i + 1)
-  given_up None xs ys i P same left took free inside below =
+      → (i < length xs) × AreGone xs i → (length ys ≡ length xs) × AreGone ys (i + 1)
+  given_up None xs ys i P same left took free gone =
       subst (λ l. (length l ≡ length xs) × AreGone l (i + 1)) (sym same)
-      (refl, one_more_gone xs i below (none_at xs i free))
-  given_up (Some u) xs ys i P same left took free inside below =
+      (refl, one_more_gone xs i gone.1 (none_at xs i free))
+  given_up (Some u) xs ys i P same left took free gone =
       let at : i + 1 - 1 ≡ i = omega arith in
       subst (λ l. (length l ≡ length xs) × AreGone l (i + 1)) (sym (took left ∙ ap (λ n. set xs n None) at))
-      (length-set xs i None, set_gone xs i inside below)
+      (length-set xs i None, set_gone xs i gone.0 gone.1)
 
   -- a number from which something was taken
   pub vacated : (x : A) (old : List (Option A)) (number : ℕ) (new : List (Option A)) → Goes x old number new

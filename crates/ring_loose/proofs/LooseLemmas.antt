@@ -114,14 +114,14 @@ same_seats ring old new c claims seats is keeps =
 pub settled_seats : {K : Type 0} (ring : Ring K) (old new : Producer) (c : Consumer)
     (claims left : List (Option ClaimAt)) (n : ℕ) (t : ClaimAt) (s : ClaimState) → s ≢ Open
     → AreSeats ring old c claims → Goes t claims n left
-    → IsProducerOf ring new → KeepsOthers ring t.place old new
+    → IsProducerOf ring new × KeepsOthers ring t.place old new
     → view_of new ≡ with_changed t.place (staged (Stored s)) (view_of old) → AreSeats ring new c left
-settled_seats ring old new c claims left n t s settled seats taken is others change = record {
+settled_seats ring old new c claims left n t s settled seats taken told change = record {
   start = seats.start;
   holder = record {
-    producer = is;
+    producer = told.0;
     held = subst (AreOpen ring new) (sym taken.given_up)
-        (one_less_open ring old new claims (n - 1) t s settled seats.holder.held taken.here.has others.claims
+        (one_less_open ring old new claims (n - 1) t s settled seats.holder.held taken.here.has told.1.claims
         (ap (λ (v : View). v.producer.claims) change));
   };
   alone = ap (λ (v : View). v.producer.shares) change ∙ seats.alone;

@@ -85,13 +85,13 @@ spelled_again t body c s = rw (← s.of_type, ← s.spelled) (command_again c s.
 
 -- ---- why nothing is read
 
-other_type : (t : ℤ) → t ≢ pos 1 → t ≢ pos 2 → t ≢ pos 3 → t ≢ pos 4 → t ≢ pos 5 → (c : Instruction) → type_id_of c ≡ t
-    → ⊥
-other_type t a b d f g (Allocate correlation type_id key label) e = a (sym e)
-other_type t a b d f g (Free correlation id) e = b (sym e)
-other_type t a b d f g (Set correlation id value) e = d (sym e)
-other_type t a b d f g (AllocateOwned correlation type_id owner key label) e = f (sym e)
-other_type t a b d f g (Close correlation owner) e = g (sym e)
+other_type : (t : ℤ) → (t ≢ pos 1) × (t ≢ pos 2) × (t ≢ pos 3) × (t ≢ pos 4) × (t ≢ pos 5) → (c : Instruction)
+    → type_id_of c ≡ t → ⊥
+other_type t none (Allocate correlation type_id key label) e = none.0 (sym e)
+other_type t none (Free correlation id) e = none.1 (sym e)
+other_type t none (Set correlation id value) e = none.2 (sym e)
+other_type t none (AllocateOwned correlation type_id owner key label) e = none.3 (sym e)
+other_type t none (Close correlation owner) e = none.4 (sym e)
 
 command_fault : (t : ℤ) (body : List ℕ) (bad : Bad) → command_of t body ≡ Err bad
     → IsFaultOf (IsCommandType t) body bad
@@ -103,7 +103,8 @@ command_fault t body bad e =
     fault_at type_id_of (AllocateOwned 0 (pos 0) 0 [] []) t body _ _ bad e4 (λ n4 e5.
     fault_at type_id_of (Close 0 0) t body _ _ bad e5 (λ n5 e6.
     let unknown : UnknownType (correlation_of body) ≡ bad = cc in
-    subst (IsFaultOf (IsCommandType t) body) unknown ((λ known. other_type t n1 n2 n3 n4 n5 known.0 known.1), refl))))))
+    subst (IsFaultOf (IsCommandType t) body) unknown
+    ((λ known. other_type t (n1, n2, n3, n4, n5) known.0 known.1), refl))))))
 
 -- ---- the same of what decode_command answers
 

@@ -1,5 +1,5 @@
 -- Why a command is refused, and the number that its reply gives for that.
-use Rattle.std.specs.Prelude.{◌≡◌, ℕ, ℤ, pos, Result, Ok, Err, IfOk, IfErr}
+use Rattle.std.specs.Prelude.{◌≡◌, ℕ, ℤ, pos, Result, Ok, IfOk, IfErr}
 use Rattle.ring_protocol.specs.declared.codes.RefusalCode.{RefusalCode}
 use Rattle.ring_protocol.specs.declared.codes.RefusalCode.TheVariants as of
 use Rattle.ring_protocol.specs.declared.codes.UnknownCode.{UnknownCode}

@@ -72,11 +72,13 @@ last_high C roomy whole d e (r ∷ rs) c le =
     omega (arith, a, b, le, on)
 
 -- a multiple of the capacity behind d is where a transmission begins, if the list reaches it
-pub lap_in : (C : ℕ) → 256 ≤ C → C % 64 ≡ 0 → (L : ℕ) → L % C ≡ 0 → (d e : ℕ) (l : List Record) → Chain C e l → d < L
-    → e ≤ L → L ≤ last_of d l
+pub lap_in : (C : ℕ) → 256 ≤ C → C % 64 ≡ 0 → (L : ℕ) → L % C ≡ 0 → (d e : ℕ) (l : List Record) → Chain C e l
+    → (d < L) × (e ≤ L) × (L ≤ last_of d l)
     → (k : ℕ) × (q : Record) × (get_elem? l k ≡ some q) × ((L ≡ q.before) ⊎ (L ≡ q.place))
-lap_in C roomy whole L lap d e [] c lt low high = absurd (omega (arith, lt, high))
-lap_in C roomy whole L lap d e (r ∷ rs) c lt low high =
+lap_in C roomy whole L lap d e [] c lies = absurd (omega (arith, lies.0, lies.2))
+lap_in C roomy whole L lap d e (r ∷ rs) c lies =
+    let low = lies.1 in
+    let high = lies.2 in
     let b = c.0.fits.begins in
     ⊎_elim (λ before. let inside = lies_inside C e r.before r.place (end r) c.0.fits roomy whole in
     let ends : end r ≤ L = ⊎_elim (λ cut.
@@ -84,7 +86,7 @@ lap_in C roomy whole L lap d e (r ∷ rs) c lt low high =
     let same : r.place + (L - r.place) ≡ L = omega (arith, before) in
     let at : L % C ≡ r.place % C + (L - r.place) = ap (λ y. y % C) (sym same) ∙ step in
     absurd (omega (arith, at, lap, before))) (λ le. le) (cases_lt L (end r)) in
-    let i = lap_in C roomy whole L lap r.place (end r) rs c.1 before ends high in (suc i.0, i.1, i.2, i.3))
+    let i = lap_in C roomy whole L lap r.place (end r) rs c.1 (before, ends, high) in (suc i.0, i.1, i.2, i.3))
     (λ le. ⊎_elim (λ t. let at = t.0 in (0, r, refl, inl (omega (arith, at, b, low, le))))
     (λ t. let at = t.0 in ⊎_elim (λ cut.
     let step = mod_step C r.before (L - r.before) (omega (arith, cut, at, b, low, roomy)) in
@@ -259,13 +261,21 @@ module _ (C : ℕ) (roomy : 256 ≤ C) (narrow : C ≤ 2 ^ 24) (whole : C % 64 �
       length_before C latest tail r.place (8 + length r.message.body) (omega arith) (omega (arith, short))
       (omega (arith, inside)) (omega (arith, ends, so)) ends
 
+  -- the records behind d and e end at latest and tail
+  pub record EndThere (d e : ℕ) (l : List Record) : Type 0 where
+    pub last : last_of d l ≡ latest
+    pub ends : end_of e l ≡ tail
+
   from_record : (e : ℕ) (r : Record) (rs : List Record) → Chain C e (r ∷ rs) → IsKept C words tail r
-      → last_of r.place rs ≡ latest → end_of (end r) rs ≡ tail → tail ≤ r.place + C
-      → (rest : List BoardEntry)
+      → EndThere r.place (end r) rs → (rest : List BoardEntry)
       → ((less : ℕ) → tail ≤ end r + 8 * less → listing C words intent latest tail less (end r) ≡ rest)
-      → (m : ℕ) → tail ≤ r.place + 8 * m
+      → (m : ℕ) → (tail ≤ r.place + C) × (tail ≤ r.place + 8 * m)
       → listing C words intent latest tail m r.place ≡ Ok (record_of C intent r) ∷ rest
-  from_record e r rs c kept la en near rest behind m enough =
+  from_record e r rs c kept there rest behind m bounds =
+      let la = there.last in
+      let en = there.ends in
+      let near = bounds.0 in
+      let enough = bounds.1 in
       let so = c.0.fits.some_room in let up = chain_rises C roomy whole (end r) rs c.1 in
       let less = some_suc m (omega (arith, enough, so, up, en)) in let is = less.1 in
       ap (λ x. listing C words intent latest tail x r.place) is
@@ -278,21 +288,25 @@ module _ (C : ℕ) (roomy : 256 ≤ C) (narrow : C ≤ 2 ^ 24) (whole : C % 64 �
   abbrev told : List BoardRecord → List BoardEntry
   told rs = ok_records rs
 
-  from_begin : (d e : ℕ) (l : List Record) → Chain C e l → AreKept C words tail l → last_of d l ≡ latest
-      → end_of e l ≡ tail → tail ≤ e + C → (m : ℕ) → tail ≤ e + 8 * m
+  from_begin : (d e : ℕ) (l : List Record) → Chain C e l → AreKept C words tail l → EndThere d e l → tail ≤ e + C
+      → (m : ℕ) → tail ≤ e + 8 * m
       → listing C words intent latest tail m e ≡ told (records_of C intent l)
-  from_begin d e [] c kept la en near m enough =
+  from_begin d e [] c kept there near m enough =
+      let en = there.ends in
       listing_ends (λ (x : BoardRecord). x.length) (entry_at C words intent latest tail) tail m e (omega (arith, en))
-  from_begin d e (r ∷ rs) c kept la en near m enough =
+  from_begin d e (r ∷ rs) c kept there near m enough =
+      let la = there.last in
+      let en = there.ends in
+      let behind : EndThere r.place (end r) rs = record { last = la; ends = en } in
       let f = c.0.fits in let b = f.begins in let so = f.some_room in
       let a = lies_after C e r.before r.place (end r) f roomy whole in
       let up = chain_rises C roomy whole (end r) rs c.1 in
       let high = last_high C roomy whole r.place (end r) rs c.1 (omega (arith, so)) in
       let on : (k : ℕ) → tail ≤ r.place + 8 * k
       → listing C words intent latest tail k r.place ≡ Ok (record_of C intent r) ∷ told (records_of C intent rs) =
-      from_record e r rs c (kept 0 r refl) la en (omega (arith, near, a, b)) (told (records_of C intent rs))
-      (λ k much. from_begin r.place (end r) rs c.1 (λ j q at. kept (suc j) q at) la en
-      (omega (arith, near, a, b, so)) k much) in
+      λ k much. from_record e r rs c (kept 0 r refl) behind (told (records_of C intent rs))
+      (λ less far. from_begin r.place (end r) rs c.1 (λ j q at. kept (suc j) q at) behind
+      (omega (arith, near, a, b, so)) less far) k (omega (arith, near, a, b), much) in
       ⊎_elim (λ pads. let less = some_suc m (omega (arith, enough, so, up, en, a, b)) in let is = less.1 in
       let eight = pad_some e r c.0 pads in let p8 = eight.1 in let above = eight.0 in
       let pad_end : r.before + up_to_eight (r.place - r.before) ≡ r.place = omega (arith, p8, pads) in
@@ -311,13 +325,17 @@ module _ (C : ℕ) (roomy : 256 ≤ C) (narrow : C ≤ 2 ^ 24) (whole : C % 64 �
       (cases_lt r.before r.place)
 
   -- from where one of them begins
-  pub from_one : (p d e : ℕ) (l : List Record) → Chain C e l → AreKept C words tail l → last_of d l ≡ latest
-      → end_of e l ≡ tail → tail ≤ p + C
-      → (k : ℕ) (q : Record) → get_elem? l k ≡ some q → (p ≡ q.before) ⊎ (p ≡ q.place)
-      → (m : ℕ) → tail ≤ p + 8 * m
+  pub from_one : (p d e : ℕ) (l : List Record) → Chain C e l → AreKept C words tail l → EndThere d e l
+      → (k : ℕ) (q : Record) → (get_elem? l k ≡ some q) × ((p ≡ q.before) ⊎ (p ≡ q.place))
+      → (m : ℕ) → (tail ≤ p + C) × (tail ≤ p + 8 * m)
       → listing C words intent latest tail m p ≡ told (from_on p (records_of C intent l))
-  from_one p d e [] c kept la en near k q on at m enough = absurd (some-ne-none q (sym on))
-  from_one p d e (r ∷ rs) c kept la en near zero q on at m enough =
+  from_one p d e [] c kept there k q begins m bounds = absurd (some-ne-none q (sym begins.0))
+  from_one p d e (r ∷ rs) c kept there zero q begins m bounds =
+      let on = begins.0 in
+      let at = begins.1 in
+      let near = bounds.0 in
+      let enough = bounds.1 in
+      let behind : EndThere r.place (end r) rs = record { last = there.last; ends = there.ends } in
       let f = c.0.fits in let b = f.begins in let so = f.some_room in
       let a = lies_after C e r.before r.place (end r) f roomy whole in
       let here = subst (λ (x : Record). (p ≡ x.before) ⊎ (p ≡ x.place)) (sym (some-injective r q on)) at in
@@ -325,13 +343,13 @@ module _ (C : ℕ) (roomy : 256 ≤ C) (narrow : C ≤ 2 ^ 24) (whole : C % 64 �
       ≡ told (from_on p (records_of C intent (r ∷ rs))) =
       λ is. let first : p ≡ e = omega (arith, is, b) in
       ap (listing C words intent latest tail m) first
-      ∙ from_begin d e (r ∷ rs) c kept la en (omega (arith, near, first)) m (omega (arith, enough, first))
+      ∙ from_begin d e (r ∷ rs) c kept there (omega (arith, near, first)) m (omega (arith, enough, first))
       ∙ sym (ap told (from_on_all C intent roomy whole p e (r ∷ rs) c (omega (arith, first)))) in
       ⊎_elim whole_list
       (λ is. ⊎_elim (λ pads. ap (listing C words intent latest tail m) is
-      ∙ from_record e r rs c (kept 0 r refl) la en (omega (arith, near, is)) (told (records_of C intent rs))
-      (λ j much. from_begin r.place (end r) rs c.1 (λ i x at'. kept (suc i) x at') la en
-      (omega (arith, near, is, so)) j much) m (omega (arith, enough, is))
+      ∙ from_record e r rs c (kept 0 r refl) behind (told (records_of C intent rs))
+      (λ j much. from_begin r.place (end r) rs c.1 (λ i x at'. kept (suc i) x at') behind
+      (omega (arith, near, is, so)) j much) m (omega (arith, near, is), omega (arith, enough, is))
       ∙ sym (ap told (ap (from_on p) (padded C intent r rs pads)
       ∙ left_out C intent p (pad_of C intent r) (record_of C intent r ∷ records_of C intent rs)
       (omega (arith, is, pads))
@@ -340,12 +358,15 @@ module _ (C : ℕ) (roomy : 256 ≤ C) (narrow : C ≤ 2 ^ 24) (whole : C % 64 �
       (from_on_all C intent roomy whole p (end r) rs c.1 (omega (arith, is, so))))))
       (λ same. whole_list (omega (arith, is, same, a))) (cases_lt r.before r.place))
       here
-  from_one p d e (r ∷ rs) c kept la en near (suc k) q on at m enough =
+  from_one p d e (r ∷ rs) c kept there (suc k) q begins m bounds =
+      let on = begins.0 in
+      let at = begins.1 in
       let f = c.0.fits in let so = f.some_room in
       let a = lies_after C e r.before r.place (end r) f roomy whole in
       let i = chain_at C roomy whole (end r) rs c.1 k q on in let low = i.1 in
       let after = lies_after C q.before q.before q.place (end q) i.0.fits roomy whole in
       let far : end r ≤ p = ⊎_elim (λ is. let z : end r ≤ p = omega (arith, is, low) in z)
       (λ is. let z : end r ≤ p = omega (arith, is, low, after) in z) at in
-      from_one p r.place (end r) rs c.1 (λ j x there. kept (suc j) x there) la en near k q on at m enough
+      from_one p r.place (end r) rs c.1 (λ j x has. kept (suc j) x has)
+      (record { last = there.last; ends = there.ends }) k q (on, at) m bounds
       ∙ sym (ap told (all_out C intent p r rs (omega (arith, far, a, so)) (omega (arith, far, so))))

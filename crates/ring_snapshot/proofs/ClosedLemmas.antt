@@ -23,11 +23,12 @@ use Rattle.ring_snapshot.proofs.StepLemmas.{listing_ends}
 use Rattle.ring_snapshot.proofs.StoredLemmas.{padding_stands, header_stands, body_stands}
 use Rattle.ring_snapshot.proofs.BoardLemmas.{Fit, last_fits, last_high, lap_in, from_on_none, AreKept, from_one}
 
-positions_none : (C intent tail latest : ℕ) → intent % 8 ≡ 0 → tail % 8 ≡ 0 → latest % 8 ≡ 0 → latest ≤ tail
+positions_none : (C intent tail latest : ℕ) → (intent % 8 ≡ 0) × (tail % 8 ≡ 0) × (latest % 8 ≡ 0) → latest ≤ tail
     → tail ≤ intent → tail ≤ latest + room C latest → intent ≤ latest + C
     → positions_finding C intent tail latest ≡ None
-positions_none C intent tail latest a b c d e f g =
-    let x = eq-eqb (intent % 8) 0 a in let y = eq-eqb (tail % 8) 0 b in let z = eq-eqb (latest % 8) 0 c in
+positions_none C intent tail latest whole d e f g =
+    let x = eq-eqb (intent % 8) 0 whole.0 in let y = eq-eqb (tail % 8) 0 whole.1 in
+    let z = eq-eqb (latest % 8) 0 whole.2 in
     cond-false _ _ _ (λ i. not (x i) || not (y i) || not (z i))
     ∙ cond-false _ _ _ (le-ltb tail latest d)
     ∙ cond-false _ _ _ (le-ltb intent tail e)
@@ -65,7 +66,7 @@ module _ (C : ℕ) (ok : IsBoardCapacity C) (words : List ℕ) (sent : List Reco
       let in_buffer = mod_below (last_of start sent) C (omega (arith, least)) in
       let far : end_of start sent ≤ last_of start sent + room C (last_of start sent) =
       omega (arith, low, inside, in_buffer) in
-      positions_none C intent tail latest (omega (arith, it, e8)) (omega (arith, en, e8)) (omega (arith, la, l8))
+      positions_none C intent tail latest (omega (arith, it, e8), omega (arith, en, e8), omega (arith, la, l8))
       (omega (arith, la, en, low)) (omega (arith, it, en))
       (far_at far)
       (omega (arith, it, la, low, inside))
@@ -129,7 +130,7 @@ module _ (C : ℕ) (ok : IsBoardCapacity C) (words : List ℕ) (sent : List Reco
         ∙ sym (ap told (from_on_none C intent ok.least whole p start sent closed.places
         (let en = closed.tail in omega (arith, at, en)))))
         (λ t. from_one C ok.least ok.most whole words intent latest tail p start start sent closed.places kept
-        (sym closed.latest) (sym closed.tail) near t.0 t.1 t.2 t.3 m enough)
+        (record { last = sym closed.latest; ends = sym closed.tail }) t.0 t.1 (t.2, t.3) m (near, enough))
         begins
 
     -- the listing of positions that were read there
@@ -168,8 +169,8 @@ module _ (C : ℕ) (ok : IsBoardCapacity C) (words : List ℕ) (sent : List Reco
           let low = last_high C ok.least whole start start (r ∷ rs) c (omega arith) in
           let reaches : start ≤ lap_of C latest = lap_reaches start latest h.1 (omega (arith, la, low)) in
           let b = c.0.fits.begins in
-          ⊎_elim (λ lt. inr (lap_in C ok.least whole (lap_of C latest) (lap_whole latest) start start (r ∷ rs) c lt
-          reaches (omega (arith, la))))
+          ⊎_elim (λ lt. inr (lap_in C ok.least whole (lap_of C latest) (lap_whole latest) start start (r ∷ rs) c
+          (lt, reaches, omega (arith, la))))
           (λ le. inr (0, r, refl, inl (omega (arith, le, reaches, b))))
           (cases_lt start (lap_of C latest))
 

@@ -21,11 +21,11 @@ pub listing_step : {R F : Type 0} (length_of : R → ℕ) (entry : ℕ → Resul
 listing_step length_of entry tail m at lt = cond-false _ _ _ (lt-leb tail at lt)
 
 pub next_ok : {R F : Type 0} (length_of : R → ℕ) (entry : ℕ → Result R F) (tail m at : ℕ) (x : Result R F) (r : R)
-    (n span : ℕ) → 0 < m → at < tail → x ≡ entry at → x ≡ Ok r → n ≡ length_of r → span ≡ up_to_eight n
+    (n span : ℕ) → (0 < m) × (at < tail) → x ≡ entry at → x ≡ Ok r → n ≡ length_of r → span ≡ up_to_eight n
     → listed_by length_of entry tail m at ≡ x ∷ listed_by length_of entry tail (m - 1) (at + span)
-next_ok length_of entry tail zero at x r n span some lt is ok long wide = absurd (omega (arith, some))
-next_ok length_of entry tail (suc m) at x r n span some lt is ok long wide =
-    listing_step length_of entry tail m at lt
+next_ok length_of entry tail zero at x r n span before is ok long wide = absurd (omega (arith, before.0))
+next_ok length_of entry tail (suc m) at x r n span before is ok long wide =
+    listing_step length_of entry tail m at before.1
     ∙ ap (followed length_of (listed_by length_of entry tail m) at) (sym is ∙ ok)
     ∙ ap (λ k. Ok r ∷ listed_by length_of entry tail k (at + up_to_eight (length_of r)))
     (let e : m ≡ suc m - 1 = omega arith in e)

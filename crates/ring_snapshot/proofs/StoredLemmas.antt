@@ -131,8 +131,10 @@ module _ (C : ℕ) (roomy : 256 ≤ C) (whole : C % 64 ≡ 0) where
         let b = all_bounds e sent closed.places i.0 x i.1 in
         ⊎_elim (λ n. let y = n.0 in let h = n.1 in let s = h.stored in
         let by = all_bounds e sent closed.places s.0 y s.1 in let high = by.1 in
-        let same : x.0 ≡ y.0 = same_index C x.0 y.0 (omega (arith, roomy)) (omega (arith, whole)) b.2 by.2
-        (sym h.at_index) (h.greatest i.0 x i.1 refl) (omega (arith, high, near)) in
+        let same : x.0 ≡ y.0 = same_index C x.0 y.0
+        (record { some = omega (arith, roomy); whole = omega (arith, whole) }) b.2
+        (record { whole = by.2; from = h.greatest i.0 x i.1 refl; below = omega (arith, high, near) })
+        (sym h.at_index) in
         h.word ∙ all_are e sent closed.places s.0 y s.1 ∙ ap (sent_at sent) (sym same)
         ∙ sym (all_are e sent closed.places i.0 x i.1))
         (λ none. absurd (none.0 i.0 x i.1 refl))

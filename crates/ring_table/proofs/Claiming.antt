@@ -54,45 +54,52 @@ module _ (C start : ℕ) where
         drawn = r.drawn;
         memory = memory_appended C start r.lawful words r.consumer h r.memory x new
             (record {
-              from = old_is;
-              place = ap (λ z. next_place C old (span z)) (sym long)
-                  ∙ ap (λ e. next_place C e (span (length c.message.body))) old_is;
-              message = claimable.message;
+              lies = record {
+                from = old_is;
+                place = ap (λ z. next_place C old (span z)) (sym long)
+                    ∙ ap (λ e. next_place C e (span (length c.message.body))) old_is;
+                message = claimable.message;
+              };
+              ends = new_is;
+              silent = λ p p8. staged_word-fresh C old type_id n p;
             })
-            new_is limit (omega arith) (λ p p8. staged_word-fresh C old type_id n p);
-        service = service_elsewhere C start r.lawful words r.consumer r.drawn r.service (tail_index C) new
-            (λ e. omega arith) (λ e. omega arith) (λ e. omega arith) (λ j un. un.not_tail) r.consumer
-            (omega arith) refl;
+            limit (omega arith);
+        service = service_elsewhere C start r.lawful words r.consumer r.drawn r.service (tail_index C) new (record {
+          cache = λ e. omega arith;
+          correlation = λ e. omega arith;
+          heartbeat = λ e. omega arith;
+          unnamed = λ j un. un.not_tail;
+        }) r.consumer (record { rises = omega arith; same = refl });
         seated = reseated top h r.reader r.consumer r.drawn views r.seated id v at
-            (staged_end start (all_of (h ++ x ∷ []))) (h ++ x ∷ []) r.consumer r.drawn w
-            (record {
-              claims = ap (λ l. l ++ c ∷ []) k.claims ∙ sym (owned_by-append id h c);
-              tail_seen = subst (λ z. new ≤ z) (sym tops) (omega arith);
-              head_seen = k.head_seen;
-              idle = λ none. absurd (omega arith);
-              served = k.served;
-              consumes = k.consumes;
-            })
-            (λ j u ne f. record {
-              claims = f.claims ∙ sym (owned_by-append_other j id h c ne);
-              tail_seen = (let seen : u.producer.seen_tail ≤ top =
-                  f.tail_seen in subst (λ z. u.producer.seen_tail ≤ z) (sym tops) (omega arith));
-              head_seen = f.head_seen;
-              idle = f.idle;
-              served = f.served;
-              consumes = f.consumes;
-            })
-            refl
-            (λ j ne. owned_by-append_other j id h c ne)
-            (record {
-              seat = id;
-              view = w;
-              there = set_here views id w (at_below views id v at);
-              rich = rich;
-              sees =
-                  sym tops;
-            })
-            (λ x. refl);
+            (staged_end start (all_of (h ++ x ∷ []))) (h ++ x ∷ []) r.consumer r.drawn w (record {
+              own = record {
+                claims = ap (λ l. l ++ c ∷ []) k.claims ∙ sym (owned_by-append id h c);
+                tail_seen = subst (λ z. new ≤ z) (sym tops) (omega arith);
+                head_seen = k.head_seen;
+                idle = λ none. absurd (omega arith);
+                served = k.served;
+                consumes = k.consumes;
+              };
+              others = λ j u ne f. record {
+                claims = f.claims ∙ sym (owned_by-append_other j id h c ne);
+                tail_seen = (let seen : u.producer.seen_tail ≤ top =
+                    f.tail_seen in subst (λ z. u.producer.seen_tail ≤ z) (sym tops) (omega arith));
+                head_seen = f.head_seen;
+                idle = f.idle;
+                served = f.served;
+                consumes = f.consumes;
+              };
+              shares = refl;
+              outside = λ j ne. owned_by-append_other j id h c ne;
+              latest = record {
+                seat = id;
+                view = w;
+                there = set_here views id w (at_below views id v at);
+                rich = rich;
+                sees = sym tops;
+              };
+              drawn = λ x. refl;
+            });
       }
 
   pub moves_tail : (slots id : ℕ) (me : Mine) → me.0.capacity ≡ C → (old new : ℕ) (wanted : Wanted)

@@ -111,11 +111,18 @@ module _ (C start : ℕ) where
             ∙ sym (ap (λ b. cond b 0 (staged_word_at (all_of h) p))
             (lt-ltb p (r.consumer.cleared + 8) (omega arith))))
             (λ ne. get_or-set_other s.words (index C q) (index C p) 0 0
-            (λ e. ne (one_position C start law head p q p8 (omega arith) p0 p1 (omega arith) (omega arith) e))
+            (λ e. ne (one_position C start law head p q (record { whole = p8; from = p0; below = p1 })
+            (record { whole = omega arith; from = omega arith; below = omega arith }) e))
             ∙ m.shows p p8 p0 p1 ∙ same_shown p r.consumer.cleared (staged_word_at (all_of h) p)
             (λ x. omega arith));
-      }) (omega arith) refl (λ e. omega arith) (λ e. omega arith) (λ e. omega arith)
-      (λ j un. not_inside C start law q j un.behind))
+      })
+      (record {
+        cache = λ e. omega arith;
+        correlation = λ e. omega arith;
+        heartbeat = λ e. omega arith;
+        unnamed = λ j un. not_inside C start law q j un.behind;
+      })
+      (record { rises = omega arith; same = refl }))
 
   pub clears_word : (slots id : ℕ) (me : Mine) → me.0.consumes ≡ true → me.0.consumer.cleared < me.0.consumer.scan
       → Allows (Ok C start) slots id me (index C me.0.consumer.cleared) (λ _. 0)
@@ -210,7 +217,14 @@ module _ (C start : ℕ) where
             ∙ sym (nothing_behind C start (all_of h) p m.placed (omega arith)))
             (cases_lt p (head + C))
             ∙ sym (ap (λ b. cond b 0 (staged_word_at (all_of h) p)) (le-ltb p q p0));
-      }) (omega arith) refl (λ e. omega arith) (λ e. omega arith) (λ e. omega arith) (λ j un. un.not_head))
+      })
+      (record {
+        cache = λ e. omega arith;
+        correlation = λ e. omega arith;
+        heartbeat = λ e. omega arith;
+        unnamed = λ j un. un.not_head;
+      })
+      (record { rises = omega arith; same = refl }))
 
   pub stores_head : (slots id : ℕ) (me : Mine) (head : ℕ) → me.0.consumes ≡ true → me.0.consumer.scan ≡ head
       → me.0.consumer.cleared ≡ head

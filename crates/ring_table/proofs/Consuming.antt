@@ -26,7 +26,7 @@ use Rattle.ring_table.proofs.ReachLemmas.{reach_bounds, reach_aligned, shows_bod
 use Rattle.ring_table.proofs.HeaderReads.{low_half, high_half, Leads, leads}
 use Rattle.ring_table.proofs.Sums.{set_own}
 use Rattle.ring_table.proofs.Seating.{sees_top_after, reseated}
-use Rattle.ring_table.proofs.Memories.{index_inside, not_inside, service_elsewhere}
+use Rattle.ring_table.proofs.Memories.{GoesOn, IsNoService, index_inside, not_inside, service_elsewhere}
 use Rattle.ring_table.proofs.Loading.{Ok, May, sees}
 
 -- ---- headers
@@ -47,11 +47,11 @@ module _ (C start : ℕ) where
   -- the consumer steps: one word changes, and it is where `now` says
   pub consumed : (words : List ℕ) (views : List View) (r : Kept C start words views) (id : ℕ) (v : View)
       → get_elem? views id ≡ some v → v.consumes ≡ true → (i value : ℕ) (now : ConsumerView) (log : List (ℕ × ℕ))
-      → IsMemory C start (set words i value) (all_of r.hist) now → r.consumer.head ≤ now.head
-      → now.heartbeats ≡ r.consumer.heartbeats → i ≢ head_cache_index C → i ≢ correlation_index C
-      → i ≢ heartbeat_index C → ((j : ℕ) → IsUnnamed C j → j ≢ i)
+      → IsMemory C start (set words i value) (all_of r.hist) now → IsNoService C i → GoesOn r.consumer now
       → Kept C start (set words i value) (set views id (record v { consumer = now; log = log }))
-  consumed words views r id v at consumes i value now log m rises beats not_cache not_correlation not_heartbeat named =
+  consumed words views r id v at consumes i value now log m away on =
+      let rises = on.rises in
+      let beats = on.same in
       let top : ℕ = staged_end start (all_of r.hist) in
       let own = r.seated.each id v at in
       let mine = own.consumes consumes in
@@ -62,31 +62,33 @@ module _ (C start : ℕ) where
         consumer = now;
         drawn = r.drawn;
         memory = m;
-        service = service_elsewhere C start r.lawful words r.consumer r.drawn r.service i value not_cache
-            not_correlation not_heartbeat named now rises beats;
+        service = service_elsewhere C start r.lawful words r.consumer r.drawn r.service i value away now on;
         seated = reseated top r.hist r.reader r.consumer r.drawn views r.seated id v at top r.hist now r.drawn
-            (record v { consumer = now; log = log })
-            (record {
-              claims = own.claims;
-              tail_seen = own.tail_seen;
-              head_seen = (let seen = own.head_seen in omega arith);
-              idle = own.idle;
-              served = subst (λ l. AreServed r.drawn l (v.producer.service ∷ v.producer.joined)) (sym beats) own.served;
-              consumes = λ _. (mine.0, refl);
-            })
-            (λ j u ne k. record {
-              claims = k.claims;
-              tail_seen = k.tail_seen;
-              head_seen = (let seen = k.head_seen in omega arith);
-              idle = k.idle;
-              served = subst (λ l. AreServed r.drawn l (u.producer.service ∷ u.producer.joined)) (sym beats) k.served;
-              consumes = λ z. absurd (ne ((k.consumes z).0 ∙ sym mine.0));
-            })
-            refl
-            (λ j ne. refl)
-            (sees_top_after views id v (record v { consumer = now; log = log }) top top at (λ rich. rich) refl
-            (λ e. e) r.seated.latest)
-            (λ x. refl);
+            (record v { consumer = now; log = log }) (record {
+              own = record {
+                claims = own.claims;
+                tail_seen = own.tail_seen;
+                head_seen = (let seen = own.head_seen in omega arith);
+                idle = own.idle;
+                served = subst (λ l. AreServed r.drawn l (v.producer.service ∷ v.producer.joined)) (sym beats)
+                    own.served;
+                consumes = λ _. (mine.0, refl);
+              };
+              others = λ j u ne k. record {
+                claims = k.claims;
+                tail_seen = k.tail_seen;
+                head_seen = (let seen = k.head_seen in omega arith);
+                idle = k.idle;
+                served = subst (λ l. AreServed r.drawn l (u.producer.service ∷ u.producer.joined)) (sym beats)
+                    k.served;
+                consumes = λ z. absurd (ne ((k.consumes z).0 ∙ sym mine.0));
+              };
+              shares = refl;
+              outside = λ j ne. refl;
+              latest = sees_top_after views id v (record v { consumer = now; log = log }) top top at (λ rich. rich) refl
+                  (λ e. e) r.seated.latest;
+              drawn = λ x. refl;
+            });
       }
 
   -- the read comes to q
@@ -116,17 +118,25 @@ module _ (C start : ℕ) where
         clears_to = le;
         clears_words = m.clears_words;
         shows = m.shows;
-      })) (omega arith) refl (λ e. omega arith) (λ e. omega arith) (λ e. omega arith)
-      (λ j un. not_inside C start r.lawful p j un.behind))
+      }))
+      (record {
+        cache = λ e. omega arith;
+        correlation = λ e. omega arith;
+        heartbeat = λ e. omega arith;
+        unnamed = λ j un. not_inside C start r.lawful p j un.behind;
+      })
+      (record { rises = omega arith; same = refl }))
 
   -- a load of a header at the position q, which the head or the read has reached with the messages got
   loads_header : (q : ℕ) (got : List PlacedMessage) (slots id : ℕ) (me : Mine) → me.0.capacity ≡ C
       → me.0.consumes ≡ true → (s : State Wanted View) (r : Ok C start s) → get_elem? s.views id ≡ some me.0
-      → Reaches q start (all_of r.hist) got → r.consumer.cleared ≤ q → q < r.consumer.head + C
+      → Reaches q start (all_of r.hist) got → (r.consumer.cleared ≤ q) × (q < r.consumer.head + C)
       → May C start s (index C q) id me (λ me'. (me'.1 ≡ me.1)
       × LoadsHeader me.0.capacity q got me.0 (slice_index s.words (index C q)) me'.0
       × Logs (index C q) (slice_index s.words (index C q)) me.0 me'.0) (slice_index s.words (index C q))
-  loads_header q got slots id me cap consumes s r at reaches le near =
+  loads_header q got slots id me cap consumes s r at reaches ahead =
+      let le = ahead.0 in
+      let near = ahead.1 in
       let v : View = me.0 in
       let n : ℕ = slice_index s.words (index C q) in
       let low : ℕ = n % 2 ^ 32 in
@@ -166,7 +176,8 @@ module _ (C start : ℕ) where
       (now q got, keeps, tt, scans s r id v at consumes q got reaches le q n, (refl, told, refl)) in step in
       ⊎_elim (λ (lo : 0 < low). ⊎_elim (λ (hi : low < 2 ^ 31).
       let t : Leads C q start (all_of h) got n =
-      leads C q start (all_of h) got n law.capacity start8 m.placed reaches is lo hi in
+      leads C q start (all_of h) got n law.capacity (record { whole = start8; placed = m.placed }) reaches is
+      (record { above = lo; below = hi }) in
       let far : ℕ = q + rounded low in
       let positive = λ (len type_id : ℤ) (fits : FitsSigned w32 len) (le : len ≤ℤ pos 0) (e : n ≡ header len type_id).
       let bits : low ≡ cast_unsigned w32 len = ap (λ k. k % 2 ^ 32) e ∙ low_half len type_id fits in
@@ -232,7 +243,7 @@ module _ (C start : ℕ) where
       let least = r.lawful.capacity.least in
       loads_header me.0.consumer.head me.0.consumer.taken slots id me cap consumes s r at
       (subst (λ (z : ConsumerView). Reaches z.head start (all_of r.hist) z.taken) (sym mine) r.memory.took)
-      (omega arith) (omega arith)
+      (omega arith, omega arith)
 
   pub loads_next : (slots id : ℕ) (me : Mine) → me.0.capacity ≡ C → me.0.consumes ≡ true
       → me.0.consumer.scan < me.0.consumer.head + C
@@ -246,7 +257,7 @@ module _ (C start : ℕ) where
       let to = r.memory.clears_to in
       loads_header me.0.consumer.scan me.0.consumer.got slots id me cap consumes s r at
       (subst (λ (z : ConsumerView). Reaches z.scan start (all_of r.hist) z.got) (sym mine) r.memory.passed)
-      (omega arith) (omega arith)
+      (omega arith, omega arith)
 
   pub loads_body : (slots id i : ℕ) (me : Mine) → me.0.capacity ≡ C → me.0.consumes ≡ true
       → Allows (Ok C start) slots id me i (λ n. n)
@@ -276,8 +287,9 @@ module _ (C start : ℕ) where
           refl,
           λ k msg o has le o8 lt same.
               let p : ℕ = msg.place + 8 + o in
-              let b = shows_body C v.consumer.scan start (all_of h) v.consumer.got k msg o (omega arith)
-              (capacity_aligned C law.capacity) (start_aligned C start law) m.placed reaches has lt in
+              let b = shows_body C v.consumer.scan start (all_of h) v.consumer.got k msg o
+              (record { some = omega arith; whole = capacity_aligned C law.capacity })
+              (record { whole = start_aligned C start law; placed = m.placed }) reaches has lt in
               let below = b.below in
               let place8 = b.aligned in
               ap (λ z. get_or s.words z 0) (sym same ∙ ap (λ z. index z p) cap)

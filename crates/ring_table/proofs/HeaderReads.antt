@@ -14,7 +14,7 @@ use Rattle.ring_layout.proofs.HeaderLemmas.{pattern_below, fits_pos, fits_neg}
 use Rattle.ring_table.specs.Staged.{StagedClaim, PlacedMessage, Stage, Moved, Padded, Stored, claim_of, staged_span, claim_end, masked_padding, masked_record, staged_word, staged_word_at, ArePlaced}
 use Rattle.ring_table.specs.Passing.{IsSettled, placed_message, shown_at, Reaches}
 use Rattle.ring_table.specs.ConsumerSteps.{rounded}
-use Rattle.ring_table.proofs.StagedPlaces.{claim_aligned, capacity_aligned}
+use Rattle.ring_table.proofs.StagedPlaces.{StandFrom, claim_aligned, capacity_aligned}
 use Rattle.ring_table.proofs.StagedWords.{staged_word-header, staged_word-padding}
 use Rattle.ring_table.proofs.ReachLemmas.{reach_bounds}
 
@@ -52,22 +52,40 @@ at_end : (e : ℕ) (cs : List StagedClaim) → Reaches e e cs []
 at_end e [] = (refl, refl)
 at_end e (c ∷ cs) = inl (refl, refl)
 
+-- the length in a header is positive
+pub record HasLength (w : ℕ) : Type 0 where
+  pub above : 0 < w % 2 ^ 32
+  pub below : w % 2 ^ 32 < 2 ^ 31
+
+-- w is the header at the place s of a claim at the stage t
+record IsHeaderAt (c : StagedClaim) (t : Stage) (s w : ℕ) : Type 0 where
+  pub place : s ≡ c.place
+  pub stage : c.stage ≡ t
+  pub word : w ≡ masked_record t
+      (header_of (claim_of (record { from = c.from; place = c.place; message = c.message; stage = t })))
+
 -- the header at the place of the claim
 at_header : (C s e : ℕ) (c : StagedClaim) (cs : List StagedClaim) (t : Stage) (w : ℕ) → C ≤ 2 ^ 24
-    → IsMessage C c.message → s % C + staged_span c ≤ C → s ≡ c.place → c.stage ≡ t
-    → w ≡ masked_record t
-    (header_of (claim_of (record { from = c.from; place = c.place; message = c.message; stage = t })))
-    → 0 < w % 2 ^ 32 → w % 2 ^ 32 < 2 ^ 31 → Leads C s e (c ∷ cs) [] w
-at_header C s e c cs Moved w big m inner at is eq lo hi = absurd (omega arith)
-at_header C s e c cs Padded w big m inner at is eq lo hi = absurd (omega arith)
-at_header C s e c cs (Stored Open) w big m inner at is eq lo hi =
+    → IsMessage C c.message → s % C + staged_span c ≤ C → IsHeaderAt c t s w → HasLength w → Leads C s e (c ∷ cs) [] w
+at_header C s e c cs Moved w big m inner h plus =
+    let eq = h.word in let lo = plus.above in absurd (omega arith)
+at_header C s e c cs Padded w big m inner h plus =
+    let eq = h.word in let lo = plus.above in absurd (omega arith)
+at_header C s e c cs (Stored Open) w big m inner h plus =
+    let eq = h.word in
+    let hi = plus.below in
     let n : ℕ = length c.message.body in
     let short : n ≤ C / 8 = m.short in
     let low : w % 2 ^ 32 ≡ cast_unsigned w32 (neg_ℤ (pos (8 + n))) =
     ap (λ k. k % 2 ^ 32) eq ∙ low_half (neg_ℤ (pos (8 + n))) c.message.type_id (fits_neg (8 + n) (omega arith)) in
     let far = negated_above (8 + n) (omega arith) (omega arith) in
     absurd (omega arith)
-at_header C s e c cs (Stored Committed) w big m inner at is eq lo hi =
+at_header C s e c cs (Stored Committed) w big m inner h plus =
+    let at = h.place in
+    let is = h.stage in
+    let eq = h.word in
+    let lo = plus.above in
+    let hi = plus.below in
     let n : ℕ = length c.message.body in
     let short : n ≤ C / 8 = m.short in
     let fits = fits_pos (8 + n) (omega arith) in
@@ -98,7 +116,12 @@ at_header C s e c cs (Stored Committed) w big m inner at is eq lo hi =
       };
       within = omega arith;
     }
-at_header C s e c cs (Stored Aborted) w big m inner at is eq lo hi =
+at_header C s e c cs (Stored Aborted) w big m inner h plus =
+    let at = h.place in
+    let is = h.stage in
+    let eq = h.word in
+    let lo = plus.above in
+    let hi = plus.below in
     let n : ℕ = length c.message.body in
     let short : n ≤ C / 8 = m.short in
     let fits = fits_pos (8 + n) (omega arith) in
@@ -120,13 +143,40 @@ at_header C s e c cs (Stored Aborted) w big m inner at is eq lo hi =
       within = omega arith;
     }
 
+-- the padding from s up to the place of the claim is whole words, and does not cross the end of the buffer
+record IsPaddingAt (C : ℕ) (c : StagedClaim) (s : ℕ) : Type 0 where
+  pub from : s ≡ c.from
+  pub some : s < c.place
+  pub near : c.place ≤ s + C
+  pub whole : (c.place - s) % 8 ≡ 0
+  pub inner : s % C + (c.place - s) ≤ C
+
 -- the padding's header before the claim
-at_padding : (C s e : ℕ) (c : StagedClaim) (cs : List StagedClaim) (w : ℕ) → C ≤ 2 ^ 24 → s ≡ c.from → s < c.place
-    → c.place ≤ s + C → (c.place - s) % 8 ≡ 0 → s % C + (c.place - s) ≤ C
-    → w ≡ masked_padding c.stage (padding_header (c.place - c.from)) → 0 < w % 2 ^ 32 → w % 2 ^ 32 < 2 ^ 31
-    → Leads C s e (c ∷ cs) [] w
-at_padding C s e c cs w big at lt near eight inner eq lo hi = by_stage c.stage refl eq
+at_padding : (C s e : ℕ) (c : StagedClaim) (cs : List StagedClaim) (w : ℕ) → C ≤ 2 ^ 24 → IsPaddingAt C c s
+    → w ≡ masked_padding c.stage (padding_header (c.place - c.from)) → HasLength w → Leads C s e (c ∷ cs) [] w
+at_padding C s e c cs w big pad eq plus = by_stage c.stage refl eq
   where
+    at : s ≡ c.from
+    at = pad.from
+
+    lt : s < c.place
+    lt = pad.some
+
+    near : c.place ≤ s + C
+    near = pad.near
+
+    eight : (c.place - s) % 8 ≡ 0
+    eight = pad.whole
+
+    inner : s % C + (c.place - s) ≤ C
+    inner = pad.inner
+
+    lo : 0 < w % 2 ^ 32
+    lo = plus.above
+
+    hi : w % 2 ^ 32 < 2 ^ 31
+    hi = plus.below
+
     stored : w ≡ padding_header (c.place - c.from) → c.stage ≢ Moved → Leads C s e (c ∷ cs) [] w
     stored is moved =
         let n : ℕ = c.place - c.from in
@@ -150,11 +200,15 @@ at_padding C s e c cs w big at lt near eight inner eq lo hi = by_stage c.stage r
 here : (c : StagedClaim) (cs : List StagedClaim) (p : ℕ) → p < claim_end c → staged_word_at (c ∷ cs) p ≡ staged_word c p
 here c cs p lt = ap (λ b. cond b (staged_word c p) (staged_word_at cs p)) (lt-ltb p (claim_end c) lt)
 
-pub leads : (C s e : ℕ) (cs : List StagedClaim) (got : List PlacedMessage) (w : ℕ) → IsCapacity C → e % 8 ≡ 0
-    → ArePlaced C e cs → Reaches s e cs got → staged_word_at cs s ≡ w
-    → 0 < w % 2 ^ 32 → w % 2 ^ 32 < 2 ^ 31 → Leads C s e cs got w
-leads C s e [] got w cap e8 h r is lo hi = absurd (let none : 0 ≡ w = is in omega arith)
-leads C s e (c ∷ cs) got w cap e8 h r is lo hi =
+pub leads : (C s e : ℕ) (cs : List StagedClaim) (got : List PlacedMessage) (w : ℕ) → IsCapacity C → StandFrom C e cs
+    → Reaches s e cs got → staged_word_at cs s ≡ w → HasLength w → Leads C s e cs got w
+leads C s e [] got w cap stand r is plus =
+    let none : 0 ≡ w = is in
+    let lo = plus.above in
+    absurd (omega arith)
+leads C s e (c ∷ cs) got w cap stand r is plus =
+    let e8 = stand.whole in
+    let h = stand.placed in
     let least = cap.least in
     let most = cap.most in
     let c8 = capacity_aligned C cap in
@@ -170,8 +224,12 @@ leads C s e (c ∷ cs) got w cap e8 h r is lo hi =
     let e_mod = mod_aligned C e c8 e8 in
     let now_at_place = λ (at : s ≡ place).
     at_header C s e c cs c.stage w most h.0.message
-    (subst (λ k. k % C + a ≤ C) (sym (at ∙ place_is)) (next_within C e a (omega arith) (omega arith))) at refl
-    (sym is ∙ here c cs s (omega arith) ∙ staged_word-header c s at) lo hi in
+    (subst (λ k. k % C + a ≤ C) (sym (at ∙ place_is)) (next_within C e a (omega arith) (omega arith)))
+    (record {
+      place = at;
+      stage = refl;
+      word = sym is ∙ here c cs s (omega arith) ∙ staged_word-header c s at;
+    }) plus in
     ⊎_elim (λ alt.
     let at_e : s ≡ e = alt.0 in
     subst (λ g. Leads C s e (c ∷ cs) g w) (sym alt.1)
@@ -180,16 +238,23 @@ leads C s e (c ∷ cs) got w cap e8 h r is lo hi =
     (λ t.
     let wraps : next_place C e a ≡ e + room C e = t.1 in
     let same_mod : s % C ≡ e % C = ap (λ k. k % C) at_e in
-    at_padding C s e c cs w most (omega arith) (omega arith) (omega arith) (omega arith) (omega arith)
-    (sym is ∙ here c cs s (omega arith) ∙ staged_word-padding c s (omega arith) (omega arith)) lo hi)
+    at_padding C s e c cs w most
+    (record {
+      from = omega arith;
+      some = omega arith;
+      near = omega arith;
+      whole = omega arith;
+      inner = omega arith;
+    })
+    (sym is ∙ here c cs s (omega arith) ∙ staged_word-padding c s (omega arith) (omega arith)) plus)
     (next_cases C e a)))
     (⊎_elim (λ alt. subst (λ g. Leads C s e (c ∷ cs) g w) (sym alt.2) (now_at_place alt.0))
     (λ alt.
     let later : List PlacedMessage = alt.1.0 in
     let bounds = reach_bounds C s (claim_end c) cs later h.1 alt.1.2 in
     let above = bounds.0 in
-    let t = leads C s (claim_end c) cs later w cap aligned.1 h.1 alt.1.2
-    (sym (ap (λ b. cond b (staged_word c s) (staged_word_at cs s)) (le-ltb s (claim_end c) above)) ∙ is) lo hi in
+    let t = leads C s (claim_end c) cs later w cap (record { whole = aligned.1; placed = h.1 }) alt.1.2
+    (sym (ap (λ b. cond b (staged_word c s) (staged_word_at cs s)) (le-ltb s (claim_end c) above)) ∙ is) plus in
     record {
       padding = λ pad. inr (inr (alt.0, (later, alt.1.1, t.padding pad)));
       message = λ other.

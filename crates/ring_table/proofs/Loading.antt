@@ -49,9 +49,15 @@ module _ (C start : ℕ) where
         memory = r.memory;
         service = r.service;
         seated = reseated top r.hist r.reader r.consumer r.drawn views r.seated id v at top r.hist r.consumer r.drawn w
-            knows (λ j u ne k. k) rich (λ j ne. refl)
-            (sees_top_after views id v w top top at (λ above. omega arith) refl (λ e. omega arith) r.seated.latest)
-            (λ x. ap (λ (k : ℕ). k + once_below x r.drawn) (drawn x));
+            (record {
+              own = knows;
+              others = λ j u ne k. k;
+              shares = rich;
+              outside = λ j ne. refl;
+              latest = sees_top_after views id v w top top at (λ above. omega arith) refl (λ e. omega arith)
+                  r.seated.latest;
+              drawn = λ x. ap (λ (k : ℕ). k + once_below x r.drawn) (drawn x);
+            });
       }
 
   -- a seat loads, and sees a later tail or head
@@ -145,7 +151,13 @@ module _ (C start : ℕ) where
         ),
       )
 
-  -- where a claim of a view lies that is not settled
+  -- the view with this number is v, and has a claim that is not settled
+  pub record HasUnsettled (views : List View) (id : ℕ) (v : View) (k : ℕ) (c : StagedClaim) : Type 0 where
+    pub seat : get_elem? views id ≡ some v
+    pub claim : HasClaim v k c
+    pub unsettled : IsSettled c.stage → ⊥
+
+  -- where such a claim lies
   pub record Stands (words : List ℕ) (views : List View) (r : Kept C start words views) (id : ℕ)
       (c : StagedClaim) : Type 0 where
     pub nth : ℕ
@@ -156,14 +168,14 @@ module _ (C start : ℕ) where
     pub from_aligned : c.from % 8 ≡ 0
     pub place_aligned : c.place % 8 ≡ 0
 
-  pub stands : (words : List ℕ) (views : List View) (r : Kept C start words views) (id : ℕ) (v : View)
-      → get_elem? views id ≡ some v → (k : ℕ) (c : StagedClaim) → HasClaim v k c → (IsSettled c.stage → ⊥)
-      → Stands words views r id c
-  stands words views r id v at k c has un =
+  pub stands : (words : List ℕ) (views : List View) (r : Kept C start words views) (id : ℕ) (v : View) (k : ℕ)
+      (c : StagedClaim) → HasUnsettled views id v k c → Stands words views r id c
+  stands words views r id v k c has =
       let least = r.lawful.capacity.least in
-      let own = owned_at id r.hist k c (subst (λ l. get_elem? l k ≡ some c) (r.seated.each id v at).claims has) in
+      let own = owned_at id r.hist k c
+      (subst (λ l. get_elem? l k ≡ some c) (r.seated.each id v has.seat).claims has.claim) in
       let behind = not_passed C r.consumer.scan start r.hist r.consumer.got own.0
-      (id, c) r.memory.placed r.memory.passed own.1 un in
+      (id, c) r.memory.placed r.memory.passed own.1 has.unsettled in
       let aligned = places_aligned C start r.hist own.0 (id, c) (omega arith) (capacity_aligned C r.lawful.capacity)
       (start_aligned C start r.lawful) r.memory.placed own.1 in
       record {
@@ -194,7 +206,8 @@ module _ (C start : ℕ) where
           refl,
           refl,
           (λ nth c o has is_open o8 lt same.
-              let st = stands s.words s.views r id v at nth c has (λ z. subst IsSettled is_open z) in
+              let st = stands s.words s.views r id v nth c
+              (record { seat = at; claim = has; unsettled = λ z. subst IsSettled is_open z }) in
               let padded = st.lies.padded in
               let below = st.lies.below in
               let behind = st.behind_scan in

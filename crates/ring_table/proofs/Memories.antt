@@ -7,7 +7,7 @@ use lib.ListN.{get_elem?}
 use Rattle.std.proofs.lemmas.Nat.{mod_below}
 use Rattle.ring_layout.specs.Places.{index, max_position}
 use Rattle.ring_layout.specs.Layout.{tail_index, head_cache_index, head_index, correlation_index, heartbeat_index, IsUnnamed}
-use Rattle.ring_layout.proofs.Laps.{apart}
+use Rattle.ring_layout.proofs.Laps.{IsInLap, apart}
 use Rattle.ring_table.specs.Staged.{StagedClaim, claim_end, staged_word, staged_word_at, LiesAfter, staged_end}
 use Rattle.ring_table.specs.Owners.{OwnedHistory, all_of, edited}
 use Rattle.ring_table.specs.Views.{ConsumerView}
@@ -15,6 +15,33 @@ use Rattle.ring_table.specs.Rule.{IsLawful, IsMemory, IsService}
 use Rattle.ring_table.proofs.StagedPlaces.{capacity_aligned, start_aligned}
 use Rattle.ring_table.proofs.Histories.{staged_end-append, placed_append, staged_word_at-append, MayReplaceAt, staged_end-edited, placed_edited, staged_word_at-edited}
 use Rattle.ring_table.proofs.ReachLemmas.{reach_bounds, reach_aligned, reach_append, Unsettled, reach_edited}
+
+-- the word at i is neither the cached head nor one of ids and heartbeats, nor one without a name
+pub record IsNoService (C i : ℕ) : Type 0 where
+  pub cache : i ≢ head_cache_index C
+  pub correlation : i ≢ correlation_index C
+  pub heartbeat : i ≢ heartbeat_index C
+  pub unnamed : (j : ℕ) → IsUnnamed C j → j ≢ i
+
+-- the consumer's head does not fall, and it stores no heartbeat
+pub record GoesOn (old new : ConsumerView) : Type 0 where
+  pub rises : old.head ≤ new.head
+  pub same : new.heartbeats ≡ old.heartbeats
+
+-- of the seat's claims at the place p, which are not settled, the word at q is `value` once they are f of themselves
+pub record EditsWord (C : ℕ) (h : OwnedHistory) (id p : ℕ) (f : StagedClaim → StagedClaim) (q value : ℕ)
+    : Type 0 where
+  pub may : MayReplaceAt C p f h
+  pub unsettled : Unsettled p f h
+  pub word : staged_word_at (all_of (edited id p f h)) q ≡ value
+  pub others : (i : ℕ) (x : ℕ × StagedClaim) → get_elem? h i ≡ some x → x.1.place ≡ p → (r : ℕ) → r % 8 ≡ 0 → r ≢ q
+      → staged_word (f x.1) r ≡ staged_word x.1 r
+
+-- a claim that shows nothing yet lies behind a history, and ends at `new`
+pub record JoinsSilent (C start : ℕ) (h : OwnedHistory) (x : ℕ × StagedClaim) (new : ℕ) : Type 0 where
+  pub lies : LiesAfter C (staged_end start (all_of h)) x.1
+  pub ends : new ≡ claim_end x.1
+  pub silent : (p : ℕ) → p % 8 ≡ 0 → staged_word x.1 p ≡ 0
 
 module _ (C start : ℕ) (law : IsLawful C start) where
   pub index_inside : (p : ℕ) → index C p < C / 8
@@ -28,12 +55,11 @@ module _ (C start : ℕ) (law : IsLawful C start) where
   pub not_inside : (p i : ℕ) → C / 8 ≤ i → i ≢ index C p
   not_inside p i far same = let near = index_inside p in omega arith
 
-  pub one_position : (head p q : ℕ) → p % 8 ≡ 0 → q % 8 ≡ 0 → head ≤ p → p < head + C → head ≤ q → q < head + C
-      → index C p ≡ index C q → p ≡ q
-  one_position head p q p8 q8 p0 p1 q0 q1 same =
+  pub one_position : (head p q : ℕ) → IsInLap C head p → IsInLap C head q → index C p ≡ index C q → p ≡ q
+  one_position head p q at there same =
       let least = law.capacity.least in
       let c8 = capacity_aligned C law.capacity in
-      apart C head p q (omega arith) c8 p8 q8 p0 p1 q0 q1 same
+      apart C head p q (record { some = omega arith; whole = c8 }) at there same
 
   module _ (words : List ℕ) (consumer : ConsumerView) where
     -- where the head lies
@@ -69,32 +95,30 @@ module _ (C start : ℕ) (law : IsLawful C start) where
     }
 
     -- a word that is neither the cache nor the correlation counter nor the heartbeat, while the head does not fall
-    pub service_elsewhere : (n : ℕ) → IsService C words consumer n → (i value : ℕ) → i ≢ head_cache_index C
-        → i ≢ correlation_index C → i ≢ heartbeat_index C → ((j : ℕ) → IsUnnamed C j → j ≢ i)
-        → (consumer' : ConsumerView) → consumer.head ≤ consumer'.head → consumer'.heartbeats ≡ consumer.heartbeats
-        → IsService C (set words i value) consumer' n
-    service_elsewhere n s i value not_cache not_correlation not_heartbeat named consumer' rises same =
+    pub service_elsewhere : (n : ℕ) → IsService C words consumer n → (i value : ℕ) → IsNoService C i
+        → (consumer' : ConsumerView) → GoesOn consumer consumer' → IsService C (set words i value) consumer' n
+    service_elsewhere n s i value away consumer' on =
         let cached : get_or (set words i value) (head_cache_index C) 0 ≡ get_or words (head_cache_index C) 0 =
-        get_or-set_other words i (head_cache_index C) value 0 (λ e. not_cache (sym e)) in
+        get_or-set_other words i (head_cache_index C) value 0 (λ e. away.cache (sym e)) in
         let was = s.cache in
+        let rises = on.rises in
         record {
           cache = omega arith;
           correlation =
-              get_or-set_other words i (correlation_index C) value 0 (λ e. not_correlation (sym e)) ∙ s.correlation;
-          heartbeat = ap (λ l. get_elem? (0 ∷ l) (length l)) same ∙ s.heartbeat
-              ∙ ap some (sym (get_or-set_other words i (heartbeat_index C) value 0 (λ e. not_heartbeat (sym e))));
-          unnamed = λ j un. get_or-set_other words i j value 0 (named j un) ∙ s.unnamed j un;
+              get_or-set_other words i (correlation_index C) value 0 (λ e. away.correlation (sym e)) ∙ s.correlation;
+          heartbeat = ap (λ l. get_elem? (0 ∷ l) (length l)) on.same ∙ s.heartbeat
+              ∙ ap some (sym (get_or-set_other words i (heartbeat_index C) value 0 (λ e. away.heartbeat (sym e))));
+          unnamed = λ j un. get_or-set_other words i j value 0 (away.unnamed j un) ∙ s.unnamed j un;
         }
 
     -- a store into the claims at the place p, which are not settled, at the position q of their words
     pub memory_edited : (h : OwnedHistory) → IsMemory C start words (all_of h) consumer
-        → (id p : ℕ) (f : StagedClaim → StagedClaim) → MayReplaceAt C p f h → Unsettled p f h
-        → (q value : ℕ) → q % 8 ≡ 0 → consumer.scan ≤ q → q < consumer.head + C
-        → staged_word_at (all_of (edited id p f h)) q ≡ value
-        → ((i : ℕ) (x : ℕ × StagedClaim) → get_elem? h i ≡ some x → x.1.place ≡ p → (r : ℕ) → r % 8 ≡ 0 → r ≢ q
-        → staged_word (f x.1) r ≡ staged_word x.1 r)
+        → (id p : ℕ) (f : StagedClaim → StagedClaim) (q value : ℕ) → q % 8 ≡ 0 → consumer.scan ≤ q
+        → q < consumer.head + C → EditsWord C h id p f q value
         → IsMemory C start (set words (index C q) value) (all_of (edited id p f h)) consumer
-    memory_edited h m id p f may un q value q8 low near word others =
+    memory_edited h m id p f q value q8 low near edit =
+        let may = edit.may in
+        let un = edit.unsettled in
         let h' : OwnedHistory = edited id p f h in
         let top : ℕ = staged_end start (all_of h) in
         let tops : staged_end start (all_of h') ≡ top = staged_end-edited id p f C start h may in
@@ -121,11 +145,12 @@ module _ (C start : ℕ) (law : IsLawful C start) where
               (λ e. ap (λ k. get_or (set words (index C q) value) (index C k) 0) e
               ∙ get_or-set_same words (index C q) value 0 (omega arith)
               ∙ sym (ap (λ b. cond b 0 (staged_word_at (all_of h') r)) (le-ltb r consumer.cleared (omega arith))
-              ∙ ap (staged_word_at (all_of h')) e ∙ word))
+              ∙ ap (staged_word_at (all_of h')) e ∙ edit.word))
               (λ ne. get_or-set_other words (index C q) (index C r) value 0
-              (λ e. ne (one_position head r q r8 q8 r0 r1 (omega arith) near e)) ∙ m.shows r r8 r0 r1
+              (λ e. ne (one_position head r q (record { whole = r8; from = r0; below = r1 })
+              (record { whole = q8; from = omega arith; below = near }) e)) ∙ m.shows r r8 r0 r1
               ∙ sym (ap (λ k. shown_word_of k r) (staged_word_at-edited id p f C r h may
-              (λ i x at e. others i x at e r r8 ne))));
+              (λ i x at e. edit.others i x at e r r8 ne))));
         }
       where
         shown_word_of : ℕ → ℕ → ℕ
@@ -133,17 +158,15 @@ module _ (C start : ℕ) (law : IsLawful C start) where
 
     -- the tail moves, and a claim that shows nothing yet joins the history
     pub memory_appended : (h : OwnedHistory) → IsMemory C start words (all_of h) consumer
-        → (x : ℕ × StagedClaim) (new : ℕ) → LiesAfter C (staged_end start (all_of h)) x.1 → new ≡ claim_end x.1
-        → new ≤ max_position → new ≤ consumer.head + C
-        → ((p : ℕ) → p % 8 ≡ 0 → staged_word x.1 p ≡ 0)
+        → (x : ℕ × StagedClaim) (new : ℕ) → JoinsSilent C start h x new → new ≤ max_position → new ≤ consumer.head + C
         → IsMemory C start (set words (tail_index C) new) (all_of (h ++ x ∷ [])) consumer
-    memory_appended h m x new lies new_is limit room silent =
-        let tops : staged_end start (all_of (h ++ x ∷ [])) ≡ new = staged_end-append start h x ∙ sym new_is in
+    memory_appended h m x new joins limit room =
+        let tops : staged_end start (all_of (h ++ x ∷ [])) ≡ new = staged_end-append start h x ∙ sym joins.ends in
         let wide = m.wide in
         let head : ℕ = consumer.head in
         record {
           wide = length-set words (tail_index C) new ∙ m.wide;
-          placed = placed_append C start h x m.placed lies;
+          placed = placed_append C start h x m.placed joins.lies;
           tail_is = get_or-set_same words (tail_index C) new 0 (omega arith) ∙ sym tops;
           limit = subst (λ n. n ≤ max_position) (sym tops) limit;
           room = subst (λ n. n ≤ head + C) (sym tops) room;
@@ -155,5 +178,5 @@ module _ (C start : ℕ) (law : IsLawful C start) where
           clears_words = m.clears_words;
           shows = λ p p8 p0 p1. get_or-set_other words (tail_index C) (index C p) new 0
               (λ e. not_inside p (tail_index C) (omega arith) (sym e)) ∙ m.shows p p8 p0 p1
-              ∙ ap (λ k. cond (ltb p consumer.cleared) 0 k) (sym (staged_word_at-append h x p (silent p p8)));
+              ∙ ap (λ k. cond (ltb p consumer.cleared) 0 k) (sym (staged_word_at-append h x p (joins.silent p p8)));
         }

@@ -4,10 +4,11 @@ use mathlib.Core.Option.{some, some-injective, some-ne-none}
 use lib.ListN.{get_elem?}
 use Rattle.ring_layout.specs.declared.message.ClaimState.TheVariants.{Open, Committed, Aborted}
 use Rattle.ring_layout.proofs.PlaceLemmas.{next_le}
+use Rattle.ring_layout.proofs.Laps.{IsLap}
 use Rattle.ring_table.specs.Staged.{StagedClaim, PlacedMessage, Stage, Moved, Padded, Stored, staged_span, claim_end, staged_word, staged_word_at, body_word, ArePlaced, staged_end, IsStored}
 use Rattle.ring_table.specs.Owners.{OwnedHistory, all_of, edited_one, edited}
 use Rattle.ring_table.specs.Passing.{IsSettled, placed_message, shown_at, Reaches}
-use Rattle.ring_table.proofs.StagedPlaces.{end_le, lies_in, claim_aligned}
+use Rattle.ring_table.proofs.StagedPlaces.{StandFrom, end_le, lies_in, claim_aligned}
 use Rattle.ring_table.proofs.StagedWords.{staged_word-stored}
 use Rattle.ring_table.proofs.Histories.{MayReplaceAt, edited_one_cases, claim_end-edited}
 
@@ -116,13 +117,14 @@ pub record ShowsBody (s e : ℕ) (cs : List StagedClaim) (m : PlacedMessage) (at
   pub word : staged_word_at cs (m.place + 8 + at) ≡ body_word m.message.body at
 
 pub shows_body : (C s e : ℕ) (cs : List StagedClaim) (got : List PlacedMessage) (k : ℕ) (m : PlacedMessage) (at : ℕ)
-    → 0 < C → C % 8 ≡ 0 → e % 8 ≡ 0 → ArePlaced C e cs → Reaches s e cs got → get_elem? got k ≡ some m
-    → at < length m.message.body → ShowsBody s e cs m at
-shows_body C s e [] got k m at pos c8 e8 h r g lt = none_of got k m r.1 g
-shows_body C s e (c ∷ cs) got k m at pos c8 e8 h r g lt =
+    → IsLap C → StandFrom C e cs → Reaches s e cs got → get_elem? got k ≡ some m → at < length m.message.body
+    → ShowsBody s e cs m at
+shows_body C s e [] got k m at lap stand r g lt = none_of got k m r.1 g
+shows_body C s e (c ∷ cs) got k m at lap stand r g lt =
+    let h = stand.placed in
     let on = next_le C e (staged_span c) in
     let place = h.0.place in
-    let aligned = claim_aligned C e c pos c8 e8 h.0.place in
+    let aligned = claim_aligned C e c lap.some lap.whole stand.whole h.0.place in
     ⊎_elim (λ a. none_of got k m a.1 g)
     (⊎_elim (λ a. none_of got k m a.2 g)
     (λ a.
@@ -143,7 +145,8 @@ shows_body C s e (c ∷ cs) got k m at pos c8 e8 h r g lt =
     }) lt)
     (λ (t : (k' : ℕ) × (get_elem? a.1.0 k' ≡ some m)).
     let q : ℕ = m.place + 8 + at in
-    let v = shows_body C s (claim_end c) cs a.1.0 t.0 m at pos c8 aligned.1 h.1 a.1.2 t.1 lt in
+    let v = shows_body C s (claim_end c) cs a.1.0 t.0 m at lap (record { whole = aligned.1; placed = h.1 }) a.1.2 t.1
+    lt in
     let v_above = v.above in
     record {
       above = omega arith;

@@ -79,42 +79,48 @@ module _ (top : ℕ) (hist : OwnedHistory) (reader : ℕ) (consumer : ConsumerVi
   }
 
   -- one seat steps, and the history, the consumer and the draws go on
+  pub record Steps (views : List View) (id : ℕ) (v : View) (top' : ℕ) (hist' : OwnedHistory) (consumer' : ConsumerView)
+      (n' : ℕ) (w : View) : Type 0 where
+    pub own : Knows top' hist' reader consumer' n' id w
+    pub others : (j : ℕ) (u : View) → j ≢ id → Knows top hist reader consumer n j u
+        → Knows top' hist' reader consumer' n' j u
+    pub shares : w.producer.shares ≡ v.producer.shares
+    pub outside : (j : ℕ) → j ≢ id → owned_by j hist' ≡ owned_by j hist
+    pub latest : SeesTop (set views id w) top'
+    pub drawn : (x : ℕ) → times_drawn x w.producer + once_below x n ≡ times_drawn x v.producer + once_below x n'
+
   pub reseated : (views : List View) → IsSeated top hist reader consumer n views → (id : ℕ) (v : View)
       → get_elem? views id ≡ some v
       → (top' : ℕ) (hist' : OwnedHistory) (consumer' : ConsumerView) (n' : ℕ) (w : View)
-      → Knows top' hist' reader consumer' n' id w
-      → ((j : ℕ) (u : View) → j ≢ id → Knows top hist reader consumer n j u → Knows top' hist' reader consumer' n' j u)
-      → w.producer.shares ≡ v.producer.shares
-      → ((j : ℕ) → j ≢ id → owned_by j hist' ≡ owned_by j hist)
-      → SeesTop (set views id w) top'
-      → ((x : ℕ) → times_drawn x w.producer + once_below x n ≡ times_drawn x v.producer + once_below x n')
-      → IsSeated top' hist' reader consumer' n' (set views id w)
-  reseated views s id v at top' hist' consumer' n' w own others rich outside latest drawn = record {
-    each = each_after_set (Knows top hist reader consumer n)
-        (Knows top' hist' reader consumer' n') views id w own others s.each;
-    nobody = λ j past.
-        let past' : length views ≤ j = subst (λ m. m ≤ j) (length-set views id w) past in
-        let here = at_below views id v at in
-        outside j (λ e. omega arith) ∙ s.nobody j past';
-    shares =
-        (let before : ℕ = total shares_of views in
-        let after : ℕ = total shares_of (set views id w) in
-        let exchange : after + v.producer.shares ≡ before + w.producer.shares = total-set shares_of views id v w at in
-        let sum : before ≡ 65536 = s.shares in
-        let done : after ≡ 65536 = omega arith in
-        done);
-    latest = latest;
-    once = λ x.
-        let f = λ (z : View). times_drawn x z.producer in
-        let before : ℕ = total f views in
-        let after : ℕ = total f (set views id w) in
-        let old : ℕ = times_drawn x v.producer in
-        let new : ℕ = times_drawn x w.producer in
-        let was : ℕ = once_below x n in
-        let is : ℕ = once_below x n' in
-        let exchange : after + old ≡ before + new = total-set f views id v w at in
-        let sum : before ≡ was = s.once x in
-        let step : new + was ≡ old + is = drawn x in
-        let done : after ≡ is = omega arith in
-        done;
-  }
+      → Steps views id v top' hist' consumer' n' w → IsSeated top' hist' reader consumer' n' (set views id w)
+  reseated views s id v at top' hist' consumer' n' w step =
+      let rich = step.shares in record {
+        each = each_after_set (Knows top hist reader consumer n)
+            (Knows top' hist' reader consumer' n') views id w step.own step.others s.each;
+        nobody = λ j past.
+            let past' : length views ≤ j = subst (λ m. m ≤ j) (length-set views id w) past in
+            let here = at_below views id v at in
+            step.outside j (λ e. omega arith) ∙ s.nobody j past';
+        shares =
+            (let before : ℕ = total shares_of views in
+            let after : ℕ = total shares_of (set views id w) in
+            let exchange : after + v.producer.shares ≡ before + w.producer.shares = total-set shares_of views id v w
+            at in
+            let sum : before ≡ 65536 = s.shares in
+            let done : after ≡ 65536 = omega arith in
+            done);
+        latest = step.latest;
+        once = λ x.
+            let f = λ (z : View). times_drawn x z.producer in
+            let before : ℕ = total f views in
+            let after : ℕ = total f (set views id w) in
+            let old : ℕ = times_drawn x v.producer in
+            let new : ℕ = times_drawn x w.producer in
+            let was : ℕ = once_below x n in
+            let is : ℕ = once_below x n' in
+            let exchange : after + old ≡ before + new = total-set f views id v w at in
+            let sum : before ≡ was = s.once x in
+            let drew : new + was ≡ old + is = step.drawn x in
+            let done : after ≡ is = omega arith in
+            done;
+      }

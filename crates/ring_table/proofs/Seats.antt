@@ -18,31 +18,53 @@ use Rattle.ring_table.proofs.Sums.{at_below, at_more, each_after_set, total-appe
 use Rattle.ring_table.proofs.Seating.{one_view, sees_top_after}
 use Rattle.ring_table.proofs.SeatSums.{total-parted, total-met}
 
+-- the left one has what v had but for shares of the right one, which has drawn nothing
+record CutsIn (v left right : View) : Type 0 where
+  pub shares : left.producer.shares + right.producer.shares ≡ v.producer.shares
+  pub some : 0 < v.producer.shares → 0 < left.producer.shares
+  pub seen : left.producer.seen_tail ≡ v.producer.seen_tail
+  pub drawn : (x : ℕ) → times_drawn x left.producer ≡ times_drawn x v.producer
+  pub drawn_none : (x : ℕ) → times_drawn x right.producer ≡ 0
+
+-- what two seats had, the one has that they become
+record Meet (top : ℕ) (v w both : View) : Type 0 where
+  pub shares : both.producer.shares ≡ v.producer.shares + w.producer.shares
+  pub drawn : (x : ℕ) → times_drawn x both.producer ≡ times_drawn x v.producer + times_drawn x w.producer
+  pub first : v.producer.seen_tail ≡ top → both.producer.seen_tail ≡ top
+  pub second : 0 < w.producer.shares → w.producer.seen_tail ≡ top → both.producer.seen_tail ≡ top
+
+-- v is at id, and w at another place
+record AreTwo (views : List View) (id other : ℕ) (v w both : View) : Type 0 where
+  pub one : get_elem? views id ≡ some v
+  pub apart : other ≢ id
+  pub two : get_elem? (set views id both) other ≡ some w
+
 module _ (top : ℕ) (hist : OwnedHistory) (reader : ℕ) (consumer : ConsumerView) (n : ℕ) where
+  -- what two seats know that one was cut into, and what all others know then
+  record KnowCut (views : List View) (id : ℕ) (left right : View) (reader' : ℕ) : Type 0 where
+    pub left_knows : Knows top hist reader' consumer n id left
+    pub right_knows : Knows top hist reader' consumer n (length views) right
+    pub others : (j : ℕ) (u : View) → j ≢ id → Knows top hist reader consumer n j u → Knows top hist reader' consumer
+        n j u
+
   -- one seat becomes two, which share what it had
   parted : (views : List View) → IsSeated top hist reader consumer n views
-      → (id : ℕ) (v left right : View) (reader' : ℕ) → get_elem? views id ≡ some v
-      → left.producer.shares + right.producer.shares ≡ v.producer.shares
-      → (0 < v.producer.shares → 0 < left.producer.shares) → left.producer.seen_tail ≡ v.producer.seen_tail
-      → ((x : ℕ) → times_drawn x left.producer ≡ times_drawn x v.producer)
-      → ((x : ℕ) → times_drawn x right.producer ≡ 0)
-      → Knows top hist reader' consumer n id left → Knows top hist reader' consumer n (length views) right
-      → ((j : ℕ) (u : View) → j ≢ id → Knows top hist reader consumer n j u → Knows top hist reader' consumer n j u)
-      → IsSeated top hist reader' consumer n (set views id left ++ right ∷ [])
-  parted views s id v left right reader' at sum some_left seen drawn_left drawn_right knows_left knows_right others =
+      → (id : ℕ) (v left right : View) (reader' : ℕ) → get_elem? views id ≡ some v → CutsIn v left right
+      → KnowCut views id left right reader' → IsSeated top hist reader' consumer n (set views id left ++ right ∷ [])
+  parted views s id v left right reader' at cut know =
       record {
         each = λ j u e. ⊎_elim
             (λ was. each_after_set (Knows top hist reader consumer n)
-            (Knows top hist reader' consumer n) views id left knows_left others s.each j u was)
+            (Knows top hist reader' consumer n) views id left know.left_knows know.others s.each j u was)
             (λ (t : (j ≡ length (set views id left)) × (right ≡ u)). subst
             (λ (z : ℕ × View). Knows top hist reader' consumer n z.0 z.1)
-            (λ i. (sym (t.0 ∙ length-set views id left) i, t.1 i)) knows_right)
+            (λ i. (sym (t.0 ∙ length-set views id left) i, t.1 i)) know.right_knows)
             (at_more (set views id left) right u j e);
         nobody = λ j past. let a = length-append (set views id left) (right ∷ []) in let b =
             length-set views id left in s.nobody j (omega arith);
-        shares = total-parted shares_of views id v left right at sum ∙ s.shares;
+        shares = total-parted shares_of views id v left right at cut.shares ∙ s.shares;
         latest =
-            (let l = sees_top_after views id v left top top at some_left refl (λ e. seen ∙ e) s.latest in
+            (let l = sees_top_after views id v left top top at cut.some refl (λ e. cut.seen ∙ e) s.latest in
             record {
               seat = l.seat;
               view = l.view;
@@ -54,8 +76,8 @@ module _ (top : ℕ) (hist : OwnedHistory) (reader : ℕ) (consumer : ConsumerVi
             let l : ℕ = times_drawn x left.producer in
             let r : ℕ = times_drawn x right.producer in
             let w : ℕ = times_drawn x v.producer in
-            let same : l ≡ w = drawn_left x in
-            let none : r ≡ 0 = drawn_right x in
+            let same : l ≡ w = cut.drawn x in
+            let none : r ≡ 0 = cut.drawn_none x in
             let as_before : l + r ≡ w = omega arith in
             total-parted (λ (z : View). times_drawn x z.producer) views id v left right at as_before ∙ s.once x;
       }
@@ -67,36 +89,43 @@ module _ (top : ℕ) (hist : OwnedHistory) (reader : ℕ) (consumer : ConsumerVi
       ⊎_elim (λ (t : (other ≡ id) × (both ≡ w)). absurd (ne t.0))
       (λ (t : (other ≢ id) × (get_elem? views other ≡ some w)). t.1) (at_set views id other both w there)
 
+  -- what the seats know that two were put together into, and what all others know then
+  record KnowMet (views : List View) (id other : ℕ) (both : View) (top' : ℕ) (hist' : OwnedHistory)
+      (reader' : ℕ) : Type 0 where
+    pub tops : top' ≡ top
+    pub both_knows : Knows top' hist' reader' consumer n id both
+    pub spent_knows : Knows top' hist' reader' consumer n other spent
+    pub others : (j : ℕ) (u : View) → j ≢ id → j ≢ other → Knows top hist reader consumer n j u
+        → Knows top' hist' reader' consumer n j u
+    pub outside : (j : ℕ) → length views ≤ j → owned_by j hist' ≡ owned_by j hist
+
   -- two seats become one, and the history goes on as hist'
   met : (views : List View) → IsSeated top hist reader consumer n views
-      → (id other : ℕ) (v w both : View) (top' : ℕ) (hist' : OwnedHistory) (reader' : ℕ) → get_elem? views id ≡ some v
-      → other ≢ id → get_elem? (set views id both) other ≡ some w
-      → both.producer.shares ≡ v.producer.shares + w.producer.shares
-      → ((x : ℕ) → times_drawn x both.producer ≡ times_drawn x v.producer + times_drawn x w.producer) → top' ≡ top
-      → (v.producer.seen_tail ≡ top → both.producer.seen_tail ≡ top)
-      → (0 < w.producer.shares → w.producer.seen_tail ≡ top → both.producer.seen_tail ≡ top)
-      → Knows top' hist' reader' consumer n id both → Knows top' hist' reader' consumer n other spent
-      → ((j : ℕ) (u : View) → j ≢ id → j ≢ other → Knows top hist reader consumer n j u
-      → Knows top' hist' reader' consumer n j u)
-      → ((j : ℕ) → length views ≤ j → owned_by j hist' ≡ owned_by j hist)
+      → (id other : ℕ) (v w both : View) (top' : ℕ) (hist' : OwnedHistory) (reader' : ℕ)
+      → AreTwo views id other v w both → Meet top v w both → KnowMet views id other both top' hist' reader'
       → IsSeated top' hist' reader' consumer n (set (set views id both) other spent)
-  met views s id other v w both top' hist' reader' at ne there sum drawn tops seen_v seen_w knows_both knows_spent
-      others outside = record {
+  met views s id other v w both top' hist' reader' are meet know =
+      let at = are.one in
+      let ne = are.apart in
+      let there = are.two in
+      let tops = know.tops in
+      let sum = meet.shares in record {
         each = λ j u e. ⊎_elim
             (λ (t : (j ≡ other) × (spent ≡ u)). subst (λ (z : ℕ × View). Knows top' hist' reader' consumer n z.0 z.1)
-            (λ i. (sym t.0 i, t.1 i)) knows_spent)
+            (λ i. (sym t.0 i, t.1 i)) know.spent_knows)
             (λ (t : (j ≢ other) × (get_elem? (set views id both) j ≡ some u)). ⊎_elim
             (λ (t' : (j ≡ id) × (both ≡ u)). subst (λ (z : ℕ × View). Knows top' hist' reader' consumer n z.0 z.1)
-            (λ i. (sym t'.0 i, t'.1 i)) knows_both)
-            (λ (t' : (j ≢ id) × (get_elem? views j ≡ some u)). others j u t'.0 t.0 (s.each j u t'.1))
+            (λ i. (sym t'.0 i, t'.1 i)) know.both_knows)
+            (λ (t' : (j ≢ id) × (get_elem? views j ≡ some u)). know.others j u t'.0 t.0 (s.each j u t'.1))
             (at_set views id j both u t.1))
             (at_set (set views id both) other j spent u e);
         nobody = λ j past. let a = length-set (set views id both) other spent in let b =
             length-set views id both in let past' : length views ≤ j =
-            omega arith in outside j past' ∙ s.nobody j past';
+            omega arith in know.outside j past' ∙ s.nobody j past';
         shares = total-met shares_of views id other v w both spent at there sum refl ∙ s.shares;
         latest =
-            (let l = sees_top_after views id v both top top' at (λ rich. omega arith) tops (λ e. seen_v e ∙ sym tops)
+            (let l = sees_top_after views id v both top top' at (λ rich. omega arith) tops
+            (λ e. meet.first e ∙ sym tops)
             s.latest in
             dite (ℕ_discrete l.seat other)
             (λ e.
@@ -108,7 +137,7 @@ module _ (top : ℕ) (hist : OwnedHistory) (reader : ℕ) (consumer : ConsumerVi
               there = set_else (set views id both) other id spent (λ e. ne (sym e))
                   ∙ set_here views id both (at_below views id v at);
               rich = omega arith;
-              sees = seen_w rich (ap (λ (z : View). z.producer.seen_tail) (sym is) ∙ l.sees ∙ tops) ∙ sym tops;
+              sees = meet.second rich (ap (λ (z : View). z.producer.seen_tail) (sym is) ∙ l.sees ∙ tops) ∙ sym tops;
             })
             (λ not_other. record {
               seat = l.seat;
@@ -118,7 +147,7 @@ module _ (top : ℕ) (hist : OwnedHistory) (reader : ℕ) (consumer : ConsumerVi
               sees = l.sees;
             }));
         once = λ x. let f = λ (z : View). times_drawn x z.producer in
-            total-met f views id other v w both spent at there (drawn x) refl ∙ s.once x;
+            total-met f views id other v w both spent at there (meet.drawn x) refl ∙ s.once x;
       }
 
 module _ (C start : ℕ) where
@@ -146,32 +175,33 @@ module _ (C start : ℕ) where
       let sum : shares + 0 ≡ shares = omega arith in
       reseat s.words s.views _ r (length s.views)
       (parted (staged_end start (all_of r.hist)) r.hist r.reader r.consumer r.drawn s.views r.seated id v
-      (without_consumer v) (consumer_alone v) (length s.views) at sum (λ rich. rich) refl (λ x. refl) (λ x. refl)
+      (without_consumer v) (consumer_alone v) (length s.views) at
+      (record { shares = sum; some = λ rich. rich; seen = refl; drawn = λ x. refl; drawn_none = λ x. refl })
       (record {
-        claims = own.claims;
-        tail_seen = own.tail_seen;
-        head_seen = own.head_seen;
-        idle = own.idle;
-        served =
-            own.served;
-        consumes = λ e. absurd (false≢true e);
-      })
-      (record {
-        claims = sym (r.seated.nobody (length s.views) (omega arith));
-        tail_seen = own.tail_seen;
-        head_seen = own.head_seen;
-        idle = λ _. record { claims = refl; draws = λ x. refl };
-        served = (record { draws = omega arith; heartbeats = omega arith }, tt);
-        consumes = λ _. (refl, mine.1);
-      })
-      (λ j u ne f. record {
-        claims = f.claims;
-        tail_seen = f.tail_seen;
-        head_seen = f.head_seen;
-        idle = f.idle;
-        served =
-            f.served;
-        consumes = λ e. absurd (ne ((f.consumes e).0 ∙ sym mine.0));
+        left_knows = record {
+          claims = own.claims;
+          tail_seen = own.tail_seen;
+          head_seen = own.head_seen;
+          idle = own.idle;
+          served = own.served;
+          consumes = λ e. absurd (false≢true e);
+        };
+        right_knows = record {
+          claims = sym (r.seated.nobody (length s.views) (omega arith));
+          tail_seen = own.tail_seen;
+          head_seen = own.head_seen;
+          idle = λ _. record { claims = refl; draws = λ x. refl };
+          served = (record { draws = omega arith; heartbeats = omega arith }, tt);
+          consumes = λ _. (refl, mine.1);
+        };
+        others = λ j u ne f. record {
+          claims = f.claims;
+          tail_seen = f.tail_seen;
+          head_seen = f.head_seen;
+          idle = f.idle;
+          served = f.served;
+          consumes = λ e. absurd (ne ((f.consumes e).0 ∙ sym mine.0));
+        };
       }))
 
   pub splits_producer : (id : ℕ) (v : View) → 1 < v.producer.shares
@@ -183,25 +213,27 @@ module _ (C start : ℕ) where
       let left : 0 < shares - 1 = omega arith in
       reseat s.words s.views _ r r.reader (parted
       (staged_end start (all_of r.hist)) r.hist r.reader r.consumer r.drawn s.views r.seated id v (without_share v)
-      (producer_alone v) r.reader at sum (λ _. left) refl (λ x. refl) (λ x. refl)
+      (producer_alone v) r.reader at
+      (record { shares = sum; some = λ _. left; seen = refl; drawn = λ x. refl; drawn_none = λ x. refl })
       (record {
-        claims = own.claims;
-        tail_seen = own.tail_seen;
-        head_seen = own.head_seen;
-        idle =
-            λ none. absurd (omega arith);
-        served = own.served;
-        consumes = own.consumes;
-      })
-      (record {
-        claims = sym (r.seated.nobody (length s.views) (omega arith));
-        tail_seen = own.tail_seen;
-        head_seen = own.head_seen;
-        idle = λ _. record { claims = refl; draws = λ x. refl };
-        served = (record { draws = omega arith; heartbeats = omega arith }, tt);
-        consumes = λ e. absurd (false≢true e);
-      })
-      (λ j u ne f. f))
+        left_knows = record {
+          claims = own.claims;
+          tail_seen = own.tail_seen;
+          head_seen = own.head_seen;
+          idle = λ none. absurd (omega arith);
+          served = own.served;
+          consumes = own.consumes;
+        };
+        right_knows = record {
+          claims = sym (r.seated.nobody (length s.views) (omega arith));
+          tail_seen = own.tail_seen;
+          head_seen = own.head_seen;
+          idle = λ _. record { claims = refl; draws = λ x. refl };
+          served = (record { draws = omega arith; heartbeats = omega arith }, tt);
+          consumes = λ e. absurd (false≢true e);
+        };
+        others = λ j u ne f. f;
+      }))
 
   knows_spent : (top : ℕ) (hist : OwnedHistory) (reader : ℕ) (consumer : ConsumerView) (n id : ℕ)
       → [] ≡ owned_by id hist → Knows top hist reader consumer n id spent
@@ -224,30 +256,35 @@ module _ (C start : ℕ) where
       let mine = its.consumes consumes in
       let idle = its.idle poor in
       reseat s.words s.views _ r id (met top r.hist r.reader r.consumer r.drawn s.views r.seated id other v w
-      (with_consumer_of v w) top r.hist id at ne there (omega arith)
-      (λ x. let a : ℕ = times_drawn x v.producer in let b : ℕ = times_drawn x w.producer in let none : b ≡ 0 =
-      idle.draws x in let done : a ≡ a + b = omega arith in done)
-      refl (λ e. e) (λ rich e. absurd (omega arith))
+      (with_consumer_of v w) top r.hist id (record { one = at; apart = ne; two = there })
       (record {
-        claims = own.claims;
-        tail_seen = own.tail_seen;
-        head_seen = own.head_seen;
-        idle = own.idle;
-        served =
-            own.served;
-        consumes = λ _. (refl, mine.1);
+        shares = omega arith;
+        drawn = λ x. let a : ℕ = times_drawn x v.producer in let b : ℕ = times_drawn x w.producer in let none : b ≡ 0 =
+            idle.draws x in let done : a ≡ a + b = omega arith in done;
+        first = λ e. e;
+        second = λ rich e. absurd (omega arith);
       })
-      (knows_spent top r.hist id r.consumer r.drawn other (sym idle.claims ∙ its.claims))
-      (λ j u a b f. record {
-        claims = f.claims;
-        tail_seen = f.tail_seen;
-        head_seen = f.head_seen;
-        idle =
-            f.idle;
-        served = f.served;
-        consumes = λ e. absurd (b ((f.consumes e).0 ∙ sym mine.0));
-      })
-      (λ j past. refl))
+      (record {
+        tops = refl;
+        both_knows = record {
+          claims = own.claims;
+          tail_seen = own.tail_seen;
+          head_seen = own.head_seen;
+          idle = own.idle;
+          served = own.served;
+          consumes = λ _. (refl, mine.1);
+        };
+        spent_knows = knows_spent top r.hist id r.consumer r.drawn other (sym idle.claims ∙ its.claims);
+        others = λ j u a b f. record {
+          claims = f.claims;
+          tail_seen = f.tail_seen;
+          head_seen = f.head_seen;
+          idle = f.idle;
+          served = f.served;
+          consumes = λ e. absurd (b ((f.consumes e).0 ∙ sym mine.0));
+        };
+        outside = λ j past. refl;
+      }))
 
   pub joins_producer : (id : ℕ) (v : View) (other : ℕ) (w : View) → w.consumes ≡ false → 0 < w.producer.shares
       → Joins (λ (s : State Wanted View). Kept C start s.words s.views) id v other w (with_producer_of v w) spent
@@ -273,38 +310,46 @@ module _ (C start : ℕ) where
         memory = subst (λ l. IsMemory C start s.words l r.consumer) (sym same) r.memory;
         service = r.service;
         seated = met top h r.reader r.consumer r.drawn s.views r.seated id other v w (with_producer_of v w)
-            (staged_end start (all_of h')) h' r.reader at ne there refl
-            (λ x.
-            let f = λ (z : Service). times x z.draws in
-            let a : ℕ = total f (v.producer.service ∷ v.producer.joined) in
-            let b : ℕ = total f (w.producer.service ∷ w.producer.joined) in
-            let done : total f ((v.producer.service ∷ v.producer.joined) ++ w.producer.service ∷ w.producer.joined)
-            ≡ a + b = total-append f (v.producer.service ∷ v.producer.joined)
-            (w.producer.service ∷ w.producer.joined) in
-            done)
-            tops (λ e. omega arith) (λ _ e. omega arith)
+            (staged_end start (all_of h')) h' r.reader (record { one = at; apart = ne; two = there })
             (record {
-              claims = (λ i. interleaved (own.claims i) (its.claims i))
-                  ∙ sym (owned_by-handed_over C start other id h ne r.memory.placed);
-              tail_seen = subst (λ k. max v.producer.seen_tail w.producer.seen_tail ≤ k) (sym tops)
-                  (let both : max v.producer.seen_tail w.producer.seen_tail ≤ top = omega arith in both);
-              head_seen = omega arith;
-              idle = λ none. absurd (let sum : v.producer.shares + w.producer.shares ≡ 0 = none in omega arith);
-              served = served_append r.drawn r.consumer.heartbeats (v.producer.service ∷ v.producer.joined)
-                  (w.producer.service ∷ w.producer.joined) own.served its.served;
-              consumes = own.consumes;
+              shares = refl;
+              drawn = λ x.
+                  let f = λ (z : Service). times x z.draws in
+                  let a : ℕ = total f (v.producer.service ∷ v.producer.joined) in
+                  let b : ℕ = total f (w.producer.service ∷ w.producer.joined) in
+                  let done : total f ((v.producer.service ∷ v.producer.joined)
+                  ++ w.producer.service ∷ w.producer.joined) ≡ a + b =
+                  total-append f (v.producer.service ∷ v.producer.joined)
+                  (w.producer.service ∷ w.producer.joined) in
+                  done;
+              first = λ e. omega arith;
+              second = λ _ e. omega arith;
             })
-            (knows_spent (staged_end start (all_of h')) h' r.reader r.consumer r.drawn other
-            (sym (owned_by-handed_away other id h ne)))
-            (λ j u a b f. record {
-              claims = f.claims ∙ sym (owned_by-handed_over_other j other id h b a);
-              tail_seen = subst (λ k. u.producer.seen_tail ≤ k) (sym tops) f.tail_seen;
-              head_seen = f.head_seen;
-              idle = f.idle;
-              served = f.served;
-              consumes = f.consumes;
-            })
-            (λ j past. owned_by-handed_over_other j other id h
-            (λ e. let b = at_below s.views other w was in omega arith)
-            (λ e. let b = at_below s.views id v at in omega arith));
+            (record {
+              tops = tops;
+              both_knows = record {
+                claims = (λ i. interleaved (own.claims i) (its.claims i))
+                    ∙ sym (owned_by-handed_over C start other id h ne r.memory.placed);
+                tail_seen = subst (λ k. max v.producer.seen_tail w.producer.seen_tail ≤ k) (sym tops)
+                    (let both : max v.producer.seen_tail w.producer.seen_tail ≤ top = omega arith in both);
+                head_seen = omega arith;
+                idle = λ none. absurd (let sum : v.producer.shares + w.producer.shares ≡ 0 = none in omega arith);
+                served = served_append r.drawn r.consumer.heartbeats (v.producer.service ∷ v.producer.joined)
+                    (w.producer.service ∷ w.producer.joined) own.served its.served;
+                consumes = own.consumes;
+              };
+              spent_knows = knows_spent (staged_end start (all_of h')) h' r.reader r.consumer r.drawn other
+                  (sym (owned_by-handed_away other id h ne));
+              others = λ j u a b f. record {
+                claims = f.claims ∙ sym (owned_by-handed_over_other j other id h b a);
+                tail_seen = subst (λ k. u.producer.seen_tail ≤ k) (sym tops) f.tail_seen;
+                head_seen = f.head_seen;
+                idle = f.idle;
+                served = f.served;
+                consumes = f.consumes;
+              };
+              outside = λ j past. owned_by-handed_over_other j other id h
+                  (λ e. let b = at_below s.views other w was in omega arith)
+                  (λ e. let b = at_below s.views id v at in omega arith);
+            });
       }

@@ -116,36 +116,38 @@ module _ (C start : ℕ) where
           };
           seated = reseated top r.hist r.reader r.consumer k s.views r.seated id v at top r.hist r.consumer (k + 1) w
               (record {
-                claims = own.claims;
-                tail_seen = own.tail_seen;
-                head_seen = own.head_seen;
-                idle = λ none. absurd (omega arith);
-                served =
-                    (let all = served_draw_more k r.consumer.heartbeats
-                    (v.producer.service ∷ v.producer.joined) own.served in (
-                      record {
-                        draws = rising_append 0 k v.producer.service.draws own.served.0.draws;
-                        heartbeats =
-                            all.0.heartbeats;
-                      },
-                      all.1,
-                    ));
-                consumes = own.consumes;
-              })
-              (λ j u ne f. record {
-                claims = f.claims;
-                tail_seen = f.tail_seen;
-                head_seen = f.head_seen;
-                idle =
-                    f.idle;
-                served = served_draw_more k r.consumer.heartbeats
-                    (u.producer.service ∷ u.producer.joined) f.served;
-                consumes = f.consumes;
-              })
-              refl
-              (λ j ne. refl)
-              (sees_top_after s.views id v w top top at (λ rich. rich) refl (λ e. e) r.seated.latest)
-              (λ x. times_drawn-more x k v.producer);
+                own = record {
+                  claims = own.claims;
+                  tail_seen = own.tail_seen;
+                  head_seen = own.head_seen;
+                  idle = λ none. absurd (omega arith);
+                  served =
+                      (let all = served_draw_more k r.consumer.heartbeats
+                      (v.producer.service ∷ v.producer.joined) own.served in (
+                        record {
+                          draws = rising_append 0 k v.producer.service.draws own.served.0.draws;
+                          heartbeats =
+                              all.0.heartbeats;
+                        },
+                        all.1,
+                      ));
+                  consumes = own.consumes;
+                };
+                others = λ j u ne f. record {
+                  claims = f.claims;
+                  tail_seen = f.tail_seen;
+                  head_seen = f.head_seen;
+                  idle =
+                      f.idle;
+                  served = served_draw_more k r.consumer.heartbeats
+                      (u.producer.service ∷ u.producer.joined) f.served;
+                  consumes = f.consumes;
+                };
+                shares = refl;
+                outside = λ j ne. refl;
+                latest = sees_top_after s.views id v w top top at (λ rich. rich) refl (λ e. e) r.seated.latest;
+                drawn = λ x. times_drawn-more x k v.producer;
+              });
         },
         (refl, record { number = k; id = is; view = refl; rising = own.served.0.draws }),
       )
@@ -229,25 +231,27 @@ module _ (C start : ℕ) where
           };
           seated = reseated top r.hist r.reader r.consumer r.drawn s.views r.seated id v at top r.hist now r.drawn w
               (record {
-                claims = own.claims;
-                tail_seen = own.tail_seen;
-                head_seen = own.head_seen;
-                idle = own.idle;
-                served = served_heartbeat_more r.drawn old value (v.producer.service ∷ v.producer.joined) own.served;
-                consumes = λ _. (mine.0, ap (beaten value) mine.1);
-              })
-              (λ j u ne f. record {
-                claims = f.claims;
-                tail_seen = f.tail_seen;
-                head_seen = f.head_seen;
-                idle = f.idle;
-                served = served_heartbeat_more r.drawn old value (u.producer.service ∷ u.producer.joined) f.served;
-                consumes = λ z. absurd (ne ((f.consumes z).0 ∙ sym mine.0));
-              })
-              refl
-              (λ j ne. refl)
-              (sees_top_after s.views id v w top top at (λ rich. rich) refl (λ e. e) r.seated.latest)
-              (λ x. refl);
+                own = record {
+                  claims = own.claims;
+                  tail_seen = own.tail_seen;
+                  head_seen = own.head_seen;
+                  idle = own.idle;
+                  served = served_heartbeat_more r.drawn old value (v.producer.service ∷ v.producer.joined) own.served;
+                  consumes = λ _. (mine.0, ap (beaten value) mine.1);
+                };
+                others = λ j u ne f. record {
+                  claims = f.claims;
+                  tail_seen = f.tail_seen;
+                  head_seen = f.head_seen;
+                  idle = f.idle;
+                  served = served_heartbeat_more r.drawn old value (u.producer.service ∷ u.producer.joined) f.served;
+                  consumes = λ z. absurd (ne ((f.consumes z).0 ∙ sym mine.0));
+                };
+                shares = refl;
+                outside = λ j ne. refl;
+                latest = sees_top_after s.views id v w top top at (λ rich. rich) refl (λ e. e) r.seated.latest;
+                drawn = λ x. refl;
+              });
         },
         (refl, refl),
       )

@@ -90,24 +90,30 @@ word_of_claim C e (y ∷ ys) (suc i) x p h at lo hi =
     ap (λ b. cond b (staged_word y.1 p) (staged_word_at (all_of ys) p)) (le-ltb p (claim_end y.1) (omega arith))
     ∙ word_of_claim C (claim_end y.1) ys i x p h.1 at lo hi
 
+-- the claim of this number covers the position p
+pub record Covers (h : OwnedHistory) (i : ℕ) (x : ℕ × StagedClaim) (p : ℕ) : Type 0 where
+  pub there : get_elem? h i ≡ some x
+  pub from : x.1.from ≤ p
+  pub below : p < claim_end x.1
+
 -- claims share no position
 pub one_at_position : (C e : ℕ) (h : OwnedHistory) (i j p : ℕ) (x y : ℕ × StagedClaim) → ArePlaced C e (all_of h)
-    → get_elem? h i ≡ some x → get_elem? h j ≡ some y → x.1.from ≤ p → p < claim_end x.1 → y.1.from ≤ p
-    → p < claim_end y.1 → x ≡ y
-one_at_position C e [] i j p x y h a b x0 x1 y0 y1 = absurd (some-ne-none x (sym a))
-one_at_position C e (z ∷ zs) zero zero p x y h a b x0 x1 y0 y1 = sym (some-injective z x a) ∙ some-injective z y b
-one_at_position C e (z ∷ zs) zero (suc j) p x y h a b x0 x1 y0 y1 =
-    let there = lies_in C (claim_end z.1) zs j y h.1 b in
-    let above = there.above in
-    let same : claim_end z.1 ≡ claim_end x.1 = ap (λ (k : ℕ × StagedClaim). claim_end k.1) (some-injective z x a) in
-    absurd (omega arith)
-one_at_position C e (z ∷ zs) (suc i) zero p x y h a b x0 x1 y0 y1 =
-    let there = lies_in C (claim_end z.1) zs i x h.1 a in
-    let above = there.above in
-    let same : claim_end z.1 ≡ claim_end y.1 = ap (λ (k : ℕ × StagedClaim). claim_end k.1) (some-injective z y b) in
-    absurd (omega arith)
-one_at_position C e (z ∷ zs) (suc i) (suc j) p x y h a b x0 x1 y0 y1 =
-    one_at_position C (claim_end z.1) zs i j p x y h.1 a b x0 x1 y0 y1
+    → Covers h i x p → Covers h j y p → x ≡ y
+one_at_position C e [] i j p x y h a b = absurd (some-ne-none x (sym a.there))
+one_at_position C e (z ∷ zs) zero zero p x y h a b = sym (some-injective z x a.there) ∙ some-injective z y b.there
+one_at_position C e (z ∷ zs) zero (suc j) p x y h a b =
+    let above = (lies_in C (claim_end z.1) zs j y h.1 b.there).above in
+    let same : claim_end z.1 ≡ claim_end x.1 =
+    ap (λ (k : ℕ × StagedClaim). claim_end k.1) (some-injective z x a.there) in
+    absurd (omega (arith, above, same, a.below, b.from))
+one_at_position C e (z ∷ zs) (suc i) zero p x y h a b =
+    let above = (lies_in C (claim_end z.1) zs i x h.1 a.there).above in
+    let same : claim_end z.1 ≡ claim_end y.1 =
+    ap (λ (k : ℕ × StagedClaim). claim_end k.1) (some-injective z y b.there) in
+    absurd (omega (arith, above, same, b.below, a.from))
+one_at_position C e (z ∷ zs) (suc i) (suc j) p x y h a b =
+    one_at_position C (claim_end z.1) zs i j p x y h.1 (record { there = a.there; from = a.from; below = a.below })
+    (record { there = b.there; from = b.from; below = b.below })
 
 -- so they share no place
 pub one_at_place : (C e : ℕ) (h : OwnedHistory) (i j : ℕ) (x y : ℕ × StagedClaim) → ArePlaced C e (all_of h)
@@ -115,9 +121,15 @@ pub one_at_place : (C e : ℕ) (h : OwnedHistory) (i j : ℕ) (x y : ℕ × Stag
 one_at_place C e h i j x y placed a b same =
     let x_pad = (lies_in C e h i x placed a).padded in
     let y_pad = (lies_in C e h j y placed b).padded in
-    one_at_position C e h i j x.1.place x y placed a b x_pad (omega arith) (omega arith) (omega arith)
+    one_at_position C e h i j x.1.place x y placed (record { there = a; from = x_pad; below = omega arith })
+    (record { there = b; from = omega arith; below = omega arith })
 
 -- ---- multiples of 8
+
+-- claims are placed one behind the other, from a multiple of 8 on
+pub record StandFrom (C e : ℕ) (cs : List StagedClaim) : Type 0 where
+  pub whole : e % 8 ≡ 0
+  pub placed : ArePlaced C e cs
 
 pub claim_aligned : (C e : ℕ) (c : StagedClaim) → 0 < C → C % 8 ≡ 0 → e % 8 ≡ 0
     → c.place ≡ next_place C e (staged_span c) → (c.place % 8 ≡ 0) × (claim_end c % 8 ≡ 0)

@@ -29,7 +29,7 @@ use Rattle.ring_table.proofs.OwnerLemmas.{rising_owned_by}
 use Rattle.ring_table.proofs.ReachLemmas.{Unsettled}
 use Rattle.ring_table.proofs.Seating.{sees_top_after, reseated}
 use Rattle.ring_table.proofs.Memories.{memory_edited, service_elsewhere, one_position, index_inside}
-use Rattle.ring_table.proofs.Loading.{Ok, stands}
+use Rattle.ring_table.proofs.Loading.{HasUnsettled, Ok, stands}
 
 one_negated : (m n : ℕ) → neg_ℤ (pos m) ≡ neg_ℤ (pos n) → m ≡ n
 one_negated zero zero e = refl
@@ -53,20 +53,49 @@ one_type type_id n type_id' n' fits small fits' small' same =
     ∙ ap (λ w. cast_signed w32 (w / 2 ^ 32)) same
     ∙ type_of-header (neg_ℤ (pos (8 + n'))) type_id' (fits_neg (8 + n') small') fits'
 
+-- a word of a claim's record lies at q, or one of the padding before it while only the tail was moved
+record IsWordOf (c : StagedClaim) (q : ℕ) : Type 0 where
+  pub whole : q % 8 ≡ 0
+  pub from : c.from ≤ q
+  pub below : q < claim_end c
+  pub late : (c.place ≤ q) ⊎ (c.stage ≡ Moved)
+
+-- a claim d may stand in the place of c once the word at q has this value, and no other word changes
+record Rewords (C : ℕ) (c d : StagedClaim) (q value : ℕ) : Type 0 where
+  pub may : MayReplace C c d
+  pub goes : c.stage ≢ Moved → d.stage ≢ Moved
+  pub word : staged_word d q ≡ value
+  pub others : (p : ℕ) → p % 8 ≡ 0 → p ≢ q → staged_word d p ≡ staged_word c p
+
+-- a message of this type id and length has the span of the claim
+pub record FillsClaim (C : ℕ) (c : StagedClaim) (type_id : ℤ) (n : ℕ) : Type 0 where
+  pub most : C ≤ 2 ^ 24
+  pub span_is : span n ≡ staged_span c
+  pub lawful : IsMessage C (blank type_id n)
+
+-- a claim at the stage t, which is not settled, shows as much at the stage u, which is not Moved
+record MayFollow (t u : Stage) : Type 0 where
+  pub unsettled : IsSettled t → ⊥
+  pub stays : u ≢ Moved
+  pub paddings : (word : ℕ) → masked_padding u word ≡ masked_padding t word
+  pub records : (word : ℕ) → masked_record u word ≡ masked_record t word
+
 module _ (C start : ℕ) where
   -- a word of an own claim that is not settled is stored
-  edits : (words : List ℕ) (views : List View) (r : Kept C start words views) (id : ℕ) (v : View)
-      → get_elem? views id ≡ some v → (k : ℕ) (c : StagedClaim) → HasClaim v k c → (IsSettled c.stage → ⊥)
-      → (f : StagedClaim → StagedClaim) → MayReplace C c (f c) → (c.stage ≢ Moved → (f c).stage ≢ Moved)
-      → (q value : ℕ) → q % 8 ≡ 0 → c.from ≤ q → q < claim_end c → (c.place ≤ q) ⊎ (c.stage ≡ Moved)
-      → staged_word (f c) q ≡ value → ((p : ℕ) → p % 8 ≡ 0 → p ≢ q → staged_word (f c) p ≡ staged_word c p)
+  edits : (words : List ℕ) (views : List View) (r : Kept C start words views) (id : ℕ) (v : View) (k : ℕ)
+      (c : StagedClaim) → HasUnsettled C start views id v k c → (f : StagedClaim → StagedClaim) (q value : ℕ)
+      → IsWordOf c q → Rewords C c (f c) q value
       → Kept C start (set words (index C q) value) (set views id (with_claims (changed c.place f v.producer.claims) v))
-  edits words views r id v at k c has un f may goes q value q8 lo hi late word others =
+  edits words views r id v k c has f q value is edit =
+      let at = has.seat in
+      let may = edit.may in
       let h : OwnedHistory = r.hist in
       let p : ℕ = c.place in
       let h' : OwnedHistory = edited id p f h in
       let w : View = with_claims (changed p f v.producer.claims) v in
-      let st = stands C start words views r id v at k c has un in
+      let st = stands C start words views r id v k c has in
+      let lo = is.from in
+      let hi = is.below in
       let below = st.lies.below in
       let behind = st.behind_scan in
       let m = r.memory in
@@ -80,9 +109,9 @@ module _ (C start : ℕ) where
       (sym (one_at_place C start h j st.nth x (id, c) m.placed there st.there e)) own in
       let may_all : MayReplaceAt C p f h = only (λ d. MayReplace C d (f d)) may in
       let un_all : Unsettled p f h =
-      only (λ d. (IsSettled d.stage → ⊥) × (d.stage ≢ Moved → (f d).stage ≢ Moved)) (un, goes) in
+      only (λ d. (IsSettled d.stage → ⊥) × (d.stage ≢ Moved → (f d).stage ≢ Moved)) (has.unsettled, edit.goes) in
       let low : r.consumer.scan ≤ q = ⊎_elim (λ (a : p ≤ q). omega arith)
-      (λ (a : c.stage ≡ Moved). let padding = st.padding_behind a in omega arith) late in
+      (λ (a : c.stage ≡ Moved). let padding = st.padding_behind a in omega arith) is.late in
       let tops : staged_end start (all_of h') ≡ top = staged_end-edited id p f C start h may_all in
       let placed' = placed_edited id p f C start h may_all m.placed in
       let is_here = edited_one_here id p f c refl in
@@ -92,7 +121,7 @@ module _ (C start : ℕ) where
       (subst (λ (z : StagedClaim). z.from ≤ q) (sym is_here) (let same = may.from in omega arith))
       (subst (λ (z : StagedClaim). q < claim_end z) (sym is_here)
       (let place = may.place in let long = may.same_span in omega arith))
-      ∙ ap (λ (z : StagedClaim). staged_word z q) is_here ∙ word in
+      ∙ ap (λ (z : StagedClaim). staged_word z q) is_here ∙ edit.word in
       let inside = index_inside C start r.lawful q in
       record {
         lawful = r.lawful;
@@ -100,36 +129,47 @@ module _ (C start : ℕ) where
         reader = r.reader;
         consumer = r.consumer;
         drawn = r.drawn;
-        memory = memory_edited C start r.lawful words r.consumer h m id p f may_all un_all q value q8 low
-            (omega arith) word_now
-            (only (λ d. (i : ℕ) → i % 8 ≡ 0 → i ≢ q → staged_word (f d) i ≡ staged_word d i) others);
-        service = service_elsewhere C start r.lawful words r.consumer r.drawn r.service (index C q) value
-            (λ e. omega arith) (λ e. omega arith) (λ e. omega arith)
-            (λ j un e. let far = un.behind in omega arith) r.consumer (omega arith) refl;
+        memory = memory_edited C start r.lawful words r.consumer h m id p f q value is.whole low (omega arith) (record {
+          may = may_all;
+          unsettled = un_all;
+          word = word_now;
+          others = only (λ d. (i : ℕ) → i % 8 ≡ 0 → i ≢ q → staged_word (f d) i ≡ staged_word d i) edit.others;
+        });
+        service = service_elsewhere C start r.lawful words r.consumer r.drawn r.service (index C q) value (record {
+          cache = λ e. omega arith;
+          correlation = λ e. omega arith;
+          heartbeat = λ e. omega arith;
+          unnamed = λ j un e. let far = un.behind in omega arith;
+        }) r.consumer (record { rises = omega arith; same = refl });
         seated = reseated top h r.reader r.consumer r.drawn views r.seated id v at
-            (staged_end start (all_of h')) h' r.consumer r.drawn w
-            (let own = r.seated.each id v at in
-            record {
-              claims = ap (changed p f) own.claims ∙ sym (owned_by-edited id p f h);
-              tail_seen = subst (λ n. v.producer.seen_tail ≤ n) (sym tops) own.tail_seen;
-              head_seen = own.head_seen;
-              idle = λ none. record { claims = ap (changed p f) (own.idle none).claims; draws = (own.idle none).draws };
-              served = own.served;
-              consumes = own.consumes;
-            })
-            (λ j u ne knows. record {
-              claims = knows.claims ∙ sym (owned_by-edited_other id p f j h ne);
-              tail_seen = subst (λ n. u.producer.seen_tail ≤ n) (sym tops) knows.tail_seen;
-              head_seen = knows.head_seen;
-              idle = knows.idle;
-              served = knows.served;
-              consumes = knows.consumes;
-            })
-            refl
-            (λ j ne. owned_by-edited_other id p f j h ne)
-            (sees_top_after views id v w top (staged_end start (all_of h')) at (λ rich. rich) tops
-            (λ e. e ∙ sym tops) r.seated.latest)
-            (λ x. refl);
+            (staged_end start (all_of h')) h' r.consumer r.drawn w (record {
+              own =
+                  (let own = r.seated.each id v at in
+                  record {
+                    claims = ap (changed p f) own.claims ∙ sym (owned_by-edited id p f h);
+                    tail_seen = subst (λ n. v.producer.seen_tail ≤ n) (sym tops) own.tail_seen;
+                    head_seen = own.head_seen;
+                    idle = λ none. record {
+                      claims = ap (changed p f) (own.idle none).claims;
+                      draws = (own.idle none).draws;
+                    };
+                    served = own.served;
+                    consumes = own.consumes;
+                  });
+              others = λ j u ne knows. record {
+                claims = knows.claims ∙ sym (owned_by-edited_other id p f j h ne);
+                tail_seen = subst (λ n. u.producer.seen_tail ≤ n) (sym tops) knows.tail_seen;
+                head_seen = knows.head_seen;
+                idle = knows.idle;
+                served = knows.served;
+                consumes = knows.consumes;
+              };
+              shares = refl;
+              outside = λ j ne. owned_by-edited_other id p f j h ne;
+              latest = sees_top_after views id v w top (staged_end start (all_of h')) at (λ rich. rich) tops
+                  (λ e. e ∙ sym tops) r.seated.latest;
+              drawn = λ x. refl;
+            });
       }
 
   rising : (words : List ℕ) (views : List View) (r : Kept C start words views) (id : ℕ) (v : View)
@@ -138,15 +178,16 @@ module _ (C start : ℕ) where
       subst AreRising (sym (r.seated.each id v at).claims) (rising_owned_by C start id r.hist r.memory.placed)
 
   -- two claims of a view that are not settled and have a word with one index at positions of theirs are at one place
-  same_place : (words : List ℕ) (views : List View) (r : Kept C start words views) (id : ℕ) (v : View) → v.capacity ≡ C
-      → get_elem? views id ≡ some v → (k k' : ℕ) (c c' : StagedClaim) → HasClaim v k c → HasClaim v k' c'
-      → (IsSettled c.stage → ⊥) → (IsSettled c'.stage → ⊥)
-      → (q q' : ℕ) → q % 8 ≡ 0 → q' % 8 ≡ 0 → c.from ≤ q → q < claim_end c → (c.place ≤ q) ⊎ (c.stage ≡ Moved)
-      → c'.from ≤ q' → q' < claim_end c' → (c'.place ≤ q') ⊎ (c'.stage ≡ Moved) → index v.capacity q' ≡ index C q
-      → (c'.place ≡ c.place) × (q' ≡ q)
-  same_place words views r id v cap at k k' c c' has has' un un' q q' q8 q8' lo hi late lo' hi' late' same =
-      let st = stands C start words views r id v at k c has un in
-      let st' = stands C start words views r id v at k' c' has' un' in
+  same_place : (words : List ℕ) (views : List View) (r : Kept C start words views) (id : ℕ) (v : View) (k k' : ℕ)
+      (c c' : StagedClaim) → HasUnsettled C start views id v k c → HasUnsettled C start views id v k' c' → (q q' : ℕ)
+      → IsWordOf c q → IsWordOf c' q' → index C q' ≡ index C q → (c'.place ≡ c.place) × (q' ≡ q)
+  same_place words views r id v k k' c c' has has' q q' is is' same =
+      let st = stands C start words views r id v k c has in
+      let st' = stands C start words views r id v k' c' has' in
+      let lo = is.from in
+      let hi = is.below in
+      let lo' = is'.from in
+      let hi' = is'.below in
       let m = r.memory in
       let from = m.clears_from in
       let to = m.clears_to in
@@ -156,73 +197,79 @@ module _ (C start : ℕ) where
       let behind = st.behind_scan in
       let behind' = st'.behind_scan in
       let low : r.consumer.scan ≤ q = ⊎_elim (λ (a : c.place ≤ q). omega arith)
-      (λ (a : c.stage ≡ Moved). let padding = st.padding_behind a in omega arith) late in
+      (λ (a : c.stage ≡ Moved). let padding = st.padding_behind a in omega arith) is.late in
       let low' : r.consumer.scan ≤ q' = ⊎_elim (λ (a : c'.place ≤ q'). omega arith)
-      (λ (a : c'.stage ≡ Moved). let padding = st'.padding_behind a in omega arith) late' in
-      let one : q' ≡ q = one_position C start r.lawful r.consumer.head q' q q8' q8 (omega arith) (omega arith)
-      (omega arith) (omega arith) (ap (λ z. index z q') (sym cap) ∙ same) in (
+      (λ (a : c'.stage ≡ Moved). let padding = st'.padding_behind a in omega arith) is'.late in
+      let one : q' ≡ q = one_position C start r.lawful r.consumer.head q' q
+      (record { whole = is'.whole; from = omega arith; below = omega arith })
+      (record { whole = is.whole; from = omega arith; below = omega arith }) same in (
         ap (λ (z : ℕ × StagedClaim). z.1.place)
-            (one_at_position C start r.hist st'.nth st.nth q (id, c') (id, c) m.placed st'.there st.there (omega arith)
-            (omega arith) lo hi),
+            (one_at_position C start r.hist st'.nth st.nth q (id, c') (id, c) m.placed
+            (record { there = st'.there; from = omega arith; below = omega arith })
+            (record { there = st.there; from = lo; below = hi })),
         one,
       )
+
+  -- the header of a claim that is not settled is a word of its record
+  header_lies : (words : List ℕ) (views : List View) (r : Kept C start words views) (id : ℕ) (v : View) (k : ℕ)
+      (c : StagedClaim) → HasUnsettled C start views id v k c → IsWordOf c c.place
+  header_lies words views r id v k c has =
+      let st = stands C start words views r id v k c has in
+      let padded = st.lies.padded in
+      record { whole = st.place_aligned; from = padded; below = omega arith; late = inl (omega arith) }
 
   -- the header of a claim at the stage t is stored, and it is f of the claim from then on
   header_step : (t : Stage) → (IsSettled t → ⊥) → (f : StagedClaim → StagedClaim) → (slots id : ℕ) (me : Mine)
       → me.0.capacity ≡ C → (k : ℕ) (c : StagedClaim) (value : ℕ) → HasClaim me.0 k c → c.stage ≡ t
-      → MayReplace C c (f c) → (f c).stage ≢ Moved → staged_word (f c) c.place ≡ value
-      → ((p : ℕ) → p % 8 ≡ 0 → c.place % 8 ≡ 0 → p ≢ c.place → staged_word (f c) p ≡ staged_word c p)
+      → (c.place % 8 ≡ 0 → Rewords C c (f c) c.place value)
       → Allows (Ok C start) slots id me (index C c.place) (λ _. value)
       (λ _ me'. (me'.1 ≡ me.1) × Changes t (λ d. d.place) f (index C c.place) me.0 me'.0
       × AreRising me.0.producer.claims)
-  header_step t un f slots id me cap k c value has is may stays word others s r wide at small =
+  header_step t un f slots id me cap k c value has is edit s r wide at small =
       let v : View = me.0 in
-      let un_c : IsSettled c.stage → ⊥ = λ z. un (subst IsSettled is z) in
-      let st = stands C start s.words s.views r id v at k c has un_c in
-      let padded = st.lies.padded in
-      let place8 = st.place_aligned in (
+      let mine : HasUnsettled C start s.views id v k c =
+      record { seat = at; claim = has; unsettled = λ z. un (subst IsSettled is z) } in
+      let header = header_lies s.words s.views r id v k c mine in (
         with_claims (changed c.place f v.producer.claims) v,
         keeps,
         tt,
-        edits s.words s.views r id v at k c has un_c f may (λ _. stays) c.place value place8 padded (omega arith)
-            (inl (omega arith)) word (λ p p8 ne. others p p8 place8 ne),
+        edits s.words s.views r id v k c mine f c.place value header (edit header.whole),
         (
           refl,
           (λ k' c' has' is' same.
-              let un_c' : IsSettled c'.stage → ⊥ = λ z. un (subst IsSettled is' z) in
-              let st' = stands C start s.words s.views r id v at k' c' has' un_c' in
-              let padded' = st'.lies.padded in
+              let other : HasUnsettled C start s.views id v k' c' =
+              record { seat = at; claim = has'; unsettled = λ z. un (subst IsSettled is' z) } in
               ap (λ p. with_claims (changed p f v.producer.claims) v)
-              (sym (same_place s.words s.views r id v cap at k k' c c' has has' un_c un_c' c.place c'.place place8
-              st'.place_aligned padded (omega arith) (inl (omega arith)) padded' (omega arith)
-              (inl (omega arith)) same).0)),
+              (sym (same_place s.words s.views r id v k k' c c' mine other c.place c'.place header
+              (header_lies s.words s.views r id v k' c' other) (ap (λ z. index z c'.place) (sym cap) ∙ same)).0)),
           rising s.words s.views r id v at,
         ),
       )
 
   -- the stage alone changes
-  stage_step : (t u : Stage) → (IsSettled t → ⊥) → u ≢ Moved
-      → ((word : ℕ) → masked_padding u word ≡ masked_padding t word)
-      → ((word : ℕ) → masked_record u word ≡ masked_record t word) → (slots id : ℕ) (me : Mine) → me.0.capacity ≡ C
+  stage_step : (t u : Stage) → MayFollow t u → (slots id : ℕ) (me : Mine) → me.0.capacity ≡ C
       → (k : ℕ) (c : StagedClaim) (value : ℕ) → HasClaim me.0 k c → c.stage ≡ t
       → value ≡ masked_record u (header_of (claim_of (staged u c)))
       → Allows (Ok C start) slots id me (index C c.place) (λ _. value)
       (λ _ me'. (me'.1 ≡ me.1) × Changes t (λ d. d.place) (staged u) (index C c.place) me.0 me'.0
       × AreRising me.0.producer.claims)
-  stage_step t u un stays pads masks slots id me cap k c value has is value_is =
-      header_step t un (staged u) slots id me cap k c value has is
-      (record { from = refl; place = refl; same_span = refl; message = λ m. m }) stays
-      (staged_word-header (staged u c) c.place refl ∙ sym value_is)
-      (λ p p8 place8 ne. staged_word-staged c u p p8 place8 ne
-      (λ word. masks word ∙ ap (λ z. masked_record z word) (sym is))
-      (λ _. pads (padding_header (c.place - c.from))
-      ∙ ap (λ z. masked_padding z (padding_header (c.place - c.from))) (sym is)))
+  stage_step t u on slots id me cap k c value has is value_is =
+      header_step t on.unsettled (staged u) slots id me cap k c value has is (λ place8. record {
+        may = record { from = refl; place = refl; same_span = refl; message = λ m. m };
+        goes = λ _. on.stays;
+        word = staged_word-header (staged u c) c.place refl ∙ sym value_is;
+        others = λ p p8 ne. staged_word-staged c u p p8 place8 ne
+            (λ word. on.records word ∙ ap (λ z. masked_record z word) (sym is))
+            (λ _. on.paddings (padding_header (c.place - c.from))
+            ∙ ap (λ z. masked_padding z (padding_header (c.place - c.from))) (sym is));
+      })
 
   pub settles : (u : ClaimState) (slots id : ℕ) (me : Mine) → me.0.capacity ≡ C → (k : ℕ) (c : StagedClaim) (value : ℕ)
       → HasClaim me.0 k c → c.stage ≡ Stored Open → value ≡ header_of (record { message = c.message; state = u })
       → Allows (Ok C start) slots id me (index C c.place) (λ _. value)
       (λ _ me'. (me'.1 ≡ me.1) × StoresSettled u (index C c.place) me.0 me'.0 × AreRising me.0.producer.claims)
-  settles u = stage_step (Stored Open) (Stored u) (λ z. z) (λ e. cc) (λ _. refl) (λ _. refl)
+  settles u = stage_step (Stored Open) (Stored u)
+      (record { unsettled = λ z. z; stays = λ e. cc; paddings = λ _. refl; records = λ _. refl })
 
   pub pads : (slots id : ℕ) (me : Mine) → me.0.capacity ≡ C → (k : ℕ) (c : StagedClaim) (value : ℕ) → HasClaim me.0 k c
       → c.stage ≡ Moved → c.from < c.place → value ≡ padding_header (c.place - c.from)
@@ -230,49 +277,57 @@ module _ (C start : ℕ) where
       (λ _ me'. (me'.1 ≡ me.1) × StoresPadding (index C c.from) me.0 me'.0 × AreRising me.0.producer.claims)
   pads slots id me cap k c value has is wraps value_is s r wide at small =
       let v : View = me.0 in
-      let un : IsSettled c.stage → ⊥ = λ z. subst IsSettled is z in
-      let st = stands C start s.words s.views r id v at k c has un in
-      let place8 = st.place_aligned in (
+      let mine : HasUnsettled C start s.views id v k c =
+      record { seat = at; claim = has; unsettled = λ z. subst IsSettled is z } in
+      let st = stands C start s.words s.views r id v k c mine in
+      let place8 = st.place_aligned in
+      let padding : IsWordOf c c.from =
+      record { whole = st.from_aligned; from = omega arith; below = omega arith; late = inr is } in (
         with_claims (changed c.place (staged Padded) v.producer.claims) v,
         keeps,
         tt,
-        edits s.words s.views r id v at k c has un (staged Padded)
-            (record { from = refl; place = refl; same_span = refl; message = λ m. m })
-            (λ _ e. cc) c.from value st.from_aligned (omega arith) (omega arith) (inr is)
-            (staged_word-padding (staged Padded c) c.from refl wraps ∙ sym value_is)
-            (λ p p8 ne. dite (ℕ_discrete p c.place)
-            (λ e. staged_word-header (staged Padded c) p e
-            ∙ sym (staged_word-header c p e ∙ ap (λ z. masked_record z (header_of (claim_of c))) is))
-            (λ other. staged_word-staged c Padded p p8 place8 other (λ word. ap (λ z. masked_record z word) (sym is))
-            (λ e. absurd (ne e)))),
+        edits s.words s.views r id v k c mine (staged Padded) c.from value padding (record {
+          may = record { from = refl; place = refl; same_span = refl; message = λ m. m };
+          goes = λ _ e. cc;
+          word = staged_word-padding (staged Padded c) c.from refl wraps ∙ sym value_is;
+          others = λ p p8 ne. dite (ℕ_discrete p c.place)
+              (λ e. staged_word-header (staged Padded c) p e
+              ∙ sym (staged_word-header c p e ∙ ap (λ z. masked_record z (header_of (claim_of c))) is))
+              (λ other. staged_word-staged c Padded p p8 place8 other
+              (λ word. ap (λ z. masked_record z word) (sym is)) (λ e. absurd (ne e)));
+        }),
         (
           refl,
           (λ k' c' has' is' same.
-              let un' : IsSettled c'.stage → ⊥ = λ z. subst IsSettled is' z in
-              let st' = stands C start s.words s.views r id v at k' c' has' un' in
+              let other : HasUnsettled C start s.views id v k' c' =
+              record { seat = at; claim = has'; unsettled = λ z. subst IsSettled is' z } in
+              let st' = stands C start s.words s.views r id v k' c' other in
               let padded' = st'.lies.padded in
               ap (λ p. with_claims (changed p (staged Padded) v.producer.claims) v)
-              (sym (same_place s.words s.views r id v cap at k k' c c' has has' un un' c.from c'.from
-              st.from_aligned st'.from_aligned (omega arith) (omega arith) (inr is) (omega arith) (omega arith)
-              (inr is') same).0)),
+              (sym (same_place s.words s.views r id v k k' c c' mine other c.from c'.from padding
+              (record { whole = st'.from_aligned; from = omega arith; below = omega arith; late = inr is' })
+              (ap (λ z. index z c'.from) (sym cap) ∙ same)).0)),
           rising s.words s.views r id v at,
         ),
       )
 
   -- the claimed header fixes type id and length
   pub opens : (slots id : ℕ) (me : Mine) → me.0.capacity ≡ C → (k : ℕ) (c : StagedClaim) (type_id : ℤ) (n value : ℕ)
-      → value ≡ open_header type_id n → C ≤ 2 ^ 24 → HasClaim me.0 k c → c.stage ≡ Padded → span n ≡ staged_span c
-      → IsMessage C (blank type_id n)
+      → value ≡ open_header type_id n → HasClaim me.0 k c → c.stage ≡ Padded → FillsClaim C c type_id n
       → Allows (Ok C start) slots id me (index C c.place) (λ _. value)
       (λ _ me'. (me'.1 ≡ me.1) × StoresClaimed (index C c.place) value me.0 me'.0 × AreRising me.0.producer.claims)
-  opens slots id me cap k c type_id n value value_is big has is long lawful s r wide at small =
+  opens slots id me cap k c type_id n value value_is has is fills s r wide at small =
+      let big = fills.most in
+      let lawful = fills.lawful in
       let zeros : length (blank type_id n).body ≡ n = length-replicate n 0 in
       let short : n ≤ C / 8 = omega (arith, lawful.short) in
-      let t = header_step Padded (λ z. z) (with_header type_id n) slots id me cap k c value has is
-      (record { from = refl; place = refl; same_span = ap span zeros ∙ long; message = λ _. lawful })
-      (λ e. cc)
-      (staged_word-header (with_header type_id n c) c.place refl ∙ ap (open_header type_id) zeros ∙ sym value_is)
-      (λ p p8 place8 ne. staged_word-opened c type_id n p p8 place8 ne is) s r wide at small in (
+      let t = header_step Padded (λ z. z) (with_header type_id n) slots id me cap k c value has is (λ place8. record {
+        may = record { from = refl; place = refl; same_span = ap span zeros ∙ fills.span_is; message = λ _. lawful };
+        goes = λ _ e. cc;
+        word = staged_word-header (with_header type_id n c) c.place refl ∙ ap (open_header type_id) zeros
+            ∙ sym value_is;
+        others = λ p p8 ne. staged_word-opened c type_id n p p8 place8 ne is;
+      }) s r wide at small in (
         t.0,
         t.1,
         t.2,
@@ -296,47 +351,51 @@ module _ (C start : ℕ) where
       × AreRising me.0.producer.claims)
   puts slots id me cap k c o value has takes below_64 s r wide at small =
       let v : View = me.0 in
-      let un : IsSettled c.stage → ⊥ = λ z. subst IsSettled takes.stage z in
-      let st = stands C start s.words s.views r id v at k c has un in
+      let mine : HasUnsettled C start s.views id v k c =
+      record { seat = at; claim = has; unsettled = λ z. subst IsSettled takes.stage z } in
+      let st = stands C start s.words s.views r id v k c mine in
       let padded = st.lies.padded in
       let place8 = st.place_aligned in
       let q : ℕ = c.place + 8 + o in
       let n : ℕ = length c.message.body in
       let o8 = takes.aligned in
       let lt : o < n = takes.inside in
-      let long = length-with_word o value c.message.body (omega arith) in (
+      let long = length-with_word o value c.message.body (omega arith) in
+      let word : IsWordOf c q =
+      record { whole = omega arith; from = omega arith; below = omega arith; late = inl (omega arith) } in (
         with_claims (changed c.place (with_body_word o value) v.producer.claims) v,
         keeps,
         tt,
-        edits s.words s.views r id v at k c has un (with_body_word o value)
-            (record {
-              from = refl;
-              place = refl;
-              same_span = ap span long;
-              message = λ m. record {
-                type_id = m.type_id;
-                type_fits = m.type_fits;
-                short =
-                    (let short = m.short in omega arith);
-                bytes = bytes_of-with_word c.message.body o value m.bytes;
-              };
-            })
-            (λ stays. stays) q value (omega arith) (omega arith) (omega arith) (inl (omega arith))
-            (staged_word-stored (with_body_word o value c) q o (subst IsStored (sym takes.stage) tt) refl
-            ∙ body_word-with_word c.message.body o value lt below_64 takes.zeros)
-            (λ p p8 ne. staged_word-written c o value p (omega arith) place8 o8 p8 ne),
+        edits s.words s.views r id v k c mine (with_body_word o value) q value word (record {
+          may = record {
+            from = refl;
+            place = refl;
+            same_span = ap span long;
+            message = λ m. record {
+              type_id = m.type_id;
+              type_fits = m.type_fits;
+              short = (let short = m.short in omega arith);
+              bytes = bytes_of-with_word c.message.body o value m.bytes;
+            };
+          };
+          goes = λ stays. stays;
+          word = staged_word-stored (with_body_word o value c) q o (subst IsStored (sym takes.stage) tt) refl
+              ∙ body_word-with_word c.message.body o value lt below_64 takes.zeros;
+          others = λ p p8 ne. staged_word-written c o value p (omega arith) place8 o8 p8 ne;
+        }),
         (
           refl,
           (λ k' c' o' has' is' o8' lt' same.
-              let un' : IsSettled c'.stage → ⊥ = λ z. subst IsSettled is' z in
-              let st' = stands C start s.words s.views r id v at k' c' has' un' in
+              let other : HasUnsettled C start s.views id v k' c' =
+              record { seat = at; claim = has'; unsettled = λ z. subst IsSettled is' z } in
+              let st' = stands C start s.words s.views r id v k' c' other in
               let padded' = st'.lies.padded in
               let place8' = st'.place_aligned in
               let n' : ℕ = length c'.message.body in
               let q' : ℕ = c'.place + 8 + o' in
-              let one = same_place s.words s.views r id v cap at k k' c c' has has' un un' q q' (omega arith)
-              (omega arith) (omega arith) (omega arith) (inl (omega arith)) (omega arith) (omega arith)
-              (inl (omega arith)) same in
+              let one = same_place s.words s.views r id v k k' c c' mine other q q' word
+              (record { whole = omega arith; from = omega arith; below = omega arith; late = inl (omega arith) })
+              (ap (λ z. index z q') (sym cap) ∙ same) in
               let places : c'.place ≡ c.place = one.0 in
               let positions : q' ≡ q = one.1 in
               let offsets : o ≡ o' = omega arith in

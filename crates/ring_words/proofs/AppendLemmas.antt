@@ -140,8 +140,10 @@ module _ (r : Ring) (c : Claim) (place end : ℕ) (ok : IsRing r) (lawful : IsMe
       let near : p < tail_of r + C = omega (arith, admitted.is_end, admitted.fits, ok.order, reach) in
       let low = mod_below (tail_of r) C nonzero in
       let other : index C p ≢ index C (tail_of r) =
-      λ e. let same = apart C (tail_of r) p (tail_of r) nonzero blocks p8 (tail_aligned r ok) (omega (arith, on')) near
-      (omega arith) (omega (arith, nonzero)) e in omega (arith, on', same) in
+      λ e. let same = apart C (tail_of r) p (tail_of r) (record { some = nonzero; whole = blocks })
+      (record { whole = p8; from = omega (arith, on'); below = near })
+      (record { whole = tail_aligned r ok; from = omega arith; below = omega (arith, nonzero) }) e in
+      omega (arith, on', same) in
       let kept : slice_index (padded C (tail_of r) place r.words) (index C p) ≡ slice_index r.words (index C p) =
       elim (cases_lt (tail_of r) place) as (λ _. slice_index (padded C (tail_of r) place r.words) (index C p)
       ≡ slice_index r.words (index C p)) [

@@ -80,8 +80,10 @@ module _ (r : Ring) (c : Claim) (w : List ℕ) (ok : IsRing r) (m : IsMessage r.
       let kept : ((q : ℕ) → tail_of r ≤ q → q < end_after r.capacity (tail_of r) (span_of c) → p ≡ q → ⊥)
       → slice_index w (p % r.capacity / 8) ≡ word_at r.capacity (head_of r) h p =
       λ out. s.outside (p % r.capacity / 8) (λ b. out b.0 b.2 b.3
-      (apart r.capacity (head_of r) p b.0 nonzero c8 p8 b.1 hp lt (omega (arith, b.2)) (omega (arith, b.3, fits))
-      (sym b.4))) ∙ has.picture p p8 hp lt in
+      (apart r.capacity (head_of r) p b.0 (record { some = nonzero; whole = c8 })
+      (record { whole = p8; from = hp; below = lt })
+      (record { whole = b.1; from = omega (arith, b.2); below = omega (arith, b.3, fits) }) (sym b.4)))
+      ∙ has.picture p p8 hp lt in
       let Goal : Type 0 =
       slice_index (slice_set w (tail_index r.capacity) (end_after r.capacity (tail_of r) (span_of c)))
       (p % r.capacity / 8) ≡ word_at r.capacity (head_of r) (h ++ c ∷ []) p in

@@ -237,15 +237,17 @@ module _ (r : Ring) (t : ClaimAt) (change : Claim → Claim) (new : List ℕ) (o
           length = w.same_length;
           trailer = λ i le. w.others i (inr (omega (arith, size, there.within, bounds, c8)));
           inside = λ p p8 le lt.
-              record_inside C t.place (change s.claim) new c8 a8 (omega (arith, there.within, same)) header body p p8
-              (omega (arith, is)) (omega (arith, is, same))
+              record_inside C t.place (change s.claim) new c8
+              (record { whole = a8; within = omega (arith, there.within, same); header = header; body = body }) p
+              (record { whole = p8; from = omega (arith, is); below = omega (arith, is, same) })
               ∙ ap (λ k. claim_word (change s.claim) (p - k)) (sym is);
           outside = λ p p8 le lt out.
               let far : (p < t.place) ⊎ (t.place + n ≤ p) =
               elim out as (λ _. (p < t.place) ⊎ (t.place + n ≤ p))
               [ inl b ↦ inl (omega (arith, is)) | inr b ↦ inr (omega (arith, is)) ] in
-              let index_out = index_outside C (head_of r) t.place n p some c8 a8 p8 bounds.0 there.within there.from
-              there.reach le lt far in
+              let index_out = index_outside C (head_of r) t.place n p (record { some = some; whole = c8 })
+              (record { whole = a8; words = bounds.0; within = there.within; from = there.from; to = there.reach })
+              (record { whole = p8; from = le; below = lt }) far in
               w.others (index C p)
               (elim index_out as (λ _. (index C p < index C t.place)
               ⊎ (index C t.place + span t.len / 8 ≤ index C p))

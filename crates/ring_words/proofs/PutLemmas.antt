@@ -46,17 +46,36 @@ overwritten_none at bs xs le none =
       | inr behind ↦ overwritten_behind at bs xs i (omega arith) (omega arith)
     ])
 
+-- bytes lie inside a body
+pub record LieInBody (offset : ℕ) (bytes body : List ℕ) : Type 0 where
+  pub old : All (λ b. b < 256) body
+  pub new : (j : ℕ) → slice_index bytes j < 256
+  pub fits : offset + length bytes ≤ length body
+
+-- the chunk is the n bytes behind those that were put, which lie in one word
+pub record IsChunk (offset done n : ℕ) (bytes chunk : List ℕ) : Type 0 where
+  pub some : 0 < n
+  pub more : done + n ≤ length bytes
+  pub size : length chunk ≡ n
+  pub bytes_are : chunk ≡ take n (drop done bytes)
+  pub in_word : (offset + done) % 8 + n ≤ 8
+
 -- n bytes more are put, into one word
-pub holds_more : (at offset done n word : ℕ) (bytes chunk words body : List ℕ) → All (λ b. b < 256) body
-    → ((j : ℕ) → slice_index bytes j < 256)
-    → offset + length bytes ≤ length body → done + n ≤ length bytes → length chunk ≡ n
-    → chunk ≡ take n (drop done bytes) → (offset + done) % 8 + n ≤ 8
-    → at + (offset + done) / 8 < length words
+pub holds_more : (at offset done n word : ℕ) (bytes chunk words body : List ℕ) → LieInBody offset bytes body
+    → IsChunk offset done n bytes chunk → at + (offset + done) / 8 < length words
     → word ≡ from_le_bytes w64 (overwritten ((offset + done) % 8) chunk
     (to_le_bytes w64 (slice_index words (at + (offset + done) / 8))))
-    → (0 < n) → HoldsBytes words at (overwritten offset (take done bytes) body)
+    → HoldsBytes words at (overwritten offset (take done bytes) body)
     → HoldsBytes (slice_set words (at + (offset + done) / 8) word) at (overwritten offset (take (done + n) bytes) body)
-holds_more at offset done n word bytes chunk words body small small' fits more size is in_word room stored some held =
+holds_more at offset done n word bytes chunk words body lie part room stored held =
+    let small = lie.old in
+    let small' = lie.new in
+    let fits = lie.fits in
+    let some = part.some in
+    let more = part.more in
+    let size = part.size in
+    let is = part.bytes_are in
+    let in_word = part.in_word in
     let k : ℕ = (offset + done) / 8 in
     let b : ℕ = (offset + done) % 8 in
     let there : 8 * k + b ≡ offset + done = omega arith in

@@ -10,28 +10,39 @@ use Rattle.ring_layout.specs.Places.{next_place}
 use Rattle.ring_layout.specs.Picture.{word_at, claim_word}
 use Rattle.ring_layout.specs.Headers.{header, header_of, padding_type}
 use Rattle.ring_words.specs.Storing.{Stores}
-use Rattle.ring_layout.proofs.Laps.{index_step, index_outside, apart}
+use Rattle.ring_layout.proofs.Laps.{IsInLap, index_step, index_outside, apart}
 use Rattle.ring_layout.proofs.PlaceLemmas.{next_le, next_within, next_aligned, span_bounds}
 use Rattle.ring_layout.proofs.PictureLemmas.{word_at_padding, word_at_padding_header, word_at_record}
 
+-- header and body of a record stand at its place, which it does not go beyond the end of the buffer from
+pub record HoldsRecord (C place : ℕ) (c : Claim) (w : List ℕ) : Type 0 where
+  pub whole : place % 8 ≡ 0
+  pub within : place % C + span_of c ≤ C
+  pub header : slice_index w (place % C / 8) ≡ header_of c
+  pub body : (k : ℕ) → 8 * k < length c.message.body
+      → slice_index w (place % C / 8 + 1 + k) ≡ from_le_bytes w64 (drop (8 * k) c.message.body)
+
 -- the words of one record, from its header and its body
-pub record_inside : (C place : ℕ) (c : Claim) (w : List ℕ) → C % 8 ≡ 0 → place % 8 ≡ 0 → place % C + span_of c ≤ C
-    → slice_index w (place % C / 8) ≡ header_of c
-    → ((k : ℕ) → 8 * k < length c.message.body
-    → slice_index w (place % C / 8 + 1 + k) ≡ from_le_bytes w64 (drop (8 * k) c.message.body))
-    → (p : ℕ) → p % 8 ≡ 0 → place ≤ p → p < place + span_of c → slice_index w (p % C / 8) ≡ claim_word c (p - place)
-record_inside C place c w c8 l8 within head body p p8 le lt =
+pub record_inside : (C place : ℕ) (c : Claim) (w : List ℕ) → C % 8 ≡ 0 → HoldsRecord C place c w → (p : ℕ)
+    → IsInLap (span_of c) place p → slice_index w (p % C / 8) ≡ claim_word c (p - place)
+record_inside C place c w c8 holds p at =
+    let l8 = holds.whole in
+    let within = holds.within in
+    let p8 = at.whole in
+    let le = at.from in
+    let lt = at.below in
     elim (cases_eq (p - place) 0) as (λ _. slice_index w (p % C / 8) ≡ claim_word c (p - place)) [
       | inl z ↦
           let same : p ≡ place = omega arith in
-          ap (λ q. slice_index w (q % C / 8)) same ∙ head ∙ sym (cond-true _ _ _ (eq-eqb (p - place) 0 z))
+          ap (λ q. slice_index w (q % C / 8)) same ∙ holds.header ∙ sym (cond-true _ _ _ (eq-eqb (p - place) 0 z))
       | inr n ↦
           let k : ℕ = (p - place) / 8 - 1 in
           let same : p ≡ place + 8 * (k + 1) = omega arith in
           let step = index_step C place (k + 1) c8 l8 (omega arith) in
           let index : p % C / 8 ≡ place % C / 8 + 1 + k = ap (λ q. q % C / 8) same ∙ step ∙ omega arith in
           let offset : 8 * k ≡ p - place - 8 = omega arith in
-          ap (slice_index w) index ∙ body k (omega arith) ∙ ap (λ j. from_le_bytes w64 (drop j c.message.body)) offset
+          ap (slice_index w) index ∙ holds.body k (omega arith) ∙ ap (λ j. from_le_bytes w64 (drop j c.message.body))
+          offset
           ∙ sym (cond-false _ _ _ (ne_eqb (p - place) 0 n))
     ]
 
@@ -102,7 +113,9 @@ module _ (C tail place : ℕ) (c : Claim) (w0 w1 w2 w3 : List ℕ) (s : Steps C 
   out_of : (p : ℕ) → p % 8 ≡ 0 → tail ≤ p → p < tail + C → (p < place) ⊎ (place + span_of c ≤ p)
       → (p % C / 8 < place % C / 8) ⊎ (place % C / 8 + span_of c / 8 ≤ p % C / 8)
   out_of p p8 le lt out =
-      index_outside C tail place (span_of c) p s.nonzero s.blocks l8 p8 n8 within behind s.fits le lt out
+      index_outside C tail place (span_of c) p (record { some = s.nonzero; whole = s.blocks })
+      (record { whole = l8; words = n8; within = within; from = behind; to = s.fits })
+      (record { whole = p8; from = le; below = lt }) out
 
   in_padding : (p : ℕ) → p % 8 ≡ 0 → tail ≤ p → p < place → slice_index w3 (p % C / 8) ≡ word_at C tail (c ∷ []) p
   in_padding p p8 le lt =
@@ -120,8 +133,9 @@ module _ (C tail place : ℕ) (c : Claim) (w0 w1 w2 w3 : List ℕ) (s : Steps C 
             ∙ ap (λ q. word_at C tail (c ∷ []) q) (sym is)
         | inr is_not ↦
             let ne : tail < place → p % C / 8 ≢ tail % C / 8 =
-            λ _ e. is_not (apart C tail p tail s.nonzero s.blocks p8 s.aligned le in_window (omega arith)
-            (omega (arith, s.nonzero)) e) in
+            λ _ e. is_not (apart C tail p tail (record { some = s.nonzero; whole = s.blocks })
+            (record { whole = p8; from = le; below = in_window })
+            (record { whole = s.aligned; from = omega arith; below = omega (arith, s.nonzero) }) e) in
             there ∙ unpadded (p % C / 8) ne ∙ s.free p p8 le in_window (omega arith)
             ∙ sym (word_at_padding C tail p c [] before is_not)
       ]
@@ -135,7 +149,9 @@ module _ (C tail place : ℕ) (c : Claim) (w0 w1 w2 w3 : List ℕ) (s : Steps C 
             elim (cases_lt p place) as (λ _. slice_index w3 (p % C / 8) ≡ word_at C tail (c ∷ []) p) [
               | inl h ↦ in_padding p p8 le h
               | inr h ↦
-                  record_inside C place c w3 s.blocks l8 within head_there s.body p p8 h (omega (arith, is))
+                  record_inside C place c w3 s.blocks
+                  (record { whole = l8; within = within; header = head_there; body = s.body }) p
+                  (record { whole = p8; from = h; below = omega (arith, is) })
                   ∙ ap (λ q. claim_word c (p - q)) is
                   ∙ sym (word_at_record C tail p c [] (omega (arith, is)) lt)
             ];

@@ -70,8 +70,10 @@ module _ (r : Ring) (n : ℕ) (w : List ℕ) (ok : IsRing r) (n8 : n % 8 ≡ 0)
       (slice_set w (head_index r.capacity) (head_of r + n)) (p % r.capacity / 8)
       ≡ word_at r.capacity (head_of r + n) rest p) [
         | inl near ↦
-            kept (p % r.capacity / 8) ne (index_outside r.capacity (head_of r)
-            (head_of r) n p nonzero c8 aligned p8 n8 within (omega arith) (omega arith) (omega arith) near (inr le))
+            kept (p % r.capacity / 8) ne (index_outside r.capacity (head_of r) (head_of r) n p
+            (record { some = nonzero; whole = c8 })
+            (record { whole = aligned; words = n8; within = within; from = omega arith; to = omega arith })
+            (record { whole = p8; from = omega arith; below = near }) (inr le))
             ∙ has.picture p p8 (omega arith) near ∙ same p le
         | inr far ↦
             let q : ℕ = p - r.capacity in

@@ -235,11 +235,21 @@ module _ (C : ℕ) (cap : IsCapacity C) where
       ∙ cond-false _ _ _ (ne_eqb (8 * (j + 1)) 0 (λ z. omega arith))
       ∙ ap (λ n. from_le_bytes w64 (drop n c.message.body)) back
 
+  -- two claims that come next behind e are lawful, and lie at p and q
+  record ComeNext (e p q : ℕ) (c d : Claim) : Type 0 where
+    pub first : IsMessage C c.message
+    pub second : IsMessage C d.message
+    pub first_at : next_place C e (span_of c) ≡ p
+    pub second_at : next_place C e (span_of d) ≡ q
+
   -- both histories go on with a claim at q
-  both : (e q : ℕ) (c d : Claim) (h g : List Claim) → q % 8 ≡ 0 → e ≤ q → IsMessage C c.message → IsMessage C d.message
-      → next_place C e (span_of c) ≡ q → next_place C e (span_of d) ≡ q → Same e (c ∷ h) (d ∷ g)
+  both : (e q : ℕ) (c d : Claim) (h g : List Claim) → q % 8 ≡ 0 → e ≤ q → ComeNext e q q c d → Same e (c ∷ h) (d ∷ g)
       → ((r : ℕ) → r % 8 ≡ 0 → Same r h g → Alike C r h g) → Alike C e (c ∷ h) (d ∷ g)
-  both e q c d h g q8 le m l at at' same rest =
+  both e q c d h g q8 le next same rest =
+      let m = next.first in
+      let l = next.second in
+      let at = next.first_at in
+      let at' = next.second_at in
       let w : ℕ = word_at C e (c ∷ h) q in
       let p = told c w m (head_here e q c h at) in
       let p' = told d w l (same.1 q q8 le ∙ head_here e q d g at') in
@@ -296,11 +306,15 @@ module _ (C : ℕ) (cap : IsCapacity C) where
       )
 
   -- where one history has padding up to q, the other has an aborted claim of the same length
-  padded : (e q : ℕ) (c d : Claim) (h g : List Claim) → e % 8 ≡ 0 → IsMessage C c.message → IsMessage C d.message
-      → next_place C e (span_of c) ≡ q → e < q → next_place C e (span_of d) ≡ e → Same e (c ∷ h) (d ∷ g)
-      → ((r : ℕ) → r % 8 ≡ 0 → Same r (c ∷ h) g → Alike C r (c ∷ h) g) → Alike C e (c ∷ h) (d ∷ g)
+  padded : (e q : ℕ) (c d : Claim) (h g : List Claim) → e % 8 ≡ 0 → e < q → ComeNext e q e c d
+      → Same e (c ∷ h) (d ∷ g) → ((r : ℕ) → r % 8 ≡ 0 → Same r (c ∷ h) g → Alike C r (c ∷ h) g) → Alike C e (c ∷ h)
+      (d ∷ g)
   unfolding Told len_word type_word
-  padded e q c d h g e8 m l at lt at' same rest =
+  padded e q c d h g e8 lt next same rest =
+      let m = next.first in
+      let l = next.second in
+      let at = next.first_at in
+      let at' = next.second_at in
       let q8 : q % 8 ≡ 0 = let a = next_aligned C e (span_of c) nonzero c8 e8 in omega (arith, a, at) in
       let pad : ℕ = q - e in
       let low = mod_below e C nonzero in
@@ -373,20 +387,24 @@ module _ (C : ℕ) (cap : IsCapacity C) where
               let one : next_place C e (span_of d) ≡ next_place C e (span_of c) =
               omega (arith, next_cases C e (span_of c), next_cases C e (span_of d)) in
               both e (next_place C e (span_of c)) c d h g
-              (next_aligned C e (span_of c) nonzero c8 e8) ce m l refl one same
+              (next_aligned C e (span_of c) nonzero c8 e8) ce
+              (record { first = m; second = l; first_at = refl; second_at = one }) same
               (λ r r8 s. unique n r h g (omega arith) r8 (All-tail P c h lh) (All-tail P d g lg) s)
           | inr pd ↦
-              padded e (next_place C e (span_of c)) c d h g e8 m l refl pc (omega arith) same
+              padded e (next_place C e (span_of c)) c d h g e8 pc
+              (record { first = m; second = l; first_at = refl; second_at = omega arith }) same
               (λ r r8 s. unique n r (c ∷ h) g (omega arith) r8 lh (All-tail P d g lg) s)
         ]
         | inr pc ↦ elim (cases_lt e (next_place C e (span_of d))) as (λ _. Alike C e (c ∷ h) (d ∷ g)) [
           | inl pd ↦
-              turned C e (d ∷ g) (c ∷ h) (padded e (next_place C e (span_of d)) d c g h e8 l m refl pd (omega arith)
+              turned C e (d ∷ g) (c ∷ h) (padded e (next_place C e (span_of d)) d c g h e8 pd
+              (record { first = l; second = m; first_at = refl; second_at = omega arith })
               (flip e (c ∷ h) (d ∷ g) same)
               (λ r r8 s. turned C r h (d ∷ g) (unique n r h (d ∷ g) (omega arith) r8 (All-tail P c h lh) lg
               (flip r (d ∷ g) h s))))
           | inr pd ↦
-              both e e c d h g e8 (omega arith) m l (omega arith) (omega arith) same
+              both e e c d h g e8 (omega arith)
+              (record { first = m; second = l; first_at = omega arith; second_at = omega arith }) same
               (λ r r8 s. unique n r h g (omega arith) r8 (All-tail P c h lh) (All-tail P d g lg) s)
         ]
       ]

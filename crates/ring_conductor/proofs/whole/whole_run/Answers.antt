@@ -91,7 +91,8 @@ returns c =
       first = messages_of early.messages;
       others = messages_of late.messages;
       received = e.hands_on.received ∙ (sym (lengths (received_of end)) ∙ ap length taken);
-      whole = λ h has. subst (λ l. l ++ committed_of h ≡ messages_of (placed_committed_of cs)) taken (e.headline.whole h has);
+      whole = λ h has. subst (λ l. l ++ committed_of h ≡ messages_of (placed_committed_of cs)) taken
+          (e.headline.whole h has);
       sent = sent;
       folded = two_folds (ledger_of c.subscribe.new.self) (ledger_of c.do_work.new.self)
           (ledger_of c.subscribe-2.new.self) (ledger_of c.do_work-2.new.self)

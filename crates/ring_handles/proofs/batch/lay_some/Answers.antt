@@ -15,4 +15,4 @@ returns-clause-some g c =
 pub returns-clause-none : goal.returns-clause-none
 returns-clause-none g c =
     let read = c.controlled_read.ensures in
-    laid_none _ _ _ _ _ _ c.requires.fresh.0 c.requires.fresh.1 read.ends.bytes read.ends.blocked read.controls
+    laid_none _ _ _ _ _ _ c.requires.fresh read.ends read.controls

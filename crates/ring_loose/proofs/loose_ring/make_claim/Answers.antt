@@ -36,7 +36,7 @@ returns-clause-holder g c =
           (sym c.reserve.ensures.same)
           (one_more_open c.args.ring.now c.args.producer.now c.claim.new.producer
           (held_in c.args.claims.now) c.in-Ok.claim gained.0 c.requires.held c.claim.ensures.claims
-          c.in-Ok.ensures.opened.is_open c.in-Ok.ensures.opened.apart gained.1 gained.2.claims));
+          c.in-Ok.ensures.opened gained.1 gained.2.claims));
     }
 
 pub returns-in-Err-clause-shares : goal.returns-in-Err-clause-shares

@@ -24,7 +24,8 @@ returns-clause-holder c =
       producer = put.producer;
       held = subst (AreOpen ring c.put-put.new.producer) (sym same)
           (put_open ring c.put-put.result c.args.producer.now c.put-put.new.producer (held_in c.args.claims.now)
-          (c.args.number - 1) c.in_ok-claim.claim c.args.offset c.args.bytes.now put.put put.refused.1 c.requires.held
+          (c.args.number - 1) c.in_ok-claim.claim c.args.offset c.args.bytes.now (put.put, put.refused.1)
+          c.requires.held
           taken.here.has
           (subst (IsOpenClaimOf ring c.put-put.new.producer) put.claim.0 put.claim.1) put.others.claims);
     }

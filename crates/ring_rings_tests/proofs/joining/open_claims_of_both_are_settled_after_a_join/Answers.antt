@@ -1,7 +1,8 @@
 use Rattle.ring_rings_tests.proofs.joining.open_claims_of_both_are_settled_after_a_join.Goals as goal
 
 pub commit-requires-clause-claim : goal.commit-requires-clause-claim
-commit-requires-clause-claim g c = c.join.ensures.claims.second c.in_ok-second.second c.in_ok-second.ensures.opened.is_open
+commit-requires-clause-claim g c =
+    c.join.ensures.claims.second c.in_ok-second.second c.in_ok-second.ensures.opened.is_open
 
 pub abort-requires-clause-claim : goal.abort-requires-clause-claim
 abort-requires-clause-claim g c =

@@ -33,10 +33,14 @@ loop-done-preserved c =
       most = omega (arith, c.min-count.ensures);
       inside = λ body small le held.
           holds_more c.args.at c.args.offset done n c.put_bytes_word.result c.args.bytes.now _ c.loop-done.words body
-          small (λ j. omega (arith, c.type_inv.bytes j)) le
-          (omega (arith, c.min-count.ensures)) size is
-          (omega (arith, c.min-count.ensures)) room c.put_bytes_word.ensures
-          (omega (arith, c.min-count.ensures, c.loop-done-test.true)) (inv.inside body small le held);
+          (record { old = small; new = λ j. omega (arith, c.type_inv.bytes j); fits = le })
+          (record {
+            some = omega (arith, c.min-count.ensures, c.loop-done-test.true);
+            more = omega (arith, c.min-count.ensures);
+            size = size;
+            bytes_are = is;
+            in_word = omega (arith, c.min-count.ensures);
+          }) room c.put_bytes_word.ensures (inv.inside body small le held);
       below = λ i lt. get_or-set_other c.loop-done.words at i c.put_bytes_word.result 0 (λ e. omega (arith, e))
           ∙ inv.below i lt;
       above = λ i le. get_or-set_other c.loop-done.words at i c.put_bytes_word.result 0

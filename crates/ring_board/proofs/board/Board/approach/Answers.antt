@@ -20,7 +20,7 @@ returns-clause-near c = let m = c.args.seat.now.me in let w : ℕ = c.load_heade
     c.load_intent-intent.ensures.seen.1 below pads in
     near_behind m _ _ (padding_loads m.0 t (index n p) w x) (index n behind) w c.load_header.result behind
     (padded_as m _ _ _ t (index n p) w x c.load_tail-tail.ensures.seen.0 one c.load_intent-intent.ensures.seen.0
-    (omega arith) below pads)
+    (omega arith, below) pads)
     c.load_header.ensures.heard (let g : m.0.at + announced w ≡ behind = omega arith in g)
     (padding_seen m.0 n p t w x behind size at pads (ap (λ (y : ℕ). p + y) far))
     (let g : behind ≤ max_position = omega arith in g)

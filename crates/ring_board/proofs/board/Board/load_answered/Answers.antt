@@ -26,7 +26,8 @@ loop-k-preserved c = let k : ℕ = c.loop-k.k in let n : ℕ = c.args.self.now.c
       table = c.load_unread-word.ensures.same.0 ∙ c.loop-k.invariant.table;
       id = c.load_unread-word.ensures.same.1 ∙ c.loop-k.invariant.id;
       loaded = loaded_on p k (c.index-first.result + 1 + k) c.load_unread-word.result seen.0 c.loop-k.out _
-          c.args.seat.now.me _ _ inv seen.1 there (omega arith) (omega arith) c.put_part.ensures c.put_part.auto.bytes;
+          c.args.seat.now.me _ _ inv seen.1 (record { index_is = there; below = omega arith; room = omega arith })
+          c.put_part.ensures c.put_part.auto.bytes;
     }
 
 pub returns-clause-gave : goal.returns-clause-gave

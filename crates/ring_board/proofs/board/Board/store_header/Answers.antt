@@ -10,5 +10,5 @@ store-requires c = let is = sym c.args.self.now.key in let q = c.requires.stage 
       search rules,
       omega arith,
       stores_header _ _ _ _ _ _ _ q.0 q.1 q.2 (at.0 ∙ (λ k. index (is k) (q.3 k)))
-          (subst (λ (n : ℕ). IsMessage n q.1) is q.4) q.5 q.6 q.7,
+          (subst (λ (n : ℕ). IsMessage n q.1) is q.4) (q.5, q.6) q.7,
     )

@@ -13,7 +13,8 @@ Worked commands index end = HasWorked commands index end.1
 -- a thread gives back the client that it was given, which has its number from the split
 pub gather-requires-clause-worked : goal.gather-requires-clause-worked
 gather-requires-clause-worked g t c =
-    elim c.match-started.branch as (λ _. Worked c.args.shared.plan.commands (c.args.remaining - 1) c.match-started.end) [
+    elim c.match-started.branch as
+    (λ _. Worked c.args.shared.plan.commands (c.args.remaining - 1) c.match-started.end) [
       | in-Ok-started w ↦ subst (Worked c.args.shared.plan.commands (c.args.remaining - 1)) (sym w.end-is)
           (subst (λ (p : ClientBack). HasWorked p.plan.commands p.index w.join.result) w.in-Ok-started.ensures.ok
           w.join.ensures.1)

@@ -31,7 +31,19 @@ returns-clause-end g c =
             omega (arith, done.1, counted, all),
             all_turns commands c.args.index client.seen (deeds_of client) _ _ _ _
                 (as_joined (receiver_view (receiver_of client.client))) _ _ (service_of (producer_of client.client))
-                done.2 answered all worked.sent c.requires.client.0.3.0 seats.claims seats.joined refl seats.services
-                refl,
+                done.2
+                (record {
+                  answered = answered;
+                  counted = all;
+                  few = worked.sent;
+                  rising = c.requires.client.0.3.0;
+                })
+                (record {
+                  together = seats.claims;
+                  joined = seats.joined;
+                  copies = refl;
+                  more = seats.services;
+                  draws = refl;
+                }),
           );
     }

@@ -17,7 +17,7 @@ loop-index-preserved c =
     let after = crowd new.transmitter new.receivers in
     let step = given_up c.leave.result (held_in old.receivers) (held_in new.receivers) i (LeavesCrowd before
     (i + 1) after)
-    (held_where _ _ c.leave.result e.same) e.left (λ left. left.goes.given_up) e.free inside was.1 in
+    (held_where _ _ c.leave.result e.same) e.left (λ left. left.goes.given_up) e.free (inside, was.1) in
     (step.0 ∙ was.0, step.1, left_on i before after inside c.leave.result e.same e.left e.free ∙ was.2, e.board ∙ was.3)
 
 pub returns-clause-shares : goal.returns-clause-shares

@@ -11,9 +11,9 @@ abort-requires-clause-claim c = c.self.invariant.holder.held.open_of _ _ c.in_ok
 pub invariant_of-self-in-Committed : goal.invariant_of-self-in-Committed
 invariant_of-self-in-Committed c = let did = c.commit.ensures in
     settled_seats _ _ _ _ _ _ _ _ Committed (λ same. absurd cc) c.self.invariant c.in_ok-claim.ensures.taken
-    did.producer did.others did.settled
+    (did.producer, did.others) did.settled
 
 pub invariant_of-self-in-Aborted : goal.invariant_of-self-in-Aborted
 invariant_of-self-in-Aborted c = let did = c.abort.ensures in
     settled_seats _ _ _ _ _ _ _ _ Aborted (λ same. absurd cc) c.self.invariant c.in_ok-claim.ensures.taken
-    did.producer did.others did.settled
+    (did.producer, did.others) did.settled

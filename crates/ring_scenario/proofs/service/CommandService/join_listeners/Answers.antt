@@ -15,7 +15,8 @@ loop-index-preserved c =
     let step = given_up c.dismiss.result xs ys i
     (LeavesCrowd (crowd (transmitter_of c.loop-index.self.conductor) c.loop-index.self.listeners) (i + 1)
     (crowd (transmitter_of c.dismiss.new.self.conductor) c.dismiss.new.self.listeners))
-    c.dismiss.ensures.same c.dismiss.ensures.left (λ left. left.goes.given_up) c.dismiss.ensures.free inside was.1 in (
+    c.dismiss.ensures.same c.dismiss.ensures.left (λ left. left.goes.given_up) c.dismiss.ensures.free (inside, was.1)
+    in (
       step.0 ∙ was.0,
       step.1,
       record {

@@ -14,7 +14,8 @@ loop-index-preserved c =
     let inside : i < length xs = omega (arith, was.0, c.loop-index-test.true) in
     let step =
     given_up c.unwatch.result xs ys i (Unwatches c.loop-index.self.watchers (i + 1) c.unwatch.new.self.watchers)
-    c.unwatch.ensures.same c.unwatch.ensures.left (λ left. left.goes.given_up) c.unwatch.ensures.free inside was.1 in (
+    c.unwatch.ensures.same c.unwatch.ensures.left (λ left. left.goes.given_up) c.unwatch.ensures.free (inside, was.1)
+    in (
       step.0 ∙ was.0,
       step.1,
       record {

@@ -15,7 +15,7 @@ returns-clause-steps c =
       | in-Ok w ↦
           next_ok (λ (r : BoardRecord). r.length)
           (entry_at old.board.capacity old.board.words.now old.intent old.latest old.tail) old.tail old.most old.at x
-          w.in-Ok.record _ _ some before c.entry_at-entry.ensures.entry w.in-Ok.is w.from.ensures w.align8.ensures
+          w.in-Ok.record _ _ (some, before) c.entry_at-entry.ensures.entry w.in-Ok.is w.from.ensures w.align8.ensures
           ∙ ap (λ s. x ∷ records_left s) (sym w.self-is)
       | in-Err w ↦
           next_err (λ (r : BoardRecord). r.length)

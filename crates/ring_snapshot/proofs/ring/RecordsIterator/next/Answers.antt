@@ -14,7 +14,7 @@ returns-clause-steps c =
     elim c.match-entry.branch [
       | in-Ok w ↦
           next_ok (λ (r : Record). r.length) (entry_at old.ring.capacity old.ring.words.now old.tail) old.tail old.most
-          old.at x w.in-Ok.record _ _ some before c.entry_at-entry.ensures.entry w.in-Ok.is w.from.ensures
+          old.at x w.in-Ok.record _ _ (some, before) c.entry_at-entry.ensures.entry w.in-Ok.is w.from.ensures
           w.align8.ensures
           ∙ ap (λ s. x ∷ records_left s) (sym w.self-is)
       | in-Err w ↦

@@ -20,8 +20,8 @@ store-requires c =
     record_step s _ c.args.place _ c.word_index.ensures h.at_place (λ _. value)
     (λ i me _ me'. (me'.1 ≡ me.1) × StoresClaimed i value me.0 me'.0 × AreRising me.0.producer.claims)
     (opens c.args.capacity c.args.ring.now.key.start _ _ c.args.producer.now.me s.view_is h.nth h.claim
-    c.args.wanted.type_id c.args.wanted.len value value_is s.lawful.most h.there h.holds.stage h.holds.same_span
-    c.requires.message)
+    c.args.wanted.type_id c.args.wanted.len value value_is h.there h.holds.stage
+    (record { most = s.lawful.most; span_is = h.holds.same_span; lawful = c.requires.message }))
 
 pub returns-clause-view : goal.returns-clause-view
 returns-clause-view c =

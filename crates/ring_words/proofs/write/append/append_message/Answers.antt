@@ -9,7 +9,8 @@ use Rattle.ring_words.proofs.write.append.append_message.Goals as goal
 
 pub store_headers-requires-clause-order : goal.store_headers-requires-clause-order
 store_headers-requires-clause-order c =
-    tail_first (ring c.args.capacity c.args.words.now) _ (length c.args.body.now) _ _ c.requires.tail c.requires.admitted
+    tail_first (ring c.args.capacity c.args.words.now) _ (length c.args.body.now) _ _ c.requires.tail
+    c.requires.admitted
 
 pub store_bytes-requires : goal.store_bytes-requires
 store_bytes-requires c =
