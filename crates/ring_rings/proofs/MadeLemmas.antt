@@ -1,5 +1,5 @@
 -- What follows from a claim that was made.
-use Rattle.std.proofs.Common.{◌≡◌, ◌≢◌, ℕ, ◌+◌, ◌^◌, ◌<◌, ℤ, List, [], ◌∷◌, ◌++◌, length, refl, sym, ap, ◌∙◌, subst, arith}
+use Rattle.std.proofs.Common.{◌≡◌, ◌≢◌, ℕ, ◌+◌, ◌%◌, ◌^◌, ◌<◌, ℤ, List, [], ◌∷◌, ◌++◌, length, refl, sym, ap, ◌∙◌, subst, arith}
 use Rattle.std.proofs.lemmas.List.{length-replicate}
 use lib.ListN.{get_elem?}
 use Rattle.atomic_table.proofs.Lists.{at_longer}
@@ -19,7 +19,7 @@ use Rattle.ring_rings.specs.declared.ring.Ring.{Ring}
 use Rattle.ring_rings.specs.Claiming.{claim_behind, looked, record_behind}
 use Rattle.ring_rings.specs.Making.{IsJustMade, Makes}
 use Rattle.ring_rings.specs.Matching.{Matches}
-use Rattle.ring_rings.specs.Seats.{IsOpenClaimOf, KeepsClaims}
+use Rattle.ring_rings.specs.Seats.{IsNewClaimOf, IsOpenClaimOf, KeepsClaims}
 use Rattle.ring_rings.proofs.CountLemmas.{open_count-more, open_few, stored_more}
 use Rattle.ring_rings.proofs.NewestLemmas.{has_last}
 use Rattle.ring_rings.proofs.RisingLemmas.{rising_more}
@@ -141,3 +141,18 @@ module _ {C tail : ℕ} {type_id : ℤ} {len : ℕ} {front : List (ℕ × ℕ)} 
           whole = made.whole;
           limit = rw end limit;
         }
+
+-- the claim is open in the hands of the producer that made it, and new
+pub made_new : {K : Type 0} {ring : Ring K} {p q : Producer} {tail : ℕ} {type_id : ℤ} {len : ℕ} {front : List (ℕ × ℕ)}
+    {a : Admission} → Makes ring.capacity tail type_id len front p.seat.me.0 a q.seat.me.0
+    → IsNewClaimOf ring p q
+    (record { place = a.place; index = a.place % ring.capacity + 8; type_id = type_id; len = len })
+made_new made = record {
+  is_open = record {
+    index = refl;
+    message = made.admitted.message;
+    limit = (let lies = made.admitted.place in let ends = made.admitted.limit in omega arith);
+    claim = made_open made;
+  };
+  apart = λ t h. made_apart made t.place (IsStagedOpen t.type_id t.len) h.claim;
+}

@@ -13,7 +13,7 @@ use Rattle.ring_layout.specs.Places.{index, room}
 use Rattle.ring_table.specs.declared.claim.PlacedMessage.{PlacedMessage}
 use Rattle.ring_table.specs.declared.view.View.{View}
 use Rattle.ring_rings.specs.Reading.{at_rest, Controls, EndsAt, FoundUnsettled, WentOn}
-use Rattle.ring_rings.specs.ReadingSteps.{Ended, FindsNothing, FindsQuiet, HasComeNear, IsAt, IsLeft, MayMoveTo, SettlesUpTo, ShowsOne}
+use Rattle.ring_rings.specs.ReadingSteps.{Ended, FindsNothing, FindsQuiet, HasCome, HasComeNear, IsAt, IsLeft, MayMoveTo, SettlesUpTo, ShowsOne}
 use Rattle.ring_rings.proofs.IndexLemmas.{inside_block}
 use Rattle.ring_rings.proofs.ReadingRuns.{Runs, RunsOn, inside_of, runs_on_broken, runs_on_committed, runs_on_quiet, runs_on_shown, runs_quiet, runs_shown, stands_shown, stays_near}
 use Rattle.ring_rings.proofs.ReadingEnds.{aborts, broke, ends_nothing, ends_now, is_blocked, nothing_stands, settles_more, shown_left, stops_block, stops_limit, stops_unpublished, went_on}
@@ -61,6 +61,12 @@ runs_to {S} {step} {limit} {C} {v} {w} {s} {t} {scan} {count} r cap some = recor
   inside = subst (λ (k : ℕ). w.consumer.head % k + scan ≤ w.consumer.head + k) cap
       (inside_block v.capacity v.consumer.head w.consumer.head scan some r.from r.to r.within);
 }
+
+-- a read that ends where it has come
+pub runs_there : {S : Type 0} {step : S → Message → S → Action → Type 0} {limit C : ℕ} {v w : View} {s t : S}
+    {scan count : ℕ} → RunsOn step limit v w s t scan count → v.capacity ≡ C → 128 ≤ C
+    → HasCome scan w × MayMoveTo C w.consumer.head scan
+runs_there r cap least = ((_, r.0.stands), runs_to r.0 cap (omega (arith, cap, least)))
 
 -- a read that goes on: it has come neither to the limit nor to the end of the buffer
 pub record GoesTo {S : Type 0} (step : S → Message → S → Action → Type 0) (limit C start : ℕ) (v w : View) (s t : S)

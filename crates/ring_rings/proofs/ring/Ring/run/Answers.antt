@@ -4,7 +4,7 @@ use Rattle.ring_rings.specs.Seats.{seat_view}
 use Rattle.ring_rings.proofs.ReadingSeats.{same_none, same_more}
 use Rattle.ring_rings.proofs.ReadingRuns.{RunsOn, runs_on_none}
 use Rattle.ring_rings.proofs.ReadingEnds.{settled_stands}
-use Rattle.ring_rings.proofs.ReadingTurns.{GoesTo, blocked, blocked_at, blocked_to, ends_aborted, ends_as, ends_block, ends_blocked, ends_broken, ends_limit, goes_to, got, got_more, is_near, left_at, left_done, left_from, left_to, less_passed, less_shown, runs_committed, runs_on, runs_passed, runs_to, shown_at, shown_to}
+use Rattle.ring_rings.proofs.ReadingTurns.{GoesTo, blocked, blocked_at, blocked_to, ends_aborted, ends_as, ends_block, ends_blocked, ends_broken, ends_limit, goes_to, got, got_more, is_near, left_at, left_done, left_from, left_to, less_passed, less_shown, runs_committed, runs_on, runs_passed, runs_there, shown_at, shown_to}
 use Rattle.ring_rings.proofs.ring.Ring.run.Given.{Over}
 use Rattle.ring_rings.proofs.ring.Ring.run.Goals.{After-is_block_end}
 use Rattle.ring_rings.proofs.ring.Ring.run.Goals as goal
@@ -160,19 +160,11 @@ turns-smaller g c =
 
 pub finish-requires-clause-to : goal.finish-requires-clause-to
 finish-requires-clause-to g c =
-    let runs = c.turns.invariant.runs.0 in (
-      (_, runs.stands),
-      runs_to runs c.requires.consumer.capacity
-          (omega (arith, c.requires.consumer.capacity, c.args.self.now.lawful.least)),
-    )
+    runs_there c.turns.invariant.runs c.requires.consumer.capacity c.args.self.now.lawful.least
 
 pub finish-requires-then-is_block_end-clause-to : goal.finish-requires-then-is_block_end-clause-to
 finish-requires-then-is_block_end-clause-to g c =
-    let runs = c.turns.invariant.runs.0 in (
-      (_, runs.stands),
-      runs_to runs c.requires.consumer.capacity
-          (omega (arith, c.requires.consumer.capacity, c.args.self.now.lawful.least)),
-    )
+    runs_there c.turns.invariant.runs c.requires.consumer.capacity c.args.self.now.lawful.least
 
 pub finish-requires-in-Blocked-clause-to : goal.finish-requires-in-Blocked-clause-to
 finish-requires-in-Blocked-clause-to g c =

@@ -1,6 +1,8 @@
-use Rattle.std.proofs.Common.{◌∙◌, not, length, refl, sym, ap, arith}
-use Rattle.ring_conductor.specs.Storming.{deeds_of}
+use Rattle.std.proofs.Common.{◌≡◌, ◌∙◌, ◌<◌, not, length, refl, sym, ap, arith}
+use Rattle.ring_conductor.specs.Storming.{SentAtMost, deeds_of}
 use Rattle.ring_conductor.proofs.TurnLemmas.{next_turn, no_turn, of_some, same_deeds, turns_as}
+use Rattle.ring_conductor.proofs.storming.shared.Shared.run_client.Given.{Over}
+use Rattle.ring_conductor.proofs.storming.shared.Shared.run_client.Goals.{After-is_none}
 use Rattle.ring_conductor.proofs.storming.shared.Shared.run_client.Goals as goal
 
 pub loop-number-init : goal.loop-number-init
@@ -33,8 +35,11 @@ loop-number-preserved g c =
       within = omega arith;
     }
 
-pub returns-else-is_none-clause-worked : goal.returns-else-is_none-clause-worked
-returns-else-is_none-clause-worked g c =
+-- one command more is sent, one number more drawn, and no more counted, by the same client
+turned : (g : Over) (c : After-is_none g) → SentAtMost c.args.self.now.plan.commands c.command.new.client
+    × (c.command.new.client.seen < c.args.self.now.plan.commands)
+    × (c.command.new.client.index ≡ c.args.client.index)
+turned g c =
     let e = c.command.ensures in
     let was = c.loop-number.invariant in
     let few = e.sent in
@@ -43,10 +48,17 @@ returns-else-is_none-clause-worked g c =
     let draws = was.drawn in
     let same = e.same.1 in
     let seen = was.seen in
+    ((omega arith, omega arith), omega arith, e.same.0 ∙ was.index)
+
+pub returns-else-is_none-clause-worked : goal.returns-else-is_none-clause-worked
+returns-else-is_none-clause-worked g c =
+    let e = c.command.ensures in
+    let was = c.loop-number.invariant in
+    let is = turned g (goal.at.returns-else-is_none-clause-worked g c).After-is_none in
     record {
-      sent = (omega arith, omega arith);
-      seen = omega arith;
-      index = e.same.0 ∙ was.index;
+      sent = is.0;
+      seen = omega (arith, is.1);
+      index = is.2;
       answered =
           record {
             before = deeds_of c.command.new.client;
@@ -59,21 +71,15 @@ returns-else-is_none-clause-worked g c =
 pub returns-then-is_none-clause-worked : goal.returns-then-is_none-clause-worked
 returns-then-is_none-clause-worked g c =
     let e = c.command.ensures in
-    let was = c.loop-number.invariant in
-    let few = e.sent in
-    let drew = e.drawn in
-    let before = was.sent in
-    let draws = was.drawn in
-    let same = e.same.1 in
-    let seen = was.seen in
+    let is = turned g (goal.at.returns-then-is_none-clause-worked g c).After-is_none in
     record {
-      sent = (omega arith, omega arith);
-      seen = omega arith;
-      index = e.same.0 ∙ was.index;
+      sent = is.0;
+      seen = omega (arith, is.1);
+      index = is.2;
       answered =
           record {
             before = deeds_of c.loop-number.client;
-            turns = turns_as _ _ _ _ _ e.same.0 e.same.1 was.turns;
+            turns = turns_as _ _ _ _ _ e.same.0 e.same.1 c.loop-number.invariant.turns;
             more = e.grows;
           };
     }

@@ -1,8 +1,6 @@
-use Rattle.std.proofs.Common.{refl, ap, ◌∙◌, arith}
-use Rattle.ring_words.specs.Open.{ClaimAt}
+use Rattle.std.proofs.Common.{ap, ◌∙◌, arith}
 use Rattle.ring_table.specs.declared.view.View.{View}
-use Rattle.ring_table.specs.ProducerSteps.{IsStagedOpen}
-use Rattle.ring_rings.proofs.MadeLemmas.{keeps_claims, made_apart, made_claims, made_few, made_matches, made_open}
+use Rattle.ring_rings.proofs.MadeLemmas.{keeps_claims, made_claims, made_few, made_matches, made_new}
 use Rattle.ring_rings.proofs.producer.one_to_one.Ring+OneToOne.claim.Goals as goal
 
 pub overflow_add-producer : goal.overflow_add-producer
@@ -23,20 +21,7 @@ invariant_of-producer-2 c =
     }
 
 pub returns-clause-opened : goal.returns-clause-opened
-returns-clause-opened c =
-    let told = c.in_ok-admission.ensures.told in
-    record {
-      is_open = rw c.new.ensures record {
-        index = refl;
-        message = told.admitted.message;
-        limit =
-            (let lies = told.admitted.place in let ends = told.admitted.limit in omega arith);
-        claim =
-            made_open told;
-      };
-      apart = λ t h same. made_apart told t.place (IsStagedOpen t.type_id t.len) h.claim
-          (same ∙ ap (λ (r : ClaimAt). r.place) c.new.ensures);
-    }
+returns-clause-opened c = rw c.new.ensures (made_new c.in_ok-admission.ensures.told)
 
 pub returns-clause-claims : goal.returns-clause-claims
 returns-clause-claims c = keeps_claims _ (made_claims c.in_ok-admission.ensures.told)
