@@ -24,10 +24,17 @@ use Rattle.ring_handles.specs.Serving.{conductor_of, IsNumberedOtherwise}
 
 -- Lending ------------------------------------------------------------------------
 
--- a share of the board was moved to a receiver, which starts at the reply at latest
-pub record LendsReceiver (c d : ConductorSide) (r : Listening) : Type 0 where
+-- a share of the board was moved to a receiver with this seat, which starts at the reply at latest
+pub record MovesShare (c d : ConductorSide) (m : Sat) : Type 0 where
   pub left : board_view d.conductor ≡ fewer (board_view c.conductor)
-  pub right : let s = shared_by c in
+  pub right : m.0 ≡ newcomer (board_view c.conductor)
+  pub others : KeepsTheRest c.conductor d.conductor
+  pub rest : KeepsProducer c d
+
+-- it was, and the receiver is one of this conductor's replies
+pub record LendsReceiver (c d : ConductorSide) (r : Listening) : Type 0 where
+  pub moved : MovesShare c d r.seat
+  pub lent : let s = shared_by c in
       r ≡ record {
         table = table_of s.board;
         identity = s.identity;
@@ -35,9 +42,6 @@ pub record LendsReceiver (c d : ConductorSide) (r : Listening) : Type 0 where
         lender = Some s;
         seat = r.seat;
       }
-  pub knows : r.seat.0 ≡ newcomer (board_view c.conductor)
-  pub others : KeepsTheRest c.conductor d.conductor
-  pub rest : KeepsProducer c d
 
 -- why a receiver is not made: the conductor needs its last share, or memory is wanting
 abbrev pub IsUnheard : ConductorSide → ℤ → Type 0

@@ -50,6 +50,10 @@ module _ {C tail : ℕ} {type_id : ℤ} {len : ℕ} {front : List (ℕ × ℕ)} 
   pub made_claims : w.producer.claims ≡ v.producer.claims ++ claim_behind C tail type_id len ∷ []
   made_claims = ap (λ (u : View). u.producer.claims) made.view
 
+  -- what the seat is for stays
+  pub made_consumes : w.consumes ≡ v.consumes
+  made_consumes = ap (λ (u : View). u.consumes) made.view
+
   -- the claim is open
   pub made_open : HasClaimAt w a.place (IsStagedOpen type_id len)
   made_open = has_last w v.producer.claims (claim_behind C tail type_id len) made_claims a.place
@@ -107,6 +111,9 @@ module _ {C tail : ℕ} {type_id : ℤ} {len : ℕ} {front : List (ℕ × ℕ)} 
       (stored : u ≡ with_claims (v.producer.claims ++ record_behind C tail type_id body ∷ []) w) where
     pub written_claims : u.producer.claims ≡ v.producer.claims ++ record_behind C tail type_id body ∷ []
     written_claims = ap (λ (z : View). z.producer.claims) stored
+
+    pub written_consumes : u.consumes ≡ v.consumes
+    written_consumes = ap (λ (z : View). z.consumes) stored ∙ made_consumes
 
     pub written_view : u ≡ with_claim (record_behind C tail type_id body) (end_after C tail (span (length body)))
         (looked (front ++ made.loads) tail made.head v)

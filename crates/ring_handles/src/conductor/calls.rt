@@ -3,13 +3,12 @@ ghost use Rattle.std.specs.Prelude.{◌≡◌, IfErr, IfOk};
 ghost use Rattle.ring_handles.specs.Conducting.{report_out, stop_number, ConductorBeat, Hires, IsUnhired, Worked};
 
 use crate::client::ClientSide;
-use crate::code::{BAD_MOMENT, DONE, NO_SHARES, OUT_OF_MEMORY};
+use crate::code::{BAD_MOMENT, DONE, NO_SHARES};
 use crate::conductor::ConductorSide;
 use crate::counting::LAST_MOMENT;
 use crate::lending::Shared;
 use ring_conductor::{Client, WorkStop};
 use std::alloc::Global;
-use std::sync::Arc;
 
 /// The number of why a conductor stopped.
 fn stop_number(stopped: WorkStop) -> i32
@@ -32,14 +31,7 @@ impl ConductorSide {
         if self.producer.shares() == 1 {
             return Err(NO_SHARES);
         }
-        let Ok(shared) = Arc::try_clone(&self.shared) else {
-            return Err(OUT_OF_MEMORY);
-        };
-        let receiver = match self.conductor.subscribe(alloc, &shared.board) {
-            Ok(receiver) => receiver,
-            Err(fault) => return Err(fault.code()),
-        };
-        self.shares -= 1;
+        let (shared, receiver) = self.lend_receiver(alloc)?;
         let producer = match shared.ring.split(&mut self.producer) {
             Ok(producer) => producer,
             Err(_refused) => unreachable!(),

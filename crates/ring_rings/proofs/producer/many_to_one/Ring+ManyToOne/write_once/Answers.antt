@@ -1,6 +1,5 @@
-use Rattle.std.proofs.Common.{refl, ap, ◌∙◌}
-use Rattle.ring_table.specs.declared.view.View.{View}
-use Rattle.ring_rings.proofs.MadeLemmas.{just_made, keeps_claims, written_claims, written_matches}
+use Rattle.std.proofs.Common.{refl, ◌∙◌}
+use Rattle.ring_rings.proofs.MadeLemmas.{just_made, keeps_claims, written_claims, written_consumes, written_matches}
 use Rattle.ring_rings.proofs.producer.many_to_one.Ring+ManyToOne.write_once.Goals as goal
 
 pub invariant_of-producer-2 : goal.invariant_of-producer-2
@@ -11,8 +10,7 @@ invariant_of-producer-2 c =
     record {
       known = written_matches told c.args.body.now refl c.store_message.new.seat.me.0 stored p.known;
       produces = (
-        ap (λ (v : View). v.consumes) stored ∙ ap (λ (v : View). v.consumes) told.view
-            ∙ p.produces.0,
+        written_consumes told c.args.body.now refl c.store_message.new.seat.me.0 stored ∙ p.produces.0,
         c.store_message.ensures.seat.slots ∙ c.in_ok-admission.ensures.seat.slots ∙ p.produces.1,
       );
     }

@@ -1,6 +1,5 @@
-use Rattle.std.proofs.Common.{ap, ◌∙◌, arith}
-use Rattle.ring_table.specs.declared.view.View.{View}
-use Rattle.ring_rings.proofs.MadeLemmas.{keeps_claims, made_claims, made_few, made_matches, made_new}
+use Rattle.std.proofs.Common.{◌∙◌, arith}
+use Rattle.ring_rings.proofs.MadeLemmas.{keeps_claims, made_claims, made_consumes, made_few, made_matches, made_new}
 use Rattle.ring_rings.proofs.producer.one_to_one.Ring+OneToOne.claim.Goals as goal
 
 pub overflow_add-producer : goal.overflow_add-producer
@@ -13,11 +12,7 @@ invariant_of-producer-2 c =
     let told = c.in_ok-admission.ensures.told in
     record {
       known = made_matches told p.known;
-      produces = (
-        ap (λ (v : View). v.consumes) told.view ∙ p.produces.0,
-        c.in_ok-admission.ensures.seat.slots
-            ∙ p.produces.1,
-      );
+      produces = (made_consumes told ∙ p.produces.0, c.in_ok-admission.ensures.seat.slots ∙ p.produces.1);
     }
 
 pub returns-clause-opened : goal.returns-clause-opened
