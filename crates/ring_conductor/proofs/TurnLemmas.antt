@@ -131,8 +131,6 @@ no_more old new more few =
     let both = ap length more.1 ∙ length-append old more.0 in
     more.1 ∙ (ap (λ l. old ++ l) (nothing more.0 (omega arith)) ∙ append-nil old)
 
--- the turns of one client more, which had all its replies: it made no more claims and draws than were answered, so that
--- they are those of its turns
 -- a client did all that it had to, and each of its commands was answered
 pub record HasDoneAll (commands client seen : ℕ) (d : Deeds) : Type 0 where
   pub answered : AreAnswered client seen d
@@ -149,6 +147,8 @@ pub record PutAmong (d : Deeds) (claims others : List StagedClaim) (receivers be
   pub more : services ≡ served ++ service ∷ []
   pub draws : service.draws ≡ d.draws
 
+-- the turns of one client more, which had all its replies: it made no more claims and draws than were answered, so that
+-- they are those of its turns
 pub all_turns : (commands client seen : ℕ) (d : Deeds) (claims others : List StagedClaim)
     (receivers before : List Joined) (receiver : Joined) (services served : List Service) (service : Service)
     → AreAllTurns commands client others before served → HasDoneAll commands client seen d

@@ -9,9 +9,9 @@ use Rattle.atomic_table.specs.Table.{State, Splits, Joins}
 use Rattle.atomic_table.proofs.Lists.{at_set, at_longer, set_here, set_else}
 use Rattle.ring_table.specs.Staged.{staged_end}
 use Rattle.ring_table.specs.Owners.{OwnedHistory, all_of, owned_by, interleaved, handed_over}
-use Rattle.ring_table.specs.Services.{Service, total, times, times_drawn}
-use Rattle.ring_table.specs.Views.{ConsumerView, View, Wanted, without_consumer, consumer_alone, with_consumer_of, without_share, producer_alone, with_producer_of, spent}
-use Rattle.ring_table.specs.Rule.{IsMemory, Knows, IsSeated, Kept, shares_of}
+use Rattle.ring_table.specs.Services.{AreServed, Service, total, times, times_drawn}
+use Rattle.ring_table.specs.Views.{ConsumerView, ProducerView, View, Wanted, without_consumer, consumer_alone, with_consumer_of, without_share, producer_alone, with_producer_of, spent}
+use Rattle.ring_table.specs.Rule.{IsIdle, IsMemory, Knows, IsSeated, Kept, shares_of}
 use Rattle.ring_table.proofs.OwnerLemmas.{all_of-handed_over, owned_by-handed_over, owned_by-handed_away, owned_by-handed_over_other}
 use Rattle.ring_table.proofs.ServiceLemmas.{served_append}
 use Rattle.ring_table.proofs.Sums.{at_below, at_more, each_after_set, total-append}
@@ -150,6 +150,19 @@ module _ (top : ℕ) (hist : OwnedHistory) (reader : ℕ) (consumer : ConsumerVi
             total-met f views id other v w both spent at there (meet.drawn x) refl ∙ s.once x;
       }
 
+-- a seat whose producer is as before knows the same, but for who the consumer is
+knows_as : {top : ℕ} {hist : OwnedHistory} {reader reader' : ℕ} {consumer : ConsumerView} {n id : ℕ} {v w : View}
+    → Knows top hist reader consumer n id v → w.producer ≡ v.producer
+    → (w.consumes ≡ true → (id ≡ reader') × (w.consumer ≡ consumer)) → Knows top hist reader' consumer n id w
+knows_as {top} {hist} {reader} {reader'} {consumer} {n} {id} {v} {w} k same consumes = record {
+  claims = ap (λ (p : ProducerView). p.claims) same ∙ k.claims;
+  tail_seen = subst (λ (p : ProducerView). p.seen_tail ≤ top) (sym same) k.tail_seen;
+  head_seen = subst (λ (p : ProducerView). p.seen_head ≤ consumer.head) (sym same) k.head_seen;
+  idle = subst (λ (p : ProducerView). p.shares ≡ 0 → IsIdle p) (sym same) k.idle;
+  served = subst (λ (p : ProducerView). AreServed n consumer.heartbeats (p.service ∷ p.joined)) (sym same) k.served;
+  consumes = consumes;
+}
+
 module _ (C start : ℕ) where
   reseat : (words : List ℕ) (views views' : List View) (r : Kept C start words views) (reader : ℕ)
       → IsSeated (staged_end start (all_of r.hist)) r.hist reader r.consumer r.drawn views' → Kept C start words views'
@@ -178,14 +191,7 @@ module _ (C start : ℕ) where
       (without_consumer v) (consumer_alone v) (length s.views) at
       (record { shares = sum; some = λ rich. rich; seen = refl; drawn = λ x. refl; drawn_none = λ x. refl })
       (record {
-        left_knows = record {
-          claims = own.claims;
-          tail_seen = own.tail_seen;
-          head_seen = own.head_seen;
-          idle = own.idle;
-          served = own.served;
-          consumes = λ e. absurd (false≢true e);
-        };
+        left_knows = knows_as own refl (λ e. absurd (false≢true e));
         right_knows = record {
           claims = sym (r.seated.nobody (length s.views) (omega arith));
           tail_seen = own.tail_seen;
@@ -194,14 +200,7 @@ module _ (C start : ℕ) where
           served = (record { draws = omega arith; heartbeats = omega arith }, tt);
           consumes = λ _. (refl, mine.1);
         };
-        others = λ j u ne f. record {
-          claims = f.claims;
-          tail_seen = f.tail_seen;
-          head_seen = f.head_seen;
-          idle = f.idle;
-          served = f.served;
-          consumes = λ e. absurd (ne ((f.consumes e).0 ∙ sym mine.0));
-        };
+        others = λ j u ne f. knows_as f refl (λ e. absurd (ne ((f.consumes e).0 ∙ sym mine.0)));
       }))
 
   pub splits_producer : (id : ℕ) (v : View) → 1 < v.producer.shares
@@ -266,23 +265,9 @@ module _ (C start : ℕ) where
       })
       (record {
         tops = refl;
-        both_knows = record {
-          claims = own.claims;
-          tail_seen = own.tail_seen;
-          head_seen = own.head_seen;
-          idle = own.idle;
-          served = own.served;
-          consumes = λ _. (refl, mine.1);
-        };
+        both_knows = knows_as own refl (λ _. (refl, mine.1));
         spent_knows = knows_spent top r.hist id r.consumer r.drawn other (sym idle.claims ∙ its.claims);
-        others = λ j u a b f. record {
-          claims = f.claims;
-          tail_seen = f.tail_seen;
-          head_seen = f.head_seen;
-          idle = f.idle;
-          served = f.served;
-          consumes = λ e. absurd (b ((f.consumes e).0 ∙ sym mine.0));
-        };
+        others = λ j u a b f. knows_as f refl (λ e. absurd (b ((f.consumes e).0 ∙ sym mine.0)));
         outside = λ j past. refl;
       }))
 
