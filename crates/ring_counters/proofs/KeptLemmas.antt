@@ -1,6 +1,6 @@
 -- What calls keep of a registry.
 use Rattle.std.proofs.Common.{◌≡◌, ◌≢◌, ℕ, zero, suc, ◌+◌, ◌-◌, ◌<◌, ◌≤◌, Bool, true, false, true≢false, cond, List, [], ◌∷◌, ◌++◌, length, set, replicate, refl, sym, ap, subst, ◌∙◌, arith, inl, inr, get_or, get_or-set_other, get_or-set_same}
-use Rattle.std.specs.Prelude.{Some, None, remove, nat_lt}
+use Rattle.std.specs.Prelude.{Some, None, remove, nat_lt, count_by}
 use Rattle.std.specs.List.{position_or_len}
 use Rattle.std.proofs.Math.ListN.{length-set}
 use Rattle.std.proofs.lemmas.Bool.{cases_lt, cases_eq}
@@ -8,8 +8,15 @@ use Rattle.std.proofs.lemmas.List.{length-replicate, length_push}
 use Rattle.std.proofs.lemmas.List.Sums.{position_or_len_is}
 use Rattle.ring_counters.specs.Counter.{Allocated, Reclaimed, Counter, unused_counter, deadline_of}
 use Rattle.ring_counters.specs.Registry.{Registry, count_of, counter_at, status_at, is_unused, is_allocated, is_reclaimed, unused_id, reclaimed_in, fresh_registry}
-use Rattle.ring_counters.specs.Kept.{IsAbsent, deadline_at, AreInOrder, IsKept}
+use Rattle.ring_counters.specs.Kept.{IsAbsent, deadline_at, AreReclaimed, AreDistinct, AreInOrder, IsKept}
 use Rattle.ring_counters.proofs.QueueLemmas.{absent_at, absent_from_status, at, count_below, count_less, count_more, count_same, distinct_remove, distinct_snoc, inside_from_status, length-remove, not_reclaimed_from_allocated, order_other, order_remove, order_snoc, reclaimed_at, reclaimed_counter, reclaimed_other, reclaimed_remove, reclaimed_snoc, reclaimed_stays, removed_absent, used_from_allocated, used_from_reclaimed}
+
+-- the queue holds ids of reclaimed counters, each once, in order if so marked, and no more than such counters
+record IsQueue (counters : List Counter) (freed : List ℕ) (ordered : Bool) : Type 0 where
+  pub reclaimed : AreReclaimed counters freed
+  pub distinct : AreDistinct freed
+  pub order : ordered ≡ true → AreInOrder counters freed
+  pub tally : length freed ≤ count_by reclaimed_counter counters
 
 -- ---- a registry that is kept
 
@@ -48,6 +55,23 @@ module _ (r : Registry) (room used : ℕ) (ordered : Bool) (h : IsKept r room us
               (get_or-set_other r.counters id k c unused_counter n) ∙ h.in_use k lo
         ]
 
+    -- and the queue follows
+    kept_queued : (freed : List ℕ) (still : Bool) → IsQueue (set r.counters id c) freed still
+        → IsKept (record r { counters = set r.counters id c; freed = freed }) room used still
+    kept_queued freed still q =
+        let n = length-set {A = Counter} r.counters id c in
+        record {
+          few = omega (arith, n, h.few);
+          room_for_all = omega (arith, n, h.room_for_all);
+          used_ids = omega (arith, n, h.used_ids);
+          unused = still_unused;
+          in_use = still_used;
+          reclaimed = q.reclaimed;
+          distinct = q.distinct;
+          order = q.order;
+          tally = q.tally;
+        }
+
   pub kept_reused : (i : ℕ) (c : Counter) → i < length r.freed → c.metadata.status ≡ Allocated
       → IsKept (record r { counters = set r.counters (get_or r.freed i 0) c; freed = remove r.freed i }) room used
       ordered
@@ -57,13 +81,7 @@ module _ (r : Registry) (room used : ℕ) (ordered : Bool) (h : IsKept r room us
       let known : is_unused (status_at r id) ≡ false = used_from_reclaimed (status_at r id) was in
       let is : is_unused c.metadata.status ≡ false = ap is_unused new in
       let inside = inside_from_status r.counters id known in
-      let n = length-set {A = Counter} r.counters id c in
-      record {
-        few = omega (arith, n, h.few);
-        room_for_all = omega (arith, n, h.room_for_all);
-        used_ids = omega (arith, n, h.used_ids);
-        unused = still_unused id c known is;
-        in_use = still_used id c known is;
+      kept_queued id c known is (remove r.freed i) ordered (record {
         reclaimed = reclaimed_other r.counters (remove r.freed i) id c (removed_absent r.freed i less h.distinct)
             (reclaimed_remove r.counters r.freed i h.reclaimed);
         distinct = distinct_remove r.freed i h.distinct;
@@ -76,7 +94,7 @@ module _ (r : Registry) (room used : ℕ) (ordered : Bool) (h : IsKept r room us
               (ap is_reclaimed new),
           h.tally,
         );
-      }
+      })
 
   pub kept_begun : (c : Counter) → used < count_of r → c.metadata.status ≡ Allocated
       → IsKept (record r { counters = set r.counters used c }) room (used + 1) ordered
@@ -118,13 +136,7 @@ module _ (r : Registry) (room used : ℕ) (ordered : Bool) (h : IsKept r room us
       let known : is_unused (status_at r id) ≡ false = used_from_allocated (status_at r id) was in
       let none : is_reclaimed (status_at r id) ≡ false = not_reclaimed_from_allocated (status_at r id) was in
       let inside = inside_from_status r.counters id known in
-      let n = length-set {A = Counter} r.counters id c in
-      record {
-        few = omega (arith, n, h.few);
-        room_for_all = omega (arith, n, h.room_for_all);
-        used_ids = omega (arith, n, h.used_ids);
-        unused = still_unused id c known (ap is_unused same ∙ known);
-        in_use = still_used id c known (ap is_unused same ∙ known);
+      kept_queued id c known (ap is_unused same ∙ known) r.freed ordered (record {
         reclaimed = reclaimed_other r.counters r.freed id c
             (absent_from_status r.counters r.freed id h.reclaimed none) h.reclaimed;
         distinct = h.distinct;
@@ -132,7 +144,7 @@ module _ (r : Registry) (room used : ℕ) (ordered : Bool) (h : IsKept r room us
             (h.order o);
         tally =
             omega (arith, count_same reclaimed_counter r.counters id c inside (sym (ap is_reclaimed same)), h.tally);
-      }
+      })
 
   module _ (id : ℕ) (was : is_allocated (status_at r id) ≡ true) where
     none_freed : is_reclaimed (status_at r id) ≡ false
@@ -177,7 +189,6 @@ module _ (r : Registry) (room used : ℕ) (ordered : Bool) (h : IsKept r room us
     kept_reclaimed now still last =
         let c = counter_at r id in
         let d : Counter = record c { metadata = record c.metadata { status = Reclaimed (now + r.reuse_ms) } } in
-        let n = length-set {A = Counter} r.counters id d in
         let known : is_unused (status_at r id) ≡ false = used_from_allocated (status_at r id) was in
         let absent = absent_from_status r.counters r.freed id h.reclaimed none_freed in
         let mine : deadline_at (set r.counters id d) id ≡ now + r.reuse_ms =
@@ -188,12 +199,7 @@ module _ (r : Registry) (room used : ℕ) (ordered : Bool) (h : IsKept r room us
         × (deadline_at r.counters (get_or r.freed (length r.freed - 1) 0) ≤ now + r.reuse_ms))
         → AreInOrder (set r.counters id d) (r.freed ++ id ∷ []) =
         queue_in_order now d absent mine in
-        record {
-          few = omega (arith, n, h.few);
-          room_for_all = omega (arith, n, h.room_for_all);
-          used_ids = omega (arith, n, h.used_ids);
-          unused = still_unused id d known refl;
-          in_use = still_used id d known refl;
+        kept_queued id d known refl (r.freed ++ id ∷ []) still (record {
           reclaimed = reclaimed_snoc (set r.counters id d) r.freed id
               (reclaimed_stays r.counters r.freed id d allocated_inside (λ _. refl) h.reclaimed)
               (ap (λ (y : Counter). reclaimed_counter y)
@@ -207,7 +213,7 @@ module _ (r : Registry) (room used : ℕ) (ordered : Bool) (h : IsKept r room us
                 refl,
             h.tally,
           );
-        }
+        })
 
 pub kept_fresh : (count reuse_ms room : ℕ) → count ≤ 4096 → count ≤ room
     → IsKept (fresh_registry count reuse_ms) room 0 true

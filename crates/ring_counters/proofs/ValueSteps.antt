@@ -95,47 +95,80 @@ fits_set writer all views by w others mine j u e =
 not_writer : false ≡ true → ⊥
 not_writer e = true≢false (sym e)
 
+-- the words stay, and the views follow
+reseat : (count : ℕ) (words : List ℕ) (views views' : List ValuesView) (r : ValuesRule count words views)
+    → sum_of_shares views' ≡ 65536
+    → ((by : ℕ) (v : ValuesView) → get_elem? views' by ≡ some v → KnowsWrites r.writer r.all by v)
+    → ValuesRule count words views'
+reseat count words views views' r shares each = record {
+  writer = r.writer;
+  all = r.all;
+  wide = r.wide;
+  shares = shares;
+  fits = r.fits;
+  shows = r.shows;
+  each = each;
+}
+
+-- who is no writer has seen some of the writes, and loaded none
+knows_begun : (writer : ℕ) (all : List ValueWrite) (by shares : ℕ) (seen : List ValueWrite) → Begins seen all
+    → KnowsWrites writer all by (values_view false shares seen seen [])
+knows_begun writer all by shares seen begins =
+    record { writes = λ y. absurd (not_writer y); seen = begins; loads = begins }
+
 -- a load leaves the words as they are
 module _ (count : ℕ) (s : State (Unit {0}) ValuesView) (r : ValuesRule count s.words s.views) (id by : ℕ)
     (v w : ValuesView) (at : get_elem? s.views by ≡ some v) (same : w.shares ≡ v.shares)
-    (fits : KnowsWrites r.0 r.1 by w) where
+    (fits : KnowsWrites r.writer r.all by w) where
   loaded_rule : ValuesRule count (set s.words id (slice_index s.words id)) (set s.views by w)
   loaded_rule =
       let words : set s.words id (slice_index s.words id) ≡ s.words = set-get_or s.words id 0 in
       let p = shares_set s.views by v w at in
-      let total : sum_of_shares s.views ≡ 65536 = r.3 in
+      let total = r.shares in
       subst (λ l. ValuesRule count l (set s.views by w)) (sym words)
-      (r.0, r.1, r.2, omega arith, r.4, r.5, fits_set r.0 r.1 s.views by w (λ j u _ e. r.6 j u e) fits)
+      (reseat count s.words s.views (set s.views by w) r (omega arith)
+      (fits_set r.writer r.all s.views by w (λ j u _ e. r.each j u e) fits))
 
 pub loads : (count slots by id : ℕ) (v : ValuesView) (carried : List (ℕ × Unit {0})) → id < count
     → Allows (λ s. ValuesRule count s.words s.views) slots by (v, carried) id (λ n. n)
     (λ n w. Loads id v n w.0 × (w.1 ≡ carried))
 loads count slots by id v carried inside s r homes at small =
-    let all = r.1 in
-    let h = r.6 by v at in
+    let all = r.all in
+    let h = r.each by v at in
     let w = values_view v.writes v.shares all v.made (v.loads ++ value_load id (value_after id all) all ∷ []) in
     let found : cast_signed w64 (slice_index s.words id) ≡ value_after id all =
-    ap (cast_signed w64) (r.5 id inside) ∙ to_z-of_z w64 (value_after id all) (r.4 id) in (
+    ap (cast_signed w64) (r.shows id inside) ∙ to_z-of_z w64 (value_after id all) (r.fits id) in (
       w,
       keeps,
       tt,
       loaded_rule count s r id by v w at refl
-          ((λ y. ((h.0 y).0, refl)), same_as all all refl, loads_snoc v.made v.loads all id h.2),
-      ((all, refl, found, h.1), refl),
+          (record {
+            writes = λ y. ((h.writes y).0, refl);
+            seen = same_as all all refl;
+            loads = loads_snoc v.made v.loads all id h.loads;
+          }),
+      (record { after = all; view = refl; value = found; later = h.seen }, refl),
     )
 
 pub learns : (count slots by : ℕ) (v : ValuesView) (carried : List (ℕ × Unit {0})) → v.writes ≡ true
     → Allows (λ s. ValuesRule count s.words s.views) slots by (v, carried) 0 (λ n. n)
     (λ n w. LearnsLoads v w.0 × (w.1 ≡ carried))
 learns count slots by v carried writes s r homes at small =
-    let h = r.6 by v at in
+    let h = r.each by v at in
     let most = shares_at s.views by v at in
-    let total : sum_of_shares s.views ≡ 65536 = r.3 in (
+    let total = r.shares in (
       v,
       keeps,
       tt,
       loaded_rule count s r 0 by v v at refl h,
-      ((refl, subst (λ l. AreLoads v.made v.loads l) (sym (h.0 writes).1) h.2, omega arith), refl),
+      (
+        record {
+          view = refl;
+          loads = subst (λ l. AreLoads v.made v.loads l) (sym (h.writes writes).1) h.loads;
+          shares = omega arith;
+        },
+        refl,
+      ),
     )
 
 pub stores : (count slots by id word : ℕ) (v : ValuesView) (carried : List (ℕ × Unit {0})) → id < count → word < 2 ^ 64
@@ -143,44 +176,43 @@ pub stores : (count slots by id word : ℕ) (v : ValuesView) (carried : List (�
     → Allows (λ s. ValuesRule count s.words s.views) slots by (v, carried) id (λ _. word)
     (λ _ w. WritesValue id word v w.0 × (w.1 ≡ carried))
 stores count slots by id word v carried inside whole signed writes s r homes at small =
-    let all = r.1 in
-    let h = r.6 by v at in
-    let mine = h.0 writes in
+    let all = r.all in
+    let h = r.each by v at in
+    let mine = h.writes writes in
     let new : ValueWrite = value_write id (cast_signed w64 word) in
     let more : List ValueWrite = all ++ new ∷ [] in
     let w = values_view v.writes v.shares (v.seen ++ new ∷ []) v.made v.loads in
     let p = shares_set s.views by v w at in
-    let total : sum_of_shares s.views ≡ 65536 = r.3 in
-    let size : length s.words ≡ count = r.2 in (
+    let total = r.shares in
+    let size = r.wide in (
       w,
       keeps,
       tt,
-      (
-        r.0,
-        more,
-        length-set s.words id word ∙ size,
-        omega arith,
-        (λ k. subst (FitsSigned w64) (sym (value_after-snoc k all new))
-            (either_fits (eqb id k) (cast_signed w64 word) (value_after k all) signed (r.4 k))),
-        (λ k less.
+      record {
+        writer = r.writer;
+        all = more;
+        wide = length-set s.words id word ∙ size;
+        shares = omega arith;
+        fits = λ k. subst (FitsSigned w64) (sym (value_after-snoc k all new))
+            (either_fits (eqb id k) (cast_signed w64 word) (value_after k all) signed (r.fits k));
+        shows = λ k less.
             index_set s.words id k word (omega arith)
-            ∙ (λ i. cond (eqb id k) (sym (of_z-to_z w64 word whole) i) (r.5 k less i))
+            ∙ (λ i. cond (eqb id k) (sym (of_z-to_z w64 word whole) i) (r.shows k less i))
             ∙ either_word (eqb id k) (cast_signed w64 word) (value_after k all)
-            ∙ sym (ap (cast_unsigned w64) (value_after-snoc k all new))),
-        fits_set r.0 more s.views by w
-            (λ j u apart e. let f =
-            r.6 j u e in (
-              (λ y. absurd (apart ((f.0 y).0 ∙ sym mine.0))),
-              longer u.seen all new f.1,
-              loads_longer
-                  u.made u.loads all new f.2,
-            )) (
-              (λ _. (mine.0, ap (λ l. l ++ new ∷ []) mine.1)),
-              same_as (v.seen ++ new ∷ []) more
-                  (ap (λ l. l ++ new ∷ []) mine.1),
-              loads_longer v.made v.loads all new h.2,
-            ),
-      ),
+            ∙ sym (ap (cast_unsigned w64) (value_after-snoc k all new));
+        each = fits_set r.writer more s.views by w
+            (λ j u apart e. let f = r.each j u e in
+            record {
+              writes = λ y. absurd (apart ((f.writes y).0 ∙ sym mine.0));
+              seen = longer u.seen all new f.seen;
+              loads = loads_longer u.made u.loads all new f.loads;
+            })
+            (record {
+              writes = λ _. (mine.0, ap (λ l. l ++ new ∷ []) mine.1);
+              seen = same_as (v.seen ++ new ∷ []) more (ap (λ l. l ++ new ∷ []) mine.1);
+              loads = loads_longer v.made v.loads all new h.loads;
+            });
+      },
       (refl, refl),
     )
   where
@@ -199,21 +231,16 @@ pub splits : (count by : ℕ) (v : ValuesView) → 1 < v.shares
 splits count by v two s r at =
     let w = values_view v.writes (v.shares - 1) v.seen v.made v.loads in
     let new = values_view false 1 v.seen v.seen [] in
-    let h = r.6 by v at in
+    let h = r.each by v at in
     let p = shares_set s.views by v w at in
     let q = shares_snoc (set s.views by w) new in
-    let total : sum_of_shares s.views ≡ 65536 = r.3 in
-    let kept = fits_set r.0 r.1 s.views by w (λ j u _ e. r.6 j u e) h in (
-      r.0,
-      r.1,
-      r.2,
-      omega arith,
-      r.4,
-      r.5,
-      λ j u e. ⊎_elim (λ was. kept j u was)
-          (λ (is : new ≡ u). subst (KnowsWrites r.0 r.1 j) is ((λ y. absurd (not_writer y)), h.1, h.1))
-          (at_snoc (set s.views by w) new u j e),
-    )
+    let total = r.shares in
+    let mine : KnowsWrites r.writer r.all by w = record { writes = h.writes; seen = h.seen; loads = h.loads } in
+    let kept = fits_set r.writer r.all s.views by w (λ j u _ e. r.each j u e) mine in
+    reseat count s.words s.views (set s.views by w ++ new ∷ []) r (omega arith)
+    (λ j u e. ⊎_elim (λ was. kept j u was)
+    (λ (is : new ≡ u). subst (KnowsWrites r.writer r.all j) is (knows_begun r.writer r.all j 1 v.seen h.seen))
+    (at_snoc (set s.views by w) new u j e))
 
 pub joins : (count by : ℕ) (v : ValuesView) (other : ℕ) (u : ValuesView)
     → Joins (λ (s : State (Unit {0}) ValuesView). ValuesRule count s.words s.views) by v other u
@@ -222,26 +249,28 @@ joins count by v other u s r at apart there =
     let w = values_view v.writes (v.shares + u.shares) v.seen u.made u.loads in
     let spent = values_view false 0 [] [] [] in
     let was : get_elem? s.views other ≡ some u = sym (set_else s.views by other w apart) ∙ there in
-    let h = r.6 by v at in
-    let k = r.6 other u was in
+    let h = r.each by v at in
+    let k = r.each other u was in
     let mid = set s.views by w in
     let p = shares_set s.views by v w at in
     let q = shares_set mid other u spent there in
-    let total : sum_of_shares s.views ≡ 65536 = r.3 in
-    let kept = fits_set r.0 r.1 s.views by w (λ j x _ e. r.6 j x e) (h.0, h.1, k.2) in (
-      r.0,
-      r.1,
-      r.2,
-      omega arith,
-      r.4,
-      r.5,
-      fits_set r.0 r.1 mid other spent (λ j x _ e. kept j x e)
-          ((λ y. absurd (not_writer y)), from_none r.1, from_none r.1),
-    )
+    let total = r.shares in
+    let kept = fits_set r.writer r.all s.views by w (λ j x _ e. r.each j x e)
+    (record { writes = h.writes; seen = h.seen; loads = k.loads }) in
+    reseat count s.words s.views (set mid other spent) r (omega arith)
+    (fits_set r.writer r.all mid other spent (λ j x _ e. kept j x e)
+    (knows_begun r.writer r.all other 0 [] (from_none r.all)))
 
 pub begins : (count : ℕ) → ValuesRule count (replicate count 0) (values_view true 65536 [] [] [] ∷ [])
-begins count =
-    (0, [], length-replicate count 0, refl, (λ id. record { sfits = omega arith }), (λ id less. zeros count id), one)
+begins count = record {
+  writer = 0;
+  all = [];
+  wide = length-replicate count 0;
+  shares = refl;
+  fits = λ id. record { sfits = omega arith };
+  shows = λ id less. zeros count id;
+  each = one;
+}
   where
     zeros : (n i : ℕ) → slice_index (replicate n 0) i ≡ 0
     zeros zero i = refl
@@ -250,5 +279,6 @@ begins count =
 
     one : (by : ℕ) (v : ValuesView) → get_elem? (values_view true 65536 [] [] [] ∷ []) by ≡ some v
         → KnowsWrites 0 [] by v
-    one zero v e = subst (KnowsWrites 0 [] 0) (some-injective _ _ e) ((λ _. (refl, refl)), from_none [], from_none [])
+    one zero v e = subst (KnowsWrites 0 [] 0) (some-injective _ _ e)
+        (record { writes = λ _. (refl, refl); seen = from_none []; loads = from_none [] })
     one (suc by) v e = absurd (some-ne-none v (sym e))

@@ -15,7 +15,7 @@ use Rattle.ring_table.specs.declared.claim.PlacedMessage.{PlacedMessage}
 use Rattle.ring_table.specs.declared.view.View.{View}
 use Rattle.ring_table.specs.declared.view.ConsumerView.{ConsumerView}
 use Rattle.ring_rings.specs.Reading.{IsTight, messages_of, record_loads}
-use Rattle.ring_rings.specs.ReadingSteps.{FindsQuiet, IsAt, SettlesUpTo, ShowsOne}
+use Rattle.ring_rings.specs.ReadingSteps.{FindsQuiet, IsAt, IsPassed, SettlesUpTo, ShowsOne}
 
 -- w is v with these loads, and what became of the consumer's part
 abbrev pub LoadsMore : View → List (ℕ × ℕ) → View → Type 0
@@ -76,6 +76,25 @@ pub messages_of-push : (ms : List PlacedMessage) (m : PlacedMessage)
 messages_of-push [] m = refl
 messages_of-push (x ∷ ms) m = ap (λ l. x.message ∷ l) (messages_of-push ms m)
 
+-- a read that began at the position `start` has come to `scan` in its block, and the head has not fallen
+pub record HasCome (C start head scan : ℕ) : Type 0 where
+  pub from : start ≤ head
+  pub to : head ≤ scan
+  pub whole : scan % 8 ≡ 0
+  pub within : scan ≤ start + room C start
+  pub low : scan ≤ max_position
+
+-- and passes n bytes more
+come_on : {C start head head' scan n : ℕ} → 0 < C → (start < scan → scan % C ≢ 0) → HasCome C start head scan
+    → head' ≡ head → IsPassed C scan n → HasCome C start head' (scan + n)
+come_on {C} {start} {head} {head'} {scan} {n} some inside h same p = record {
+  from = omega (arith, same, h.from);
+  to = omega (arith, same, h.to);
+  whole = omega (arith, h.whole, p.whole);
+  within = stays_inside C start scan n some (omega (arith, h.from, h.to)) h.within inside p.inside.within;
+  low = p.inside.limit;
+}
+
 module _ {S : Type 0} (step : S → Message → S → Action → Type 0) (limit : ℕ) where
   -- a read that began with the view v and the handler's state s is running: it has come to `scan`, with so many
   -- messages
@@ -88,11 +107,7 @@ module _ {S : Type 0} (step : S → Message → S → Action → Type 0) (limit 
     pub view : LoadsMore v loads w
     pub heartbeats : w.consumer.heartbeats ≡ v.consumer.heartbeats
     pub stands : IsAt scan (v.consumer.taken ++ messages) w
-    pub from : v.consumer.head ≤ w.consumer.head
-    pub to : w.consumer.head ≤ scan
-    pub whole : scan % 8 ≡ 0
-    pub within : scan ≤ v.consumer.head + room v.capacity v.consumer.head
-    pub low : scan ≤ max_position
+    pub come : HasCome v.capacity v.consumer.head w.consumer.head scan
     pub tight : count ≡ limit → IsTight v.consumer.head messages scan
 
   pub runs_none : (v : View) (s : S) → 0 < v.capacity → v.consumer.head % 8 ≡ 0 → v.consumer.head ≤ max_position
@@ -106,11 +121,7 @@ module _ {S : Type 0} (step : S → Message → S → Action → Type 0) (limit 
     view = loads_none v;
     heartbeats = refl;
     stands = record { first = λ _. append-nil v.consumer.taken; later = λ ne. absurd (ne refl) };
-    from = omega arith;
-    to = omega arith;
-    whole = whole;
-    within = omega arith;
-    low = low;
+    come = record { from = omega arith; to = omega arith; whole = whole; within = omega arith; low = low };
     tight = λ _. inl (refl, refl);
   }
 
@@ -131,16 +142,11 @@ module _ {S : Type 0} (step : S → Message → S → Action → Type 0) (limit 
           view = loads_more v w x r.loads ((index v.capacity scan, f.found) ∷ []) r.view (loads_by w x _ _ f.view);
           heartbeats = ap (λ (y : View). y.consumer.heartbeats) f.view ∙ r.heartbeats;
           stands = record {
-            first = λ e. absurd (omega (arith, head, r.to, p.some));
+            first = λ e. absurd (omega (arith, head, r.come.to, p.some));
             later =
                 λ _. (ap (λ (y : View). y.consumer.scan) f.view, ap (λ (y : View). y.consumer.got) f.view);
           };
-          from = omega (arith, head, r.from);
-          to = omega (arith, head, r.to);
-          whole = omega (arith, r.whole, p.whole);
-          within = stays_inside v.capacity v.consumer.head scan n some
-              (omega (arith, r.from, r.to)) r.within inside p.inside.within;
-          low = p.inside.limit;
+          come = come_on some inside r.come head p;
           tight = λ e. absurd (below e);
         }
 
@@ -165,16 +171,11 @@ module _ {S : Type 0} (step : S → Message → S → Action → Type 0) (limit 
           view = loads_more v w x r.loads (record_loads v.capacity m) r.view (loads_by w x _ _ f.view);
           heartbeats = ap (λ (y : View). y.consumer.heartbeats) f.view ∙ r.heartbeats;
           stands = record {
-            first = λ e. absurd (omega (arith, head, r.to, p.some));
+            first = λ e. absurd (omega (arith, head, r.come.to, p.some));
             later =
                 λ _. (ap (λ (y : View). y.consumer.scan) f.view, ap (λ (y : View). y.consumer.got) f.view ∙ more);
           };
-          from = omega (arith, head, r.from);
-          to = omega (arith, head, r.to);
-          whole = omega (arith, r.whole, p.whole);
-          within = stays_inside v.capacity v.consumer.head scan n some
-              (omega (arith, r.from, r.to)) r.within inside p.inside.within;
-          low = p.inside.limit;
+          come = come_on some inside r.come head p;
           tight = λ _. inr (r.messages, m, refl, omega (arith, f.place, f.bytes));
         }
 
@@ -197,11 +198,13 @@ module _ {S : Type 0} (step : S → Message → S → Action → Type 0) (limit 
     view = p.view ∙ ap (λ (y : View). record y { consumer = x.consumer }) r.view;
     heartbeats = p.heartbeats ∙ r.heartbeats;
     stands = record { first = λ _. sym p.taken; later = λ ne. absurd (ne (sym p.head)) };
-    from = omega (arith, p.head, r.from, r.to);
-    to = omega (arith, p.head);
-    whole = r.whole;
-    within = r.within;
-    low = r.low;
+    come = record {
+      from = omega (arith, p.head, r.come.from, r.come.to);
+      to = omega (arith, p.head);
+      whole = r.come.whole;
+      within = r.come.within;
+      low = r.come.low;
+    };
     tight = r.tight;
   }
 

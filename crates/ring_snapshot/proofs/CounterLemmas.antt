@@ -7,7 +7,7 @@ use Rattle.std.specs.Ordering.{int_eq}
 use Rattle.std.proofs.lemmas.Int.{to_z-of_z}
 use Rattle.std.proofs.lemmas.List.{get_or-drop}
 use Rattle.ring_layout.proofs.HeaderLemmas.{fits_pos}
-use Rattle.ring_counters.specs.Counter.{Status, Metadata, Values}
+use Rattle.ring_counters.specs.Counter.{Status, Metadata}
 use Rattle.ring_counters.specs.Counter as ring_counters
 use Rattle.ring_counters.specs.Records.{bytes_at, metadata_of, IsMetadata, IsValues}
 use Rattle.ring_counters.specs.Registry.{Registry, count_of, counter_at, status_at, is_unused, is_allocated}

@@ -3,7 +3,7 @@ use Rattle.std.specs.Prelude.{◌≡◌, ℕ, zero, suc, ◌+◌, ◌-◌, ◌*�
 use Rattle.std.specs.List.{range_with_len}
 use Rattle.std.specs.Int.{cast_signed, w64}
 use Rattle.std.specs.Ordering.{int_eq}
-use Rattle.ring_counters.specs.Counter.{Metadata, Values, deadline_of, metadata_word, value_word}
+use Rattle.ring_counters.specs.Counter.{deadline_of, metadata_word, value_word}
 use Rattle.ring_counters.specs.Counter as ring_counters
 use Rattle.ring_counters.specs.Records.{bytes_at, IsWithinLimits}
 use Rattle.ring_counters.specs.Registry.{Registry, count_of, counter_at, status_at, is_unused, is_allocated}

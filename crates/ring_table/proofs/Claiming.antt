@@ -1,5 +1,5 @@
 -- The moves of the tail keep the rule.
-use Rattle.std.proofs.Common.{◌≡◌, ◌≢◌, ℕ, ◌+◌, ◌%◌, ◌≤◌, ◌<◌, ℤ, List, [], ◌∷◌, ◌++◌, eqb, set, slice_index, sym, refl, ap, ◌∙◌, subst, length, arith}
+use Rattle.std.proofs.Common.{◌≡◌, ◌≢◌, ℕ, ◌+◌, ◌≤◌, ◌<◌, ℤ, List, [], ◌∷◌, ◌++◌, eqb, set, slice_index, sym, refl, ap, ◌∙◌, subst, length, arith}
 use mathlib.Core.Option.{some, some-injective}
 use lib.ListN.{get_elem?}
 use prog.Atomic.{either}
@@ -16,13 +16,13 @@ use Rattle.ring_table.specs.Owners.{OwnedHistory, all_of}
 use Rattle.ring_table.specs.Views.{Logs, View, Wanted, logged, with_producer, with_tail, with_claim}
 use Rattle.ring_table.specs.Rule.{Kept}
 use Rattle.ring_table.specs.ProducerSteps.{Mine, IsClaimable, MovesTail, MovesOwnTail}
-use Rattle.ring_table.proofs.StagedPlaces.{capacity_aligned, start_aligned, end_aligned}
 use Rattle.ring_table.proofs.StagedWords.{staged_word-fresh}
 use Rattle.ring_table.proofs.Histories.{staged_end-append, owned_by-append, owned_by-append_other}
 use Rattle.ring_table.proofs.Sums.{at_below}
-use Rattle.ring_table.proofs.Seating.{sole_sees_top, reseated}
+use Rattle.ring_table.proofs.Knowing.{knows_after}
+use Rattle.ring_table.proofs.Seating.{sole_sees_top, becomes}
 use Rattle.ring_table.proofs.Memories.{memory_appended, service_elsewhere}
-use Rattle.ring_table.proofs.Loading.{Ok, May, sees, end_below}
+use Rattle.ring_table.proofs.Loading.{Ok, May, sees, end_below, tail_position}
 
 module _ (C start : ℕ) where
   -- a claim of n bytes joins the history at its end, where the tail is
@@ -46,12 +46,7 @@ module _ (C start : ℕ) where
       let room = claimable.room in
       let limit = claimable.limit in
       let tail_seen : v.producer.seen_tail ≤ top = k.tail_seen in
-      record {
-        lawful = r.lawful;
-        hist = h ++ x ∷ [];
-        reader = r.reader;
-        consumer = r.consumer;
-        drawn = r.drawn;
+      becomes C start words views r id v at (set words (tail_index C) new) (h ++ x ∷ []) r.consumer r.drawn w (record {
         memory = memory_appended C start r.lawful words r.consumer h r.memory x new
             (record {
               lies = record {
@@ -70,37 +65,28 @@ module _ (C start : ℕ) where
           heartbeat = λ e. omega arith;
           unnamed = λ j un. un.not_tail;
         }) r.consumer (record { rises = omega arith; same = refl });
-        seated = reseated top h r.reader r.consumer r.drawn views r.seated id v at
-            (staged_end start (all_of (h ++ x ∷ []))) (h ++ x ∷ []) r.consumer r.drawn w (record {
-              own = record {
-                claims = ap (λ l. l ++ c ∷ []) k.claims ∙ sym (owned_by-append id h c);
-                tail_seen = subst (λ z. new ≤ z) (sym tops) (omega arith);
-                head_seen = k.head_seen;
-                idle = λ none. absurd (omega arith);
-                served = k.served;
-                consumes = k.consumes;
-              };
-              others = λ j u ne f. record {
-                claims = f.claims ∙ sym (owned_by-append_other j id h c ne);
-                tail_seen = (let seen : u.producer.seen_tail ≤ top =
-                    f.tail_seen in subst (λ z. u.producer.seen_tail ≤ z) (sym tops) (omega arith));
-                head_seen = f.head_seen;
-                idle = f.idle;
-                served = f.served;
-                consumes = f.consumes;
-              };
-              shares = refl;
-              outside = λ j ne. owned_by-append_other j id h c ne;
-              latest = record {
-                seat = id;
-                view = w;
-                there = set_here views id w (at_below views id v at);
-                rich = rich;
-                sees = sym tops;
-              };
-              drawn = λ x. refl;
-            });
-      }
+        steps = record {
+          own = record {
+            claims = ap (λ l. l ++ c ∷ []) k.claims ∙ sym (owned_by-append id h c);
+            tail_seen = subst (λ z. new ≤ z) (sym tops) (omega arith);
+            head_seen = k.head_seen;
+            idle = λ none. absurd (omega arith);
+            served = k.served;
+            consumes = k.consumes;
+          };
+          others = λ j u ne f. knows_after f (omega arith) (owned_by-append_other j id h c ne);
+          shares = refl;
+          outside = λ j ne. owned_by-append_other j id h c ne;
+          latest = record {
+            seat = id;
+            view = w;
+            there = set_here views id w (at_below views id v at);
+            rich = rich;
+            sees = sym tops;
+          };
+          drawn = λ x. refl;
+        };
+      })
 
   pub moves_tail : (slots id : ℕ) (me : Mine) → me.0.capacity ≡ C → (old new : ℕ) (wanted : Wanted)
       → 0 < me.0.producer.shares → IsClaimable C old new wanted.type_id wanted.len me.0.producer.seen_head
@@ -114,10 +100,7 @@ module _ (C start : ℕ) where
       let is : n ≡ top = r.memory.tail_is in
       let k = r.seated.each id v at in
       let tail_seen = k.tail_seen in
-      let limit = r.memory.limit in
-      let least = r.lawful.capacity.least in
-      let aligned : top % 8 ≡ 0 = end_aligned C start (all_of r.hist) (omega arith)
-      (capacity_aligned C r.lawful.capacity) (start_aligned C start r.lawful) r.memory.placed in
+      let position = tail_position C start s r in
       let told : Mine → Type 0 = λ me'. (me'.1 ≡ me.1)
       × ((said : Wanted) → some wanted ≡ some said → MovesTail me.0.capacity old new said me.0 n me'.0)
       × (n ≢ old → Logs (tail_index C) n me.0 me'.0) in
@@ -136,7 +119,7 @@ module _ (C start : ℕ) where
             behind = λ _. end_below C start s.words s.views r id v at old (sym hit ∙ is);
             miss = λ other. absurd (other hit);
             later = omega arith;
-            position = record { aligned = omega arith; limit = omega arith };
+            position = position;
             sole = at_sole;
           },
           λ other. absurd (other hit),
@@ -155,7 +138,7 @@ module _ (C start : ℕ) where
             behind = λ hit. absurd (missed hit);
             miss = λ _. ap (λ c. logged (tail_index c) n (with_producer (with_tail n v.producer) v)) (sym cap);
             later = omega arith;
-            position = record { aligned = omega arith; limit = omega arith };
+            position = position;
             sole = at_sole;
           },
           λ _. refl,

@@ -1,5 +1,5 @@
 -- The consumer's loads keep the rule, and what a step of it owes.
-use Rattle.std.proofs.Common.{◌≡◌, ◌≢◌, ℕ, ◌+◌, ◌-◌, ◌/◌, ◌%◌, ◌^◌, ◌≤◌, ◌<◌, ℤ, pos, negsuc, ◌≤ℤ◌, FitsSigned, List, [], ◌∷◌, ◌++◌, cond, true, set, get_or, slice_index, sym, refl, ap, ◌∙◌, subst, ⊎_elim, le-ltb, arith}
+use Rattle.std.proofs.Common.{◌≡◌, ℕ, ◌+◌, ◌-◌, ◌/◌, ◌%◌, ◌^◌, ◌≤◌, ◌<◌, ℤ, pos, negsuc, ◌≤ℤ◌, FitsSigned, List, [], ◌∷◌, ◌++◌, cond, true, set, get_or, slice_index, sym, refl, ap, ◌∙◌, subst, ⊎_elim, le-ltb, arith}
 use mathlib.Core.Option.{some}
 use mathlib.Core.Logic.{dite}
 use native.Mathlib.Decide.{ℕ_discrete}
@@ -11,21 +11,20 @@ use Rattle.atomic_table.specs.Table.{State, keeps, Allows}
 use Rattle.ring_layout.specs.History.{IsMessage}
 use Rattle.ring_layout.specs.Places.{index}
 use Rattle.ring_layout.specs.Headers.{header, padding_type}
-use Rattle.ring_layout.specs.Layout.{head_cache_index, correlation_index, heartbeat_index, IsUnnamed}
-use Rattle.ring_layout.proofs.HeaderLemmas.{fits_pos}
 use Rattle.ring_table.specs.Staged.{PlacedMessage, staged_end, staged_word_at}
 use Rattle.ring_table.specs.Owners.{OwnedHistory, all_of}
 use Rattle.ring_table.specs.Passing.{Reaches}
 use Rattle.ring_table.specs.Services.{AreServed}
 use Rattle.ring_table.specs.Views.{Logs, ConsumerView, View, Wanted, logged, with_consumer, scanned}
-use Rattle.ring_table.specs.Rule.{IsMemory, Kept}
+use Rattle.ring_table.specs.Rule.{IsMemory, Knows, Kept}
 use Rattle.ring_table.specs.ProducerSteps.{Mine}
 use Rattle.ring_table.specs.ConsumerSteps.{with_scan, rounded, IsInside, LoadsHeader, LoadsBody}
 use Rattle.ring_table.proofs.StagedPlaces.{capacity_aligned, start_aligned}
 use Rattle.ring_table.proofs.ReachLemmas.{reach_bounds, reach_aligned, shows_body}
-use Rattle.ring_table.proofs.HeaderReads.{low_half, high_half, Leads, leads}
+use Rattle.ring_table.proofs.HeaderReads.{low_half, halves, Leads, leads}
 use Rattle.ring_table.proofs.Sums.{set_own}
-use Rattle.ring_table.proofs.Seating.{sees_top_after, reseated}
+use Rattle.ring_table.proofs.Knowing.{knows_on}
+use Rattle.ring_table.proofs.Seating.{sees_top_after, becomes}
 use Rattle.ring_table.proofs.Memories.{GoesOn, IsNoService, index_inside, not_inside, service_elsewhere}
 use Rattle.ring_table.proofs.Loading.{Ok, May, sees}
 
@@ -51,45 +50,26 @@ module _ (C start : ℕ) where
       → Kept C start (set words i value) (set views id (record v { consumer = now; log = log }))
   consumed words views r id v at consumes i value now log m away on =
       let rises = on.rises in
-      let beats = on.same in
       let top : ℕ = staged_end start (all_of r.hist) in
       let own = r.seated.each id v at in
       let mine = own.consumes consumes in
-      record {
-        lawful = r.lawful;
-        hist = r.hist;
-        reader = r.reader;
-        consumer = now;
-        drawn = r.drawn;
+      let w : View = record v { consumer = now; log = log } in
+      let served = λ (j : ℕ) (u : View) (k : Knows top r.hist r.reader r.consumer r.drawn j u).
+      subst (λ l. AreServed r.drawn l (u.producer.service ∷ u.producer.joined)) (sym on.same) k.served in
+      becomes C start words views r id v at (set words i value) r.hist now r.drawn w (record {
         memory = m;
         service = service_elsewhere C start r.lawful words r.consumer r.drawn r.service i value away now on;
-        seated = reseated top r.hist r.reader r.consumer r.drawn views r.seated id v at top r.hist now r.drawn
-            (record v { consumer = now; log = log }) (record {
-              own = record {
-                claims = own.claims;
-                tail_seen = own.tail_seen;
-                head_seen = (let seen = own.head_seen in omega arith);
-                idle = own.idle;
-                served = subst (λ l. AreServed r.drawn l (v.producer.service ∷ v.producer.joined)) (sym beats)
-                    own.served;
-                consumes = λ _. (mine.0, refl);
-              };
-              others = λ j u ne k. record {
-                claims = k.claims;
-                tail_seen = k.tail_seen;
-                head_seen = (let seen = k.head_seen in omega arith);
-                idle = k.idle;
-                served = subst (λ l. AreServed r.drawn l (u.producer.service ∷ u.producer.joined)) (sym beats)
-                    k.served;
-                consumes = λ z. absurd (ne ((k.consumes z).0 ∙ sym mine.0));
-              };
-              shares = refl;
-              outside = λ j ne. refl;
-              latest = sees_top_after views id v (record v { consumer = now; log = log }) top top at (λ rich. rich) refl
-                  (λ e. e) r.seated.latest;
-              drawn = λ x. refl;
-            });
-      }
+        steps = record {
+          own = knows_on own refl rises (served id v own) (λ _. (mine.0, refl));
+          others = λ j u ne k.
+              knows_on k refl rises (served j u k) (λ z. absurd (ne ((k.consumes z).0 ∙ sym mine.0)));
+          shares = refl;
+          outside = λ j ne. refl;
+          latest = sees_top_after views id v w top top at (λ rich. rich) refl
+              (λ e. e) r.seated.latest;
+          drawn = λ x. refl;
+        };
+      })
 
   -- the read comes to q
   scans : (s : State Wanted View) (r : Ok C start s) (id : ℕ) (v : View) → get_elem? s.views id ≡ some v
@@ -155,13 +135,6 @@ module _ (C start : ℕ) where
       (le-ltb q r.consumer.cleared le)) in
       let now = λ (to : ℕ) (g : List PlacedMessage). with_scan (index C q) n to g v in
       let Told : View → Type 0 = LoadsHeader me.0.capacity q got v n in
-      -- the halves of a header that is n
-      let halves = λ (len : ℕ) (type_id : ℤ) (small : len < 2 ^ 31) (e : n ≡ header (pos len) type_id).
-      let t : (low ≡ len) × (high ≡ cast_unsigned w32 type_id) = (
-        ap (λ k. k % 2 ^ 32) e ∙ low_half (pos len) type_id (fits_pos len small),
-        ap (λ k. k / 2 ^ 32) e
-            ∙ high_half (pos len) type_id (fits_pos len small),
-      ) in t in
       let no_length = λ (none : ¬ ((0 < low) × (low < 2 ^ 31))).
       let told : Told (now q got) = record {
         capacity = refl;

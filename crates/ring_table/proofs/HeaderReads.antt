@@ -11,7 +11,7 @@ use Rattle.ring_layout.specs.Headers.{header, header_of, padding_header, padding
 use Rattle.ring_layout.proofs.Laps.{mod_aligned}
 use Rattle.ring_layout.proofs.PlaceLemmas.{next_cases, next_within}
 use Rattle.ring_layout.proofs.HeaderLemmas.{pattern_below, fits_pos, fits_neg}
-use Rattle.ring_table.specs.Staged.{StagedClaim, PlacedMessage, Stage, Moved, Padded, Stored, claim_of, staged_span, claim_end, masked_padding, masked_record, staged_word, staged_word_at, ArePlaced}
+use Rattle.ring_table.specs.Staged.{StagedClaim, PlacedMessage, Stage, Moved, Padded, Stored, claim_of, staged_span, claim_end, masked_padding, masked_record, staged_word, staged_word_at}
 use Rattle.ring_table.specs.Passing.{IsSettled, placed_message, shown_at, Reaches}
 use Rattle.ring_table.specs.ConsumerSteps.{rounded}
 use Rattle.ring_table.proofs.StagedPlaces.{StandFrom, claim_aligned, capacity_aligned}
@@ -24,6 +24,14 @@ low_half len type_id fits = mod_low (cast_unsigned w32 type_id) 32 (cast_unsigne
 
 pub high_half : (len type_id : ℤ) → FitsSigned w32 len → header len type_id / 2 ^ 32 ≡ cast_unsigned w32 type_id
 high_half len type_id fits = shr_high (cast_unsigned w32 type_id) 32 (cast_unsigned w32 len) (pattern_below len fits)
+
+-- the halves of the header w of a record of this length
+pub halves : {w : ℕ} (len : ℕ) (type_id : ℤ) → len < 2 ^ 31 → w ≡ header (pos len) type_id
+    → (w % 2 ^ 32 ≡ len) × (w / 2 ^ 32 ≡ cast_unsigned w32 type_id)
+halves len type_id small is = (
+  ap (λ k. k % 2 ^ 32) is ∙ low_half (pos len) type_id (fits_pos len small),
+  ap (λ k. k / 2 ^ 32) is ∙ high_half (pos len) type_id (fits_pos len small),
+)
 
 pub negated_above : (n : ℕ) → 0 < n → n < 2 ^ 31 → 2 ^ 31 ≤ cast_unsigned w32 (neg_ℤ (pos n))
 negated_above zero some small = absurd (omega arith)
@@ -64,6 +72,21 @@ record IsHeaderAt (c : StagedClaim) (t : Stage) (s w : ℕ) : Type 0 where
   pub word : w ≡ masked_record t
       (header_of (claim_of (record { from = c.from; place = c.place; message = c.message; stage = t })))
 
+-- the header w of a settled claim's record leads from s to the claim's end
+record LeadsToEnd (c : StagedClaim) (s w : ℕ) (type_id : ℤ) : Type 0 where
+  pub len : w % 2 ^ 32 ≡ 8 + length c.message.body
+  pub bits : w / 2 ^ 32 ≡ cast_unsigned w32 type_id
+  pub goes : s + rounded (w % 2 ^ 32) ≡ claim_end c
+
+leads_to_end : (C s : ℕ) (c : StagedClaim) (w : ℕ) (type_id : ℤ) → C ≤ 2 ^ 24 → IsMessage C c.message → s ≡ c.place
+    → w ≡ header (pos (8 + length c.message.body)) type_id → LeadsToEnd c s w type_id
+leads_to_end C s c w type_id big m at is =
+    let n : ℕ = length c.message.body in
+    let short : n ≤ C / 8 = m.short in
+    let both = halves (8 + n) type_id (omega arith) is in
+    let len : w % 2 ^ 32 ≡ 8 + n = both.0 in
+    record { len = len; bits = both.1; goes = omega arith }
+
 -- the header at the place of the claim
 at_header : (C s e : ℕ) (c : StagedClaim) (cs : List StagedClaim) (t : Stage) (w : ℕ) → C ≤ 2 ^ 24
     → IsMessage C c.message → s % C + staged_span c ≤ C → IsHeaderAt c t s w → HasLength w → Leads C s e (c ∷ cs) [] w
@@ -83,22 +106,15 @@ at_header C s e c cs (Stored Open) w big m inner h plus =
 at_header C s e c cs (Stored Committed) w big m inner h plus =
     let at = h.place in
     let is = h.stage in
-    let eq = h.word in
-    let lo = plus.above in
-    let hi = plus.below in
-    let n : ℕ = length c.message.body in
-    let short : n ≤ C / 8 = m.short in
-    let fits = fits_pos (8 + n) (omega arith) in
-    let len : w % 2 ^ 32 ≡ 8 + n = ap (λ k. k % 2 ^ 32) eq ∙ low_half (pos (8 + n)) c.message.type_id fits in
-    let bits : w / 2 ^ 32 ≡ cast_unsigned w32 c.message.type_id =
-    ap (λ k. k / 2 ^ 32) eq ∙ high_half (pos (8 + n)) c.message.type_id fits in
+    let t = leads_to_end C s c w c.message.type_id big m at h.word in
+    let goes = t.goes in
+    let bits = t.bits in
     let type_bits = type_below c.message.type_id m.type_id m.type_fits in
-    let goes : s + rounded (w % 2 ^ 32) ≡ claim_end c = omega arith in
     record {
       padding = λ pad. absurd (omega arith);
       message = λ _. record {
         message = c.message;
-        len_is = sym len;
+        len_is = sym t.len;
         type_is = sym bits;
         lawful = m;
         reaches = subst (λ k. Reaches k e (c ∷ cs) ((record { place = s; message = c.message }) ∷ [])) (sym goes)
@@ -117,17 +133,9 @@ at_header C s e c cs (Stored Committed) w big m inner h plus =
       within = omega arith;
     }
 at_header C s e c cs (Stored Aborted) w big m inner h plus =
-    let at = h.place in
     let is = h.stage in
-    let eq = h.word in
-    let lo = plus.above in
-    let hi = plus.below in
-    let n : ℕ = length c.message.body in
-    let short : n ≤ C / 8 = m.short in
-    let fits = fits_pos (8 + n) (omega arith) in
-    let len : w % 2 ^ 32 ≡ 8 + n = ap (λ k. k % 2 ^ 32) eq ∙ low_half (pos (8 + n)) padding_type fits in
-    let bits : w / 2 ^ 32 ≡ 2 ^ 32 - 1 = ap (λ k. k / 2 ^ 32) eq ∙ high_half (pos (8 + n)) padding_type fits in
-    let goes : s + rounded (w % 2 ^ 32) ≡ claim_end c = omega arith in
+    let t = leads_to_end C s c w padding_type big m h.place h.word in
+    let goes = t.goes in
     record {
       padding = λ _. subst (λ k. Reaches k e (c ∷ cs) []) (sym goes)
           (inr (inr (
@@ -139,7 +147,7 @@ at_header C s e c cs (Stored Aborted) w big m inner h plus =
               at_end (claim_end c) cs,
             ),
           )));
-      message = λ other. absurd (other bits);
+      message = λ other. absurd (other t.bits);
       within = omega arith;
     }
 
@@ -180,15 +188,13 @@ at_padding C s e c cs w big pad eq plus = by_stage c.stage refl eq
     stored : w ≡ padding_header (c.place - c.from) → c.stage ≢ Moved → Leads C s e (c ∷ cs) [] w
     stored is moved =
         let n : ℕ = c.place - c.from in
-        let fits = fits_pos n (omega arith) in
-        let len : w % 2 ^ 32 ≡ n = ap (λ k. k % 2 ^ 32) is ∙ low_half (pos n) padding_type fits in
-        let bits : w / 2 ^ 32 ≡ 2 ^ 32 - 1 = ap (λ k. k / 2 ^ 32) is ∙ high_half (pos n) padding_type fits in
+        let both = halves n padding_type (omega arith) is in
+        let len : w % 2 ^ 32 ≡ n = both.0 in
         let goes : s + rounded (w % 2 ^ 32) ≡ c.place = omega arith in
         record {
           padding = λ _. inr (inl (goes, moved, refl));
-          message = λ other. absurd (other bits);
-          within =
-              omega arith;
+          message = λ other. absurd (other both.1);
+          within = omega arith;
         }
 
     by_stage : (t : Stage) → c.stage ≡ t → w ≡ masked_padding t (padding_header (c.place - c.from))

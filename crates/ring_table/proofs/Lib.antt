@@ -6,6 +6,7 @@ pub mod OwnerLemmas
 pub mod ReachLemmas
 pub mod HeaderReads
 pub mod Sums
+mod Knowing
 pub mod Seating
 pub mod Memories
 pub mod Loading

@@ -11,14 +11,15 @@ use Rattle.ring_table.specs.Passing.{IsSettled}
 use Rattle.ring_table.specs.Services.{times_drawn, once_below}
 use Rattle.ring_table.specs.Views.{Logs, View, Wanted, logged, with_producer, with_tail, with_head}
 use Rattle.ring_table.specs.Rule.{Knows, Kept, shares_of}
-use Rattle.ring_table.specs.ProducerSteps.{Mine, EndBelow, LoadsTail, LoadsHead, HasClaim, LoadsOwn}
+use Rattle.ring_table.specs.ProducerSteps.{Mine, IsPosition, EndBelow, LoadsTail, LoadsHead, HasClaim, LoadsOwn}
 use Rattle.ring_table.proofs.StagedPlaces.{capacity_aligned, start_aligned, lies_in, LiesIn, end_aligned, places_aligned, word_of_claim}
 use Rattle.ring_table.proofs.StagedWords.{staged_word-stored}
 use Rattle.ring_table.proofs.Histories.{owned_at}
 use Rattle.ring_table.proofs.OwnerLemmas.{rising_owned_by}
 use Rattle.ring_table.proofs.ReachLemmas.{not_passed}
 use Rattle.ring_table.proofs.Sums.{set_own, total-least}
-use Rattle.ring_table.proofs.Seating.{sole_sees_top, sees_top_after, knows_seeing, reseated}
+use Rattle.ring_table.proofs.Knowing.{knows_seeing}
+use Rattle.ring_table.proofs.Seating.{sole_sees_top, sees_top_after, becomes}
 use Rattle.ring_table.proofs.Memories.{head_bounds}
 
 module _ (C start : ℕ) where
@@ -40,25 +41,20 @@ module _ (C start : ℕ) where
   looked words views r id i v w at knows rich later drawn =
       let top : ℕ = staged_end start (all_of r.hist) in
       let seen = knows.tail_seen in
-      subst (λ l. Kept C start l (set views id w)) (sym (set_own words i)) record {
-        lawful = r.lawful;
-        hist = r.hist;
-        reader = r.reader;
-        consumer = r.consumer;
-        drawn = r.drawn;
+      subst (λ l. Kept C start l (set views id w)) (sym (set_own words i))
+      (becomes C start words views r id v at words r.hist r.consumer r.drawn w (record {
         memory = r.memory;
         service = r.service;
-        seated = reseated top r.hist r.reader r.consumer r.drawn views r.seated id v at top r.hist r.consumer r.drawn w
-            (record {
-              own = knows;
-              others = λ j u ne k. k;
-              shares = rich;
-              outside = λ j ne. refl;
-              latest = sees_top_after views id v w top top at (λ above. omega arith) refl (λ e. omega arith)
-                  r.seated.latest;
-              drawn = λ x. ap (λ (k : ℕ). k + once_below x r.drawn) (drawn x);
-            });
-      }
+        steps = record {
+          own = knows;
+          others = λ j u ne k. k;
+          shares = rich;
+          outside = λ j ne. refl;
+          latest = sees_top_after views id v w top top at (λ above. omega arith) refl (λ e. omega arith)
+              r.seated.latest;
+          drawn = λ x. ap (λ (k : ℕ). k + once_below x r.drawn) (drawn x);
+        };
+      }))
 
   -- a seat loads, and sees a later tail or head
   pub sees : (words : List ℕ) (views : List View) (r : Kept C start words views) (id i : ℕ) (v : View)
@@ -67,9 +63,7 @@ module _ (C start : ℕ) where
       → Kept C start (set words i (slice_index words i))
       (set views id (record v { producer = record v.producer { seen_tail = tail; seen_head = head }; log = log }))
   sees words views r id i v at tail head log later t h =
-      looked words views r id i v _ at (knows_seeing
-      (staged_end start (all_of r.hist)) r.hist r.reader r.consumer r.drawn id v
-      (r.seated.each id v at) tail head log t h) refl later (λ x. refl)
+      looked words views r id i v _ at (knows_seeing (r.seated.each id v at) tail head log t h) refl later (λ x. refl)
 
   -- the claims of a view end at or below the tail
   pub end_below : (words : List ℕ) (views : List View) (r : Kept C start words views) (id : ℕ) (v : View)
@@ -79,6 +73,16 @@ module _ (C start : ℕ) where
       let own = owned_at id r.hist k c (subst (λ l. get_elem? l k ≡ some c) (r.seated.each id v at).claims has) in
       let below = (lies_in C start r.hist own.0 (id, c) r.memory.placed own.1).below in
       omega arith
+
+  -- the tail is a position
+  pub tail_position : (s : State Wanted View) → Ok s → IsPosition (slice_index s.words (tail_index C))
+  tail_position s r =
+      let least = r.lawful.capacity.least in
+      let is = r.memory.tail_is in
+      let limit = r.memory.limit in
+      let aligned : staged_end start (all_of r.hist) % 8 ≡ 0 = end_aligned C start (all_of r.hist) (omega arith)
+      (capacity_aligned C r.lawful.capacity) (start_aligned C start r.lawful) r.memory.placed in
+      record { aligned = omega arith; limit = omega arith }
 
   pub loads_tail : (slots id : ℕ) (me : Mine) → me.0.capacity ≡ C
       → Allows Ok slots id me (tail_index C) (λ n. n)
@@ -92,11 +96,7 @@ module _ (C start : ℕ) where
       let tail_seen = k.tail_seen in
       let head_seen = k.head_seen in
       let bounds = head_bounds C start r.lawful s.words r.consumer (all_of r.hist) r.memory in
-      let head_below = bounds.1 in
-      let limit = r.memory.limit in
-      let least = r.lawful.capacity.least in
-      let aligned : top % 8 ≡ 0 = end_aligned C start (all_of r.hist) (omega arith)
-      (capacity_aligned C r.lawful.capacity) (start_aligned C start r.lawful) r.memory.placed in (
+      let head_below = bounds.1 in (
         logged (tail_index C) n (with_producer (with_tail n v.producer) v),
         keeps,
         tt,
@@ -107,7 +107,7 @@ module _ (C start : ℕ) where
             view = ap (λ c. logged (tail_index c) n (with_producer (with_tail n v.producer) v)) (sym cap);
             later = omega arith;
             above_head = omega arith;
-            position = record { aligned = omega arith; limit = omega arith };
+            position = tail_position s r;
             sole = λ all. is ∙ sym (sole_sees_top s.views id v top r.seated.shares r.seated.latest at all);
             rising = subst AreRising (sym k.claims) (rising_owned_by C start id r.hist r.memory.placed);
             behind = end_below s.words s.views r id v at n is;

@@ -5,10 +5,11 @@ use mathlib.Core.Logic.{dite}
 use native.Mathlib.Decide.{ℕ_discrete}
 use lib.ListN.{get_elem?}
 use Rattle.atomic_table.proofs.Lists.{set_here, set_else}
-use Rattle.ring_table.specs.Owners.{OwnedHistory, owned_by}
+use Rattle.ring_table.specs.Staged.{staged_end}
+use Rattle.ring_table.specs.Owners.{OwnedHistory, all_of, owned_by}
 use Rattle.ring_table.specs.Services.{total, times_drawn, once_below}
 use Rattle.ring_table.specs.Views.{ConsumerView, View, spent}
-use Rattle.ring_table.specs.Rule.{Knows, SeesTop, IsSeated, shares_of}
+use Rattle.ring_table.specs.Rule.{IsMemory, IsService, Knows, SeesTop, IsSeated, Kept, shares_of}
 use Rattle.ring_table.proofs.Sums.{at_below, each_after_set, total-set, total-zero}
 
 -- what an entry that is known is, by two reports of it
@@ -64,20 +65,6 @@ sees_top_after views id v w top top' at stays tops sees latest = dite (ℕ_discr
     })
 
 module _ (top : ℕ) (hist : OwnedHistory) (reader : ℕ) (consumer : ConsumerView) (n : ℕ) where
-  -- a seat knows the same after it has seen a later tail or head
-  pub knows_seeing : (id : ℕ) (v : View) → Knows top hist reader consumer n id v → (tail head : ℕ) (log : List (ℕ × ℕ))
-      → tail ≤ top → head ≤ consumer.head
-      → Knows top hist reader consumer n id
-      (record v { producer = record v.producer { seen_tail = tail; seen_head = head }; log = log })
-  knows_seeing id v k tail head log t h = record {
-    claims = k.claims;
-    tail_seen = t;
-    head_seen = h;
-    idle = λ none. record { claims = (k.idle none).claims; draws = (k.idle none).draws };
-    served = k.served;
-    consumes = k.consumes;
-  }
-
   -- one seat steps, and the history, the consumer and the draws go on
   pub record Steps (views : List View) (id : ℕ) (v : View) (top' : ℕ) (hist' : OwnedHistory) (consumer' : ConsumerView)
       (n' : ℕ) (w : View) : Type 0 where
@@ -89,7 +76,7 @@ module _ (top : ℕ) (hist : OwnedHistory) (reader : ℕ) (consumer : ConsumerVi
     pub latest : SeesTop (set views id w) top'
     pub drawn : (x : ℕ) → times_drawn x w.producer + once_below x n ≡ times_drawn x v.producer + once_below x n'
 
-  pub reseated : (views : List View) → IsSeated top hist reader consumer n views → (id : ℕ) (v : View)
+  reseated : (views : List View) → IsSeated top hist reader consumer n views → (id : ℕ) (v : View)
       → get_elem? views id ≡ some v
       → (top' : ℕ) (hist' : OwnedHistory) (consumer' : ConsumerView) (n' : ℕ) (w : View)
       → Steps views id v top' hist' consumer' n' w → IsSeated top' hist' reader consumer' n' (set views id w)
@@ -124,3 +111,27 @@ module _ (top : ℕ) (hist : OwnedHistory) (reader : ℕ) (consumer : ConsumerVi
             let done : after ≡ is = omega arith in
             done;
       }
+
+-- one seat steps, and so do the words
+pub record Becomes (C start : ℕ) (words : List ℕ) (views : List View) (r : Kept C start words views) (id : ℕ) (v : View)
+    (words' : List ℕ) (hist' : OwnedHistory) (consumer' : ConsumerView) (n' : ℕ) (w : View) : Type 0 where
+  pub memory : IsMemory C start words' (all_of hist') consumer'
+  pub service : IsService C words' consumer' n'
+  pub steps : Steps (staged_end start (all_of r.hist)) r.hist r.reader r.consumer r.drawn views id v
+      (staged_end start (all_of hist')) hist' consumer' n' w
+
+pub becomes : (C start : ℕ) (words : List ℕ) (views : List View) (r : Kept C start words views) (id : ℕ) (v : View)
+    → get_elem? views id ≡ some v
+    → (words' : List ℕ) (hist' : OwnedHistory) (consumer' : ConsumerView) (n' : ℕ) (w : View)
+    → Becomes C start words views r id v words' hist' consumer' n' w → Kept C start words' (set views id w)
+becomes C start words views r id v at words' hist' consumer' n' w now = record {
+  lawful = r.lawful;
+  hist = hist';
+  reader = r.reader;
+  consumer = consumer';
+  drawn = n';
+  memory = now.memory;
+  service = now.service;
+  seated = reseated (staged_end start (all_of r.hist)) r.hist r.reader r.consumer r.drawn views r.seated id v at
+      (staged_end start (all_of hist')) hist' consumer' n' w now.steps;
+}

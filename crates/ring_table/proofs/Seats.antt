@@ -9,12 +9,13 @@ use Rattle.atomic_table.specs.Table.{State, Splits, Joins}
 use Rattle.atomic_table.proofs.Lists.{at_set, at_longer, set_here, set_else}
 use Rattle.ring_table.specs.Staged.{staged_end}
 use Rattle.ring_table.specs.Owners.{OwnedHistory, all_of, owned_by, interleaved, handed_over}
-use Rattle.ring_table.specs.Services.{AreServed, Service, total, times, times_drawn}
-use Rattle.ring_table.specs.Views.{ConsumerView, ProducerView, View, Wanted, without_consumer, consumer_alone, with_consumer_of, without_share, producer_alone, with_producer_of, spent}
-use Rattle.ring_table.specs.Rule.{IsIdle, IsMemory, Knows, IsSeated, Kept, shares_of}
+use Rattle.ring_table.specs.Services.{Service, total, times, times_drawn}
+use Rattle.ring_table.specs.Views.{ConsumerView, View, Wanted, without_consumer, consumer_alone, with_consumer_of, without_share, producer_alone, with_producer_of, spent}
+use Rattle.ring_table.specs.Rule.{IsMemory, Knows, IsSeated, Kept, shares_of}
 use Rattle.ring_table.proofs.OwnerLemmas.{all_of-handed_over, owned_by-handed_over, owned_by-handed_away, owned_by-handed_over_other}
 use Rattle.ring_table.proofs.ServiceLemmas.{served_append}
 use Rattle.ring_table.proofs.Sums.{at_below, at_more, each_after_set, total-append}
+use Rattle.ring_table.proofs.Knowing.{knows_after, knows_new, knows_on, knows_served}
 use Rattle.ring_table.proofs.Seating.{one_view, sees_top_after}
 use Rattle.ring_table.proofs.SeatSums.{total-parted, total-met}
 
@@ -150,19 +151,6 @@ module _ (top : ℕ) (hist : OwnedHistory) (reader : ℕ) (consumer : ConsumerVi
             total-met f views id other v w both spent at there (meet.drawn x) refl ∙ s.once x;
       }
 
--- a seat whose producer is as before knows the same, but for who the consumer is
-knows_as : {top : ℕ} {hist : OwnedHistory} {reader reader' : ℕ} {consumer : ConsumerView} {n id : ℕ} {v w : View}
-    → Knows top hist reader consumer n id v → w.producer ≡ v.producer
-    → (w.consumes ≡ true → (id ≡ reader') × (w.consumer ≡ consumer)) → Knows top hist reader' consumer n id w
-knows_as {top} {hist} {reader} {reader'} {consumer} {n} {id} {v} {w} k same consumes = record {
-  claims = ap (λ (p : ProducerView). p.claims) same ∙ k.claims;
-  tail_seen = subst (λ (p : ProducerView). p.seen_tail ≤ top) (sym same) k.tail_seen;
-  head_seen = subst (λ (p : ProducerView). p.seen_head ≤ consumer.head) (sym same) k.head_seen;
-  idle = subst (λ (p : ProducerView). p.shares ≡ 0 → IsIdle p) (sym same) k.idle;
-  served = subst (λ (p : ProducerView). AreServed n consumer.heartbeats (p.service ∷ p.joined)) (sym same) k.served;
-  consumes = consumes;
-}
-
 module _ (C start : ℕ) where
   reseat : (words : List ℕ) (views views' : List View) (r : Kept C start words views) (reader : ℕ)
       → IsSeated (staged_end start (all_of r.hist)) r.hist reader r.consumer r.drawn views' → Kept C start words views'
@@ -191,16 +179,11 @@ module _ (C start : ℕ) where
       (without_consumer v) (consumer_alone v) (length s.views) at
       (record { shares = sum; some = λ rich. rich; seen = refl; drawn = λ x. refl; drawn_none = λ x. refl })
       (record {
-        left_knows = knows_as own refl (λ e. absurd (false≢true e));
-        right_knows = record {
-          claims = sym (r.seated.nobody (length s.views) (omega arith));
-          tail_seen = own.tail_seen;
-          head_seen = own.head_seen;
-          idle = λ _. record { claims = refl; draws = λ x. refl };
-          served = (record { draws = omega arith; heartbeats = omega arith }, tt);
-          consumes = λ _. (refl, mine.1);
-        };
-        others = λ j u ne f. knows_as f refl (λ e. absurd (ne ((f.consumes e).0 ∙ sym mine.0)));
+        left_knows = knows_on own refl (omega arith) own.served (λ e. absurd (false≢true e));
+        right_knows = knows_new 0 v.producer.seen_tail v.producer.seen_head refl
+            (r.seated.nobody (length s.views) (omega arith)) (own.tail_seen, own.head_seen) (λ _. (refl, mine.1));
+        others = λ j u ne f.
+            knows_on f refl (omega arith) f.served (λ e. absurd (ne ((f.consumes e).0 ∙ sym mine.0)));
       }))
 
   pub splits_producer : (id : ℕ) (v : View) → 1 < v.producer.shares
@@ -215,35 +198,12 @@ module _ (C start : ℕ) where
       (producer_alone v) r.reader at
       (record { shares = sum; some = λ _. left; seen = refl; drawn = λ x. refl; drawn_none = λ x. refl })
       (record {
-        left_knows = record {
-          claims = own.claims;
-          tail_seen = own.tail_seen;
-          head_seen = own.head_seen;
-          idle = λ none. absurd (omega arith);
-          served = own.served;
-          consumes = own.consumes;
-        };
-        right_knows = record {
-          claims = sym (r.seated.nobody (length s.views) (omega arith));
-          tail_seen = own.tail_seen;
-          head_seen = own.head_seen;
-          idle = λ _. record { claims = refl; draws = λ x. refl };
-          served = (record { draws = omega arith; heartbeats = omega arith }, tt);
-          consumes = λ e. absurd (false≢true e);
-        };
+        left_knows = knows_served own r.drawn (shares - 1) v.producer.service v.log left own.served;
+        right_knows = knows_new 1 v.producer.seen_tail v.producer.seen_head refl
+            (r.seated.nobody (length s.views) (omega arith)) (own.tail_seen, own.head_seen)
+            (λ e. absurd (false≢true e));
         others = λ j u ne f. f;
       }))
-
-  knows_spent : (top : ℕ) (hist : OwnedHistory) (reader : ℕ) (consumer : ConsumerView) (n id : ℕ)
-      → [] ≡ owned_by id hist → Knows top hist reader consumer n id spent
-  knows_spent top hist reader consumer n id none = record {
-    claims = none;
-    tail_seen = omega arith;
-    head_seen = omega arith;
-    idle = λ _. record { claims = refl; draws = λ x. refl };
-    served = (record { draws = omega arith; heartbeats = omega arith }, tt);
-    consumes = λ e. absurd (false≢true e);
-  }
 
   pub joins_consumer : (id : ℕ) (v : View) (other : ℕ) (w : View) → w.consumes ≡ true → w.producer.shares ≡ 0
       → Joins (λ (s : State Wanted View). Kept C start s.words s.views) id v other w (with_consumer_of v w) spent
@@ -265,9 +225,11 @@ module _ (C start : ℕ) where
       })
       (record {
         tops = refl;
-        both_knows = knows_as own refl (λ _. (refl, mine.1));
-        spent_knows = knows_spent top r.hist id r.consumer r.drawn other (sym idle.claims ∙ its.claims);
-        others = λ j u a b f. knows_as f refl (λ e. absurd (b ((f.consumes e).0 ∙ sym mine.0)));
+        both_knows = knows_on own refl (omega arith) own.served (λ _. (refl, mine.1));
+        spent_knows = knows_new 0 0 0 refl (sym its.claims ∙ idle.claims) (omega arith, omega arith)
+            (λ e. absurd (false≢true e));
+        others = λ j u a b f.
+            knows_on f refl (omega arith) f.served (λ e. absurd (b ((f.consumes e).0 ∙ sym mine.0)));
         outside = λ j past. refl;
       }))
 
@@ -323,16 +285,9 @@ module _ (C start : ℕ) where
                     (w.producer.service ∷ w.producer.joined) own.served its.served;
                 consumes = own.consumes;
               };
-              spent_knows = knows_spent (staged_end start (all_of h')) h' r.reader r.consumer r.drawn other
-                  (sym (owned_by-handed_away other id h ne));
-              others = λ j u a b f. record {
-                claims = f.claims ∙ sym (owned_by-handed_over_other j other id h b a);
-                tail_seen = subst (λ k. u.producer.seen_tail ≤ k) (sym tops) f.tail_seen;
-                head_seen = f.head_seen;
-                idle = f.idle;
-                served = f.served;
-                consumes = f.consumes;
-              };
+              spent_knows = knows_new 0 0 0 refl (owned_by-handed_away other id h ne) (omega arith, omega arith)
+                  (λ e. absurd (false≢true e));
+              others = λ j u a b f. knows_after f (omega arith) (owned_by-handed_over_other j other id h b a);
               outside = λ j past. owned_by-handed_over_other j other id h
                   (λ e. let b = at_below s.views other w was in omega arith)
                   (λ e. let b = at_below s.views id v at in omega arith);

@@ -10,7 +10,8 @@ use Rattle.ring_table.specs.Views.{Logs, ConsumerView, View, logged, with_produc
 use Rattle.ring_table.specs.Rule.{Kept}
 use Rattle.ring_table.specs.ProducerSteps.{Mine}
 use Rattle.ring_table.specs.ServiceSteps.{LoadsCache, DrawsId, LoadsHeartbeat}
-use Rattle.ring_table.proofs.Seating.{sole_sees_top, sees_top_after, reseated}
+use Rattle.ring_table.proofs.Knowing.{knows_on, knows_served}
+use Rattle.ring_table.proofs.Seating.{sole_sees_top, sees_top_after, becomes}
 use Rattle.ring_table.proofs.Memories.{head_bounds, memory_elsewhere}
 use Rattle.ring_table.proofs.ServiceLemmas.{rising_append, times_drawn-more, heartbeats_append, served_draw_more, served_heartbeat_more}
 use Rattle.ring_table.proofs.Loading.{Ok, looked, sees}
@@ -99,12 +100,7 @@ module _ (C start : ℕ) where
         w,
         keeps,
         tt,
-        record {
-          lawful = r.lawful;
-          hist = r.hist;
-          reader = r.reader;
-          consumer = r.consumer;
-          drawn = k + 1;
+        becomes C start s.words s.views r id v at (set s.words i value) r.hist r.consumer (k + 1) w (record {
           memory = memory_elsewhere C start r.lawful s.words r.consumer (all_of r.hist) r.memory i value (omega arith)
               (λ e. omega arith) (λ e. omega arith) r.consumer.heartbeats;
           service = record {
@@ -114,41 +110,25 @@ module _ (C start : ℕ) where
             heartbeat = r.service.heartbeat ∙ ap some
                 (sym (get_or-set_other s.words i (heartbeat_index C) value 0 (omega arith)));
           };
-          seated = reseated top r.hist r.reader r.consumer k s.views r.seated id v at top r.hist r.consumer (k + 1) w
-              (record {
-                own = record {
-                  claims = own.claims;
-                  tail_seen = own.tail_seen;
-                  head_seen = own.head_seen;
-                  idle = λ none. absurd (omega arith);
-                  served =
-                      (let all = served_draw_more k r.consumer.heartbeats
-                      (v.producer.service ∷ v.producer.joined) own.served in (
-                        record {
-                          draws = rising_append 0 k v.producer.service.draws own.served.0.draws;
-                          heartbeats =
-                              all.0.heartbeats;
-                        },
-                        all.1,
-                      ));
-                  consumes = own.consumes;
-                };
-                others = λ j u ne f. record {
-                  claims = f.claims;
-                  tail_seen = f.tail_seen;
-                  head_seen = f.head_seen;
-                  idle =
-                      f.idle;
-                  served = served_draw_more k r.consumer.heartbeats
-                      (u.producer.service ∷ u.producer.joined) f.served;
-                  consumes = f.consumes;
-                };
-                shares = refl;
-                outside = λ j ne. refl;
-                latest = sees_top_after s.views id v w top top at (λ rich. rich) refl (λ e. e) r.seated.latest;
-                drawn = λ x. times_drawn-more x k v.producer;
-              });
-        },
+          steps = record {
+            own =
+                (let all = served_draw_more k r.consumer.heartbeats
+                (v.producer.service ∷ v.producer.joined) own.served in
+                knows_served own (k + 1) v.producer.shares w.producer.service v.log rich (
+                  record {
+                    draws = rising_append 0 k v.producer.service.draws own.served.0.draws;
+                    heartbeats = all.0.heartbeats;
+                  },
+                  all.1,
+                ));
+            others = λ j u ne f. knows_on f refl (omega arith) (served_draw_more k r.consumer.heartbeats
+                (u.producer.service ∷ u.producer.joined) f.served) f.consumes;
+            shares = refl;
+            outside = λ j ne. refl;
+            latest = sees_top_after s.views id v w top top at (λ rich. rich) refl (λ e. e) r.seated.latest;
+            drawn = λ x. times_drawn-more x k v.producer;
+          };
+        }),
         (refl, record { number = k; id = is; view = refl; rising = own.served.0.draws }),
       )
 
@@ -166,22 +146,15 @@ module _ (C start : ℕ) where
         keeps,
         tt,
         looked C start s.words s.views r id i v w at
-            (record {
-              claims = own.claims;
-              tail_seen = own.tail_seen;
-              head_seen = own.head_seen;
-              idle = λ none. absurd (omega arith);
-              served = (
-                record {
-                  draws = own.served.0.draws;
-                  heartbeats =
-                      heartbeats_append 0 r.consumer.heartbeats v.producer.service.heartbeats n r.service.heartbeat
-                      own.served.0.heartbeats;
-                },
-                own.served.1,
-              );
-              consumes = own.consumes;
-            }) refl (omega arith) (λ x. refl),
+            (knows_served own r.drawn v.producer.shares w.producer.service w.log rich (
+              record {
+                draws = own.served.0.draws;
+                heartbeats =
+                    heartbeats_append 0 r.consumer.heartbeats v.producer.service.heartbeats n r.service.heartbeat
+                    own.served.0.heartbeats;
+              },
+              own.served.1,
+            )) refl (omega arith) (λ x. refl),
         (
           refl,
           record {
@@ -212,12 +185,7 @@ module _ (C start : ℕ) where
         w,
         keeps,
         tt,
-        record {
-          lawful = r.lawful;
-          hist = r.hist;
-          reader = r.reader;
-          consumer = now;
-          drawn = r.drawn;
+        becomes C start s.words s.views r id v at (set s.words i value) r.hist now r.drawn w (record {
           memory = memory_elsewhere C start r.lawful s.words r.consumer (all_of r.hist) r.memory i value (omega arith)
               (λ e. omega arith) (λ e. omega arith) (old ++ value ∷ []);
           service = record {
@@ -229,29 +197,18 @@ module _ (C start : ℕ) where
                 (omega (arith, length-append {A = ℕ} old (value ∷ [])))
                 ∙ ap some (sym (get_or-set_same s.words i value 0 (omega arith)));
           };
-          seated = reseated top r.hist r.reader r.consumer r.drawn s.views r.seated id v at top r.hist now r.drawn w
-              (record {
-                own = record {
-                  claims = own.claims;
-                  tail_seen = own.tail_seen;
-                  head_seen = own.head_seen;
-                  idle = own.idle;
-                  served = served_heartbeat_more r.drawn old value (v.producer.service ∷ v.producer.joined) own.served;
-                  consumes = λ _. (mine.0, ap (beaten value) mine.1);
-                };
-                others = λ j u ne f. record {
-                  claims = f.claims;
-                  tail_seen = f.tail_seen;
-                  head_seen = f.head_seen;
-                  idle = f.idle;
-                  served = served_heartbeat_more r.drawn old value (u.producer.service ∷ u.producer.joined) f.served;
-                  consumes = λ z. absurd (ne ((f.consumes z).0 ∙ sym mine.0));
-                };
-                shares = refl;
-                outside = λ j ne. refl;
-                latest = sees_top_after s.views id v w top top at (λ rich. rich) refl (λ e. e) r.seated.latest;
-                drawn = λ x. refl;
-              });
-        },
+          steps = record {
+            own = knows_on own refl (omega arith)
+                (served_heartbeat_more r.drawn old value (v.producer.service ∷ v.producer.joined) own.served)
+                (λ _. (mine.0, ap (beaten value) mine.1));
+            others = λ j u ne f. knows_on f refl (omega arith)
+                (served_heartbeat_more r.drawn old value (u.producer.service ∷ u.producer.joined) f.served)
+                (λ z. absurd (ne ((f.consumes z).0 ∙ sym mine.0)));
+            shares = refl;
+            outside = λ j ne. refl;
+            latest = sees_top_after s.views id v w top top at (λ rich. rich) refl (λ e. e) r.seated.latest;
+            drawn = λ x. refl;
+          };
+        }),
         (refl, refl),
       )

@@ -27,7 +27,8 @@ use Rattle.ring_table.proofs.StagedWords.{staged_word-header, staged_word-paddin
 use Rattle.ring_table.proofs.Histories.{MayReplace, MayReplaceAt, owned_by-edited, owned_by-edited_other, edited_one_here, get-edited, staged_end-edited, placed_edited}
 use Rattle.ring_table.proofs.OwnerLemmas.{rising_owned_by}
 use Rattle.ring_table.proofs.ReachLemmas.{Unsettled}
-use Rattle.ring_table.proofs.Seating.{sees_top_after, reseated}
+use Rattle.ring_table.proofs.Knowing.{knows_after}
+use Rattle.ring_table.proofs.Seating.{sees_top_after, becomes}
 use Rattle.ring_table.proofs.Memories.{memory_edited, service_elsewhere, one_position, index_inside}
 use Rattle.ring_table.proofs.Loading.{HasUnsettled, Ok, stands}
 
@@ -123,12 +124,7 @@ module _ (C start : ℕ) where
       (let place = may.place in let long = may.same_span in omega arith))
       ∙ ap (λ (z : StagedClaim). staged_word z q) is_here ∙ edit.word in
       let inside = index_inside C start r.lawful q in
-      record {
-        lawful = r.lawful;
-        hist = h';
-        reader = r.reader;
-        consumer = r.consumer;
-        drawn = r.drawn;
+      becomes C start words views r id v at (set words (index C q) value) h' r.consumer r.drawn w (record {
         memory = memory_edited C start r.lawful words r.consumer h m id p f q value is.whole low (omega arith) (record {
           may = may_all;
           unsettled = un_all;
@@ -141,36 +137,28 @@ module _ (C start : ℕ) where
           heartbeat = λ e. omega arith;
           unnamed = λ j un e. let far = un.behind in omega arith;
         }) r.consumer (record { rises = omega arith; same = refl });
-        seated = reseated top h r.reader r.consumer r.drawn views r.seated id v at
-            (staged_end start (all_of h')) h' r.consumer r.drawn w (record {
-              own =
-                  (let own = r.seated.each id v at in
-                  record {
-                    claims = ap (changed p f) own.claims ∙ sym (owned_by-edited id p f h);
-                    tail_seen = subst (λ n. v.producer.seen_tail ≤ n) (sym tops) own.tail_seen;
-                    head_seen = own.head_seen;
-                    idle = λ none. record {
-                      claims = ap (changed p f) (own.idle none).claims;
-                      draws = (own.idle none).draws;
-                    };
-                    served = own.served;
-                    consumes = own.consumes;
-                  });
-              others = λ j u ne knows. record {
-                claims = knows.claims ∙ sym (owned_by-edited_other id p f j h ne);
-                tail_seen = subst (λ n. u.producer.seen_tail ≤ n) (sym tops) knows.tail_seen;
-                head_seen = knows.head_seen;
-                idle = knows.idle;
-                served = knows.served;
-                consumes = knows.consumes;
-              };
-              shares = refl;
-              outside = λ j ne. owned_by-edited_other id p f j h ne;
-              latest = sees_top_after views id v w top (staged_end start (all_of h')) at (λ rich. rich) tops
-                  (λ e. e ∙ sym tops) r.seated.latest;
-              drawn = λ x. refl;
-            });
-      }
+        steps = record {
+          own =
+              (let own = r.seated.each id v at in
+              record {
+                claims = ap (changed p f) own.claims ∙ sym (owned_by-edited id p f h);
+                tail_seen = subst (λ n. v.producer.seen_tail ≤ n) (sym tops) own.tail_seen;
+                head_seen = own.head_seen;
+                idle = λ none. record {
+                  claims = ap (changed p f) (own.idle none).claims;
+                  draws = (own.idle none).draws;
+                };
+                served = own.served;
+                consumes = own.consumes;
+              });
+          others = λ j u ne knows. knows_after knows (omega arith) (owned_by-edited_other id p f j h ne);
+          shares = refl;
+          outside = λ j ne. owned_by-edited_other id p f j h ne;
+          latest = sees_top_after views id v w top (staged_end start (all_of h')) at (λ rich. rich) tops
+              (λ e. e ∙ sym tops) r.seated.latest;
+          drawn = λ x. refl;
+        };
+      })
 
   rising : (words : List ℕ) (views : List View) (r : Kept C start words views) (id : ℕ) (v : View)
       → get_elem? views id ≡ some v → AreRising v.producer.claims
