@@ -10,7 +10,8 @@ use Rattle.ring_board.specs.declared.shared.view.Record.{Record}
 use Rattle.ring_board.specs.declared.shared.view.Stage.{Stage}
 use Rattle.ring_board.specs.declared.shared.view.Stage.TheVariants.{Storing, Written}
 use Rattle.ring_board.specs.Records.{Lies}
-use Rattle.ring_board.specs.Steps.{Sat, at_stage, after_intent, sent_on, after_words, place_before}
+use Rattle.ring_board.specs.Views.{Sat, at_stage}
+use Rattle.ring_board.specs.TransmitterSteps.{after_intent, sent_on, after_words, place_before}
 use Rattle.ring_board.proofs.PlaceLemmas.{lies_before}
 
 pub more_words : (st : Stage) (d : Draft) (a b : List ℕ) → st ≡ Storing d

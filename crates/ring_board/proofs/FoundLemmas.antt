@@ -15,7 +15,8 @@ use Rattle.ring_board.specs.declared.shared.view.Stage.{Stage}
 use Rattle.ring_board.specs.declared.shared.view.Stage.TheVariants.{Resting, Sure, Headed, Padded, Again, Reading, Behind}
 use Rattle.ring_board.specs.declared.receiver.found.Found.TheVariants.{Entry}
 use Rattle.ring_board.specs.Records.{announced, body_len, is_padding, bytes_of, message_of}
-use Rattle.ring_board.specs.Steps.{Sat, at_stage, logged, copied, tail_loaded, header_loaded, word_loaded, word_load, last_tail, passed, validated, IsSound, IsSoundAt, IsUnread, header_seen, answered, AnswersEntry}
+use Rattle.ring_board.specs.Views.{Sat, at_stage, logged, word_load, last_tail}
+use Rattle.ring_board.specs.ReceiverSteps.{copied, tail_loaded, header_loaded, word_loaded, passed, validated, IsSound, IsSoundAt, IsUnread, header_seen, answered, AnswersEntry}
 use Rattle.ring_board.specs.Receiving.{CopiedWords, TookAll, FailedValidation, GotCopy, GotMiss, GotRecord, IsInBuffer, ComesTo, FoundIs, NearIs}
 
 passed_after : (v : View) (st : Stage) (x : ℕ) → v.stage ≡ st → x < v.at + v.capacity

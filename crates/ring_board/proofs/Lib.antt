@@ -3,6 +3,7 @@ pub mod StoreLemmas
 pub mod SeatLemmas
 pub mod ByteLemmas
 pub mod TransmitLemmas
+pub mod TransmitterSteps
 pub mod CallLemmas
 pub mod PictureLemmas
 pub mod OpeningLemmas

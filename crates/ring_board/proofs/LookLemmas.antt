@@ -18,11 +18,13 @@ use Rattle.ring_board.specs.declared.shared.view.Stage.TheVariants.{Resting, Sur
 use Rattle.ring_board.specs.Records.{end, Follows, end_of, words_of_body, word_count, placed_words, header_of, announced, body_len, gap, filled, stores}
 use Rattle.ring_board.specs.Runs.{AreRuns}
 use Rattle.ring_board.specs.Rule.{LoadOk, IsSeat, Logged, intent, with_latest, Running, Before, IsHeader, Next, Knows, IsBoard, Holds}
-use Rattle.ring_board.specs.Steps.{logged, tail_loaded, header_loaded, word_load, last_tail}
+use Rattle.ring_board.specs.Views.{logged, word_load, last_tail, view_shares}
+use Rattle.ring_board.specs.ReceiverSteps.{tail_loaded, header_loaded}
 use Rattle.ring_board.proofs.PlaceLemmas.{lies_after, lies_needed, chain_at}
 use Rattle.ring_board.proofs.StoreLemmas.{at_behind, placed_at, words_long}
 use Rattle.ring_board.proofs.ByteLemmas.{announced_header, announced_padding}
-use Rattle.ring_board.proofs.SeatLemmas.{St, total_set, seats_stay}
+use Rattle.ring_layout.proofs.Sums.{total-set}
+use Rattle.ring_board.proofs.SeatLemmas.{St, seats_stay}
 use Rattle.ring_board.proofs.ShownLemmas.{shown_at, shown_has, shown_end}
 
 take_next : (l : List ℕ) (k : ℕ) → k < length l → take (suc k) l ≡ take k l ++ get_or l k 0 ∷ []
@@ -96,7 +98,7 @@ module _ (C e : ℕ) (s : St) (by : ℕ) (mine : View) (h : IsBoard C e by mine 
                 seats_stay (IsSeat C e by mine) s.views id w (record { knows = mine_knows; copies = runs; log = logs })
                 (λ j u _ on. seats.each j u on);
             joined = seats.joined;
-            shares = let a = total_set s.views id v w at in let b = seats.shares in omega arith;
+            shares = let a = total-set view_shares s.views id v w at in let b = seats.shares in omega arith;
           };
         },
       )

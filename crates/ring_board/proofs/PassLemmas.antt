@@ -1,6 +1,6 @@
 -- A receiver comes, and goes.
-use Rattle.std.proofs.Common.{◌≡◌, ℕ, zero, suc, ◌+◌, ◌-◌, ◌%◌, ◌<◌, ◌≤◌, List, [], ◌∷◌, ◌++◌, length, get_or, set, refl, sym, ap, ◌∙◌, subst, inl, inr, ⊎_elim, arith, le_refl}
-use mathlib.Core.Option.{some, some-injective, some-ne-none}
+use Rattle.std.proofs.Common.{◌≡◌, ℕ, ◌-◌, ◌%◌, ◌<◌, ◌≤◌, List, [], ◌∷◌, length, get_or, set, refl, sym, ap, ◌∙◌, subst, inl, inr, ⊎_elim, arith, le_refl}
+use mathlib.Core.Option.{some, some-ne-none}
 use lib.ListN.{get_elem?}
 use lib.Seq.{set-get_or}
 use Rattle.atomic_table.specs.Table.{keeps, stepped, Allows, Splits, Joins}
@@ -12,22 +12,14 @@ use Rattle.ring_board.specs.declared.shared.view.Stage.TheVariants.{Idle, Restin
 use Rattle.ring_board.specs.Layout.{latest_index}
 use Rattle.ring_board.specs.Records.{Chain, last_of}
 use Rattle.ring_board.specs.Runs.{AreRuns}
-use Rattle.ring_board.specs.Rule.{IsSeat, intent, latest, with_latest, Before, Fresh, Receives, Knows, total_shares, Holds}
+use Rattle.ring_layout.proofs.Sums.{total-set, total-append, total-least}
+use Rattle.ring_board.specs.Rule.{IsSeat, intent, latest, with_latest, Before, Fresh, Receives, Knows, Holds}
 use Rattle.ring_board.specs.declared.shared.view.Joined.{Joined}
-use Rattle.ring_board.specs.Steps.{Sat, as_joined, fewer, newcomer, joined, spent, Learns}
+use Rattle.ring_board.specs.Views.{Sat, as_joined, fewer, newcomer, joined, spent, view_shares}
+use Rattle.ring_board.specs.TransmitterSteps.{Learns}
 use Rattle.ring_board.proofs.PlaceLemmas.{chain_last, last_low}
 use Rattle.ring_board.proofs.OpeningLemmas.{no_copies, no_log}
-use Rattle.ring_board.proofs.SeatLemmas.{in_list, total_set, seats_stay, knows_moves, owner}
-
-total_snoc : (vs : List View) (w : View) → total_shares (vs ++ w ∷ []) ≡ total_shares vs + w.shares
-total_snoc [] w = omega arith
-total_snoc (x ∷ xs) w = let i = total_snoc xs w in omega arith
-
-total_has : (vs : List View) (i : ℕ) (v : View) → get_elem? vs i ≡ some v → v.shares ≤ total_shares vs
-total_has [] i v e = absurd (some-ne-none v (sym e))
-total_has (x ∷ xs) zero v e =
-    let s : x.shares ≡ v.shares = ap (λ (y : View). y.shares) (some-injective x v e) in omega arith
-total_has (x ∷ xs) (suc i) v e = let s = total_has xs i v e in omega arith
+use Rattle.ring_board.proofs.SeatLemmas.{in_list, seats_stay, knows_moves, owner}
 
 -- the last of a list that is not empty
 last_entry : (x : Record) (l : List Record) → (q : Record) × (get_elem? (x ∷ l) (length l) ≡ some q)
@@ -87,8 +79,11 @@ module _ (C e : ℕ) where
                 (record { knows = knows; copies = no_copies v.sent u.from; log = no_log C e v.sent v.stage }))
                 (at_snoc (set s.views id w) u x j g);
             joined = seats.joined;
-            shares = let a = total_set s.views id v w at in let t = total_snoc (set s.views id w) u in let f =
-                seats.shares in omega arith;
+            shares =
+                (let a = total-set view_shares s.views id v w at in
+                let t = total-append view_shares (set s.views id w) (u ∷ []) in
+                let f = seats.shares in
+                omega arith);
           };
         },
       )
@@ -132,8 +127,11 @@ module _ (C e : ℕ) where
                 (λ (is : as_joined w ≡ x). subst (λ (y : Joined). AreRuns v.sent y.from y.copies) is
                 (seats.each other w was).copies)
                 (at_snoc v.heard (as_joined w) x j g);
-            shares = let a = total_set s.views id v u at in let d =
-                total_set (set s.views id u) other w spent there in let f = seats.shares in omega arith;
+            shares =
+                (let a = total-set view_shares s.views id v u at in
+                let d = total-set view_shares (set s.views id u) other w spent there in
+                let f = seats.shares in
+                omega arith);
           };
         },
       )
@@ -144,7 +142,7 @@ module _ (C e : ℕ) where
       let same : Holds C e (stepped s i (get_or s.words i 0) id me.1 me.0 keeps) = subst
       (λ (q : List ℕ × List View). Holds C e record { words = q.0; homes = s.homes; views = q.1 })
       (λ k. (sym (set-get_or s.words i 0) k, sym (set_again s.views id me.0 at) k)) b in
-      let t = total_has s.views id me.0 at in let f = h.seated.shares in
+      let t = total-least view_shares s.views id me.0 at in let f = h.seated.shares in
       let found = ap (λ (j : ℕ). get_or s.words j 0) is ∙ (h.memory.latest_is
       ∙ (ap (λ (st : Stage). latest e me.0.sent st) eq
       ∙ ap (λ (y : ℕ). last_of y me.0.sent) (sym h.seated.started))) in (

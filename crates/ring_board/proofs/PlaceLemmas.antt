@@ -9,7 +9,7 @@ use Rattle.ring_layout.proofs.Laps.{IsLap, same_index}
 use Rattle.ring_layout.proofs.PlaceLemmas.{next_cases, next_le, next_within, next_aligned}
 use Rattle.ring_board.specs.declared.shared.view.Record.{Record}
 use Rattle.ring_board.specs.Records.{end, Lies, Follows, Chain, end_of, last_of}
-use Rattle.ring_board.specs.Steps.{place_before}
+use Rattle.ring_board.specs.TransmitterSteps.{place_before}
 
 -- the capacity of a board is a lap of whole words
 pub board_lap : (C : ℕ) → 256 ≤ C → C % 64 ≡ 0 → IsLap C

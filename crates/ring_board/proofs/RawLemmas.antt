@@ -7,7 +7,7 @@ use Rattle.ring_board.specs.declared.shared.view.Taken.{Taken}
 use Rattle.ring_board.specs.declared.board.RawRecord.{RawRecord}
 use Rattle.ring_board.specs.Receiving.{GotRecord, IsInBuffer}
 use Rattle.ring_board.specs.Seats.{IsAnsweredRecord}
-use Rattle.ring_board.specs.Steps.{Sat}
+use Rattle.ring_board.specs.Views.{Sat}
 
 -- What was answered ----------------------------------------------------------
 

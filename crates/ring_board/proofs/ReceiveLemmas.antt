@@ -10,7 +10,8 @@ use Rattle.ring_board.specs.declared.shared.view.Stage.TheVariants.{Resting, Sur
 use Rattle.ring_board.specs.Layout.{intent_index, tail_index, latest_index}
 use Rattle.ring_board.specs.Records.{end_of, word_count, announced, body_len}
 use Rattle.ring_board.specs.Rule.{intent, Knows, Holds}
-use Rattle.ring_board.specs.Steps.{Sat, tail_loaded, LoadsTail, header_loaded, LoadsHeader, read_on, word_loaded, word_load, LoadsWord, IsSound, IsHeaderPlace, IsComplete, validated, IsUnread, LoadsIntent, header_seen, answered, AnswersEntry, latest_loaded, LoadsLatest}
+use Rattle.ring_board.specs.Views.{Sat, word_load}
+use Rattle.ring_board.specs.ReceiverSteps.{tail_loaded, LoadsTail, header_loaded, LoadsHeader, read_on, word_loaded, LoadsWord, IsSound, IsHeaderPlace, IsComplete, validated, IsUnread, LoadsIntent, header_seen, answered, AnswersEntry, latest_loaded, LoadsLatest}
 use Rattle.ring_board.proofs.SeatLemmas.{St}
 use Rattle.ring_board.proofs.ShownLemmas.{intent_after}
 use Rattle.ring_board.proofs.LookLemmas.{knows, tail_keeps, header_keeps, header_behind_keeps, word_keeps}

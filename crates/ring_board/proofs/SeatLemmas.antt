@@ -12,19 +12,14 @@ use Rattle.ring_board.specs.declared.shared.view.Load.{Load}
 use Rattle.ring_board.specs.declared.shared.view.Load.TheVariants.{Word, Intent, Tail, Latest}
 use Rattle.ring_board.specs.declared.shared.view.Stage.{Stage}
 use Rattle.ring_board.specs.declared.shared.view.Stage.TheVariants.{Spent, Idle, Begun, Storing, Written, Shown, Resting, Sure, Headed, Padded, Again, Reading, Behind}
+use Rattle.ring_layout.proofs.Sums.{total-set}
 use Rattle.ring_board.specs.Records.{end, Follows, end_of, stores}
 use Rattle.ring_board.specs.Runs.{Neighbours, AreAllRuns, AreRuns}
-use Rattle.ring_board.specs.Rule.{intent, latest, with_latest, Receives, IsSeat, Knows, total_shares, LoadOk, Logged, IsMemory, IsBoard, Holds}
-use Rattle.ring_board.specs.Steps.{at_stage, sent_on}
+use Rattle.ring_board.specs.Rule.{intent, latest, with_latest, Receives, IsSeat, Knows, LoadOk, Logged, IsMemory, IsBoard, Holds}
+use Rattle.ring_board.specs.Views.{at_stage, view_shares}
+use Rattle.ring_board.specs.TransmitterSteps.{sent_on}
 use Rattle.ring_board.proofs.PlaceLemmas.{end_snoc, last_snoc, lies_after, lies_cases, lies_whole}
 use Rattle.ring_board.proofs.StoreLemmas.{stores_where}
-
-pub total_set : (vs : List View) (i : ℕ) (v w : View) → get_elem? vs i ≡ some v
-    → total_shares (set vs i w) + v.shares ≡ total_shares vs + w.shares
-total_set [] i v w e = absurd (some-ne-none v (sym e))
-total_set (x ∷ xs) zero v w e =
-    let s : x.shares ≡ v.shares = ap (λ (y : View). y.shares) (some-injective x v e) in omega arith
-total_set (x ∷ xs) (suc i) v w e = let s = total_set xs i v w e in omega arith
 
 pub seats_stay : (F : ℕ → View → Type 0) (vs : List View) (id : ℕ) (w : View) → F id w
     → ((j : ℕ) (v : View) → j ≢ id → get_elem? vs j ≡ some v → F j v) → (j : ℕ) (v : View)
@@ -219,6 +214,10 @@ module _ (C e : ℕ) where
             record { knows = others j v a.knows; copies = runs v a.copies; log = λ i l on. loads l (a.log i l on) });
         joined = subst (AreAllRuns w.sent) (sym alike.heard)
             (λ i j on. runs record me { from = j.from; copies = j.copies } (seats.joined i j on));
-        shares = let a = total_set s.views id me w here in let b = seats.shares in let c = alike.shares in omega arith;
+        shares =
+            (let a = total-set view_shares s.views id me w here in
+            let b = seats.shares in
+            let c = alike.shares in
+            omega arith);
       };
     }

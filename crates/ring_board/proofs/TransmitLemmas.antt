@@ -1,9 +1,9 @@
--- Each step of the transmitter keeps the rule.
+-- What each store of the transmitter leaves of the rule.
 use Rattle.std.proofs.Common.{◌⊎◌, ◌≡◌, ◌≢◌, ℕ, ◌+◌, ◌-◌, ◌*◌, ◌/◌, ◌%◌, ◌^◌, ◌<◌, ◌≤◌, cond, ltb, Bool, List, [], ◌∷◌, ◌++◌, length, get_or, set, refl, sym, ap, ◌∙◌, subst, ⊎_elim, arith, length-set, length-append, get_or-set_other, get_or-set_same, append_assoc, inl, inr}
 use Rattle.std.proofs.lemmas.Bool.{cond_both, ltb-true, lt-ltb}
 use mathlib.Core.Option.{some, some-ne-none}
 use lib.ListN.{get_elem?}
-use Rattle.atomic_table.specs.Table.{keeps, stepped, Allows}
+use Rattle.atomic_table.specs.Table.{keeps, stepped}
 use Rattle.atomic_table.proofs.Lists.{at_longer, at_snoc}
 use Rattle.ring_layout.specs.declared.message.Message.{Message}
 use Rattle.ring_layout.specs.History.{IsMessage, span}
@@ -17,11 +17,12 @@ use Rattle.ring_board.specs.declared.shared.view.Stage.TheVariants.{Idle, Begun,
 use Rattle.ring_board.specs.Records.{end, Lies, end_of, last_of, placed_words, gap, filled, stores, stores_of, last_at, words_of_body, header_of, message_in}
 use Rattle.ring_board.specs.Layout.{IsUnnamed}
 use Rattle.ring_board.specs.Rule.{LoadOk, intent, latest, with_latest, so_far, Stand, Running, Receives, Knows, IsBoard, Holds}
-use Rattle.ring_board.specs.Steps.{Sat, at_stage, sent_on, place_before, draft, after_intent, with_words, after_padding, after_words, with_entry, after_header, after_latest, after_tail, StoresIntent, StoresPadding, StoresWord, StoresHeader, StoresLatest, StoresTail}
+use Rattle.ring_board.specs.Views.{at_stage}
+use Rattle.ring_board.specs.TransmitterSteps.{sent_on, place_before, draft, after_intent, with_words, with_entry}
 use Rattle.ring_board.proofs.PlaceLemmas.{board_lap, lies_after, lies_near, lies_whole, a_lap_on, apart, index_below, chain_at, chain_snoc, end_snoc, last_snoc, last_low}
 use Rattle.ring_board.proofs.StoreLemmas.{append_nil, stores_one, placed_snoc, stores_of_snoc, filled_where, stores_where}
 use Rattle.ring_board.proofs.ByteLemmas.{message_back}
-use Rattle.ring_board.proofs.SeatLemmas.{St, runs_more, receives_more, sent_more, loads_rise, loads_sent, knows_moves, owner, staged_alike, sent_alike, rebuilt}
+use Rattle.ring_board.proofs.SeatLemmas.{St, runs_more, receives_more, sent_more, loads_rise, loads_sent, knows_moves, staged_alike, sent_alike, rebuilt}
 
 -- one more store, apart from those
 stand_on : (C : ℕ) (ws : List ℕ) (xs : List (ℕ × ℕ)) (p w : ℕ) → index C p < length ws
@@ -141,7 +142,7 @@ module _ (C e : ℕ) where
           (λ (past : d.place + 8 + 8 * length d.words ≤ p). apart y.0 p C (board_lap C roomy whole) w.1 p8 (omega arith)
           (omega arith)) fresh) w.0
 
-      word_stored : (x : ℕ) → d.place + 8 + 8 * length d.words < d.end
+      pub word_stored : (x : ℕ) → d.place + 8 + 8 * length d.words < d.end
           → Kept (index C (d.place + 8 + 8 * length d.words)) x (at_stage me (Storing (with_words d (x ∷ []))))
       word_stored x room = let p : ℕ = d.place + 8 + 8 * length d.words in let l = ran.0 in let roomy =
           h.lawful.roomy in let whole = h.lawful.whole in
@@ -176,7 +177,7 @@ module _ (C e : ℕ) where
       abbrev record_of : Message → Record
       record_of m = record { before = d.before; place = d.place; message = m }
 
-      header_stored : (m : Message) → IsMessage C m → words_of_body m.body ≡ d.words
+      pub header_stored : (m : Message) → IsMessage C m → words_of_body m.body ≡ d.words
           → d.place + span (length m.body) ≡ d.end
           → Kept (index C d.place) (header_of m) (at_stage me (Written (record_of m)))
       header_stored m lawful is full =
@@ -210,7 +211,7 @@ module _ (C e : ℕ) where
                 (drawn_apart p p_whole (omega arith) (omega arith) (inl refl)) ran.2),
           ) refl
 
-    padding_stored : (d : Draft) → me.stage ≡ Begun d
+    pub padding_stored : (d : Draft) → me.stage ≡ Begun d
         → Kept (index C d.before) (padding_header (d.place - d.before)) (at_stage me (Storing d))
     padding_stored d eq =
         let run = subst (Running C (end_of e me.sent) s.words) eq h.memory.running in let p : ℕ = d.before in
@@ -298,7 +299,7 @@ module _ (C e : ℕ) where
         (λ v u. u) (loads_rise C e me.sent me.stage st risen (let same = ap (latest e me.sent) eq in omega arith))
         (staged_alike me st)
 
-    intent_stored : (z : ℕ) → me.stage ≡ Idle → z ≤ max_position
+    pub intent_stored : (z : ℕ) → me.stage ≡ Idle → z ≤ max_position
         → Lies C (end_of e me.sent) me.at (place_before me.capacity me.at z) z
         → Kept (C / 8 + 0) z (after_intent me z)
     intent_stored z eq low l = let p : ℕ = place_before me.capacity me.at z in let d : Draft =
@@ -323,7 +324,7 @@ module _ (C e : ℕ) where
               (λ j y on. absurd (some-ne-none y (sym on))),
         ) refl)
 
-    latest_stored : (r : Record) → me.stage ≡ Written r → Kept (C / 8 + 2) r.place (at_stage me (Shown r))
+    pub latest_stored : (r : Record) → me.stage ≡ Written r → Kept (C / 8 + 2) r.place (at_stage me (Shown r))
     latest_stored r eq =
         let run = subst (Running C (end_of e me.sent) s.words) eq h.memory.running in let x : ℕ = r.place in
         let ws : List ℕ = set s.words (C / 8 + 2) x in let roomy = h.lawful.roomy in let whole = h.lawful.whole in
@@ -352,7 +353,7 @@ module _ (C e : ℕ) where
         let a = lies_after C (end_of e me.sent) r.before r.place (end r) run.0.fits roomy whole in let b =
         run.0.fits.begins in omega arith))) (staged_alike me (Shown r))
 
-    tail_stored : (r : Record) → me.stage ≡ Shown r → Kept (C / 8 + 1) (end r) (sent_on me r)
+    pub tail_stored : (r : Record) → me.stage ≡ Shown r → Kept (C / 8 + 1) (end r) (sent_on me r)
     tail_stored r eq =
         let run = subst (Running C (end_of e me.sent) s.words) eq h.memory.running in let x : ℕ = end r in
         let ws : List ℕ = set s.words (C / 8 + 1) x in let roomy = h.lawful.roomy in let whole =
@@ -387,100 +388,9 @@ module _ (C e : ℕ) where
         (sent_alike me r)
 
   -- The steps
-  moved : (s : St) (id : ℕ) (cs : List (ℕ × (Unit {0}))) (i j x y : ℕ) (w v : View) → i ≡ j → x ≡ y → w ≡ v
+  pub moved : (s : St) (id : ℕ) (cs : List (ℕ × (Unit {0}))) (i j x y : ℕ) (w v : View) → i ≡ j → x ≡ y → w ≡ v
       → IsBoard C e id v record { words = set s.words j y; homes = s.homes; views = set s.views id v }
       → Holds C e (stepped s i x id cs w keeps)
   moved s id cs i j x y w v is num same h = subst (λ
       (q : ℕ × ℕ × View). Holds C e record { words = set s.words q.0 q.1; homes = s.homes; views = set s.views id q.2 })
       (λ k. (sym is k, sym num k, sym same k)) (id, v, h)
-
-  module _ (slots id : ℕ) (me : Sat) (i x : ℕ) where
-    pub stores_intent : me.0.stage ≡ Idle → i ≡ C / 8 → x ≤ max_position
-        → Lies C me.0.at me.0.at (place_before C me.0.at x) x
-        → Allows (Holds C e) slots id me i (λ _. x) (λ _. StoresIntent me x)
-    stores_intent eq is low l s b _ at _ = let h = owner C e s b id me.0 Idle (λ by mine k. k) at eq in
-        let l' : Lies C (end_of e me.0.sent) me.0.at (place_before me.0.capacity me.0.at x) x = subst
-        (λ (q : ℕ × ℕ). Lies C q.0 me.0.at (place_before q.1 me.0.at x) x)
-        (λ k. (h.seated.behind k, sym h.seated.capacity k)) l in (
-          after_intent me.0 x,
-          keeps,
-          tt,
-          moved s id me.1 i (C / 8 + 0) x x (after_intent me.0 x) (after_intent me.0 x)
-              (let g : i ≡ C / 8 + 0 = omega arith in
-              g) refl refl (intent_stored s id me.0 h x eq low l'),
-          refl,
-        )
-
-    pub stores_padding : (d : Draft) → me.0.stage ≡ Begun d → i ≡ index C d.before
-        → x ≡ padding_header (d.place - d.before)
-        → Allows (Holds C e) slots id me i (λ _. x) (λ _. StoresPadding me x)
-    stores_padding d eq is num s b _ at _ = let h = owner C e s b id me.0 (Begun d) (λ by mine k. k) at eq in
-        let w : View = at_stage me.0 (after_padding me.0.stage) in (
-          w,
-          keeps,
-          tt,
-          moved s id me.1 i (index C d.before) x (padding_header (d.place - d.before)) w
-              (at_stage me.0 (Storing d)) is num
-              (ap (λ (u : Stage). at_stage me.0 (after_padding u)) eq) (padding_stored s id me.0 h d eq),
-          refl,
-        )
-
-    pub stores_word : (d : Draft) → me.0.stage ≡ Storing d → i ≡ index C (d.place + 8 + 8 * length d.words)
-        → d.place + 8 + 8 * length d.words < d.end
-        → Allows (Holds C e) slots id me i (λ _. x) (λ _. StoresWord me x)
-    stores_word d eq is room s b _ at _ = let h = owner C e s b id me.0 (Storing d) (λ by mine k. k) at eq in
-        let w : View = at_stage me.0 (after_words me.0.stage (x ∷ [])) in (
-          w,
-          keeps,
-          tt,
-          moved s id me.1 i (index C (d.place + 8 + 8 * length d.words)) x x w
-              (at_stage me.0 (Storing (with_words d (x ∷ [])))) is refl
-              (ap (λ (u : Stage). at_stage me.0 (after_words u (x ∷ []))) eq) (word_stored s id me.0 h d eq x room),
-          refl,
-        )
-
-    pub stores_header : (d : Draft) (m : Message) → me.0.stage ≡ Storing d → i ≡ index C d.place → IsMessage C m
-        → (words_of_body m.body ≡ d.words) × (d.place + span (length m.body) ≡ d.end) → x ≡ header_of m
-        → Allows (Holds C e) slots id me i (λ _. x) (λ _. StoresHeader me x)
-    stores_header d m eq is lawful filled num s b _ at _ =
-        let words = filled.0 in
-        let full = filled.1 in
-        let h = owner C e s b id me.0 (Storing d) (λ by mine k. k) at eq in
-        let w : View = at_stage me.0 (after_header me.0.stage x) in
-        let held : with_entry d x ≡ record { before = d.before; place = d.place; message = m } =
-        written_as C d m x h.lawful.narrow lawful words num in (
-          w,
-          keeps,
-          tt,
-          moved s id me.1 i (index C d.place) x (header_of m) w
-              (at_stage me.0 (Written (record { before = d.before; place = d.place; message = m }))) is num
-              (ap (λ (u : Stage). at_stage me.0 (after_header u x)) eq
-              ∙ ap (λ (r : Record). at_stage me.0 (Written r)) held)
-              (header_stored s id me.0 h d eq m lawful words full),
-          refl,
-        )
-
-    pub stores_latest : (r : Record) → me.0.stage ≡ Written r → i ≡ C / 8 + 2 → x ≡ r.place
-        → Allows (Holds C e) slots id me i (λ _. x) (λ _. StoresLatest me x)
-    stores_latest r eq is num s b _ at _ = let h = owner C e s b id me.0 (Written r) (λ by mine k. k) at eq in
-        let w : View = at_stage me.0 (after_latest me.0.stage) in (
-          w,
-          keeps,
-          tt,
-          moved s id me.1 i (C / 8 + 2) x r.place w (at_stage me.0 (Shown r)) is num
-              (ap (λ (u : Stage). at_stage me.0 (after_latest u)) eq)
-              (latest_stored s id me.0 h r eq),
-          refl,
-        )
-
-    pub stores_tail : (r : Record) → me.0.stage ≡ Shown r → i ≡ C / 8 + 1 → x ≡ end r
-        → Allows (Holds C e) slots id me i (λ _. x) (λ _. StoresTail me x)
-    stores_tail r eq is num s b _ at _ =
-        let h = owner C e s b id me.0 (Shown r) (λ by mine k. k) at eq in let w : View = after_tail me.0 me.0.stage in (
-          w,
-          keeps,
-          tt,
-          moved s id me.1 i (C / 8 + 1) x (end r) w (sent_on me.0 r) is num (ap (after_tail me.0) eq)
-              (tail_stored s id me.0 h r eq),
-          refl,
-        )

@@ -19,7 +19,8 @@ use Rattle.ring_board.specs.declared.shared.view.Stage.TheVariants.{Spent, Idle,
 use Rattle.ring_board.specs.Records.{end, words_of_body, word_count, header_of, announced, body_len, is_padding, message_in, message_of}
 use Rattle.ring_board.specs.Runs.{IsCopy, Neighbours, AreRuns}
 use Rattle.ring_board.specs.Rule.{Logged, latest, Receives, IsHeader, Knows, IsBoard, Holds}
-use Rattle.ring_board.specs.Steps.{at_stage, logged, copy_of, copied, passed, validated, IsSound, IsSoundAt, IsUnread, answered, latest_loaded}
+use Rattle.ring_board.specs.Views.{at_stage, logged}
+use Rattle.ring_board.specs.ReceiverSteps.{copy_of, copied, passed, validated, IsSound, IsSoundAt, IsUnread, answered, latest_loaded}
 use Rattle.ring_board.proofs.PlaceLemmas.{lies_needed, lies_inside, lies_whole, chain_next, chain_last}
 use Rattle.ring_board.proofs.StoreLemmas.{words_long}
 use Rattle.ring_board.proofs.ByteLemmas.{announced_header, header_not_padding, padding_kind, message_whole, message_back}

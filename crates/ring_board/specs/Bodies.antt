@@ -10,7 +10,7 @@ use Rattle.ring_board.specs.declared.shared.view.Load.{Load}
 use Rattle.ring_board.specs.declared.shared.view.Load.TheVariants.{Word, Intent}
 use Rattle.ring_board.specs.declared.board.RawRecord.{RawRecord}
 use Rattle.ring_board.specs.Records.{word_count, bytes_of}
-use Rattle.ring_board.specs.Steps.{Sat, logged, last_tail}
+use Rattle.ring_board.specs.Views.{Sat, logged, last_tail}
 
 -- the word w was loaded at the position p, when the tail was beyond it
 abbrev pub WasLoaded : ℕ → List Load → ℕ → ℕ → Type 0

@@ -2,7 +2,9 @@ pub mod Layout
 pub mod Records
 pub mod Runs
 pub mod Rule
-pub mod Steps
+pub mod Views
+pub mod TransmitterSteps
+pub mod ReceiverSteps
 pub mod Bodies
 pub mod Refusals
 pub mod Seats

@@ -14,7 +14,8 @@ use Rattle.ring_board.specs.declared.board.RawRecord.{RawRecord}
 use Rattle.ring_board.specs.declared.receiver.found.Found.{Found}
 use Rattle.ring_board.specs.declared.receiver.found.Found.TheVariants.{Nothing, Entry, Missed}
 use Rattle.ring_board.specs.Records.{announced, is_padding, bytes_of, message_of}
-use Rattle.ring_board.specs.Steps.{Sat, copied, IsSound, IsUnread}
+use Rattle.ring_board.specs.Views.{Sat}
+use Rattle.ring_board.specs.ReceiverSteps.{copied, IsSound, IsUnread}
 
 -- a receiver of a board of capacity C rests at this place
 abbrev pub RestsAt : ℕ → ℕ → Sat → Type 0

@@ -5,6 +5,7 @@ use lib.ListN.{get_elem?}
 use Rattle.atomic_table.specs.Table.{State}
 use Rattle.ring_layout.specs.Places.{index, max_position}
 use Rattle.ring_layout.specs.Headers.{padding_header}
+use Rattle.ring_layout.specs.Lists.{total}
 use Rattle.ring_layout.specs.Refusals.{all_shares}
 use Rattle.ring_board.specs.Layout.{intent_index, tail_index, latest_index, board_words, IsUnnamed}
 use Rattle.ring_board.specs.declared.shared.view.Record.{Record}
@@ -15,6 +16,7 @@ use Rattle.ring_board.specs.declared.shared.view.Load.TheVariants.{Word, Intent,
 use Rattle.ring_board.specs.declared.shared.view.Stage.{Stage}
 use Rattle.ring_board.specs.declared.shared.view.Stage.TheVariants.{Spent, Idle, Begun, Storing, Written, Shown, Resting, Sure, Headed, Padded, Again, Reading, Behind}
 use Rattle.ring_board.specs.Records.{end, Lies, Follows, Chain, end_of, last_of, words_of_body, header_of, filled, stores, stores_of, last_at}
+use Rattle.ring_board.specs.Views.{view_shares}
 use Rattle.ring_board.specs.Runs.{IsCopy, AreAllRuns, AreRuns}
 
 -- The transmitter ----------------------------------------------------------
@@ -128,10 +130,6 @@ Logged C e sent st log = (i : ℕ) (l : Load) → get_elem? log i ≡ some l →
 
 -- The rule -----------------------------------------------------------------
 
-abbrev pub total_shares : List View → ℕ
-total_shares [] = 0
-total_shares (v ∷ vs) = v.shares + total_shares vs
-
 -- a capacity and a start that a board may have
 pub record IsLawful (C e : ℕ) : Type 0 where
   pub roomy : 256 ≤ C
@@ -168,7 +166,7 @@ pub record IsSeated (C e by : ℕ) (mine : View) (views : List View) : Type 0 wh
   pub behind : mine.at ≡ end_of e mine.sent
   pub each : (j : ℕ) (v : View) → get_elem? views j ≡ some v → IsSeat C e by mine j v
   pub joined : AreAllRuns mine.sent mine.heard
-  pub shares : total_shares views ≡ all_shares
+  pub shares : total view_shares views ≡ all_shares
 
 -- a board of capacity C that began at e
 pub record IsBoard (C e by : ℕ) (mine : View) (s : State (Unit {0}) View) : Type 0 where

@@ -22,7 +22,8 @@ use Rattle.ring_board.specs.declared.shared.view.Joined.{Joined}
 use Rattle.ring_board.specs.declared.fault.Lapped.{Lapped}
 use Rattle.ring_board.specs.Rule.{opening_view}
 use Rattle.ring_board.specs.Receiving.{GotNothing, GotCopy, GotLapped, GotRecord, IsInBuffer}
-use Rattle.ring_board.specs.Steps.{Sat, at_stage, draft, drafted, record_at}
+use Rattle.ring_board.specs.Views.{Sat, at_stage}
+use Rattle.ring_board.specs.TransmitterSteps.{draft, drafted, record_at}
 
 -- the seat is one of this board
 abbrev pub IsSeatOf : Board → Seat (Unit {0}) View → Type 0

@@ -5,10 +5,10 @@ ghost use Rattle.ring_layout.specs.History.{span};
 ghost use Rattle.ring_layout.specs.Places.{max_position, next_place};
 ghost use Rattle.ring_board.specs.declared.shared.view.Stage.TheVariants.{Idle, Written, Resting};
 ghost use Rattle.ring_board.specs.Records.{end, end_of};
-ghost use Rattle.ring_board.specs.Steps.{draft, drafted, record_at};
+ghost use Rattle.ring_board.specs.TransmitterSteps.{draft, drafted, record_at};
 
 use crate::fault::{ReceiversOut, TransmitFault};
-use crate::shared::view::{BoardSeat, BoardTable};
+use crate::shared::steps::{BoardSeat, BoardTable};
 
 /// A broadcast buffer.
 #[derive(Drop)]

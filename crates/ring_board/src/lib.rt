@@ -3,8 +3,8 @@
 //! - `board`: a board, its transmitter and its receivers. `open`: from its making to its close.
 //! - `transmitter`: the transmitter's calls. `receiver`: `approach` finds and copies the next record (`found`), for the
 //!   calls of `copying` and `raw` receivers. `seat`: how receivers are made and taken back.
-//! - `shared`: what each seat knows (`view`), what each step tells (`plays`), and a function for each kind of step
-//!   (`store`, `load`).
+//! - `shared`: what each seat knows (`view`), the rule between any two steps (`rule`), what each kind of step tells
+//!   (`plays`, by role), and a function for each (`steps`, in files of the same names).
 //! - `fault`: why calls refuse. `laws`: what stays while others go on.
 #![tactic(auto)]
 

@@ -1,5 +1,6 @@
-//! The words that threads share: what each seat knows, and a small function for each kind of step.
-pub(crate) mod load;
+//! The words that threads share: what each seat knows (`view`), the rule between any two steps, what each kind of step
+//! tells (`plays`) and a function for each (`steps`), both by role.
 pub(crate) mod plays;
-pub(crate) mod store;
+pub(crate) mod rule;
+pub(crate) mod steps;
 pub(crate) mod view;

@@ -6,13 +6,14 @@ ghost use Rattle.ring_layout.specs.Places.{max_position, next_place};
 ghost use Rattle.ring_board.specs.declared.shared.view.Record.{Record};
 ghost use Rattle.ring_board.specs.declared.shared.view.Stage.TheVariants.{Storing, Written};
 ghost use Rattle.ring_board.specs.Records.{end, end_of};
-ghost use Rattle.ring_board.specs.Steps.{at_stage, draft, drafted, sent_on};
+ghost use Rattle.ring_board.specs.Views.{at_stage};
+ghost use Rattle.ring_board.specs.TransmitterSteps.{draft, drafted, sent_on};
 ghost use Rattle.ring_board.specs.Refusals.{transmit_refusal_of, IsRefusedBy, IsRefusedAs};
 ghost use Rattle.ring_board.specs.Seats.{IsSeatOf, IsSameSeat, capacity_of, view_of, tail_of, shares_of, transmitted, IsTransmitterOf, next_record, IsBegunOf, IsFilledOf, begun_view, filled_view, filled_record, begun_tail, begun_type_id, begun_len, HasBegun, refused_with};
 
 use crate::board::{BeginRefused, Begun, Board, Filled, Transmitter};
 use crate::fault::TransmitFault;
-use crate::shared::view::BoardSeat;
+use crate::shared::steps::BoardSeat;
 use ring_layout::{
     Admission, committed_header, is_length, is_position, is_type_id, max_message, padding_header,
     place_record,

@@ -11,7 +11,7 @@ use Rattle.ring_board.specs.declared.shared.view.Record.{Record}
 use Rattle.ring_board.specs.declared.shared.view.Joined.{Joined}
 use Rattle.ring_board.specs.declared.shared.view.Taken.{Taken}
 use Rattle.ring_board.specs.Seats.{next_record}
-use Rattle.ring_counters.specs.declared.values.rule.ValueWrite.{ValueWrite}
+use Rattle.ring_counters.specs.declared.values.view.ValueWrite.{ValueWrite}
 use Rattle.ring_counters.specs.Registry.{Registry, count_of, fresh_registry}
 use Rattle.ring_conductor.specs.declared.conductor.Cycle.{Cycle}
 use Rattle.ring_conductor.specs.declared.conductor.Work.{Work}

@@ -3,12 +3,9 @@ use Rattle.std.proofs.Common.{◌≡◌, ◌∙◌, ◌⊎◌, ℕ, zero, suc, �
 use Rattle.std.specs.Prelude.{nat_lt}
 use Rattle.std.proofs.lemmas.Bool.{cases_eq, eq-eqb, lt-ltb, ltb-true, ne_eqb}
 use Rattle.ring_table.specs.declared.view.Service.{Service}
-use Rattle.ring_table.specs.Services.{once_below, times, total}
+use Rattle.ring_layout.specs.Lists.{total}
+use Rattle.ring_table.specs.Services.{once_below, times}
 use Rattle.ring_conductor.specs.Turns.{drawn_in}
-
-pub total-append : {A : Type 0} (f : A → ℕ) (a b : List A) → total f (a ++ b) ≡ total f a + total f b
-total-append f [] b = omega arith
-total-append f (x ∷ a) b = let rest = total-append f a b in omega arith
 
 -- how many draws there were
 abbrev pub draws_in : List Service → ℕ

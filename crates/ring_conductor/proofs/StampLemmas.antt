@@ -14,7 +14,7 @@ use Rattle.ring_table.specs.Services.{times}
 use Rattle.ring_rings.specs.Reading.{messages_of}
 use Rattle.ring_counters.specs.declared.fault.AllocateRefused.{AllocateRefused}
 use Rattle.ring_counters.specs.declared.fault.IdFault.{IdFault}
-use Rattle.ring_counters.specs.declared.values.rule.ValueWrite.{ValueWrite}
+use Rattle.ring_counters.specs.declared.values.view.ValueWrite.{ValueWrite}
 use Rattle.ring_counters.specs.Counter.{Counter}
 use Rattle.ring_counters.specs.Registry.{Registry, allocation_of, closed_in, id_refusal_of, new_counter, owned_ids, reclaimed_in, with_value}
 use Rattle.ring_counters.specs.Views.{value_write}

@@ -15,7 +15,7 @@ use Rattle.ring_rings.specs.Reading.{messages_of}
 use Rattle.ring_board.specs.declared.shared.view.Joined.{Joined}
 use Rattle.ring_board.specs.declared.shared.view.Record.{Record}
 use Rattle.ring_board.specs.Runs.{AreAllRuns}
-use Rattle.ring_counters.specs.declared.values.rule.ValueWrite.{ValueWrite}
+use Rattle.ring_counters.specs.declared.values.view.ValueWrite.{ValueWrite}
 use Rattle.ring_counters.specs.Counter.{Counter, unused_counter}
 use Rattle.ring_counters.specs.Registry.{Registry, count_of, counter_at, fresh_registry, ids_of, live_ids, live_of, value_at}
 use Rattle.ring_protocol.specs.Command.{Allocate, Set}
@@ -23,7 +23,8 @@ use Rattle.ring_protocol.specs.Command as command
 use Rattle.ring_conductor.specs.Account.{Account, IsFoldOf, account_of, fresh_account, messages_in, untimed}
 use Rattle.ring_conductor.specs.Storming.{sum_of, with_value_of, HasOwnCounter}
 use Rattle.ring_conductor.specs.Turns.{AreAllTurns, AreTurns, Deeds, drawn_in, label_of, last_set, turn_of}
-use Rattle.ring_conductor.proofs.DrawLemmas.{all_drawn, drawn_below, drawn_reduced, draws_in, none_reduced, one_at_most, reduced, reduced-append, total-append}
+use Rattle.ring_layout.proofs.Sums.{total-append}
+use Rattle.ring_conductor.proofs.DrawLemmas.{all_drawn, drawn_below, drawn_reduced, draws_in, none_reduced, one_at_most, reduced, reduced-append}
 use Rattle.ring_conductor.proofs.HoldLemmas.{Ends, Holds, all_done}
 use Rattle.ring_conductor.proofs.LiveLemmas.{HasLive, all_ask, fresh, is_live, live_counted}
 use Rattle.ring_conductor.proofs.OrderLemmas.{Has, at_first, runs_heard, turn_says_in}

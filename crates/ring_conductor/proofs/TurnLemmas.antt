@@ -8,7 +8,7 @@ use Rattle.ring_table.specs.declared.view.Service.{Service}
 use Rattle.ring_table.specs.Owners.{interleaved}
 use Rattle.ring_table.specs.Staged.{AreRising}
 use Rattle.ring_board.specs.declared.shared.view.Joined.{Joined}
-use Rattle.ring_board.specs.Steps.{Sat}
+use Rattle.ring_board.specs.Views.{Sat}
 use Rattle.ring_rings.specs.Claiming.{RefusesTry, Writes, record_behind}
 use Rattle.ring_rings.specs.declared.fault.TryFault.{TryFault}
 use Rattle.ring_rings.specs.declared.fault.TryFault.TheVariants.{Refused, Contended}

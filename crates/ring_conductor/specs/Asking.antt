@@ -12,7 +12,7 @@ use Rattle.ring_board.specs.declared.board.Board.{Board}
 use Rattle.ring_board.specs.declared.board.CopyReceiver.{CopyReceiver}
 use Rattle.ring_board.specs.Receiving.{GotCopy, GotLapped, GotNothing}
 use Rattle.ring_board.specs.Seats.{receiver_seat, IsReceiverOf}
-use Rattle.ring_board.specs.Steps.{Sat}
+use Rattle.ring_board.specs.Views.{Sat}
 use Rattle.ring_protocol.specs.declared.reply.Reply.{Reply}
 use Rattle.ring_conductor.specs.declared.client.request.Request.{Request}
 use Rattle.ring_conductor.specs.declared.client.request.Request.TheVariants as of

@@ -19,8 +19,8 @@ use Rattle.ring_board.specs.declared.shared.view.Joined.{Joined}
 use Rattle.ring_board.specs.declared.shared.view.Record.{Record}
 use Rattle.ring_board.specs.Runs.{AreAllRuns}
 use Rattle.ring_board.specs.Seats.{IsReceiverOf, receiver_view, shares_of as board_shares}
-use Rattle.ring_board.specs.Steps.{as_joined}
-use Rattle.ring_counters.specs.declared.values.rule.ValueWrite.{ValueWrite}
+use Rattle.ring_board.specs.Views.{as_joined}
+use Rattle.ring_counters.specs.declared.values.view.ValueWrite.{ValueWrite}
 use Rattle.ring_counters.specs.declared.values.seats.CounterValues.{CounterValues}
 use Rattle.ring_counters.specs.Counter.{Counter}
 use Rattle.ring_counters.specs.Manager.{registry_of}

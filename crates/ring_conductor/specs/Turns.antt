@@ -5,7 +5,8 @@ use Rattle.ring_layout.specs.declared.message.ClaimState.TheVariants.{Committed}
 use Rattle.ring_table.specs.declared.claim.StagedClaim.{StagedClaim}
 use Rattle.ring_table.specs.declared.claim.Stage.TheVariants.{Stored}
 use Rattle.ring_table.specs.Owners.{interleaved}
-use Rattle.ring_table.specs.Services.{times, total}
+use Rattle.ring_layout.specs.Lists.{total}
+use Rattle.ring_table.specs.Services.{times}
 use Rattle.ring_table.specs.Staged.{AreRising}
 use Rattle.ring_table.specs.declared.view.Service.{Service}
 use Rattle.ring_rings.specs.Seats.{claims_of}

@@ -4,7 +4,7 @@ use Rattle.std.proofs.Math.ListN.{length-set}
 use Rattle.std.specs.Prelude.{Some, None, Result, Ok, Err}
 use Rattle.std.proofs.lemmas.Bool.{cases_lt, le-leb, cond-true}
 use Rattle.std.proofs.lemmas.Bool.Decides.{eqb_tells}
-use Rattle.ring_counters.specs.declared.values.rule.ValueWrite.{ValueWrite}
+use Rattle.ring_counters.specs.declared.values.view.ValueWrite.{ValueWrite}
 use Rattle.ring_counters.specs.Counter.{Counter, Reclaimed, unused_counter}
 use Rattle.ring_counters.specs.Registry.{Registry, count_of, counter_at, reclaimed_in, closed_in, owned_ids, status_at, is_allocated, answer, id_refusal_of}
 use Rattle.ring_counters.specs.declared.fault.IdFault.{IdFault}

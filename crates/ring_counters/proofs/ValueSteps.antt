@@ -1,5 +1,5 @@
 -- Each step on the values keeps their rule.
-use Rattle.std.proofs.Common.{◌≡◌, ◌≢◌, ℕ, ℤ, zero, suc, ◌+◌, ◌-◌, ◌^◌, ◌≤◌, ◌<◌, Bool, true, false, true≢false, cond, eqb, List, [], ◌∷◌, ◌++◌, length, set, replicate, refl, sym, ap, ◌∙◌, subst, ⊎_elim, arith, slice_index, append-nil, append_assoc, get_or-set_same, get_or-set_other, FitsSigned, pos}
+use Rattle.std.proofs.Common.{◌≡◌, ◌≢◌, ℕ, ℤ, zero, suc, ◌+◌, ◌-◌, ◌^◌, ◌<◌, Bool, true, false, true≢false, cond, eqb, List, [], ◌∷◌, ◌++◌, length, set, replicate, refl, sym, ap, ◌∙◌, subst, ⊎_elim, arith, slice_index, append-nil, append_assoc, get_or-set_same, get_or-set_other, FitsSigned, pos}
 use Rattle.std.specs.Int.{cast_signed, cast_unsigned, w64}
 use Rattle.std.proofs.Math.ListN.{length-set}
 use Rattle.std.proofs.lemmas.Bool.Decides.{eqb_tells}
@@ -9,13 +9,15 @@ use mathlib.Core.Option.{some, some-ne-none, some-injective}
 use lib.ListN.{get_elem?}
 use Rattle.atomic_table.specs.Table.{State, keeps, Allows, Splits, Joins}
 use Rattle.atomic_table.proofs.Lists.{at_set, at_snoc, set_else}
-use Rattle.ring_counters.specs.declared.values.rule.ValueWrite.{ValueWrite}
-use Rattle.ring_counters.specs.declared.values.rule.ValueLoad.{ValueLoad}
-use Rattle.ring_counters.specs.declared.values.rule.ValuesView.{ValuesView}
+use Rattle.ring_counters.specs.declared.values.view.ValueWrite.{ValueWrite}
+use Rattle.ring_counters.specs.declared.values.view.ValueLoad.{ValueLoad}
+use Rattle.ring_counters.specs.declared.values.view.ValuesView.{ValuesView}
 use Rattle.ring_counters.specs.Views.{value_write, value_load, values_view}
-use Rattle.ring_layout.specs.Lists.{Begins}
+use Rattle.ring_layout.specs.Lists.{Begins, total}
+use Rattle.ring_layout.proofs.Sums.{total-set, total-append, total-least}
 use Rattle.ring_counters.specs.ValueWrites.{value_from, value_after, AreLoads}
-use Rattle.ring_counters.specs.ValuesRule.{sum_of_shares, KnowsWrites, ValuesRule, Loads, LearnsLoads, WritesValue}
+use Rattle.ring_counters.specs.ValuesRule.{KnowsWrites, ValuesRule}
+use Rattle.ring_counters.specs.ValueSteps.{Loads, LearnsLoads, WritesValue}
 
 -- ---- values after writes
 
@@ -49,27 +51,6 @@ loads_snoc : (made : List ValueWrite) (ls : List ValueLoad) (all : List ValueWri
 loads_snoc made [] all id h = (h, refl, same_as all all refl)
 loads_snoc made (l ∷ ls) all id h = (h.0, h.1, loads_snoc l.after ls all id h.2)
 
--- ---- shares
-
-shares_set : (views : List ValuesView) (by : ℕ) (v w : ValuesView) → get_elem? views by ≡ some v
-    → sum_of_shares (set views by w) + v.shares ≡ sum_of_shares views + w.shares
-shares_set [] by v w e = absurd (some-ne-none v (sym e))
-shares_set (x ∷ xs) zero v w e =
-    let h : x.shares ≡ v.shares = ap (λ (u : ValuesView). u.shares) (some-injective x v e) in omega arith
-shares_set (x ∷ xs) (suc by) v w e = let h = shares_set xs by v w e in omega arith
-
-shares_snoc : (views : List ValuesView) (w : ValuesView)
-    → sum_of_shares (views ++ w ∷ []) ≡ sum_of_shares views + w.shares
-shares_snoc [] w = omega arith
-shares_snoc (x ∷ xs) w = let h = shares_snoc xs w in omega arith
-
-shares_at : (views : List ValuesView) (by : ℕ) (v : ValuesView) → get_elem? views by ≡ some v
-    → v.shares ≤ sum_of_shares views
-shares_at [] by v e = absurd (some-ne-none v (sym e))
-shares_at (x ∷ xs) zero v e =
-    let h : x.shares ≡ v.shares = ap (λ (u : ValuesView). u.shares) (some-injective x v e) in omega arith
-shares_at (x ∷ xs) (suc by) v e = let h = shares_at xs by v e in omega arith
-
 -- ---- views
 
 index_set : (xs : List ℕ) (i j v : ℕ) → i < length xs → slice_index (set xs i v) j ≡ cond (eqb i j) v (slice_index xs j)
@@ -97,7 +78,7 @@ not_writer e = true≢false (sym e)
 
 -- the words stay, and the views follow
 reseat : (count : ℕ) (words : List ℕ) (views views' : List ValuesView) (r : ValuesRule count words views)
-    → sum_of_shares views' ≡ 65536
+    → total (λ (v : ValuesView). v.shares) views' ≡ 65536
     → ((by : ℕ) (v : ValuesView) → get_elem? views' by ≡ some v → KnowsWrites r.writer r.all by v)
     → ValuesRule count words views'
 reseat count words views views' r shares each = record {
@@ -123,7 +104,7 @@ module _ (count : ℕ) (s : State (Unit {0}) ValuesView) (r : ValuesRule count s
   loaded_rule : ValuesRule count (set s.words id (slice_index s.words id)) (set s.views by w)
   loaded_rule =
       let words : set s.words id (slice_index s.words id) ≡ s.words = set-get_or s.words id 0 in
-      let p = shares_set s.views by v w at in
+      let p = total-set (λ (v : ValuesView). v.shares) s.views by v w at in
       let total = r.shares in
       subst (λ l. ValuesRule count l (set s.views by w)) (sym words)
       (reseat count s.words s.views (set s.views by w) r (omega arith)
@@ -155,7 +136,7 @@ pub learns : (count slots by : ℕ) (v : ValuesView) (carried : List (ℕ × Uni
     (λ n w. LearnsLoads v w.0 × (w.1 ≡ carried))
 learns count slots by v carried writes s r homes at small =
     let h = r.each by v at in
-    let most = shares_at s.views by v at in
+    let most = total-least (λ (v : ValuesView). v.shares) s.views by v at in
     let total = r.shares in (
       v,
       keeps,
@@ -182,7 +163,7 @@ stores count slots by id word v carried inside whole signed writes s r homes at 
     let new : ValueWrite = value_write id (cast_signed w64 word) in
     let more : List ValueWrite = all ++ new ∷ [] in
     let w = values_view v.writes v.shares (v.seen ++ new ∷ []) v.made v.loads in
-    let p = shares_set s.views by v w at in
+    let p = total-set (λ (v : ValuesView). v.shares) s.views by v w at in
     let total = r.shares in
     let size = r.wide in (
       w,
@@ -232,8 +213,8 @@ splits count by v two s r at =
     let w = values_view v.writes (v.shares - 1) v.seen v.made v.loads in
     let new = values_view false 1 v.seen v.seen [] in
     let h = r.each by v at in
-    let p = shares_set s.views by v w at in
-    let q = shares_snoc (set s.views by w) new in
+    let p = total-set (λ (v : ValuesView). v.shares) s.views by v w at in
+    let q = total-append (λ (v : ValuesView). v.shares) (set s.views by w) (new ∷ []) in
     let total = r.shares in
     let mine : KnowsWrites r.writer r.all by w = record { writes = h.writes; seen = h.seen; loads = h.loads } in
     let kept = fits_set r.writer r.all s.views by w (λ j u _ e. r.each j u e) mine in
@@ -252,8 +233,8 @@ joins count by v other u s r at apart there =
     let h = r.each by v at in
     let k = r.each other u was in
     let mid = set s.views by w in
-    let p = shares_set s.views by v w at in
-    let q = shares_set mid other u spent there in
+    let p = total-set (λ (v : ValuesView). v.shares) s.views by v w at in
+    let q = total-set (λ (v : ValuesView). v.shares) mid other u spent there in
     let total = r.shares in
     let kept = fits_set r.writer r.all s.views by w (λ j x _ e. r.each j x e)
     (record { writes = h.writes; seen = h.seen; loads = k.loads }) in

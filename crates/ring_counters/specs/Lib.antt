@@ -7,6 +7,7 @@ pub mod Kept
 pub mod Views
 pub mod ValueWrites
 pub mod ValuesRule
+pub mod ValueSteps
 pub mod Seats
 pub mod Agree
 pub mod Infos

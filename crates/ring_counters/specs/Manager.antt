@@ -1,7 +1,7 @@
 -- What a manager shows.
 use Rattle.std.specs.Prelude.{◌≡◌, ℕ, ℤ, List, [], ◌∷◌, ◌++◌, Option}
 use Rattle.atomic_table.specs.Seated.{TableId}
-use Rattle.ring_counters.specs.declared.values.rule.ValueWrite.{ValueWrite}
+use Rattle.ring_counters.specs.declared.values.view.ValueWrite.{ValueWrite}
 use Rattle.ring_counters.specs.declared.values.seats.CounterValues.{CounterValues}
 use Rattle.ring_counters.specs.declared.manager.CountersManager.{CountersManager}
 use Rattle.ring_counters.specs.declared.fault.IdFault.{IdFault}

@@ -1,7 +1,7 @@
 -- The seats of the values.
 use Rattle.std.specs.Prelude.{◌≡◌, ℕ, ℤ, List, [], ◌∷◌, ◌++◌}
-use Rattle.ring_counters.specs.declared.values.rule.ValueWrite.{ValueWrite}
-use Rattle.ring_counters.specs.declared.values.rule.ValueLoad.{ValueLoad}
+use Rattle.ring_counters.specs.declared.values.view.ValueWrite.{ValueWrite}
+use Rattle.ring_counters.specs.declared.values.view.ValueLoad.{ValueLoad}
 use Rattle.ring_counters.specs.declared.values.seats.CounterValues.{CounterValues}
 use Rattle.ring_counters.specs.declared.values.seats.ValueWriter.{ValueWriter}
 use Rattle.ring_counters.specs.declared.values.seats.ValueReader.{ValueReader}

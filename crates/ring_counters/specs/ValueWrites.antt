@@ -1,8 +1,8 @@
 -- The values after writes, and what readers load of them.
 use Rattle.std.specs.Prelude.{◌≡◌, ℕ, ◌==◌, ℤ, pos, if◌then◌else◌, List, [], ◌∷◌}
 use Rattle.ring_layout.specs.Lists.{Begins}
-use Rattle.ring_counters.specs.declared.values.rule.ValueWrite.{ValueWrite}
-use Rattle.ring_counters.specs.declared.values.rule.ValueLoad.{ValueLoad}
+use Rattle.ring_counters.specs.declared.values.view.ValueWrite.{ValueWrite}
+use Rattle.ring_counters.specs.declared.values.view.ValueLoad.{ValueLoad}
 
 -- the value of an id after these writes, where it was this one before them
 abbrev pub value_from : ℤ → ℕ → List ValueWrite → ℤ

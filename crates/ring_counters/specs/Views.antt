@@ -1,8 +1,8 @@
 -- What a seat of the values knows.
 use Rattle.std.specs.Prelude.{ℕ, ℤ, Bool, List}
-use Rattle.ring_counters.specs.declared.values.rule.ValueWrite.{ValueWrite}
-use Rattle.ring_counters.specs.declared.values.rule.ValueLoad.{ValueLoad}
-use Rattle.ring_counters.specs.declared.values.rule.ValuesView.{ValuesView}
+use Rattle.ring_counters.specs.declared.values.view.ValueWrite.{ValueWrite}
+use Rattle.ring_counters.specs.declared.values.view.ValueLoad.{ValueLoad}
+use Rattle.ring_counters.specs.declared.values.view.ValuesView.{ValuesView}
 
 abbrev pub value_write : ℕ → ℤ → ValueWrite
 value_write id value = record { id = id; value = value }

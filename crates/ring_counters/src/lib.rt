@@ -3,7 +3,8 @@
 //! - `manager`: the counters of one owner, with their values. `calls`: what it is asked, by kind.
 //! - `records`: the counters' words: `metadata` and `value` records, what a counter is allocated with (`wanted`), and
 //!   the queue of ids that were `freed`.
-//! - `values`: what threads share: the `seats` of writer and readers, and the `rule` between any two steps.
+//! - `values`: what threads share: what each seat knows (`view`), the `rule` between any two steps, what each step
+//!   tells (`plays`), a function for each (`steps`), and the `seats` of writer and readers.
 //! - `fault`, `info`: why calls refuse, and what a listing says of a counter.
 #![tactic(auto)]
 
@@ -19,5 +20,5 @@ pub use fault::{AllocateRefused, BadId, BadOwner, IdFault, MakeFault, OutOfMemor
 pub use info::CounterInfo;
 pub use manager::CountersManager;
 pub use ring_layout::NoShares;
-pub use values::rule::{ValueLoad, ValueWrite, ValuesView};
 pub use values::seats::{CounterValues, ValueReader};
+pub use values::view::{ValueLoad, ValueWrite, ValuesView};

@@ -11,7 +11,8 @@ use Rattle.ring_board.specs.Receiving.{GotCopy, GotLapped, GotNothing}
 use Rattle.ring_board.specs.Records.{end_of}
 use Rattle.ring_board.specs.Refusals.{subscribe_refusal_of, transmit_code, transmit_refusal_of}
 use Rattle.ring_board.specs.Seats.{next_record}
-use Rattle.ring_board.specs.Steps.{Sat, fewer, newcomer, sent_on}
+use Rattle.ring_board.specs.Views.{Sat, fewer, newcomer}
+use Rattle.ring_board.specs.TransmitterSteps.{sent_on}
 use Rattle.ring_handles.specs.declared.identity.Identity.{Identity}
 use Rattle.ring_handles.specs.declared.lending.Shared.{Shared}
 

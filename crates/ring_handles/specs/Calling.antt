@@ -6,7 +6,7 @@ use Rattle.ring_table.specs.ServiceSteps.{LoadsHeartbeat}
 use Rattle.ring_rings.specs.Claiming.{RefusesTry, Writes, try_code}
 use Rattle.ring_rings.specs.Seats.{capacity_of}
 use Rattle.ring_board.specs.declared.fault.Lapped.{Lapped}
-use Rattle.ring_board.specs.Steps.{Sat}
+use Rattle.ring_board.specs.Views.{Sat}
 use Rattle.ring_protocol.specs.declared.reply.Reply.{Reply}
 use Rattle.ring_protocol.specs.declared.reply.Reply.TheVariants.{Allocated, Done, Refused, Closed}
 use Rattle.ring_protocol.specs.Reply.{type_id_of}

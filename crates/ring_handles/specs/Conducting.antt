@@ -10,7 +10,7 @@ use Rattle.ring_board.specs.declared.fault.SubscribeFault.TheVariants.{NoShares}
 use Rattle.ring_board.specs.Refusals.{subscribe_refusal_of}
 use Rattle.ring_board.specs.Rule.{opening_view}
 use Rattle.ring_board.specs.Seats.{capacity_of as board_capacity_of, start_of as board_start_of}
-use Rattle.ring_board.specs.Steps.{fewer, newcomer}
+use Rattle.ring_board.specs.Views.{fewer, newcomer}
 use Rattle.ring_counters.specs.Codes.{make_code}
 use Rattle.ring_counters.specs.Manager.{registry_of, writes_of}
 use Rattle.ring_counters.specs.Registry.{fresh_registry, make_refusal_of}

@@ -7,7 +7,7 @@ use Rattle.ring_board.specs.declared.fault.Lapped.{Lapped}
 use Rattle.ring_board.specs.Bodies.{GaveBody, IsRight, Validated}
 use Rattle.ring_board.specs.Receiving.{GotLapped, GotNothing, GotRecord}
 use Rattle.ring_board.specs.Seats.{len_of, place_of, type_id_of}
-use Rattle.ring_board.specs.Steps.{Sat, fewer, newcomer}
+use Rattle.ring_board.specs.Views.{Sat, fewer, newcomer}
 use Rattle.ring_handles.specs.Boards.{Sending, knowing}
 use Rattle.ring_handles.specs.declared.identity.Identity.{Identity}
 

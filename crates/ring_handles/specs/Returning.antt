@@ -5,7 +5,7 @@ use Rattle.std.specs.Arc.{arc_value}
 use Rattle.atomic_table.specs.Seated.{TableId}
 use Rattle.ring_board.specs.Closing.{close_refusal_of}
 use Rattle.ring_board.specs.Runs.{AreAllRuns, AreRuns}
-use Rattle.ring_board.specs.Steps.{Sat, joined}
+use Rattle.ring_board.specs.Views.{Sat, joined}
 use Rattle.ring_counters.specs.Manager.{registry_of, shares_of, writes_of}
 use Rattle.ring_counters.specs.Seats.{loads_of, made_of}
 use Rattle.ring_counters.specs.ValueWrites.{AreLoads}

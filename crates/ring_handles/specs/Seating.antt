@@ -8,7 +8,7 @@ use Rattle.ring_board.specs.declared.fault.SubscribeFault.TheVariants.{NoShares}
 use Rattle.ring_board.specs.Refusals.{subscribe_refusal_of}
 use Rattle.ring_board.specs.Runs.{AreRuns}
 use Rattle.ring_board.specs.Seats.{capacity_of}
-use Rattle.ring_board.specs.Steps.{Sat, fewer, joined, newcomer}
+use Rattle.ring_board.specs.Views.{Sat, fewer, joined, newcomer}
 use Rattle.ring_counters.specs.Manager.{registry_of, writes_of}
 use Rattle.ring_counters.specs.Seats.{loads_of, made_of, seen_by}
 use Rattle.ring_counters.specs.ValueWrites.{AreLoads}

@@ -4,3 +4,4 @@ pub mod PictureLemmas
 pub mod WordBytes
 pub mod CapacityLemmas
 pub mod HeaderLemmas
+pub mod Sums

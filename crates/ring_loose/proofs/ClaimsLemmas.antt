@@ -14,7 +14,7 @@ use Rattle.ring_table.specs.declared.view.View.{View}
 use Rattle.ring_table.specs.Changes.{changed, changed_at, staged}
 use Rattle.ring_table.specs.OpenClaims.{one_if_open, open_count}
 use Rattle.ring_table.specs.Staged.{stage_state}
-use Rattle.ring_table.proofs.Histories.{changed_at_place, changed_at_other}
+use Rattle.ring_table.proofs.HistoryLemmas.{changed_at_place, changed_at_other}
 use Rattle.ring_rings.specs.declared.ring.Ring.{Ring}
 use Rattle.ring_rings.specs.declared.ring.Producer.{Producer}
 use Rattle.ring_rings.specs.Bodies.{put_at, PutsBytes}

@@ -4,7 +4,7 @@ use Rattle.std.proofs.lemmas.List.{drop-set-lt, drop_all}
 use Rattle.ring_board.specs.declared.board.CopyReceiver.{CopyReceiver}
 use Rattle.ring_board.specs.declared.shared.view.View.{View}
 use Rattle.ring_board.specs.Seats.{receiver_view, view_of}
-use Rattle.ring_board.specs.Steps.{joined}
+use Rattle.ring_board.specs.Views.{joined}
 use Rattle.ring_loose.specs.Held.{HasAt, IsFree}
 use Rattle.ring_loose.specs.Receivers.{Crowd, LeavesCrowd, all_left}
 use Rattle.ring_loose.proofs.HeldLemmas.{front, none_at}

@@ -6,7 +6,7 @@ use Rattle.ring_board.specs.declared.board.Transmitter.{Transmitter}
 use Rattle.ring_board.specs.declared.board.CopyReceiver.{CopyReceiver}
 use Rattle.ring_board.specs.Receiving.{GotCopy, GotLapped, GotNothing}
 use Rattle.ring_board.specs.Seats.{shares_of, view_of, IsReceiverOf, IsTransmitterOf, receiver_seat, receiver_view}
-use Rattle.ring_board.specs.Steps.{Sat, fewer, newcomer, joined}
+use Rattle.ring_board.specs.Views.{Sat, fewer, newcomer, joined}
 use Rattle.ring_loose.specs.Held.{Comes, Goes, HasAt, Stays, held_count, held_in}
 use Rattle.ring_loose.specs.declared.numbered.Numbered.{Numbered}
 use Rattle.ring_loose.specs.declared.received.Received.{Received}

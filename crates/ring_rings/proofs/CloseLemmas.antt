@@ -20,7 +20,7 @@ use Rattle.ring_table.specs.Staged.{AreAbove, ArePlaced, AreRising, claim_end, u
 use Rattle.ring_table.specs.Closed.{IsClosed, LeavesRest, restarted}
 use Rattle.ring_table.specs.OpenClaims.{open_count}
 use Rattle.ring_table.specs.Views.{with_consumer_of}
-use Rattle.ring_table.proofs.Memories.{head_bounds}
+use Rattle.ring_table.proofs.MemoryLemmas.{head_bounds}
 use Rattle.ring_table.proofs.RestLemmas.{claims_of-restarted}
 use Rattle.ring_rings.specs.Closing.{HandsOut, Serves}
 use Rattle.ring_rings.specs.Reading.{at_rest}

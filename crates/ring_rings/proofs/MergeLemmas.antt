@@ -15,7 +15,7 @@ use Rattle.ring_table.specs.declared.view.View.{View}
 use Rattle.ring_table.specs.Changes.{changed}
 use Rattle.ring_table.specs.ProducerSteps.{HasClaim}
 use Rattle.ring_rings.specs.Bodies.{put_at, MergesWord}
-use Rattle.ring_table.proofs.Histories.{changed_there}
+use Rattle.ring_table.proofs.HistoryLemmas.{changed_there}
 
 pub small_at : (body : List ℕ) → All (λ b. b < 256) body → (j : ℕ) → slice_index body j < 256
 small_at body bytes j = elim (cases_lt j (length body)) as (λ _. slice_index body j < 256) [

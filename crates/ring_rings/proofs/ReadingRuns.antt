@@ -6,7 +6,8 @@ use Rattle.std.proofs.lemmas.List.Elements.{All-nil, All-push}
 use Rattle.std.proofs.lemmas.Nat.{mod_below}
 use Rattle.ring_words.specs.declared.read.action.Action.{Action}
 use Rattle.ring_words.specs.Controlled.{GoesOn}
-use Rattle.ring_words.proofs.ReadLemmas.{Handles-push, inside_from}
+use Rattle.ring_words.proofs.ReadLemmas.{Handles-push}
+use Rattle.ring_words.proofs.ReadTests.{inside_from}
 use Rattle.ring_layout.specs.declared.message.Message.{Message}
 use Rattle.ring_layout.specs.Handles.{Handles}
 use Rattle.ring_layout.specs.Places.{index, max_position, room}

@@ -2,7 +2,7 @@
 use Rattle.std.specs.Prelude.{◌≡◌, ℕ, ℤ, List, []}
 use Rattle.ring_counters.specs.declared.values.seats.CounterValues.{CounterValues}
 use Rattle.ring_counters.specs.declared.values.seats.ValueReader.{ValueReader}
-use Rattle.ring_counters.specs.declared.values.rule.ValueWrite.{ValueWrite}
+use Rattle.ring_counters.specs.declared.values.view.ValueWrite.{ValueWrite}
 use Rattle.ring_counters.specs.declared.manager.CountersManager.{CountersManager}
 use Rattle.ring_counters.specs.Manager.{IsManagerOf}
 use Rattle.ring_counters.specs.Seats.{IsReaderOf, LoadsValue, loads_of, seen_by}

@@ -14,8 +14,8 @@ use Rattle.ring_table.specs.Views.{Key, View, Wanted, with_claims}
 use Rattle.ring_table.specs.ProducerSteps.{Mine, HasClaimAt, Changes, IsStagedOpen, StoresSettled, with_changed}
 use Rattle.ring_table.specs.Seats.{IsSeatOf, IsSameSeat}
 use Rattle.ring_table.proofs.StagedPlaces.{capacity_aligned}
-use Rattle.ring_table.proofs.Loading.{Ok}
-use Rattle.ring_table.proofs.Storing.{settles}
+use Rattle.ring_table.proofs.LoadLemmas.{Ok}
+use Rattle.ring_table.proofs.StoreLemmas.{settles}
 use Rattle.std.proofs.lemmas.Nat.{mod_below}
 
 -- what a step leaves of its seat

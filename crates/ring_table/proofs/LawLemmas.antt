@@ -10,7 +10,7 @@ use Rattle.ring_table.specs.Owners.{insert_claim, interleaved}
 use Rattle.ring_table.specs.Passing.{IsSettled, AreSettled}
 use Rattle.ring_table.specs.ProducerSteps.{EndBelow}
 use Rattle.ring_table.specs.OpenClaims.{one_if_open, open_count, AreBelow}
-use Rattle.ring_table.proofs.Histories.{changed_at_place, changed_at_other}
+use Rattle.ring_table.proofs.HistoryLemmas.{changed_at_place, changed_at_other}
 
 -- ---- a claim at the end
 

@@ -1,26 +1,26 @@
 pub mod StagedPlaces
 pub mod BodyWords
 pub mod StagedWords
-pub mod Histories
+pub mod HistoryLemmas
 pub mod OwnerLemmas
 pub mod ReachLemmas
 pub mod HeaderReads
-pub mod Sums
-mod Knowing
-pub mod Seating
-pub mod Memories
-pub mod Loading
-pub mod Claiming
-pub mod Storing
-pub mod Consuming
-pub mod Clearing
+pub mod ListLemmas
+mod KnowLemmas
+pub mod StepLemmas
+pub mod MemoryLemmas
+pub mod LoadLemmas
+pub mod ClaimLemmas
+pub mod StoreLemmas
+pub mod ConsumeLemmas
+pub mod ClearLemmas
 pub mod ServiceLemmas
-pub mod Serving
+pub mod ServeLemmas
 pub mod RestLemmas
-pub mod Opening
-mod SeatSums
-pub mod Seats
-pub mod Closing
+pub mod OpenLemmas
+mod SplitSums
+pub mod SplitLemmas
+pub mod CloseLemmas
 pub mod Calls
 pub mod HeaderCalls
 pub mod LawLemmas

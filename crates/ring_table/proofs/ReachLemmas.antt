@@ -10,7 +10,7 @@ use Rattle.ring_table.specs.Owners.{OwnedHistory, all_of, edited_one, edited}
 use Rattle.ring_table.specs.Passing.{IsSettled, placed_message, shown_at, Reaches}
 use Rattle.ring_table.proofs.StagedPlaces.{StandFrom, end_le, lies_in, claim_aligned}
 use Rattle.ring_table.proofs.StagedWords.{staged_word-stored}
-use Rattle.ring_table.proofs.Histories.{MayReplaceAt, edited_one_cases, claim_end-edited}
+use Rattle.ring_table.proofs.HistoryLemmas.{MayReplaceAt, edited_one_cases, claim_end-edited}
 
 pub reach_bounds : (C s e : ℕ) (cs : List StagedClaim) (got : List PlacedMessage) → ArePlaced C e cs
     → Reaches s e cs got → (e ≤ s) × (s ≤ staged_end e cs)

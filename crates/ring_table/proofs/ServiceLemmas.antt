@@ -6,9 +6,10 @@ use native.Mathlib.Decide.{ℕ_discrete}
 use lib.ListN.{get_elem?}
 use Rattle.std.proofs.lemmas.Bool.{cases_lt}
 use Rattle.atomic_table.proofs.Lists.{at_longer}
-use Rattle.ring_table.specs.Services.{Service, total, times, times_drawn, once_below, AreRisingBelow, NeverGoBack, AreServed}
+use Rattle.ring_layout.specs.Lists.{total}
+use Rattle.ring_table.specs.Services.{Service, times, times_drawn, once_below, AreRisingBelow, NeverGoBack, AreServed}
 use Rattle.ring_table.specs.Views.{ProducerView, with_draw}
-use Rattle.ring_table.proofs.Sums.{total-append}
+use Rattle.ring_layout.proofs.Sums.{total-append}
 
 -- ---- draws
 

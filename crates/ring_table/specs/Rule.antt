@@ -7,7 +7,8 @@ use Rattle.ring_layout.specs.Layout.{ring_words, tail_index, head_cache_index, h
 use Rattle.ring_table.specs.Staged.{StagedClaim, ArePlaced, staged_end, staged_word_at}
 use Rattle.ring_table.specs.Owners.{OwnedHistory, all_of, owned_by}
 use Rattle.ring_table.specs.Passing.{Reaches}
-use Rattle.ring_table.specs.Services.{total, times_drawn, once_below, AreServed}
+use Rattle.ring_layout.specs.Lists.{total}
+use Rattle.ring_table.specs.Services.{times_drawn, once_below, AreServed}
 use Rattle.ring_table.specs.Views.{Key, ProducerView, ConsumerView, View}
 
 -- a capacity and a start that a ring may have

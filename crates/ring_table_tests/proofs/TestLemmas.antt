@@ -21,7 +21,7 @@ use Rattle.ring_table.specs.Views.{with_claim, with_claims}
 use Rattle.ring_table.specs.ProducerSteps.{HasClaimAt}
 use Rattle.ring_table.specs.ConsumerSteps.{FindsMessage, LoadsHeader, PassesPadding}
 use Rattle.ring_table.specs.Seats.{IsSeatOf, IsSameSeat}
-use Rattle.ring_table.proofs.Histories.{changed_there}
+use Rattle.ring_table.proofs.HistoryLemmas.{changed_there}
 
 pub capacity_128 : IsCapacity 128
 unfolding count_ones

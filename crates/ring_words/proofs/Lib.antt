@@ -5,10 +5,12 @@ pub mod FreshLemmas
 pub mod HeadLemmas
 pub mod TakeLemmas
 pub mod BodyLemmas
+pub mod ReadTests
 pub mod ReadLemmas
 pub mod ReadTurns
 pub mod HeedLemmas
 pub mod ReadHeeds
+mod SameLemmas
 pub mod UniqueLemmas
 pub mod MiddleLemmas
 pub mod OpenLemmas

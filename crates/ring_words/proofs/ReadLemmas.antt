@@ -1,8 +1,7 @@
 -- The turns of a read.
-use Rattle.std.proofs.Common.{◌≡◌, ◌≢◌, ℕ, ◌+◌, ◌-◌, ◌%◌, ◌<◌, ◌≤◌, List, [], ◌∷◌, ◌++◌, length, refl, ap, sym, ◌∙◌, subst, arith, inl, inr, ℤ, pos, ◌≤ℤ◌, FitsSigned, to_z, of_z, nat_lt, ◌&&◌, ◌==◌, false, All, Some}
-use Rattle.std.specs.Int.{w32}
-use Rattle.std.proofs.lemmas.Int.{ints, to_z-of_z}
-use Rattle.std.proofs.lemmas.Bool.{cases_lt, and_cases, ltb-false, eqb-false}
+use Rattle.std.proofs.Common.{◌≡◌, ◌≢◌, ℕ, ◌+◌, ◌-◌, ◌%◌, ◌<◌, ◌≤◌, List, [], ◌∷◌, ◌++◌, length, refl, ap, sym, ◌∙◌, subst, arith, inl, inr, ℤ, pos, ◌≤ℤ◌, All, Some}
+use Rattle.std.proofs.lemmas.Int.{ints}
+use Rattle.std.proofs.lemmas.Bool.{cases_lt}
 use Rattle.std.proofs.lemmas.List.{append-nil, append_assoc, length_push}
 use Rattle.std.proofs.lemmas.List.Elements.{All-nil, All-push, All-head, All-tail, All-cons}
 use Rattle.std.proofs.lemmas.Nat.{mod_below}
@@ -20,7 +19,7 @@ use Rattle.ring_words.specs.Reading.{Sees, SeesCommitted, IsAtHead, Leaves, Move
 use Rattle.ring_words.specs.Controlled.{GoesOn}
 use Rattle.ring_words.specs.Read.{Reads, Passes, IsHeadAfter, IsTight, IsNext, WentOn, Broke, Aborts, stop_of}
 use Rattle.ring_words.specs.Open.{ClaimAt, IsOpen, IsOpenIn}
-use Rattle.ring_words.specs.declared.read.action.Action.TheVariants.{Abort, Break, Commit, Continue}
+use Rattle.ring_words.specs.declared.read.action.Action.TheVariants.{Abort, Break}
 use Rattle.ring_words.specs.declared.read.end.ReadEnd.{ReadEnd}
 use Rattle.ring_words.specs.declared.read.end.Stop.{Stop}
 use Rattle.ring_words.proofs.OpenLemmas.{open_after}
@@ -367,13 +366,6 @@ reads_keeps {S} {step} {limit} {old} {new} {s} {u} {count} ok reads t o =
       is_open = subst (λ (k : ℕ). IsOpenIn k (head_of new) p.rest t) (sym same) left;
     }
 
--- an action that is neither Abort nor Break
-pub goes_on : (a : Action) → a ≢ Abort → a ≢ Break → GoesOn a
-goes_on Abort na nb = absurd (na refl)
-goes_on Break na nb = absurd (nb refl)
-goes_on Commit na nb = tt
-goes_on Continue na nb = tt
-
 -- the handler let each message go
 pub went_on : {S : Type 0} {step : S → Message → S → Action → Type 0} {limit : ℕ} {old new : Ring} {s u : S} {n : ℕ}
     {end : ReadEnd} → ReadsOn step limit old new s u n → end.messages ≡ n
@@ -398,15 +390,3 @@ aborts {S} {step} {limit} {old} {new} {s} {u} {v} {n} {m} on is abort stepped ne
   before_end = inside;
   stopped = stop;
 }
-
--- what the test for the end of the buffer tells
-pub inside_from : (C start head : ℕ) → (nat_lt start head && (head % C == 0)) ≡ false → start < head → head % C ≢ 0
-inside_from C start head test lt e =
-    elim (and_cases (nat_lt start head) (head % C == 0) test) as (λ _. ⊥) [
-      | inl h ↦ let bad = ltb-false start head h in omega arith
-      | inr h ↦ eqb-false (head % C) 0 h e
-    ]
-
--- what the test for padding tells
-pub padding_from : (t : ℤ) → FitsSigned w32 t → of_z w32 t ≡ 4294967295 → t ≡ padding_type
-padding_from t f e = sym (to_z-of_z w32 t f) ∙ ap (to_z w32) e

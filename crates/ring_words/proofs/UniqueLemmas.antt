@@ -1,5 +1,5 @@
 -- Histories with one picture show the same messages and have the same open claims.
-use Rattle.std.proofs.Common.{◌≡◌, ℕ, ◌+◌, ◌-◌, ◌*◌, ◌/◌, ◌%◌, ◌^◌, ◌<◌, ◌≤◌, List, [], ◌∷◌, ◌++◌, length, drop, slice_index, refl, ap, sym, ◌∙◌, subst, arith, ◌⊎◌, inl, inr, All, ℤ, pos, neg_ℤ, nat_abs, ◌≤ℤ◌, zero, suc}
+use Rattle.std.proofs.Common.{◌≡◌, ℕ, ◌+◌, ◌-◌, ◌*◌, ◌/◌, ◌%◌, ◌^◌, ◌<◌, ◌≤◌, List, [], ◌∷◌, ◌++◌, length, drop, refl, ap, sym, ◌∙◌, subst, arith, ◌⊎◌, inl, inr, All, ℤ, pos, neg_ℤ, nat_abs, ◌≤ℤ◌, zero, suc}
 use Rattle.ring_words.specs.Ring.{Ring, IsRing, Has, head_of}
 use Rattle.ring_words.specs.Open.{ClaimAt, IsOpen, IsOpenClaim, IsOpenIn}
 use Rattle.ring_words.proofs.OpenLemmas.{open_past_padding, open_before_padding}
@@ -9,8 +9,7 @@ use Rattle.std.proofs.lemmas.Nat.{mod_below}
 use Rattle.std.specs.Int.{cast_signed, from_le_bytes, w32, w64}
 use Rattle.std.proofs.lemmas.Int.{ints}
 use Rattle.std.proofs.lemmas.Bool.{cases_lt, ne_eqb, cond-false}
-use Rattle.std.proofs.lemmas.List.{ext_get_or, get_or-drop, get_or_past}
-use Rattle.std.proofs.lemmas.List.Elements.{All-head, All-tail, All-get_or}
+use Rattle.std.proofs.lemmas.List.Elements.{All-head, All-tail}
 use Rattle.ring_layout.specs.declared.message.Claim.{Claim}
 use Rattle.ring_layout.specs.declared.message.Message.{Message}
 use Rattle.ring_layout.specs.declared.message.ClaimState.{ClaimState}
@@ -23,35 +22,7 @@ use Rattle.ring_layout.proofs.PlaceLemmas.{next_le, next_cases, next_fixed, next
 use Rattle.ring_layout.proofs.PictureLemmas.{word_at_padding_header, word_at_record, word_at_rest, word_at_past}
 use Rattle.ring_layout.proofs.HeaderLemmas.{len_of-header, type_of-header, fits_pos, fits_neg}
 use Rattle.ring_words.proofs.HeadLemmas.{header_open, header_committed, header_aborted, state_cases}
-use Rattle.ring_layout.proofs.WordBytes.{byte_of_word}
-
--- the bytes of a body from its words
-byte_small : (bs : List ℕ) → All (λ b. b < 256) bs → (j : ℕ) → slice_index bs j < 256
-byte_small bs small j =
-    elim (cases_lt j (length bs)) as (λ _. slice_index bs j < 256) [
-      | inl h ↦ All-get_or (λ (b : ℕ). b < 256) bs j 0 h small
-      | inr h ↦ omega (arith, get_or_past bs j 0 h)
-    ]
-
-byte_from_word : (bs : List ℕ) → All (λ b. b < 256) bs → (k : ℕ)
-    → from_le_bytes w64 (drop (8 * (k / 8)) bs) / 2 ^ (8 * (k % 8)) % 256 ≡ slice_index bs k
-byte_from_word bs small k =
-    byte_of_word (drop (8 * (k / 8)) bs) (λ j. let e =
-    get_or-drop (8 * (k / 8)) bs j 0 in omega (arith, e, byte_small bs small (8 * (k / 8) + j))) (k % 8)
-    (omega arith)
-    ∙ get_or-drop (8 * (k / 8)) bs (k % 8) 0
-    ∙ ap (slice_index bs) (omega arith)
-
-same_body : (xs ys : List ℕ) → All (λ b. b < 256) xs → All (λ b. b < 256) ys → length xs ≡ length ys
-    → ((j : ℕ) → 8 * j < length xs → from_le_bytes w64 (drop (8 * j) xs) ≡ from_le_bytes w64 (drop (8 * j) ys))
-    → xs ≡ ys
-same_body xs ys small small' len words =
-    ext_get_or 0 xs ys len (λ k lt.
-    sym (byte_from_word xs small k) ∙ ap (λ w. w / 2 ^ (8 * (k % 8)) % 256) (words (k / 8) (omega arith))
-    ∙ byte_from_word ys small' k)
-
-message_same : (m n : Message) → m.type_id ≡ n.type_id → m.body ≡ n.body → m ≡ n
-message_same m n p q = λ i. record { type_id = p i; body = q i }
+use Rattle.ring_words.proofs.SameLemmas.{same_body, message_same}
 
 len_word : ℕ → ℤ
 len_word w = cast_signed w32 (w % 2 ^ 32)

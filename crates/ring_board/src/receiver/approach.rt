@@ -5,14 +5,15 @@ ghost use Rattle.ring_layout.specs.History.{span};
 ghost use Rattle.ring_layout.specs.Places.{max_position};
 ghost use Rattle.ring_board.specs.declared.shared.view.Stage.TheVariants.{Behind, Reading};
 ghost use Rattle.ring_board.specs.Records.{announced, body_len, word_count, is_padding};
-ghost use Rattle.ring_board.specs.Steps.{IsSound, LoadsLatest, Sat};
+ghost use Rattle.ring_board.specs.Views.{Sat};
+ghost use Rattle.ring_board.specs.ReceiverSteps.{IsSound, LoadsLatest};
 ghost use Rattle.ring_board.specs.Receiving.{RestsAt, FoundIs, NearIs, IsInBuffer, CopiedWords, TookAll, FailedValidation, GotNothing, GotCopy, GotLapped, GotRecord, GotMiss};
 ghost use Rattle.ring_board.specs.Seats.{IsSeatOf, IsSameSeat};
 
 use crate::board::{Board, RawRecord};
 use crate::fault::Lapped;
 use crate::receiver::found::{Found, Front, Miss};
-use crate::shared::view::BoardSeat;
+use crate::shared::steps::BoardSeat;
 use ring_layout::put_word;
 use ring_layout::record_descriptor::{HEADER_LENGTH, unpack_header};
 

@@ -9,7 +9,7 @@ use std::alloc::Global;
 
 impl Board {
     ghost use Rattle.ring_board.specs.Runs.{AreRuns};
-    ghost use Rattle.ring_board.specs.Steps.{fewer, newcomer, joined};
+    ghost use Rattle.ring_board.specs.Views.{fewer, newcomer, joined};
     ghost use Rattle.ring_board.specs.Refusals.{subscribe_refusal_of, IsSubscribedUnless};
     ghost use Rattle.ring_board.specs.Seats.{view_of, shares_of, transmitted, IsTransmitterOf, IsReceiverOf, receiver_view, subscribed_at, copies_of};
 

@@ -5,12 +5,12 @@ ghost use Rattle.ring_board.specs.Seats.{IsSeatOf, IsSameSeat};
 use crate::board::{Board, RawRecord, Receiver, Transmitter};
 use crate::fault::Lapped;
 use crate::receiver::found::Front;
-use crate::shared::view::BoardSeat;
+use crate::shared::steps::BoardSeat;
 use ring_layout::{NoShares, has_spare_share, put_part, span};
 
 impl Board {
     ghost use Rattle.ring_board.specs.Runs.{AreRuns};
-    ghost use Rattle.ring_board.specs.Steps.{fewer, newcomer, joined};
+    ghost use Rattle.ring_board.specs.Views.{fewer, newcomer, joined};
     ghost use Rattle.ring_layout.specs.Refusals.{share_refusal_of, IsRefusedBy};
     ghost use Rattle.ring_board.specs.Seats.{view_of, shares_of, transmitted, IsTransmitterOf, IsRawOf, raw_view, raw_subscribed_at, answered_by};
 

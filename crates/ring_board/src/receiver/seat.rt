@@ -1,6 +1,6 @@
 //! How a receiver of either kind gets its seat.
 ghost use Rattle.std.specs.Prelude.{◌≡◌, ◌<◌};
-ghost use Rattle.ring_board.specs.Steps.{fewer, newcomer};
+ghost use Rattle.ring_board.specs.Views.{fewer, newcomer};
 ghost use Rattle.ring_board.specs.Seats.{IsRawOf, IsTransmitterOf, raw_view, shares_of, view_of};
 
 use crate::board::{Board, Receiver, Transmitter};

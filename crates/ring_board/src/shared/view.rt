@@ -1,7 +1,5 @@
 //! What a seat at the board's table knows. No value of these types is made, but of the shape.
-use atomic_table::{Seat, Table, TableRule};
 use ring_layout::Message;
-use std::alloc::Global;
 use std::collections::LinkedList;
 
 /// A transmitted message. Its transmission began at `before`, with padding up to `place`, where its record lies.
@@ -95,18 +93,3 @@ pub struct Shape {
     pub capacity: u32,
     pub start: u64,
 }
-
-/// What holds between any two steps.
-pub struct BoardRule;
-
-impl TableRule<(), View, Shape> for BoardRule {
-    ghost use Rattle.ring_board.specs.Rule.{Holds, opening_view};
-
-    ghost holds = { λ k s. Holds k.capacity k.start s };
-
-    ghost first = { λ k. opening_view k.capacity k.start };
-}
-
-pub type BoardTable = Table<(), View, Shape, BoardRule, Global>;
-
-pub type BoardSeat = Seat<(), View>;

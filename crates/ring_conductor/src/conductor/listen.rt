@@ -5,7 +5,7 @@ ghost use Rattle.ring_board.specs.Refusals.{subscribe_refusal_of, IsSubscribedUn
 ghost use Rattle.ring_board.specs.Runs.{AreRuns};
 ghost use Rattle.ring_board.specs.Seats.{shares_of, transmitted, IsTransmitterOf, IsReceiverOf};
 ghost use Rattle.ring_board.specs.Seats.{receiver_view, subscribed_at, copies_of};
-ghost use Rattle.ring_board.specs.Steps.{fewer, newcomer};
+ghost use Rattle.ring_board.specs.Views.{fewer, newcomer};
 ghost use Rattle.ring_counters.specs.Agree.{Agree};
 ghost use Rattle.ring_counters.specs.Manager.{registry_of, writes_of, IsManagerOf};
 ghost use Rattle.ring_counters.specs.Seats.{IsNewReaderOf, IsReaderOf, made_of, loads_of};

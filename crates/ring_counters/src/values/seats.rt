@@ -1,7 +1,8 @@
 //! The values of the counters, their writer and a reader.
 ghost use Rattle.std.specs.Prelude.{◌≡◌, ◌<◌, ◌≤◌, true, []};
 
-use crate::values::rule::{OneWriter, ValuesView};
+use crate::values::rule::OneWriter;
+use crate::values::view::ValuesView;
 use atomic_table::{Seat, Table};
 use std::alloc::Global;
 

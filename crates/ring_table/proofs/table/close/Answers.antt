@@ -1,6 +1,6 @@
 use Rattle.std.proofs.Common.{ℕ, List, subst}
 use Rattle.ring_table.specs.Closed.{IsClosed}
-use Rattle.ring_table.proofs.Closing.{closes, leaves_rest}
+use Rattle.ring_table.proofs.CloseLemmas.{closes, leaves_rest}
 use Rattle.ring_table.proofs.LawLemmas.{none_open}
 use Rattle.ring_table.proofs.table.close.Goals as goal
 

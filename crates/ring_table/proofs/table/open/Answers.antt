@@ -1,6 +1,6 @@
 use Rattle.std.proofs.Common.{sym, subst}
 use Rattle.ring_table.specs.Closed.{IsFresh}
-use Rattle.ring_table.proofs.Opening.{fresh_keeps}
+use Rattle.ring_table.proofs.OpenLemmas.{fresh_keeps}
 use Rattle.ring_table.proofs.table.open.Goals as goal
 
 pub of_words-requires : goal.of_words-requires

@@ -7,7 +7,8 @@ use Rattle.ring_board.specs.declared.shared.view.Record.{Record}
 use Rattle.ring_board.specs.declared.shared.view.Stage.TheVariants.{Written}
 use Rattle.ring_board.specs.Records.{end}
 use Rattle.ring_board.specs.Seats.{next_record}
-use Rattle.ring_board.specs.Steps.{Sat, record_at}
+use Rattle.ring_board.specs.Views.{Sat}
+use Rattle.ring_board.specs.TransmitterSteps.{record_at}
 use Rattle.ring_board.proofs.board.Board.fill.Goals as goal
 
 pub invariant_of-result : goal.invariant_of-result

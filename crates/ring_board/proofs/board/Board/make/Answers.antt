@@ -1,7 +1,7 @@
 use Rattle.std.proofs.Common.{rules, ◌≡◌, ℕ, ◌+◌, ◌/◌, set, sym, ap, ◌∙◌, arith}
 use Rattle.ring_board.specs.declared.shared.view.Shape.{Shape}
 use Rattle.ring_board.specs.Records.{end_of}
-use Rattle.ring_board.specs.Steps.{Sat}
+use Rattle.ring_board.specs.Views.{Sat}
 use Rattle.ring_board.specs.Layout.{tail_index, latest_index}
 use Rattle.ring_board.proofs.OpeningLemmas.{opened_as, capacity_whole, multiple}
 use Rattle.ring_board.proofs.board.Board.make.Goals as goal

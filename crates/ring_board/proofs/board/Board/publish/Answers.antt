@@ -1,7 +1,8 @@
 use Rattle.std.proofs.Common.{sym, ap, ◌∙◌}
 use Rattle.ring_board.specs.declared.shared.view.Record.{Record}
 use Rattle.ring_board.specs.Records.{end_of}
-use Rattle.ring_board.specs.Steps.{Sat, record_at}
+use Rattle.ring_board.specs.Views.{Sat}
+use Rattle.ring_board.specs.TransmitterSteps.{record_at}
 use Rattle.ring_board.proofs.PlaceLemmas.{end_snoc}
 use Rattle.ring_board.proofs.board.Board.publish.Goals as goal
 

@@ -6,7 +6,8 @@ use Rattle.ring_layout.specs.Places.{index}
 use Rattle.ring_board.specs.declared.shared.view.Draft.{Draft}
 use Rattle.ring_board.specs.declared.shared.view.Stage.{Stage}
 use Rattle.ring_board.specs.Records.{first_words}
-use Rattle.ring_board.specs.Steps.{Sat, at_stage, after_words, with_words}
+use Rattle.ring_board.specs.Views.{Sat, at_stage}
+use Rattle.ring_board.specs.TransmitterSteps.{after_words, with_words}
 use Rattle.ring_board.proofs.StoreLemmas.{words_long}
 use Rattle.ring_board.proofs.ByteLemmas.{first_words_snoc}
 use Rattle.ring_board.proofs.CallLemmas.{more_words}

@@ -1,7 +1,7 @@
 use Rattle.std.proofs.Common.{rules, ℕ, sym, ◌∙◌, subst, arith}
 use Rattle.ring_layout.specs.History.{IsMessage}
 use Rattle.ring_layout.specs.Places.{index}
-use Rattle.ring_board.proofs.TransmitLemmas.{stores_header}
+use Rattle.ring_board.proofs.TransmitterSteps.{stores_header}
 use Rattle.ring_board.proofs.board.Board.store_header.Goals as goal
 
 pub store-requires : goal.store-requires

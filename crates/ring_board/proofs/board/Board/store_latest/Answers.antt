@@ -1,5 +1,5 @@
 use Rattle.std.proofs.Common.{rules}
-use Rattle.ring_board.proofs.TransmitLemmas.{stores_latest}
+use Rattle.ring_board.proofs.TransmitterSteps.{stores_latest}
 use Rattle.ring_board.proofs.board.Board.store_latest.Goals as goal
 
 pub store-requires : goal.store-requires

@@ -1,6 +1,6 @@
 use Rattle.std.proofs.Common.{rules, sym, ◌∙◌, arith}
 use Rattle.ring_layout.specs.Places.{index}
-use Rattle.ring_board.proofs.TransmitLemmas.{stores_padding}
+use Rattle.ring_board.proofs.TransmitterSteps.{stores_padding}
 use Rattle.ring_board.proofs.board.Board.store_padding.Goals as goal
 
 pub store-requires : goal.store-requires

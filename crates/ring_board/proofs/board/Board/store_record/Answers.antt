@@ -9,7 +9,8 @@ use Rattle.ring_board.specs.declared.shared.view.Draft.{Draft}
 use Rattle.ring_board.specs.declared.shared.view.Record.{Record}
 use Rattle.ring_board.specs.declared.shared.view.Stage.TheVariants.{Written}
 use Rattle.ring_board.specs.Records.{words_of_body}
-use Rattle.ring_board.specs.Steps.{Sat, at_stage, draft, with_words, after_words, after_header}
+use Rattle.ring_board.specs.Views.{Sat, at_stage}
+use Rattle.ring_board.specs.TransmitterSteps.{draft, with_words, after_words, after_header}
 use Rattle.ring_board.proofs.TransmitLemmas.{written_as}
 use Rattle.ring_board.proofs.CallLemmas.{lawful_message}
 use Rattle.ring_board.proofs.board.Board.store_record.Goals as goal

@@ -1,5 +1,5 @@
 use Rattle.std.proofs.Common.{ℕ, ap, inr, arith}
-use Rattle.ring_board.specs.Steps.{Sat}
+use Rattle.ring_board.specs.Views.{Sat}
 use Rattle.ring_board.proofs.board.Board.take.Goals as goal
 
 pub load_intent-intent_after-requires-clause-loaded : goal.load_intent-intent_after-requires-clause-loaded

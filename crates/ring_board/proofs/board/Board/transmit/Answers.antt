@@ -8,7 +8,8 @@ use Rattle.ring_board.specs.declared.shared.view.Record.{Record}
 use Rattle.ring_board.specs.declared.shared.view.View.{View}
 use Rattle.ring_board.specs.declared.shared.view.Stage.TheVariants.{Written}
 use Rattle.ring_board.specs.Records.{end, end_of}
-use Rattle.ring_board.specs.Steps.{Sat, sent_on}
+use Rattle.ring_board.specs.Views.{Sat}
+use Rattle.ring_board.specs.TransmitterSteps.{sent_on}
 use Rattle.ring_board.specs.Seats.{next_record}
 use Rattle.ring_board.proofs.PlaceLemmas.{end_snoc}
 use Rattle.ring_board.proofs.CallLemmas.{lies_begun, sent_through}

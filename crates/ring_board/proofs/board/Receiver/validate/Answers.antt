@@ -1,7 +1,7 @@
 use Rattle.std.proofs.Common.{ℕ, ◌+◌, ◌<◌, ap, sym, ◌∙◌, subst, arith}
 use Rattle.std.proofs.lemmas.Bool.{leb-false, not-true}
 use Rattle.ring_board.specs.Bodies.{IsLoaded}
-use Rattle.ring_board.specs.Steps.{Sat}
+use Rattle.ring_board.specs.Views.{Sat}
 use Rattle.ring_board.proofs.RawLemmas.{answered_same}
 use Rattle.ring_board.proofs.board.Receiver.validate.Goals as goal
 

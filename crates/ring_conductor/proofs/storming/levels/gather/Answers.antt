@@ -1,6 +1,6 @@
 use Rattle.std.proofs.Common.{◌≡◌, refl, subst, arith}
 use Rattle.ring_board.specs.Seats.{receiver_view}
-use Rattle.ring_board.specs.Steps.{as_joined}
+use Rattle.ring_board.specs.Views.{as_joined}
 use Rattle.ring_conductor.specs.Asking.{producer_of, receiver_of, service_of}
 use Rattle.ring_conductor.specs.Storming.{deeds_of}
 use Rattle.ring_conductor.specs.Turns.{AreAnswered}

@@ -2,7 +2,7 @@ use Rattle.std.proofs.Common.{◌≡◌, ap, arith}
 use Rattle.ring_table.specs.Views.{View}
 use Rattle.ring_table.specs.ConsumerSteps.{ClearsWord}
 use Rattle.ring_table.proofs.Calls.{same_seat, record_step}
-use Rattle.ring_table.proofs.Clearing.{clears_word}
+use Rattle.ring_table.proofs.ClearLemmas.{clears_word}
 use Rattle.ring_table.proofs.steps.consumer.clear_word.Goals as goal
 
 pub store-requires : goal.store-requires

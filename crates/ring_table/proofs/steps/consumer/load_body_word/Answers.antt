@@ -2,7 +2,7 @@ use Rattle.std.proofs.Common.{◌≡◌, ap, refl, subst}
 use Rattle.ring_table.specs.Views.{View, logged}
 use Rattle.ring_table.specs.ConsumerSteps.{LoadsBody}
 use Rattle.ring_table.proofs.Calls.{same_seat, record_step}
-use Rattle.ring_table.proofs.Consuming.{loads_body}
+use Rattle.ring_table.proofs.ConsumeLemmas.{loads_body}
 use Rattle.ring_table.proofs.steps.consumer.load_body_word.Goals as goal
 
 pub load-requires : goal.load-requires

@@ -3,7 +3,7 @@ use Rattle.ring_table.specs.Views.{Logs}
 use Rattle.ring_table.specs.ProducerSteps.{Mine}
 use Rattle.ring_table.specs.ConsumerSteps.{LoadsHeader}
 use Rattle.ring_table.proofs.Calls.{same_seat, record_step}
-use Rattle.ring_table.proofs.Consuming.{loads_first}
+use Rattle.ring_table.proofs.ConsumeLemmas.{loads_first}
 use Rattle.ring_table.proofs.steps.consumer.load_first_header.Goals as goal
 
 pub load-requires : goal.load-requires

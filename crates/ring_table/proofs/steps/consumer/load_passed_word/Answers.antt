@@ -4,7 +4,7 @@ use native.Mathlib.Decide.{ℕ_discrete}
 use Rattle.ring_table.specs.Views.{View}
 use Rattle.ring_table.specs.ConsumerSteps.{LoadsPassed}
 use Rattle.ring_table.proofs.Calls.{same_seat, record_step}
-use Rattle.ring_table.proofs.Clearing.{loads_passed}
+use Rattle.ring_table.proofs.ClearLemmas.{loads_passed}
 use Rattle.ring_table.proofs.steps.consumer.load_passed_word.Goals as goal
 
 pub load-requires : goal.load-requires

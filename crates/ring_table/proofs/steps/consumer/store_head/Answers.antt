@@ -2,7 +2,7 @@ use Rattle.std.proofs.Common.{◌≡◌, ap, arith}
 use Rattle.ring_table.specs.Views.{View}
 use Rattle.ring_table.specs.ConsumerSteps.{StoresHead}
 use Rattle.ring_table.proofs.Calls.{same_seat, trailer_step}
-use Rattle.ring_table.proofs.Clearing.{stores_head}
+use Rattle.ring_table.proofs.ClearLemmas.{stores_head}
 use Rattle.ring_table.proofs.steps.consumer.store_head.Goals as goal
 
 pub store-requires : goal.store-requires

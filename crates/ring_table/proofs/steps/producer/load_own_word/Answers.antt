@@ -3,7 +3,7 @@ use Rattle.ring_table.specs.Staged.{AreRising}
 use Rattle.ring_table.specs.Views.{View, logged}
 use Rattle.ring_table.specs.ProducerSteps.{LoadsOwn}
 use Rattle.ring_table.proofs.Calls.{same_seat, record_step}
-use Rattle.ring_table.proofs.Loading.{loads_own}
+use Rattle.ring_table.proofs.LoadLemmas.{loads_own}
 use Rattle.ring_table.proofs.steps.producer.load_own_word.Goals as goal
 
 pub load-requires : goal.load-requires

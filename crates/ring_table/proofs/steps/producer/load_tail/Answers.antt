@@ -2,7 +2,7 @@ use Rattle.std.proofs.Common.{◌≡◌, ap, arith}
 use Rattle.ring_table.specs.Views.{View, Logs}
 use Rattle.ring_table.specs.ProducerSteps.{LoadsTail}
 use Rattle.ring_table.proofs.Calls.{same_seat, trailer_step}
-use Rattle.ring_table.proofs.Loading.{loads_tail}
+use Rattle.ring_table.proofs.LoadLemmas.{loads_tail}
 use Rattle.ring_table.proofs.steps.producer.load_tail.Goals as goal
 
 pub load-requires : goal.load-requires

@@ -6,7 +6,7 @@ use prog.Atomic.{either}
 use Rattle.ring_table.specs.Views.{Logs, View, Wanted}
 use Rattle.ring_table.specs.ProducerSteps.{MovesTail}
 use Rattle.ring_table.proofs.Calls.{same_seat, trailer_step}
-use Rattle.ring_table.proofs.Claiming.{moves_tail}
+use Rattle.ring_table.proofs.ClaimLemmas.{moves_tail}
 use Rattle.ring_table.proofs.steps.producer.move_tail.Goals as goal
 
 pub compare_exchange_with-requires : goal.compare_exchange_with-requires

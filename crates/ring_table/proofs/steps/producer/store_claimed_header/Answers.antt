@@ -7,7 +7,7 @@ use Rattle.ring_table.specs.Views.{View}
 use Rattle.ring_table.specs.ProducerSteps.{StoresClaimed}
 use Rattle.ring_table.proofs.Calls.{same_seat, record_step, after_change}
 use Rattle.ring_table.proofs.HeaderCalls.{packs_open}
-use Rattle.ring_table.proofs.Storing.{opens}
+use Rattle.ring_table.proofs.StoreLemmas.{opens}
 use Rattle.ring_table.proofs.steps.producer.store_claimed_header.Goals as goal
 
 pub store-requires : goal.store-requires

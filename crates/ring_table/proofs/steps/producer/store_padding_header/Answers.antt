@@ -6,7 +6,7 @@ use Rattle.ring_table.specs.Changes.{staged}
 use Rattle.ring_table.specs.Views.{View}
 use Rattle.ring_table.specs.ProducerSteps.{StoresPadding}
 use Rattle.ring_table.proofs.Calls.{same_seat, record_step, after_change}
-use Rattle.ring_table.proofs.Storing.{pads}
+use Rattle.ring_table.proofs.StoreLemmas.{pads}
 use Rattle.ring_table.proofs.steps.producer.store_padding_header.Goals as goal
 
 pub store-requires : goal.store-requires

@@ -2,7 +2,7 @@ use Rattle.std.proofs.Common.{◌≡◌, ap, arith}
 use Rattle.ring_table.specs.Views.{View}
 use Rattle.ring_table.specs.ProducerSteps.{MovesOwnTail}
 use Rattle.ring_table.proofs.Calls.{same_seat, trailer_step}
-use Rattle.ring_table.proofs.Claiming.{moves_own_tail}
+use Rattle.ring_table.proofs.ClaimLemmas.{moves_own_tail}
 use Rattle.ring_table.proofs.steps.producer.store_tail.Goals as goal
 
 pub store-requires : goal.store-requires

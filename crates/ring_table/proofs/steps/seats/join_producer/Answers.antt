@@ -1,7 +1,7 @@
 use Rattle.std.proofs.Common.{ap}
 use Rattle.ring_table.specs.ProducerSteps.{Mine}
 use Rattle.ring_table.proofs.Calls.{same_seat}
-use Rattle.ring_table.proofs.Seats.{joins_producer}
+use Rattle.ring_table.proofs.SplitLemmas.{joins_producer}
 use Rattle.ring_table.proofs.steps.seats.join_producer.Goals as goal
 
 pub join_seat-requires : goal.join_seat-requires

@@ -1,7 +1,7 @@
 use Rattle.std.proofs.Common.{ap}
 use Rattle.ring_table.specs.ProducerSteps.{Mine}
 use Rattle.ring_table.proofs.Calls.{same_seat}
-use Rattle.ring_table.proofs.Seats.{splits_consumer}
+use Rattle.ring_table.proofs.SplitLemmas.{splits_consumer}
 use Rattle.ring_table.proofs.steps.seats.split_consumer.Goals as goal
 
 pub split_seat-requires : goal.split_seat-requires

@@ -2,7 +2,7 @@ use Rattle.std.proofs.Common.{◌≡◌, ap, ◌+◌, ◌%◌, ◌^◌, arith}
 use Rattle.ring_table.specs.Views.{View}
 use Rattle.ring_table.specs.ServiceSteps.{DrawsId}
 use Rattle.ring_table.proofs.Calls.{same_seat, trailer_step}
-use Rattle.ring_table.proofs.Serving.{draws_id}
+use Rattle.ring_table.proofs.ServeLemmas.{draws_id}
 use Rattle.ring_table.proofs.steps.service.draw_correlation_id.Goals as goal
 
 pub fetch_add-requires : goal.fetch_add-requires

@@ -2,7 +2,7 @@ use Rattle.std.proofs.Common.{◌≡◌, ap, arith}
 use Rattle.ring_table.specs.Views.{View, Logs}
 use Rattle.ring_table.specs.ServiceSteps.{LoadsCache}
 use Rattle.ring_table.proofs.Calls.{same_seat, trailer_step}
-use Rattle.ring_table.proofs.Serving.{loads_cache}
+use Rattle.ring_table.proofs.ServeLemmas.{loads_cache}
 use Rattle.ring_table.proofs.steps.service.load_cache.Goals as goal
 
 pub load-requires : goal.load-requires

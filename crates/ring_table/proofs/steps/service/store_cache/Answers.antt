@@ -1,7 +1,7 @@
 use Rattle.std.proofs.Common.{◌≡◌, ap, arith}
 use Rattle.ring_table.specs.Views.{View}
 use Rattle.ring_table.proofs.Calls.{same_seat, trailer_step}
-use Rattle.ring_table.proofs.Serving.{stores_cache}
+use Rattle.ring_table.proofs.ServeLemmas.{stores_cache}
 use Rattle.ring_table.proofs.steps.service.store_cache.Goals as goal
 
 pub store-requires : goal.store-requires

@@ -2,7 +2,7 @@ use Rattle.std.proofs.Common.{◌∙◌, ◌+◌, [], ◌∷◌, ◌++◌, lengt
 use Rattle.ring_table.specs.Owners.{interleaved}
 use Rattle.ring_rings.specs.Seats.{claims_of, open_claims_of, shares_of, taken_of}
 use Rattle.ring_board.specs.Seats.{receiver_view}
-use Rattle.ring_board.specs.Steps.{as_joined}
+use Rattle.ring_board.specs.Views.{as_joined}
 use Rattle.ring_conductor.specs.Finishing.{joined_by}
 use Rattle.ring_conductor.specs.Storming.{sent_by}
 use Rattle.ring_conductor.specs.Asking.{service_of, services_of}

@@ -1,5 +1,5 @@
 use Rattle.std.proofs.Common.{arith, ◌∙◌, ap}
-use Rattle.ring_counters.specs.declared.values.rule.ValuesView.{ValuesView}
+use Rattle.ring_counters.specs.declared.values.view.ValuesView.{ValuesView}
 use Rattle.ring_counters.proofs.ValueSteps.{joins, learns}
 use Rattle.ring_counters.proofs.values.seats.CounterValues.join.Goals as goal
 

@@ -24,13 +24,13 @@ use Rattle.ring_table.specs.ProducerSteps.{Mine, HasClaim, Changes, StoresPaddin
 use Rattle.ring_table.proofs.StagedPlaces.{word_of_claim, one_at_place, one_at_position}
 use Rattle.ring_table.proofs.BodyWords.{length-with_word, body_word-with_word, bytes_of-with_word}
 use Rattle.ring_table.proofs.StagedWords.{staged_word-header, staged_word-padding, staged_word-stored, staged_word-staged, staged_word-opened, staged_word-written}
-use Rattle.ring_table.proofs.Histories.{MayReplace, MayReplaceAt, owned_by-edited, owned_by-edited_other, edited_one_here, get-edited, staged_end-edited, placed_edited}
+use Rattle.ring_table.proofs.HistoryLemmas.{MayReplace, MayReplaceAt, owned_by-edited, owned_by-edited_other, edited_one_here, get-edited, staged_end-edited, placed_edited}
 use Rattle.ring_table.proofs.OwnerLemmas.{rising_owned_by}
 use Rattle.ring_table.proofs.ReachLemmas.{Unsettled}
-use Rattle.ring_table.proofs.Knowing.{knows_after}
-use Rattle.ring_table.proofs.Seating.{sees_top_after, becomes}
-use Rattle.ring_table.proofs.Memories.{memory_edited, service_elsewhere, one_position, index_inside}
-use Rattle.ring_table.proofs.Loading.{HasUnsettled, Ok, stands}
+use Rattle.ring_table.proofs.KnowLemmas.{knows_after}
+use Rattle.ring_table.proofs.StepLemmas.{sees_top_after, becomes}
+use Rattle.ring_table.proofs.MemoryLemmas.{memory_edited, service_elsewhere, one_position, index_inside}
+use Rattle.ring_table.proofs.LoadLemmas.{HasUnsettled, Ok, stands}
 
 one_negated : (m n : ℕ) → neg_ℤ (pos m) ≡ neg_ℤ (pos n) → m ≡ n
 one_negated zero zero e = refl

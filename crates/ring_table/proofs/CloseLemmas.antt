@@ -12,8 +12,9 @@ use Rattle.ring_table.specs.Rule.{IsMemory, IsService, Kept}
 use Rattle.ring_table.specs.Closed.{IsClosed, restarted, LeavesRest}
 use Rattle.ring_table.proofs.OwnerLemmas.{owned_by-sole}
 use Rattle.ring_table.proofs.RestLemmas.{end_of-claims_of, staged_word_at-claims_of, splits, stored_rest, claims_of-restarted}
-use Rattle.ring_table.proofs.Sums.{there_or_past, total-sole}
-use Rattle.ring_table.proofs.Seating.{others_poor, sole_sees_top}
+use Rattle.ring_layout.proofs.Sums.{total-sole}
+use Rattle.ring_table.proofs.ListLemmas.{there_or_past}
+use Rattle.ring_table.proofs.StepLemmas.{others_poor, sole_sees_top}
 
 pub closes : (C start : ℕ) (words : List ℕ) (views : List View) → Kept C start words views → (id : ℕ) (v : View)
     → get_elem? views id ≡ some v → v.producer.shares ≡ 65536 → v.consumes ≡ true → IsClosed C start words v

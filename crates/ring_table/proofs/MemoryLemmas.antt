@@ -13,7 +13,7 @@ use Rattle.ring_table.specs.Owners.{OwnedHistory, all_of, edited}
 use Rattle.ring_table.specs.Views.{ConsumerView}
 use Rattle.ring_table.specs.Rule.{IsLawful, IsMemory, IsService}
 use Rattle.ring_table.proofs.StagedPlaces.{capacity_aligned, start_aligned}
-use Rattle.ring_table.proofs.Histories.{staged_end-append, placed_append, staged_word_at-append, MayReplaceAt, staged_end-edited, placed_edited, staged_word_at-edited}
+use Rattle.ring_table.proofs.HistoryLemmas.{staged_end-append, placed_append, staged_word_at-append, MayReplaceAt, staged_end-edited, placed_edited, staged_word_at-edited}
 use Rattle.ring_table.proofs.ReachLemmas.{reach_bounds, reach_aligned, reach_append, Unsettled, reach_edited}
 
 -- the word at i is neither the cached head nor one of ids and heartbeats, nor one without a name

@@ -17,12 +17,12 @@ use Rattle.ring_table.specs.Views.{Logs, View, Wanted, logged, with_producer, wi
 use Rattle.ring_table.specs.Rule.{Kept}
 use Rattle.ring_table.specs.ProducerSteps.{Mine, IsClaimable, MovesTail, MovesOwnTail}
 use Rattle.ring_table.proofs.StagedWords.{staged_word-fresh}
-use Rattle.ring_table.proofs.Histories.{staged_end-append, owned_by-append, owned_by-append_other}
-use Rattle.ring_table.proofs.Sums.{at_below}
-use Rattle.ring_table.proofs.Knowing.{knows_after}
-use Rattle.ring_table.proofs.Seating.{sole_sees_top, becomes}
-use Rattle.ring_table.proofs.Memories.{memory_appended, service_elsewhere}
-use Rattle.ring_table.proofs.Loading.{Ok, May, sees, end_below, tail_position}
+use Rattle.ring_table.proofs.HistoryLemmas.{staged_end-append, owned_by-append, owned_by-append_other}
+use Rattle.ring_table.proofs.ListLemmas.{at_below}
+use Rattle.ring_table.proofs.KnowLemmas.{knows_after}
+use Rattle.ring_table.proofs.StepLemmas.{sole_sees_top, becomes}
+use Rattle.ring_table.proofs.MemoryLemmas.{memory_appended, service_elsewhere}
+use Rattle.ring_table.proofs.LoadLemmas.{Ok, May, sees, end_below, tail_position}
 
 module _ (C start : ℕ) where
   -- a claim of n bytes joins the history at its end, where the tail is

@@ -18,9 +18,9 @@ use Rattle.ring_table.specs.ProducerSteps.{Mine}
 use Rattle.ring_table.specs.ConsumerSteps.{LoadsPassed, ClearsWord, StoresHead, StoresHeadBefore}
 use Rattle.ring_table.proofs.StagedPlaces.{capacity_aligned, start_aligned, nothing_behind}
 use Rattle.ring_table.proofs.ReachLemmas.{reach_bounds, reach_aligned, back_before_last}
-use Rattle.ring_table.proofs.Memories.{index_inside, not_inside, one_position}
-use Rattle.ring_table.proofs.Loading.{Ok, May, sees}
-use Rattle.ring_table.proofs.Consuming.{consumed}
+use Rattle.ring_table.proofs.MemoryLemmas.{index_inside, not_inside, one_position}
+use Rattle.ring_table.proofs.LoadLemmas.{Ok, May, sees}
+use Rattle.ring_table.proofs.ConsumeLemmas.{consumed}
 
 -- ---- the last of a list
 

@@ -14,13 +14,14 @@ use Rattle.ring_table.specs.Rule.{Knows, Kept, shares_of}
 use Rattle.ring_table.specs.ProducerSteps.{Mine, IsPosition, EndBelow, LoadsTail, LoadsHead, HasClaim, LoadsOwn}
 use Rattle.ring_table.proofs.StagedPlaces.{capacity_aligned, start_aligned, lies_in, LiesIn, end_aligned, places_aligned, word_of_claim}
 use Rattle.ring_table.proofs.StagedWords.{staged_word-stored}
-use Rattle.ring_table.proofs.Histories.{owned_at}
+use Rattle.ring_table.proofs.HistoryLemmas.{owned_at}
 use Rattle.ring_table.proofs.OwnerLemmas.{rising_owned_by}
 use Rattle.ring_table.proofs.ReachLemmas.{not_passed}
-use Rattle.ring_table.proofs.Sums.{set_own, total-least}
-use Rattle.ring_table.proofs.Knowing.{knows_seeing}
-use Rattle.ring_table.proofs.Seating.{sole_sees_top, sees_top_after, becomes}
-use Rattle.ring_table.proofs.Memories.{head_bounds}
+use Rattle.ring_layout.proofs.Sums.{total-least}
+use Rattle.ring_table.proofs.ListLemmas.{set_own}
+use Rattle.ring_table.proofs.KnowLemmas.{knows_seeing}
+use Rattle.ring_table.proofs.StepLemmas.{sole_sees_top, sees_top_after, becomes}
+use Rattle.ring_table.proofs.MemoryLemmas.{head_bounds}
 
 module _ (C start : ℕ) where
   abbrev pub Ok : State Wanted View → Type 0

@@ -7,10 +7,12 @@ use lib.ListN.{get_elem?}
 use Rattle.atomic_table.proofs.Lists.{set_here, set_else}
 use Rattle.ring_table.specs.Staged.{staged_end}
 use Rattle.ring_table.specs.Owners.{OwnedHistory, all_of, owned_by}
-use Rattle.ring_table.specs.Services.{total, times_drawn, once_below}
+use Rattle.ring_layout.specs.Lists.{total}
+use Rattle.ring_table.specs.Services.{times_drawn, once_below}
 use Rattle.ring_table.specs.Views.{ConsumerView, View, spent}
 use Rattle.ring_table.specs.Rule.{IsMemory, IsService, Knows, SeesTop, IsSeated, Kept, shares_of}
-use Rattle.ring_table.proofs.Sums.{at_below, each_after_set, total-set, total-zero}
+use Rattle.ring_layout.proofs.Sums.{total-set, total-zero}
+use Rattle.ring_table.proofs.ListLemmas.{at_below, each_after_set}
 
 -- what an entry that is known is, by two reports of it
 pub one_view : (views : List View) (i j : ℕ) (u v : View) → get_elem? views i ≡ some u → get_elem? views j ≡ some v

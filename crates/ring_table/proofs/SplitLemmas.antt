@@ -9,15 +9,17 @@ use Rattle.atomic_table.specs.Table.{State, Splits, Joins}
 use Rattle.atomic_table.proofs.Lists.{at_set, at_longer, set_here, set_else}
 use Rattle.ring_table.specs.Staged.{staged_end}
 use Rattle.ring_table.specs.Owners.{OwnedHistory, all_of, owned_by, interleaved, handed_over}
-use Rattle.ring_table.specs.Services.{Service, total, times, times_drawn}
+use Rattle.ring_layout.specs.Lists.{total}
+use Rattle.ring_table.specs.Services.{Service, times, times_drawn}
 use Rattle.ring_table.specs.Views.{ConsumerView, View, Wanted, without_consumer, consumer_alone, with_consumer_of, without_share, producer_alone, with_producer_of, spent}
 use Rattle.ring_table.specs.Rule.{IsMemory, Knows, IsSeated, Kept, shares_of}
 use Rattle.ring_table.proofs.OwnerLemmas.{all_of-handed_over, owned_by-handed_over, owned_by-handed_away, owned_by-handed_over_other}
 use Rattle.ring_table.proofs.ServiceLemmas.{served_append}
-use Rattle.ring_table.proofs.Sums.{at_below, at_more, each_after_set, total-append}
-use Rattle.ring_table.proofs.Knowing.{knows_after, knows_new, knows_on, knows_served}
-use Rattle.ring_table.proofs.Seating.{one_view, sees_top_after}
-use Rattle.ring_table.proofs.SeatSums.{total-parted, total-met}
+use Rattle.ring_layout.proofs.Sums.{total-append}
+use Rattle.ring_table.proofs.ListLemmas.{at_below, at_more, each_after_set}
+use Rattle.ring_table.proofs.KnowLemmas.{knows_after, knows_new, knows_on, knows_served}
+use Rattle.ring_table.proofs.StepLemmas.{one_view, sees_top_after}
+use Rattle.ring_table.proofs.SplitSums.{total-parted, total-met}
 
 -- the left one has what v had but for shares of the right one, which has drawn nothing
 record CutsIn (v left right : View) : Type 0 where

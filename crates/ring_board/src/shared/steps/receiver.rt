@@ -1,18 +1,17 @@
 //! The receivers' steps: each is one load.
-ghost use Rattle.std.specs.Prelude.{◌≡◌, ℕ, ◌+◌, ◌*◌, ◌/◌, ◌<◌, List, [], length};
+ghost use Rattle.std.specs.Prelude.{◌≡◌, ◌+◌, ◌*◌, ◌/◌, ◌<◌, length, ℕ, List};
 ghost use Rattle.ring_layout.specs.Places.{index};
-ghost use Rattle.ring_board.specs.declared.shared.view.Stage.TheVariants.{Idle, Resting, Reading, Behind};
+ghost use Rattle.ring_board.specs.declared.shared.view.Stage.TheVariants.{Resting, Reading, Behind};
 ghost use Rattle.ring_board.specs.Records.{body_len, word_count};
-ghost use Rattle.ring_board.specs.Steps.{IsHeaderPlace, IsUnread, IsComplete, LoadsTail, LoadsHeader, LoadsWord, LoadsIntent, AnswersEntry, LoadsLatest, Learns, fewer, newcomer, joined};
-ghost use Rattle.ring_board.specs.Bodies.{LoadsUnread, ChecksAnswered};
 ghost use Rattle.ring_board.specs.Seats.{IsSeatOf, IsSameSeat};
+ghost use Rattle.ring_board.specs.ReceiverSteps.{IsHeaderPlace, IsUnread, IsComplete, LoadsTail, LoadsHeader, LoadsWord, LoadsIntent, AnswersEntry, LoadsLatest};
+ghost use Rattle.ring_board.specs.Bodies.{LoadsUnread, ChecksAnswered};
 
 use crate::board::Board;
-use crate::shared::plays::{
-    AnswerEntry, CheckAnswered, Learn, LoadHeader, LoadIntent, LoadLatest, LoadTail, LoadUnread,
-    LoadWord, SplitOff, TakeIn,
+use crate::shared::plays::receiver::{
+    AnswerEntry, CheckAnswered, LoadHeader, LoadIntent, LoadLatest, LoadTail, LoadUnread, LoadWord,
 };
-use crate::shared::view::BoardSeat;
+use crate::shared::steps::BoardSeat;
 use ring_layout::broadcast_buffer_descriptor::{
     LATEST_COUNTER_WORD, TAIL_COUNTER_WORD, TAIL_INTENT_COUNTER_WORD,
 };
@@ -111,39 +110,5 @@ impl Board {
         self.table
             .shared
             .load::<LoadLatest>(seat, self.trailer_index(LATEST_COUNTER_WORD))
-    }
-
-    /// Loads latest for the transmitter, which learns of a receiver that it took in.
-    pub(crate) fn learn(&self, seat: &mut BoardSeat) -> u64
-        requires seat { IsSeatOf self.now seat.old }
-        requires stage { seat.old.me.0.stage ≡ Idle }
-        ensures same { IsSameSeat seat.old seat.new }
-        ensures learned { Learns seat.old.me result seat.new.me }
-    {
-        self.table
-            .shared
-            .load::<Learn>(seat, self.trailer_index(LATEST_COUNTER_WORD))
-    }
-
-    /// Gives a share of the transmitter to a new receiver at latest.
-    pub(crate) fn split_off(&self, seat: &mut BoardSeat) -> BoardSeat
-        requires seat { IsSeatOf self.now seat.old }
-        requires stage { (seat.old.me.0.stage ≡ Idle) × (0 < seat.old.me.0.shares) }
-        ensures same { IsSameSeat seat.old seat.new }
-        ensures kept { seat.new.me ≡ (fewer seat.old.me.0, seat.old.me.1) }
-        ensures given { (result.table_id ≡ seat.old.table_id) × (result.me ≡ (newcomer seat.old.me.0, [])) }
-    {
-        self.table.shared.split_seat::<SplitOff>(seat)
-    }
-
-    /// Takes a receiver's share back.
-    pub(crate) fn take_in(&self, seat: &mut BoardSeat, other: BoardSeat)
-        requires seat { IsSeatOf self.now seat.old }
-        requires other { (other.table_id ≡ self.now.table.shared.table_id) × (other.me.1 ≡ []) }
-        requires stage { seat.old.me.0.stage ≡ Idle }
-        ensures same { IsSameSeat seat.old seat.new }
-        ensures joined { seat.new.me ≡ (joined seat.old.me.0 other.me.0, seat.old.me.1) }
-    {
-        self.table.shared.join_seat::<TakeIn>(seat, other);
     }
 }

@@ -8,7 +8,7 @@ use Rattle.ring_table.specs.Views.{View, first_view, consumer_from}
 use Rattle.ring_table.specs.Rule.{IsLawful, Knows, Kept}
 use Rattle.ring_table.specs.Closed.{IsFresh}
 use Rattle.ring_table.proofs.StagedPlaces.{start_aligned}
-use Rattle.ring_table.proofs.Memories.{index_inside}
+use Rattle.ring_table.proofs.MemoryLemmas.{index_inside}
 
 pub fresh_keeps : (C start : ℕ) (words : List ℕ) → IsLawful C start → start ≤ max_position → IsFresh C start words
     → Kept C start words (first_view (record { capacity = C; start = start }) ∷ [])

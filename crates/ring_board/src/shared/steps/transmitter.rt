@@ -1,4 +1,4 @@
-//! The transmitter's steps: each is one store.
+//! The transmitter's steps: each is one store, or the load of latest by which it learns of a receiver.
 ghost use Rattle.std.specs.Prelude.{◌≡◌, ◌+◌, ◌-◌, ◌*◌, ◌/◌, ◌%◌, ◌<◌, ◌≤◌, [], length};
 ghost use Rattle.ring_layout.specs.declared.message.Message.{Message};
 ghost use Rattle.ring_layout.specs.History.{IsMessage, span};
@@ -8,36 +8,21 @@ ghost use Rattle.ring_board.specs.declared.shared.view.Record.{Record};
 ghost use Rattle.ring_board.specs.declared.shared.view.Draft.{Draft};
 ghost use Rattle.ring_board.specs.declared.shared.view.Stage.TheVariants.{Idle, Begun, Storing, Written, Shown};
 ghost use Rattle.ring_board.specs.Records.{end, Lies, words_of_body, header_of};
-ghost use Rattle.ring_board.specs.Steps.{at_stage, place_before, after_words, StoresIntent, StoresPadding, StoresWord, StoresHeader, StoresLatest, StoresTail};
+ghost use Rattle.ring_board.specs.Views.{at_stage};
+ghost use Rattle.ring_board.specs.TransmitterSteps.{place_before, after_words, StoresIntent, StoresPadding, StoresWord, StoresHeader, StoresLatest, StoresTail, Learns};
 ghost use Rattle.ring_board.specs.Seats.{IsSeatOf, IsSameSeat};
 
 use crate::board::Board;
-use crate::shared::plays::{
-    StoreHeader, StoreIntent, StoreLatest, StorePadding, StoreTail, StoreWord,
+use crate::shared::plays::transmitter::{
+    Learn, StoreHeader, StoreIntent, StoreLatest, StorePadding, StoreTail, StoreWord,
 };
-use crate::shared::view::BoardSeat;
+use crate::shared::steps::BoardSeat;
 use ring_layout::broadcast_buffer_descriptor::{
     LATEST_COUNTER_WORD, TAIL_COUNTER_WORD, TAIL_INTENT_COUNTER_WORD,
 };
-use ring_layout::{first_word, word_index};
+use ring_layout::first_word;
 
 impl Board {
-    /// The index of the word at a position.
-    pub(crate) fn index(&self, position: u64) -> usize
-        ensures { (result ≡ index self.now.capacity position) × (result < self.now.capacity / 8) }
-    {
-        word_index(self.capacity, position)
-    }
-
-    /// The index of a word of the trailer.
-    pub(crate) fn trailer_index(&self, word: usize) -> usize
-        requires { word < 16 }
-        ensures lies { result ≡ self.now.table.shared.key.capacity / 8 + word }
-        ensures inside { result < self.now.table.shared.table_id.words }
-    {
-        self.capacity as usize / 8 + word
-    }
-
     /// Stores the intent: a transmission begins that is to end at `end`.
     pub(crate) fn store_intent(&self, seat: &mut BoardSeat, end: u64)
         requires seat { IsSeatOf self.now seat.old }
@@ -132,5 +117,17 @@ impl Board {
         for k in 0..body.len().div_ceil(8) {
             self.store_word(seat, first + k, first_word(&body[8 * k..]));
         }
+    }
+
+    /// Loads latest for the transmitter, which learns of a receiver that it took in.
+    pub(crate) fn learn(&self, seat: &mut BoardSeat) -> u64
+        requires seat { IsSeatOf self.now seat.old }
+        requires stage { seat.old.me.0.stage ≡ Idle }
+        ensures same { IsSameSeat seat.old seat.new }
+        ensures learned { Learns seat.old.me result seat.new.me }
+    {
+        self.table
+            .shared
+            .load::<Learn>(seat, self.trailer_index(LATEST_COUNTER_WORD))
     }
 }

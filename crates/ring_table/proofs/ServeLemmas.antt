@@ -10,11 +10,11 @@ use Rattle.ring_table.specs.Views.{Logs, ConsumerView, View, logged, with_produc
 use Rattle.ring_table.specs.Rule.{Kept}
 use Rattle.ring_table.specs.ProducerSteps.{Mine}
 use Rattle.ring_table.specs.ServiceSteps.{LoadsCache, DrawsId, LoadsHeartbeat}
-use Rattle.ring_table.proofs.Knowing.{knows_on, knows_served}
-use Rattle.ring_table.proofs.Seating.{sole_sees_top, sees_top_after, becomes}
-use Rattle.ring_table.proofs.Memories.{head_bounds, memory_elsewhere}
+use Rattle.ring_table.proofs.KnowLemmas.{knows_on, knows_served}
+use Rattle.ring_table.proofs.StepLemmas.{sole_sees_top, sees_top_after, becomes}
+use Rattle.ring_table.proofs.MemoryLemmas.{head_bounds, memory_elsewhere}
 use Rattle.ring_table.proofs.ServiceLemmas.{rising_append, times_drawn-more, heartbeats_append, served_draw_more, served_heartbeat_more}
-use Rattle.ring_table.proofs.Loading.{Ok, looked, sees}
+use Rattle.ring_table.proofs.LoadLemmas.{Ok, looked, sees}
 
 module _ (C start : ℕ) where
   pub loads_cache : (slots id : ℕ) (me : Mine) → me.0.capacity ≡ C

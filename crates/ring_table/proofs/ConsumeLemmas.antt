@@ -22,11 +22,11 @@ use Rattle.ring_table.specs.ConsumerSteps.{with_scan, rounded, IsInside, LoadsHe
 use Rattle.ring_table.proofs.StagedPlaces.{capacity_aligned, start_aligned}
 use Rattle.ring_table.proofs.ReachLemmas.{reach_bounds, reach_aligned, shows_body}
 use Rattle.ring_table.proofs.HeaderReads.{low_half, halves, Leads, leads}
-use Rattle.ring_table.proofs.Sums.{set_own}
-use Rattle.ring_table.proofs.Knowing.{knows_on}
-use Rattle.ring_table.proofs.Seating.{sees_top_after, becomes}
-use Rattle.ring_table.proofs.Memories.{GoesOn, IsNoService, index_inside, not_inside, service_elsewhere}
-use Rattle.ring_table.proofs.Loading.{Ok, May, sees}
+use Rattle.ring_table.proofs.ListLemmas.{set_own}
+use Rattle.ring_table.proofs.KnowLemmas.{knows_on}
+use Rattle.ring_table.proofs.StepLemmas.{sees_top_after, becomes}
+use Rattle.ring_table.proofs.MemoryLemmas.{GoesOn, IsNoService, index_inside, not_inside, service_elsewhere}
+use Rattle.ring_table.proofs.LoadLemmas.{Ok, May, sees}
 
 -- ---- headers
 

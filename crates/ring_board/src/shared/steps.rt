@@ -1,0 +1,38 @@
+//! One small function for each kind of step. Each is one load or store of one word.
+pub(crate) mod receiver;
+pub(crate) mod seats;
+pub(crate) mod transmitter;
+
+ghost use Rattle.std.specs.Prelude.{◌≡◌, ◌+◌, ◌/◌, ◌<◌};
+ghost use Rattle.ring_layout.specs.Places.{index};
+
+use crate::board::Board;
+use crate::shared::rule::BoardRule;
+use crate::shared::view::{Shape, View};
+use atomic_table::{Seat, Table};
+use ring_layout::word_index;
+use std::alloc::Global;
+
+/// The words of a board, as threads share them.
+pub type BoardTable = Table<(), View, Shape, BoardRule, Global>;
+
+/// A seat at a board's table: the transmitter's or a receiver's. It has no bytes.
+pub type BoardSeat = Seat<(), View>;
+
+impl Board {
+    /// The index of the word at a position.
+    pub(crate) fn index(&self, position: u64) -> usize
+        ensures { (result ≡ index self.now.capacity position) × (result < self.now.capacity / 8) }
+    {
+        word_index(self.capacity, position)
+    }
+
+    /// The index of a word of the trailer.
+    pub(crate) fn trailer_index(&self, word: usize) -> usize
+        requires { word < 16 }
+        ensures lies { result ≡ self.now.table.shared.key.capacity / 8 + word }
+        ensures inside { result < self.now.table.shared.table_id.words }
+    {
+        self.capacity as usize / 8 + word
+    }
+}

@@ -1,0 +1,28 @@
+-- What the tests of a read tell.
+use Rattle.std.proofs.Common.{◌≡◌, ◌≢◌, ℕ, ◌-◌, ◌%◌, ◌<◌, refl, ap, sym, ◌∙◌, arith, inl, inr, ℤ, FitsSigned, to_z, of_z, nat_lt, ◌&&◌, ◌==◌, false}
+use Rattle.std.specs.Int.{w32}
+use Rattle.std.proofs.lemmas.Int.{to_z-of_z}
+use Rattle.std.proofs.lemmas.Bool.{and_cases, ltb-false, eqb-false}
+use Rattle.ring_words.specs.declared.read.action.Action.{Action}
+use Rattle.ring_layout.specs.Headers.{padding_type}
+use Rattle.ring_words.specs.Controlled.{GoesOn}
+use Rattle.ring_words.specs.declared.read.action.Action.TheVariants.{Abort, Break, Commit, Continue}
+
+-- an action that is neither Abort nor Break
+pub goes_on : (a : Action) → a ≢ Abort → a ≢ Break → GoesOn a
+goes_on Abort na nb = absurd (na refl)
+goes_on Break na nb = absurd (nb refl)
+goes_on Commit na nb = tt
+goes_on Continue na nb = tt
+
+-- what the test for the end of the buffer tells
+pub inside_from : (C start head : ℕ) → (nat_lt start head && (head % C == 0)) ≡ false → start < head → head % C ≢ 0
+inside_from C start head test lt e =
+    elim (and_cases (nat_lt start head) (head % C == 0) test) as (λ _. ⊥) [
+      | inl h ↦ let bad = ltb-false start head h in omega arith
+      | inr h ↦ eqb-false (head % C) 0 h e
+    ]
+
+-- what the test for padding tells
+pub padding_from : (t : ℤ) → FitsSigned w32 t → of_z w32 t ≡ 4294967295 → t ≡ padding_type
+padding_from t f e = sym (to_z-of_z w32 t f) ∙ ap (to_z w32) e
