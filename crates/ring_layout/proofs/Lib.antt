@@ -4,5 +4,4 @@ pub mod PictureLemmas
 pub mod WordBytes
 pub mod CapacityLemmas
 pub mod HeaderLemmas
-pub mod ListLemmas
 pub mod Sums
