@@ -22,7 +22,8 @@ use Rattle.ring_board.specs.Layout.{intent_index}
 use Rattle.ring_board.specs.Records.{end, end_of, words_of_body, word_count, bytes_of, gap}
 use Rattle.ring_board.specs.Rule.{IsBoard, Holds, intent}
 use Rattle.ring_board.specs.Views.{Sat, logged}
-use Rattle.ring_board.specs.Bodies.{WasLoaded, WereLoaded, IsLoaded, AreRight, IsRight, GaveBody, Validated, LoadsUnread, ChecksAnswered}
+use Rattle.ring_board.specs.Bodies.{WasLoaded, WereLoaded, IsLoaded, AreRight, IsRight, GaveBody, Validated}
+use Rattle.ring_board.specs.ReceiverSteps.{LoadsUnread, ChecksAnswered}
 use Rattle.ring_board.proofs.StoreLemmas.{append_nil, at_behind, words_long}
 use Rattle.ring_board.proofs.ByteLemmas.{body_back}
 use Rattle.ring_board.proofs.FoundLemmas.{bytes_of_snoc}

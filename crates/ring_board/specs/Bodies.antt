@@ -1,16 +1,15 @@
 -- Bodies that a raw receiver loads, and validates.
-use Rattle.std.specs.Prelude.{◌≡◌, ℕ, Bool, ◌+◌, ◌*◌, ◌<◌, ◌≤◌, nat_lt, List, ◌++◌, length, take, slice_index}
+use Rattle.std.specs.Prelude.{◌≡◌, ℕ, Bool, ◌+◌, ◌*◌, ◌<◌, nat_lt, List, ◌++◌, length, take, slice_index}
 use mathlib.Core.Option.{some}
 use lib.ListN.{get_elem?}
 use Rattle.ring_layout.specs.Places.{index}
-use Rattle.ring_layout.specs.History.{span}
 use Rattle.ring_board.specs.declared.shared.view.Taken.{Taken}
 use Rattle.ring_board.specs.declared.shared.view.View.{View}
 use Rattle.ring_board.specs.declared.shared.view.Load.{Load}
 use Rattle.ring_board.specs.declared.shared.view.Load.TheVariants.{Word, Intent}
 use Rattle.ring_board.specs.declared.board.RawRecord.{RawRecord}
 use Rattle.ring_board.specs.Records.{word_count, bytes_of}
-use Rattle.ring_board.specs.Views.{Sat, logged, last_tail}
+use Rattle.ring_board.specs.Views.{Sat, logged}
 
 -- the word w was loaded at the position p, when the tail was beyond it
 abbrev pub WasLoaded : ℕ → List Load → ℕ → ℕ → Type 0
@@ -46,14 +45,3 @@ IsRight v r = (n : ℕ) (c : Taken) (body : List ℕ) → get_elem? v.copies n �
 -- an intent was loaded, all else is as before, and the answer is whether it lies below the place plus the capacity
 abbrev pub Validated : RawRecord → Bool → Sat → Sat → Type 0
 Validated r valid m m' = (x : ℕ) × (m' ≡ (logged m.0 (Intent x), m.1)) × (valid ≡ nat_lt x (r.place + m.0.capacity))
-
--- The steps ----------------------------------------------------------------
-
--- a word was loaded, and the tail was t, which is no less than the one seen last, nor than the end of any record that
--- was answered
-abbrev pub LoadsUnread : ℕ → Sat → ℕ → Sat → Type 0
-LoadsUnread i m x m' = (t : ℕ) × (m' ≡ (logged m.0 (Word i t x), m.1)) × (last_tail m.0.log 0 ≤ t)
-    × ((n : ℕ) (c : Taken) → get_elem? m.0.copies n ≡ some c → c.place + span (length c.message.body) ≤ t)
-
-abbrev pub ChecksAnswered : Sat → ℕ → Sat → Type 0
-ChecksAnswered m x m' = (m' ≡ (logged m.0 (Intent x), m.1)) × AreRight m.0 x

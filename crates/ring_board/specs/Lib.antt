@@ -3,9 +3,9 @@ pub mod Records
 pub mod Runs
 pub mod Rule
 pub mod Views
+pub mod Bodies
 pub mod TransmitterSteps
 pub mod ReceiverSteps
-pub mod Bodies
 pub mod Refusals
 pub mod Seats
 pub mod Lending

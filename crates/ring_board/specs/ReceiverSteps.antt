@@ -1,15 +1,18 @@
 -- What each step of a receiver tells its seat.
 use Rattle.std.specs.Prelude.{◌≡◌, ℕ, ◌+◌, ◌-◌, ◌/◌, ◌%◌, ◌<◌, ◌≤◌, suc, if◌then◌else◌, nat_lt, List, [], ◌∷◌, ◌++◌, length, true, false, ◌⊎◌}
+use mathlib.Core.Option.{some}
+use lib.ListN.{get_elem?}
 use Rattle.ring_layout.specs.declared.message.Message.{Message}
 use Rattle.ring_layout.specs.History.{span}
 use Rattle.ring_layout.specs.Places.{max_position}
-use Rattle.ring_board.specs.declared.shared.view.Load.TheVariants.{Intent, Tail, Latest}
+use Rattle.ring_board.specs.declared.shared.view.Load.TheVariants.{Word, Intent, Tail, Latest}
 use Rattle.ring_board.specs.declared.shared.view.Stage.TheVariants.{Resting, Sure, Headed, Padded, Again, Reading, Behind}
 use Rattle.ring_board.specs.declared.shared.view.Taken.{Taken}
 use Rattle.ring_board.specs.declared.shared.view.View.{View}
 use Rattle.ring_board.specs.declared.shared.view.Stage.{Stage}
 use Rattle.ring_board.specs.Records.{word_count, announced, body_len, is_padding, message_in, message_of}
-use Rattle.ring_board.specs.Views.{Sat, at_stage, logged, word_load}
+use Rattle.ring_board.specs.Views.{Sat, at_stage, logged, last_tail, word_load}
+use Rattle.ring_board.specs.Bodies.{AreRight}
 
 abbrev pub tail_loaded : View → ℕ → View
 tail_loaded v x = record v { stage = if nat_lt v.at x then Sure else Resting; log = v.log ++ Tail x ∷ [] }
@@ -111,3 +114,14 @@ latest_loaded v k x = record v { stage = Resting; at = x; next = k; count = suc 
 abbrev pub LoadsLatest : Sat → ℕ → Sat → Type 0
 LoadsLatest m x m' =
     (k : ℕ) × (m' ≡ (latest_loaded m.0 k x, m.1)) × (suc m.0.count ≤ x) × (x ≤ max_position) × (m.0.at < x)
+
+-- ---- bodies of records that were answered
+
+-- a word was loaded, and the tail was t, which is no less than the one seen last, nor than the end of any record that
+-- was answered
+abbrev pub LoadsUnread : ℕ → Sat → ℕ → Sat → Type 0
+LoadsUnread i m x m' = (t : ℕ) × (m' ≡ (logged m.0 (Word i t x), m.1)) × (last_tail m.0.log 0 ≤ t)
+    × ((n : ℕ) (c : Taken) → get_elem? m.0.copies n ≡ some c → c.place + span (length c.message.body) ≤ t)
+
+abbrev pub ChecksAnswered : Sat → ℕ → Sat → Type 0
+ChecksAnswered m x m' = (m' ≡ (logged m.0 (Intent x), m.1)) × AreRight m.0 x

@@ -1,8 +1,7 @@
 //! What the receivers' steps tell. A load of a counter tells that the step was one of that counter's word.
 ghost use Rattle.std.specs.Prelude.{◌≡◌};
 ghost use Rattle.ring_board.specs.Layout.{intent_index, tail_index, latest_index};
-ghost use Rattle.ring_board.specs.ReceiverSteps.{LoadsTail, LoadsHeader, LoadsWord, LoadsIntent, AnswersEntry, LoadsLatest};
-ghost use Rattle.ring_board.specs.Bodies.{LoadsUnread, ChecksAnswered};
+ghost use Rattle.ring_board.specs.ReceiverSteps.{LoadsTail, LoadsHeader, LoadsWord, LoadsIntent, AnswersEntry, LoadsLatest, LoadsUnread, ChecksAnswered};
 
 use crate::shared::view::View;
 use atomic_table::Play;

@@ -4,8 +4,7 @@ ghost use Rattle.ring_layout.specs.Places.{index};
 ghost use Rattle.ring_board.specs.declared.shared.view.Stage.TheVariants.{Resting, Reading, Behind};
 ghost use Rattle.ring_board.specs.Records.{body_len, word_count};
 ghost use Rattle.ring_board.specs.Seats.{IsSeatOf, IsSameSeat};
-ghost use Rattle.ring_board.specs.ReceiverSteps.{IsHeaderPlace, IsUnread, IsComplete, LoadsTail, LoadsHeader, LoadsWord, LoadsIntent, AnswersEntry, LoadsLatest};
-ghost use Rattle.ring_board.specs.Bodies.{LoadsUnread, ChecksAnswered};
+ghost use Rattle.ring_board.specs.ReceiverSteps.{IsHeaderPlace, IsUnread, IsComplete, LoadsTail, LoadsHeader, LoadsWord, LoadsIntent, AnswersEntry, LoadsLatest, LoadsUnread, ChecksAnswered};
 
 use crate::board::Board;
 use crate::shared::plays::receiver::{
