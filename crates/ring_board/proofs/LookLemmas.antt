@@ -24,8 +24,9 @@ use Rattle.ring_board.proofs.PlaceLemmas.{lies_after, lies_needed, chain_at}
 use Rattle.ring_board.proofs.StoreLemmas.{at_behind, placed_at, words_long}
 use Rattle.ring_board.proofs.ByteLemmas.{announced_header, announced_padding}
 use Rattle.ring_layout.proofs.Sums.{total-set}
-use Rattle.ring_board.proofs.SeatLemmas.{St, seats_stay}
+use Rattle.ring_board.proofs.SeatLemmas.{St}
 use Rattle.ring_board.proofs.ShownLemmas.{shown_at, shown_has, shown_end}
+use Rattle.ring_layout.proofs.ListLemmas.{each_set}
 
 take_next : (l : List ℕ) (k : ℕ) → k < length l → take (suc k) l ≡ take k l ++ get_or l k 0 ∷ []
 take_next [] k h = absurd (omega arith)
@@ -95,7 +96,7 @@ module _ (C e : ℕ) (s : St) (by : ℕ) (mine : View) (h : IsBoard C e by mine 
             started = seats.started;
             behind = seats.behind;
             each =
-                seats_stay (IsSeat C e by mine) s.views id w (record { knows = mine_knows; copies = runs; log = logs })
+                each_set (IsSeat C e by mine) s.views id w (record { knows = mine_knows; copies = runs; log = logs })
                 (λ j u _ on. seats.each j u on);
             joined = seats.joined;
             shares = let a = total-set view_shares s.views id v w at in let b = seats.shares in omega arith;

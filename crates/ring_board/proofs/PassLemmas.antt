@@ -19,7 +19,8 @@ use Rattle.ring_board.specs.Views.{Sat, as_joined, fewer, newcomer, joined, spen
 use Rattle.ring_board.specs.TransmitterSteps.{Learns}
 use Rattle.ring_board.proofs.PlaceLemmas.{chain_last, last_low}
 use Rattle.ring_board.proofs.OpeningLemmas.{no_copies, no_log}
-use Rattle.ring_board.proofs.SeatLemmas.{in_list, seats_stay, knows_moves, owner}
+use Rattle.ring_board.proofs.SeatLemmas.{knows_moves, owner}
+use Rattle.ring_layout.proofs.ListLemmas.{at_below, each_set}
 
 -- the last of a list that is not empty
 last_entry : (x : Record) (l : List Record) → (q : Record) × (get_elem? (x ∷ l) (length l) ≡ some q)
@@ -41,7 +42,7 @@ module _ (C e : ℕ) where
       let h = owner C e s b id v Idle (λ by mine k. k) at eq in let w : View = fewer v in
       let u : View = newcomer v in let start = h.seated.started in
       let here : get_elem? (set s.views id w) id ≡ some w =
-      set_here s.views id w (in_list s.views id v h.seated.here) in
+      set_here s.views id w (at_below s.views id v h.seated.here) in
       let keep : (j : ℕ) (x : View) (st : Stage) → Knows C e id v j x st
       → Knows C e id w j x st =
       λ j x st. knows_moves C e id v w (λ y k. k) (λ k r g. g) (le_refl (intent e v.sent v.stage)) j x st in
@@ -67,7 +68,7 @@ module _ (C e : ℕ) where
             capacity = seats.capacity;
             started = seats.started;
             behind = seats.behind;
-            each = λ j x g. ⊎_elim (λ old. seats_stay (IsSeat C e id w) s.views id w (let a = seats.each id v at in
+            each = λ j x g. ⊎_elim (λ old. each_set (IsSeat C e id w) s.views id w (let a = seats.each id v at in
                 record { knows = subst (Knows C e id w id w) (sym eq) refl; copies = a.copies; log = a.log })
                 (λ j y _ on. let a = seats.each j y on in record {
                   knows = keep j y y.stage a.knows;
@@ -94,7 +95,7 @@ module _ (C e : ℕ) where
       let h = owner C e s b id v Idle (λ by mine k. k) at eq in let u : View = joined v w in
       let was : get_elem? s.views other ≡ some w = sym (set_else s.views id other u ne) ∙ there in
       let here : get_elem? (set s.views id u) id ≡ some u =
-      set_here s.views id u (in_list s.views id v h.seated.here) in
+      set_here s.views id u (at_below s.views id v h.seated.here) in
       let keep : (j : ℕ) (x : View) (st : Stage) → Knows C e id v j x st
       → Knows C e id u j x st =
       λ j x st. knows_moves C e id v u (λ y k. k) (λ k r g. g) (le_refl (intent e v.sent v.stage)) j x st in (
@@ -108,9 +109,9 @@ module _ (C e : ℕ) where
             capacity = seats.capacity;
             started = seats.started;
             behind = seats.behind;
-            each = seats_stay (IsSeat C e id u) (set s.views id u) other spent
+            each = each_set (IsSeat C e id u) (set s.views id u) other spent
                 (record { knows = tt; copies = no_copies v.sent 0; log = no_log C e v.sent v.stage })
-                (λ j x _ on. seats_stay (IsSeat C e id u) s.views id u
+                (λ j x _ on. each_set (IsSeat C e id u) s.views id u
                 (record {
                   knows = subst (Knows C e id u id u) (sym eq) refl;
                   copies =

@@ -1,9 +1,9 @@
 -- What stays for the other seats, when one of them steps.
-use Rattle.std.proofs.Common.{◌≡◌, ◌≢◌, ℕ, zero, suc, ◌+◌, ◌%◌, ◌<◌, ◌≤◌, List, [], ◌∷◌, ◌++◌, length, set, refl, sym, ap, ◌∙◌, subst, inl, inr, ⊎_elim, arith}
-use mathlib.Core.Option.{some, some-injective, some-ne-none}
+use Rattle.std.proofs.Common.{◌≡◌, ℕ, zero, suc, ◌+◌, ◌%◌, ◌≤◌, List, [], ◌∷◌, ◌++◌, length, set, refl, sym, ap, ◌∙◌, subst, inl, inr, ⊎_elim, arith}
+use mathlib.Core.Option.{some, some-injective}
 use lib.ListN.{get_elem?}
 use Rattle.atomic_table.specs.Table.{State}
-use Rattle.atomic_table.proofs.Lists.{at_set, set_here, at_longer, at_last, at_snoc}
+use Rattle.atomic_table.proofs.Lists.{set_here, at_longer, at_last, at_snoc}
 use Rattle.ring_layout.specs.Places.{room}
 use Rattle.ring_board.specs.declared.shared.view.Record.{Record}
 use Rattle.ring_board.specs.declared.shared.view.Taken.{Taken}
@@ -20,18 +20,7 @@ use Rattle.ring_board.specs.Views.{at_stage, view_shares}
 use Rattle.ring_board.specs.TransmitterSteps.{sent_on}
 use Rattle.ring_board.proofs.PlaceLemmas.{end_snoc, last_snoc, lies_after, lies_cases, lies_whole}
 use Rattle.ring_board.proofs.StoreLemmas.{stores_where}
-
-pub seats_stay : (F : ℕ → View → Type 0) (vs : List View) (id : ℕ) (w : View) → F id w
-    → ((j : ℕ) (v : View) → j ≢ id → get_elem? vs j ≡ some v → F j v) → (j : ℕ) (v : View)
-    → get_elem? (set vs id w) j ≡ some v → F j v
-seats_stay F vs id w mine others j v e =
-    ⊎_elim (λ (t : (j ≡ id) × (w ≡ v)). subst (λ (x : ℕ × View). F x.0 x.1) (λ i. (sym t.0 i, t.1 i)) mine)
-    (λ (t : (j ≢ id) × (get_elem? vs j ≡ some v)). others j v t.0 t.1) (at_set vs id j w v e)
-
-pub in_list : {A : Type 0} (l : List A) (i : ℕ) (a : A) → get_elem? l i ≡ some a → i < length l
-in_list [] i a e = absurd (some-ne-none a (sym e))
-in_list (x ∷ xs) zero a e = omega arith
-in_list (x ∷ xs) (suc i) a e = let h = in_list xs i a e in omega arith
+use Rattle.ring_layout.proofs.ListLemmas.{at_below, each_set}
 
 -- Longer lists -------------------------------------------------------------
 
@@ -199,11 +188,11 @@ module _ (C e : ℕ) where
       lawful = h.lawful;
       memory = memory;
       seated = record {
-        here = set_here s.views id w (in_list s.views id me here);
+        here = set_here s.views id w (at_below s.views id me here);
         capacity = alike.capacity ∙ seats.capacity;
         started = alike.start ∙ seats.started;
         behind = behind;
-        each = seats_stay (IsSeat C e id w) s.views id w
+        each = each_set (IsSeat C e id w) s.views id w
             (let a = seats.each id me here in record {
               knows = mine;
               copies = subst (λ (x : ℕ × List Taken). AreRuns w.sent x.0 x.1)

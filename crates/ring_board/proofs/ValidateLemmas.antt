@@ -24,9 +24,10 @@ use Rattle.ring_board.specs.ReceiverSteps.{copy_of, copied, passed, validated, I
 use Rattle.ring_board.proofs.PlaceLemmas.{lies_needed, lies_inside, lies_whole, chain_next, chain_last}
 use Rattle.ring_board.proofs.StoreLemmas.{words_long}
 use Rattle.ring_board.proofs.ByteLemmas.{announced_header, header_not_padding, padding_kind, message_whole, message_back}
-use Rattle.ring_board.proofs.SeatLemmas.{St, in_list}
+use Rattle.ring_board.proofs.SeatLemmas.{St}
 use Rattle.ring_board.proofs.ShownLemmas.{intent_after, shown_has, shown_chain, latest_shown}
 use Rattle.ring_board.proofs.LookLemmas.{other_seat, looked, log_more, knows, all, now, same_runs, entry, body_announced, padding_announced}
+use Rattle.ring_layout.proofs.ListLemmas.{at_below}
 
 -- Lists --------------------------------------------------------------------
 
@@ -97,7 +98,7 @@ module _ (C e : ℕ) (s : St) (by : ℕ) (mine : View) (h : IsBoard C e by mine 
       entries = λ i c on_i. ⊎_elim (λ t. old.entries i c t) (λ t. (v.next, r, on, subst (IsCopy r) t.1 is_copy))
           (snoc_cases v.copies taken c i on_i);
       follow = λ i a b on_a on_b. ⊎_elim
-          (λ tb. ⊎_elim (λ ta. old.follow i a b ta tb) (λ ta. let l = in_list v.copies (suc i) b tb in let f = ta.0 in
+          (λ tb. ⊎_elim (λ ta. old.follow i a b ta tb) (λ ta. let l = at_below v.copies (suc i) b tb in let f = ta.0 in
           absurd (omega arith)) (snoc_cases v.copies taken a i on_a))
           (λ tb. let f = tb.0 in ⊎_elim (λ ta. let p = k.past i a ta tb.0 in let pl =
           p.1 in subst (Neighbours mine.sent a) tb.1 (record {

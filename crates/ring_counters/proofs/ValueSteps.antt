@@ -8,12 +8,13 @@ use Rattle.std.proofs.lemmas.Int.{to_z-of_z, of_z-to_z}
 use mathlib.Core.Option.{some, some-ne-none, some-injective}
 use lib.ListN.{get_elem?}
 use Rattle.atomic_table.specs.Table.{State, keeps, Allows, Splits, Joins}
-use Rattle.atomic_table.proofs.Lists.{at_set, at_snoc, set_else}
+use Rattle.atomic_table.proofs.Lists.{at_snoc, set_else}
 use Rattle.ring_counters.specs.declared.values.view.ValueWrite.{ValueWrite}
 use Rattle.ring_counters.specs.declared.values.view.ValueLoad.{ValueLoad}
 use Rattle.ring_counters.specs.declared.values.view.ValuesView.{ValuesView}
 use Rattle.ring_counters.specs.Views.{value_write, value_load, values_view}
 use Rattle.ring_layout.specs.Lists.{Begins, total}
+use Rattle.ring_layout.proofs.ListLemmas.{each_set}
 use Rattle.ring_layout.proofs.Sums.{total-set, total-append, total-least}
 use Rattle.ring_counters.specs.ValueWrites.{value_from, value_after, AreLoads}
 use Rattle.ring_counters.specs.ValuesRule.{KnowsWrites, ValuesRule}
@@ -62,17 +63,6 @@ index_set xs i j v h =
     ∙ sym (ap (λ b. cond b v (slice_index xs j)) f.0))
     (eqb_tells i j)
 
-fits_set : (writer : ℕ) (all : List ValueWrite) (views : List ValuesView) (by : ℕ) (w : ValuesView)
-    → ((j : ℕ) (u : ValuesView) → j ≢ by → get_elem? views j ≡ some u → KnowsWrites writer all j u)
-    → KnowsWrites writer all by w
-    → (j : ℕ) (u : ValuesView) → get_elem? (set views by w) j ≡ some u → KnowsWrites writer all j u
-fits_set writer all views by w others mine j u e =
-    ⊎_elim
-    (λ (x : (j ≡ by) × (w ≡ u)). subst (λ (y : ℕ
-    × ValuesView). KnowsWrites writer all y.0 y.1) (λ i. (sym x.0 i, x.1 i)) mine)
-    (λ (x : (j ≢ by) × (get_elem? views j ≡ some u)). others j u x.0 x.1)
-    (at_set views by j w u e)
-
 not_writer : false ≡ true → ⊥
 not_writer e = true≢false (sym e)
 
@@ -108,7 +98,7 @@ module _ (count : ℕ) (s : State (Unit {0}) ValuesView) (r : ValuesRule count s
       let total = r.shares in
       subst (λ l. ValuesRule count l (set s.views by w)) (sym words)
       (reseat count s.words s.views (set s.views by w) r (omega arith)
-      (fits_set r.writer r.all s.views by w (λ j u _ e. r.each j u e) fits))
+      (each_set (KnowsWrites r.writer r.all) s.views by w fits (λ j u _ e. r.each j u e)))
 
 pub loads : (count slots by id : ℕ) (v : ValuesView) (carried : List (ℕ × Unit {0})) → id < count
     → Allows (λ s. ValuesRule count s.words s.views) slots by (v, carried) id (λ n. n)
@@ -181,17 +171,17 @@ stores count slots by id word v carried inside whole signed writes s r homes at 
             ∙ (λ i. cond (eqb id k) (sym (of_z-to_z w64 word whole) i) (r.shows k less i))
             ∙ either_word (eqb id k) (cast_signed w64 word) (value_after k all)
             ∙ sym (ap (cast_unsigned w64) (value_after-snoc k all new));
-        each = fits_set r.writer more s.views by w
+        each = each_set (KnowsWrites r.writer more) s.views by w
+            (record {
+              writes = λ _. (mine.0, ap (λ l. l ++ new ∷ []) mine.1);
+              seen = same_as (v.seen ++ new ∷ []) more (ap (λ l. l ++ new ∷ []) mine.1);
+              loads = loads_longer v.made v.loads all new h.loads;
+            })
             (λ j u apart e. let f = r.each j u e in
             record {
               writes = λ y. absurd (apart ((f.writes y).0 ∙ sym mine.0));
               seen = longer u.seen all new f.seen;
               loads = loads_longer u.made u.loads all new f.loads;
-            })
-            (record {
-              writes = λ _. (mine.0, ap (λ l. l ++ new ∷ []) mine.1);
-              seen = same_as (v.seen ++ new ∷ []) more (ap (λ l. l ++ new ∷ []) mine.1);
-              loads = loads_longer v.made v.loads all new h.loads;
             });
       },
       (refl, refl),
@@ -217,7 +207,7 @@ splits count by v two s r at =
     let q = total-append (λ (v : ValuesView). v.shares) (set s.views by w) (new ∷ []) in
     let total = r.shares in
     let mine : KnowsWrites r.writer r.all by w = record { writes = h.writes; seen = h.seen; loads = h.loads } in
-    let kept = fits_set r.writer r.all s.views by w (λ j u _ e. r.each j u e) mine in
+    let kept = each_set (KnowsWrites r.writer r.all) s.views by w mine (λ j u _ e. r.each j u e) in
     reseat count s.words s.views (set s.views by w ++ new ∷ []) r (omega arith)
     (λ j u e. ⊎_elim (λ was. kept j u was)
     (λ (is : new ≡ u). subst (KnowsWrites r.writer r.all j) is (knows_begun r.writer r.all j 1 v.seen h.seen))
@@ -236,11 +226,11 @@ joins count by v other u s r at apart there =
     let p = total-set (λ (v : ValuesView). v.shares) s.views by v w at in
     let q = total-set (λ (v : ValuesView). v.shares) mid other u spent there in
     let total = r.shares in
-    let kept = fits_set r.writer r.all s.views by w (λ j x _ e. r.each j x e)
-    (record { writes = h.writes; seen = h.seen; loads = k.loads }) in
+    let kept = each_set (KnowsWrites r.writer r.all) s.views by w
+    (record { writes = h.writes; seen = h.seen; loads = k.loads }) (λ j x _ e. r.each j x e) in
     reseat count s.words s.views (set mid other spent) r (omega arith)
-    (fits_set r.writer r.all mid other spent (λ j x _ e. kept j x e)
-    (knows_begun r.writer r.all other 0 [] (from_none r.all)))
+    (each_set (KnowsWrites r.writer r.all) mid other spent (knows_begun r.writer r.all other 0 [] (from_none r.all))
+    (λ j x _ e. kept j x e))
 
 pub begins : (count : ℕ) → ValuesRule count (replicate count 0) (values_view true 65536 [] [] [] ∷ [])
 begins count = record {

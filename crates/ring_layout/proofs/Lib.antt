@@ -4,4 +4,5 @@ pub mod PictureLemmas
 pub mod WordBytes
 pub mod CapacityLemmas
 pub mod HeaderLemmas
+pub mod ListLemmas
 pub mod Sums

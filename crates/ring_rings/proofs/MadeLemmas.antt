@@ -1,5 +1,5 @@
 -- What follows from a claim that was made.
-use Rattle.std.proofs.Common.{◌≡◌, ◌≢◌, ℕ, ◌+◌, ◌%◌, ◌^◌, ◌<◌, ℤ, List, [], ◌∷◌, ◌++◌, length, refl, sym, ap, ◌∙◌, subst, arith}
+use Rattle.std.proofs.Common.{◌≡◌, ◌≢◌, ℕ, ◌+◌, ◌%◌, ◌^◌, ◌<◌, ℤ, List, [], ◌∷◌, ◌++◌, false, length, refl, sym, ap, ◌∙◌, subst, arith}
 use Rattle.std.proofs.lemmas.List.{length-replicate}
 use lib.ListN.{get_elem?}
 use Rattle.atomic_table.proofs.Lists.{at_longer}
@@ -148,6 +148,13 @@ module _ {C tail : ℕ} {type_id : ℤ} {len : ℕ} {front : List (ℕ × ℕ)} 
           whole = made.whole;
           limit = rw end limit;
         }
+
+    -- what the producer knows of its seat, and what the seat is for
+    pub written_seat : {shares open_claims own_tail : ℕ} {A : Type 0} {slots slots' : List A}
+        → Matches v shares open_claims own_tail → (v.consumes ≡ false) × (slots ≡ []) → slots' ≡ slots
+        → Matches u shares open_claims a.end × ((u.consumes ≡ false) × (slots' ≡ []))
+    written_seat known produces same =
+        (written_matches known, (written_consumes ∙ produces.0, same ∙ produces.1))
 
 -- the claim is open in the hands of the producer that made it, and new
 pub made_new : {K : Type 0} {ring : Ring K} {p q : Producer} {tail : ℕ} {type_id : ℤ} {len : ℕ} {front : List (ℕ × ℕ)}

@@ -78,7 +78,7 @@ messages_of-push [] m = refl
 messages_of-push (x ∷ ms) m = ap (λ l. x.message ∷ l) (messages_of-push ms m)
 
 -- a read that began at the position `start` has come to `scan` in its block, and the head has not fallen
-pub record HasCome (C start head scan : ℕ) : Type 0 where
+pub record StaysInBlock (C start head scan : ℕ) : Type 0 where
   pub from : start ≤ head
   pub to : head ≤ scan
   pub whole : scan % 8 ≡ 0
@@ -86,8 +86,8 @@ pub record HasCome (C start head scan : ℕ) : Type 0 where
   pub low : scan ≤ max_position
 
 -- and passes n bytes more
-come_on : {C start head head' scan n : ℕ} → 0 < C → (start < scan → scan % C ≢ 0) → HasCome C start head scan
-    → head' ≡ head → IsPassed C scan n → HasCome C start head' (scan + n)
+come_on : {C start head head' scan n : ℕ} → 0 < C → (start < scan → scan % C ≢ 0) → StaysInBlock C start head scan
+    → head' ≡ head → IsPassed C scan n → StaysInBlock C start head' (scan + n)
 come_on {C} {start} {head} {head'} {scan} {n} some inside h same p = record {
   from = omega (arith, same, h.from);
   to = omega (arith, same, h.to);
@@ -108,7 +108,7 @@ module _ {S : Type 0} (step : S → Message → S → Action → Type 0) (limit 
     pub view : LoadsMore v loads w
     pub heartbeats : w.consumer.heartbeats ≡ v.consumer.heartbeats
     pub stands : IsAt scan (v.consumer.taken ++ messages) w
-    pub come : HasCome v.capacity v.consumer.head w.consumer.head scan
+    pub come : StaysInBlock v.capacity v.consumer.head w.consumer.head scan
     pub tight : count ≡ limit → IsTight v.consumer.head messages scan
 
   pub runs_none : (v : View) (s : S) → 0 < v.capacity → v.consumer.head % 8 ≡ 0 → v.consumer.head ≤ max_position

@@ -18,7 +18,7 @@ use Rattle.ring_table.specs.Rule.{Kept}
 use Rattle.ring_table.specs.ProducerSteps.{Mine, IsClaimable, MovesTail, MovesOwnTail}
 use Rattle.ring_table.proofs.StagedWords.{staged_word-fresh}
 use Rattle.ring_table.proofs.HistoryLemmas.{staged_end-append, owned_by-append, owned_by-append_other}
-use Rattle.ring_table.proofs.ListLemmas.{at_below}
+use Rattle.ring_layout.proofs.ListLemmas.{at_below}
 use Rattle.ring_table.proofs.KnowLemmas.{knows_after}
 use Rattle.ring_table.proofs.StepLemmas.{sole_sees_top, becomes}
 use Rattle.ring_table.proofs.MemoryLemmas.{memory_appended, service_elsewhere}

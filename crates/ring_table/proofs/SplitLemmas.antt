@@ -16,7 +16,8 @@ use Rattle.ring_table.specs.Rule.{IsMemory, Knows, IsSeated, Kept, shares_of}
 use Rattle.ring_table.proofs.OwnerLemmas.{all_of-handed_over, owned_by-handed_over, owned_by-handed_away, owned_by-handed_over_other}
 use Rattle.ring_table.proofs.ServiceLemmas.{served_append}
 use Rattle.ring_layout.proofs.Sums.{total-append}
-use Rattle.ring_table.proofs.ListLemmas.{at_below, at_more, each_after_set}
+use Rattle.ring_layout.proofs.ListLemmas.{at_below, each_set}
+use Rattle.ring_table.proofs.ListLemmas.{at_more}
 use Rattle.ring_table.proofs.KnowLemmas.{knows_after, knows_new, knows_on, knows_served}
 use Rattle.ring_table.proofs.StepLemmas.{one_view, sees_top_after}
 use Rattle.ring_table.proofs.SplitSums.{total-parted, total-met}
@@ -57,8 +58,8 @@ module _ (top : ℕ) (hist : OwnedHistory) (reader : ℕ) (consumer : ConsumerVi
   parted views s id v left right reader' at cut know =
       record {
         each = λ j u e. ⊎_elim
-            (λ was. each_after_set (Knows top hist reader consumer n)
-            (Knows top hist reader' consumer n) views id left know.left_knows know.others s.each j u was)
+            (λ was. each_set (Knows top hist reader' consumer n) views id left know.left_knows
+            (λ k v ne e. know.others k v ne (s.each k v e)) j u was)
             (λ (t : (j ≡ length (set views id left)) × (right ≡ u)). subst
             (λ (z : ℕ × View). Knows top hist reader' consumer n z.0 z.1)
             (λ i. (sym (t.0 ∙ length-set views id left) i, t.1 i)) know.right_knows)

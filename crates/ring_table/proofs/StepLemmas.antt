@@ -12,7 +12,7 @@ use Rattle.ring_table.specs.Services.{times_drawn, once_below}
 use Rattle.ring_table.specs.Views.{ConsumerView, View, spent}
 use Rattle.ring_table.specs.Rule.{IsMemory, IsService, Knows, SeesTop, IsSeated, Kept, shares_of}
 use Rattle.ring_layout.proofs.Sums.{total-set, total-zero}
-use Rattle.ring_table.proofs.ListLemmas.{at_below, each_after_set}
+use Rattle.ring_layout.proofs.ListLemmas.{at_below, each_set}
 
 -- what an entry that is known is, by two reports of it
 pub one_view : (views : List View) (i j : ℕ) (u v : View) → get_elem? views i ≡ some u → get_elem? views j ≡ some v
@@ -84,8 +84,8 @@ module _ (top : ℕ) (hist : OwnedHistory) (reader : ℕ) (consumer : ConsumerVi
       → Steps views id v top' hist' consumer' n' w → IsSeated top' hist' reader consumer' n' (set views id w)
   reseated views s id v at top' hist' consumer' n' w step =
       let rich = step.shares in record {
-        each = each_after_set (Knows top hist reader consumer n)
-            (Knows top' hist' reader consumer' n') views id w step.own step.others s.each;
+        each = each_set (Knows top' hist' reader consumer' n') views id w step.own
+            (λ j u ne e. step.others j u ne (s.each j u e));
         nobody = λ j past.
             let past' : length views ≤ j = subst (λ m. m ≤ j) (length-set views id w) past in
             let here = at_below views id v at in
