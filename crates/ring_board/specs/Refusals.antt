@@ -1,8 +1,6 @@
 -- Which refusal comes when.
-use Rattle.std.specs.Prelude.{ℕ, ◌/◌, ℤ, pos, Option, Some, None, Result, if◌then◌else◌, nat_lt, int_lt}
-use Rattle.ring_layout.specs.History.{span}
-use Rattle.ring_layout.specs.Places.{end_after, max_position}
-use Rattle.ring_layout.specs.Refusals.{IsRefusedOr}
+use Rattle.std.specs.Prelude.{ℕ, ℤ, pos, Option, Some, None, Result, if◌then◌else◌, nat_lt}
+use Rattle.ring_layout.specs.Refusals.{place_refusal_or, IsRefusedOr}
 pub use Rattle.ring_layout.specs.Refusals.{IsRefusedAs, IsRefusedBy}
 use Rattle.ring_board.specs.declared.fault.TransmitFault.{TransmitFault}
 use Rattle.ring_board.specs.declared.fault.TransmitFault.TheVariants.{BadType, TooLong, PositionLimit}
@@ -11,12 +9,7 @@ use Rattle.ring_board.specs.declared.fault.SubscribeFault.TheVariants as subscri
 
 -- why a message of this type id and length is not transmitted at this tail, in the order of the tests
 abbrev pub transmit_refusal_of : ℕ → ℕ → ℤ → ℕ → Option TransmitFault
-transmit_refusal_of C tail type_id len =
-    let longest = C / 8 in
-    if int_lt type_id (pos 1) then Some (BadType type_id)
-    else (if nat_lt longest len then Some (TooLong len longest)
-    else (if nat_lt max_position (end_after C tail (span len)) then Some (PositionLimit tail)
-    else None))
+transmit_refusal_of C tail type_id len = place_refusal_or BadType TooLong PositionLimit C tail type_id len None
 
 -- why a transmitter with so many shares makes no copying receiver
 abbrev pub subscribe_refusal_of : ℕ → Option SubscribeFault

@@ -1,6 +1,7 @@
 -- What each step of the transmitter tells its seat.
-use Rattle.std.specs.Prelude.{◌≡◌, ℕ, ◌+◌, ◌-◌, ◌^◌, ◌≤◌, if◌then◌else◌, nat_lt, nat_le, List, [], ◌∷◌, ◌++◌, pos}
+use Rattle.std.specs.Prelude.{◌≡◌, ℕ, ◌+◌, ◌-◌, ◌≤◌, if◌then◌else◌, nat_lt, nat_le, List, [], ◌∷◌, ◌++◌, pos}
 use Rattle.ring_layout.specs.Places.{room, max_position}
+use Rattle.ring_layout.specs.Refusals.{all_shares}
 use Rattle.ring_board.specs.declared.shared.view.Stage.TheVariants.{Idle, Begun, Storing, Written, Shown}
 use Rattle.ring_board.specs.declared.shared.view.Record.{Record}
 use Rattle.ring_board.specs.declared.shared.view.Draft.{Draft}
@@ -82,4 +83,4 @@ StoresTail m x m' = m' ≡ (after_tail m.0 m.0.stage, m.1)
 -- what the transmitter learns by a load of latest
 abbrev pub Learns : Sat → ℕ → Sat → Type 0
 Learns m x m' = (m' ≡ m) × (x ≡ last_of m.0.start m.0.sent) × AreRuns m.0.sent m.0.from m.0.copies
-    × (m.0.shares ≤ 2 ^ 16) × (x ≤ max_position)
+    × (m.0.shares ≤ all_shares) × (x ≤ max_position)

@@ -3,6 +3,7 @@ ghost use Rattle.std.specs.Prelude.{◌≡◌, ◌+◌, ◌/◌, ◌%◌, ◌^�
 ghost use Rattle.std.specs.Int.{is_power_of_two};
 ghost use Rattle.ring_layout.specs.History.{span};
 ghost use Rattle.ring_layout.specs.Places.{max_position, next_place};
+ghost use Rattle.ring_layout.specs.Refusals.{all_shares};
 ghost use Rattle.ring_board.specs.declared.shared.view.Stage.TheVariants.{Idle, Written, Resting};
 ghost use Rattle.ring_board.specs.Records.{end, end_of};
 ghost use Rattle.ring_board.specs.TransmitterSteps.{draft, drafted, record_at};
@@ -34,7 +35,7 @@ pub struct Transmitter {
     ghost idle: { (seat.me.0.stage ≡ Idle) × (seat.me.1 ≡ []) },
     ghost ends: { (seat.me.0.at ≡ tail) × (tail ≡ end_of seat.me.0.start seat.me.0.sent) },
     ghost whole: { (tail % 8 ≡ 0) × (tail ≤ max_position) },
-    ghost held: { (seat.me.0.shares ≡ shares) × (0 < shares) × (shares ≤ 2 ^ 16) },
+    ghost held: { (seat.me.0.shares ≡ shares) × (0 < shares) × (shares ≤ all_shares) },
 }
 
 /// A transmission whose intent is stored. It owns the transmitter.
@@ -52,7 +53,7 @@ pub struct Begun {
     ghost lies: { (place ≡ next_place seat.me.0.capacity tail (span len)) × (end ≡ place + span len) },
     ghost whole: { (tail % 8 ≡ 0) × (end ≤ max_position) },
     ghost lawful: { (pos 1 ≤ℤ type_id) × (len ≤ seat.me.0.capacity / 8) },
-    ghost held: { (seat.me.0.shares ≡ shares) × (0 < shares) × (shares ≤ 2 ^ 16) },
+    ghost held: { (seat.me.0.shares ≡ shares) × (0 < shares) × (shares ≤ all_shares) },
 }
 
 /// A transmission whose record is stored, and not yet shown. It owns the transmitter.
@@ -65,7 +66,7 @@ pub struct Filled {
     ghost written: { (seat.me.0.stage ≡ Written (record_at seat.me.0.stage)) × (seat.me.1 ≡ []) },
     ghost lies: { (place ≡ (record_at seat.me.0.stage).place) × (next_tail ≡ end (record_at seat.me.0.stage)) },
     ghost whole: { (next_tail % 8 ≡ 0) × (next_tail ≤ max_position) },
-    ghost held: { (seat.me.0.shares ≡ shares) × (0 < shares) × (shares ≤ 2 ^ 16) },
+    ghost held: { (seat.me.0.shares ≡ shares) × (0 < shares) × (shares ≤ all_shares) },
 }
 
 /// A transmission was refused before it began, and the transmitter comes back as it was.

@@ -1,6 +1,7 @@
 -- Two calls of `do_work`, with listeners coming and going between them.
 use Rattle.std.proofs.Common.{◌≡◌, ◌∙◌, ℕ, List, [], ◌∷◌, ◌++◌, length, Result, Err, IsOk, sym, ap, subst, true≢false}
 use Rattle.ring_layout.specs.declared.message.Message.{Message}
+use Rattle.ring_layout.specs.Refusals.{all_shares}
 use Rattle.ring_table.specs.declared.claim.PlacedMessage.{PlacedMessage}
 use Rattle.ring_rings.specs.Closing.{IsRefusedAs}
 use Rattle.ring_rings.specs.Reading.{messages_of}
@@ -33,10 +34,11 @@ two_joined l m n a b none one two = ap length (two ∙ ap (λ x. x ++ b ∷ []) 
 
 -- a conductor finishes where no claim is open and all shares are back
 pub never_refused : {T E : Type 0} (error : FinishFault → E) (open_claims producing transmitting : ℕ)
-    (result : Result T E) (e : E) → open_claims ≡ 0 → producing ≡ 65536 → transmitting ≡ 65536
+    (result : Result T E) (e : E) → open_claims ≡ 0 → producing ≡ all_shares → transmitting ≡ all_shares
     → IsRefusedAs error (finish_refusal_of open_claims producing transmitting) result → result ≡ Err e → ⊥
 never_refused {T} {E} error open_claims producing transmitting result e settled all_producing all_transmitting h is =
     let one = subst (λ n. IsRefusedAs error (finish_refusal_of open_claims producing n) result) all_transmitting h in
-    let two = subst (λ n. IsRefusedAs error (finish_refusal_of open_claims n 65536) result) all_producing one in
-    let ok : IsOk result = subst (λ n. IsRefusedAs error (finish_refusal_of n 65536 65536) result) settled two in
+    let two = subst (λ n. IsRefusedAs error (finish_refusal_of open_claims n all_shares) result) all_producing one in
+    let ok : IsOk result =
+    subst (λ n. IsRefusedAs error (finish_refusal_of n all_shares all_shares) result) settled two in
     let bad : IsOk {T = T} {E = E} (Err e) = subst IsOk is ok in true≢false (sym bad)

@@ -2,6 +2,7 @@
 use Rattle.std.specs.Prelude.{◌≡◌, ℕ, ◌-◌, nat_lt, if◌then◌else◌, ℤ, pos, List, ◌++◌, length, Option, Some, None}
 use Rattle.ring_layout.specs.declared.message.Claim.{Claim}
 use Rattle.ring_layout.specs.History.{committed_of}
+use Rattle.ring_layout.specs.Refusals.{all_shares}
 use Rattle.ring_words.specs.Ring.{Ring, Has}
 use Rattle.ring_table.specs.declared.claim.PlacedMessage.{PlacedMessage}
 use Rattle.ring_table.specs.declared.claim.StagedClaim.{StagedClaim}
@@ -34,8 +35,8 @@ use Rattle.ring_conductor.specs.Conducting.{IsConductorOf, manager_in, received_
 abbrev pub finish_refusal_of : ℕ → ℕ → ℕ → Option FinishFault
 finish_refusal_of open_claims producing transmitting =
     if nat_lt 0 open_claims then Some (ClaimsOpen open_claims)
-    else (if nat_lt producing 65536 then Some (ProducersOut (65536 - producing))
-    else (if nat_lt transmitting 65536 then Some (ReceiversOut (65536 - transmitting))
+    else (if nat_lt producing all_shares then Some (ProducersOut (all_shares - producing))
+    else (if nat_lt transmitting all_shares then Some (ReceiversOut (all_shares - transmitting))
     else None))
 
 -- the number of why a conductor does not finish

@@ -2,6 +2,7 @@
 use Rattle.std.specs.Prelude.{◌≡◌, ◌⊎◌, ℕ, ◌+◌, ◌*◌, ◌/◌, ◌<◌, ◌≤◌, ◌^◌, ℤ, pos, ◌+ℤ◌, IsTrue, List, [], ◌∷◌, ◌++◌, fold, length, None}
 use Rattle.std.specs.Int.{is_power_of_two, IsPowerOfTwo, saturate_signed, w64}
 use Rattle.ring_layout.specs.declared.message.Message.{Message}
+use Rattle.ring_layout.specs.Refusals.{all_shares}
 use Rattle.ring_table.specs.declared.claim.StagedClaim.{StagedClaim}
 use Rattle.ring_table.specs.declared.view.Service.{Service}
 use Rattle.ring_table.specs.Owners.{interleaved}
@@ -153,7 +154,7 @@ taken_by c = length (received_of c)
 -- the counters are what the messages that the conductor took make of fresh ones, and nobody else reads their values
 abbrev pub HasCounters : StormPlan → Conductor → Type 0
 HasCounters p c = (registry_of (manager_in c) ≡ storm_counters p (messages_of (received_of c)))
-    × (value_shares_of c ≡ 65536)
+    × (value_shares_of c ≡ all_shares)
 
 -- producer and conductor belong to this ring, this board and these values, the counters are those of the messages
 -- taken, nobody else reads their values, and the producer drew no number
@@ -202,8 +203,8 @@ IsFreshAt s hub = IsFreshOf s.plan s.ring.now s.board.now s.values.now hub
 
 -- no share of ring or board is away, and no claim is open
 pub record HasAll (hub : Hub) : Type 0 where
-  pub producers : shares_of hub.producer ≡ 65536
-  pub receivers : board_shares_of hub.conductor ≡ 65536
+  pub producers : shares_of hub.producer ≡ all_shares
+  pub receivers : board_shares_of hub.conductor ≡ all_shares
   pub settled : open_claims_of hub.producer ≡ 0
 
 -- as many shares of ring and board as before, and as many open claims

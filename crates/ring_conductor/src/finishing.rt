@@ -2,6 +2,7 @@
 pub(crate) mod fault;
 
 ghost use Rattle.std.specs.Prelude.{◌≡◌, IfErr, IfOk, OnOk};
+ghost use Rattle.ring_layout.specs.Refusals.{all_shares};
 ghost use Rattle.ring_rings.specs.Closing.{IsRefusedAs};
 ghost use Rattle.ring_rings.specs.Seats.{open_claims_of, shares_of};
 ghost use Rattle.ring_board.specs.Seats.{shares_of as board_shares_of};
@@ -33,8 +34,8 @@ pub struct Finished {
 /// Tests whether a conductor may finish with this producer.
 fn test_finish(conductor: &Conductor, producer: &Producer) -> Result<(), FinishFault>
     ensures refused { IsRefusedAs (λ fault. fault) (refusal_to conductor.now producer.now) result }
-    ensures ok { OnOk result ((open_claims_of producer.now ≡ 0) × (shares_of producer.now ≡ 65536)
-        × (board_shares_of (transmitter_of conductor.now) ≡ 65536)) }
+    ensures ok { OnOk result ((open_claims_of producer.now ≡ 0) × (shares_of producer.now ≡ all_shares)
+        × (board_shares_of (transmitter_of conductor.now) ≡ all_shares)) }
 {
     let claims = producer.open_claims();
     if claims > 0 {

@@ -1,6 +1,6 @@
 //! Commands as a client sends them, and replies as a listener hears them.
 ghost use Rattle.std.specs.Prelude.{◌≡◌};
-ghost use Rattle.ring_rings.specs.Seats.{shares_of, IsProducerOf};
+ghost use Rattle.ring_rings.specs.Seats.{all_shares, shares_of, IsProducerOf};
 ghost use Rattle.ring_board.specs.Seats.{IsReceiverOf};
 
 use ring_board::{Board, Copied, CopyReceiver, Lapped};
@@ -15,9 +15,9 @@ pub fn send<K: Kind>(
     commands: &[Command],
 ) -> Result<(), Fail>
     requires producer { IsProducerOf ring.now producer.old }
-    requires sole { shares_of producer.old ≡ 65536 }
+    requires sole { shares_of producer.old ≡ all_shares }
     ensures producer { IsProducerOf ring.now producer.new }
-    ensures sole { shares_of producer.new ≡ 65536 }
+    ensures sole { shares_of producer.new ≡ all_shares }
 {
     let mut bytes = [0; 64];
     for command in commands {

@@ -4,7 +4,7 @@ use Rattle.std.specs.Prelude.{count_by, Some, None, find, remove, not}
 use Rattle.std.specs.List.{position_or_len}
 use Rattle.std.proofs.Math.ListN.{length-set}
 use Rattle.std.proofs.lemmas.Bool.{cases_lt, cases_eq, ne_eqb, eq-eqb, cond-true, cond-false}
-use Rattle.std.proofs.lemmas.List.{get_or_past}
+use Rattle.std.proofs.lemmas.List.{get_or_past, set-get_or}
 use Rattle.std.proofs.lemmas.List.Sums.{sum_by-set, count_by-le-length}
 use Rattle.ring_counters.specs.Counter.{Status, Unused, Allocated, Reclaimed, Metadata, Values, Counter, unused_metadata, unused_values, unused_counter, deadline_of}
 use Rattle.ring_counters.specs.Registry.{is_unused, is_allocated, is_reclaimed, without}
@@ -41,21 +41,13 @@ counters_of-set (x ∷ ms) (y ∷ vs) e (suc id) m v =
 
 pub counters_of-set_metadata : (ms : List Metadata) (vs : List Values) → length vs ≡ length ms → (id : ℕ) (m : Metadata)
     → counters_of (set ms id m) vs ≡ set (counters_of ms vs) id (counter m (get_or vs id unused_values))
-counters_of-set_metadata [] [] e id m = refl
-counters_of-set_metadata [] (y ∷ vs) e id m = absurd (omega arith)
-counters_of-set_metadata (x ∷ ms) [] e id m = absurd (omega arith)
-counters_of-set_metadata (x ∷ ms) (y ∷ vs) e zero m = refl
-counters_of-set_metadata (x ∷ ms) (y ∷ vs) e (suc id) m =
-    ap (λ l. counter x y ∷ l) (counters_of-set_metadata ms vs (omega arith) id m)
+counters_of-set_metadata ms vs e id m = ap (counters_of (set ms id m)) (sym (set-get_or vs id unused_values))
+    ∙ counters_of-set ms vs e id m (get_or vs id unused_values)
 
 pub counters_of-set_values : (ms : List Metadata) (vs : List Values) → length vs ≡ length ms → (id : ℕ) (v : Values)
     → counters_of ms (set vs id v) ≡ set (counters_of ms vs) id (counter (get_or ms id unused_metadata) v)
-counters_of-set_values [] [] e id v = refl
-counters_of-set_values [] (y ∷ vs) e id v = absurd (omega arith)
-counters_of-set_values (x ∷ ms) [] e id v = absurd (omega arith)
-counters_of-set_values (x ∷ ms) (y ∷ vs) e zero v = refl
-counters_of-set_values (x ∷ ms) (y ∷ vs) e (suc id) v =
-    ap (λ l. counter x y ∷ l) (counters_of-set_values ms vs (omega arith) id v)
+counters_of-set_values ms vs e id v = ap (λ l. counters_of l (set vs id v)) (sym (set-get_or ms id unused_metadata))
+    ∙ counters_of-set ms vs e id (get_or ms id unused_metadata) v
 
 pub counters_of-replicate : (n : ℕ) → counters_of (replicate n unused_metadata) (replicate n unused_values)
     ≡ replicate n unused_counter

@@ -16,6 +16,7 @@ use Rattle.ring_counters.specs.Views.{value_write, value_load, values_view}
 use Rattle.ring_layout.specs.Lists.{Begins, total}
 use Rattle.ring_layout.proofs.ListLemmas.{each_set}
 use Rattle.ring_layout.proofs.Sums.{total-set, total-append, total-least}
+use Rattle.ring_layout.specs.Refusals.{all_shares}
 use Rattle.ring_counters.specs.ValueWrites.{value_from, value_after, AreLoads}
 use Rattle.ring_counters.specs.ValuesRule.{KnowsWrites, ValuesRule}
 use Rattle.ring_counters.specs.ValueSteps.{Loads, LearnsLoads, WritesValue}
@@ -68,7 +69,7 @@ not_writer e = true≢false (sym e)
 
 -- the words stay, and the views follow
 reseat : (count : ℕ) (words : List ℕ) (views views' : List ValuesView) (r : ValuesRule count words views)
-    → total (λ (v : ValuesView). v.shares) views' ≡ 65536
+    → total (λ (v : ValuesView). v.shares) views' ≡ all_shares
     → ((by : ℕ) (v : ValuesView) → get_elem? views' by ≡ some v → KnowsWrites r.writer r.all by v)
     → ValuesRule count words views'
 reseat count words views views' r shares each = record {
@@ -232,7 +233,7 @@ joins count by v other u s r at apart there =
     (each_set (KnowsWrites r.writer r.all) mid other spent (knows_begun r.writer r.all other 0 [] (from_none r.all))
     (λ j x _ e. kept j x e))
 
-pub begins : (count : ℕ) → ValuesRule count (replicate count 0) (values_view true 65536 [] [] [] ∷ [])
+pub begins : (count : ℕ) → ValuesRule count (replicate count 0) (values_view true all_shares [] [] [] ∷ [])
 begins count = record {
   writer = 0;
   all = [];
@@ -248,7 +249,7 @@ begins count = record {
     zeros (suc n) zero = refl
     zeros (suc n) (suc i) = zeros n i
 
-    one : (by : ℕ) (v : ValuesView) → get_elem? (values_view true 65536 [] [] [] ∷ []) by ≡ some v
+    one : (by : ℕ) (v : ValuesView) → get_elem? (values_view true all_shares [] [] [] ∷ []) by ≡ some v
         → KnowsWrites 0 [] by v
     one zero v e = subst (KnowsWrites 0 [] 0) (some-injective _ _ e)
         (record { writes = λ _. (refl, refl); seen = from_none []; loads = from_none [] })

@@ -5,6 +5,7 @@ use Rattle.ring_counters.specs.declared.values.view.ValueWrite.{ValueWrite}
 use Rattle.ring_counters.specs.declared.values.view.ValuesView.{ValuesView}
 use Rattle.ring_counters.specs.Views.{value_write, value_load, values_view}
 use Rattle.ring_layout.specs.Lists.{Begins}
+use Rattle.ring_layout.specs.Refusals.{all_shares}
 use Rattle.ring_counters.specs.ValueWrites.{value_after, AreLoads}
 
 -- a load gives the value after some writes, which begin with those that the reader has seen
@@ -18,7 +19,7 @@ pub record Loads (id : ℕ) (v : ValuesView) (found : ℕ) (w : ValuesView) : Ty
 pub record LearnsLoads (v w : ValuesView) : Type 0 where
   pub view : w ≡ v
   pub loads : AreLoads v.made v.loads v.seen
-  pub shares : v.shares ≤ 65536
+  pub shares : v.shares ≤ all_shares
 
 abbrev pub WritesValue : ℕ → ℕ → ValuesView → ValuesView → Type 0
 WritesValue id word v w =

@@ -6,6 +6,7 @@ use lib.ListN.{get_elem?}
 use Rattle.ring_counters.specs.declared.values.view.ValueWrite.{ValueWrite}
 use Rattle.ring_counters.specs.declared.values.view.ValuesView.{ValuesView}
 use Rattle.ring_layout.specs.Lists.{Begins, total}
+use Rattle.ring_layout.specs.Refusals.{all_shares}
 use Rattle.ring_counters.specs.ValueWrites.{value_after, AreLoads}
 
 -- the writer has all writes, a reader has seen a first part of them, and its loads are theirs
@@ -19,7 +20,7 @@ pub record ValuesRule (count : ℕ) (words : List ℕ) (views : List ValuesView)
   pub writer : ℕ
   pub all : List ValueWrite
   pub wide : length words ≡ count
-  pub shares : total (λ (v : ValuesView). v.shares) views ≡ 65536
+  pub shares : total (λ (v : ValuesView). v.shares) views ≡ all_shares
   pub fits : (id : ℕ) → FitsSigned w64 (value_after id all)
   pub shows : (id : ℕ) → id < count → slice_index words id ≡ cast_unsigned w64 (value_after id all)
   pub each : (by : ℕ) (v : ValuesView) → get_elem? views by ≡ some v → KnowsWrites writer all by v

@@ -3,6 +3,7 @@ use Rattle.std.specs.Prelude.{◌≡◌, ◌⊎◌, ◌<◌, ◌≤◌, ◌^◌,
 use Rattle.std.specs.Arc.{arc_value}
 use Rattle.std.specs.Option.{option_map}
 use Rattle.ring_layout.specs.Places.{is_board_capacity, is_capacity}
+use Rattle.ring_layout.specs.Refusals.{all_shares}
 use Rattle.ring_table.specs.Views.{beaten, producer_alone, with_consumer, without_share}
 use Rattle.ring_rings.specs.Opening.{first_consumer, first_producer}
 use Rattle.ring_rings.specs.Seats.{capacity_of, shares_of, start_of, view_of}
@@ -55,7 +56,7 @@ pub record IsNewConductor (i : Identity) (C R count reuse_ms : ℕ) (c : Conduct
   pub transmitter : board_view c.conductor ≡ opening_view R 0
   pub registry : registry_of (manager_in c.conductor) ≡ fresh_registry count reuse_ms
   pub writes : writes_of (manager_in c.conductor) ≡ []
-  pub values : value_shares_of c.conductor ≡ 65536
+  pub values : value_shares_of c.conductor ≡ all_shares
 
 -- Clients ------------------------------------------------------------------------
 

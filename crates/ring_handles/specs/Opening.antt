@@ -3,7 +3,7 @@ use Rattle.std.specs.Prelude.{◌≡◌, ◌⊎◌, ℕ, ℤ, pos, [], MatchOpti
 use Rattle.std.specs.declared.option.Option.{Option}
 use Rattle.std.specs.declared.option.Option.TheVariants.{None}
 use Rattle.ring_layout.specs.Places.{is_board_capacity, is_capacity}
-use Rattle.ring_layout.specs.Refusals.{make_code, make_refusal_of}
+use Rattle.ring_layout.specs.Refusals.{all_shares, make_code, make_refusal_of}
 use Rattle.ring_table.specs.declared.view.View.{View}
 use Rattle.ring_rings.specs.Opening.{first_consumer, first_producer}
 use Rattle.ring_board.specs.Rule.{opening_view}
@@ -78,7 +78,7 @@ pub record AreNew (i : Identity) (count reuse_ms : ℕ) (c : CountersSide) : Typ
   pub identity : c.identity ≡ i
   pub registry : registry_of c.manager ≡ fresh_registry count reuse_ms
   pub writes : writes_of c.manager ≡ []
-  pub shares : shares_of c.manager ≡ 65536
+  pub shares : shares_of c.manager ≡ all_shares
 
 abbrev pub HoldFreshCounters : Identity → ℕ → ℕ → Option Held → Type 0
 HoldFreshCounters i count reuse_ms h = HoldsOne some_counters (AreNew i count reuse_ms) h

@@ -2,6 +2,7 @@
 use Rattle.std.specs.Prelude.{◌≡◌, ℕ, List, Bool, true, false, Option, None, Some}
 use Rattle.std.specs.Arc.{arc_value}
 use Rattle.atomic_table.specs.Seated.{TableId}
+use Rattle.ring_layout.specs.Refusals.{all_shares}
 use Rattle.ring_table.specs.OpenClaims.{open_count}
 use Rattle.ring_table.specs.declared.view.View.{View}
 use Rattle.ring_words.specs.Open.{ClaimAt}
@@ -36,7 +37,7 @@ capacity_in (One ring) = capacity_of (arc_value ring)
 -- a producer of it, which holds all shares where it is the only one
 abbrev pub IsProducerIn : AnyRing → Producer → Type 0
 IsProducerIn (Many ring) p = IsProducerOf (arc_value ring) p
-IsProducerIn (One ring) p = IsProducerOf (arc_value ring) p × (shares_of p ≡ 65536)
+IsProducerIn (One ring) p = IsProducerOf (arc_value ring) p × (shares_of p ≡ all_shares)
 
 -- these are open claims of its producer
 abbrev pub AreClaimsIn : AnyRing → Producer → List ClaimAt → Type 0

@@ -1,10 +1,11 @@
--- Why a ring or a board is not made, and what a result is where a refusal comes, or none does.
-use Rattle.std.specs.Prelude.{◌≡◌, ℕ, ◌%◌, ◌^◌, ◌==◌, ◌||◌, Bool, not, nat_lt, if◌then◌else◌, ℤ, pos}
+-- Why a ring or a board is not made, why a message is refused, and what a result is where a refusal comes or none.
+use Rattle.std.specs.Prelude.{◌≡◌, ℕ, ◌/◌, ◌%◌, ◌^◌, ◌==◌, ◌||◌, Bool, not, nat_lt, int_lt, if◌then◌else◌, ℤ, pos}
 use Rattle.std.specs.Prelude.{Option, Some, None, Result, Err, MatchOption, IsOk, IsOkUnless}
 use Rattle.ring_layout.specs.declared.make_fault.MakeFault.{MakeFault}
 use Rattle.ring_layout.specs.declared.make_fault.MakeFault.TheVariants.{BadCapacity, BadStart, OutOfMemory}
 use Rattle.ring_layout.specs.declared.share.NoShares.{NoShares}
-use Rattle.ring_layout.specs.Places.{max_position}
+use Rattle.ring_layout.specs.History.{span}
+use Rattle.ring_layout.specs.Places.{end_after, max_position}
 
 -- the result is the refusal, or Ok where there is none
 abbrev pub IsRefusedBy : {T F : Type 0} → Option F → Result T F → Type 0
@@ -34,6 +35,20 @@ abbrev pub make_code : MakeFault → ℤ
 make_code BadCapacity = pos 1
 make_code BadStart = pos 2
 make_code OutOfMemory = pos 3
+
+-- why a message is refused by itself: for its type id, else for its length, else for what comes after these
+abbrev pub message_refusal_or : {F : Type 0} → (ℤ → F) → (ℕ → ℕ → F) → ℕ → ℤ → ℕ → Option F → Option F
+message_refusal_or bad_type too_long C type_id len other =
+    let longest = C / 8 in
+    if int_lt type_id (pos 1) then Some (bad_type type_id)
+    else (if nat_lt longest len then Some (too_long len longest)
+    else other)
+
+-- why it is refused behind this tail: by itself, else as it would end beyond the last position, else what comes after
+abbrev pub place_refusal_or : {F : Type 0} → (ℤ → F) → (ℕ → ℕ → F) → (ℕ → F) → ℕ → ℕ → ℤ → ℕ → Option F → Option F
+place_refusal_or bad_type too_long at_limit C tail type_id len other =
+    message_refusal_or bad_type too_long C type_id len
+    (if nat_lt max_position (end_after C tail (span len)) then Some (at_limit tail) else other)
 
 -- the shares that there are
 abbrev pub all_shares : ℕ

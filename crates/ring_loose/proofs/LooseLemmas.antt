@@ -4,6 +4,7 @@ use Rattle.std.proofs.lemmas.Bool.{cases_lt}
 use Rattle.std.proofs.lemmas.List.{drop-set-lt, length-set}
 use Rattle.ring_layout.specs.declared.message.ClaimState.{ClaimState}
 use Rattle.ring_layout.specs.declared.message.ClaimState.TheVariants.{Open, Aborted}
+use Rattle.ring_layout.specs.Refusals.{all_shares}
 use Rattle.ring_words.specs.Open.{ClaimAt}
 use Rattle.ring_table.specs.declared.claim.Stage.TheVariants.{Stored}
 use Rattle.ring_table.specs.declared.view.View.{View}
@@ -92,7 +93,8 @@ module _ (start : Loose) (count n : ℕ) (now : Loose) (so_far : AbortedTo start
 
 -- a producer with all shares that has no open claim is not refused
 pub not_refused : {T E : Type 0} (error : CloseFault → E) (open_claims shares : ℕ) (result : Result T E)
-    → open_claims ≡ 0 → shares ≡ 65536 → IsRefusedAs error (close_refusal_of open_claims shares) result → IsOk result
+    → open_claims ≡ 0 → shares ≡ all_shares → IsRefusedAs error (close_refusal_of open_claims shares) result
+    → IsOk result
 not_refused error open_claims shares result none all refused =
     subst (λ n. IsRefusedAs error (close_refusal_of 0 n) result) all
     (subst (λ n. IsRefusedAs error (close_refusal_of n shares) result) none refused)

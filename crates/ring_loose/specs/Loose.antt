@@ -1,6 +1,7 @@
 -- A ring of a run with its seats.
 use Rattle.std.specs.Prelude.{◌≡◌, ℕ, List, [], ◌∷◌, Option, Some, None}
 use Rattle.ring_layout.specs.declared.message.ClaimState.TheVariants.{Aborted}
+use Rattle.ring_layout.specs.Refusals.{all_shares}
 use Rattle.ring_words.specs.Open.{ClaimAt}
 use Rattle.ring_table.specs.declared.claim.StagedClaim.{StagedClaim}
 use Rattle.ring_table.specs.declared.claim.Stage.TheVariants.{Stored}
@@ -26,7 +27,7 @@ pub record AreSeats {K : Type 0} (ring : Ring K) (p : Producer) (c : Consumer)
     (claims : List (Option ClaimAt)) : Type 0 where
   pub start : start_of ring ≡ 0
   pub holder : IsHolderOf ring p claims
-  pub alone : shares_of p ≡ 65536
+  pub alone : shares_of p ≡ all_shares
   pub consumer : IsConsumerOf ring c
 
 -- a ring as it is made

@@ -2,7 +2,7 @@
 #![tactic(auto)]
 
 ghost use Rattle.std.specs.Prelude.{◌≡◌};
-ghost use Rattle.ring_rings.specs.Seats.{shares_of, IsConsumerOf, IsProducerOf};
+ghost use Rattle.ring_rings.specs.Seats.{all_shares, shares_of, IsConsumerOf, IsProducerOf};
 
 use crossbeam_utils::Backoff;
 use ring_rings::{Action, ClaimFault, Consumer, Handler, OneToOneRing, Producer};
@@ -39,7 +39,7 @@ impl Handler for Sum {
 fn write_numbers<R: Wait>(rt: &R, ring: &OneToOneRing, mut producer: Producer) -> Producer
     // The producer is one of this ring, and the only one.
     requires producer { IsProducerOf ring.now producer }
-    requires sole { shares_of producer ≡ 65536 }
+    requires sole { shares_of producer ≡ all_shares }
     ensures { IsProducerOf ring.now result }
 {
     let backoff = Backoff::new();
@@ -90,7 +90,7 @@ fn main(rt: HostRuntime) -> anyhow::Result<()> {
         &rt,
         // A closure's clauses tell what goes into its thread and what comes out of it.
         move || -> Producer
-            requires { IsProducerOf shared.now producer × (shares_of producer ≡ 65536) }
+            requires { IsProducerOf shared.now producer × (shares_of producer ≡ all_shares) }
             ensures { IsProducerOf shared.entry.now result }
         { write_numbers(rt_of_both, shared, producer) },
         move || -> (Consumer, Sum)

@@ -1,5 +1,5 @@
 -- What follows from a claim that was made.
-use Rattle.std.proofs.Common.{◌≡◌, ◌≢◌, ℕ, ◌+◌, ◌%◌, ◌^◌, ◌<◌, ℤ, List, [], ◌∷◌, ◌++◌, false, length, refl, sym, ap, ◌∙◌, subst, arith}
+use Rattle.std.proofs.Common.{◌≡◌, ◌≢◌, ℕ, ◌+◌, ◌%◌, ◌^◌, ◌<◌, ◌≤◌, ℤ, List, [], ◌∷◌, ◌++◌, false, length, refl, sym, ap, ◌∙◌, subst, arith}
 use Rattle.std.proofs.lemmas.List.{length-replicate}
 use lib.ListN.{get_elem?}
 use Rattle.atomic_table.proofs.Lists.{at_longer}
@@ -8,9 +8,9 @@ use Rattle.ring_table.specs.declared.view.View.{View}
 use Rattle.ring_layout.specs.History.{span}
 use Rattle.ring_layout.specs.Places.{end_after}
 use Rattle.ring_layout.proofs.PlaceLemmas.{next_le}
-use Rattle.ring_table.specs.OpenClaims.{open_count}
+use Rattle.ring_table.specs.OpenClaims.{one_if_open, open_count}
 use Rattle.ring_table.specs.Views.{with_claim, with_claims}
-use Rattle.ring_table.specs.Staged.{AreRising, AreStored}
+use Rattle.ring_table.specs.Staged.{AreRising, AreStored, IsStored, stage_state}
 use Rattle.ring_table.specs.ProducerSteps.{HasClaimAt, IsStagedOpen}
 use Rattle.ring_words.specs.Open.{ClaimAt}
 use Rattle.ring_layout.specs.declared.admission.Admission.{Admission}
@@ -60,6 +60,30 @@ module _ {C tail : ℕ} {type_id : ℤ} {len : ℕ} {front : List (ℕ × ℕ)} 
       (sym made.admitted.place) (IsStagedOpen type_id len)
       (record { stage = refl; type_is = refl; len_is = length-replicate len 0 })
 
+  -- what the producer keeps where one more claim comes behind its own, and so many are open then
+  matches_more : {shares open_claims own_tail : ℕ} (u : View) (c : StagedClaim) (open_then : ℕ)
+      → u.producer.shares ≡ v.producer.shares → u.producer.claims ≡ v.producer.claims ++ c ∷ []
+      → u.producer.seen_tail ≡ a.end → tail ≤ c.place → IsStored c.stage
+      → open_claims + one_if_open (stage_state c.stage) ≡ open_then → Matches v shares open_claims own_tail
+      → Matches u shares open_then a.end
+  matches_more {shares} {open_claims} {own_tail} u c open_then shares_are more seen behind stored opens known =
+      let counted = known.counted in
+      let count : open_count u.producer.claims ≡ open_count v.producer.claims + one_if_open (stage_state c.stage) =
+      ap open_count more ∙ open_count-more v.producer.claims c in
+      let end = made.admitted.end in
+      let limit = made.admitted.limit in
+      record {
+        shares_are = shares_are ∙ known.shares_are;
+        some = known.some;
+        most = known.most;
+        counted = omega arith;
+        rising = subst AreRising (sym more) (rising_more tail v.producer.claims c known.rising made.behind behind);
+        stored = subst AreStored (sym more) (stored_more v.producer.claims c known.stored stored);
+        own = λ all. seen;
+        whole = made.whole;
+        limit = rw end limit;
+      }
+
   module _ {shares open_claims own_tail : ℕ} (known : Matches v shares open_claims own_tail) where
     pub made_few : open_claims + 1 < 2 ^ 64
     made_few =
@@ -72,27 +96,10 @@ module _ {C tail : ℕ} {type_id : ℤ} {len : ℕ} {front : List (ℕ × ℕ)} 
         omega arith
 
     pub made_matches : Matches w shares (open_claims + 1) a.end
-    made_matches =
-        let counted = known.counted in
-        let count : open_count w.producer.claims ≡ open_count v.producer.claims + 1 =
-        ap open_count made_claims ∙ open_count-more v.producer.claims (claim_behind C tail type_id len) in
-        let end = made.admitted.end in
-        let whole = made.whole in
-        let limit = made.admitted.limit in
-        record {
-          shares_are = ap (λ (u : View). u.producer.shares) made.view ∙ known.shares_are;
-          some = known.some;
-          most = known.most;
-          counted = omega arith;
-          rising = subst AreRising (sym made_claims)
-              (rising_more tail v.producer.claims (claim_behind C tail type_id len) known.rising made.behind
-              (next_le C tail (span len)));
-          stored = subst AreStored (sym made_claims)
-              (stored_more v.producer.claims (claim_behind C tail type_id len) known.stored tt);
-          own = λ all. ap (λ (u : View). u.producer.seen_tail) made.view ∙ sym end;
-          whole = whole;
-          limit = rw end limit;
-        }
+    made_matches = matches_more w (claim_behind C tail type_id len) (open_claims + 1)
+        (ap (λ (u : View). u.producer.shares) made.view) made_claims
+        (ap (λ (u : View). u.producer.seen_tail) made.view ∙ sym made.admitted.end) (next_le C tail (span len)) tt refl
+        known
 
   -- behind all claims that the producer had
   pub made_apart : (place : ℕ) (P : StagedClaim → Type 0) → HasClaimAt v place P → place ≢ a.place
@@ -126,28 +133,12 @@ module _ {C tail : ℕ} {type_id : ℤ} {len : ℕ} {front : List (ℕ × ℕ)} 
 
     pub written_matches : {shares open_claims own_tail : ℕ} → Matches v shares open_claims own_tail
         → Matches u shares open_claims a.end
-    written_matches {shares} {open_claims} {own_tail} known =
-        let counted = known.counted in
-        let count : open_count u.producer.claims ≡ open_count v.producer.claims + 0 =
-        ap open_count written_claims ∙ open_count-more v.producer.claims (record_behind C tail type_id body) in
-        let end = made.admitted.end in
-        let limit = made.admitted.limit in
-        record {
-          shares_are = ap (λ (z : View). z.producer.shares) written_view ∙ known.shares_are;
-          some = known.some;
-          most = known.most;
-          counted = omega arith;
-          rising = subst AreRising (sym written_claims)
-              (rising_more tail v.producer.claims (record_behind C tail type_id body) known.rising made.behind
-              (next_le C tail (span (length body))));
-          stored = subst AreStored (sym written_claims)
-              (stored_more v.producer.claims (record_behind C tail type_id body) known.stored tt);
-          own = λ all. ap (λ (z : View). z.producer.seen_tail)
-              (stored ∙ ap (with_claims (v.producer.claims ++ record_behind C tail type_id body ∷ [])) made.view)
-              ∙ sym end;
-          whole = made.whole;
-          limit = rw end limit;
-        }
+    written_matches {shares} {open_claims} known = matches_more u (record_behind C tail type_id body) open_claims
+        (ap (λ (z : View). z.producer.shares) written_view) written_claims
+        (ap (λ (z : View). z.producer.seen_tail)
+        (stored ∙ ap (with_claims (v.producer.claims ++ record_behind C tail type_id body ∷ [])) made.view)
+        ∙ sym made.admitted.end)
+        (next_le C tail (span (length body))) tt (omega arith) known
 
     -- what the producer knows of its seat, and what the seat is for
     pub written_seat : {shares open_claims own_tail : ℕ} {A : Type 0} {slots slots' : List A}

@@ -10,6 +10,7 @@ use Rattle.ring_table.specs.Changes.{blank, fresh_stage}
 use Rattle.ring_table.specs.ProducerSteps.{EndBelow}
 use Rattle.ring_table.specs.Views.{with_claim}
 use Rattle.ring_layout.specs.declared.admission.Admission.{Admission}
+use Rattle.ring_layout.specs.Refusals.{all_shares}
 use Rattle.ring_rings.specs.declared.producer.room.Shortage.{Shortage}
 use Rattle.ring_rings.specs.declared.producer.room.Shortage.TheVariants.{Full, Passed}
 use Rattle.ring_rings.specs.Claiming.{GoesBy, LooksTwice, SeesRoom, claim_behind, looked, tail_refusal_of}
@@ -46,7 +47,7 @@ pub record FindsPassed (C tail end seen : ℕ) (v w : View) : Type 0 where
   pub view : w ≡ looked loads v.producer.seen_tail head v
   pub goes : GoesBy C tail end loads seen
   pub greater : tail < seen
-  pub others : v.producer.shares ≢ 65536
+  pub others : v.producer.shares ≢ all_shares
 
 abbrev pub FindsShortage : ℕ → ℕ → ℕ → Shortage → View → View → Type 0
 FindsShortage C tail end (Full head) v w = FindsNoRoom C tail end head v w

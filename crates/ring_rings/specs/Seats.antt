@@ -2,6 +2,7 @@
 use Rattle.std.specs.Prelude.{◌≡◌, ◌≢◌, ℕ, ◌+◌, ◌%◌, ◌≤◌, List}
 use Rattle.ring_layout.specs.History.{IsMessage}
 use Rattle.ring_layout.specs.Places.{max_position}
+pub use Rattle.ring_layout.specs.Refusals.{all_shares}
 use Rattle.ring_words.specs.Open.{ClaimAt}
 use Rattle.ring_table.specs.Changes.{blank}
 use Rattle.ring_table.specs.ProducerSteps.{HasClaimAt, IsStagedOpen}
@@ -49,7 +50,7 @@ pub record IsProducerOf {K : Type 0} (ring : Ring K) (p : Producer) : Type 0 whe
 
 -- where the ring is for one producer, this one holds all shares
 abbrev pub MayClaim : Type 0 → Producer → Type 0
-MayClaim is_for_one p = is_for_one → shares_of p ≡ 65536
+MayClaim is_for_one p = is_for_one → shares_of p ≡ all_shares
 
 -- The consumer ---------------------------------------------------------------
 

@@ -1,6 +1,7 @@
 //! How a ring is closed.
 ghost use Rattle.std.specs.Prelude.{◌≡◌, IfOk, OnOk, vec_len};
 ghost use Rattle.std.specs.Slots.{slots_items, slots_len, IsFull};
+ghost use Rattle.ring_layout.specs.Refusals.{all_shares};
 ghost use Rattle.ring_rings.specs.Closing.{close_refusal_of, kept_open, HandsOut, IsRefusedAs, Serves};
 ghost use Rattle.ring_rings.specs.Seats.{capacity_of, consumer_view, open_claims_of, shares_of, start_of, view_of};
 ghost use Rattle.ring_rings.specs.Seats.{IsConsumerOf, IsProducerOf};
@@ -27,7 +28,7 @@ fn copy_words(closed: &Closed<Wanted, Global>, words: &mut Vec<u64>)
 fn test_close(producer: &Producer) -> Result<(), CloseFault>
     ensures refused { IsRefusedAs (λ fault. fault)
         (close_refusal_of (open_claims_of producer.now) (shares_of producer.now)) result }
-    ensures ok { OnOk result ((open_claims_of producer.now ≡ 0) × (shares_of producer.now ≡ 65536)) }
+    ensures ok { OnOk result ((open_claims_of producer.now ≡ 0) × (shares_of producer.now ≡ all_shares)) }
 {
     if producer.open_claims > 0 {
         return Err(CloseFault::ClaimsOpen {

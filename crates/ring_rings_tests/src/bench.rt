@@ -1,6 +1,6 @@
 //! A ring of either kind with its sole producer and its consumer.
 ghost use Rattle.std.specs.Prelude.{◌≡◌};
-ghost use Rattle.ring_rings.specs.Seats.{shares_of, IsConsumerOf, IsOpenClaimOf, IsProducerOf};
+ghost use Rattle.ring_rings.specs.Seats.{all_shares, shares_of, IsConsumerOf, IsOpenClaimOf, IsProducerOf};
 
 use crate::script::Script;
 use ring_rings::{
@@ -56,17 +56,17 @@ pub struct Bench<K> {
     pub producer: Producer,
     pub consumer: Consumer,
     ghost writes: { IsProducerOf ring producer },
-    ghost sole: { shares_of producer ≡ 65536 },
+    ghost sole: { shares_of producer ≡ all_shares },
     ghost reads: { IsConsumerOf ring consumer },
 }
 
 /// Puts bytes into a claim, and tests whether those fit that should, and no others.
 fn fill<K>(ring: &Ring<K>, producer: &mut Producer, claim: &mut Claim, fills: &[Fill<'_>]) -> bool
     requires producer { IsProducerOf ring.now producer.old }
-    requires sole { shares_of producer.old ≡ 65536 }
+    requires sole { shares_of producer.old ≡ all_shares }
     requires claim { IsOpenClaimOf ring.now producer.old claim.old }
     ensures producer { IsProducerOf ring.now producer.new }
-    ensures sole { shares_of producer.new ≡ 65536 }
+    ensures sole { shares_of producer.new ≡ all_shares }
     ensures claim { IsOpenClaimOf ring.now producer.new claim.new }
 {
     let mut right = true;

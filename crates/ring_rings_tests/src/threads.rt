@@ -1,6 +1,6 @@
 ghost use Rattle.std.specs.Prelude.{◌≡◌, ◌≤◌};
 ghost use Rattle.std.specs.Thread.{IsSync};
-ghost use Rattle.ring_rings.specs.Seats.{shares_of, IsConsumerOf, IsProducerOf};
+ghost use Rattle.ring_rings.specs.Seats.{all_shares, shares_of, IsConsumerOf, IsProducerOf};
 
 use ring_rings::{
     Action, ClaimFault, Consumer, Handler, ManyToOneRing, OneToOneRing, Positions, Producer, Stop,
@@ -39,7 +39,7 @@ impl Handler for Numbers {
 /// Writes the numbers from 0 on, and says how many it wrote.
 fn write_numbers(ring: &OneToOneRing, mut producer: Producer) -> (Producer, u64)
     requires producer { IsProducerOf ring.now producer }
-    requires sole { shares_of producer ≡ 65536 }
+    requires sole { shares_of producer ≡ all_shares }
     ensures { IsProducerOf ring.now result.0 }
 {
     let mut written = 0;
@@ -83,7 +83,7 @@ fn numbers_come_in_order(rt: HostRuntime) -> Result<(), Fail> {
     let ((producer, written), (consumer, numbers)) = join(
         &rt,
         move || -> (Producer, u64)
-            requires { IsProducerOf shared.now producer × (shares_of producer ≡ 65536) }
+            requires { IsProducerOf shared.now producer × (shares_of producer ≡ all_shares) }
             ensures { IsProducerOf shared.entry.now result.0 }
         { write_numbers(shared, producer) },
         move || -> (Consumer, Numbers)

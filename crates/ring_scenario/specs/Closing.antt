@@ -1,5 +1,6 @@
 -- What a run hands out at its end.
 use Rattle.std.specs.Prelude.{◌≡◌, ℕ, ◌+◌, ◌-◌, ◌^◌, length, min}
+use Rattle.ring_layout.specs.Refusals.{all_shares}
 use Rattle.ring_table.specs.Passing.{placed_committed_of}
 use Rattle.ring_rings.specs.Seats.{claims_of}
 use Rattle.ring_loose.specs.Loose.{Loose}
@@ -18,4 +19,4 @@ pub record TookAndLeft (service : CommandService) (served : Served) : Type 0 whe
   pub received : served.received ≡ length (received_of service.conductor)
   pub left : served.received + served.left ≡ length (placed_committed_of (claims_of service.producer))
   pub counters : registry_of served.counters ≡ registry_of (manager_in service.conductor)
-  pub watchers : shares_of served.counters ≡ 65536
+  pub watchers : shares_of served.counters ≡ all_shares

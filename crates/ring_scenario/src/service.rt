@@ -1,5 +1,6 @@
 //! The conductor's side of a run: a ring for commands, a broadcast buffer for replies, and counters.
 ghost use Rattle.std.specs.Prelude.{◌≡◌, ◌+◌};
+ghost use Rattle.ring_layout.specs.Refusals.{all_shares};
 ghost use Rattle.ring_rings.specs.Seats.{open_claims_of, shares_of, IsConsumerOf, IsProducerOf};
 ghost use Rattle.ring_conductor.specs.Conducting.{consumer_of, manager_in, transmitter_of, value_shares_of};
 ghost use Rattle.ring_loose.specs.Held.{held_count, held_in};
@@ -34,9 +35,9 @@ pub struct CommandService {
     watchers: Numbered<ValueReader>,
     ghost produces: { IsProducerOf ring producer },
     ghost consumes: { IsConsumerOf ring (consumer_of conductor) },
-    ghost whole: { (open_claims_of producer ≡ 0) × (shares_of producer ≡ 65536) },
+    ghost whole: { (open_claims_of producer ≡ 0) × (shares_of producer ≡ all_shares) },
     ghost listen: { IsCrowdOf board (crowd (transmitter_of conductor) listeners) },
-    ghost shares: { shares_in (crowd (transmitter_of conductor) listeners) ≡ 65536 },
+    ghost shares: { shares_in (crowd (transmitter_of conductor) listeners) ≡ all_shares },
     ghost watch: { AreWatchedBy values (manager_in conductor) watchers },
-    ghost value_shares: { value_shares_of conductor + held_count (held_in watchers) ≡ 65536 },
+    ghost value_shares: { value_shares_of conductor + held_count (held_in watchers) ≡ all_shares },
 }

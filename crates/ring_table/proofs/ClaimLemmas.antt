@@ -19,6 +19,7 @@ use Rattle.ring_table.specs.ProducerSteps.{Mine, IsClaimable, MovesTail, MovesOw
 use Rattle.ring_table.proofs.StagedWords.{staged_word-fresh}
 use Rattle.ring_table.proofs.HistoryLemmas.{staged_end-append, owned_by-append, owned_by-append_other}
 use Rattle.ring_layout.proofs.ListLemmas.{at_below}
+use Rattle.ring_layout.specs.Refusals.{all_shares}
 use Rattle.ring_table.proofs.KnowLemmas.{knows_after}
 use Rattle.ring_table.proofs.StepLemmas.{sole_sees_top, becomes}
 use Rattle.ring_table.proofs.MemoryLemmas.{memory_appended, service_elsewhere}
@@ -104,7 +105,7 @@ module _ (C start : ℕ) where
       let told : Mine → Type 0 = λ me'. (me'.1 ≡ me.1)
       × ((said : Wanted) → some wanted ≡ some said → MovesTail me.0.capacity old new said me.0 n me'.0)
       × (n ≢ old → Logs (tail_index C) n me.0 me'.0) in
-      let at_sole = λ (all : v.producer.shares ≡ 65536). is
+      let at_sole = λ (all : v.producer.shares ≡ all_shares). is
       ∙ sym (sole_sees_top s.views id v top r.seated.shares r.seated.latest at all) in
       exchanged n old new (May C start s (tail_index C) id me told)
       (λ hit. (
@@ -147,7 +148,7 @@ module _ (C start : ℕ) where
 
   -- a sole producer knows the tail, so it may store it
   pub moves_own_tail : (slots id : ℕ) (me : Mine) → me.0.capacity ≡ C → (new : ℕ) (type_id : ℤ) (n : ℕ)
-      → me.0.producer.shares ≡ 65536 → IsClaimable C me.0.producer.seen_tail new type_id n me.0.producer.seen_head
+      → me.0.producer.shares ≡ all_shares → IsClaimable C me.0.producer.seen_tail new type_id n me.0.producer.seen_head
       → Allows (Ok C start) slots id me (tail_index C) (λ _. new)
       (λ _ me'. (me'.1 ≡ me.1) × MovesOwnTail me.0.capacity new me.0 me'.0)
   moves_own_tail slots id me cap new type_id n all claimable s r wide at small =

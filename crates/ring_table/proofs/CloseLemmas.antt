@@ -13,11 +13,12 @@ use Rattle.ring_table.specs.Closed.{IsClosed, restarted, LeavesRest}
 use Rattle.ring_table.proofs.OwnerLemmas.{owned_by-sole}
 use Rattle.ring_table.proofs.RestLemmas.{end_of-claims_of, staged_word_at-claims_of, splits, stored_rest, claims_of-restarted}
 use Rattle.ring_layout.proofs.Sums.{total-sole}
+use Rattle.ring_layout.specs.Refusals.{all_shares}
 use Rattle.ring_table.proofs.ListLemmas.{there_or_past}
 use Rattle.ring_table.proofs.StepLemmas.{others_poor, sole_sees_top}
 
 pub closes : (C start : ℕ) (words : List ℕ) (views : List View) → Kept C start words views → (id : ℕ) (v : View)
-    → get_elem? views id ≡ some v → v.producer.shares ≡ 65536 → v.consumes ≡ true → IsClosed C start words v
+    → get_elem? views id ≡ some v → v.producer.shares ≡ all_shares → v.consumes ≡ true → IsClosed C start words v
 closes C start words views r id v at all consumes =
     let own = r.seated.each id v at in
     let mine = (own.consumes consumes).1 in

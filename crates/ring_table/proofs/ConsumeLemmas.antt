@@ -22,7 +22,7 @@ use Rattle.ring_table.specs.ConsumerSteps.{with_scan, rounded, IsInside, LoadsHe
 use Rattle.ring_table.proofs.StagedPlaces.{capacity_aligned, start_aligned}
 use Rattle.ring_table.proofs.ReachLemmas.{reach_bounds, reach_aligned, shows_body}
 use Rattle.ring_table.proofs.HeaderReads.{low_half, halves, Leads, leads}
-use Rattle.ring_table.proofs.ListLemmas.{set_own}
+use Rattle.std.proofs.lemmas.List.{set-get_or}
 use Rattle.ring_table.proofs.KnowLemmas.{knows_on}
 use Rattle.ring_table.proofs.StepLemmas.{sees_top_after, becomes}
 use Rattle.ring_table.proofs.MemoryLemmas.{GoesOn, IsNoService, index_inside, not_inside, service_elsewhere}
@@ -85,7 +85,7 @@ module _ (C start : ℕ) where
       subst (λ (c : ConsumerView). Kept C start (set s.words (index C p) (slice_index s.words (index C p)))
       (set s.views id (with_consumer c (logged (index C p) n v)))) (ap (scanned q got) (sym mine))
       (consumed s.words s.views r id v at consumes (index C p) (slice_index s.words (index C p)) now _
-      (subst (λ l. IsMemory C start l (all_of r.hist) now) (sym (set_own s.words (index C p))) (record {
+      (subst (λ l. IsMemory C start l (all_of r.hist) now) (sym (set-get_or s.words (index C p) 0)) (record {
         wide = m.wide;
         placed = m.placed;
         tail_is = m.tail_is;

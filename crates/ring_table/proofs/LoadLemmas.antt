@@ -18,7 +18,7 @@ use Rattle.ring_table.proofs.HistoryLemmas.{owned_at}
 use Rattle.ring_table.proofs.OwnerLemmas.{rising_owned_by}
 use Rattle.ring_table.proofs.ReachLemmas.{not_passed}
 use Rattle.ring_layout.proofs.Sums.{total-least}
-use Rattle.ring_table.proofs.ListLemmas.{set_own}
+use Rattle.std.proofs.lemmas.List.{set-get_or}
 use Rattle.ring_table.proofs.KnowLemmas.{knows_seeing}
 use Rattle.ring_table.proofs.StepLemmas.{sole_sees_top, sees_top_after, becomes}
 use Rattle.ring_table.proofs.MemoryLemmas.{head_bounds}
@@ -42,7 +42,7 @@ module _ (C start : ℕ) where
   looked words views r id i v w at knows rich later drawn =
       let top : ℕ = staged_end start (all_of r.hist) in
       let seen = knows.tail_seen in
-      subst (λ l. Kept C start l (set views id w)) (sym (set_own words i))
+      subst (λ l. Kept C start l (set views id w)) (sym (set-get_or words i 0))
       (becomes C start words views r id v at words r.hist r.consumer r.drawn w (record {
         memory = r.memory;
         service = r.service;

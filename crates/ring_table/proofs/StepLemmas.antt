@@ -13,6 +13,7 @@ use Rattle.ring_table.specs.Views.{ConsumerView, View, spent}
 use Rattle.ring_table.specs.Rule.{IsMemory, IsService, Knows, SeesTop, IsSeated, Kept, shares_of}
 use Rattle.ring_layout.proofs.Sums.{total-set, total-zero}
 use Rattle.ring_layout.proofs.ListLemmas.{at_below, each_set}
+use Rattle.ring_layout.specs.Refusals.{all_shares}
 
 -- what an entry that is known is, by two reports of it
 pub one_view : (views : List View) (i j : ℕ) (u v : View) → get_elem? views i ≡ some u → get_elem? views j ≡ some v
@@ -20,20 +21,20 @@ pub one_view : (views : List View) (i j : ℕ) (u v : View) → get_elem? views 
 one_view views i j u v at_i at_j same = some-injective u v (sym at_i ∙ ap (get_elem? views) same ∙ at_j)
 
 -- a producer that has all shares leaves none to others
-pub others_poor : (views : List View) (id j : ℕ) (v u : View) → total shares_of views ≡ 65536
-    → get_elem? views id ≡ some v → v.producer.shares ≡ 65536 → j ≢ id → get_elem? views j ≡ some u
+pub others_poor : (views : List View) (id j : ℕ) (v u : View) → total shares_of views ≡ all_shares
+    → get_elem? views id ≡ some v → v.producer.shares ≡ all_shares → j ≢ id → get_elem? views j ≡ some u
     → u.producer.shares ≡ 0
 others_poor views id j v u sum at all ne there =
     let left : ℕ = total shares_of (set views id spent) in
     let whole : ℕ = total shares_of views in
     let exchange : left + v.producer.shares ≡ whole + 0 = total-set shares_of views id v spent at in
-    let whole_is : whole ≡ 65536 = sum in
+    let whole_is : whole ≡ all_shares = sum in
     let none : left ≡ 0 = omega arith in
     total-zero shares_of (set views id spent) j u none (set_else views id j spent ne ∙ there)
 
 -- and has seen the tail as it is
-pub sole_sees_top : (views : List View) (id : ℕ) (v : View) (top : ℕ) → total shares_of views ≡ 65536
-    → SeesTop views top → get_elem? views id ≡ some v → v.producer.shares ≡ 65536 → v.producer.seen_tail ≡ top
+pub sole_sees_top : (views : List View) (id : ℕ) (v : View) (top : ℕ) → total shares_of views ≡ all_shares
+    → SeesTop views top → get_elem? views id ≡ some v → v.producer.shares ≡ all_shares → v.producer.seen_tail ≡ top
 sole_sees_top views id v top sum latest at all = dite (ℕ_discrete latest.seat id)
     (λ same. ap (λ (z : View). z.producer.seen_tail)
     (sym (one_view views latest.seat id latest.view v latest.there at same)) ∙ latest.sees)
@@ -95,8 +96,8 @@ module _ (top : ℕ) (hist : OwnedHistory) (reader : ℕ) (consumer : ConsumerVi
             let after : ℕ = total shares_of (set views id w) in
             let exchange : after + v.producer.shares ≡ before + w.producer.shares = total-set shares_of views id v w
             at in
-            let sum : before ≡ 65536 = s.shares in
-            let done : after ≡ 65536 = omega arith in
+            let sum : before ≡ all_shares = s.shares in
+            let done : after ≡ all_shares = omega arith in
             done);
         latest = step.latest;
         once = λ x.

@@ -10,6 +10,7 @@ use Rattle.ring_layout.specs.History.{IsMessage, span}
 use Rattle.ring_layout.specs.Places.{index, end_after, max_position}
 use Rattle.ring_layout.specs.Headers.{open_header}
 use Rattle.ring_layout.specs.Layout.{tail_index, head_index}
+use Rattle.ring_layout.specs.Refusals.{all_shares}
 use Rattle.ring_table.specs.Staged.{StagedClaim, Stage, Moved, Padded, Stored, claim_end, staged_span, body_word, AreRising}
 use Rattle.ring_table.specs.Changes.{blank, moved_claim, staged, with_header, with_body_word, changed}
 use Rattle.ring_table.specs.Views.{View, Wanted, logged, with_producer, with_tail, with_head, with_claims, with_claim}
@@ -33,17 +34,17 @@ pub record LoadsTail (C : ℕ) (v : View) (n : ℕ) (w : View) : Type 0 where
   pub later : v.producer.seen_tail ≤ n
   pub above_head : v.producer.seen_head ≤ n
   pub position : IsPosition n
-  pub sole : v.producer.shares ≡ 65536 → n ≡ v.producer.seen_tail
+  pub sole : v.producer.shares ≡ all_shares → n ≡ v.producer.seen_tail
   pub rising : AreRising v.producer.claims
   pub behind : EndBelow n v.producer.claims
-  pub shares : v.producer.shares ≤ 65536
+  pub shares : v.producer.shares ≤ all_shares
 
 pub record LoadsHead (C : ℕ) (v : View) (n : ℕ) (w : View) : Type 0 where
   pub view : w ≡ logged (head_index C) n (with_producer (with_head n v.producer) v)
   pub later : v.producer.seen_head ≤ n
   pub near : v.producer.seen_tail ≤ n + C
   pub position : IsPosition n
-  pub sole : v.producer.shares ≡ 65536 → n ≤ v.producer.seen_tail
+  pub sole : v.producer.shares ≡ all_shares → n ≤ v.producer.seen_tail
 
 -- what a claim of n bytes asks of the type id, the new tail and the head that was seen
 pub record IsClaimable (C old new : ℕ) (type_id : ℤ) (n seen_head : ℕ) : Type 0 where
@@ -59,7 +60,7 @@ pub record MovesTail (C old new : ℕ) (wanted : Wanted) (v : View) (n : ℕ) (w
   pub miss : n ≢ old → w ≡ logged (tail_index C) n (with_producer (with_tail n v.producer) v)
   pub later : v.producer.seen_tail ≤ n
   pub position : IsPosition n
-  pub sole : v.producer.shares ≡ 65536 → n ≡ v.producer.seen_tail
+  pub sole : v.producer.shares ≡ all_shares → n ≡ v.producer.seen_tail
 
 -- the tail of a sole producer is moved, and a claim of some type id and length is made, with the right span
 pub record MovesOwnTail (C new : ℕ) (v w : View) : Type 0 where

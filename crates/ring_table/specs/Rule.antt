@@ -8,6 +8,7 @@ use Rattle.ring_table.specs.Staged.{StagedClaim, ArePlaced, staged_end, staged_w
 use Rattle.ring_table.specs.Owners.{OwnedHistory, all_of, owned_by}
 use Rattle.ring_table.specs.Passing.{Reaches}
 use Rattle.ring_layout.specs.Lists.{total}
+use Rattle.ring_layout.specs.Refusals.{all_shares}
 use Rattle.ring_table.specs.Services.{times_drawn, once_below, AreServed}
 use Rattle.ring_table.specs.Views.{Key, ProducerView, ConsumerView, View}
 
@@ -76,7 +77,7 @@ pub record IsSeated (top : ℕ) (hist : OwnedHistory) (reader : ℕ) (consumer :
     (views : List View) : Type 0 where
   pub each : (id : ℕ) (v : View) → get_elem? views id ≡ some v → Knows top hist reader consumer n id v
   pub nobody : (id : ℕ) → length views ≤ id → owned_by id hist ≡ []
-  pub shares : total shares_of views ≡ 65536
+  pub shares : total shares_of views ≡ all_shares
   pub latest : SeesTop views top
   pub once : (x : ℕ) → total (λ (v : View). times_drawn x v.producer) views ≡ once_below x n
 

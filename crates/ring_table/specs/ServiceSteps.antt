@@ -3,6 +3,7 @@
 use Rattle.std.specs.Prelude.{◌≡◌, ℕ, ◌%◌, ◌^◌, ◌≤◌, max}
 use Rattle.ring_layout.specs.Places.{max_position}
 use Rattle.ring_layout.specs.Layout.{head_cache_index, heartbeat_index}
+use Rattle.ring_layout.specs.Refusals.{all_shares}
 use Rattle.ring_table.specs.Services.{AreRisingBelow}
 use Rattle.ring_table.specs.Views.{View, logged, with_producer, with_head, with_draw, with_heartbeat}
 
@@ -10,7 +11,7 @@ use Rattle.ring_table.specs.Views.{View, logged, with_producer, with_head, with_
 pub record LoadsCache (C : ℕ) (v : View) (n : ℕ) (w : View) : Type 0 where
   pub view : w ≡ logged (head_cache_index C) n (with_producer (with_head (max v.producer.seen_head n) v.producer) v)
   pub limit : n ≤ max_position
-  pub sole : v.producer.shares ≡ 65536 → n ≤ v.producer.seen_tail
+  pub sole : v.producer.shares ≡ all_shares → n ≤ v.producer.seen_tail
 
 -- an id that no producer drew before, above all that this one drew
 pub record DrawsId (v : View) (n : ℕ) (w : View) : Type 0 where

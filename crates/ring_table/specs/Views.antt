@@ -1,5 +1,6 @@
 -- What each seat knows at first, and how the steps change it.
 use Rattle.std.specs.Prelude.{◌≡◌, ℕ, ◌+◌, ◌-◌, List, [], ◌∷◌, ◌++◌, true, false, max}
+use Rattle.ring_layout.specs.Refusals.{all_shares}
 use Rattle.ring_table.specs.Staged.{StagedClaim, PlacedMessage}
 use Rattle.ring_table.specs.Owners.{interleaved}
 pub use Rattle.ring_table.specs.declared.view.Key.{Key}
@@ -32,7 +33,7 @@ abbrev pub first_view : Key → View
 first_view k = record {
   capacity = k.capacity;
   log = [];
-  producer = new_producer 65536 k.start k.start;
+  producer = new_producer all_shares k.start k.start;
   consumes =
       true;
   consumer = consumer_from k.start;

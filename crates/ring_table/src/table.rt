@@ -3,6 +3,7 @@ ghost use Rattle.std.specs.Prelude.{◌≡◌, ◌%◌, ◌≤◌, [], IfOk, tru
 ghost use Rattle.std.specs.Slots.{slots_items, slots_len, IsFull};
 ghost use Rattle.ring_layout.specs.Layout.{ring_words};
 ghost use Rattle.ring_layout.specs.Places.{max_position};
+ghost use Rattle.ring_layout.specs.Refusals.{all_shares};
 ghost use Rattle.ring_table.specs.Rule.{IsLawful};
 ghost use Rattle.ring_table.specs.Views.{first_view};
 ghost use Rattle.ring_table.specs.Closed.{IsClosed, IsFresh, LeavesRest};
@@ -50,7 +51,7 @@ pub fn open(alloc: Global, key: Key) -> Result<(RingTable, RingSeat), AllocError
 /// The words of a ring, once all producers and the consumer were joined into this seat.
 pub fn close(table: RingTable, seat: RingSeat) -> Closed<Wanted, Global>
     requires table { seat.table_id ≡ table.shared.table_id }
-    requires shares { seat.me.0.producer.shares ≡ 65536 }
+    requires shares { seat.me.0.producer.shares ≡ all_shares }
     requires consumes { seat.me.0.consumes ≡ true }
     ensures sizes { (slots_len result.words ≡ table.shared.table_id.words)
         × (slots_len result.slots ≡ table.shared.table_id.slots) }

@@ -5,6 +5,7 @@ ghost use Rattle.std.specs.Prelude.{◌≡◌, ◌+◌, ◌%◌, ◌≤◌, ◌<
 ghost use Rattle.std.specs.Slots.{slots_len, IsFull};
 ghost use Rattle.ring_layout.specs.Headers.{header, padding_type};
 ghost use Rattle.ring_layout.specs.Places.{max_position, next_place};
+ghost use Rattle.ring_layout.specs.Refusals.{all_shares};
 ghost use Rattle.ring_table.specs.Staged.{staged_span};
 ghost use Rattle.ring_table.specs.Changes.{fresh_stage};
 ghost use Rattle.ring_table.specs.Views.{first_view};
@@ -53,7 +54,7 @@ pub struct Owner {
     scan: u64,
     ghost is_seat: { IsSeatOf table.shared.table_id table.shared.key 128 seat },
     ghost no_slots: { table.shared.table_id.slots ≡ 0 },
-    ghost shares: { seat.me.0.producer.shares ≡ 65536 },
+    ghost shares: { seat.me.0.producer.shares ≡ all_shares },
     ghost consumes: { seat.me.0.consumes ≡ true },
     ghost head_is: { seat.me.0.consumer.head ≡ head },
     ghost cleared_is: { seat.me.0.consumer.cleared ≡ cleared },

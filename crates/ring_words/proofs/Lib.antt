@@ -5,7 +5,7 @@ pub mod FreshLemmas
 pub mod HeadLemmas
 pub mod TakeLemmas
 pub mod BodyLemmas
-pub mod ReadTests
+pub mod ReadBranches
 pub mod ReadLemmas
 pub mod ReadTurns
 pub mod HeedLemmas

@@ -14,7 +14,7 @@ use Rattle.ring_words.specs.Reading.{Sees, SeesCommitted, Leaves, MovesHead}
 use Rattle.ring_words.specs.Controlled.{GoesOn}
 use Rattle.ring_words.specs.Read.{Broke, Aborts}
 use Rattle.ring_words.proofs.ReadLemmas.{ReadsOn, aborts, broke, next_is, reads_on_message, reads_on_quiet}
-use Rattle.ring_words.proofs.ReadTests.{inside_from}
+use Rattle.ring_words.proofs.ReadBranches.{inside_from}
 
 -- neither the limit nor the end of the buffer is reached
 pub record GoesTo {S : Type 0} (step : S → Message → S → Action → Type 0) (limit : ℕ) (old mid : Ring) (s t : S)

@@ -1,22 +1,18 @@
 -- Why a claim is refused.
-use Rattle.std.specs.Prelude.{ℕ, ◌+◌, ◌/◌, ℤ, pos, Option, Some, None, if◌then◌else◌, nat_lt, int_lt}
+use Rattle.std.specs.Prelude.{ℕ, ◌+◌, ℤ, pos, Option, Some, None, if◌then◌else◌, nat_lt}
 use Rattle.ring_words.specs.declared.fault.ClaimFault.{ClaimFault}
 use Rattle.ring_words.specs.declared.fault.ClaimFault.TheVariants.{BadType, TooLong, PositionLimit, InsufficientCapacity}
 use Rattle.ring_layout.specs.History.{span}
-use Rattle.ring_layout.specs.Places.{end_after, max_position}
+use Rattle.ring_layout.specs.Places.{end_after}
+use Rattle.ring_layout.specs.Refusals.{place_refusal_or}
 pub use Rattle.ring_layout.specs.Refusals.{IsRefusedBy}
 use Rattle.ring_words.specs.Ring.{Ring, head_of, tail_of}
 
 -- the refusal of a claim of this type id and length, in the order of the tests; none where it fits
 abbrev pub refusal_of : Ring → ℤ → ℕ → Option ClaimFault
-refusal_of r type_id len =
-    let end = end_after r.capacity (tail_of r) (span len) in
-    let longest = r.capacity / 8 in
-    if int_lt type_id (pos 1) then Some (BadType type_id)
-    else (if nat_lt longest len then Some (TooLong len longest)
-    else (if nat_lt max_position end then Some (PositionLimit (tail_of r))
-    else (if nat_lt (head_of r + r.capacity) end then Some (InsufficientCapacity (tail_of r) (head_of r))
-    else None)))
+refusal_of r type_id len = place_refusal_or BadType TooLong PositionLimit r.capacity (tail_of r) type_id len
+    (if nat_lt (head_of r + r.capacity) (end_after r.capacity (tail_of r) (span len))
+    then Some (InsufficientCapacity (tail_of r) (head_of r)) else None)
 
 -- the number of a refused claim
 abbrev pub claim_code : ClaimFault → ℤ

@@ -2,6 +2,7 @@
 ghost use Rattle.std.specs.Prelude.{◌≡◌, ◌^◌, ◌≤◌, ◌↔◌, pos, [], ◌∷◌, ◌++◌, length, nat_lt};
 ghost use Rattle.std.specs.Prelude.{Err, IfOk, IsErr, IsOkUnless, MatchOption, OnErr, OnOk};
 ghost use Rattle.std.specs.List.{list_all};
+ghost use Rattle.ring_layout.specs.Refusals.{all_shares};
 ghost use Rattle.ring_counters.specs.Registry.{allocated_in, allocation_of, answer, closed_in, fresh_registry};
 ghost use Rattle.ring_counters.specs.Registry.{make_refusal_of, new_counter, owned_ids, reclaimed_in};
 ghost use Rattle.ring_counters.specs.Registry.{text_refusal_of};
@@ -64,7 +65,7 @@ impl CountersManager {
         ensures count { IfOk result (λ made. values_count made.0 ≡ count) }
         ensures registry { IfOk result (λ made. registry_of made.1 ≡ fresh_registry count reuse_ms) }
         ensures writes { IfOk result (λ made. writes_of made.1 ≡ []) }
-        ensures shares { IfOk result (λ made. shares_of made.1 ≡ 65536) }
+        ensures shares { IfOk result (λ made. shares_of made.1 ≡ all_shares) }
     {
         if count == 0 || count > MAX_COUNTERS {
             return Err(MakeFault::BadCount);

@@ -1,5 +1,6 @@
 //! The rule that holds between any two steps.
 ghost use Rattle.std.specs.Prelude.{true, []};
+ghost use Rattle.ring_layout.specs.Refusals.{all_shares};
 ghost use Rattle.ring_counters.specs.Views.{values_view};
 ghost use Rattle.ring_counters.specs.ValuesRule.{ValuesRule};
 
@@ -12,5 +13,5 @@ pub struct OneWriter;
 impl TableRule<(), ValuesView, usize> for OneWriter {
     ghost holds = { λ count s. ValuesRule count s.words s.views };
 
-    ghost first = { λ _. values_view true 65536 [] [] [] };
+    ghost first = { λ _. values_view true all_shares [] [] [] };
 }

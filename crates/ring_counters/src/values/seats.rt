@@ -1,5 +1,6 @@
 //! The values of the counters, their writer and a reader.
 ghost use Rattle.std.specs.Prelude.{◌≡◌, ◌<◌, ◌≤◌, true, []};
+ghost use Rattle.ring_layout.specs.Refusals.{all_shares};
 
 use crate::values::rule::OneWriter;
 use crate::values::view::ValuesView;
@@ -22,7 +23,7 @@ pub(crate) struct ValueWriter {
     ghost bare: { seat.me.1 ≡ [] },
     ghost writes: { seat.me.0.writes ≡ true },
     ghost counted: { shares ≡ seat.me.0.shares },
-    ghost some: { (0 < shares) × (shares ≤ 65536) },
+    ghost some: { (0 < shares) × (shares ≤ all_shares) },
 }
 
 /// Loads values, by id, on any thread; it is used by one at a time. Nothing waits for one that is let go.

@@ -1,5 +1,6 @@
 //! The steps on the values, and the two that cut a seat in two or put two together.
 ghost use Rattle.std.specs.Prelude.{◌≡◌, ℕ, ◌+◌, ◌<◌, ◌≤◌, ◌↔◌, List, [], ◌∷◌, ◌++◌, IfOk, IfErr, IsOk};
+ghost use Rattle.ring_layout.specs.Refusals.{all_shares};
 ghost use Rattle.ring_counters.specs.declared.values.view.ValueWrite.{ValueWrite};
 ghost use Rattle.ring_counters.specs.Views.{value_write};
 ghost use Rattle.ring_counters.specs.ValueWrites.{AreLoads};
@@ -22,7 +23,7 @@ impl CounterValues {
         requires some { 0 < count }
         requires few { count ≤ 4096 }
         ensures { IfOk result (λ r. IsWriterOf r.0 r.1 × (values_count r.0 ≡ count)
-            × (writer_writes r.1 ≡ []) × (r.1.shares ≡ 65536)) }
+            × (writer_writes r.1 ≡ []) × (r.1.shares ≡ all_shares)) }
     {
         let words = vec![in alloc; 0u64; count]?;
         let (table, seat) = Table::of_words(alloc, &words, &count)?;

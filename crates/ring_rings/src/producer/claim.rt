@@ -1,6 +1,7 @@
 //! One try of a claim, by the steps that it takes.
 ghost use Rattle.std.specs.Prelude.{◌≡◌, ◌%◌, ◌<◌, ◌≤◌, [], MatchResult, OnErr};
 ghost use Rattle.ring_layout.specs.Places.{max_position};
+ghost use Rattle.ring_layout.specs.Refusals.{all_shares};
 ghost use Rattle.ring_table.specs.Seats.{IsSameSeat, IsSeatOf};
 ghost use Rattle.ring_rings.specs.Claiming.{RefusesAlone, RefusesTry};
 ghost use Rattle.ring_rings.specs.Making.{Makes, MakesBehind};
@@ -23,7 +24,7 @@ pub(crate) fn claim_alone(
     wanted: Wanted,
 ) -> Result<Admission, ClaimFault>
     requires seat { IsSeatOf words.now.table_id words.now.key capacity seat.old }
-    requires sole { seat.old.me.0.producer.shares ≡ 65536 }
+    requires sole { seat.old.me.0.producer.shares ≡ all_shares }
     requires tail { (seat.old.me.0.producer.seen_tail ≡ tail) × (tail % 8 ≡ 0) × (tail ≤ max_position) }
     ensures seat { IsSameSeat seat.old seat.new }
     ensures told { MatchResult result
@@ -55,7 +56,8 @@ pub(crate) fn try_claim(
         (λ a. MakesBehind capacity wanted.type_id wanted.len seat.old.me.0 a seat.new.me.0)
         (λ fault. RefusesTry capacity wanted.type_id wanted.len seat.old.me.0 fault seat.new.me.0) }
     ensures own { OnErr result
-        (seat.old.me.0.producer.shares ≡ 65536 → seat.new.me.0.producer.seen_tail ≡ seat.old.me.0.producer.seen_tail) }
+        (seat.old.me.0.producer.shares ≡ all_shares
+        → seat.new.me.0.producer.seen_tail ≡ seat.old.me.0.producer.seen_tail) }
 {
     test_request(capacity, wanted)?;
     let tail = load_tail(words, seat, capacity);

@@ -1,5 +1,6 @@
 //! The calls of a ring with one producer.
 ghost use Rattle.std.specs.Prelude.{◌≡◌, length, IfErr, IfOk, OnOk};
+ghost use Rattle.ring_layout.specs.Refusals.{all_shares};
 ghost use Rattle.ring_rings.specs.Claiming.{ClaimsAlone, RefusesAlone, WritesAlone};
 ghost use Rattle.ring_rings.specs.Seats.{capacity_of, shares_of, view_of};
 ghost use Rattle.ring_rings.specs.Seats.{IsNewClaimOf, IsProducerOf, KeepsClaims};
@@ -24,7 +25,7 @@ impl Ring<OneToOne> {
         len: usize,
     ) -> Result<Claim, ClaimFault>
         requires producer { IsProducerOf self.now producer.old }
-        requires sole { shares_of producer.old ≡ 65536 }
+        requires sole { shares_of producer.old ≡ all_shares }
         ensures producer { IsProducerOf self.now producer.new }
         ensures claimed { IfOk result (λ t.
             ClaimsAlone (capacity_of self.now) type_id len (view_of producer.old) t (view_of producer.new)) }
@@ -56,7 +57,7 @@ impl Ring<OneToOne> {
         body: &[u8],
     ) -> Result<(), ClaimFault>
         requires producer { IsProducerOf self.now producer.old }
-        requires sole { shares_of producer.old ≡ 65536 }
+        requires sole { shares_of producer.old ≡ all_shares }
         ensures producer { IsProducerOf self.now producer.new }
         ensures written { OnOk result
             (WritesAlone (capacity_of self.now) type_id body.now (view_of producer.old) (view_of producer.new)) }

@@ -1,5 +1,6 @@
 //! Whether a ring has room for a claim.
 ghost use Rattle.std.specs.Prelude.{◌≡◌, MatchResult};
+ghost use Rattle.ring_layout.specs.Refusals.{all_shares};
 ghost use Rattle.ring_table.specs.Seats.{IsSameSeat, IsSeatOf};
 ghost use Rattle.ring_rings.specs.Making.{FindsNoRoom, FindsRoom, FindsShortage};
 
@@ -24,7 +25,7 @@ pub(crate) fn find_room_alone(
     admission: Admission,
 ) -> Result<(), u64>
     requires seat { IsSeatOf words.now.table_id words.now.key capacity seat.old }
-    requires sole { seat.old.me.0.producer.shares ≡ 65536 }
+    requires sole { seat.old.me.0.producer.shares ≡ all_shares }
     requires tail { seat.old.me.0.producer.seen_tail ≡ admission.tail }
     ensures seat { IsSameSeat seat.old seat.new }
     ensures found { MatchResult result

@@ -1,5 +1,6 @@
 //! The listeners to the conductor's replies.
 ghost use Rattle.std.specs.Prelude.{◌≡◌, IfNone, IfOk, IfSome, OnErr, OnSome};
+ghost use Rattle.ring_layout.specs.Refusals.{all_shares};
 ghost use Rattle.ring_board.specs.Refusals.{subscribe_refusal_of, IsSubscribedUnless};
 ghost use Rattle.ring_board.specs.Seats.{shares_of};
 ghost use Rattle.ring_conductor.specs.Conducting.{KeepsTheRest, transmitter_of};
@@ -110,7 +111,7 @@ impl CommandService {
 
     /// Joins all listeners, in rising order of their numbers. The transmitter has all shares then.
     pub(super) fn join_listeners(&mut self)
-        ensures shares { shares_of (transmitter_of self.new.conductor) ≡ 65536 }
+        ensures shares { shares_of (transmitter_of self.new.conductor) ≡ all_shares }
         ensures others { KeepsTheRest self.old.conductor self.new.conductor }
         ensures producer { self.new.producer ≡ self.old.producer }
     {

@@ -1,5 +1,6 @@
 //! The watchers of the counters' values.
 ghost use Rattle.std.specs.Prelude.{◌≡◌, ◌+◌, ◌<◌, ◌↔◌, IfNone, IfOk, IfSome, IsOk, OnErr, OnSome};
+ghost use Rattle.ring_layout.specs.Refusals.{all_shares};
 ghost use Rattle.ring_counters.specs.Manager.{writes_of};
 ghost use Rattle.ring_counters.specs.Seats.{values_count};
 ghost use Rattle.ring_conductor.specs.Conducting.{manager_in, value_shares_of, KeepsAllCounters};
@@ -126,7 +127,7 @@ impl CommandService {
 
     /// Takes all watchers away, in rising order of their numbers. The counters have all shares of the values then.
     pub(super) fn join_watchers(&mut self)
-        ensures shares { value_shares_of self.new.conductor ≡ 65536 }
+        ensures shares { value_shares_of self.new.conductor ≡ all_shares }
         ensures keeps { KeepsAllCounters self.new.values self.old.conductor self.new.conductor }
         ensures producer { self.new.producer ≡ self.old.producer }
     {

@@ -1,8 +1,9 @@
 //! The steps of a producer on the tail, the head and its claims.
-ghost use Rattle.std.specs.Prelude.{◌≡◌, ◌+◌, ◌%◌, ◌^◌, ◌<◌, ◌≤◌};
+ghost use Rattle.std.specs.Prelude.{◌≡◌, ◌+◌, ◌%◌, ◌<◌, ◌≤◌};
 ghost use Rattle.ring_layout.specs.declared.message.ClaimState.TheVariants.{Aborted, Committed, Open};
 ghost use Rattle.ring_layout.specs.History.{IsMessage};
 ghost use Rattle.ring_layout.specs.Places.{index};
+ghost use Rattle.ring_layout.specs.Refusals.{all_shares};
 ghost use Rattle.ring_table.specs.Staged.{AreRising, Padded, Stored};
 ghost use Rattle.ring_table.specs.Changes.{blank, with_header, staged, with_body_word};
 ghost use Rattle.ring_table.specs.Views.{logged};
@@ -66,7 +67,7 @@ pub fn store_tail(
     wanted: Wanted,
 )
     requires seat { IsSeatOf ring.now.table_id ring.now.key capacity producer.old }
-    requires sole { producer.old.me.0.producer.shares ≡ 65536 }
+    requires sole { producer.old.me.0.producer.shares ≡ all_shares }
     requires room { IsClaimable capacity producer.old.me.0.producer.seen_tail new wanted.type_id wanted.len
         producer.old.me.0.producer.seen_head }
     ensures seat { IsSameSeat producer.old producer.new }

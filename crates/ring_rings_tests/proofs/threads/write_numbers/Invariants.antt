@@ -1,6 +1,6 @@
 use Rattle.std.specs.Prelude.{◌≡◌, ◌≤◌}
-use Rattle.ring_rings.specs.Seats.{shares_of, IsProducerOf}
+use Rattle.ring_rings.specs.Seats.{all_shares, shares_of, IsProducerOf}
 use Rattle.ring_rings_tests.proofs.threads.write_numbers.Given as goal
 
 abbrev pub invariant-turns : goal.invariant-turns
-invariant-turns l = IsProducerOf l.ring l.producer × (shares_of l.producer ≡ 65536) × (l.written ≤ 1000)
+invariant-turns l = IsProducerOf l.ring l.producer × (shares_of l.producer ≡ all_shares) × (l.written ≤ 1000)

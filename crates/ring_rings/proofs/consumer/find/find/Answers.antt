@@ -3,7 +3,7 @@ use lib.IntN.{nat_abs}
 use Rattle.std.specs.Int.{w32}
 use Rattle.std.proofs.lemmas.Int.{to_z-of_z}
 use Rattle.ring_table.specs.ConsumerSteps.{rounded}
-use Rattle.ring_words.proofs.ReadTests.{padding_from}
+use Rattle.ring_words.proofs.ReadBranches.{padding_from}
 use Rattle.ring_rings.proofs.ReadingFinds.{above_from, low_from, finds_nothing, finds_quiet, finds_one, has_header, nothing_scans, quiet_scans, one_scans}
 use Rattle.ring_rings.specs.ReadingSteps.{FindsOne, FindsQuiet}
 use Rattle.ring_rings.proofs.consumer.find.find.Goals as goal

@@ -7,7 +7,7 @@ use Rattle.ring_words.specs.Controlled.{GoesOn, heeded}
 use Rattle.ring_words.specs.Read.{Broke}
 use Rattle.ring_words.specs.Reading.{Sees}
 use Rattle.ring_words.proofs.ReadLemmas.{reads_keeps, reads_on_none, went_on}
-use Rattle.ring_words.proofs.ReadTests.{padding_from}
+use Rattle.ring_words.proofs.ReadBranches.{padding_from}
 use Rattle.ring_words.proofs.ReadTurns.{breaks, goes_on_past, goes_past, goes_to, leaves_it}
 use Rattle.ring_words.proofs.ring.SoloRing.run.Given.{Over}
 use Rattle.ring_words.proofs.ring.SoloRing.run.Goals.{After-read_end-in-Break}

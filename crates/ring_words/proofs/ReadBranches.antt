@@ -1,4 +1,4 @@
--- What the tests of a read tell.
+-- What a branch of a read knows by its test.
 use Rattle.std.proofs.Common.{◌≡◌, ◌≢◌, ℕ, ◌-◌, ◌%◌, ◌<◌, refl, ap, sym, ◌∙◌, arith, inl, inr, ℤ, FitsSigned, to_z, of_z, nat_lt, ◌&&◌, ◌==◌, false}
 use Rattle.std.specs.Int.{w32}
 use Rattle.std.proofs.lemmas.Int.{to_z-of_z}
