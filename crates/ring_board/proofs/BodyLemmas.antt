@@ -63,7 +63,7 @@ module _ (C e : ℕ) (s : St) (by : ℕ) (mine : View) (h : IsBoard C e by mine 
       (subst (λ (y : ℕ × ℕ). IsLoaded y.0 v.log y.1 body) (λ i. (size i, place i)) loaded) (omega arith)
       ∙ sym (ap (λ m. m.body) copy.message)
 
-  -- the tail is beyond the records that were answered
+  -- the tail is beyond the records that were returned
   answered_below : (n : ℕ) (c : Taken) → get_elem? v.copies n ≡ some c
       → c.place + span (length c.message.body) ≤ end_of e mine.sent
   answered_below n c on =
@@ -98,7 +98,7 @@ module _ (C e slots id : ℕ) (me : Sat) (i : ℕ) where
 
 -- Loading a body, word by word ---------------------------------------------------
 
--- so many words behind a place were loaded, and their bytes lie at the front of out
+-- this many words after a place were loaded, and their bytes are at the front of out
 abbrev pub LoadedWords : ℕ → ℕ → List ℕ → Sat → Sat → Type 0
 LoadedWords place count out m m' =
     (ws : List ℕ) × (loads : List Load) × (m' ≡ (record m.0 { log = m.0.log ++ loads }, m.1)) × (length ws ≡ count)

@@ -25,7 +25,7 @@ first_words_snoc (suc k) bytes = ap (λ l. from_le_bytes w64 bytes ∷ l) (first
     e)))
 
 module _ (bytes : List ℕ) (small : (i : ℕ) → get_or bytes i 0 < 256) where
-  -- at most eight bytes, with zeros behind them
+  -- at most eight bytes, with zeros after them
   abbrev padded : List ℕ
   padded = bytes ++ replicate (8 - length bytes) 0
 

@@ -21,7 +21,7 @@ more_words st d a b is = ap (λ (u : Stage). after_words (after_words u a) b) is
     ∙ ap (λ (u : Stage). after_words u (a ++ b)) (sym is))
 
 module _ (C tail len : ℕ) (roomy : 256 ≤ C) (whole : C % 64 ≡ 0) (aligned : tail % 8 ≡ 0) (short : len ≤ C / 8) where
-  -- a record that is placed behind the tail lies there
+  -- a record that is placed after the tail is there
   pub lies_next : Lies C tail tail (next_place C tail (span len)) (next_place C tail (span len) + span len)
   lies_next = let p : ℕ = next_place C tail (span len) in let b = span_bounds len in let low = b.1 in let high =
       b.2 in let s8 = b.0 in

@@ -36,7 +36,7 @@ pub heard_sure : (m m1 m2 : Sat) (t i w : ℕ) → m1 ≡ (tail_loaded m.0 t, m.
 heard_sure m m1 m2 t i w a b lt = b ∙ ap (λ (st : Stage). (header_loaded m1.0 i st w, m1.1))
     (ap (λ (y : Sat). y.0.stage) a ∙ ap (λ (c : Bool). cond c Sure Resting) (lt-ltb m.0.at t lt))
 
--- the receiver behind its padding
+-- the receiver after its padding
 pub padded_as : (m m1 m2 m3 : Sat) (t i w x : ℕ) → m1 ≡ (tail_loaded m.0 t, m.1)
     → m2 ≡ (header_loaded m1.0 i Sure w, m1.1) → m3 ≡ (validated m2.0 x, m2.1)
     → (m.0.at < t) × (x < m.0.at + m.0.capacity) → is_padding w ≡ true
@@ -74,7 +74,7 @@ padding_seen v C at t w x p a b pads to = inr (
 
 -- The header of the next entry -----------------------------------------------
 
--- an entry behind padding
+-- an entry after padding
 pub near_behind : (m m3 m4 : Sat) (xs : List Load) (j w x p : ℕ)
     → m3 ≡ (record m.0 { stage = Padded w; log = m.0.log ++ xs }, m.1)
     → m4 ≡ (header_loaded m3.0 j m3.0.stage x, m3.1) → m.0.at + announced w ≡ p → ComesTo m.0 xs p → p ≤ max_position
@@ -128,7 +128,7 @@ unread_found m m1 m2 p w x h is sound lt = let loads : List Load = h.0 in let st
       unread_sound v st w h.3 (whole lt),
     )
 
--- a record that is answered unread
+-- a record that is returned unread
 unread_answered : (m m1 m2 : Sat) (p w x : ℕ) (body : List ℕ) → NearIs (Entry p w) m m1
     → m2 ≡ (answered m1.0 (header_seen m1.0.stage) body x, m1.1)
     → x < p + m.0.capacity → GotCopy p (cast_signed w32 (w / 2 ^ 32)) body m m2
@@ -208,7 +208,7 @@ copied_on w k i x out out' m m1 m2 room h read put = let ws : List ℕ = h.0 in 
     more : (n : ℕ) → 8 * (n + 1) ≡ 8 * n + 8
     more n = omega arith
 
--- What the calls answer ------------------------------------------------------
+-- What the calls return ------------------------------------------------------
 
 pub took_from : (m m1 m2 : Sat) (p w len : ℕ) (out : List ℕ) → (f : FoundIs (Entry p w) m m1) → TookAll w len out m1 m2
     → GotCopy p (cast_signed w32 (w / 2 ^ 32)) (take len out) m m2

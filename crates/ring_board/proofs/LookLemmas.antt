@@ -33,7 +33,7 @@ take_next [] k h = absurd (omega arith)
 take_next (x ∷ xs) zero h = refl
 take_next (x ∷ xs) (suc k) h = ap (λ m. x ∷ m) (take_next xs k (omega arith))
 
--- Where the stores of a record stand ---------------------------------------
+-- Where the stores of a record are ---------------------------------------
 
 abbrev body_of : Record → List ℕ
 body_of r = words_of_body r.message.body
@@ -221,7 +221,7 @@ module _ (C e : ℕ) (s : St) (by : ℕ) (mine : View) (h : IsBoard C e by mine 
         lies_needed C r.before r.before r.place (end r) f h.lawful.roomy h.lawful.whole lt in let g = h.lawful.narrow in
         let sh = f.short in announced_padding (r.place - r.before) (omega arith)
 
-  -- Behind a padding lies its record
+  -- After a padding is its record
   pub header_behind_keeps : (w : ℕ) → v.stage ≡ Padded w → (x i : ℕ) (cs : List (ℕ × (Unit {0})))
       → i ≡ index C (v.at + announced w)
       → x ≡ get_or s.words i 0

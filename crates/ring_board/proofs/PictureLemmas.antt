@@ -43,7 +43,7 @@ with_head : (C i : ℕ) (x z : ℕ × ℕ) (xs : List (ℕ × ℕ)) → (index C
 with_head C i x z xs h rest zero y e = subst (λ (u : ℕ × ℕ). index C u.0 ≡ i → u.0 ≤ z.0) (some-injective x y e) h
 with_head C i x z xs h rest (suc j) y e = rest j y e
 
--- the newest of the rest is the newest of all, where the first is not above it
+-- the newest of the rest is the newest of all, if the first is not above it
 newest_behind : (C : ℕ) (x z : ℕ × ℕ) (xs : List (ℕ × ℕ)) (i w : ℕ) → IsNewestAt C xs i w z
     → (index C x.0 ≡ i → x.0 ≤ z.0)
     → IsNewestAt C (x ∷ xs) i w z
@@ -130,7 +130,7 @@ module _ (C : ℕ) (roomy : 256 ≤ C) (whole : C % 64 ≡ 0) where
       → IsBoardWord C (stores_of l) i (last_at C (stores_of l) i 0)
   picture_is e l c i = chosen C (stores_of l) i 0 (rising_stores e l c)
 
--- what a closed board contains, and what copies its words
+-- what a closed broadcast buffer contains, and what copies its words
 pub closed_as : (C e id : ℕ) (me : View) (ws : List ℕ) (xs : List (Unit {0})) → me.stage ≡ Idle
     → Final (Seen (Holds C e) id me) ws xs
     → (256 ≤ C) × (C % 64 ≡ 0) × IsClosed C e me.sent ws × AreAllRuns me.sent me.heard

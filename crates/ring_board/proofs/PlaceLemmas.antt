@@ -1,4 +1,4 @@
--- Positions and their indices, and lists of records that lie one behind the other.
+-- Positions and their indices, and lists of records that are one after the other.
 use Rattle.std.proofs.Common.{◌≡◌, ◌≢◌, ℕ, zero, suc, ◌+◌, ◌-◌, ◌/◌, ◌%◌, ◌<◌, ◌≤◌, ◌⊎◌, List, [], ◌∷◌, ◌++◌, length, refl, sym, ap, ◌∙◌, subst, inl, inr, ⊎_elim, arith}
 use Rattle.std.proofs.lemmas.Bool.{cases_lt, le-leb, lt-leb, cond-true, cond-false}
 use Rattle.std.proofs.lemmas.Nat.{mod_below}
@@ -11,7 +11,7 @@ use Rattle.ring_board.specs.declared.shared.view.Record.{Record}
 use Rattle.ring_board.specs.Records.{end, Lies, Follows, Chain, end_of, last_of}
 use Rattle.ring_board.specs.TransmitterSteps.{place_before}
 
--- the capacity of a board is a lap of whole words
+-- the capacity of a broadcast buffer is a lap of whole words
 pub board_lap : (C : ℕ) → 256 ≤ C → C % 64 ≡ 0 → IsLap C
 board_lap C roomy whole = record { some = omega arith; whole = omega arith }
 
@@ -52,7 +52,7 @@ module _ (C e b p z : ℕ) (l : Lies C e b p z) (roomy : 256 ≤ C) (whole : C %
   lies_whole = let w = next_aligned C b (z - p) (omega arith) (omega arith) l.begins_whole in let m =
       ap (λ (x : ℕ). x % 8) l.lies in omega arith
 
-  -- padding is shorter than what comes behind it
+  -- padding is shorter than what comes after it
   pub lies_needed : b < p → p < b + (z - p)
   lies_needed lt = ⊎_elim (λ t. let a = t.0 in absurd (omega arith))
       (λ t. let a = t.0 in let d = t.1 in let c : p < b + (z - p) = omega arith in
@@ -90,7 +90,7 @@ module _ (C : ℕ) (roomy : 256 ≤ C) (whole : C % 64 ≡ 0) where
       f.some_room in
       let i = chain_rises (end x) xs c.1 in omega arith
 
-  -- an entry lies between the start and the end, and its successor behind it
+  -- an entry is between the start and the end, and its successor after it
   pub chain_at : (e : ℕ) (l : List Record) → Chain C e l → (k : ℕ) (r : Record) → get_elem? l k ≡ some r
       → Follows C r.before r × (e ≤ r.before) × (end r ≤ end_of e l)
   chain_at e [] c k r at = absurd (some-ne-none r (sym at))

@@ -1,4 +1,4 @@
--- What a raw receiver answered, and what it loads of that.
+-- What a raw receiver returned, and what it loads of that.
 use Rattle.std.proofs.Common.{◌≡◌, ℕ, List, ◌++◌, length, sym, ap, ◌∙◌, subst, refl}
 use lib.ListN.{get_elem?}
 use Rattle.atomic_table.proofs.Lists.{at_longer, at_last}
@@ -9,7 +9,7 @@ use Rattle.ring_board.specs.Receiving.{GotRecord, IsInBuffer}
 use Rattle.ring_board.specs.Seats.{IsAnsweredRecord}
 use Rattle.ring_board.specs.Views.{Sat}
 
--- What was answered ----------------------------------------------------------
+-- What was returned ----------------------------------------------------------
 
 pub answered_more : (v w : View) (more : List Taken) (r : RawRecord) → w.capacity ≡ v.capacity
     → w.copies ≡ v.copies ++ more → IsAnsweredRecord v r → IsAnsweredRecord w r
@@ -26,7 +26,7 @@ answered_same v w r size same h = let q = h.copy in record {
   inside = subst (λ (n : ℕ). IsInBuffer n r) (sym size) h.inside;
 }
 
--- the record that was answered last
+-- the record that was returned last
 pub answered_last : (m m' : Sat) (r : RawRecord) → GotRecord r m m' → IsInBuffer m.0.capacity r
     → IsAnsweredRecord m'.0 r
 answered_last m m' r got inside = let copy = got.1 in

@@ -18,7 +18,7 @@ use Rattle.ring_board.proofs.LookLemmas.{knows, tail_keeps, header_keeps, header
 use Rattle.ring_board.proofs.ValidateLemmas.{header_intent_keeps, behind_intent_keeps, entry_keeps, copy_intent_keeps, sound_now, latest_keeps}
 
 module _ (C e slots id : ℕ) (me : Sat) (i : ℕ) where
-  -- a load of the word i keeps the rule, and tells this
+  -- a load of the word i keeps the rule, and says this
   abbrev MayLoad : (Sat → ℕ → Sat → Type 0) → Type 0
   MayLoad Tells = Allows (Holds C e) slots id me i (λ y. y) (Tells me)
 
@@ -90,7 +90,7 @@ module _ (C e slots id : ℕ) (me : Sat) (i : ℕ) where
   intent_found : (s : St) (b : Holds C e s) → i ≡ intent_index C → get_or s.words i 0 ≡ intent e b.1.sent b.1.stage
   intent_found s b is = ap (λ (j : ℕ). get_or s.words j 0) is ∙ b.2.memory.intent_is
 
-  -- a load of the intent, where the rule holds of the seat once it is validated
+  -- a load of the intent, if the rule holds of the seat once it is validated
   checks : i ≡ intent_index C → (st : Stage) → me.0.stage ≡ st
       → ((by : ℕ) (mine : View) → Knows C e by mine id me.0 st → me.0.capacity ≡ C)
       → ((s : St) (b : Holds C e s) → get_elem? s.views id ≡ some me.0
@@ -112,7 +112,7 @@ module _ (C e slots id : ℕ) (me : Sat) (i : ℕ) where
   checks_header w eq is = checks is (Headed w) eq (λ by mine k. k.0)
       (λ s b at. header_intent_keeps C e s b.0 b.1 b.2 id me.0 at w eq (get_or s.words i 0) i me.1)
 
-  -- the header of an entry, at the place or behind padding
+  -- the header of an entry, at the place or after padding
   checks_entry : (w : ℕ) → IsUnread w me.0.stage → i ≡ intent_index C → MayLoadAt intent_index LoadsIntent
   checks_entry w un is = ⊎_elim (λ t. checks_header w t.0 is) (λ t. checks is (Again w) t (λ by mine k. k.0)
       (λ s b at. behind_intent_keeps C e s b.0 b.1 b.2 id me.0 at w t (get_or s.words i 0) i me.1)) un

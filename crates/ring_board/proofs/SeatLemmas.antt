@@ -50,7 +50,7 @@ runs_more sent r from copies h = record {
   first = h.first;
 }
 
--- the first record of a board lies at its start
+-- the first record of a broadcast buffer is at its start
 pub starts_there : (C e : ℕ) (r : Record) → 256 ≤ C → C % 64 ≡ 0 → e % C ≡ 0 → Follows C e r → r.place ≡ e
 starts_there C e r roomy whole al f = let b : r.before ≡ e = f.fits.begins in let sh = f.fits.short in
     ⊎_elim (λ t. t.0 ∙ b) (λ t. let d = t.1 in let same : room C r.before ≡ C = ap (room C) b
@@ -112,7 +112,7 @@ module _ (C e by : ℕ) (mine mine' : View)
       let k = h.2 in (h.0, grow v h.1, (k.0, more v.next k.0 k.1, (k.2.0, k.2.1, λ lt. k.2.2 (omega arith))))
   knows_moves j v Behind h = let k = h.2 in (h.0, grow v h.1, (k.0, more v.next k.0 k.1, (let f = k.2 in omega arith)))
 
--- what was loaded stays right where the counters rise
+-- what was loaded stays right if the counters rise
 pub loads_rise : (C e : ℕ) (sent : List Record) (st st' : Stage) → intent e sent st ≤ intent e sent st'
     → latest e sent st ≤ latest e sent st'
     → (l : Load) → LoadOk C e sent st l → LoadOk C e sent st' l
@@ -122,7 +122,7 @@ loads_rise C e sent st st' a b (Latest x) h = omega arith
 loads_rise C e sent st st' a b (Word i t w) h =
     (h.0, λ k r on j y at is below now. h.1 k r on j y at is below (omega arith))
 
--- and where the tail takes in a record
+-- and if the tail takes in a record
 pub loads_sent : (C e : ℕ) (sent : List Record) (r : Record) → 256 ≤ C → C % 64 ≡ 0 → Follows C (end_of e sent) r
     → (l : Load)
     → LoadOk C e sent (Shown r) l → LoadOk C e (sent ++ r ∷ []) Idle l

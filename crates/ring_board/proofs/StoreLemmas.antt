@@ -92,7 +92,7 @@ filled_where b p ws j x b8 p8 e =
     (λ h. let w = placed_where (p + 8) ws h.0 x (omega arith) h.1 in let c = w.0 in let d = w.1 in
     (inr (omega arith, omega arith), w.2)) (at_joined (gap b p) (placed_words (p + 8) ws) j x e)
 
--- how many words a body has
+-- the number of words of a body
 pub words_long : (k : ℕ) (bytes : List ℕ) → length (Rattle.ring_board.specs.Records.first_words k bytes) ≡ k
 words_long zero bytes = refl
 words_long (suc k) bytes = ap suc (words_long k (Rattle.std.proofs.Common.drop 8 bytes))

@@ -57,7 +57,7 @@ module _ (C e : ℕ) where
     unnamed_kept j x few i is =
         get_or-set_other s.words j i x 0 (λ e. let behind = is.0 in omega arith) ∙ h.memory.unnamed i is
 
-    -- a word's position behind what was sent, and before the intent
+    -- a word's position after what was sent, and before the intent
     record IsFree (p : ℕ) : Type 0 where
       pub whole : p % 8 ≡ 0
       pub after : end_of e me.sent ≤ p

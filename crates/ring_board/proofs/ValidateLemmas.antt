@@ -270,7 +270,7 @@ module _ (C e : ℕ) (s : St) (by : ℕ) (mine : View) (h : IsBoard C e by mine 
   sound_now x is lt (Reading w ws) k = tt
   sound_now x is lt Behind k = tt
 
-  -- A record that is answered unread
+  -- A record that is returned unread
   pub entry_keeps : (w : ℕ) → IsUnread w v.stage → (x i : ℕ) (cs : List (ℕ × (Unit {0}))) → x ≡ here_now
       → (body : List ℕ) × Kept i cs (answered v w body x)
       × (x < v.at + v.capacity → (length body ≡ body_len w) × IsSound v.capacity v.at w)

@@ -15,22 +15,22 @@ use Rattle.ring_board.specs.Views.{Sat, logged}
 abbrev pub WasLoaded : ℕ → List Load → ℕ → ℕ → Type 0
 WasLoaded C log p w = (l : ℕ) × (t : ℕ) × (get_elem? log l ≡ some (Word (index C p) t w)) × (p < t)
 
--- each of these words was loaded at its position behind the header at a place
+-- each of these words was loaded at its position after the header at a place
 abbrev pub WereLoaded : ℕ → List Load → ℕ → List ℕ → Type 0
 WereLoaded C log place ws = (j : ℕ) → j < length ws → WasLoaded C log (place + 8 + 8 * j) (slice_index ws j)
 
--- the bytes are those of words that were loaded behind the header at a place
+-- the bytes are those of words that were loaded after the header at a place
 abbrev pub IsLoaded : ℕ → List Load → ℕ → List ℕ → Type 0
 IsLoaded C log place body = (ws : List ℕ) × WereLoaded C log place ws × (length ws ≡ word_count (length body))
     × (body ≡ take (length body) (bytes_of ws))
 
--- a body was loaded, and all else is as before
+-- a body was loaded, and everything else is as before
 abbrev pub GaveBody : ℕ → List ℕ → Sat → Sat → Type 0
 GaveBody place body m m' =
     (loads : List Load) × (m' ≡ (record m.0 { log = m.0.log ++ loads }, m.1)) × IsLoaded m.0.capacity loads place body
 
--- where the intent x has not reached the place plus the capacity, what was loaded as a record's body is the body that
--- the transmitter gave it
+-- if the intent x has not reached the place plus the capacity, what was loaded as a record's body is the body that the
+-- transmitter gave it
 abbrev pub AreRight : View → ℕ → Type 0
 AreRight v x = (n : ℕ) (c : Taken) (body : List ℕ) → get_elem? v.copies n ≡ some c → x < c.place + v.capacity
     → IsLoaded v.capacity v.log c.place body
@@ -42,6 +42,7 @@ IsRight v r = (n : ℕ) (c : Taken) (body : List ℕ) → get_elem? v.copies n �
     → IsLoaded v.capacity v.log r.place body
     → length body ≡ length c.message.body → body ≡ c.message.body
 
--- an intent was loaded, all else is as before, and the answer is whether it lies below the place plus the capacity
+-- an intent was loaded, everything else is as before, and the return value is whether it is below the place plus the
+-- capacity
 abbrev pub Validated : RawRecord → Bool → Sat → Sat → Type 0
 Validated r valid m m' = (x : ℕ) × (m' ≡ (logged m.0 (Intent x), m.1)) × (valid ≡ nat_lt x (r.place + m.0.capacity))

@@ -1,4 +1,4 @@
--- A board that was closed.
+-- A closed broadcast buffer.
 use Rattle.std.specs.Prelude.{◌≡◌, ℕ, ◌-◌, ◌/◌, ◌<◌, ◌==◌, List, slice_index, Option, Some, None, if◌then◌else◌}
 use Rattle.ring_board.specs.declared.shared.view.Record.{Record}
 use Rattle.ring_board.specs.declared.fault.ReceiversOut.{ReceiversOut}
@@ -10,7 +10,7 @@ use Rattle.ring_layout.specs.Refusals.{all_shares}
 use Rattle.ring_board.specs.Layout.{intent_index, tail_index, latest_index, IsUnnamed}
 use Rattle.ring_board.specs.Records.{Chain, end_of, last_of, stores_of, IsBoardWord}
 
--- the words of a board of capacity C that began at e and transmitted this list
+-- the words of a broadcast buffer of capacity C that began at e and transmitted this list
 pub record IsClosed (C e : ℕ) (sent : List Record) (ws : List ℕ) : Type 0 where
   pub places : Chain C e sent
   pub words : (i : ℕ) → i < C / 8 → IsBoardWord C (stores_of sent) i (slice_index ws i)
@@ -25,10 +25,10 @@ closed_words c = c.words.items
 abbrev pub closed_capacity : ClosedBoard → ℕ
 closed_capacity c = c.capacity
 
--- why a board is not closed by a transmitter with so many shares
+-- why a transmitter with this many shares does not close
 abbrev pub close_refusal_of : ℕ → Option ReceiversOut
 close_refusal_of shares = if shares == all_shares then None else Some record { receivers = all_shares - shares }
 
--- board and transmitter come back with the reason
+-- buffer and transmitter come back with the reason
 abbrev pub kept_open : Board → Transmitter → ReceiversOut → BoardCloseRefused
 kept_open board t reason = record { reason = reason; board = board; transmitter = t }

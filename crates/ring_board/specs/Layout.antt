@@ -1,4 +1,4 @@
--- The words of a board's trailer, which follow those of its buffer of C bytes.
+-- The words of a broadcast buffer's trailer, which follow those of its buffer of C bytes.
 use Rattle.std.specs.Prelude.{ℕ, ◌+◌, ◌/◌, ◌<◌}
 
 abbrev pub intent_index : ℕ → ℕ
@@ -10,7 +10,7 @@ tail_index C = C / 8 + 1
 abbrev pub latest_index : ℕ → ℕ
 latest_index C = C / 8 + 2
 
--- how many words a board has
+-- the number of words of a broadcast buffer
 abbrev pub board_words : ℕ → ℕ
 board_words C = C / 8 + 16
 

@@ -1,4 +1,4 @@
--- What each step of a receiver tells its seat.
+-- What each step of a receiver shows its seat.
 use Rattle.std.specs.Prelude.{◌≡◌, ℕ, ◌+◌, ◌-◌, ◌/◌, ◌%◌, ◌<◌, ◌≤◌, suc, if◌then◌else◌, nat_lt, List, [], ◌∷◌, ◌++◌, length, true, false, ◌⊎◌}
 use mathlib.Core.Option.{some}
 use lib.ListN.{get_elem?}
@@ -20,7 +20,7 @@ tail_loaded v x = record v { stage = if nat_lt v.at x then Sure else Resting; lo
 abbrev pub LoadsTail : Sat → ℕ → Sat → Type 0
 LoadsTail m x m' = (m' ≡ (tail_loaded m.0 x, m.1)) × (x ≤ max_position)
 
--- where the next header lies: at the receiver's place, or behind padding there
+-- where the next header is: at the receiver's place, or after padding there
 abbrev pub IsHeaderPlace : View → ℕ → Type 0
 IsHeaderPlace v p = ((v.stage ≡ Sure) × (p ≡ v.at)) ⊎ ((w : ℕ) × (v.stage ≡ Padded w) × (p ≡ v.at + announced w))
 
@@ -48,7 +48,7 @@ LoadsWord i m x m' = m' ≡ (word_loaded m.0 i x, m.1)
 abbrev pub copy_of : View → Message → Taken
 copy_of v m = record { place = v.at; message = m; count = v.count }
 
--- the receiver behind a copy of this message
+-- the receiver after a copy of this message
 abbrev pub copied : View → Message → View
 copied v m = record v {
   stage = Resting;
@@ -65,7 +65,7 @@ passed v (Again w) = at_stage v (Reading w [])
 passed v (Reading w ws) = copied v (message_in w ws)
 passed v st = v
 
--- an intent was loaded: a place is valid where it lies less than the capacity below
+-- an intent was loaded: a place is valid if it is less than the capacity below it
 abbrev pub validated : View → ℕ → View
 validated v x = logged (if nat_lt x (v.at + v.capacity) then passed v v.stage else at_stage v Behind) (Intent x)
 
@@ -97,7 +97,7 @@ header_seen (Headed w) = w
 header_seen (Again w) = w
 header_seen _ = 0
 
--- an intent was loaded, to validate the header w of a record with this body, which is answered unread
+-- an intent was loaded, to validate the header w of a record with this body, which is returned unread
 abbrev pub answered : View → ℕ → List ℕ → ℕ → View
 answered v w body x =
     logged (if nat_lt x (v.at + v.capacity) then copied v (message_of w body) else at_stage v Behind) (Intent x)
@@ -107,7 +107,7 @@ AnswersEntry m x m' = (body : List ℕ) × (m' ≡ (answered m.0 (header_seen m.
     × (x < m.0.at + m.0.capacity → (length body ≡ body_len (header_seen m.0.stage))
     × IsSound m.0.capacity m.0.at (header_seen m.0.stage))
 
--- the receiver goes to the record at latest, the entry k of the list, which lies behind its place
+-- the receiver goes to the record at latest, the entry k of the list, which is after its place
 abbrev pub latest_loaded : View → ℕ → ℕ → View
 latest_loaded v k x = record v { stage = Resting; at = x; next = k; count = suc v.count; log = v.log ++ Latest x ∷ [] }
 
@@ -115,10 +115,10 @@ abbrev pub LoadsLatest : Sat → ℕ → Sat → Type 0
 LoadsLatest m x m' =
     (k : ℕ) × (m' ≡ (latest_loaded m.0 k x, m.1)) × (suc m.0.count ≤ x) × (x ≤ max_position) × (m.0.at < x)
 
--- ---- bodies of records that were answered
+-- ---- bodies of records that were returned
 
--- a word was loaded, and the tail was t, which is no less than the one seen last, nor than the end of any record that
--- was answered
+-- a word was loaded, and the tail was t, at least the last one seen and at least the end of any record that was
+-- returned
 abbrev pub LoadsUnread : ℕ → Sat → ℕ → Sat → Type 0
 LoadsUnread i m x m' = (t : ℕ) × (m' ≡ (logged m.0 (Word i t x), m.1)) × (last_tail m.0.log 0 ≤ t)
     × ((n : ℕ) (c : Taken) → get_elem? m.0.copies n ≡ some c → c.place + span (length c.message.body) ≤ t)

@@ -17,11 +17,11 @@ use Rattle.ring_board.specs.Records.{announced, is_padding, bytes_of, message_of
 use Rattle.ring_board.specs.Views.{Sat}
 use Rattle.ring_board.specs.ReceiverSteps.{copied, IsSound, IsUnread}
 
--- a receiver of a board of capacity C rests at this place
+-- a receiver of a broadcast buffer of capacity C rests at this place
 abbrev pub RestsAt : ℕ → ℕ → Sat → Type 0
 RestsAt C place m = (m.0.stage ≡ Resting) × (m.0.at ≡ place) × (m.0.capacity ≡ C) × (place ≤ max_position)
 
--- p is the receiver's place, or behind padding whose header is among these loads
+-- p is the receiver's place, or after padding whose header is among these loads
 abbrev pub ComesTo : View → List Load → ℕ → Type 0
 ComesTo v loads p = (p ≡ v.at)
     ⊎ ((w : ℕ) × (t : ℕ) × (j : ℕ) × (get_elem? loads j ≡ some (Word (index v.capacity v.at) t w))
@@ -49,7 +49,7 @@ NearIs (Entry p w) m m' = (loads : List Load) × (st : Stage)
     × (p ≤ max_position)
 NearIs (Missed p x) m m' = GotMiss p x m m'
 
--- so many words of a body were loaded behind the header w, and their bytes lie at the front of out
+-- this many words of a body were loaded after the header w, and their bytes are at the front of out
 abbrev pub CopiedWords : ℕ → ℕ → List ℕ → Sat → Sat → Type 0
 CopiedWords w count out m m' = (ws : List ℕ) × (loads : List Load)
     × (m' ≡ (record m.0 { stage = Reading w ws; log = m.0.log ++ loads }, m.1)) × (length ws ≡ count)
@@ -70,7 +70,7 @@ FailedValidation x m m' = (loads : List Load)
 abbrev pub GotNothing : Sat → Sat → Type 0
 GotNothing m m' = (t : ℕ) × (m' ≡ (record m.0 { stage = Resting; log = m.0.log ++ Tail t ∷ [] }, m.1)) × (t ≤ m.0.at)
 
--- a copy came: of the record at the place, or behind padding there. The next place is its end
+-- a copy came: of the record at the place, or after padding there. The next place is its end
 abbrev pub GotCopy : ℕ → ℤ → List ℕ → Sat → Sat → Type 0
 GotCopy place type_id body m m' = (loads : List Load)
     × (m' ≡ (
@@ -91,9 +91,8 @@ GotCopy place type_id body m m' = (loads : List Load)
     ))
     × ComesTo m.0 loads place
 
--- the receiver was lapped at its place, or behind padding there: the count rose by one, and the place is the latest
--- loaded after the intent that showed it.
--- What lies from the place where it was lapped up to that was passed over
+-- the receiver was lapped at its place, or after padding there: the count rose by one, and the place is the latest
+-- loaded after the intent that showed it. The bytes from the place where it was lapped up to that one were passed over
 abbrev pub GotLapped : Lapped → Sat → Sat → Type 0
 GotLapped l m m' = (loads : List Load) × (k : ℕ) × (x : ℕ) × ComesTo m.0 loads l.place
     × (l.place + m.0.capacity ≤ l.intent) × (l.count ≡ suc m.0.count) × (l.place < x)
@@ -109,11 +108,11 @@ GotLapped l m m' = (loads : List Load) × (k : ℕ) × (x : ℕ) × ComesTo m.0 
       m.1,
     ))
 
--- a record was answered unread. Its place, type id and length are those of the new copy, which has the body that the
+-- a record was returned unread. Its place, type id and length are those of the new copy, which has the body that the
 -- transmitter gave it
 abbrev pub GotRecord : RawRecord → Sat → Sat → Type 0
 GotRecord r m m' = (body : List ℕ) × GotCopy r.place r.type_id body m m' × (length body ≡ r.len)
 
--- where a record lies in a buffer of C bytes
+-- where a record is in a buffer of C bytes
 abbrev pub IsInBuffer : ℕ → RawRecord → Type 0
 IsInBuffer C r = (r.place % 8 ≡ 0) × (r.place % C + span r.len ≤ C) × (r.place + span r.len ≤ max_position)

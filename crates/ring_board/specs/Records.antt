@@ -1,5 +1,5 @@
--- Records on a board, where they lie, and the words that their transmission stores. Positions are running byte counts,
--- and C is the capacity of the buffer.
+-- Records of a broadcast buffer, where they are, and the words that their transmission stores. Positions are running
+-- byte counts, and C is the capacity of the buffer.
 use Rattle.std.specs.Prelude.{◌≡◌, ◌≢◌, ℕ, Bool, zero, suc, ◌+◌, ◌-◌, ◌/◌, ◌%◌, ◌^◌, ◌≤◌, ◌==◌, if◌then◌else◌, pos, List, [], ◌∷◌, ◌++◌, length, take, drop, nat_lt, ◌⊎◌}
 use Rattle.std.specs.Int.{from_le_bytes, to_le_bytes, cast_signed, w32, w64}
 use mathlib.Core.Option.{some}
@@ -14,9 +14,9 @@ use Rattle.ring_board.specs.declared.shared.view.Record.{Record}
 abbrev pub end : Record → ℕ
 end r = r.place + span (length r.message.body)
 
--- Where they lie -----------------------------------------------------------
+-- Where they are -----------------------------------------------------------
 
--- what lies from p to z comes next behind e, and its transmission began at b
+-- what is from p to z comes next after e, and its transmission began at b
 pub record Lies (C e b p z : ℕ) : Type 0 where
   pub begins : b ≡ e
   pub lies : p ≡ next_place C b (z - p)
@@ -25,12 +25,12 @@ pub record Lies (C e b p z : ℕ) : Type 0 where
   pub begins_whole : b % 8 ≡ 0
   pub ends_whole : z % 8 ≡ 0
 
--- a record of a lawful message that comes next behind e
+-- a record of a valid message that comes next after e
 pub record Follows (C e : ℕ) (r : Record) : Type 0 where
   pub fits : Lies C e r.before r.place (end r)
   pub lawful : IsMessage C r.message
 
--- the records lie one behind the other from e on
+-- the records are one after the other from e on
 abbrev pub Chain : ℕ → ℕ → List Record → Type 0
 Chain C e [] = Unit {0}
 Chain C e (r ∷ rs) = Follows C e r × Chain C (end r) rs
@@ -47,7 +47,7 @@ last_of e (r ∷ rs) = last_of r.place rs
 
 -- Words and bytes ----------------------------------------------------------
 
--- the first k little-endian words of these bytes, with zeros behind the last byte
+-- the first k little-endian words of these bytes, with zeros after the last byte
 abbrev pub first_words : ℕ → List ℕ → List ℕ
 first_words zero bytes = []
 first_words (suc k) bytes = from_le_bytes w64 bytes ∷ first_words k (drop 8 bytes)
@@ -75,7 +75,7 @@ body_len w = announced w - 8
 abbrev pub is_padding : ℕ → Bool
 is_padding w = w / 2 ^ 32 == 0xffff_ffff
 
--- the message that a header word and the words behind it hold
+-- the message that a header word and the words after it hold
 abbrev pub message_in : ℕ → List ℕ → Message
 message_in w ws = record { type_id = cast_signed w32 (w / 2 ^ 32); body = take (body_len w) (bytes_of ws) }
 
@@ -93,7 +93,7 @@ abbrev pub placed_words : ℕ → List ℕ → List (ℕ × ℕ)
 placed_words p [] = []
 placed_words p (w ∷ ws) = (p, w) ∷ placed_words (p + 8) ws
 
--- the padding header of what begins at b and lies at p, where there is one
+-- the padding header of what begins at b and is at p, if there is one
 abbrev pub gap : ℕ → ℕ → List (ℕ × ℕ)
 gap b p = if nat_lt b p then (b, padding_header (p - b)) ∷ [] else []
 
@@ -109,7 +109,7 @@ abbrev pub stores_of : List Record → List (ℕ × ℕ)
 stores_of [] = []
 stores_of (r ∷ rs) = stores r ++ stores_of rs
 
--- the word at the index i after these stores, where it was w
+-- the word at the index i after these stores, if it was w before
 abbrev pub last_at : ℕ → List (ℕ × ℕ) → ℕ → ℕ → ℕ
 last_at C [] i w = w
 last_at C (x ∷ xs) i w = last_at C xs i (if index C x.0 == i then x.1 else w)
@@ -121,7 +121,7 @@ pub record IsNewestAt (C : ℕ) (xs : List (ℕ × ℕ)) (i w : ℕ) (x : ℕ ×
   pub word : w ≡ x.1
   pub greatest : (j : ℕ) (y : ℕ × ℕ) → get_elem? xs j ≡ some y → index C y.0 ≡ i → y.0 ≤ x.0
 
--- the word at the index i is that of the greatest position stored there, or 0 where none was
+-- the word at the index i is that of the greatest position stored there, or 0 if there was none
 abbrev pub IsBoardWord : ℕ → List (ℕ × ℕ) → ℕ → ℕ → Type 0
 IsBoardWord C xs i w =
     ((x : ℕ × ℕ) × IsNewestAt C xs i w x) ⊎ (((j : ℕ) (y : ℕ × ℕ) → get_elem? xs j ≡ some y

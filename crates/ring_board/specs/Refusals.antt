@@ -11,11 +11,11 @@ use Rattle.ring_board.specs.declared.fault.SubscribeFault.TheVariants as subscri
 abbrev pub transmit_refusal_of : ℕ → ℕ → ℤ → ℕ → Option TransmitFault
 transmit_refusal_of C tail type_id len = place_refusal_or BadType TooLong PositionLimit C tail type_id len None
 
--- why a transmitter with so many shares makes no copying receiver
+-- why a transmitter with this many shares makes no copying receiver
 abbrev pub subscribe_refusal_of : ℕ → Option SubscribeFault
 subscribe_refusal_of shares = if nat_lt 1 shares then None else Some subscribe_fault.NoShares
 
--- the result is the refusal; where there is none it is Ok, unless memory is wanting
+-- the result is the refusal; if there is none it is Ok, unless memory runs out
 abbrev pub IsSubscribedUnless : {T : Type 0} → Option SubscribeFault → Result T SubscribeFault → Type 0
 IsSubscribedUnless refusal result = IsRefusedOr subscribe_fault.OutOfMemory refusal result
 

@@ -1,4 +1,4 @@
--- The rule of the board: what holds between any two steps.
+-- The rule of the broadcast buffer: what holds between any two steps.
 use Rattle.std.specs.Prelude.{◌≡◌, ℕ, ◌+◌, ◌-◌, ◌*◌, ◌/◌, ◌%◌, ◌^◌, ◌<◌, ◌≤◌, suc, List, [], ◌∷◌, ◌++◌, length, take, slice_index, ◌⊎◌}
 use mathlib.Core.Option.{some}
 use lib.ListN.{get_elem?}
@@ -21,7 +21,7 @@ use Rattle.ring_board.specs.Runs.{IsCopy, AreAllRuns, AreRuns}
 
 -- The transmitter ----------------------------------------------------------
 
--- the intent of a board that began at e
+-- the intent of a broadcast buffer that began at e
 abbrev pub intent : ℕ → List Record → Stage → ℕ
 intent e sent (Begun d) = d.end
 intent e sent (Storing d) = d.end
@@ -45,11 +45,11 @@ so_far sent (Written r) = stores_of sent ++ stores r
 so_far sent (Shown r) = stores_of sent ++ stores r
 so_far sent _ = stores_of sent
 
--- these stores stand in the words
+-- these stores are in the words
 abbrev pub Stand : ℕ → List ℕ → List (ℕ × ℕ) → Type 0
 Stand C ws xs = (j : ℕ) (x : ℕ × ℕ) → get_elem? xs j ≡ some x → slice_index ws (index C x.0) ≡ x.1
 
--- how far the running transmission behind e has come
+-- how far the running transmission after e has come
 abbrev pub Running : ℕ → ℕ → List ℕ → Stage → Type 0
 Running C e ws Idle = Unit {0}
 Running C e ws (Begun d) = Lies C e d.before d.place d.end × (d.before < d.place) × (d.words ≡ [])
@@ -61,7 +61,7 @@ Running C e ws _ = ⊥
 
 -- Receivers ----------------------------------------------------------------
 
--- the next entry lies at the place, or behind a padding there, or is not yet sent
+-- the next entry is at the place, or after a padding there, or is not yet sent
 abbrev pub Before : ℕ → List Record → ℕ → ℕ → Type 0
 Before e all at next = ((r : Record) × (get_elem? all next ≡ some r) × ((at ≡ r.place) ⊎ (at ≡ r.before)))
     ⊎ ((next ≡ length all) × (at ≡ end_of e all))
@@ -71,7 +71,7 @@ abbrev pub Fresh : ℕ → List Record → ℕ → ℕ → Type 0
 Fresh e all at next =
     ((r : Record) × (get_elem? all next ≡ some r) × (at ≡ r.place)) ⊎ ((all ≡ []) × (next ≡ 0) × (at ≡ e))
 
--- where a receiver stands, and how its last copy lies to that
+-- where a receiver is, and how its last copy relates to that place
 pub record Receives (e : ℕ) (sent all : List Record) (v : View) : Type 0 where
   pub before : Before e all v.at v.next
   pub climbs : v.from + v.count ≤ v.at
@@ -102,7 +102,7 @@ module _ (C now : ℕ) (sent : List Record) (at next : ℕ) where
   Loaded Behind = Next (λ r. at + C ≤ now)
   Loaded _ = ⊥
 
--- what the seat j with the view v knows, where the seat `by` is the transmitter's, with the view `mine`
+-- what the seat j with the view v knows, if the seat `by` is the transmitter's, with the view `mine`
 abbrev pub Knows : ℕ → ℕ → ℕ → View → ℕ → View → Stage → Type 0
 Knows C e by mine j v Spent = Unit {0}
 Knows C e by mine j v Idle = j ≡ by
@@ -130,15 +130,15 @@ Logged C e sent st log = (i : ℕ) (l : Load) → get_elem? log i ≡ some l →
 
 -- The rule -----------------------------------------------------------------
 
--- a capacity and a start that a board may have
+-- a capacity and a start that a broadcast buffer may have
 pub record IsLawful (C e : ℕ) : Type 0 where
   pub roomy : 256 ≤ C
   pub narrow : C ≤ 2 ^ 24
   pub whole : C % 64 ≡ 0
   pub aligned : e % C ≡ 0
 
--- The words of a board that began at e: they show the transmitted list and the transmission that runs. A word of the
--- list stays what it was as long as the intent says so
+-- The words of a broadcast buffer that began at e: they show the transmitted list and the transmission that is being
+-- made. A word of the list stays what it was as long as the intent says so
 pub record IsMemory (C e : ℕ) (sent : List Record) (st : Stage) (words : List ℕ) : Type 0 where
   pub wide : length words ≡ board_words C
   pub chain : Chain C e sent
@@ -168,7 +168,7 @@ pub record IsSeated (C e by : ℕ) (mine : View) (views : List View) : Type 0 wh
   pub joined : AreAllRuns mine.sent mine.heard
   pub shares : total view_shares views ≡ all_shares
 
--- a board of capacity C that began at e
+-- a broadcast buffer of capacity C that began at e
 pub record IsBoard (C e by : ℕ) (mine : View) (s : State (Unit {0}) View) : Type 0 where
   pub lawful : IsLawful C e
   pub memory : IsMemory C e mine.sent mine.stage s.words
@@ -177,7 +177,7 @@ pub record IsBoard (C e by : ℕ) (mine : View) (s : State (Unit {0}) View) : Ty
 abbrev pub Holds : ℕ → ℕ → State (Unit {0}) View → Type 0
 Holds C e s = (by : ℕ) × (mine : View) × IsBoard C e by mine s
 
--- the view of a new board's transmitter
+-- the view of a new broadcast buffer's transmitter
 abbrev pub opening_view : ℕ → ℕ → View
 opening_view C e = record {
   stage = Idle;

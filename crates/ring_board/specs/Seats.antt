@@ -1,4 +1,4 @@
--- What clauses say of boards and of those who work on them.
+-- What clauses say of broadcast buffers, transmitters and receivers.
 use Rattle.std.specs.Prelude.{◌≡◌, ℕ, ℤ, List, [], length, Option, Result, MatchResult, MatchOption}
 use mathlib.Core.Option.{some}
 use lib.ListN.{get_elem?}
@@ -25,7 +25,7 @@ use Rattle.ring_board.specs.Receiving.{GotNothing, GotCopy, GotLapped, GotRecord
 use Rattle.ring_board.specs.Views.{Sat, at_stage}
 use Rattle.ring_board.specs.TransmitterSteps.{draft, drafted, record_at}
 
--- the seat is one of this board
+-- the seat is one of this broadcast buffer
 abbrev pub IsSeatOf : Board → Seat (Unit {0}) View → Type 0
 IsSeatOf board s = s.table_id ≡ board.table.shared.table_id
 
@@ -36,7 +36,7 @@ IsSameSeat old new = (new.table_id ≡ old.table_id) × (new.id ≡ old.id)
 abbrev pub capacity_of : Board → ℕ
 capacity_of board = board.capacity
 
--- the position at which a board began
+-- the position at which it began
 abbrev pub start_of : Board → ℕ
 start_of board = board.table.shared.key.start
 
@@ -59,19 +59,19 @@ shares_of t = t.seat.me.0.shares
 abbrev pub tail_of : Transmitter → ℕ
 tail_of t = t.tail
 
--- the view is of a seat at this board
+-- the view is of a seat of this broadcast buffer
 abbrev pub IsViewOf : Board → View → Type 0
 IsViewOf board v = (v.capacity ≡ board.capacity) × (v.start ≡ board.table.shared.key.start)
 
 abbrev pub IsTransmitterOf : Board → Transmitter → Type 0
 IsTransmitterOf board t = (t.seat.table_id ≡ board.table.shared.table_id) × IsViewOf board t.seat.me.0
 
--- a board of this capacity with its transmitter, which begins at this start
+-- a broadcast buffer of this capacity with its transmitter, which begins at this start
 abbrev pub IsNewAt : ℕ → ℕ → Board × Transmitter → Type 0
 IsNewAt capacity start made =
     IsTransmitterOf made.0 made.1 × (view_of made.1 ≡ opening_view capacity start) × (tail_of made.1 ≡ start)
 
--- the record that comes next behind a tail
+-- the record that comes next after a tail
 abbrev pub next_record : ℕ → ℕ → ℤ → List ℕ → Record
 next_record C tail type_id body = record {
   before = tail;
@@ -135,31 +135,31 @@ raw_view r = r.seat.me.0
 abbrev pub raw_subscribed_at : Receiver → ℕ
 raw_subscribed_at r = r.seat.me.0.from
 
--- the records that it answered, each with the body that the transmitter gave it
+-- the records that it returned, each with the body that the transmitter gave it
 abbrev pub answered_by : Receiver → List Taken
 answered_by r = r.seat.me.0.copies
 
--- a record that a receiver with this view answered
+-- a record that a receiver with this view returned
 pub record IsAnsweredRecord (v : View) (r : RawRecord) : Type 0 where
   pub copy : (n : ℕ) × (c : Taken) × (get_elem? v.copies n ≡ some c) × (c.place ≡ r.place)
       × (c.message.type_id ≡ r.type_id) × (length c.message.body ≡ r.len)
   pub inside : IsInBuffer v.capacity r
 
--- where the receiver stands: the record there is looked for next
+-- where the receiver is: the record there is looked for next
 abbrev pub raw_stands_at : Receiver → ℕ
 raw_stands_at r = r.seat.me.0.at
 
 abbrev pub raw_lapped_count_of : Receiver → ℕ
 raw_lapped_count_of r = r.seat.me.0.count
 
--- what a call of `receive_next` answered and did
+-- what a call of `receive_next` returned and did
 abbrev pub ReceivedNext : Receiver → Receiver → Result (Option RawRecord) Lapped → Type 0
 ReceivedNext old new result = MatchResult result
     (λ o. MatchOption o (GotNothing (raw_seat old) (raw_seat new))
     (λ r. GotRecord r (raw_seat old) (raw_seat new) × IsAnsweredRecord (raw_view new) r))
     (λ l. GotLapped l (raw_seat old) (raw_seat new))
 
--- what the receiver answered stays answered
+-- what the receiver returned stays returned
 abbrev pub StaysAnswered : Receiver → Receiver → Type 0
 StaysAnswered old new = (r : RawRecord) → IsAnsweredRecord (raw_view old) r → IsAnsweredRecord (raw_view new) r
 
@@ -196,7 +196,7 @@ place_in r = raw_stands_at r.receiver
 abbrev pub lapped_count_of : CopyReceiver → ℕ
 lapped_count_of r = raw_lapped_count_of r.receiver
 
--- what a call of `receive` answered and did
+-- what a call of `receive` returned and did
 abbrev pub Received : CopyReceiver → CopyReceiver → Result (Option Copied) Lapped → Type 0
 Received old new result = MatchResult result
     (λ o. MatchOption o (GotNothing (receiver_seat old) (receiver_seat new))

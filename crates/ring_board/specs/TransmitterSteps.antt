@@ -1,4 +1,4 @@
--- What each step of the transmitter tells its seat.
+-- What each step of the transmitter shows its seat.
 use Rattle.std.specs.Prelude.{◌≡◌, ℕ, ◌+◌, ◌-◌, ◌≤◌, if◌then◌else◌, nat_lt, nat_le, List, [], ◌∷◌, ◌++◌, pos}
 use Rattle.ring_layout.specs.Places.{room, max_position}
 use Rattle.ring_layout.specs.Refusals.{all_shares}
@@ -11,7 +11,7 @@ use Rattle.ring_board.specs.Records.{end, last_of, message_in}
 use Rattle.ring_board.specs.Runs.{AreRuns}
 use Rattle.ring_board.specs.Views.{Sat, at_stage}
 
--- the place of what comes next behind e and ends at z
+-- the place of what comes next after e and ends at z
 abbrev pub place_before : ℕ → ℕ → ℕ → ℕ
 place_before C e z = if nat_le z (e + room C e) then e else e + room C e
 
@@ -44,7 +44,7 @@ abbrev pub after_header : Stage → ℕ → Stage
 after_header (Storing d) x = Written (with_entry d x)
 after_header st x = st
 
--- the record that is written and not sent, where there is one
+-- the record that is written and not sent, if there is one
 abbrev pub record_at : Stage → Record
 record_at (Written r) = r
 record_at (Shown r) = r

@@ -9,7 +9,7 @@ use Rattle.ring_board.specs.declared.shared.view.Load.{Load}
 use Rattle.ring_board.specs.declared.shared.view.Stage.{Stage}
 use Rattle.ring_board.specs.Records.{last_of}
 
--- a seat's view, and the slots that it has, which a board has none of
+-- a seat's view, and its slots, of which a broadcast buffer has none
 abbrev pub Sat : Type 0
 Sat = Me (Unit {0}) View
 

@@ -1,4 +1,4 @@
-//! A board, and those who work on it.
+//! A broadcast buffer, its transmitter and its receivers.
 ghost use Rattle.std.specs.Prelude.{◌≡◌, ◌+◌, ◌/◌, ◌%◌, ◌^◌, ◌<◌, ◌≤◌, pos, ◌≤ℤ◌, [], vec_len, IsTrue};
 ghost use Rattle.std.specs.Int.{is_power_of_two};
 ghost use Rattle.ring_layout.specs.History.{span};
@@ -15,7 +15,7 @@ use crate::shared::steps::{BoardSeat, BoardTable};
 #[derive(Drop)]
 pub struct Board {
     pub(crate) table: BoardTable,
-    // Room for the words that `close` hands on.
+    // Room for the words that `close` returns.
     pub(crate) words: Vec<u64>,
     pub(crate) capacity: u32,
     ghost key: { table.shared.key.capacity ≡ capacity },
@@ -25,8 +25,8 @@ pub struct Board {
     ghost power: { IsTrue (is_power_of_two capacity) },
 }
 
-/// The one who transmits on a board. It is used by one thread at a time, and may move between threads. It begins with
-/// 65,536 shares, and gives one to each receiver; `close` wants all of them back.
+/// The one transmitter of a broadcast buffer. It is used by one thread at a time, and may move between threads. It
+/// begins with 65,536 shares, and gives one to each receiver; `close` needs all of them back.
 #[derive(Drop)]
 pub struct Transmitter {
     pub(crate) seat: BoardSeat,
@@ -69,14 +69,14 @@ pub struct Filled {
     ghost held: { (seat.me.0.shares ≡ shares) × (0 < shares) × (shares ≤ all_shares) },
 }
 
-/// A transmission was refused before it began, and the transmitter comes back as it was.
+/// A transmission was refused before it began. The transmitter comes back unchanged.
 #[derive(Drop)]
 pub struct BeginRefused {
     pub reason: TransmitFault,
     pub transmitter: Transmitter,
 }
 
-/// The words of a board that was closed.
+/// The words of a closed broadcast buffer.
 #[derive(Drop)]
 pub struct ClosedBoard {
     pub(crate) words: Vec<u64>,
@@ -84,7 +84,7 @@ pub struct ClosedBoard {
     ghost wide: { vec_len words ≡ capacity / 8 + 16 },
 }
 
-/// Some receiver is out, and all comes back as it was.
+/// A receiver is out. Everything comes back unchanged.
 #[derive(Drop)]
 pub struct BoardCloseRefused {
     pub reason: ReceiversOut,
@@ -92,8 +92,9 @@ pub struct BoardCloseRefused {
     pub transmitter: Transmitter,
 }
 
-/// A receiver that answers records unread. Their bodies are loaded, and validated, when its user asks. It is used by
-/// one thread at a time, and may move between threads. One that is let go keeps the board from closing for good.
+/// A receiver that returns records unread. Their bodies are loaded and validated when its user asks. It is used by one
+/// thread at a time, and may move between threads. A dropped receiver keeps its share, so the broadcast buffer can
+/// never be closed.
 #[derive(Drop)]
 pub struct Receiver {
     pub(crate) seat: BoardSeat,
@@ -105,7 +106,7 @@ pub struct Receiver {
 }
 
 /// A receiver that copies each message out and validates the copy. It is used by one thread at a time, and may move
-/// between threads. One that is let go keeps its share, and with it the board from closing, for good.
+/// between threads. A dropped receiver keeps its share, so the broadcast buffer can never be closed.
 #[derive(Drop)]
 pub struct CopyReceiver {
     // Seat, place and count are those of a raw receiver.
@@ -114,7 +115,7 @@ pub struct CopyReceiver {
     ghost room: { vec_len scratch ≡ receiver.seat.me.0.capacity / 8 },
 }
 
-/// A record that a raw receiver answered unread.
+/// A record that a raw receiver returned unread.
 #[derive(Clone, Copy, Debug, PartialEq, Eq)]
 pub struct RawRecord {
     pub(crate) place: u64,
@@ -122,7 +123,7 @@ pub struct RawRecord {
     pub(crate) len: usize,
 }
 
-/// A message that was copied. Its record lies at `place`, in bytes.
+/// A message that was copied. Its record is at `place`, in bytes.
 #[derive(Clone, Copy, Debug)]
 pub struct Copied<'a> {
     pub place: u64,

@@ -16,7 +16,7 @@ pub enum TransmitFault {
     /// The body has more than an eighth of the capacity, in bytes.
     #[error("{} TooLong {len} max {max}", self.code())]
     TooLong { len: usize, max: u32 },
-    /// The record would end above 2^62. The transmitter's tail is here.
+    /// The record would end above 2^62. `tail` is the transmitter's.
     #[error("{} PositionLimit tail {tail}", self.code())]
     PositionLimit { tail: u64 },
 }
@@ -40,7 +40,7 @@ pub enum SubscribeFault {
     /// The transmitter has one share left, and needs it.
     #[error("{} NoShares", self.code())]
     NoShares,
-    /// There was no memory.
+    /// Out of memory.
     #[error("{} OutOfMemory", self.code())]
     OutOfMemory,
 }
@@ -57,7 +57,7 @@ impl SubscribeFault {
     }
 }
 
-/// The receiver was lapped: so often by now, at this place, as this intent showed. The bytes that it passed over are
+/// The receiver was lapped: for the `count`-th time, at `place`, as `intent` showed. The bytes that it passed over are
 /// its own `place` after the call less this one.
 #[derive(Clone, Copy, Debug, PartialEq, Eq, Error)]
 #[error("{} Lapped {count} place {place} intent {intent}", self.code())]
@@ -76,7 +76,7 @@ impl Lapped {
     }
 }
 
-/// So many shares are with receivers.
+/// The number of shares that are with receivers.
 #[derive(Clone, Copy, Debug, PartialEq, Eq, Error)]
 #[error("{} ReceiversOut {receivers}", self.code())]
 pub struct ReceiversOut {

@@ -12,7 +12,7 @@ pub fn runs_stay_runs()
         → AreRuns (sent ++ more) from copies }
 {}
 
-/// States that a body that was loaded stays so in every longer log. It computes nothing.
+/// States that a body that was loaded stays loaded in every longer log. It computes nothing.
 pub fn loaded_stays_loaded()
     ensures { (C place : ℕ) (before loads after : List Load) (body : List ℕ) → IsLoaded C loads place body
         → IsLoaded C (before ++ (loads ++ after)) place body }

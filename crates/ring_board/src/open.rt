@@ -1,4 +1,4 @@
-//! A board, from its making to its close.
+//! How a broadcast buffer is made and closed.
 ghost use Rattle.std.specs.Prelude.{◌≡◌, ℕ, ◌+◌, ◌/◌, ◌%◌, ◌<◌, ◌≤◌, slice_index, slice_get, vec_len, IfOk};
 ghost use Rattle.std.specs.Slots.{slots_items, slots_len, IsFull};
 ghost use Rattle.ring_layout.specs.Places.{is_board_capacity, max_position, IsBoardCapacity};
@@ -31,8 +31,8 @@ fn copy_words(closed: &Closed<(), Global>, words: &mut Vec<u64>)
 }
 
 impl Board {
-    /// Makes a board that starts at position 0, with its transmitter, which holds all shares. The refusals are those of
-    /// `new_at`.
+    /// Makes a broadcast buffer that starts at position 0, with its transmitter, which holds all shares. The errors are
+    /// those of `new_at`.
     pub fn new(alloc: Global, capacity: u32) -> Result<(Board, Transmitter), MakeFault>
         ensures refused { IsMadeUnless (make_refusal_of (is_board_capacity capacity) capacity 0) result }
         ensures board { IfOk result (λ made. (capacity_of made.0 ≡ capacity) × (start_of made.0 ≡ 0)) }
@@ -41,9 +41,9 @@ impl Board {
         Board::new_at(alloc, capacity, 0)
     }
 
-    /// Makes a board that starts at a multiple of its capacity, in bytes, with its transmitter, which holds all shares.
-    /// `BadCapacity` where the capacity is no power of two from 256 to 2^24, `BadStart` where the start is no multiple
-    /// of it or above 2^62, `OutOfMemory` where there is none.
+    /// Makes a broadcast buffer that starts at this position, with its transmitter, which holds all shares. Returns, in
+    /// this order: `BadCapacity` if the capacity is not a power of two from 256 to 2^24; `BadStart` if the start is not
+    /// a multiple of the capacity or is above 2^62; `OutOfMemory`.
     pub fn new_at(
         alloc: Global,
         capacity: u32,
@@ -57,7 +57,7 @@ impl Board {
         Board::make(alloc, capacity, start).map_err(|_| MakeFault::OutOfMemory)
     }
 
-    /// Makes a board of a lawful capacity at a lawful start.
+    /// Makes a broadcast buffer of a valid capacity at a valid start.
     fn make(alloc: Global, capacity: u32, start: u64) -> Result<(Board, Transmitter), AllocError>
         requires capacity { IsBoardCapacity capacity }
         requires start { (start % capacity ≡ 0) × (start ≤ max_position) }
@@ -98,8 +98,8 @@ impl Board {
         max_message(self.capacity)
     }
 
-    /// Takes the board apart, once all receivers are back. `ReceiversOut` with the number of shares that are elsewhere;
-    /// then board and transmitter come back as they were.
+    /// Takes the broadcast buffer apart, once all receivers are back. Returns `ReceiversOut` with the number of shares
+    /// that are elsewhere; buffer and transmitter then come back unchanged.
     pub fn close(self, transmitter: Transmitter) -> Result<ClosedBoard, BoardCloseRefused>
         requires { IsTransmitterOf self transmitter }
         ensures refused { IsRefusedAs (kept_open self transmitter) (close_refusal_of (shares_of transmitter)) result }
@@ -141,21 +141,21 @@ impl ClosedBoard {
         self.words[self.capacity as usize / 8 + TAIL_INTENT_COUNTER_WORD]
     }
 
-    /// Where the last transmission ended.
+    /// Returns the position, in bytes, at which the last transmission ended.
     pub fn tail(&self) -> u64
         ensures { result ≡ slice_index (closed_words self.now) (tail_index (closed_capacity self.now)) }
     {
         self.words[self.capacity as usize / 8 + TAIL_COUNTER_WORD]
     }
 
-    /// The place of the last record, or the start where there is none.
+    /// Returns the place of the last record, or the start if there is none.
     pub fn latest(&self) -> u64
         ensures { result ≡ slice_index (closed_words self.now) (latest_index (closed_capacity self.now)) }
     {
         self.words[self.capacity as usize / 8 + LATEST_COUNTER_WORD]
     }
 
-    /// A word of buffer or trailer.
+    /// Returns a word of the buffer or of the trailer.
     pub fn word(&self, index: usize) -> Option<u64>
         ensures { result ≡ slice_get (closed_words self.now) index }
     {

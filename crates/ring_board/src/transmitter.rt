@@ -20,7 +20,7 @@ use ring_layout::{
 };
 
 impl Transmitter {
-    /// The position in bytes at which its last transmission ended, or the board's start where there was none.
+    /// Returns the position, in bytes, at which its last transmission ended, or the start if there was none.
     pub fn tail(&self) -> u64
         ensures tail { result ≡ tail_of self.now }
         ensures end { result ≡ end_of (view_of self.now).start (transmitted self.now) }
@@ -28,7 +28,7 @@ impl Transmitter {
         self.tail
     }
 
-    /// How many shares of the board it holds.
+    /// Returns the number of shares that it holds.
     pub fn shares(&self) -> u32
         ensures { result ≡ shares_of self.now }
     {
@@ -37,7 +37,7 @@ impl Transmitter {
 }
 
 impl Board {
-    /// Says where a record goes that comes next behind a tail, or why it can't be transmitted.
+    /// Returns where the next record after a tail goes, or why it can't be transmitted.
     fn admit(&self, tail: u64, type_id: i32, len: usize) -> Result<Admission, TransmitFault>
         requires { tail ≤ max_position }
         ensures refused { IsRefusedBy (transmit_refusal_of self.now.capacity tail type_id len) result }
@@ -59,7 +59,7 @@ impl Board {
         Ok(admission)
     }
 
-    /// Stores the padding header, where a record does not lie at the tail.
+    /// Stores the padding header, if the record is not at the tail.
     fn store_gap(&self, seat: &mut BoardSeat, tail: u64, place: u64)
         requires seat { IsSeatOf self.now seat.old }
         requires stage { (z : ℕ) × (seat.old.me.0.stage ≡ drafted (draft tail place z [])) }
@@ -73,7 +73,7 @@ impl Board {
         }
     }
 
-    /// Stores a record behind its padding: the body, and then its header.
+    /// Stores a record after its padding: the body, and then its header.
     fn store_record(&self, seat: &mut BoardSeat, tail: u64, place: u64, type_id: i32, body: &[u8])
         requires seat { IsSeatOf self.now seat.old }
         requires stage { seat.old.me.0.stage ≡ drafted (draft tail place (place + span (length body.now)) []) }
@@ -90,7 +90,7 @@ impl Board {
         self.store_header(seat, place, header);
     }
 
-    /// Shows a record that is stored, and moves the tail behind it.
+    /// Shows a record that is stored, and moves the tail past it.
     fn show_record(&self, seat: &mut BoardSeat, place: u64, tail: u64)
         requires seat { IsSeatOf self.now seat.old }
         requires stage { (r : Record) × (seat.old.me.0.stage ≡ Written r) × (place ≡ r.place) × (tail ≡ end r) }
@@ -102,8 +102,8 @@ impl Board {
         self.store_tail(seat, tail);
     }
 
-    /// Says whether a message of this type id and so many bytes would be transmitted now. The refusals are those of
-    /// `transmit`; nothing changes.
+    /// Tests whether a message of this type id and length would be transmitted now. The errors are those of `transmit`.
+    /// Nothing changes.
     pub fn check(
         &self,
         transmitter: &Transmitter,
@@ -117,9 +117,9 @@ impl Board {
         Ok(())
     }
 
-    /// Transmits a message: appends it to the list that receivers read. It never waits. After a refusal all is as
-    /// before: `BadType` where the type id is below 1, `TooLong` where the body has more bytes than an eighth of the
-    /// capacity, `PositionLimit` where the record would end above 2^62.
+    /// Transmits a message: appends it to the list that receivers read. It never waits. Returns, in this order:
+    /// `BadType` if the type id is below 1; `TooLong` if the body has more than an eighth of the capacity in bytes;
+    /// `PositionLimit` if the record would end above 2^62. After an error nothing has changed.
     pub fn transmit(
         &self,
         transmitter: &mut Transmitter,
@@ -145,8 +145,8 @@ impl Board {
         Ok(())
     }
 
-    /// Begins a transmission of `len` bytes, and stores its intent. The refusals are those of `transmit`, and hand the
-    /// transmitter back.
+    /// Begins a transmission of `len` bytes, and stores its intent. The errors are those of `transmit`, and return the
+    /// transmitter.
     pub fn begin(
         &self,
         transmitter: Transmitter,
@@ -211,7 +211,7 @@ impl Board {
         }
     }
 
-    /// Shows the record to the receivers, and moves the tail behind it.
+    /// Shows the record to the receivers, and moves the tail past it.
     pub fn publish(&self, filled: Filled) -> Transmitter
         requires { IsFilledOf self.now filled }
         ensures board { IsTransmitterOf self.now result }

@@ -21,7 +21,7 @@ record IsQueue (counters : List Counter) (freed : List ℕ) (ordered : Bool) : T
 -- ---- a registry that is kept
 
 module _ (r : Registry) (room used : ℕ) (ordered : Bool) (h : IsKept r room used ordered) where
-  -- an id that was used lies below `used`
+  -- an id that was used is below `used`
   pub below_used : (id : ℕ) → is_unused (status_at r id) ≡ false → id < used
   below_used id was =
       elim (cases_lt id used) as (λ _. id < used) [
@@ -181,7 +181,7 @@ module _ (r : Registry) (room used : ℕ) (ordered : Bool) (h : IsKept r room us
         empty [] e = refl
         empty (x ∷ l) e = absurd (omega arith)
 
-    -- the queue stays in order where the new deadline is not before the last
+    -- the queue stays in order if the new deadline is not before the last
     pub kept_reclaimed : (now : ℕ) (still : Bool)
         → (still ≡ true → 0 < length r.freed → (ordered ≡ true)
         × (deadline_at r.counters (get_or r.freed (length r.freed - 1) 0) ≤ now + r.reuse_ms))

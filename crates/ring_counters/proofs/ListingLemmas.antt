@@ -44,7 +44,7 @@ passing_no p n fails =
     ap (passing p) one ∙ filter-range_more p 0 n ∙ (λ i. passing p n ++ cond (p (none i)) (none i ∷ []) [])
     ∙ ap (λ b. passing p n ++ cond b (n ∷ []) []) fails ∙ append-nil (passing p n)
 
--- where none passes from n on, no more than those below n pass
+-- if none passes from n on, no more than those below n pass
 pub passing_all : (p : ℕ → Bool) (n m : ℕ) → n ≤ m → ((k : ℕ) → n ≤ k → p k ≡ false) → passing p m ≡ passing p n
 passing_all p n zero le none = let e : 0 ≡ n = omega arith in ap (passing p) e
 passing_all p n (suc m) le none =
@@ -197,7 +197,7 @@ module _ (r : Registry) (first : ℕ) where
   abbrev in_use : ℕ → Bool
   in_use k = is_allocated (status_at r k)
 
-  -- one look: the first id is the first of the list where it is in use, and else passed over
+  -- one look: the first id is the first of the list if it is in use, and otherwise passed over
   one_look : first < count_of r → live_from r first
       ≡ cond (in_use first) ((first, counter_at r first) ∷ live_from r (first + 1)) (live_from r (first + 1))
   one_look less =

@@ -325,7 +325,7 @@ count_same p cs id c h same =
     let a : one_if (p (at cs id)) ≡ one_if (p c) = ap one_if same in
     omega arith
 
--- where one is not reclaimed, fewer than all are
+-- if one is not reclaimed, fewer than all are
 pub count_below : (cs : List Counter) (id : ℕ) → id < length cs → is_reclaimed (at cs id).metadata.status ≡ false
     → count_by reclaimed_counter cs < length cs
 count_below cs id h not =

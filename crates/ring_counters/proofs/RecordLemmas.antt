@@ -52,7 +52,7 @@ zero_past zero i = refl
 zero_past (suc m) zero = refl
 zero_past (suc m) (suc i) = zero_past m i
 
--- zeros behind the bytes change no byte, and no word
+-- zeros after the bytes change no byte, and no word
 pub slice_index-padded : (n : ℕ) (bytes : List ℕ) (i : ℕ) → slice_index bytes i ≡ slice_index (zero_padded n bytes) i
 slice_index-padded n bytes i =
     elim (cases_lt i (length bytes)) as (λ _. slice_index bytes i ≡ slice_index (zero_padded n bytes) i) [
@@ -81,15 +81,15 @@ no_word (suc k) = word_of-same [] [] (λ i. refl) (suc k)
 pub word_of-zeros : (bytes : List ℕ) → ((i : ℕ) → slice_index bytes i ≡ 0) → (k : ℕ) → word_of_bytes bytes k ≡ 0
 word_of-zeros bytes zeros k = word_of-same bytes [] zeros k ∙ no_word k
 
--- behind the bytes the words are 0
+-- after the bytes the words are 0
 pub word_of-past : (bytes : List ℕ) (k : ℕ) → length bytes ≤ 8 * k → word_of_bytes bytes k ≡ 0
 word_of-past bytes k h = from_le_bytes-same (drop (8 * k) bytes) []
     (λ i less. get_or-drop (8 * k) bytes i 0 ∙ get_or_past bytes (8 * k + i) 0 (omega arith))
 
--- ---- a label behind its length
+-- ---- a label after its length
 
 module _ (label : List ℕ) (short : length label ≤ 380) where
-  -- its first 4 bytes stand in one word with its length
+  -- its first 4 bytes are in one word with its length
   pub first_of_text : AreSmall label → from_le_bytes w64 label * 2 ^ 32 % 2 ^ 64 + length label
       ≡ word_of_bytes (label_text label) 0
   unfolding AreSmall
@@ -108,7 +108,7 @@ module _ (label : List ℕ) (short : length label ≤ 380) where
         small 7,
       )
 
-  -- the words behind it are those of the bytes from the fifth on
+  -- the words after it are those of the bytes from the fifth on
   pub rest_of_text : (n k : ℕ) → n ≡ min (length label) 4
       → word_of_bytes (drop n label) k ≡ word_of_bytes (label_text label) (suc k)
   rest_of_text n k is =
@@ -316,7 +316,7 @@ reclaimed_shown words m state deadline h len is = record {
       (λ k lo hi. first k (omega arith) ∙ h.shows k hi ∙ metadata_word-label m k lo);
 }
 
--- n bytes of a text were stored as words from the index `at` on, and nothing else
+-- n bytes of a text were stored as words from the index `at` on, and no others
 pub record StoresText (at n : ℕ) (text old new : List ℕ) : Type 0 where
   pub inside : (k : ℕ) → 8 * k < n → slice_index new (at + k) ≡ word_of_bytes text k
   pub below : (i : ℕ) → i < at → slice_index new i ≡ slice_index old i

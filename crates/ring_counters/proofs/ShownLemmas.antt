@@ -235,7 +235,7 @@ not_due_from_deadline now Unused h = refl
 not_due_from_deadline now Allocated h = refl
 not_due_from_deadline now (Reclaimed d) h = lt-leb d now h
 
--- where one is not due, none with a later deadline is
+-- if one is not due, none with a later deadline is
 pub later_not_due : (now : ℕ) (s t : Status) → is_reclaimed s ≡ true → is_due now s ≡ false
     → deadline_of s ≤ deadline_of t → is_due now t ≡ false
 later_not_due now Unused t r e h = absurd (true≢false (sym r))
@@ -340,7 +340,7 @@ module _ (count reuse_ms : ℕ) (ms : List Metadata) (vs : List Values) (queue :
     subst (λ (x : Registry). IsKept x room 0 true) (sym fresh_shown) (kept_fresh count reuse_ms room few enough),
   )
 
--- the queue's ids lie within the records
+-- the queue's ids are within the records
 module _ {r : Registry} {ms : List Metadata} {vs : List Values} {queue : List ℕ} {timeout room used : ℕ}
     {ordered : Bool} (s : Shows r ms vs queue timeout room used ordered) where
   pub all_inside : (k : ℕ) → k < length queue → get_or queue k 0 < length ms
@@ -348,7 +348,7 @@ module _ {r : Registry} {ms : List Metadata} {vs : List Values} {queue : List �
       queued_inside s k (get_or queue k 0) (omega (arith, ap length (shown_queue s)))
       (get_or_default queue k 0 (get_or queue k 0) less)
 
-  -- no deadline is before the first, where the queue is in order
+  -- no deadline is before the first, if the queue is in order
   pub first_deadline : ordered ≡ true → (k : ℕ) → k < length queue
       → deadline_of (status_at r (get_or r.freed 0 0)) ≤ deadline_of (status_at r (get_or r.freed k 0))
   first_deadline o k less =

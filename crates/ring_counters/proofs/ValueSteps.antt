@@ -82,7 +82,7 @@ reseat count words views views' r shares each = record {
   each = each;
 }
 
--- who is no writer has seen some of the writes, and loaded none
+-- a seat that is not the writer has seen some of the writes, and loaded none
 knows_begun : (writer : ℕ) (all : List ValueWrite) (by shares : ℕ) (seen : List ValueWrite) → Begins seen all
     → KnowsWrites writer all by (values_view false shares seen seen [])
 knows_begun writer all by shares seen begins =

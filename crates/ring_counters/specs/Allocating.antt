@@ -1,4 +1,4 @@
--- What the owner of the records is to allocate.
+-- The counter that the owner of the records allocates.
 use Rattle.ring_counters.specs.declared.records.wanted.Wanted.{Wanted}
 use Rattle.ring_counters.specs.Counter.{Counter}
 use Rattle.ring_counters.specs.Registry.{AreShort, new_counter}
@@ -7,6 +7,6 @@ use Rattle.ring_counters.specs.Registry.{AreShort, new_counter}
 abbrev pub HasShortTexts : Wanted → Type 0
 HasShortTexts w = AreShort w.key.now w.label.now
 
--- the counter that is wanted
+-- the counter that is to be allocated
 abbrev pub counter_wanted : Wanted → Counter
 counter_wanted w = new_counter w.type_id w.key.now w.label.now w.registration w.owner

@@ -3,7 +3,7 @@ use Rattle.std.specs.Prelude.{ℕ, ◌+◌, ◌-◌, ◌*◌, ◌^◌, ◌==◌,
 use Rattle.std.specs.Int.{cast_unsigned, to_le_bytes, w32, w64}
 use Rattle.ring_layout.specs.Bytes.{word_of_bytes}
 
--- a freed counter's id may be given again from a moment on
+-- a freed counter's id may be allocated again from a moment on
 pub data Status : Type 0 where
   Unused : Status
   Allocated : Status

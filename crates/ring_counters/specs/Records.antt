@@ -33,7 +33,7 @@ pub record IsWithinLimits (m : Metadata) : Type 0 where
   pub label_length : length m.label ≤ 380
   pub label : All (λ b. b < 256) m.label
 
--- the words are those of a lawful record
+-- the words are those of a valid record
 pub record IsMetadata (words : List ℕ) (m : Metadata) : Type 0 where
   pub lawful : IsWithinLimits m
   pub shows : (k : ℕ) → k < 64 → slice_index words k ≡ metadata_word m k

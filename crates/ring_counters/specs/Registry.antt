@@ -117,7 +117,7 @@ id_refusal_of r id =
 abbrev pub range_refusal_of : Registry → ℕ → Option IdFault
 range_refusal_of r id = if nat_le (count_of r) id then Some BadId else None
 
--- the refusal, or the answer where there is none
+-- the refusal, or the return value if there is none
 abbrev pub answer : {T E : Type 0} → Option E → T → Result T E
 answer None x = Ok x
 answer (Some fault) x = Err fault
@@ -138,7 +138,7 @@ value_plus r id delta = int_wrapping_add w64 (value_at r id) delta
 abbrev pub is_raised_by : Registry → ℕ → ℤ → Bool
 is_raised_by r id value = int_lt (value_at r id) value
 
--- a counter is freed at a moment: its id may be given again after the timeout, and its other words stay
+-- a counter is freed at a moment: its id may be allocated again after the timeout, and its other words stay
 abbrev pub reclaimed_in : Registry → ℕ → ℕ → Registry
 reclaimed_in r now id =
     let c = counter_at r id in

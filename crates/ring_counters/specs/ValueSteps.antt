@@ -1,4 +1,4 @@
--- What each step on the values tells its seat.
+-- What each step on the values shows its seat.
 use Rattle.std.specs.Prelude.{◌≡◌, ℕ, ◌≤◌, List, [], ◌∷◌, ◌++◌}
 use Rattle.std.specs.Int.{cast_signed, w64}
 use Rattle.ring_counters.specs.declared.values.view.ValueWrite.{ValueWrite}

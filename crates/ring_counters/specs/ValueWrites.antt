@@ -4,12 +4,12 @@ use Rattle.ring_layout.specs.Lists.{Begins}
 use Rattle.ring_counters.specs.declared.values.view.ValueWrite.{ValueWrite}
 use Rattle.ring_counters.specs.declared.values.view.ValueLoad.{ValueLoad}
 
--- the value of an id after these writes, where it was this one before them
+-- the value of an id after these writes, if it was this one before them
 abbrev pub value_from : ℤ → ℕ → List ValueWrite → ℤ
 value_from before id [] = before
 value_from before id (w ∷ ws) = value_from (if w.id == id then w.value else before) id ws
 
--- the value of an id after these writes: its last one, 0 where there is none
+-- the value of an id after these writes: its last one, 0 if there is none
 abbrev pub value_after : ℕ → List ValueWrite → ℤ
 value_after id writes = value_from (pos 0) id writes
 

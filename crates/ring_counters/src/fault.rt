@@ -14,7 +14,7 @@ pub enum MakeFault {
     /// The number of counters is 0 or above 4,096.
     #[error("{} BadCount", self.code())]
     BadCount,
-    /// There is not enough memory.
+    /// Out of memory.
     #[error("{} OutOfMemory", self.code())]
     OutOfMemory,
 }
@@ -43,7 +43,7 @@ pub enum AllocateRefused {
     /// The label has a byte of 128 or more.
     #[error("{} LabelNotAscii", self.code())]
     LabelNotAscii,
-    /// Every id was used, and none that was freed is due.
+    /// Every id was used, and no freed one is due.
     #[error("{} NoFreeCounter", self.code())]
     NoFreeCounter,
 }
@@ -68,7 +68,7 @@ pub enum IdFault {
     /// The id is not below the number of counters.
     #[error("{} BadId", self.code())]
     BadId,
-    /// No counter with this id is in use.
+    /// No counter in use has this id.
     #[error("{} NotAllocated", self.code())]
     NotAllocated,
 }
@@ -99,7 +99,7 @@ impl BadId {
     }
 }
 
-/// The owner is 0, which stands for none.
+/// The owner is 0, which means none.
 #[derive(Clone, Copy, Debug, PartialEq, Eq, Error)]
 #[error("{} BadOwner", self.code())]
 pub struct BadOwner;
@@ -113,7 +113,7 @@ impl BadOwner {
     }
 }
 
-/// There is not enough memory.
+/// Out of memory.
 #[derive(Clone, Copy, Debug, PartialEq, Eq, Error)]
 #[error("{} OutOfMemory", self.code())]
 pub struct OutOfMemory;

@@ -12,7 +12,7 @@ pub struct CounterInfo {
     pub value: i64,
     /// The registration id that it was allocated with.
     pub registration: u64,
-    /// Its owner, 0 for none.
+    /// Its owner, 0 if it has none.
     pub owner: u64,
     /// Its key, with zeros after a short one.
     pub key: [u8; MAX_KEY_LENGTH],

@@ -4,7 +4,7 @@
 //! - `records`: the counters' words: `metadata` and `value` records, what a counter is allocated with (`wanted`), and
 //!   the queue of ids that were `freed`.
 //! - `values`: what threads share: what each seat knows (`view`), the `rule` between any two steps, what each step
-//!   tells (`plays`), a function for each (`steps`), and the `seats` of writer and readers.
+//!   says (`plays`), a function for each (`steps`), and the `seats` of writer and readers.
 //! - `fault`, `info`: why calls refuse, and what a listing says of a counter.
 #![tactic(auto)]
 

@@ -8,8 +8,8 @@ use crate::values::seats::ValueWriter;
 
 /// Counters with labels, keys and owners, in records of words.
 ///
-/// The values stand in `CounterValues` too, where readers on other threads load them. A manager belongs to the values
-/// that it was made with; each call that takes values requires those.
+/// The values are also in `CounterValues`, from which readers on other threads load them. A manager belongs to the
+/// values that it was made with; each call that takes values requires those.
 #[derive(Drop)]
 pub struct CountersManager {
     pub(crate) records: Records,

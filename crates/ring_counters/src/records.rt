@@ -31,12 +31,12 @@ use std::marker::Model;
 pub(crate) struct Records {
     metadata: Vec<MetadataRecord>,
     values: Vec<ValueRecord>,
-    /// Whether each counter is in use, as its metadata say: close together, for a call that looks at nothing else
-    /// there.
+    /// Whether each counter is in use, as its metadata say: in a list of its own, for calls that need nothing else of
+    /// the metadata.
     live: Vec<bool>,
     /// The freed ids in order of freeing, with room for every id.
     freed: VecDeque<u32>,
-    /// Whether the deadlines never fall along the queue, so that where the first id is not due none is.
+    /// Whether the deadlines never fall along the queue, so that none is due if the first is not.
     in_order: bool,
     /// The lowest id that was never used.
     used: u32,
@@ -121,7 +121,7 @@ impl Records {
         self.metadata.len() as u32
     }
 
-    /// How far the queue must be searched for an id that is due: where the deadlines never fall, no further than its
+    /// How far the queue must be searched for an id that is due: if the deadlines never fall, no further than its
     /// first.
     fn reach(&self) -> usize
         ensures most { result ≤ length self.now.freed }
@@ -137,7 +137,7 @@ impl Records {
         }
     }
 
-    /// Where the first freed id that is due stands in the queue.
+    /// The index in the queue of the first freed id that is due.
     fn first_due(&self, now: u64) -> Option<usize>
         ensures { result ≡ position (λ id. is_due now (status_at self.now id)) self.now.freed }
     {
@@ -248,7 +248,7 @@ impl Records {
         &self.values[id as usize]
     }
 
-    /// How many ids were ever used: those from 0 up to this one.
+    /// The number of ids that were ever used: those below it.
     pub(crate) fn used(&self) -> u32
         ensures most { result ≤ count_of self.now }
         ensures unused { (id : ℕ) → result ≤ id → counter_at self.now id ≡ unused_counter }
@@ -317,7 +317,7 @@ impl Records {
         None
     }
 
-    /// Frees the counters of an owner, by rising id, and gives their number.
+    /// Frees the counters of an owner, by rising id, and returns their number.
     pub(crate) fn close(&mut self, now: u64, owner: u64) -> u32
         requires { now ≤ 2 ^ 62 }
         ensures freed { result ≡ length (owned_ids self.old owner) }

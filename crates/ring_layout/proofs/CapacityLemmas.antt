@@ -1,4 +1,4 @@
--- Lawful capacities: multiples of 128, the test for them, and masks.
+-- Valid capacities: multiples of 128, the test for them, and masks.
 use Rattle.std.proofs.Common.{◌≡◌, ℕ, ◌+◌, ◌-◌, ◌*◌, ◌/◌, ◌%◌, ◌^◌, ◌<◌, ◌&&◌, nat_le, true, zero, suc, ap, sym, ◌∙◌, arith, inl, inr, IsTrue}
 use Rattle.std.specs.Int.{is_power_of_two, IsPowerOfTwo}
 use Rattle.std.specs.Int.RustNames.{bit_and, count_ones}

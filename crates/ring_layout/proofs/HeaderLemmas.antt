@@ -25,7 +25,7 @@ pub fits_neg : (n : ℕ) → n < 2 ^ 31 → FitsSigned w32 (neg_ℤ (pos n))
 fits_neg zero h = record { sfits = omega arith }
 fits_neg (suc n) h = record { sfits = omega arith }
 
--- the pattern of a length that the code negates
+-- the bit pattern of a length that the code negates
 pub negated_length : (n : ℕ) → n < 2 ^ 31 → to_z w32 (of_z w32 (pos 0 -ℤ to_z w32 n)) ≡ neg_ℤ (pos n)
 negated_length n small =
     let negated : pos 0 -ℤ pos n ≡ neg_ℤ (pos n) = omega (arith, ints) in

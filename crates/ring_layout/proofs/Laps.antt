@@ -45,13 +45,13 @@ pub record IsLap (c : ℕ) : Type 0 where
   pub some : 0 < c
   pub whole : c % 8 ≡ 0
 
--- a word lies at p, less than a lap behind base
+-- a word is at p, less than a lap after base
 pub record IsInLap (c base p : ℕ) : Type 0 where
   pub whole : p % 8 ≡ 0
   pub from : base ≤ p
   pub below : p < base + c
 
--- n bytes from place on are whole words that do not cross the end of the buffer, and end less than a lap behind base
+-- n bytes from place on are whole words that do not cross the end of the buffer, and end less than a lap after base
 pub record LieInLap (c base place n : ℕ) : Type 0 where
   pub whole : place % 8 ≡ 0
   pub words : n % 8 ≡ 0

@@ -7,8 +7,8 @@ use Rattle.ring_layout.specs.Headers.{header, padding_type}
 use Rattle.ring_layout.specs.Picture.{word_at, claim_word, ShowsClaim, ShowsNothingElse}
 use Rattle.ring_layout.proofs.PlaceLemmas.{next_le, end_of_le}
 
--- the four parts of a claim that comes after e: before e and in the padding behind its header, the padding's header,
--- the record, and what follows
+-- the four parts of a claim that comes after e: before e and in the padding after its header, the padding's header, the
+-- record, and what follows
 pub word_at_padding : (c e p : ℕ) (x : Claim) (h : List Claim) → p < next_place c e (span_of x) → (p ≡ e → ⊥)
     → word_at c e (x ∷ h) p ≡ 0
 unfolding word_at
@@ -46,14 +46,14 @@ word_at_before c e p (x ∷ h) lt =
     let le = next_le c e (span_of x) in
     word_at_padding c e p x h (omega arith) (λ q. omega arith)
 
--- behind the claims there is 0
+-- after the claims there is 0
 pub word_at_past : (c e p : ℕ) (h : List Claim) → end_of c e h ≤ p → word_at c e h p ≡ 0
 word_at_past c e p [] le = word_at_none c e p
 word_at_past c e p (x ∷ h) le =
     let far = end_of_le c (end_after c e (span_of x)) h in
     word_at_rest c e p x h (omega arith) ∙ word_at_past c (end_after c e (span_of x)) p h le
 
--- the claims behind it do not change a word, and those before it do not
+-- the claims after it do not change a word, and those before it do not
 pub word_at-append_before : (c e p : ℕ) (h g : List Claim) → p < end_of c e h → word_at c e (h ++ g) p ≡ word_at c e h p
 word_at-append_before c e p [] g lt = word_at_before c e p g lt ∙ sym (word_at_none c e p)
 word_at-append_before c e p (x ∷ h) g lt =

@@ -1,4 +1,4 @@
--- Where claims lie.
+-- Where claims are placed.
 use Rattle.std.proofs.Common.{◌≡◌, ℕ, ◌+◌, ◌-◌, ◌%◌, ◌<◌, ◌≤◌, List, [], ◌∷◌, ◌++◌, refl, ap, sym, ◌∙◌, arith, ◌⊎◌, inl, inr}
 use Rattle.std.proofs.lemmas.Nat.{mod_below}
 use Rattle.std.proofs.lemmas.Bool.{cases_lt, le-leb, lt-leb, cond-true, cond-false}
@@ -6,7 +6,7 @@ use Rattle.ring_layout.specs.History.{Claim, span, span_of}
 use Rattle.ring_layout.specs.Places.{room, next_place, end_after, end_of}
 use Rattle.ring_layout.proofs.Laps.{mod_step, mod_room, mod_aligned}
 
--- a span stays where it fits, and goes to the next_place multiple of the capacity else
+-- a span stays if it fits, and otherwise goes to the next_place multiple of the capacity
 pub next_cases : (c e a : ℕ) → ((a ≤ room c e) × (next_place c e a ≡ e))
     ⊎ ((room c e < a) × (next_place c e a ≡ e + room c e))
 next_cases c e a =

@@ -53,7 +53,7 @@ module _ {A : Type 0} (f : A → ℕ) where
       let zero_there : rest ≡ 0 = omega arith in
       total-zero xs j a zero_there at
 
-  -- where no other entry counts, the sum is that of one
+  -- if no other entry counts, the sum is that of one
   pub total-sole : (l : List A) (id : ℕ) (v : A) → get_elem? l id ≡ some v
       → ((j : ℕ) (a : A) → j ≢ id → get_elem? l j ≡ some a → f a ≡ 0) → total f l ≡ f v
   total-sole [] id v at none = absurd (some-ne-none v (sym at))

@@ -2,7 +2,7 @@
 use Rattle.std.specs.Prelude.{◌≡◌, ℕ, ◌+◌, ◌*◌, ◌<◌, List, length, drop, slice_index}
 use Rattle.std.specs.Int.{from_le_bytes, w64}
 
--- the k-th word of these bytes, with zeros behind them
+-- the k-th word of these bytes, with zeros after them
 abbrev pub word_of_bytes : List ℕ → ℕ → ℕ
 word_of_bytes bytes k = from_le_bytes w64 (drop (8 * k) bytes)
 

@@ -2,7 +2,7 @@
 use Rattle.std.specs.Prelude.{◌≡◌, List, [], ◌∷◌}
 use Rattle.ring_layout.specs.History.{Message}
 
--- the handler was shown these messages in order, answered these actions, and came from the first state to the last
+-- the handler was shown these messages in order, returned these actions, and went from the first state to the last
 abbrev pub Handles : {S A : Type 0} → (S → Message → S → A → Type 0) → S → List Message → List A → S → Type 0
 Handles step s [] [] t = s ≡ t
 Handles step s [] (a ∷ actions) t = ⊥

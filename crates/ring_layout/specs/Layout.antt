@@ -16,11 +16,11 @@ correlation_index C = C / 8 + 64
 abbrev pub heartbeat_index : ℕ → ℕ
 heartbeat_index C = C / 8 + 80
 
--- how many words a ring has
+-- the number of words of a ring
 abbrev pub ring_words : ℕ → ℕ
 ring_words C = C / 8 + 96
 
--- a word behind the buffer that is none of the five
+-- a word after the buffer that is none of the five
 pub record IsUnnamed (C i : ℕ) : Type 0 where
   pub behind : C / 8 ≤ i
   pub not_tail : i ≢ tail_index C

@@ -9,7 +9,7 @@ use Rattle.ring_layout.specs.Headers.{header_of, padding_header}
 abbrev pub claim_word : Claim → ℕ → ℕ
 claim_word c k = if k == 0 then header_of c else from_le_bytes w64 (drop (k - 8) c.message.body)
 
--- the word at position p of claims that come after e: that of the one claim or padding there, 0 behind them
+-- the word at position p of claims that come after e: that of the one claim or padding there, 0 after them
 unfoldable pub word_at : ℕ → ℕ → List Claim → ℕ → ℕ
 word_at C e [] p = 0
 word_at C e (c ∷ h) p =
@@ -18,11 +18,11 @@ word_at C e (c ∷ h) p =
     else (if nat_lt p (place + span_of c) then claim_word c (p - place)
     else word_at C (place + span_of c) h p)
 
--- the words of the buffer show the claims from the head on, and 0 everywhere else
+-- the words of the buffer show the claims from the head on, and 0 at all other places
 abbrev pub IsPicture : (ℕ → ℕ) → ℕ → ℕ → List Claim → Type 0
 IsPicture word C head h = (p : ℕ) → p % 8 ≡ 0 → head ≤ p → p < head + C → word (index C p) ≡ word_at C head h p
 
--- the words of one claim c, and of the padding before it, whatever claims stand before and behind it
+-- the words of one claim c, and of the padding before it, whatever claims are before and after it
 pub record ShowsClaim (C e : ℕ) (front : List Claim) (c : Claim) (back : List Claim) : Type 0 where
   pub padding_header :
       end_of C e front < place_behind C e front c

@@ -1,5 +1,5 @@
-//! Whether a message may be claimed, where its record goes, and whether it fits: the parts of which every claim of a
-//! ring and every transmission of a board is made.
+//! Whether a message may be claimed, where its record goes, and whether it fits: the tests of every claim of a ring and
+//! of every transmission of a broadcast buffer.
 ghost use Rattle.std.specs.Prelude.{◌≡◌, ℕ, ◌+◌, ◌/◌, ◌%◌, ◌≤◌, ◌↔◌, IsTrue, true, nat_le, int_le, pos};
 ghost use Rattle.std.specs.Int.{is_power_of_two};
 ghost use Rattle.ring_layout.specs.History.{span};
@@ -9,8 +9,8 @@ use crate::capacity::max_message;
 use crate::placement::pad_and_span;
 use crate::ring_buffer_descriptor::MAX_POSITION;
 
-/// Where a record goes that comes next behind `tail`: it lies at `place`, behind padding where that is greater, and
-/// ends at `end`. All three are positions, in bytes.
+/// Where the next record after `tail` goes. It begins at `place`, after padding if that is greater than `tail`, and
+/// ends at `end`. All three are positions in bytes.
 #[derive(Clone, Copy, Debug, PartialEq, Eq)]
 pub struct Admission {
     pub tail: u64,
@@ -26,7 +26,7 @@ pub fn is_type_id(type_id: i32) -> bool
     type_id >= 1
 }
 
-/// Tests whether a message may have so many bytes: at most `max_message`.
+/// Tests whether a message may have this length in bytes: at most `max_message`.
 #[inline]
 pub fn is_length(capacity: u32, len: usize) -> bool
     ensures { result ≡ nat_le len (capacity / 8) }
@@ -34,8 +34,8 @@ pub fn is_length(capacity: u32, len: usize) -> bool
     len <= max_message(capacity) as usize
 }
 
-/// Says where the record of a message with `len` bytes goes that comes next behind a tail. Whether it may end there,
-/// and whether there is room, is still to be tested.
+/// Returns where the record of a message of `len` bytes goes if it is the next one after a tail. Whether it may end
+/// there, and whether there is room, is not tested here.
 #[inline]
 pub fn place_record(capacity: u32, tail: u64, len: usize) -> Admission
     requires power { IsTrue (is_power_of_two capacity) }
@@ -62,8 +62,8 @@ pub fn is_position(end: u64) -> bool
     end <= MAX_POSITION
 }
 
-/// Tests whether there is room for a record that ends here: at most the capacity behind the head. A head that was
-/// cached may lie further behind.
+/// Tests whether there is room for a record that ends here: the end is at most one capacity after the head. A cached
+/// head may be further back.
 #[inline]
 pub fn has_room(capacity: u32, end: u64, head: u64) -> bool
     requires { head ≤ max_position }
@@ -72,8 +72,8 @@ pub fn has_room(capacity: u32, end: u64, head: u64) -> bool
     end <= head + u64::from(capacity)
 }
 
-/// Tests whether a record with `len` bytes of body fits at this tail and head: its padding and span are at most the
-/// room that is left. Where it does not fit, it does not fit at any later tail either while the head stays.
+/// Tests whether a record with `len` bytes of body fits at this tail and head: its padding and its span together are at
+/// most the free bytes. If it does not fit, it does not fit at any later tail either while the head stays the same.
 pub fn fits(capacity: u32, tail: u64, head: u64, len: usize) -> bool
     requires capacity { IsCapacity capacity }
     requires short { len ≤ capacity / 8 }

@@ -29,25 +29,26 @@ pub const METADATA_LENGTH: usize = 512;
 /// The words of a metadata record.
 pub const METADATA_WORDS: usize = METADATA_LENGTH / 8;
 
-/// Where the state stands in a metadata record, in bytes: 32 bits.
+/// The byte offset of the state in a metadata record: 32 bits.
 pub const STATE_OFFSET: usize = 0;
 
-/// Where the type id stands in a metadata record, in bytes: 32 bits.
+/// The byte offset of the type id in a metadata record: 32 bits.
 pub const TYPE_ID_OFFSET: usize = 4;
 
-/// Where the moment stands from which a freed id may be given again, in bytes: 64 bits, milliseconds.
+/// The byte offset of the reuse deadline in a metadata record: 64 bits, milliseconds. A freed id may be allocated again
+/// from that moment on.
 pub const FREE_FOR_REUSE_DEADLINE_OFFSET: usize = 8;
 
-/// Where the key begins in a metadata record, in bytes.
+/// The byte offset of the key in a metadata record.
 pub const KEY_OFFSET: usize = 16;
 
-/// Where the label's length stands in a metadata record, in bytes: 32 bits. The label comes right after it.
+/// The byte offset of the label's length in a metadata record: 32 bits. The label comes right after it.
 pub const LABEL_OFFSET: usize = 128;
 
 /// The word of the state, its low half, and of the type id, its high half.
 pub const STATE_WORD: usize = STATE_OFFSET / 8;
 
-/// The word of the moment from which a freed id may be given again.
+/// The word of the reuse deadline.
 pub const FREE_FOR_REUSE_DEADLINE_WORD: usize = FREE_FOR_REUSE_DEADLINE_OFFSET / 8;
 
 /// The first word of the key.
@@ -86,16 +87,16 @@ pub const COUNTER_LENGTH: usize = 128;
 /// The words of a value record.
 pub const COUNTER_WORDS: usize = COUNTER_LENGTH / 8;
 
-/// Where the value stands in a value record, in bytes: 64 bits, signed.
+/// The byte offset of the value in a value record: 64 bits, signed.
 pub const VALUE_OFFSET: usize = 0;
 
-/// Where the registration id stands in a value record, in bytes: 64 bits.
+/// The byte offset of the registration id in a value record: 64 bits.
 pub const REGISTRATION_ID_OFFSET: usize = 8;
 
-/// Where the owner's id stands in a value record, in bytes: 64 bits.
+/// The byte offset of the owner's id in a value record: 64 bits.
 pub const OWNER_ID_OFFSET: usize = 16;
 
-/// Where the reference id stands in a value record, in bytes: 64 bits, always 0.
+/// The byte offset of the reference id in a value record: 64 bits, always 0.
 pub const REFERENCE_ID_OFFSET: usize = 24;
 
 /// The word of the value.
@@ -113,5 +114,5 @@ pub const REFERENCE_ID_WORD: usize = REFERENCE_ID_OFFSET / 8;
 /// The most counters that a manager keeps.
 pub const MAX_COUNTERS: u32 = 4096;
 
-/// The latest moment that a caller may hand in, in milliseconds.
+/// The latest moment that a caller may pass, in milliseconds.
 pub const MAX_MOMENT: u64 = 1 << 62;

@@ -6,13 +6,13 @@ use crate::{
 
 // A record ---------------------------------------------------------------------
 
-// The length stands at byte 0 of a header, in 32 bits: up to the type id.
+// The length is at byte 0 of a header, in 32 bits: up to the type id.
 const _: () = prove!(record::LENGTH_OFFSET == 0);
 
-// The type id stands at byte 4 of a header, in 32 bits: up to the header's end.
+// The type id is at byte 4 of a header, in 32 bits: up to the header's end.
 const _: () = prove!(record::TYPE_OFFSET == 4);
 
-// The message begins at byte 8, behind the header.
+// The message begins at byte 8, after the header.
 const _: () = prove!(record::ENCODED_MSG_OFFSET == 8);
 
 // A header has 8 bytes, one word.
@@ -26,23 +26,23 @@ const _: () = prove!(record::PADDING_MSG_TYPE_ID == -1);
 
 // A ring's trailer -------------------------------------------------------------
 
-// The tail stands at byte 128 of the trailer, its word 16.
+// The tail is at byte 128 of the trailer, its word 16.
 const _: () = prove!(ring::TAIL_POSITION_OFFSET == 128 && ring::TAIL_POSITION_WORD == 16);
 
-// The head cache stands at byte 256, word 32.
+// The head cache is at byte 256, word 32.
 const _: () = prove!(
     ring::HEAD_CACHE_POSITION_OFFSET == 256 && ring::HEAD_CACHE_POSITION_WORD == 32
 );
 
-// The head stands at byte 384, word 48.
+// The head is at byte 384, word 48.
 const _: () = prove!(ring::HEAD_POSITION_OFFSET == 384 && ring::HEAD_POSITION_WORD == 48);
 
-// The correlation counter stands at byte 512, word 64.
+// The correlation counter is at byte 512, word 64.
 const _: () = prove!(
     ring::CORRELATION_COUNTER_OFFSET == 512 && ring::CORRELATION_COUNTER_WORD == 64
 );
 
-// The consumer's heartbeat stands at byte 640, word 80.
+// The consumer's heartbeat is at byte 640, word 80.
 const _: () = prove!(ring::CONSUMER_HEARTBEAT_OFFSET == 640 && ring::CONSUMER_HEARTBEAT_WORD == 80);
 
 // The trailer has 768 bytes, 96 words.
@@ -54,17 +54,17 @@ const _: () = prove!(ring::MIN_CAPACITY == 128 && ring::MAX_CAPACITY == 16_777_2
 // No position is above 2^62.
 const _: () = prove!(ring::MAX_POSITION == 4_611_686_018_427_387_904);
 
-// A board's trailer ------------------------------------------------------------
+// A broadcast buffer's trailer -------------------------------------------------
 
-// The tail intent stands at byte 0 of the trailer, its word 0.
+// The tail intent is at byte 0 of the trailer, its word 0.
 const _: () = prove!(
     board::TAIL_INTENT_COUNTER_OFFSET == 0 && board::TAIL_INTENT_COUNTER_WORD == 0
 );
 
-// The tail stands at byte 8, word 1.
+// The tail is at byte 8, word 1.
 const _: () = prove!(board::TAIL_COUNTER_OFFSET == 8 && board::TAIL_COUNTER_WORD == 1);
 
-// The latest record's place stands at byte 16, word 2.
+// The latest record's place is at byte 16, word 2.
 const _: () = prove!(board::LATEST_COUNTER_OFFSET == 16 && board::LATEST_COUNTER_WORD == 2);
 
 // The trailer has 128 bytes, 16 words.
@@ -75,24 +75,24 @@ const _: () = prove!(board::MIN_CAPACITY == 256 && board::MAX_CAPACITY == 16_777
 
 // A counter's value record -------------------------------------------------------
 
-// The value, signed, stands at byte 0, word 0.
+// The value, signed, is at byte 0, word 0.
 const _: () = prove!(counter::VALUE_OFFSET == 0 && counter::VALUE_WORD == 0);
 
-// The registration id stands at byte 8, word 1.
+// The registration id is at byte 8, word 1.
 const _: () = prove!(counter::REGISTRATION_ID_OFFSET == 8 && counter::REGISTRATION_ID_WORD == 1);
 
-// The owner id stands at byte 16, word 2.
+// The owner id is at byte 16, word 2.
 const _: () = prove!(counter::OWNER_ID_OFFSET == 16 && counter::OWNER_ID_WORD == 2);
 
-// The reference id stands at byte 24, word 3.
+// The reference id is at byte 24, word 3.
 const _: () = prove!(counter::REFERENCE_ID_OFFSET == 24 && counter::REFERENCE_ID_WORD == 3);
 
-// The record has 128 bytes, 16 words: those behind the reference id are 0.
+// The record has 128 bytes, 16 words: those after the reference id are 0.
 const _: () = prove!(counter::COUNTER_LENGTH == 128 && counter::COUNTER_WORDS == 16);
 
 // A counter's metadata record ----------------------------------------------------
 
-// The state stands at byte 0, in the low half of word 0: 0 unused, 1 allocated, -1 reclaimed.
+// The state is at byte 0, in the low half of word 0: 0 unused, 1 allocated, -1 reclaimed.
 const _: () = prove!(counter::STATE_OFFSET == 0 && counter::STATE_WORD == 0);
 
 const _: () = prove!(counter::RECORD_UNUSED == 0);
@@ -101,22 +101,22 @@ const _: () = prove!(counter::RECORD_ALLOCATED == 1);
 
 const _: () = prove!(counter::RECORD_RECLAIMED == -1);
 
-// The type id stands at byte 4, in the high half of word 0.
+// The type id is at byte 4, in the high half of word 0.
 const _: () = prove!(counter::TYPE_ID_OFFSET == 4);
 
-// The deadline stands at byte 8, word 1. That of an allocated counter is 0x7FFFFFFFFFFFFFFF.
+// The deadline is at byte 8, word 1. That of an allocated counter is 0x7FFFFFFFFFFFFFFF.
 const _: () = prove!(counter::FREE_FOR_REUSE_DEADLINE_OFFSET == 8);
 
 const _: () = prove!(counter::FREE_FOR_REUSE_DEADLINE_WORD == 1);
 
 const _: () = prove!(counter::NOT_FREE_FOR_REUSE == 0x7FFF_FFFF_FFFF_FFFF);
 
-// The key stands at byte 16: 112 bytes, from word 2 on.
+// The key is at byte 16: 112 bytes, from word 2 on.
 const _: () = prove!(counter::KEY_OFFSET == 16 && counter::KEY_WORD == 2);
 
 const _: () = prove!(counter::MAX_KEY_LENGTH == 112);
 
-// The label's length stands at byte 128, in the low half of word 16, in 4 bytes.
+// The label's length is at byte 128, in the low half of word 16, in 4 bytes.
 const _: () = prove!(counter::LABEL_OFFSET == 128 && counter::LABEL_WORD == 16);
 
 const _: () = prove!(counter::LABEL_LENGTH_BYTES == 4);

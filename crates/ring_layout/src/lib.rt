@@ -1,10 +1,11 @@
-//! Where records lie in a ring, how their words look, and the definitions that every crate names.
+//! Where records are in a ring, what their words are, and the definitions that every crate names.
 //!
-//! - `ring_buffer_descriptor`, `broadcast_buffer_descriptor`, `counter_descriptor`: where each word lies. `formats`
-//!   holds the rows of the formats against them.
+//! - `ring_buffer_descriptor`, `broadcast_buffer_descriptor`, `counter_descriptor`: the offset of each word. `formats`
+//!   checks the rows of the documented formats against them.
 //! - `record_descriptor`, `word_bytes`: headers of records, and bytes inside words.
-//! - `capacity`, `placement`, `admission`: which capacities there are, where a record goes, and whether it may.
-//! - `make_fault`, `share`, `refusal_codes`: the refusals that several crates have, and the number of each.
+//! - `capacity`, `placement`, `admission`: which capacities there are, where a record goes, and whether it may go
+//!   there.
+//! - `make_fault`, `share`, `refusal_codes`: the errors that several crates have, and the number of each.
 //! - `message`, `picture_law`: messages and claims as contracts name them, and what a word of a ring depends on.
 #![tactic(auto)]
 

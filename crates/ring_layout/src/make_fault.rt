@@ -1,20 +1,20 @@
-//! Why a ring or a board is not made.
+//! Why a ring or a broadcast buffer is not made.
 ghost use Rattle.std.specs.Prelude.{◌≡◌};
 ghost use Rattle.ring_layout.specs.Refusals.{make_code};
 
 use crate::refusal_codes::{BAD_CAPACITY, BAD_START, OUT_OF_MEMORY};
 use thiserror::Error;
 
-/// Why a ring or a board could not be made.
+/// Why a ring or a broadcast buffer could not be made.
 #[derive(Clone, Copy, Debug, PartialEq, Eq, Error)]
 pub enum MakeFault {
-    /// The capacity is no power of two from the least to 2^24: from 128 on of a ring, from 256 on of a board.
+    /// The capacity is not a power of two, or out of range: 128 to 2^24 for a ring, 256 to 2^24 for a broadcast buffer.
     #[error("{} BadCapacity", self.code())]
     BadCapacity,
     /// The start is no multiple of the capacity, or above 2^62.
     #[error("{} BadStart", self.code())]
     BadStart,
-    /// Memory is wanting.
+    /// Out of memory.
     #[error("{} OutOfMemory", self.code())]
     OutOfMemory,
 }

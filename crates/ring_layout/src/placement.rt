@@ -23,8 +23,8 @@ pub fn word_index(capacity: u32, position: u64) -> usize
     byte_index(capacity, position) as usize / 8
 }
 
-/// The bytes of padding that a record with `len` bytes of body needs at this tail, and the record's span: the bytes
-/// that it takes. Padding goes up to the end of the buffer, where the record would cross that.
+/// Returns the padding that a record with `len` bytes of body needs at this tail, and the record's span, both in bytes.
+/// If the record would cross the end of the buffer, padding fills the buffer up to its end.
 #[inline]
 pub fn pad_and_span(capacity: u32, tail: u64, len: usize) -> (u64, u64)
     requires power { IsTrue (is_power_of_two capacity) }

@@ -18,13 +18,13 @@ ghost use Rattle.ring_layout.specs.History.{span};
 /// The bytes of a header.
 pub const HEADER_LENGTH: usize = 8;
 
-/// Where the length stands in a header, in bytes.
+/// The byte offset of the length in a header.
 pub const LENGTH_OFFSET: usize = 0;
 
-/// Where the type id stands in a header, in bytes.
+/// The byte offset of the type id in a header.
 pub const TYPE_OFFSET: usize = 4;
 
-/// Where the message begins in a record, in bytes.
+/// The byte offset of the message in a record.
 pub const ENCODED_MSG_OFFSET: usize = HEADER_LENGTH;
 
 /// Records begin and end at multiples of this many bytes.
@@ -41,8 +41,8 @@ pub fn align8(bytes: u64) -> u64
     (bytes + 7) & !7
 }
 
-/// The bytes that a record takes whose message has `len` bytes, at most 2^64 - 16: a header and the message, rounded up
-/// to a multiple of 8. Padding before it is not counted.
+/// The bytes that the record of a message of `len` bytes takes, for `len` up to 2^64 - 16: a header and the message,
+/// rounded up to a multiple of 8. Padding before it is not counted.
 pub fn span(len: usize) -> u64
     requires { len ≤ 2 ^ 64 - 16 }
     ensures { result ≡ span len }
@@ -70,7 +70,7 @@ pub fn unpack_header(word: u64) -> (i32, i32)
     (len.cast_signed(), type_id.cast_signed())
 }
 
-/// The header word of an open claim of a message with `len` bytes, whose length is negated until it is settled.
+/// The header word of an open claim of a message with `len` bytes. The length is negated until the claim is settled.
 #[inline]
 pub fn open_header(type_id: i32, len: usize) -> u64
     requires { 8 + len < 2 ^ 31 }
@@ -88,7 +88,7 @@ pub fn committed_header(type_id: i32, len: usize) -> u64
     pack_header((HEADER_LENGTH + len) as i32, type_id)
 }
 
-/// The header word of an aborted record whose message has `len` bytes. It looks like padding.
+/// The header word of an aborted record of a message with `len` bytes. It looks like padding.
 #[inline]
 pub fn aborted_header(len: usize) -> u64
     requires { 8 + len < 2 ^ 31 }
@@ -97,7 +97,7 @@ pub fn aborted_header(len: usize) -> u64
     pack_header((HEADER_LENGTH + len) as i32, PADDING_MSG_TYPE_ID)
 }
 
-/// The header word of so many bytes of padding, this word counted.
+/// The header word of padding of this many bytes, this word included.
 #[inline]
 pub fn padding_header(bytes: u64) -> u64
     requires { bytes < 2 ^ 31 }

@@ -1,13 +1,13 @@
 //! The number of each refusal, which texts, replies and exports to C give for it. No two refusals share one, and one
 //! that several calls give has the same number everywhere.
 
-/// A capacity is none that a ring or a board may have.
+/// The capacity is not one that a ring or a broadcast buffer may have.
 pub const BAD_CAPACITY: i32 = 1;
 
 /// A start is no multiple of the capacity, or above 2^62.
 pub const BAD_START: i32 = 2;
 
-/// Memory is wanting.
+/// Out of memory.
 pub const OUT_OF_MEMORY: i32 = 3;
 
 /// A type id is below 1.
@@ -19,13 +19,13 @@ pub const TOO_LONG: i32 = 5;
 /// A record would end above 2^62.
 pub const POSITION_LIMIT: i32 = 6;
 
-/// A record does not fit behind the head.
+/// A record does not fit after the head.
 pub const INSUFFICIENT_CAPACITY: i32 = 7;
 
 /// Another producer was faster.
 pub const CONTENDED: i32 = 8;
 
-/// Bytes do not lie inside a claim.
+/// Bytes are not inside a claim.
 pub const PUT_RANGE: i32 = 9;
 
 /// Claims are open.
@@ -76,8 +76,8 @@ pub const BAD_LINE: i32 = 25;
 /// A number of a storm's plan is not allowed.
 pub const BAD_PLAN: i32 = 26;
 
-/// A wait took as many turns as it may.
+/// A wait took the number of turns that it was allowed.
 pub const TURNS_SPENT: i32 = 27;
 
-/// An owner is 0, which stands for none.
+/// The owner is 0, which means none.
 pub const BAD_OWNER: i32 = 28;

@@ -1,11 +1,12 @@
-//! Shares: parts of the right to produce, to transmit, or to write values. All must be back before a ring or a board is
-//! closed.
+//! Shares: parts of the right to produce, to transmit, or to write values. All must be back before a ring or a
+//! broadcast buffer is closed.
 ghost use Rattle.std.specs.Prelude.{◌≡◌, ◌<◌, ◌↔◌, IsTrue, nat_lt, pos};
 
 use crate::refusal_codes::NO_SHARES;
 use thiserror::Error;
 
-/// The shares that there are: those of a ring's first producer, of a board's transmitter, and of counters' values.
+/// The number of shares of a ring, of a broadcast buffer, and of counters' values. At first the first producer, the
+/// transmitter or the manager holds all of them.
 pub const ALL_SHARES: u32 = 1 << 16;
 
 /// One share is left, and its holder needs it.
@@ -22,7 +23,7 @@ impl NoShares {
     }
 }
 
-/// Tests whether one of so many shares can be given away: one is left then.
+/// Tests whether one of this many shares can be given away, which needs one that is left.
 #[inline]
 pub fn has_spare_share(shares: u32) -> bool
     ensures test { result ≡ nat_lt 1 shares }

@@ -4,7 +4,7 @@ ghost use Rattle.std.specs.Int.{from_le_bytes, to_le_bytes, w64};
 ghost use Rattle.ring_layout.specs.Bytes.{HoldsBytes};
 ghost use Rattle.ring_layout.specs.History.{overwritten};
 
-/// The word with these bytes in place of its own from the byte `at` on. The bytes lie inside the word.
+/// The word with these bytes in place of its own from the byte `at` on. The bytes are inside the word.
 pub fn put_bytes_word(word: u64, at: usize, bytes: &[u8]) -> u64
     requires { at + length bytes.now ≤ 8 }
     ensures { result ≡ from_le_bytes w64 (overwritten at bytes.now (to_le_bytes w64 word)) }
@@ -14,7 +14,7 @@ pub fn put_bytes_word(word: u64, at: usize, bytes: &[u8]) -> u64
     u64::from_le_bytes(all)
 }
 
-/// The first 8 bytes as a little-endian word, with zeros where there are fewer.
+/// The first 8 bytes as a little-endian word, with zeros if there are fewer.
 pub fn first_word(bytes: &[u8]) -> u64
     ensures { result ≡ from_le_bytes w64 bytes.now }
 {
@@ -24,19 +24,19 @@ pub fn first_word(bytes: &[u8]) -> u64
     }
 }
 
-/// The byte at this place, 0 where there is none.
+/// The byte at this place, 0 if there is none.
 fn byte_or_zero(bytes: &[u8], at: usize) -> u8
     ensures { result ≡ slice_index bytes.now at }
 {
     bytes.get(at).copied().unwrap_or(0)
 }
 
-/// Fewer than 8 bytes as a little-endian word, with zeros behind them.
+/// Fewer than 8 bytes as a little-endian word, with zeros after them.
 fn padded_word(bytes: &[u8]) -> u64
     requires { length bytes.now < 8 }
     ensures { result ≡ from_le_bytes w64 bytes.now }
 {
-    // Byte by byte: a word read where shorter copies were just written would wait for all stores before them.
+    // Byte by byte: a word load right after shorter copies to it would wait for all earlier stores.
     u64::from_le_bytes([
         byte_or_zero(bytes, 0),
         byte_or_zero(bytes, 1),
@@ -51,7 +51,7 @@ fn padded_word(bytes: &[u8]) -> u64
 
 /// Stores bytes in the words from the index `at` on, with zeros up to the end of their last word.
 ///
-/// A word of the slice holds 8 of them, the first one lowest. The words before and behind stay as they were.
+/// A word of the slice holds 8 bytes, the first one lowest. The words before and after them are unchanged.
 #[inline]
 pub fn store_bytes(words: &mut [u64], at: usize, bytes: &[u8])
     requires { at + (length bytes.now + 7) / 8 ≤ length words.old }
@@ -76,7 +76,7 @@ pub fn put_word(bytes: &mut [u8], at: usize, word: u64)
     bytes[at..at + 8].copy_from_slice(&word.to_le_bytes());
 }
 
-/// Writes the bytes of a word over those from `at` on, as far as there are bytes to write over.
+/// Writes the bytes of a word over those from `at` on, up to the end of the slice.
 pub fn put_part(bytes: &mut [u8], at: usize, word: u64)
     requires { at ≤ length bytes.old }
     ensures { bytes.new ≡ overwritten at (take (length bytes.old - at) (to_le_bytes w64 word)) bytes.old }

@@ -1,4 +1,4 @@
--- What of a line or a text was not taken yet.
+-- The part of a line or a text that has not been taken yet.
 use Rattle.std.specs.Prelude.{◌≡◌, ℕ, List, ◌∷◌}
 use Rattle.ring_lines.specs.declared.lines.Lines.{Lines}
 use Rattle.ring_lines.specs.declared.words.Words.{Words}

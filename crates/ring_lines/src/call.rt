@@ -81,7 +81,7 @@ pub enum Call {
 impl Call {
     ghost use Rattle.ring_lines.specs.Lines.{AsksFor};
 
-    /// Parses the words behind the first one, which names the call.
+    /// Parses the words after the first one, which names the call.
     pub(crate) fn parse(alloc: Global, name: &[u8], words: &mut Words) -> Result<Call, LineFault>
         ensures { IfOk result (λ call. AsksFor call (name.now ∷ words_of words.old.rest.now)) }
     {

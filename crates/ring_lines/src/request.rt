@@ -40,7 +40,7 @@ pub enum Request {
 impl Request {
     ghost use Rattle.ring_lines.specs.Requests.{AsksToSend};
 
-    /// Parses the words behind the first one, which names the command.
+    /// Parses the words after the first one, which names the command.
     pub(crate) fn parse(alloc: Global, name: &[u8], words: &mut Words) -> Result<Request, LineFault>
         ensures { IfOk result (λ request. AsksToSend request (name.now ∷ words_of words.old.rest.now)) }
     {

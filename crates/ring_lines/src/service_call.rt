@@ -36,7 +36,7 @@ pub enum ServiceCall {
 impl ServiceCall {
     ghost use Rattle.ring_lines.specs.ServiceLines.{AsksToServe};
 
-    /// Parses the words behind the first one, which names the call.
+    /// Parses the words after the first one, which names the call.
     pub(crate) fn parse(
         alloc: Global,
         name: &[u8],

@@ -37,7 +37,7 @@ takes_at is made n Spells spelled t body others x fit e there =
     subst (λ (k : ℤ). Spells k body x) (sym at)
     (whole_takes is made (Spells n) spelled body x fit (or_malformed_ok body _ x this))) (λ _ h. there h)
 
--- and why nothing is read, where the message x would be of the one type id
+-- and why nothing is read, if the message x would be of the one type id
 pub fault_at : {X : Type 0} (type_id_of : X → ℤ) (x : X) (t : ℤ) (body : List ℕ) (o : Option X) (others : Result X Bad)
     (bad : Bad)
     → cond (int_eq t (type_id_of x)) (or_malformed body o) others ≡ Err bad

@@ -1,4 +1,4 @@
--- How many bytes each spelling takes.
+-- The length of each encoding.
 use Rattle.std.proofs.Common.{◌≡◌, ℕ, ℤ, ◌+◌, ◌≤◌, List, ◌++◌, length, refl, arith}
 use Rattle.std.proofs.lemmas.List.{length-append}
 use Rattle.ring_protocol.specs.Field.{u32_field, u64_field, i32_field, i64_field, sized_field}
@@ -20,7 +20,7 @@ sized_length : (bytes : List ℕ) → length (sized_field bytes) ≡ 4 + length 
 unfolding sized_field u32_field
 sized_length bytes = omega (arith, length-append (u32_field (length bytes)) bytes)
 
--- a front of so many bytes, with a key and a label behind it
+-- a front of this many bytes, with a key and a label after it
 with_texts : (n : ℕ) (front key label : List ℕ) → length front ≡ n
     → length (front ++ sized_field key ++ sized_field label) ≡ n + (4 + length key) + (4 + length label)
 with_texts n front key label is =

@@ -1,4 +1,4 @@
--- Each command is read from its spelling, and from nothing else.
+-- Each command is read from its encoding, and from no other bytes.
 use Rattle.std.proofs.Common.{◌≡◌, ◌≢◌, ℕ, ℤ, pos, ◌^◌, ◌<◌, List, [], ◌++◌, Result, Ok, Err, FitsSigned, refl, sym, subst, ◌∙◌, w32, w64}
 use Rattle.ring_protocol.specs.declared.fault.Bad.{Bad}
 use Rattle.ring_protocol.specs.declared.fault.Bad.TheVariants.{UnknownType}
@@ -106,7 +106,7 @@ command_fault t body bad e =
     subst (IsFaultOf (IsCommandType t) body) unknown
     ((λ known. other_type t (n1, n2, n3, n4, n5) known.0 known.1), refl))))))
 
--- ---- the same of what decode_command answers
+-- ---- the same of what decode_command returns
 
 pub found : (t : ℤ) (body : List ℕ) (r : Result Command Bad) → AreBytes body
     → result_map_both content_of (λ e. e) r ≡ command_of t body → IfOk r (λ c. Spells t body (content_of c))

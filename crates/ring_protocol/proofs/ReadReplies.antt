@@ -1,4 +1,4 @@
--- Each reply is read from its spelling, and from nothing else.
+-- Each reply is read from its encoding, and from no other bytes.
 use Rattle.std.proofs.Common.{◌≡◌, ◌≢◌, ℕ, ℤ, pos, List, Result, Ok, Err, refl, sym, subst}
 use Rattle.std.specs.Prelude.{IfOk, IfErr}
 use Rattle.ring_protocol.specs.declared.fault.Bad.{Bad}
@@ -56,7 +56,7 @@ reply_fault t body bad e =
     let unknown : UnknownType (correlation_of body) ≡ bad = cc in
     subst (IsFaultOf (IsReplyType t) body) unknown ((λ known. other_type t n1 n2 n3 n4 known.0 known.1), refl)))))
 
--- ---- the same of what decode_reply answers
+-- ---- the same of what decode_reply returns
 
 pub found : (t : ℤ) (body : List ℕ) (result : Result Reply Bad) → AreBytes body → result ≡ reply_of t body
     → IfOk result (Spells t body)

@@ -49,7 +49,7 @@ byte_at_each bytes fit i =
       | inr le ↦ rw (get_or_past bytes i 0 le) (omega arith)
     ]
 
--- a number of so many bytes
+-- a number of this many bytes
 record IsNumber (count limit : ℕ) (value : List ℕ → ℕ) (field : ℕ → List ℕ) : Type 0 where
   len : (n : ℕ) → length (field n) ≡ count
   back : (text : List ℕ) → length text ≡ count → AreBytes text → field (value text) ≡ text

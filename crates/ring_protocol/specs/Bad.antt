@@ -1,10 +1,10 @@
--- What is said of a type id and a body that spell nothing.
+-- What is said of a type id and a body that encode nothing.
 use Rattle.std.specs.Prelude.{◌≡◌, ℕ, ◌-◌, ◌^◌, List, length, take, Option, Some, None, Result, Ok, Err, nat_lt, if◌then◌else◌}
 use Rattle.std.specs.Int.{w64, from_le_bytes}
 use Rattle.ring_protocol.specs.declared.fault.Bad.{Bad}
 use Rattle.ring_protocol.specs.declared.fault.Bad.TheVariants.{Malformed, UnknownType}
 
--- the first 8 bytes of a body, or the greatest number where it is shorter
+-- the first 8 bytes of a body, or the greatest number if it is shorter
 unfoldable pub correlation_of : List ℕ → ℕ
 correlation_of body = if nat_lt (length body) 8 then 2 ^ 64 - 1 else from_le_bytes w64 (take 8 body)
 

@@ -23,7 +23,7 @@ number_of of.Malformed = pos 22
 number_of of.UnknownType = pos 23
 number_of of.BadOwner = pos 28
 
--- the refusal with this number, or the number where none has it
+-- the refusal with this number, or the number if none has it
 pub record IsNamed (number : ℤ) (result : Result RefusalCode UnknownCode) : Type 0 where
   pub found : IfOk result (λ code. number_of code ≡ number)
   pub only : (code : RefusalCode) → number_of code ≡ number → result ≡ Ok code

@@ -5,7 +5,7 @@ use Rattle.ring_protocol.specs.declared.command.Command.{Command}
 use Rattle.ring_protocol.specs.declared.command.Command.TheVariants as of
 use Rattle.ring_protocol.specs.Field.{u32_field, u64_field, i32_field, i64_field, sized_field, IsSized}
 
--- a command without where its key and its label lie in memory
+-- a command without the addresses of its key and its label
 pub data Instruction : Type 0 where
   Allocate : (correlation : ℕ) (type_id : ℤ) (key label : List ℕ) → Instruction
   Free : (correlation id : ℕ) → Instruction
@@ -39,7 +39,7 @@ spelling_of (AllocateOwned correlation type_id owner key label) =
     u64_field correlation ++ i32_field type_id ++ u64_field owner ++ sized_field key ++ sized_field label
 spelling_of (Close correlation owner) = u64_field correlation ++ u64_field owner
 
--- what a command says, wherever its key and its label lie
+-- what a command says, wherever its key and its label are in memory
 abbrev pub content_of : Command → Instruction
 content_of (of.Allocate correlation type_id key label) = Allocate correlation type_id key.now label.now
 content_of (of.Free correlation id) = Free correlation id

@@ -55,6 +55,6 @@ infixl 20 ◌⊗◌
 abbrev pub ◌⊗◌ : {A B : Type 0} → Reader A → Reader B → Reader (A × B)
 (first ⊗ second) bytes = first bytes >>= λ a. second a.1 >>= λ b. Some ((a.0, b.0), b.1)
 
--- what is made of the fields, where no bytes are left
+-- what is made of the fields, if no bytes are left
 abbrev pub whole : {V X : Type 0} → (V → X) → Reader V → List ℕ → Option X
 whole made fields body = fields body >>= λ v. if length v.1 == 0 then Some (made v.0) else None

@@ -12,7 +12,7 @@ type_id_of (Done correlation) = pos 102
 type_id_of (Refused correlation code) = pos 103
 type_id_of (Closed correlation freed) = pos 104
 
--- the correlation id of the command that it answers
+-- the correlation id of the command that it replies to
 abbrev pub correlation_id_of : Reply → ℕ
 correlation_id_of (Allocated correlation id) = correlation
 correlation_id_of (Done correlation) = correlation

@@ -8,15 +8,15 @@ use Rattle.ring_protocol.specs.Reply as reply
 abbrev pub over_start : List ℕ → List ℕ → List ℕ
 over_start text old = text ++ drop (length text) old
 
--- The text stands over the start of an output where it fits. Otherwise nothing was written.
+-- The text is at the start of an output if it fits. Otherwise nothing was written.
 pub record WritesText (text old new : List ℕ) (result : Option ℕ) : Type 0 where
   pub fits : IsSome result ↔ (length text ≤ length old)
   pub len : IfSome result (λ n. n ≡ length text)
   pub some : IfSome result (λ n. new ≡ over_start text old)
   pub none : IfNone result (new ≡ old)
 
--- The spelling of a command stands over the start of an output, where it fits and where lengths can say how long
--- the key and the label are. Otherwise nothing was written.
+-- The encoding of a command is at the start of an output, if it fits and if lengths can hold those of the key and the
+-- label. Otherwise nothing was written.
 pub record Encodes (c : Instruction) (old new : List ℕ) (result : Option ℕ) : Type 0 where
   pub fits : IsSome result ↔ (HasTextLengths c × (length (spelling_of c) ≤ length old))
   pub spelled : IfSome result (λ n. HasSpelling c)
@@ -24,7 +24,7 @@ pub record Encodes (c : Instruction) (old new : List ℕ) (result : Option ℕ) 
   pub some : IfSome result (λ n. new ≡ over_start (spelling_of c) old)
   pub none : IfNone result (new ≡ old)
 
--- The spelling of a reply stands over the start of an output.
+-- The encoding of a reply is at the start of an output.
 pub record EncodesReply (r : Reply) (old new : List ℕ) (result : ℕ) : Type 0 where
   pub has_spelling : reply.HasSpelling r
   pub len : result ≡ length (reply.spelling_of r)

@@ -14,8 +14,7 @@ use ring_layout::refusal_codes::{
 use std::fmt;
 use thiserror::Error;
 
-/// Why the conductor refused a command. It stands in `Reply::Refused` by its number, from which `try_from` makes it
-/// again.
+/// Why the conductor refused a command. `Reply::Refused` has its number, from which `try_from` makes it again.
 #[derive(Clone, Copy, Debug, PartialEq, Eq)]
 pub enum RefusalCode {
     /// The key has more than 112 bytes.
@@ -34,7 +33,7 @@ pub enum RefusalCode {
     Malformed,
     /// No command has the type id.
     UnknownType,
-    /// The owner is 0, which stands for none.
+    /// The owner is 0, which means none.
     BadOwner,
 }
 
@@ -71,7 +70,7 @@ impl fmt::Display for RefusalCode {
     }
 }
 
-/// `UnknownCode` comes where no refusal has the number.
+/// Returns `UnknownCode` if no refusal has the number.
 impl TryFrom<i32> for RefusalCode {
     type Error = UnknownCode;
 

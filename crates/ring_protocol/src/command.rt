@@ -93,8 +93,8 @@ impl Command<'_> {
         }
     }
 
-    /// How many bytes its spelling takes, at most `LONGEST_COMMAND` where the counters could take its key and its
-    /// label. `None` where the key or the label is longer than 2^32 - 1 bytes: it has no spelling then.
+    /// Returns the length of its encoding in bytes, at most `LONGEST_COMMAND` if its key and its label are not too long
+    /// for a counter. `None` if the key or the label is longer than 2^32 - 1 bytes: such a command cannot be encoded.
     pub fn encoded_len(&self) -> Option<usize>
         ensures fits { IsSome result ↔ HasTextLengths (content_of self.now) }
         ensures len { IfSome result (λ n. n ≡ length (spelling_of (content_of self.now))) }
@@ -111,7 +111,8 @@ impl Command<'_> {
     }
 }
 
-/// How many bytes a field of these bytes takes, with the length before them, where four bytes can say that.
+/// The number of bytes that a field of these bytes takes, with the length before them, if four bytes can hold the
+/// length.
 fn sized_len(bytes: &[u8]) -> Option<usize>
     ensures fits { IsSome result ↔ (length bytes.now < 2 ^ 32) }
     ensures len { IfSome result (λ n. n ≡ 4 + length bytes.now) }

@@ -8,8 +8,8 @@ use crate::fields::read::take_u64;
 use std::error::Error;
 use std::fmt;
 
-/// Why a type id and a body spell nothing. The correlation is that of the reply: the first 8 bytes of the body, or
-/// `u64::MAX` where it is shorter.
+/// Why a type id and a body are not a message. The correlation is that of the reply: the first 8 bytes of the body, or
+/// `u64::MAX` if it is shorter.
 #[derive(Clone, Copy, Debug, PartialEq, Eq)]
 pub enum Bad {
     /// The type id is known, and the body is no spelling of its kind.

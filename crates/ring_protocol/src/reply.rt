@@ -1,4 +1,4 @@
-//! What the conductor answers.
+//! The replies of the conductor.
 
 pub mod decode;
 pub mod encode;
@@ -30,7 +30,7 @@ pub enum Reply {
     Done { correlation: u64 },
     /// Nothing was done, for the reason with this number: see `RefusalCode`.
     Refused { correlation: u64, code: i32 },
-    /// So many counters of the owner were freed.
+    /// This many counters of the owner were freed.
     Closed { correlation: u64, freed: u32 },
 }
 
@@ -50,7 +50,7 @@ impl Reply {
         }
     }
 
-    /// The correlation id of the command that it answers.
+    /// The correlation id of the command that it replies to.
     pub fn correlation(&self) -> u64
         ensures { result ≡ correlation_id_of self.now }
     {
@@ -62,7 +62,7 @@ impl Reply {
         }
     }
 
-    /// How many bytes its spelling takes: 8 for a `Done`, and else 12.
+    /// Returns the length of its encoding in bytes: 8 for a `Done`, otherwise 12.
     #[tactic(auto, unfolding(crate::specs::Field::u32_field, crate::specs::Field::u64_field, crate::specs::Field::i32_field))]
     pub fn encoded_len(&self) -> usize
         ensures { result ≡ length (spelling_of self.now) }

@@ -1,4 +1,4 @@
--- The words of a closed board list its transmissions.
+-- The words of a closed broadcast buffer list its transmissions.
 use Rattle.std.proofs.Common.{◌≡◌, ℕ, zero, suc, ◌+◌, ◌-◌, ◌*◌, ◌/◌, ◌%◌, ◌^◌, ◌<◌, ◌≤◌, ◌⊎◌, List, [], ◌∷◌, ◌++◌, length, drop, slice_index, refl, ap, sym, ◌∙◌, subst, inl, inr, ⊎_elim, arith, ℤ, pos, ◌≤ℤ◌, true, false, Ok, eq-eqb}
 use Rattle.std.specs.Prelude.{int_lt, not, ◌&&◌, ◌||◌}
 use Rattle.std.specs.Int.{from_le_bytes, w64}
@@ -42,7 +42,7 @@ length_last C latest tail at n a b c d e =
     let last = cond-false _ _ _ (le-ltb at latest (omega (arith, d))) ∙ (λ i. here i && ends i) in
     λ i. le-leb 8 n a i && le-leb n (8 + C / 8) b i && le-leb (up_to_eight n) (room C at) c i && last i
 
--- ---- what a header tells
+-- ---- what a header says
 
 for_message : (C : ℕ) (words : List ℕ) (intent latest tail at n : ℕ) (type_id : ℤ) → pos 1 ≤ℤ type_id → 0 < n
     → is_length C latest tail at n ≡ true
@@ -71,7 +71,7 @@ last_high C roomy whole d e (r ∷ rs) c le =
     let on = last_high C roomy whole r.place (end r) rs c.1 (omega (arith, so)) in
     omega (arith, a, b, le, on)
 
--- a multiple of the capacity behind d is where a transmission begins, if the list reaches it
+-- a transmission begins at a multiple of the capacity after d, if the list reaches it
 pub lap_in : (C : ℕ) → 256 ≤ C → C % 64 ≡ 0 → (L : ℕ) → L % C ≡ 0 → (d e : ℕ) (l : List Record) → Chain C e l
     → (d < L) × (e ≤ L) × (L ≤ last_of d l)
     → (k : ℕ) × (q : Record) × (get_elem? l k ≡ some q) × ((L ≡ q.before) ⊎ (L ≡ q.place))
@@ -174,7 +174,7 @@ module _ (C intent : ℕ) where
 
 -- ---- what the words list
 
--- what a transmission stored stands, as far as it is not overwritten
+-- what a transmission stored is, as far as it is not overwritten
 pub record IsKept (C : ℕ) (words : List ℕ) (tail : ℕ) (r : Record) : Type 0 where
   pub padding : r.before < r.place → tail ≤ r.before + C
       → slice_index words (index C r.before) ≡ padding_header (r.place - r.before)
@@ -242,7 +242,7 @@ module _ (C : ℕ) (roomy : 256 ≤ C) (narrow : C ≤ 2 ^ 24) (whole : C % 64 �
         (omega (arith, lt, below))
         (let in_buffer = mod_below r.before C (omega (arith, roomy)) in omega (arith, is, in_buffer, lt))
 
-  -- a record's length, where these come behind it
+  -- a record's length, if these come after it
   fits_at : (e : ℕ) (r : Record) (rs : List Record) → Chain C e (r ∷ rs) → last_of r.place rs ≡ latest
       → end_of (end r) rs ≡ tail
       → is_length C latest tail r.place (8 + length r.message.body) ≡ true
@@ -261,7 +261,7 @@ module _ (C : ℕ) (roomy : 256 ≤ C) (narrow : C ≤ 2 ^ 24) (whole : C % 64 �
       length_before C latest tail r.place (8 + length r.message.body) (omega arith) (omega (arith, short))
       (omega (arith, inside)) (omega (arith, ends, so)) ends
 
-  -- the records behind d and e end at latest and tail
+  -- the records after d and e end at latest and tail
   pub record EndThere (d e : ℕ) (l : List Record) : Type 0 where
     pub last : last_of d l ≡ latest
     pub ends : end_of e l ≡ tail
@@ -324,7 +324,7 @@ module _ (C : ℕ) (roomy : 256 ≤ C) (narrow : C ≤ 2 ^ 24) (whole : C % 64 �
       ∙ sym (ap told (plain C intent r rs same)))
       (cases_lt r.before r.place)
 
-  -- from where one of them begins
+  -- from the start of one of them
   pub from_one : (p d e : ℕ) (l : List Record) → Chain C e l → AreKept C words tail l → EndThere d e l
       → (k : ℕ) (q : Record) → (get_elem? l k ≡ some q) × ((p ≡ q.before) ⊎ (p ≡ q.place))
       → (m : ℕ) → (tail ≤ p + C) × (tail ≤ p + 8 * m)

@@ -1,4 +1,4 @@
--- What the words of a closed board list from a position on.
+-- What the words of a closed broadcast buffer list from a position on.
 use Rattle.std.proofs.Common.{◌≡◌, ℕ, zero, suc, ◌+◌, ◌-◌, ◌*◌, ◌/◌, ◌%◌, ◌≤◌, ◌⊎◌, List, [], ◌∷◌, slice_index, refl, ap, sym, ◌∙◌, subst, inl, inr, ⊎_elim, arith, true, false, Err, eq-eqb}
 use Rattle.std.specs.Prelude.{not, ◌||◌, None}
 use Rattle.std.proofs.lemmas.Bool.{cases_lt, le-ltb, cond-false}
@@ -93,7 +93,7 @@ module _ (C : ℕ) (ok : IsBoardCapacity C) (words : List ℕ) (sent : List Reco
     body = λ near. body_stands C ok.least whole start sent words closed k r on (omega (arith, en, near));
   }
 
-  -- where a transmission begins
+  -- the start of a transmission
   module _ (p : ℕ) (begins : BeginsAt sent tail p) where
     pub begins_whole : p % 8 ≡ 0
     begins_whole = ⊎_elim (λ at. let e8 = fit.3 in let en = closed.tail in omega (arith, at, e8, en))

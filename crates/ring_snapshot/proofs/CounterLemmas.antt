@@ -135,7 +135,7 @@ module _ (metadata values : List ℕ) (r : Registry) (show : Show metadata value
       step true = refl
       step false = refl
 
-  -- a snapshot has as many ids as the registry
+  -- a snapshot has one entry for each id of the registry
   pub entries_exact : (count first : ℕ) → HaveIds metadata values count
       → entries metadata values (count - first) first ≡ entries_of r (count_of r - first) first
   entries_exact count first ids =

@@ -1,4 +1,4 @@
--- What the words of a record tell: a type id, and a body.
+-- What the words of a record say: a type id, and a body.
 use Rattle.std.proofs.Common.{◌≡◌, ℕ, ◌+◌, ◌*◌, ◌/◌, ◌%◌, ◌^◌, ◌<◌, List, length, drop, slice_index, refl, ap, ◌∙◌, arith, inl, inr, ℤ, pos, negsuc, ◌≤ℤ◌, false}
 use Rattle.std.specs.Prelude.{All, int_lt}
 use Rattle.std.specs.Int.{from_le_bytes, w64}
@@ -18,7 +18,7 @@ not_padding (negsuc n) h = absurd (omega (arith, ints))
 pub not_below_one : (z : ℤ) → pos 1 ≤ℤ z → int_lt z (pos 1) ≡ false
 not_below_one z h = grind (arith, ints)
 
--- the words behind the header at the byte `base` are those of this body
+-- the words after the header at the byte `base` are those of this body
 module _ (words body : List ℕ) (base : ℕ) (small : All (λ b. b < 256) body) (aligned : base % 8 ≡ 0)
     (told : (j : ℕ) → 8 * j < length body
     → slice_index words (base / 8 + 1 + j) ≡ from_le_bytes w64 (drop (8 * j) body)) where

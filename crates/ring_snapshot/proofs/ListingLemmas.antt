@@ -296,7 +296,7 @@ module _ (C : ℕ) (words : List ℕ) (tail e : ℕ) (c : Claim) (h : List Claim
         (λ z. let b = pad_bounds in let bad : pad ≡ 0 = ap nat_abs z in omega (arith, b, bad))
         ∙ for_passed C words tail e pad (pad_bounds.0) pad_fits
 
-  -- what lies behind it
+  -- what is after it
   rest_lies : Lie C words tail (place + span n) h
   rest_lies = record {
     lawful = All-tail (λ (x : Claim). IsMessage C x.message) c h lie.lawful;

@@ -1,4 +1,4 @@
--- The steps of a listing, of a ring or of a board.
+-- The steps of a listing, of a ring or of a broadcast buffer.
 use Rattle.std.specs.Prelude.{Result}
 use Rattle.std.proofs.Common.{◌≡◌, ℕ, zero, suc, ◌+◌, ◌-◌, ◌<◌, ◌≤◌, [], ◌∷◌, refl, ap, sym, ◌∙◌, arith, Ok, Err}
 use Rattle.std.proofs.lemmas.Bool.{lt-leb, le-leb, cond-true, cond-false}
@@ -8,7 +8,7 @@ pub some_suc : (k : ℕ) → 0 < k → (less : ℕ) × (k ≡ suc less)
 some_suc zero lt = absurd (omega arith)
 some_suc (suc k) lt = (k, refl)
 
--- nothing lies behind the tail
+-- nothing is after the tail
 pub listing_ends : {R F : Type 0} (length_of : R → ℕ) (entry : ℕ → Result R F) (tail m at : ℕ) → tail ≤ at
     → listed_by length_of entry tail m at ≡ []
 listing_ends length_of entry tail zero at le = refl

@@ -1,4 +1,4 @@
--- What stands in the words of a closed board: each store that a later lap has not covered.
+-- What is in the words of a closed broadcast buffer: each store that a later lap has not covered.
 use Rattle.std.proofs.Common.{◌≡◌, ℕ, zero, suc, ◌+◌, ◌-◌, ◌*◌, ◌/◌, ◌%◌, ◌<◌, ◌≤◌, cond, ltb, eqb, List, [], ◌∷◌, ◌++◌, length, drop, get_or, slice_index, refl, ap, sym, ◌∙◌, subst, ⊎_elim, arith, eq-eqb, ne_eqb}
 use Rattle.std.specs.Int.{from_le_bytes, w64}
 use Rattle.std.proofs.lemmas.Bool.{lt-ltb, le-ltb, ltb-true, cond_both, cond-true, cond-false}
@@ -120,7 +120,7 @@ module _ (C : ℕ) (roomy : 256 ≤ C) (whole : C % 64 ≡ 0) where
       ∙ sym (cond-false _ _ _ (le-ltb y.0 (end r) ((all_bounds (end r) rs c.1 t.0 y t.1).0))))
       (at_joined (stores r) (stores_of rs) j y on)
 
-  -- ---- what stands
+  -- ---- what is there
 
   module _ (e : ℕ) (sent : List Record) (ws : List ℕ) (closed : IsClosed C e sent ws) (k : ℕ) (r : Record)
       (on : get_elem? sent k ≡ some r) where

@@ -1,5 +1,5 @@
--- The records in the words of a board, whatever these are. Positions are running byte counts, and C is the capacity of
--- the buffer.
+-- The records in the words of a broadcast buffer, whatever these are. Positions are running byte counts, and C is the
+-- capacity of the buffer.
 use Rattle.std.specs.Prelude.{◌≡◌, ℕ, true, false, ◌+◌, ◌-◌, ◌/◌, ◌%◌, Bool, ◌&&◌, ◌||◌, ◌==◌, not, nat_le, nat_lt, int_lt, if◌then◌else◌, ℤ, pos, nat_abs, List, [], ◌∷◌, ◌++◌, length, slice_index, Result, Ok, Err, Option, Some, None, ◌⊎◌}
 use mathlib.Core.Option.{some}
 use lib.ListN.{get_elem?}
@@ -21,7 +21,7 @@ use Rattle.ring_snapshot.specs.RingRecords.{length_in, type_in, is_padding_type}
 abbrev pub BoardEntry : Type 0
 BoardEntry = Result BoardRecord BoardFinding
 
--- a record of this length may lie at the position: inside the buffer, it does not cross `latest`, and the one at
+-- a record of this length may be at the position: inside the buffer, it does not cross `latest`, and the one at
 -- `latest` ends at the tail
 abbrev pub is_length : ℕ → ℕ → ℕ → ℕ → ℕ → Bool
 is_length C latest tail at n =
@@ -51,7 +51,7 @@ message_at C words intent at n type_id = record {
   body = bytes_at words (at % C + 8) (n - 8);
 }
 
--- what a header with this length and type id tells at a position: padding goes up to the end of the buffer, and is not
+-- what a header with this length and type id says at a position: padding goes up to the end of the buffer, and is not
 -- the last record
 abbrev pub entry_for : ℕ → List ℕ → ℕ → ℕ → ℕ → ℕ → ℤ → ℤ → BoardEntry
 entry_for C words intent latest tail at len type_id =
@@ -67,7 +67,7 @@ abbrev pub entry_at : ℕ → List ℕ → ℕ → ℕ → ℕ → ℕ → Board
 entry_at C words intent latest tail at =
     let w = slice_index words (index C at) in entry_for C words intent latest tail at (length_in w) (type_in w)
 
--- the first n of what lies from a position on: one behind the other, up to the tail or a finding
+-- the first n of what is from a position on: one after the other, up to the tail or a finding
 abbrev pub listing : ℕ → List ℕ → ℕ → ℕ → ℕ → ℕ → ℕ → List BoardEntry
 listing C words intent latest tail =
     listed_by (λ (r : BoardRecord). r.length) (entry_at C words intent latest tail) tail
@@ -76,7 +76,7 @@ listing C words intent latest tail =
 abbrev pub records_left : BoardRecords → List BoardEntry
 records_left r = listing r.board.capacity r.board.words.now r.intent r.latest r.tail r.most r.at
 
--- the positions in a board's trailer
+-- the positions in the trailer
 abbrev pub intent_in : BoardSnapshot → ℕ
 intent_in b = slice_index b.words.now (intent_index b.capacity)
 
@@ -86,20 +86,20 @@ tail_in b = slice_index b.words.now (tail_index b.capacity)
 abbrev pub latest_in : BoardSnapshot → ℕ
 latest_in b = slice_index b.words.now (latest_index b.capacity)
 
--- what lies on a board from a position up to its tail
+-- what is in a broadcast buffer from a position up to its tail
 abbrev pub listed_from : BoardSnapshot → ℕ → List BoardEntry
 listed_from b position =
     listing b.capacity b.words.now (intent_in b) (latest_in b) (tail_in b) ((tail_in b - position) / 8) position
 
--- the begin of the lap in which the last record lies
+-- the start of the lap in which the last record is
 abbrev pub lap_of : ℕ → ℕ → ℕ
 lap_of C latest = latest - latest % C
 
--- the intent is not beyond the buffer's end behind the begin of the running lap, so nothing of the lap is overwritten
+-- the intent is not beyond the buffer's end after the start of the current lap, so nothing of the lap is overwritten
 abbrev pub is_lap_whole : ℕ → ℕ → ℕ → Bool
 is_lap_whole C intent latest = nat_le intent (lap_of C latest + C)
 
--- the begin of the running lap where the lap is whole, and else the last record
+-- the start of the current lap if the lap is whole, otherwise the last record
 abbrev pub first_whole : ℕ → ℕ → ℕ → ℕ
 first_whole C intent latest = if is_lap_whole C intent latest then lap_of C latest else latest
 
@@ -120,9 +120,9 @@ from_finding C intent tail latest position = or_else (positions_finding C intent
     (if not (position % 8 == 0) || not (nat_le position latest || position == tail)
     || nat_lt (position + C) intent then Some (OutsideOfRecords position) else None)
 
--- Words of a closed board --------------------------------------------------
+-- Words of a closed broadcast buffer ----------------------------------------
 
--- the words are those of a closed board that began at a multiple of its capacity, and transmitted this list
+-- the words are those of a closed broadcast buffer that began at a multiple of its capacity, and transmitted this list
 abbrev pub HaveTransmitted : ℕ → List ℕ → List Record → Type 0
 HaveTransmitted C words sent = (e : ℕ) × (e % C ≡ 0) × IsClosed C e sent words
 
@@ -138,19 +138,19 @@ record_of C intent r = record {
   body = r.message.body;
 }
 
--- the records of transmissions: before each the padding, where there is one
+-- the records of transmissions: before each the padding, if there is one
 abbrev pub records_of : ℕ → ℕ → List Record → List BoardRecord
 records_of C intent [] = []
 records_of C intent (r ∷ rs) =
     (if nat_lt r.before r.place then padding_at C intent r.before (r.place - r.before) padding_type ∷ [] else [])
     ++ record_of C intent r ∷ records_of C intent rs
 
--- those of them that lie at a position or behind it
+-- those of them that are at a position or after it
 abbrev pub from_on : ℕ → List BoardRecord → List BoardRecord
 from_on position [] = []
 from_on position (r ∷ rs) = (if nat_le position r.place then r ∷ [] else []) ++ from_on position rs
 
--- what is to be listed of these transmissions from a position on: all that lies there, in order, and no finding
+-- what must be listed of these transmissions from a position on: all that is there, in order, and no finding
 abbrev pub transmitted_from : BoardSnapshot → List Record → ℕ → List BoardEntry
 transmitted_from b sent position = ok_records (from_on position (records_of b.capacity (intent_in b) sent))
 

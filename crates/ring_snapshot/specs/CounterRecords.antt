@@ -26,7 +26,7 @@ abbrev pub state_from : ℤ → Option CounterState
 state_from state =
     if int_eq state (pos 1) then Some Allocated else (if int_eq state (negsuc 0) then Some Reclaimed else None)
 
--- what a metadata record and a value record say, where the state and the length of the label are lawful
+-- what a metadata record and a value record say, if the state and the length of the label are valid
 abbrev pub counter_of_records : ℕ → List ℕ → List ℕ → CounterState → ℕ → Counter
 counter_of_records id metadata values state len = record {
   id = id;
@@ -50,7 +50,7 @@ with_state id metadata values state None = Err (BadState id state)
 with_state id metadata values state (Some told) =
     with_label id metadata values (length_in (slice_index metadata 16)) told
 
--- what lies in the two records of an id, which begin with these words: nothing where it was never given
+-- what is in the two records of an id, which begin with these words: nothing if it was never used
 abbrev pub entry_of : ℕ → List ℕ → List ℕ → Option CounterEntry
 entry_of id metadata values =
     let state = length_in (slice_index metadata 0) in
@@ -60,13 +60,13 @@ abbrev pub or_none : Option CounterEntry → List CounterEntry → List CounterE
 or_none None rest = rest
 or_none (Some entry) rest = entry ∷ rest
 
--- what lies in the records of n ids from this one on
+-- what is in the records of n ids from this one on
 abbrev pub entries : List ℕ → List ℕ → ℕ → ℕ → List CounterEntry
 entries metadata values zero id = []
 entries metadata values (suc n) id =
     or_none (entry_of id (drop (64 * id) metadata) (drop (16 * id) values)) (entries metadata values n (id + 1))
 
--- what lies in a snapshot from an id on
+-- what is in a snapshot from an id on
 abbrev pub counters_in : CountersSnapshot → ℕ → List CounterEntry
 counters_in c first = entries c.metadata.now c.values.now (c.ids - first) first
 

@@ -1,4 +1,5 @@
--- One record behind the other, of a ring or of a board. R is what a record is, F what may be wrong with the words.
+-- One record after the other, of a ring or of a broadcast buffer. R is what a record is, F what may be wrong with the
+-- words.
 use Rattle.std.specs.Prelude.{ℕ, zero, suc, ◌+◌, ◌*◌, ◌/◌, Bool, ◌&&◌, nat_le, if◌then◌else◌, List, [], ◌∷◌, Result, Ok, Err}
 use Rattle.ring_layout.specs.Places.{room}
 
@@ -6,17 +7,17 @@ use Rattle.ring_layout.specs.Places.{room}
 abbrev pub up_to_eight : ℕ → ℕ
 up_to_eight n = (n + 7) / 8 * 8
 
--- a record of this length may lie at the position in a buffer of C bytes: no message is longer, and it does not cross
+-- a record of this length may be at the position in a buffer of C bytes: no message is longer, and it does not cross
 -- the end of the buffer
 abbrev pub lies_inside : ℕ → ℕ → ℕ → Bool
 lies_inside C at n = nat_le 8 n && nat_le n (8 + C / 8) && nat_le (up_to_eight n) (room C at)
 
--- an entry, and the rest from where it ends; nothing behind a finding
+-- an entry, and the rest from where it ends; nothing after a finding
 abbrev pub followed : {R F : Type 0} → (R → ℕ) → (ℕ → List (Result R F)) → ℕ → Result R F → List (Result R F)
 followed length_of rest at (Err finding) = Err finding ∷ []
 followed length_of rest at (Ok r) = Ok r ∷ rest (at + up_to_eight (length_of r))
 
--- the first n of what lies from a position on: one behind the other, up to the tail or a finding
+-- the first n of what is from a position on: one after the other, up to the tail or a finding
 abbrev pub listed_by : {R F : Type 0} → (R → ℕ) → (ℕ → Result R F) → ℕ → ℕ → ℕ → List (Result R F)
 listed_by length_of entry tail zero at = []
 listed_by length_of entry tail (suc n) at =

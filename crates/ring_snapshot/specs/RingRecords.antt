@@ -36,11 +36,11 @@ type_in w = cast_signed w32 (w / 2 ^ 32)
 abbrev pub is_padding_type : ℤ → Bool
 is_padding_type type_id = int_le type_id padding_type && int_le padding_type type_id
 
--- a record of this length may lie at the position: inside the buffer, and it does not cross the tail
+-- a record of this length may be at the position: inside the buffer, and it does not cross the tail
 abbrev pub is_length : ℕ → ℕ → ℕ → ℕ → Bool
 is_length C tail at n = lies_inside C at n && nat_le (at + up_to_eight n) tail
 
--- a passed record: where it ends with the buffer it may be padding
+-- a passed record: it may be padding if it ends with the buffer
 abbrev pub passed_at : ℕ → ℕ → ℕ → Record
 passed_at C at n = record {
   place = at;
@@ -65,7 +65,7 @@ message_at C words at len type_id = record {
   body = bytes_at words (at % C + 8) (nat_abs len - 8);
 }
 
--- what a header with this length and type id tells at a position
+-- what a header with this length and type id says at a position
 abbrev pub entry_for : ℕ → List ℕ → ℕ → ℕ → ℤ → ℤ → Entry
 entry_for C words tail at len type_id =
     if not (is_length C tail at (nat_abs len)) then Err (BadLength (at % C) len)
@@ -73,13 +73,13 @@ entry_for C words tail at len type_id =
     else (if int_lt type_id (pos 1) then Err (BadType (at % C) type_id)
     else Ok (message_at C words at len type_id)))
 
--- what the words hold at a position, where the records end at the tail
+-- what the words hold at a position, if the records end at the tail
 abbrev pub entry_at : ℕ → List ℕ → ℕ → ℕ → Entry
 entry_at C words tail at =
     let w = slice_index words (index C at) in
     if w == 0 then Ok (unstored_at C tail at) else entry_for C words tail at (length_in w) (type_in w)
 
--- the first n of what lies from a position on: one behind the other, up to the tail or a finding
+-- the first n of what is from a position on: one after the other, up to the tail or a finding
 abbrev pub listing : ℕ → List ℕ → ℕ → ℕ → ℕ → List Entry
 listing C words tail = listed_by (λ (r : Record). r.length) (entry_at C words tail) tail
 
@@ -94,7 +94,7 @@ head_in ring = slice_index ring.words.now (head_index ring.capacity)
 abbrev pub tail_in : RingSnapshot → ℕ
 tail_in ring = slice_index ring.words.now (tail_index ring.capacity)
 
--- what lies in a ring from a position up to its tail
+-- what is in a ring from a position up to its tail
 abbrev pub listed_from : RingSnapshot → ℕ → List Entry
 listed_from ring position = listing ring.capacity ring.words.now (tail_in ring) ((tail_in ring - position) / 8) position
 
@@ -135,7 +135,7 @@ records_of C e (c ∷ h) =
     (if nat_lt e place then passed_at C e (place - e) ∷ [] else []) ++ record_of_claim C place c
     ∷ records_of C (place + span_of c) h
 
--- the claims lie from e up to the tail, and the words there are theirs
+-- the claims are from e up to the tail, and the words there are theirs
 pub record Lie (C : ℕ) (words : List ℕ) (tail e : ℕ) (h : List Claim) : Type 0 where
   pub lawful : All (λ c. IsMessage C c.message) h
   pub ends : end_of C e h ≡ tail

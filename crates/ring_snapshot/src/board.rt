@@ -1,4 +1,4 @@
-//! The records of a board.
+//! The records of a broadcast buffer.
 ghost use Rattle.std.specs.Prelude.{◌≡◌, ◌+◌, ◌%◌, ◌≤◌, length};
 ghost use Rattle.ring_layout.specs.Places.{IsBoardCapacity};
 ghost use Rattle.ring_board.specs.Layout.{board_words};
@@ -13,7 +13,7 @@ use ring_layout::broadcast_buffer_descriptor::{
 use ring_layout::record_descriptor::{HEADER_LENGTH, PADDING_MSG_TYPE_ID};
 use ring_layout::{align8, byte_index, is_board_capacity, unpack_header, word_index};
 
-/// A board's words: those of its buffer, and those of its trailer.
+/// A broadcast buffer's words: those of its buffer, and those of its trailer.
 #[derive(Clone, Copy, Debug)]
 pub struct BoardSnapshot<'a> {
     capacity: u32,
@@ -22,7 +22,7 @@ pub struct BoardSnapshot<'a> {
     ghost whole: { length words.now ≡ board_words capacity },
 }
 
-/// The records of a board from a position on, in order. It ends at the tail, and behind a finding.
+/// The records of a broadcast buffer from a position on, in order. It ends at the tail, and after a finding.
 #[derive(Debug, Drop)]
 pub struct BoardRecords<'a> {
     board: BoardSnapshot<'a>,
@@ -45,7 +45,7 @@ impl<'a> BoardSnapshot<'a> {
     ghost use Rattle.ring_snapshot.specs.Listing.{up_to_eight};
     ghost use Rattle.ring_snapshot.specs.BoardRecords.{intent_in, tail_in, latest_in, records_left, listing, listed_from, first_whole, is_lap_whole, positions_finding, from_finding, HaveTransmitted, BeginsAt, lap_of, transmitted_from};
 
-    /// Takes the words of a board. `BadSize` where no board has so many.
+    /// Takes the words of a broadcast buffer. Returns `BadSize` if no broadcast buffer has this many.
     pub fn new(words: &'a [u64]) -> Result<Self, BoardFinding>
         ensures board { IfOk result (λ b. (b.words.now ≡ words.now) × IsBoardCapacity b.capacity
             × (length words.now ≡ board_words b.capacity)) }
@@ -71,28 +71,28 @@ impl<'a> BoardSnapshot<'a> {
         self.capacity
     }
 
-    /// Where the running transmission is to end.
+    /// Returns the end of the transmission that is being made.
     pub fn intent(&self) -> u64
         ensures { result ≡ slice_index self.now.words.now (intent_index self.now.capacity) }
     {
         self.words[self.capacity as usize / 8 + TAIL_INTENT_COUNTER_WORD]
     }
 
-    /// Where the last transmission ended.
+    /// Returns the end of the last transmission.
     pub fn tail(&self) -> u64
         ensures { result ≡ slice_index self.now.words.now (tail_index self.now.capacity) }
     {
         self.words[self.capacity as usize / 8 + TAIL_COUNTER_WORD]
     }
 
-    /// The place of the last record.
+    /// Returns the place of the last record.
     pub fn latest(&self) -> u64
         ensures { result ≡ slice_index self.now.words.now (latest_index self.now.capacity) }
     {
         self.words[self.capacity as usize / 8 + LATEST_COUNTER_WORD]
     }
 
-    /// Tests whether the running lap is there from its begin on: the intent has overwritten none of it.
+    /// Tests whether the current lap is whole: the intent has overwritten none of it.
     pub fn is_lap_whole(&self) -> bool
         ensures { result ≡ is_lap_whole self.now.capacity (intent_in self.now) (latest_in self.now) }
     {
@@ -101,12 +101,12 @@ impl<'a> BoardSnapshot<'a> {
         self.intent().saturating_sub(lap) <= u64::from(self.capacity)
     }
 
-    /// The records of the running lap; the last one alone, where the intent has begun to overwrite the first of them.
-    /// It refuses positions that make no sense, in this order: `UnalignedPosition`, `TailBeforeLatest`,
-    /// `IntentBeforeTail`, `TailTooFar`, `IntentTooFar`.
+    /// Iterates over the records of the current lap; over the last one alone if the intent has begun to overwrite the
+    /// first of them. Returns, in this order, for positions that make no sense: `UnalignedPosition`,
+    /// `TailBeforeLatest`, `IntentBeforeTail`, `TailTooFar`, `IntentTooFar`.
     ///
-    /// It does not go back into the lap before: memory does not tell where the first of its records that is still whole
-    /// begins, and a message may look like a header. `records_from` lists them where a begin is known.
+    /// It does not go back into the lap before: memory does not say where the first of its whole records begins, and a
+    /// message may look like a header. `records_from` lists them from a known start.
     pub fn records(&self) -> Result<BoardRecords<'a>, BoardFinding>
         ensures refused { IsRefusedBy (positions_finding self.now.capacity (intent_in self.now) (tail_in self.now)
             (latest_in self.now)) result }
@@ -124,8 +124,8 @@ impl<'a> BoardSnapshot<'a> {
         Ok(self.listing(intent, tail, latest, first))
     }
 
-    /// The records from a position on, which has to be the begin of one, as of that at which a receiver stands. It
-    /// refuses as `records` does, and with `OutsideOfRecords` a position where no record begins or what lay there is
+    /// Iterates over the records from a position on, which must be the start of one, for example the place of a
+    /// receiver. Errors as for `records`, then `OutsideOfRecords` if no record begins there or what was there is
     /// overwritten.
     pub fn records_from(&self, position: u64) -> Result<BoardRecords<'a>, BoardFinding>
         ensures refused { IsRefusedBy (from_finding self.now.capacity (intent_in self.now) (tail_in self.now)
@@ -194,7 +194,7 @@ impl<'a> BoardRecords<'a> {
     ghost use Rattle.ring_snapshot.specs.Listing.{up_to_eight};
     ghost use Rattle.ring_snapshot.specs.BoardRecords.{is_length, entry_at};
 
-    /// Tests whether a record of this length, header included, may lie at the position.
+    /// Tests whether a record of this length, header included, may be at the position.
     fn is_length(&self, length: u32) -> bool
         ensures { result ≡ is_length self.now.board.capacity self.now.latest self.now.tail self.now.at length }
     {
@@ -209,7 +209,7 @@ impl<'a> BoardRecords<'a> {
         }
     }
 
-    /// What lies at the position, which is before the tail.
+    /// What is at the position, which is before the tail.
     fn entry_at(&self) -> Result<BoardRecord<'a>, BoardFinding>
         requires { self.now.at < self.now.tail }
         ensures entry { result ≡ entry_at self.now.board.capacity self.now.board.words.now self.now.intent

@@ -1,28 +1,29 @@
-//! What is wrong with the words of a board.
+//! What is wrong with the words of a broadcast buffer.
 use thiserror::Error;
 
-/// Why words are not those of a board, or where its records end before the tail.
+/// Why words are not those of a broadcast buffer, or why its records end before the tail.
 #[derive(Clone, Copy, Debug, PartialEq, Eq, Error)]
 pub enum BoardFinding {
-    /// No board has so many words: `capacity / 8 + 16` for a capacity that is a power of two from 256 to 2^24.
+    /// No broadcast buffer has this many words: `capacity / 8 + 16` for a capacity that is a power of two from 256 to
+    /// 2^24.
     #[error("BadSize: no board has {words} words")]
     BadSize { words: usize },
     /// The intent, the tail or the place of the last record is no multiple of 8.
     #[error("UnalignedPosition: intent {intent}, tail {tail}, latest {latest}")]
     UnalignedPosition { intent: u64, tail: u64, latest: u64 },
-    /// The tail lies before the place of the last record.
+    /// The tail is before the place of the last record.
     #[error("TailBeforeLatest: tail {tail}, latest {latest}")]
     TailBeforeLatest { tail: u64, latest: u64 },
-    /// The intent lies before the tail.
+    /// The intent is before the tail.
     #[error("IntentBeforeTail: intent {intent}, tail {tail}")]
     IntentBeforeTail { intent: u64, tail: u64 },
-    /// The tail lies beyond the end of the buffer behind the last record.
+    /// The tail is beyond the end of the buffer after the last record.
     #[error("TailTooFar: tail {tail}, latest {latest}")]
     TailTooFar { tail: u64, latest: u64 },
-    /// The intent lies more than the buffer beyond the last record, so that no record is whole.
+    /// The intent is more than the buffer beyond the last record, so that no record is whole.
     #[error("IntentTooFar: intent {intent}, latest {latest}")]
     IntentTooFar { intent: u64, latest: u64 },
-    /// What lay at the position that was asked for is overwritten, or no record begins there.
+    /// What was at the position that was asked for is overwritten, or no record begins there.
     #[error("OutsideOfRecords: position {position}")]
     OutsideOfRecords { position: u64 },
     /// The header at this byte index has a length that no record has there.

@@ -1,7 +1,7 @@
-//! A record on a board as it lies in memory.
+//! A record of a broadcast buffer as it is in memory.
 use crate::body::Body;
 
-/// A record on a board as it lies in memory.
+/// A record of a broadcast buffer as it is in memory.
 #[derive(Debug, Drop)]
 pub struct BoardRecord<'a> {
     /// Its position, in bytes.
@@ -10,7 +10,7 @@ pub struct BoardRecord<'a> {
     pub index: u32,
     /// Whether it is padding up to the end of the buffer.
     pub is_padding: bool,
-    /// Whether a receiver that stands at it takes it as whole: the intent is below its place plus the capacity.
+    /// Whether a receiver at its place takes it as whole: the intent is below its place plus the capacity.
     pub is_valid: bool,
     /// Its type id: -1 of padding.
     pub type_id: i32,

@@ -37,7 +37,7 @@ impl<'a> Body<'a> {
         }
     }
 
-    /// How many bytes there are.
+    /// The number of bytes that are left.
     pub fn len(&self) -> usize
         ensures { result ≡ length self.now }
     {

@@ -1,16 +1,16 @@
-//! A counter as it lies in memory.
+//! A counter as it is in memory.
 use crate::body::Body;
 
-/// The state of an id that was given at least once.
+/// The state of an id that was used.
 #[derive(Clone, Copy, Debug, PartialEq, Eq)]
 pub enum CounterState {
     /// A counter in use.
     Allocated,
-    /// A counter that was freed. Its id is given again from its deadline on.
+    /// A counter that was freed. Its id may be allocated again from its deadline on.
     Reclaimed,
 }
 
-/// A counter as it lies in memory. Of one that was freed all is as it was when it was freed, but for its deadline.
+/// A counter as it is in memory. After a counter is freed everything but its state and its deadline stays as it was.
 #[derive(Debug, Drop)]
 pub struct Counter<'a> {
     /// Its id.
@@ -19,7 +19,7 @@ pub struct Counter<'a> {
     pub state: CounterState,
     /// The type that it was allocated with.
     pub type_id: i32,
-    /// The moment from which its id may be given again, in milliseconds: 2^63 - 1 while it is in use.
+    /// The moment from which its id may be allocated again, in milliseconds: 2^63 - 1 while it is in use.
     pub deadline: u64,
     /// Its key of 112 bytes.
     pub key: Body<'a>,
@@ -29,6 +29,6 @@ pub struct Counter<'a> {
     pub value: i64,
     /// The registration id that it was allocated with.
     pub registration: u64,
-    /// Its owner, 0 for none.
+    /// Its owner, 0 if it has none.
     pub owner: u64,
 }

@@ -24,7 +24,7 @@ pub struct CountersSnapshot<'a> {
     ghost whole: { HaveIds metadata.now values.now ids },
 }
 
-/// The counters from an id on, by rising id. It passes over ids that were never given, and goes on behind a finding.
+/// The counters from an id on, by rising id. It passes over ids that were never used, and goes on after a finding.
 #[derive(Debug, Drop)]
 pub struct Counters<'a> {
     counters: CountersSnapshot<'a>,
@@ -39,7 +39,7 @@ impl<'a> CountersSnapshot<'a> {
     ghost use Rattle.ring_snapshot.specs.RingRecords.{length_in};
     ghost use Rattle.ring_snapshot.specs.CounterRecords.{Show, state_from, with_label, entry_of, counters_left, counters_in, entries_from};
 
-    /// Takes the words of counters. `BadSize` where no counters have so many.
+    /// Takes the words of counters. Returns `BadSize` if no counters have this many.
     pub fn new(metadata: &'a [u64], values: &'a [u64]) -> Result<Self, CountersFinding>
         ensures counters { IfOk result (λ c. (c.metadata.now ≡ metadata.now) × (c.values.now ≡ values.now)
             × HaveIds metadata.now values.now c.ids) }
@@ -71,10 +71,10 @@ impl<'a> CountersSnapshot<'a> {
         self.ids
     }
 
-    /// The counters in use and those that were freed, by rising id.
+    /// Iterates over the counters in use and the freed ones, by rising id.
     ///
-    /// Of the words of a counters manager it gives exactly its counters. Of any words it gives one entry for each id
-    /// that is not unused: the counter, or what is wrong with it.
+    /// For the words of a counters manager it yields exactly its counters. For any words it yields one entry for each
+    /// id that is not unused: the counter, or what is wrong with it.
     pub fn counters(&self) -> Counters<'a>
         ensures listed { counters_left result ≡ counters_in self.now 0 }
         ensures exact { (r : Registry) → Show self.now.metadata.now self.now.values.now r
@@ -83,7 +83,7 @@ impl<'a> CountersSnapshot<'a> {
         self.counters_from(0)
     }
 
-    /// The counters from an id on.
+    /// Iterates over the counters from an id on.
     pub fn counters_from(&self, first: u32) -> Counters<'a>
         ensures listed { counters_left result ≡ counters_in self.now first }
         ensures exact { (r : Registry) → Show self.now.metadata.now self.now.values.now r
@@ -95,7 +95,7 @@ impl<'a> CountersSnapshot<'a> {
         }
     }
 
-    /// The state of a record that was given at least once. `None` where no record has it.
+    /// The state of a record of an id that was used. `None` if no record has it.
     fn state_of(state: i32) -> Option<CounterState>
         ensures { result ≡ state_from state }
     {
@@ -108,7 +108,7 @@ impl<'a> CountersSnapshot<'a> {
         }
     }
 
-    /// What lies in the two records of an id. `None` where the id was never given.
+    /// What is in the two records of an id. `None` if the id was never used.
     fn entry(&self, id: u32) -> Option<Result<Counter<'a>, CountersFinding>>
         requires { id < self.now.ids }
         ensures { result ≡ entry_of id (drop (64 * id) self.now.metadata.now) (drop (16 * id) self.now.values.now) }
@@ -118,7 +118,7 @@ impl<'a> CountersSnapshot<'a> {
         Self::entry_in(id, metadata, values)
     }
 
-    /// What the two records of an id tell, which begin with these words.
+    /// What the two records of an id say, which begin with these words.
     fn entry_in(
         id: u32,
         metadata: &'a [u64],

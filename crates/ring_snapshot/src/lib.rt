@@ -1,8 +1,8 @@
-//! What lies in the words of a ring, a board, and of counters: read from a copy of
-//! their memory, whatever that holds; and writing such a copy.
+//! What is in the words of a ring, a broadcast buffer and counters: read from a copy of their memory, whatever it
+//! holds; and writing such a copy.
 //!
 //! - `ring`, `board`, `counters`: one pass over a copy of each. `listing`: what the first two have in common.
-//! - `record`, `board_record`, `counter`, `body`: what a pass gives.
+//! - `record`, `board_record`, `counter`, `body`: what a pass yields.
 //! - `ring_finding`, `board_finding`, `counters_finding`: what is wrong with the words.
 //! - `write`: writing such a copy.
 #![tactic(auto)]

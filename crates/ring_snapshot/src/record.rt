@@ -1,4 +1,4 @@
-//! A record as it lies in memory.
+//! A record as it is in memory.
 use crate::body::Body;
 
 /// The state of a record.
@@ -6,17 +6,17 @@ use crate::body::Body;
 pub enum RecordState {
     /// Claimed, and neither committed nor aborted: it blocks the reader.
     Open,
-    /// Committed: the reader is shown it.
+    /// Committed: the reader is shown its message.
     Committed,
     /// Aborted: the reader passes it.
     Aborted,
-    /// Aborted, or padding up to the end of the buffer, where it ends: memory cannot tell these apart there.
+    /// An aborted record or padding up to the end of the buffer: memory does not say which.
     AbortedOrPadding,
-    /// Claimed, and its header not yet stored. How many records lie from here to the tail cannot be known.
+    /// Claimed, with a header that is not yet stored. How many records there are from here to the tail is unknown.
     Unstored,
 }
 
-/// A record as it lies in memory.
+/// A record as it is in memory.
 #[derive(Debug, Drop)]
 pub struct Record<'a> {
     /// Its position, in bytes.
@@ -25,11 +25,11 @@ pub struct Record<'a> {
     pub index: u32,
     /// Its state.
     pub state: RecordState,
-    /// Its type id: -1 of one that was aborted and of padding, 0 where the header is not yet stored.
+    /// Its type id: -1 for padding and an aborted record, 0 if the header is not yet stored.
     pub type_id: i32,
-    /// The bytes of its header and its message. Of padding they go up to the end of the buffer, and where the header is
-    /// not yet stored up to the tail.
+    /// The bytes of its header and its message. For padding they go up to the end of the buffer, and for a header that
+    /// is not yet stored up to the tail.
     pub length: u32,
-    /// Its message, of an open and of a committed one; else no bytes.
+    /// Its message if it is open or committed, otherwise no bytes.
     pub body: Body<'a>,
 }

@@ -23,7 +23,7 @@ pub struct RingSnapshot<'a> {
     ghost whole: { length words.now ≡ ring_words capacity },
 }
 
-/// The records of a ring from a position on, in order. It ends at the tail, and behind a finding.
+/// The records of a ring from a position on, in order. It ends at the tail, and after a finding.
 #[derive(Debug, Drop)]
 pub struct Records<'a> {
     ring: RingSnapshot<'a>,
@@ -46,7 +46,7 @@ impl<'a> RingSnapshot<'a> {
     ghost use Rattle.ring_snapshot.specs.Listing.{up_to_eight, ok_records};
     ghost use Rattle.ring_snapshot.specs.RingRecords.{is_length, entry_at, records_left, listed_from, records_of, Lie, head_in, tail_in, positions_finding, from_finding};
 
-    /// Takes the words of a ring. `BadSize` where no ring has so many.
+    /// Takes the words of a ring. Returns `BadSize` if no ring has this many.
     pub fn new(words: &'a [u64]) -> Result<Self, RingFinding>
         ensures ring { IfOk result (λ r. (r.words.now ≡ words.now) × IsCapacity r.capacity
             × (length words.now ≡ ring_words r.capacity)) }
@@ -72,46 +72,47 @@ impl<'a> RingSnapshot<'a> {
         self.capacity
     }
 
-    /// Up to where messages were taken.
+    /// Returns the position up to which messages were taken.
     pub fn head(&self) -> u64
         ensures { result ≡ slice_index self.now.words.now (head_index self.now.capacity) }
     {
         self.words[self.capacity as usize / 8 + HEAD_POSITION_WORD]
     }
 
-    /// The head as the producers last saw it.
+    /// Returns the head as the producers last saw it.
     pub fn head_cache(&self) -> u64
         ensures { result ≡ slice_index self.now.words.now (head_cache_index self.now.capacity) }
     {
         self.words[self.capacity as usize / 8 + HEAD_CACHE_POSITION_WORD]
     }
 
-    /// Up to where room is claimed.
+    /// Returns the position up to which room is claimed.
     pub fn tail(&self) -> u64
         ensures { result ≡ slice_index self.now.words.now (tail_index self.now.capacity) }
     {
         self.words[self.capacity as usize / 8 + TAIL_POSITION_WORD]
     }
 
-    /// The next correlation id.
+    /// Returns the next correlation id.
     pub fn correlation(&self) -> u64
         ensures { result ≡ slice_index self.now.words.now (correlation_index self.now.capacity) }
     {
         self.words[self.capacity as usize / 8 + CORRELATION_COUNTER_WORD]
     }
 
-    /// The heartbeat of the consumer.
+    /// Returns the heartbeat of the consumer.
     pub fn heartbeat(&self) -> u64
         ensures { result ≡ slice_index self.now.words.now (heartbeat_index self.now.capacity) }
     {
         self.words[self.capacity as usize / 8 + CONSUMER_HEARTBEAT_WORD]
     }
 
-    /// The records from the head on. It refuses positions that make no sense, in this order: `UnalignedPosition`,
-    /// `TailBeforeHead`, `TailTooFar`.
+    /// Iterates over the records from the head on. Returns, in this order, for positions that make no sense:
+    /// `UnalignedPosition`, `TailBeforeHead`, `TailTooFar`.
     ///
-    /// Of the words of a ring that has a history it gives exactly the claims of that, in order, each with its place and
-    /// the padding before it. Of any words it gives one record behind the other, up to the tail or a finding.
+    /// For the words of a ring that has a history it yields exactly the claims of the history, in order, each with its
+    /// place, and the padding before it. For any words it yields one record after the other, up to the tail or a
+    /// finding.
     pub fn records(&self) -> Result<Records<'a>, RingFinding>
         ensures refused { IsRefusedBy (positions_finding self.now.capacity (head_in self.now) (tail_in self.now))
             result }
@@ -123,8 +124,8 @@ impl<'a> RingSnapshot<'a> {
         self.records_from(self.head())
     }
 
-    /// The records from a position on, which has to be the begin of one. It refuses as `records` does, and with
-    /// `OutsideOfRecords` a position that does not lie between head and tail or is no multiple of 8.
+    /// Iterates over the records from a position on, which must be the start of one. Errors as for `records`, then
+    /// `OutsideOfRecords` if the position is not between head and tail or is not a multiple of 8.
     pub fn records_from(&self, position: u64) -> Result<Records<'a>, RingFinding>
         ensures refused { IsRefusedBy (from_finding self.now.capacity (head_in self.now) (tail_in self.now) position)
             result }
@@ -161,7 +162,7 @@ impl<'a> RingSnapshot<'a> {
         Ok(())
     }
 
-    /// Tests whether a record of this length, header included, may lie at a position.
+    /// Tests whether a record of this length, header included, may be at a position.
     fn is_length(&self, tail: u64, at: u64, length: u32) -> bool
         requires { at ≤ tail }
         ensures { result ≡ is_length self.now.capacity tail at length }
@@ -169,7 +170,7 @@ impl<'a> RingSnapshot<'a> {
         lies_inside(self.capacity, at, length) && align8(u64::from(length)) <= tail - at
     }
 
-    /// The state of a passed record: where it ends with the buffer it may be padding.
+    /// The state of a passed record: it may be padding if it ends with the buffer.
     fn passed_state(&self, at: u64, length: u32) -> RecordState
         requires { length ≤ 2 ^ 25 }
         ensures { result
@@ -204,7 +205,7 @@ impl<'a> RingSnapshot<'a> {
         }
     }
 
-    /// What lies at a position before the tail.
+    /// What is at a position before the tail.
     fn entry_at(&self, tail: u64, at: u64) -> Result<Record<'a>, RingFinding>
         requires aligned { (at % 8 ≡ 0) × (tail % 8 ≡ 0) }
         requires before { at < tail }

@@ -1,22 +1,22 @@
 //! What is wrong with the words of a ring.
 use thiserror::Error;
 
-/// Why words are not those of a ring, or where its records end before the tail.
+/// Why words are not those of a ring, or why its records end before the tail.
 #[derive(Clone, Copy, Debug, PartialEq, Eq, Error)]
 pub enum RingFinding {
-    /// No ring has so many words: `capacity / 8 + 96` for a capacity that is a power of two from 128 to 2^24.
+    /// No ring has this many words: `capacity / 8 + 96` for a capacity that is a power of two from 128 to 2^24.
     #[error("BadSize: no ring has {words} words")]
     BadSize { words: usize },
     /// The head or the tail is no multiple of 8.
     #[error("UnalignedPosition: head {head}, tail {tail}")]
     UnalignedPosition { head: u64, tail: u64 },
-    /// The tail lies before the head.
+    /// The tail is before the head.
     #[error("TailBeforeHead: head {head}, tail {tail}")]
     TailBeforeHead { head: u64, tail: u64 },
-    /// More bytes lie between head and tail than the buffer has.
+    /// More bytes are between head and tail than the buffer has.
     #[error("TailTooFar: head {head}, tail {tail}")]
     TailTooFar { head: u64, tail: u64 },
-    /// The position that was asked for does not lie between head and tail, or is no multiple of 8.
+    /// The position that was asked for is not between head and tail, or is no multiple of 8.
     #[error("OutsideOfRecords: position {position}")]
     OutsideOfRecords { position: u64 },
     /// The header at this byte index has a length that no record has there.

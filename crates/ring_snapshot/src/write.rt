@@ -1,4 +1,4 @@
-//! Writing the words of a ring, a closed board or counters.
+//! Writing the words of a ring, a closed broadcast buffer or counters.
 ghost use Rattle.std.specs.Prelude.{◌≡◌, ℕ, List, OnOk, slice_get};
 ghost use Rattle.std.specs.Io.KnownBytes.{Appends};
 ghost use Rattle.ring_board.specs.Closing.{closed_words};
@@ -16,7 +16,7 @@ use std::io::{self, ErrorKind, Write};
 pub trait Words {
     ghost words: { Self → List ℕ };
 
-    /// The word at an index, `None` behind the last one.
+    /// The word at an index, `None` after the last one.
     fn word_at(&self, index: usize) -> Option<u64>
         ensures { result ≡ slice_get (words self.now) index };
 }
@@ -39,7 +39,7 @@ impl Words for ClosedBoard {
     }
 }
 
-/// The metadata of counters, as words: 64 of each id.
+/// The metadata of counters, as words: 64 for each id.
 #[derive(Drop)]
 pub struct CounterMetadata<'a>(pub &'a CountersManager);
 
@@ -55,7 +55,7 @@ impl<'a> Words for CounterMetadata<'a> {
     }
 }
 
-/// The values of counters, as words: 16 of each id.
+/// The values of counters, as words: 16 for each id.
 #[derive(Drop)]
 pub struct CounterValueWords<'a>(pub &'a CountersManager);
 
@@ -71,8 +71,8 @@ impl<'a> Words for CounterValueWords<'a> {
     }
 }
 
-/// Writes words, each as 8 bytes, little-endian. A short write goes on with the rest. It ends with the first error of
-/// the writer; some of the words are then written.
+/// Writes words, each as 8 bytes, little-endian. After a short write it goes on with the rest. It stops at the first
+/// error of the writer; some of the words are written then.
 pub fn write_words<S: Words, W: Write>(source: &S, out: &mut W) -> io::Result<()>
     ensures { OnOk result (Appends (W.contents out.old) (W.contents out.new) (bytes_of (S.words source.now))) }
 {
@@ -82,6 +82,6 @@ pub fn write_words<S: Words, W: Write>(source: &S, out: &mut W) -> io::Result<()
         };
         out.write_all(&word.to_le_bytes())?;
     }
-    // No memory has so many words.
+    // No memory has this many words.
     Err(io::Error::from(ErrorKind::FileTooLarge))
 }

@@ -1,4 +1,4 @@
--- An admitted claim is stored behind the tail: the headers, then the body, then the tail.
+-- An admitted claim is stored after the tail: the headers, then the body, then the tail.
 use Rattle.std.proofs.Common.{◌≡◌, ◌≢◌, ℕ, ◌+◌, ◌-◌, ◌*◌, ◌/◌, ◌%◌, ◌<◌, ◌≤◌, List, [], length, drop, slice_index, slice_set, replicate, true, false, if◌then◌else◌, refl, ap, sym, ◌∙◌, arith, inl, inr, get_or-set_other, nat_lt, ℤ, pos, ◌≤ℤ◌, ◌^◌, FitsSigned, to_z, of_z}
 use Rattle.std.specs.Int.{from_le_bytes, w32, w64}
 use Rattle.std.proofs.lemmas.Int.{to_z-of_z}
@@ -27,7 +27,7 @@ length-padded C tail place ws =
     (if b then slice_set ws (index C tail) (padding_header (place - tail)) else ws) ≡ length ws)
     [ true ↦ length-set ws _ _ | false ↦ refl ]
 
--- an admitted claim does not lie before the tail
+-- an admitted claim is not before the tail
 pub tail_first : (r : Ring) (tail len place end : ℕ) → tail ≡ tail_of r → IsAdmitted r len place end → tail ≤ place
 tail_first r tail len place end at admitted =
     omega (arith, at, admitted.is_place, next_le r.capacity (tail_of r) (span len))
@@ -107,7 +107,7 @@ module _ (r : Ring) (c : Claim) (place end : ℕ) (ok : IsRing r) (lawful : IsMe
   unfolding headed
   length-headed = length-set _ _ _ ∙ length-padded r.capacity (tail_of r) place r.words
 
-  -- the record lies inside the buffer
+  -- the record is inside the buffer
   pub inside : index r.capacity place + span_of c / 8 ≤ r.capacity / 8
   inside =
       let within = next_within r.capacity (tail_of r) (span_of c) nonzero short in

@@ -68,7 +68,7 @@ module _ (r : Ring) (c : Claim) (rest : List Claim) (ok : IsRing r) (has : Has r
         | inr h ↦ omega (arith, get_or_past c.message.body j 0 h)
       ]
 
-  -- the words behind the header
+  -- the words after the header
   body_word : (j : ℕ) → 8 * j < length c.message.body
       → slice_index r.words (head_of r % r.capacity / 8 + 1 + j) ≡ from_le_bytes w64 (drop (8 * j) c.message.body)
   body_word j lt =

@@ -18,7 +18,7 @@ use Rattle.ring_layout.proofs.CapacityLemmas.{capacity_blocks}
 use Rattle.ring_layout.proofs.PlaceLemmas.{next_le, end_of-append, end_of_aligned}
 use Rattle.ring_layout.proofs.PictureLemmas.{word_at_past, word_at-append_before, word_at-append_after}
 
--- the words below C / 8 of a ring behind its tail are 0
+-- the words below C / 8 of a ring after its tail are 0
 pub free_behind : (r : Ring) (h : List Claim) → Has r h → (p : ℕ) → p % 8 ≡ 0 → head_of r ≤ p → tail_of r ≤ p
     → p < head_of r + r.capacity → slice_index r.words (p % r.capacity / 8) ≡ 0
 free_behind r h has p p8 hp tp lt =
@@ -148,7 +148,7 @@ tail_aligned r ok =
     (omega (arith, capacity_blocks r.capacity ok.capacity)) ok.aligned in
     omega (arith, aligned, has.ends)
 
--- the words behind the tail are 0
+-- the words after the tail are 0
 pub free_of : (r : Ring) → IsRing r → (p : ℕ) → p % 8 ≡ 0 → tail_of r ≤ p → p < head_of r + r.capacity
     → slice_index r.words (p % r.capacity / 8) ≡ 0
 free_of r ok p p8 tp lt = free_behind r ok.history.0 ok.history.1 p p8 (omega (arith, ok.order)) tp lt

@@ -1,4 +1,4 @@
--- A read over the end of the buffer drains a ring: it stops where no settled record lies.
+-- A read over the end of the buffer drains a ring: it stops when no settled record is at the head.
 use Rattle.std.proofs.Common.{◌≡◌, ◌≢◌, ℕ, ◌+◌, ◌-◌, ◌*◌, ◌%◌, ◌^◌, ◌<◌, ◌≤◌, ◌⊎◌, ◌&&◌, ◌==◌, nat_lt, if◌then◌else◌, slice_index, List, [], ◌∷◌, ◌++◌, length, refl, ap, sym, ◌∙◌, subst, arith, inl, inr}
 use Rattle.std.proofs.lemmas.Bool.{and_parts, cases_Bool, cases_lt, cond-true, cond-false, eqb-true, ltb-true, ne_eqb}
 use Rattle.std.proofs.lemmas.List.{append-nil, append_assoc, length-append}
@@ -23,7 +23,7 @@ use Rattle.ring_words.specs.Ring.{Has, IsRing, Ring, head_of, tail_of}
 use Rattle.ring_words.proofs.HeadLemmas.{state_cases}
 use Rattle.ring_words.proofs.ReadLemmas.{committed_of-append}
 
--- How many messages a ring shows ------------------------------------------------
+-- The number of messages that a ring shows ---------------------------------------
 
 shown_few : (c : Claim) → length (shown c) ≤ 1
 shown_few c = elim (state_cases c.state) as (λ _. length (shown c) ≤ 1) [
@@ -55,7 +55,7 @@ shows_few r h ok has =
 
 -- Where a read stops -----------------------------------------------------------
 
--- below its limit it stops at the end of the buffer, or where no settled record lies
+-- below its limit it stops at the end of the buffer, or at a head without a settled record
 stops_below : (C limit messages head bytes : ℕ) (stopped : Stop) → stopped ≡ stop_of C limit messages head bytes
     → messages < limit
     → ((stopped ≡ Block) × (head % C ≡ 0) × (0 < bytes)) ⊎ (stopped ≡ Unpublished)
@@ -180,7 +180,7 @@ settled_rest : (xs ys : List Claim) → AllSettled (xs ++ ys) → AllSettled ys
 settled_rest [] ys all = all
 settled_rest (x ∷ xs) ys all = settled_rest xs ys (All-tail (λ (c : Claim). c.state ≢ Open) x (xs ++ ys) all)
 
--- where no claim is open all messages are counted, and nothing is left
+-- if no claim is open all messages are counted, and nothing is left
 pub drained_whole : (h : List Claim) (count : ℕ) (new : Ring) → AllSettled h → Drains h count new
     → (count ≡ length (committed_of h)) × Has new []
 drained_whole h count new settled d =

@@ -1,4 +1,4 @@
--- What the header at the head tells.
+-- What the header at the head says.
 use Rattle.std.proofs.Common.{◌≡◌, ℕ, ◌+◌, ◌-◌, ◌/◌, ◌%◌, ◌^◌, ◌<◌, List, [], ◌∷◌, length, slice_index, refl, ap, ◌∙◌, arith, ◌⊎◌, inl, inr, ℤ, pos, neg_ℤ, FitsSigned, ◌<ℤ◌, ◌≤ℤ◌, Some, nat_abs, true, false}
 use lib.Signed.{lt_z}
 use Rattle.std.proofs.lemmas.Int.{ints}
@@ -183,7 +183,7 @@ pub sees_blocked : (r : Ring) (h : List Claim) → IsRing r → Has r h → len_
 sees_blocked r [] ok has below = inl refl
 sees_blocked r (c ∷ rest) ok has below = blocked_claim r c rest ok has below
 
--- what a signed test tells
+-- what a signed test says
 pub signed_above : (a b : ℤ) → lt_z a b ≡ true → a <ℤ b
 signed_above a b h = grind (arith, ints)
 

@@ -32,7 +32,7 @@ module _ {S : Type 0} (step : S → Message → S → Action → Type 0) where
   no_break s (m ∷ ms) [] t h = let e : Break ≡ Continue = h.1.2 in cc
   no_break s (m ∷ ms) (a ∷ before) t h = no_break h.0 ms before t h.2
 
--- how a read ended, told of what it takes by the actions heard (`Heard`) and by the handler's (`Takes`)
+-- how a read ended, given what it takes, by the actions it goes by (`Heard`) and by the handler's (`Takes`)
 module _ {S : Type 0} (step : S → Message → S → Action → Type 0) (limit : ℕ) {Heard Takes : S → ℕ → Type 0}
     {actions : (t : S) (n : ℕ) → Heard t n → List Action} {answers : (t : S) (n : ℕ) → Takes t n → List Action}
     {HeardTight : (t : S) (n : ℕ) → Heard t n → Type 0} {Tight : (t : S) (n : ℕ) → Takes t n → Type 0}

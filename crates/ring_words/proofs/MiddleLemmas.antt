@@ -75,7 +75,7 @@ All-drop-front : (P : Claim → Type 0) (xs ys : List Claim) → All P (xs ++ ys
 All-drop-front P [] ys h = h
 All-drop-front P (x ∷ xs) ys h = All-drop-front P xs ys (All-tail P x (xs ++ ys) h)
 
--- new has the words of d where c was, and else the words of the ring r
+-- new has the words of d where c was, and otherwise the words of the ring r
 pub record Replaces (r : Ring) (front : List Claim) (c d : Claim) (new : List ℕ) : Type 0 where
   pub length : length new ≡ length r.words
   pub trailer : (i : ℕ) → r.capacity / 8 ≤ i → slice_index new i ≡ slice_index r.words i
@@ -122,7 +122,7 @@ has_replaced r front back c d new same lawful has s =
       picture = subst (λ (k : ℕ). IsPicture (slice_index new) C k (front ++ d ∷ back)) (sym head) picture;
     }
 
--- where a claim of the ring lies
+-- where a claim of the ring is
 pub record Lies (r : Ring) (c : Claim) (place : ℕ) : Type 0 where
   pub aligned : place % 8 ≡ 0
   pub from : head_of r ≤ place
@@ -173,7 +173,7 @@ holds r front back c place ok has is = λ k lt.
     ∙ cond-false _ _ _ (ne_eqb (8 * (k + 1)) 0 (λ z. omega arith))
     ∙ ap (λ n. from_le_bytes w64 (drop n c.message.body)) back_to
 
--- new has the words of the changed claim where the open claim t lies, and else the words of the ring
+-- new has the words of the changed claim where the open claim t is, and otherwise the words of the ring
 pub record Rewrites (r : Ring) (t : ClaimAt) (change : Claim → Claim) (new : List ℕ) : Type 0 where
   pub same_span : (c : Claim) → length c.message.body ≡ t.len → span_of c ≡ span_of (change c)
   pub is_lawful : (c : Claim) → length c.message.body ≡ t.len → IsMessage r.capacity c.message
@@ -298,7 +298,7 @@ module _ (r : Ring) (t : ClaimAt) (change : Claim → Claim) (new : List ℕ) (o
     );
   }
 
-  -- another open claim stays open, and this one too where the change leaves it open
+  -- another open claim stays open, and so does this one if the change leaves it open
   pub stays : (d : ClaimAt) → ((c : Claim) (e : ℕ) → length c.message.body ≡ t.len
       → next_place r.capacity e (span_of c) ≡ t.place → IsOpenClaim r.capacity e c d
       → IsOpenClaim r.capacity e (change c) d)
@@ -316,7 +316,7 @@ module _ (r : Ring) (t : ClaimAt) (change : Claim → Claim) (new : List ℕ) (o
         is_open = subst (λ (k : ℕ). IsOpenIn r.capacity k (s.front ++ change s.claim ∷ s.back) d) (sym head_same) now;
       }
 
--- where an open claim lies in the buffer
+-- where an open claim is in the buffer
 pub record OpenLies (r : Ring) (t : ClaimAt) : Type 0 where
   pub short : t.len ≤ r.capacity / 8
   pub within : index r.capacity t.place + span t.len / 8 ≤ r.capacity / 8

@@ -1,4 +1,4 @@
--- Open claims of a history: where they lie, and what they keep when the history changes.
+-- Open claims of a history: where they are, and what they keep when the history changes.
 use Rattle.std.proofs.Common.{◌≡◌, ◌≢◌, ℕ, ℤ, ◌+◌, ◌%◌, ◌<◌, ◌≤◌, List, [], ◌∷◌, ◌++◌, length, replicate, refl, ap, sym, ◌∙◌, subst, arith, inl, inr, All, ◌==◌}
 use Rattle.std.proofs.lemmas.Bool.{eq-eqb, ne_eqb, cond-true, cond-false}
 use Rattle.std.proofs.lemmas.List.{length-replicate}
@@ -13,7 +13,7 @@ use Rattle.ring_words.specs.Open.{ClaimAt, IsOpen, IsOpenClaim, IsOpenIn, fresh_
 use Rattle.ring_words.specs.Change.{AppendsClaim, changed_at, opened}
 use Rattle.ring_words.specs.Read.{IsHeadAfter}
 
--- an open claim lies between the start and the end
+-- an open claim is between the start and the end
 pub open_within : (C e : ℕ) (h : List Claim) (t : ClaimAt) → IsOpenIn C e h t
     → (e ≤ t.place) × (t.place + span t.len ≤ end_of C e h)
 open_within C e [] t at = absurd at
@@ -25,20 +25,20 @@ open_within C e (c ∷ h) t at =
       | inr there ↦ let w = open_within C (end_after C e (span_of c)) h t there in (omega (arith, w.0), w.1)
     ]
 
--- claims behind it do not matter
+-- claims after it do not matter
 pub open_append : (C e : ℕ) (h g : List Claim) (t : ClaimAt) → IsOpenIn C e h t → IsOpenIn C e (h ++ g) t
 open_append C e [] g t at = absurd at
 open_append C e (c ∷ h) g t at =
     elim at as (λ _. IsOpenIn C e (c ∷ (h ++ g)) t)
     [ inl here ↦ inl here | inr there ↦ inr (open_append C (end_after C e (span_of c)) h g t there) ]
 
--- the claim itself, behind others
+-- the claim itself, after others
 pub open_behind : (C e : ℕ) (h : List Claim) (c : Claim) (g : List Claim) (t : ClaimAt)
     → IsOpenClaim C (end_of C e h) c t → IsOpenIn C e (h ++ c ∷ g) t
 open_behind C e [] c g t at = inl at
 open_behind C e (x ∷ h) c g t at = inr (open_behind C (end_after C e (span_of x)) h c g t at)
 
--- it stands in the history, between others
+-- it is in the history, between others
 pub record Stands (C e : ℕ) (h : List Claim) (t : ClaimAt) : Type 0 where
   pub front : List Claim
   pub claim : Claim
@@ -56,7 +56,7 @@ open_stands C e (c ∷ h) t at =
           record { front = c ∷ s.front; claim = s.claim; back = s.back; whole = ap (λ l. c ∷ l) s.whole; is = s.is }
     ]
 
--- no claim behind a place is changed
+-- no claim after a place is changed
 changed_at_past : (C e place : ℕ) (f : Claim → Claim) (h : List Claim) → place < e → changed_at C e place f h ≡ h
 changed_at_past C e place f [] lt = refl
 changed_at_past C e place f (c ∷ h) lt =
@@ -82,8 +82,8 @@ changed_at_there C e (x ∷ front) c back f =
     (ne_eqb (next_place C e (span_of x)) place (λ z. omega arith)) i
     ∷ changed_at_there C (end_after C e (span_of x)) front c back f i)
 
--- an open claim stays where another, of the same span, takes the place of one, unless that was the claim itself; and
--- then too if it is still this one
+-- an open claim stays if another one is replaced by one of the same span, and if it is replaced itself and is still
+-- this claim
 pub open_replaced : (C e : ℕ) (front : List Claim) (c d : Claim) (back : List Claim) (t : ClaimAt)
     → span_of c ≡ span_of d
     → (IsOpenClaim C (end_of C e front) c t → IsOpenClaim C (end_of C e front) d t)
@@ -111,7 +111,7 @@ open_left C e (c ∷ passed) rest t settled at =
           (All-tail (λ (x : Claim). x.state ≢ Open) c passed settled) there
     ]
 
--- it lies where it lay when padding before the first claim is passed
+-- it is where it was when padding before the first claim is passed
 pub open_past_padding : (C e : ℕ) (c : Claim) (h : List Claim) (t : ClaimAt) → 0 < C → span_of c ≤ C
     → IsOpenIn C e (c ∷ h) t → IsOpenIn C (next_place C e (span_of c)) (c ∷ h) t
 open_past_padding C e c h t some short at =
@@ -198,7 +198,7 @@ appended_is_open old new type_id len ok a =
           open_same old new (h ++ c ∷ []) t a.capacity a.head (open_behind old.capacity (head_of old) h c [] t it);
     }
 
--- and lies where no other lies
+-- and is at a place of its own
 pub appended_apart : (old : Ring) (type_id : ℤ) (len : ℕ) (t : ClaimAt) → IsOpen old t
     → t.place ≢ (fresh_claim old type_id len).place
 appended_apart old type_id len t o e =

@@ -1,4 +1,4 @@
--- Bytes put into a body that stands in words.
+-- Bytes put into a body that is in words.
 use Rattle.std.proofs.Common.{◌≡◌, ◌⊎◌, ℕ, ◌+◌, ◌-◌, ◌*◌, ◌/◌, ◌%◌, ◌<◌, ◌≤◌, List, length, take, drop, slice_index, slice_set, ap, sym, ◌∙◌, subst, arith, inl, inr, All, get_or-set_other, get_or-set_same}
 use Rattle.std.specs.Int.{from_le_bytes, to_le_bytes, w64}
 use Rattle.std.proofs.lemmas.Bool.{cases_lt, cases_eq}
@@ -46,13 +46,13 @@ overwritten_none at bs xs le none =
       | inr behind ↦ overwritten_behind at bs xs i (omega arith) (omega arith)
     ])
 
--- bytes lie inside a body
+-- bytes are inside a body
 pub record LieInBody (offset : ℕ) (bytes body : List ℕ) : Type 0 where
   pub old : All (λ b. b < 256) body
   pub new : (j : ℕ) → slice_index bytes j < 256
   pub fits : offset + length bytes ≤ length body
 
--- the chunk is the n bytes behind those that were put, which lie in one word
+-- the chunk is the n bytes after those that were put, which are in one word
 pub record IsChunk (offset done n : ℕ) (bytes chunk : List ℕ) : Type 0 where
   pub some : 0 < n
   pub more : done + n ≤ length bytes

@@ -15,7 +15,7 @@ goes_on Break na nb = absurd (nb refl)
 goes_on Commit na nb = tt
 goes_on Continue na nb = tt
 
--- what the test for the end of the buffer tells
+-- what the test for the end of the buffer says
 pub inside_from : (C start head : ℕ) → (nat_lt start head && (head % C == 0)) ≡ false → start < head → head % C ≢ 0
 inside_from C start head test lt e =
     elim (and_cases (nat_lt start head) (head % C == 0) test) as (λ _. ⊥) [
@@ -23,6 +23,6 @@ inside_from C start head test lt e =
       | inr h ↦ eqb-false (head % C) 0 h e
     ]
 
--- what the test for padding tells
+-- what the test for padding says
 pub padding_from : (t : ℤ) → FitsSigned w32 t → of_z w32 t ≡ 4294967295 → t ≡ padding_type
 padding_from t f e = sym (to_z-of_z w32 t f) ∙ ap (to_z w32) e

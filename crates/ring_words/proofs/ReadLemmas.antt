@@ -45,7 +45,7 @@ shown_none c e = rw e refl
 shown_one : (c : Claim) → c.state ≡ Committed → shown c ≡ c.message ∷ []
 shown_one c e = rw e refl
 
--- the next claim lies where the head is
+-- the next claim is where the head is
 head_at : (C e h : ℕ) (passed rest : List Claim) (c : Claim) (others : List Claim) → 0 < C → span_of c ≤ C
     → rest ≡ c ∷ others → IsHeadAfter C e passed rest h
     → next_place C h (span_of c) ≡ next_place C (end_of C e passed) (span_of c)
@@ -132,7 +132,7 @@ module _ (limit : ℕ) (old mid new : Ring) (h : List Claim) (messages : List Me
             ]
       ]
 
-  -- a committed claim, whose message m was shown, and nothing behind it
+  -- a committed claim, whose message m was shown, and nothing after it
   pub passes_last : (m : Message) → (s.type_id ≡ padding_type → ⊥)
       → ((x : Claim) (r : List Claim) → Has mid (x ∷ r) → SeesCommitted mid x s → x.message ≡ m)
       → (q : Passes limit old h new (messages ++ m ∷ [])) × IsTight old.capacity (head_of old) q.passed (head_of new)
@@ -169,7 +169,7 @@ pub moves_none : (r : Ring) → MovesHead r r
 moves_none r =
     record { capacity = refl; length = refl; trailer = λ i le ne. refl; on = omega arith; within = omega arith }
 
--- two moves of the head, where the first did not reach the end of the buffer
+-- two moves of the head, if the first did not reach the end of the buffer
 pub moves_more : (old mid new : Ring) → 0 < old.capacity → MovesHead old mid → MovesHead mid new
     → (head_of old < head_of mid → head_of mid % old.capacity ≢ 0) → MovesHead old new
 moves_more old mid new some a b inside =
@@ -255,7 +255,7 @@ module _ {S : Type 0} (step : S → Message → S → Action → Type 0) (limit 
           (passes_last limit old mid new h reads.messages settled ok same p (left p.rest p.left) m loud shows).0;
     }
 
--- the count, told otherwise
+-- the count, in another form
 counted_as : {S : Type 0} {step : S → Message → S → Action → Type 0} {limit : ℕ} {old new : Ring} {s u : S} {n m : ℕ}
     → Reads step limit old new s u n → m ≡ n → Reads step limit old new s u m
 counted_as r is = record {

@@ -1,4 +1,4 @@
--- Turns of a controlled read, at a head where a record or padding lies.
+-- Turns of a controlled read, at a head where a record or padding is.
 use Rattle.std.proofs.Common.{◌≡◌, ◌≢◌, ℕ, ◌+◌, ◌%◌, ◌<◌, ◌≤◌, List, ◌∷◌, ap, sym, ◌∙◌, subst, arith, of_z, Bool, nat_lt, ◌&&◌, ◌==◌, false, Some}
 use Rattle.std.specs.Int.{w32}
 use Rattle.ring_layout.specs.declared.message.Claim.{Claim}

@@ -14,7 +14,7 @@ use Rattle.ring_layout.proofs.Laps.{IsInLap, index_step, index_outside, apart}
 use Rattle.ring_layout.proofs.PlaceLemmas.{next_le, next_within, next_aligned, span_bounds}
 use Rattle.ring_layout.proofs.PictureLemmas.{word_at_padding, word_at_padding_header, word_at_record}
 
--- header and body of a record stand at its place, which it does not go beyond the end of the buffer from
+-- header and body of a record are at its place, from which it does not cross the end of the buffer
 pub record HoldsRecord (C place : ℕ) (c : Claim) (w : List ℕ) : Type 0 where
   pub whole : place % 8 ≡ 0
   pub within : place % C + span_of c ≤ C
@@ -46,7 +46,7 @@ record_inside C place c w c8 holds p at =
           ∙ sym (cond-false _ _ _ (ne_eqb (p - place) 0 n))
     ]
 
--- what the code stores: the padding's header where there is padding, then the record's header, then the body
+-- what the code stores: the padding's header if there is padding, then the record's header, then the body
 pub record Steps (C tail place : ℕ) (c : Claim) (w0 w1 w2 w3 : List ℕ) : Type 0 where
   pub blocks : C % 8 ≡ 0
   pub nonzero : 0 < C

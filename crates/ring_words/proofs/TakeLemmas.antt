@@ -1,4 +1,4 @@
--- A record or padding at the head is cleared, and the head is moved behind it.
+-- A record or padding at the head is cleared, and the head is moved past it.
 use Rattle.std.proofs.Common.{◌≡◌, ◌≢◌, ℕ, ◌+◌, ◌-◌, ◌*◌, ◌/◌, ◌%◌, ◌<◌, ◌≤◌, List, ◌∷◌, length, slice_index, slice_set, refl, ap, sym, ◌∙◌, subst, arith, ◌⊎◌, inl, inr, Some, All, get_or-set_other, get_or-set_same}
 use Rattle.std.proofs.lemmas.Bool.{cases_lt}
 use Rattle.std.proofs.lemmas.List.{length-set}
@@ -199,7 +199,7 @@ module _ (r : Ring) (n : ℕ) (w : List ℕ) (ok : IsRing r) (n8 : n % 8 ≡ 0)
   unfolding taken
   head_there = head_is
 
--- what was seen at the head lies before the end of the buffer and before the tail
+-- what was seen at the head is before the end of the buffer and before the tail
 pub record Reach (r : Ring) (len : ℕ) : Type 0 where
   pub some : 0 < len
   pub within : head_of r % r.capacity + (len + 7) / 8 * 8 ≤ r.capacity
@@ -268,7 +268,7 @@ taken_by r s n w ok seen is cleared =
       leaves = λ h has. leaves r n w ok n8 within reach cleared s h is has (seen h has);
     }
 
--- what was seen is a message: its body fits the scratch and lies before the end of the buffer
+-- what was seen is a message: its body fits the scratch and is before the end of the buffer
 pub record SeenMessage (r : Ring) (len : ℕ) : Type 0 where
   pub header : 8 ≤ len
   pub short : len - 8 ≤ r.capacity / 8

@@ -38,7 +38,7 @@ abs_neg : (k : ℕ) → nat_abs (neg_ℤ (pos k)) ≡ k
 abs_neg zero = refl
 abs_neg (suc k) = refl
 
--- what a header word tells of its claim
+-- what a header word says of its claim
 Told : Claim → ℕ → Type 0
 Told c w =
     ((c.state ≡ Open) × (len_word w ≡ neg_ℤ (pos (8 + length c.message.body))) × (type_word w ≡ c.message.type_id))
@@ -206,7 +206,7 @@ module _ (C : ℕ) (cap : IsCapacity C) where
       ∙ cond-false _ _ _ (ne_eqb (8 * (j + 1)) 0 (λ z. omega arith))
       ∙ ap (λ n. from_le_bytes w64 (drop n c.message.body)) back
 
-  -- two claims that come next behind e are lawful, and lie at p and q
+  -- two claims that come next after e are valid, and are at p and q
   record ComeNext (e p q : ℕ) (c d : Claim) : Type 0 where
     pub first : IsMessage C c.message
     pub second : IsMessage C d.message
@@ -258,7 +258,7 @@ module _ (C : ℕ) (cap : IsCapacity C) where
         );
       }
 
-  -- the words behind padding, as seen from the padding's end
+  -- the words after padding, as seen from the padding's end
   skip : (e q : ℕ) (c : Claim) (h : List Claim) → IsMessage C c.message → next_place C e (span_of c) ≡ q
       → (end_of C q (c ∷ h) ≡ end_of C e (c ∷ h)) × ((p : ℕ) → q ≤ p → word_at C q (c ∷ h) p ≡ word_at C e (c ∷ h) p)
   skip e q c h m at =
@@ -276,7 +276,7 @@ module _ (C : ℕ) (cap : IsCapacity C) where
         ],
       )
 
-  -- where one history has padding up to q, the other has an aborted claim of the same length
+  -- if one history has padding up to q, the other has an aborted claim of the same length
   padded : (e q : ℕ) (c d : Claim) (h g : List Claim) → e % 8 ≡ 0 → e < q → ComeNext e q e c d
       → Same e (c ∷ h) (d ∷ g) → ((r : ℕ) → r % 8 ≡ 0 → Same r (c ∷ h) g → Alike C r (c ∷ h) g) → Alike C e (c ∷ h)
       (d ∷ g)
@@ -331,7 +331,7 @@ module _ (C : ℕ) (cap : IsCapacity C) where
         ]
       ]
 
-  -- where there is a claim, the history ends behind where it begins
+  -- if there is a claim, the history ends after its start
   ends_behind : (e : ℕ) (c : Claim) (h : List Claim) → e < end_of C e (c ∷ h)
   ends_behind e c h =
       let behind = end_of_le C (end_after C e (span_of c)) h in

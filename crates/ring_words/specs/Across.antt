@@ -1,17 +1,17 @@
--- A read that goes on behind the end of the buffer, of a ring of any kind: X is what is said of the ring, S the
+-- A read that goes on past the end of the buffer, of a ring of any kind: X is what is said of the ring, S the
 -- handler's states, and Reads what one read says.
 use Rattle.std.specs.Prelude.{◌≡◌, ◌≢◌, ◌⊎◌, ℕ, ◌+◌, ◌-◌}
 use Rattle.ring_words.specs.declared.read.end.ReadEnd.{ReadEnd}
 use Rattle.ring_words.specs.declared.read.end.Stop.{Stop}
 
--- one read, which something else than the end of the buffer stopped
+-- one read, which was stopped by something other than the end of the buffer
 pub record ReadsOnce {X S : Type 0} (Reads : ℕ → X → X → S → S → ReadEnd → Type 0) (limit : ℕ) (old new : X) (s t : S)
     (end : ReadEnd) : Type 0 where
   pub reads : Reads limit old new s t end
   pub stopped : end.stopped ≢ Stop.Block
 
--- a read up to the end of the buffer, and another from there on of as many messages as were left: messages and bytes
--- are those of both
+-- a read up to the end of the buffer, and another from there on with the rest of the limit; messages and bytes are
+-- those of both
 pub record ReadsTwice {X S : Type 0} (Reads : ℕ → X → X → S → S → ReadEnd → Type 0) (limit : ℕ) (old new : X) (s t : S)
     (end : ReadEnd) : Type 0 where
   pub between : X

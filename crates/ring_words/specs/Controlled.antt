@@ -1,5 +1,5 @@
 -- How a read ends that its handler controls, whatever it takes. `Takes t n`: n messages were taken, after which the
--- handler is t. `answers` are its answers to them.
+-- handler is t. `answers` are the actions that it returned for them.
 use Rattle.std.specs.Prelude.{◌≡◌, ◌<◌, ℕ, Bool, true, false, List, [], ◌∷◌, ◌++◌, All}
 use Rattle.ring_words.specs.declared.read.action.Action.{Action}
 use Rattle.ring_words.specs.declared.read.action.Action.TheVariants.{Abort, Break, Commit, Continue}
@@ -7,7 +7,7 @@ use Rattle.ring_words.specs.declared.read.end.ReadEnd.{ReadEnd}
 use Rattle.ring_words.specs.declared.read.end.Stop.{Stop}
 use Rattle.ring_layout.specs.declared.message.Message.{Message}
 
--- the action that a read goes by: the handler's, where it heeds that
+-- the action that a read goes by: the handler's, if the read heeds it
 abbrev pub heard : Bool → Action → Action
 heard true a = a
 heard false a = Continue
@@ -30,7 +30,7 @@ pub record LetOn {S : Type 0} (Takes : S → ℕ → Type 0) (answers : (t : S) 
   pub went_on : All GoesOn (answers t end.messages reads)
   pub stopped : end.stopped ≡ stop
 
--- it stopped the read by Break at the last message, which was taken, and nothing was passed behind it (`Tight`)
+-- it stopped the read by Break at the last message, which was taken, and nothing was passed after it (`Tight`)
 pub record BrokenOff {S : Type 0} (Takes : S → ℕ → Type 0) (answers : (t : S) (n : ℕ) → Takes t n → List Action)
     (Tight : (t : S) (n : ℕ) → Takes t n → Type 0) (t : S) (end : ReadEnd) : Type 0 where
   pub reads : Takes t end.messages
@@ -40,8 +40,8 @@ pub record BrokenOff {S : Type 0} (Takes : S → ℕ → Type 0) (answers : (t :
   pub tight : Tight t end.messages reads
   pub stopped : end.stopped ≡ Stop.Action
 
--- it stopped the read by Abort at one message more, which was left: it is the next one (`Next`), and the read had come
--- neither to its limit nor to the end of the buffer (`Inside`)
+-- it stopped the read by Abort at one more message, which was left: it is the next one (`Next`), and the read had
+-- reached neither its limit nor the end of the buffer (`Inside`)
 pub record CutShort {S : Type 0} (step : S → Message → S → Action → Type 0) (limit : ℕ) (Takes : S → ℕ → Type 0)
     (answers : (t : S) (n : ℕ) → Takes t n → List Action) (Next : Message → Type 0) (Inside : Type 0) (t : S)
     (end : ReadEnd) : Type 0 where

@@ -10,7 +10,7 @@ use Rattle.ring_words.specs.Reading.{IsBlocked}
 abbrev pub AllSettled : List Claim → Type 0
 AllSettled h = All (λ c. c.state ≢ Open) h
 
--- of the history h the settled front was passed, which shows so many messages: what is left is nothing, or begins with
+-- of the history h the settled front was passed, which shows this many messages: what is left is empty, or begins with
 -- an open claim
 pub record Drains (h : List Claim) (count : ℕ) (new : Ring) : Type 0 where
   pub passed : List Claim

@@ -14,13 +14,13 @@ use Rattle.ring_layout.specs.Handles.{Handles}
 use Rattle.ring_words.specs.Reading.{IsAtHead, MovesHead}
 use Rattle.ring_words.specs.Controlled.{BrokenOff, CutShort, LetOn}
 
--- the head is the end of the claims passed or, where padding follows, the place of the next claim
+-- the head is the end of the claims passed or, if padding follows, the place of the next claim
 abbrev pub IsHeadAfter : ℕ → ℕ → List Claim → List Claim → ℕ → Type 0
 IsHeadAfter C e passed rest head = (head ≡ end_of C e passed)
     ⊎ ((c : Claim) × (others : List Claim) × (rest ≡ c ∷ others)
     × (head ≡ next_place C (end_of C e passed) (span_of c)))
 
--- nothing was passed behind the last message
+-- nothing was passed after the last message
 abbrev pub IsTight : ℕ → ℕ → List Claim → ℕ → Type 0
 IsTight C e passed head = ((passed ≡ []) × (head ≡ e))
     ⊎ ((front : List Claim) × (c : Claim) × (passed ≡ front ++ c ∷ []) × (c.state ≡ Committed)
@@ -47,7 +47,7 @@ pub record Reads {S : Type 0} (step : S → Message → S → Action → Type 0)
   pub moves : MovesHead old new
   pub passes : (h : List Claim) → Has old h → Passes limit old h new messages
 
--- why a read stops, with so many messages read, this head and so many bytes passed
+-- why a read stops, after this many messages, at this head, with this many bytes passed
 abbrev pub stop_of : ℕ → ℕ → ℕ → ℕ → ℕ → Stop
 stop_of C limit messages head bytes =
     if messages == limit then Limit
@@ -61,7 +61,7 @@ pub record ReadsTo {S : Type 0} (step : S → Message → S → Action → Type 
   pub bytes : head_of old + end.bytes ≡ head_of new
   pub stopped : end.stopped ≡ stop_of new.capacity limit end.messages (head_of new) end.bytes
 
--- the message m lies at the head of each history that the ring has
+-- the message m is at the head of each history that the ring has
 abbrev pub IsNext : Ring → Message → Type 0
 IsNext r m = (h : List Claim) → Has r h → (c : Claim) × (rest : List Claim) × (h ≡ c ∷ rest) × (c.state ≡ Committed)
     × (c.message ≡ m) × IsAtHead r c

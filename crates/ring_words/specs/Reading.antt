@@ -9,11 +9,11 @@ use Rattle.ring_layout.specs.Headers.{padding_type}
 use Rattle.ring_words.specs.Ring.{Ring, Has, head_of}
 use Rattle.ring_layout.specs.Layout.{head_index}
 
--- the claim c lies at the head
+-- the claim c is at the head
 abbrev pub IsAtHead : Ring → Claim → Type 0
 IsAtHead r c = next_place r.capacity (head_of r) (span_of c) ≡ head_of r
 
--- the history ends at the head, or an open claim lies there
+-- the history ends at the head, or an open claim is there
 abbrev pub IsBlocked : Ring → List Claim → Type 0
 IsBlocked r h = (h ≡ []) ⊎ ((c : Claim) × (rest : List Claim) × (h ≡ c ∷ rest) × (c.state ≡ Open) × IsAtHead r c)
 
@@ -37,7 +37,7 @@ pub record SeesCommitted (r : Ring) (c : Claim) (s : Settled) : Type 0 where
   pub len : s.len ≡ 8 + length c.message.body
   pub type_id : s.type_id ≡ c.message.type_id
 
--- what the header at the head tells of a history
+-- what the header at the head says of a history
 abbrev pub Sees : Ring → List Claim → Option Settled → Type 0
 Sees r h None = IsBlocked r h
 Sees r h (Some s) = (c : Claim) × (rest : List Claim) × (h ≡ c ∷ rest)

@@ -8,7 +8,7 @@ use Rattle.ring_layout.specs.Refusals.{place_refusal_or}
 pub use Rattle.ring_layout.specs.Refusals.{IsRefusedBy}
 use Rattle.ring_words.specs.Ring.{Ring, head_of, tail_of}
 
--- the refusal of a claim of this type id and length, in the order of the tests; none where it fits
+-- the refusal of a claim of this type id and length, in the order of the tests; none if it fits
 abbrev pub refusal_of : Ring → ℤ → ℕ → Option ClaimFault
 refusal_of r type_id len = place_refusal_or BadType TooLong PositionLimit r.capacity (tail_of r) type_id len
     (if nat_lt (head_of r + r.capacity) (end_after r.capacity (tail_of r) (span len))

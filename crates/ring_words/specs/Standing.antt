@@ -11,12 +11,12 @@ pub record StandsAt (before : Positions) (end : ReadEnd) (after : Positions) (he
   pub first : before.head ≡ head
   pub last : after.head ≡ head
 
--- and nothing is claimed behind it
+-- and nothing is claimed after it
 pub record IsEmpty (before : Positions) (end : ReadEnd) (after : Positions) : Type 0 where
   pub stands : StandsAt before end after before.head
   pub none : after.tail ≤ before.head
 
--- and something was claimed behind it before the read, and is still
+-- and something was claimed after it before the read, and still is
 pub record IsBlockedAt (before : Positions) (end : ReadEnd) (after : Positions) (head : ℕ) : Type 0 where
   pub stands : StandsAt before end after head
   pub claimed : head < before.tail

@@ -1,4 +1,4 @@
--- Storing a record behind the tail.
+-- Storing a record after the tail.
 use Rattle.std.specs.Prelude.{◌≡◌, ℕ, ◌+◌, ◌-◌, ◌%◌, ◌/◌, ◌<◌, ◌≤◌, List, [], ◌∷◌, length, slice_index, slice_set, if◌then◌else◌, nat_lt}
 use Rattle.ring_layout.specs.declared.message.Claim.{Claim}
 use Rattle.ring_layout.specs.History.{span, span_of}
@@ -7,7 +7,7 @@ use Rattle.ring_layout.specs.Headers.{padding_header}
 use Rattle.ring_layout.specs.Picture.{word_at}
 use Rattle.ring_words.specs.Ring.{Ring, head_of, tail_of}
 
--- a claim of this length is admitted: it has a lawful length, fits, and ends at a lawful position
+-- a claim of this length is admitted: it has a valid length, fits, and ends at a valid position
 pub record IsAdmitted (r : Ring) (len place end : ℕ) : Type 0 where
   pub short : len ≤ r.capacity / 8
   pub is_place : place ≡ next_place r.capacity (tail_of r) (span len)

@@ -1,7 +1,7 @@
 //! An open claim in the hands of its owner.
 use std::marker::Model;
 
-/// An open claim of a `SoloRing`. `commit` or `abort` ends it; one that is let go blocks the reader for good.
+/// An open claim of a `SoloRing`. `commit` or `abort` ends it. A dropped claim blocks the reader for good.
 #[derive(Drop)]
 pub struct SoloClaim {
     place: u64,

@@ -5,7 +5,8 @@ ghost use Rattle.ring_words.specs.declared.positions.Standing.TheVariants.{Block
 
 use crate::read::end::{ReadEnd, Stop};
 
-/// Up to where messages were taken, and up to where room is claimed. Both are running byte counts.
+/// The positions of a ring, as running byte counts: the head, up to which messages were taken, and the tail, up to
+/// which room is claimed.
 #[derive(Clone, Copy, Debug, PartialEq, Eq)]
 pub struct Positions {
     pub head: u64,
@@ -13,8 +14,8 @@ pub struct Positions {
 }
 
 impl Positions {
-    /// The bytes from the head to the tail, padding counted: what is claimed and not taken yet. In a shared ring the
-    /// tail is loaded after the head, so it may be more than there was at any moment.
+    /// Returns the bytes from the head to the tail, padding included: what is claimed and not taken yet. In a shared
+    /// ring the tail is loaded after the head, so the result may be more than there was at any one moment.
     pub fn used(&self) -> u64
         ensures { result ≡ self.now.tail - self.now.head }
     {
@@ -22,21 +23,21 @@ impl Positions {
     }
 }
 
-/// Why a read showed no message, as far as the loads tell.
+/// Why a read showed no message, as far as the loads show.
 #[derive(Clone, Copy, Debug, PartialEq, Eq)]
 pub enum Standing {
-    /// Nothing is claimed behind the head.
+    /// Nothing is claimed after the head.
     Empty,
-    /// A claim was made at this head before the read, and it was not settled when the read looked. Whether its producer
+    /// A claim was made at this head before the read, and was not settled when the read got there. Whether its producer
     /// is slow or lost is for the caller to judge, by time.
     Blocked { head: u64 },
-    /// The read passed something, or it may find something when it is repeated.
+    /// The read passed something, or may find something if it is repeated.
     Moving,
 }
 
 impl ReadEnd {
-    /// What a read shows together with the positions that were asked for before it and after it. It is exact for what
-    /// was loaded, where nobody else reads the ring; it computes only.
+    /// Returns what a read shows together with the positions loaded before and after it. It is exact for what was
+    /// loaded if no other thread reads the ring. It only computes.
     pub fn standing(&self, before: Positions, after: Positions) -> Standing
         ensures empty { result ≡ Empty ↔ IsEmpty before self.now after }
         ensures blocked { (head : ℕ) → result ≡ Blocked head ↔ IsBlockedAt before self.now after head }

@@ -36,8 +36,8 @@ impl Model for SoloRing {
 }
 
 impl SoloRing {
-    /// Makes an empty ring that starts at position 0. It refuses with `BadCapacity` a capacity that is no power of two
-    /// from 128 to 2^24, and then with `OutOfMemory`.
+    /// Makes an empty ring that starts at position 0. Returns, in this order: `BadCapacity` if the capacity is not a
+    /// power of two from 128 to 2^24; `OutOfMemory`.
     pub fn new(alloc: Global, capacity: u32) -> Result<Self, MakeFault>
         ensures refused { IsMadeUnless (make_refusal_of (is_capacity capacity) capacity 0) result }
         ensures fresh { IfOk result (λ ring. ring ≡ fresh capacity 0) }
@@ -45,8 +45,9 @@ impl SoloRing {
         Self::new_at(alloc, capacity, 0)
     }
 
-    /// Makes an empty ring that starts at a multiple of its capacity. It refuses with `BadCapacity`, then with
-    /// `BadStart` a start that is no multiple of the capacity or above 2^62, and then with `OutOfMemory`.
+    /// Makes an empty ring that starts at this position. Returns, in this order: `BadCapacity` if the capacity is not a
+    /// power of two from 128 to 2^24; `BadStart` if the start is not a multiple of the capacity or is above 2^62;
+    /// `OutOfMemory`.
     pub fn new_at(alloc: Global, capacity: u32, start: u64) -> Result<Self, MakeFault>
         ensures refused { IsMadeUnless (make_refusal_of (is_capacity capacity) capacity start) result }
         ensures fresh { IfOk result (λ ring. ring ≡ fresh capacity start) }
@@ -67,8 +68,8 @@ impl SoloRing {
         })
     }
 
-    /// Makes a ring of words that are one already: the picture of a history, and its trailer. The scratch has room for
-    /// the longest message. What the words show is for the caller to prove.
+    /// Makes a ring of words that already are one: the picture of a history, and its trailer. The scratch must have
+    /// room for the longest message. The caller proves what the words show.
     pub fn from_words(capacity: u32, words: Vec<u64>, scratch: Vec<u8>) -> Self
         requires ring { IsRing (ring capacity words.items) }
         requires scratch { vec_len scratch ≡ capacity / 8 }
@@ -95,14 +96,14 @@ impl SoloRing {
         max_message(self.capacity)
     }
 
-    /// A word of the buffer or, behind it, of the trailer.
+    /// Returns a word of the buffer or, after it, of the trailer; `None` past the last word.
     pub fn word(&self, index: usize) -> Option<u64>
         ensures { result ≡ slice_get self.now.words index }
     {
         self.words.get(index).copied()
     }
 
-    /// The head and the tail. The head is at most the tail, and that at most the head plus the capacity.
+    /// Returns the head and the tail. The head is at most the tail, and the tail at most the head plus the capacity.
     pub fn positions(&self) -> Positions
         ensures head { result.head ≡ head_of self.now }
         ensures tail { result.tail ≡ tail_of self.now }
@@ -115,8 +116,8 @@ impl SoloRing {
         }
     }
 
-    /// States that the ring has a history, and that all histories that it has show the same messages and have the same
-    /// open claims. It computes nothing.
+    /// States that the ring has a history, and that all its histories show the same messages and have the same open
+    /// claims. It computes nothing.
     pub fn history_law(&self)
         ensures some { (h : List Claim) × Has self.now h }
         ensures one { (h g : List Claim) → Has self.now h → Has self.now g → committed_of h ≡ committed_of g }

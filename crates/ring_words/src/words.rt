@@ -5,7 +5,7 @@ ghost use Rattle.ring_layout.specs.History.{overwritten};
 
 use ring_layout::{put_bytes_word, put_part, put_word};
 
-/// Puts bytes into a body that stands in the words from `at` on, from its byte `offset` on.
+/// Puts bytes into a body that is in the words from `at` on, from its byte `offset` on.
 pub(crate) fn overwrite_body(words: &mut [u64], at: usize, offset: usize, bytes: &[u8])
     requires { at + (offset + length bytes.now + 7) / 8 ≤ length words.old }
     ensures inside { (body : List ℕ) → All (λ b. b < 256) body → offset + length bytes.now ≤ length body
@@ -50,8 +50,8 @@ fn fill_zeros(words: &mut [u64], at: usize, count: usize)
 
 /// Sets `count` words from `at` on to 0.
 ///
-/// Fewer than 8 are covered from both ends by fills of a fixed length, which are plain stores. One fill of a length
-/// that is not known beforehand is a call, and the next load behind so short a store may have to wait for it.
+/// Fewer than 8 are covered from both ends by fills of a fixed length, which are plain stores. A fill of unknown length
+/// is a call, and the next load after such a short store may have to wait for it.
 pub(crate) fn clear(words: &mut [u64], at: usize, count: usize)
     requires { at + count ≤ length words.old }
     ensures inside { (i : ℕ) → at ≤ i → i < at + count → slice_index words.new i ≡ 0 }

@@ -47,7 +47,7 @@ impl Board {
         intent >= place + u64::from(self.capacity)
     }
 
-    /// Goes to the next entry, behind padding where there is some, and loads its header, which is not yet validated.
+    /// Goes to the next entry, past padding if there is some, and loads its header, which is not yet validated.
     fn approach(&self, seat: &mut BoardSeat, place: u64) -> Found
         requires seat { IsSeatOf self.now seat.old }
         requires stage { RestsAt self.now.capacity place seat.old.me }
@@ -91,7 +91,8 @@ impl Board {
         }
     }
 
-    /// Answers the next record unread, if there is one. Or else gives the place and the intent of a failed validation.
+    /// Returns the next record unread, if there is one. Otherwise returns the place and the intent of a failed
+    /// validation.
     pub(crate) fn answer(&self, seat: &mut BoardSeat, place: u64) -> Result<Option<RawRecord>, Miss>
         requires seat { IsSeatOf self.now seat.old }
         requires stage { RestsAt self.now.capacity place seat.old.me }
@@ -117,7 +118,7 @@ impl Board {
         }
     }
 
-    /// Copies the words of the body behind a validated header to the front of the scratch.
+    /// Copies the words of the body after a validated header to the front of the scratch.
     fn copy_body(&self, seat: &mut BoardSeat, place: u64, words: usize, scratch: &mut [u8])
         requires seat { IsSeatOf self.now seat.old }
         requires stage { (w : ℕ) × (seat.old.me.0.stage ≡ Reading w []) × (words ≡ word_count (body_len w))
@@ -135,7 +136,7 @@ impl Board {
         }
     }
 
-    /// Copies the body behind a validated header to the front of the scratch and validates again. Or else gives the
+    /// Copies the body after a validated header to the front of the scratch and validates again. Otherwise returns the
     /// intent that showed that the receiver was lapped.
     fn take(
         &self,
@@ -163,8 +164,8 @@ impl Board {
         }
     }
 
-    /// Goes to the record at latest, after a failed validation, and says where that lies. The lap is told with the
-    /// number of all of them, one more than so far.
+    /// Goes to the record at latest, after a failed validation, and returns where that is. The lap is reported with its
+    /// number, one more than before.
     pub(crate) fn go_to_latest(&self, seat: &mut BoardSeat, count: u64, miss: Miss) -> (u64, Lapped)
         requires seat { IsSeatOf self.now seat.old }
         requires stage { (seat.old.me.0.stage ≡ Behind) × (seat.old.me.0.count ≡ count) }
@@ -182,8 +183,8 @@ impl Board {
         (place, lapped)
     }
 
-    /// Copies the next message to the front of the scratch, if there is one. Or else gives the place and the intent of
-    /// a failed validation.
+    /// Copies the next message to the front of the scratch, if there is one. Otherwise returns the place and the intent
+    /// of a failed validation.
     pub(crate) fn attempt(
         &self,
         seat: &mut BoardSeat,

@@ -13,8 +13,9 @@ impl Board {
     ghost use Rattle.ring_board.specs.Refusals.{subscribe_refusal_of, IsSubscribedUnless};
     ghost use Rattle.ring_board.specs.Seats.{view_of, shares_of, transmitted, IsTransmitterOf, IsReceiverOf, receiver_view, subscribed_at, copies_of};
 
-    /// Makes a copying receiver, which starts with the record at latest, with one share of the transmitter's.
-    /// `NoShares` where the transmitter has one share, then `OutOfMemory`; the transmitter is then as before.
+    /// Makes a copying receiver, which starts with the record at latest. It takes one share of the transmitter's.
+    /// Returns, in this order: `NoShares` if the transmitter has one share; `OutOfMemory`. The transmitter is then
+    /// unchanged.
     pub fn subscribe(
         &self,
         alloc: Global,
@@ -62,15 +63,15 @@ impl CopyReceiver {
     ghost use Rattle.ring_board.specs.Seats.{IsReceiverOf, receiver_seat, place_in, lapped_count_of, Received};
     ghost use Rattle.ring_board.specs.Lending.{Rests};
 
-    /// Where it stands, as a position in bytes: the next call looks for a record there. After `Lapped` the bytes that
-    /// it passed over are this less `Lapped.place`; they are never 0.
+    /// Returns the position, in bytes, at which the next call looks for a record. After `Lapped` the bytes that it
+    /// passed over are this less `Lapped.place`, which is never 0.
     pub fn place(&self) -> u64
         ensures { result ≡ place_in self.now }
     {
         self.receiver.place
     }
 
-    /// How often the receiver was lapped.
+    /// Returns the number of times that the receiver was lapped.
     pub fn lapped_count(&self) -> u64
         ensures { result ≡ lapped_count_of self.now }
     {
@@ -105,8 +106,8 @@ impl CopyReceiver {
         }
     }
 
-    /// Copies the next message, if there is one, and validates the copy. `Lapped` where the transmitter overtook the
-    /// receiver: the count has risen by one, and the next call starts with the record at latest.
+    /// Copies the next message, if there is one, and validates the copy. Returns `Lapped` if the transmitter overtook
+    /// the receiver: the count has risen by one, and the next call starts with the record at latest.
     pub fn receive(&mut self, board: &Board) -> Result<Option<Copied<'_>>, Lapped>
         requires { IsReceiverOf board.now self.old }
         ensures* after { sem 𝓛 (Rests self.entry (λ new. IsReceiverOf board.now new × Received self.old new result)) }

@@ -14,8 +14,8 @@ impl Board {
     ghost use Rattle.ring_layout.specs.Refusals.{share_refusal_of, IsRefusedBy};
     ghost use Rattle.ring_board.specs.Seats.{view_of, shares_of, transmitted, IsTransmitterOf, IsRawOf, raw_view, raw_subscribed_at, answered_by};
 
-    /// Makes a raw receiver, which starts with the record at latest, with one share of the transmitter's. It takes no
-    /// memory. `NoShares` where the transmitter has one share, which is then as before.
+    /// Makes a raw receiver, which starts with the record at latest. It takes one share of the transmitter's and no
+    /// memory. Returns `NoShares` if the transmitter has one share, which is then unchanged.
     pub fn subscribe_raw(&self, transmitter: &mut Transmitter) -> Result<Receiver, NoShares>
         requires { IsTransmitterOf self.now transmitter.old }
         ensures board { IsTransmitterOf self.now transmitter.new }
@@ -30,7 +30,7 @@ impl Board {
         Ok(self.seat_receiver(transmitter))
     }
 
-    /// Takes a raw receiver back, with its share. The records that it answered are runs of the transmitted list.
+    /// Takes a raw receiver back, with its share. The records that it returned are runs of the transmitted list.
     pub fn join_raw(&self, transmitter: &mut Transmitter, receiver: Receiver)
         requires transmitter { IsTransmitterOf self.now transmitter.old }
         requires receiver { IsRawOf self.now receiver }
@@ -55,23 +55,23 @@ impl Receiver {
     ghost use Rattle.ring_board.specs.Receiving.{GotNothing, GotCopy, GotLapped};
     ghost use Rattle.ring_board.specs.Seats.{IsRawOf, IsAnsweredRecord, raw_seat, raw_view, raw_stands_at, raw_lapped_count_of, ReceivedNext, StaysAnswered, place_of, len_of};
 
-    /// Where it stands, as a position in bytes: the next call looks for a record there. After `Lapped` the bytes that
-    /// it passed over are this less `Lapped.place`; they are never 0.
+    /// Returns the position, in bytes, at which the next call looks for a record. After `Lapped` the bytes that it
+    /// passed over are this less `Lapped.place`, which is never 0.
     pub fn place(&self) -> u64
         ensures { result ≡ raw_stands_at self.now }
     {
         self.place
     }
 
-    /// How often the receiver was lapped.
+    /// Returns the number of times that the receiver was lapped.
     pub fn lapped_count(&self) -> u64
         ensures { result ≡ raw_lapped_count_of self.now }
     {
         self.count
     }
 
-    /// Answers the next record unread, if there is one, and goes behind it. `Lapped` where the transmitter overtook the
-    /// receiver: the count has risen by one, and the next call starts with the record at latest.
+    /// Returns the next record unread, if there is one, and goes past it. Returns `Lapped` if the transmitter overtook
+    /// the receiver: the count has risen by one, and the next call starts with the record at latest.
     pub fn receive_next(&mut self, board: &Board) -> Result<Option<RawRecord>, Lapped>
         requires { IsRawOf board.now self.old }
         ensures board { IsRawOf board.now self.new }
@@ -93,7 +93,7 @@ impl Receiver {
         }
     }
 
-    /// Copies the next message to the front of a scratch, if there is one, validates the copy, and goes behind it.
+    /// Copies the next message to the front of a scratch, if there is one, validates the copy, and goes past it.
     pub(crate) fn copy_next(
         &mut self,
         board: &Board,
@@ -123,8 +123,8 @@ impl Receiver {
         }
     }
 
-    /// Copies the body of a record that this receiver answered to the front of `out`, without validation: the bytes may
-    /// be those of another record, unless `validate` then says true. The rest of `out` stays.
+    /// Copies the body of a record that this receiver returned to the front of `out`, without validation: the bytes may
+    /// be those of another record, unless `validate` returns true afterwards. The rest of `out` is unchanged.
     pub fn load_body(&mut self, board: &Board, raw: &RawRecord, out: &mut [u8])
         requires board { IsRawOf board.now self.old }
         requires raw { IsAnsweredRecord (raw_view self.old) raw.now }
@@ -138,8 +138,8 @@ impl Receiver {
         board.load_answered(&mut self.seat, raw, &mut out[..raw.len]);
     }
 
-    /// Tests whether a record that this receiver answered was not yet overwritten, by one load of the intent. If so,
-    /// each body of it that `load_body` gave before is the one that was transmitted.
+    /// Tests whether a record that this receiver returned has not been overwritten yet, by one load of the intent. If
+    /// so, each body of it that `load_body` returned before is the one that was transmitted.
     pub fn validate(&mut self, board: &Board, raw: &RawRecord) -> bool
         requires board { IsRawOf board.now self.old }
         requires raw { IsAnsweredRecord (raw_view self.old) raw.now }
@@ -158,7 +158,7 @@ impl Board {
     ghost use Rattle.ring_board.specs.Bodies.{GaveBody};
     ghost use Rattle.ring_board.specs.Seats.{IsAnsweredRecord, place_of, len_of};
 
-    /// Loads the body of a record that was answered unread, which is as long as `out`.
+    /// Loads the body of a record that was returned unread, which is as long as `out`.
     fn load_answered(&self, seat: &mut BoardSeat, raw: &RawRecord, out: &mut [u8])
         requires seat { IsSeatOf self.now seat.old }
         requires stage { (seat.old.me.0.stage ≡ Resting) × (seat.old.me.0.capacity ≡ self.now.capacity) }
@@ -177,21 +177,21 @@ impl Board {
 impl RawRecord {
     ghost use Rattle.ring_board.specs.Seats.{place_of, type_id_of, len_of};
 
-    /// Where it lies, in bytes.
+    /// Returns its position in bytes.
     pub fn place(&self) -> u64
         ensures { result ≡ place_of self.now }
     {
         self.place
     }
 
-    /// The type id that its header announces.
+    /// Returns the type id that its header announces.
     pub fn type_id(&self) -> i32
         ensures { result ≡ type_id_of self.now }
     {
         self.type_id
     }
 
-    /// The bytes of the body that its header announces.
+    /// Returns the length in bytes of the body that its header announces.
     pub fn len(&self) -> usize
         ensures { result ≡ len_of self.now }
     {

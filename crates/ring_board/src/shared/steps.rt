@@ -13,10 +13,10 @@ use atomic_table::{Seat, Table};
 use ring_layout::word_index;
 use std::alloc::Global;
 
-/// The words of a board, as threads share them.
+/// The words of a broadcast buffer, as threads share them.
 pub type BoardTable = Table<(), View, Shape, BoardRule, Global>;
 
-/// A seat at a board's table: the transmitter's or a receiver's. It has no bytes.
+/// A seat at the table: the transmitter's or a receiver's. It has no bytes.
 pub type BoardSeat = Seat<(), View>;
 
 impl Board {

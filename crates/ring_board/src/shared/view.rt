@@ -1,15 +1,15 @@
-//! What a seat at the board's table knows. No value of these types is made, but of the shape.
+//! What a seat at the table knows. No value of these types is made, except of the shape.
 use ring_layout::Message;
 use std::collections::LinkedList;
 
-/// A transmitted message. Its transmission began at `before`, with padding up to `place`, where its record lies.
+/// A transmitted message. Its transmission began at `before`, with padding up to `place`, where its record is.
 pub struct Record {
     pub before: u64,
     pub place: u64,
     pub message: Message,
 }
 
-/// A running transmission, which is to end at `end`, with the words of the body that are stored.
+/// A transmission that is being made, which will end at `end`, with the words of the body that are stored.
 pub struct Draft {
     pub before: u64,
     pub place: u64,
@@ -17,21 +17,21 @@ pub struct Draft {
     pub words: LinkedList<u64>,
 }
 
-/// What a receiver copied, or answered unread, and how often it was lapped before.
+/// What a receiver copied, or returned unread, and the number of times it had been lapped before.
 pub struct Taken {
     pub place: u64,
     pub message: Message,
     pub count: u64,
 }
 
-/// Where a receiver that was joined had subscribed, and what it copied.
+/// The place at which a joined receiver had subscribed, and what it copied.
 pub struct Joined {
     pub from: u64,
     pub copies: LinkedList<Taken>,
 }
 
 /// A load of the buffer, with its index, a tail that was there before it and the word, or of one of the three counters.
-/// The tail is the one seen last; with the body of a record that was answered unread, the one of the moment.
+/// The tail is the last one seen; for the body of a record that was returned unread, it is the tail at that moment.
 pub enum Load {
     Word(u64, u64, u64),
     Intent(u64),
@@ -47,7 +47,7 @@ pub enum Stage {
     Idle,
     /// The intent is stored, and the padding header not yet.
     Begun(Draft),
-    /// The intent and the padding header, where there is one, are stored.
+    /// The intent and the padding header, if there is one, are stored.
     Storing(Draft),
     /// The header is stored.
     Written(Record),
@@ -61,17 +61,17 @@ pub enum Stage {
     Headed(u64),
     /// It loaded this header of a padding, and validated.
     Padded(u64),
-    /// It loaded this header behind a padding.
+    /// It loaded this header after a padding.
     Again(u64),
-    /// It loaded these words behind a validated header.
+    /// It loaded these words after a validated header.
     Reading(u64, LinkedList<u64>),
     /// A validation failed.
     Behind,
 }
 
-/// What a seat knows. The transmitter has the list `sent`, and the receivers `heard` that were joined into it. A
-/// receiver subscribed at `from`, is at `at`, where the entry `next` of that list comes next, was lapped `count` times,
-/// and has its copies. Each has a log of its loads.
+/// What a seat knows. The transmitter has the list `sent`, and the receivers that were joined into it (`heard`). A
+/// receiver subscribed at `from`, is at `at`, before the entry `next` of that list, was lapped `count` times, and has
+/// its copies. Each has a log of its loads.
 pub struct View {
     pub stage: Stage,
     pub shares: u64,
@@ -87,7 +87,7 @@ pub struct View {
     pub heard: LinkedList<Joined>,
 }
 
-/// The capacity of a board in bytes, and the position at which it began.
+/// The capacity in bytes, and the position at which the broadcast buffer began.
 #[derive(Drop)]
 pub struct Shape {
     pub capacity: u32,

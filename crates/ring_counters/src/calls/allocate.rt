@@ -23,7 +23,8 @@ use std::alloc::Global;
 fn is_ascii(label: &[u8]) -> bool
     ensures { result ≡ list_all (λ b. nat_lt b 128) label.now }
 {
-    // Every byte is looked at, so that many are at once: their union has its highest bit where one of them has.
+    // No early return, so that many bytes are tested in one instruction: the union has its highest bit set if any byte
+    // has.
     let mut union = 0;
     for byte in label {
         union |= *byte;
@@ -49,11 +50,11 @@ fn check_texts(key: &[u8], label: &[u8]) -> Result<(), AllocateRefused>
 }
 
 impl CountersManager {
-    /// Makes `count` counters, all unused, and the values that readers load. A freed id may be given again `reuse_ms`
-    /// milliseconds after it was freed.
+    /// Makes `count` counters, all unused, and the values that readers load. A freed id may be allocated again
+    /// `reuse_ms` milliseconds after it was freed.
     ///
-    /// `BadCount` comes where the count is 0 or above 4,096, `OutOfMemory` where memory is wanting. This takes all
-    /// the memory that the counters ever need.
+    /// Returns, in this order: `BadCount` if the count is 0 or above 4,096; `OutOfMemory`. This takes all the memory
+    /// that the counters ever need.
     pub fn new(
         alloc: Global,
         count: u32,
@@ -79,7 +80,7 @@ impl CountersManager {
         Ok((values, CountersManager { records, writer }))
     }
 
-    /// Gives an id to a counter without an owner, as `allocate_owned` does with the owner 0.
+    /// Allocates a counter without an owner, as `allocate_owned` does with the owner 0.
     pub fn allocate(
         &mut self,
         values: &CounterValues,
@@ -101,11 +102,12 @@ impl CountersManager {
         self.allocate_owned(values, now, type_id, key, label, registration, 0)
     }
 
-    /// Gives an id to a counter of an owner: the first freed id, in order of freeing, whose deadline is at most
-    /// `now`, else the lowest id that was never used. The counter's value is 0; a short key is followed by zeros.
+    /// Allocates a counter for an owner and returns its id: the first freed id, in order of freeing, whose deadline is
+    /// at most `now`, otherwise the lowest id that was never used. The value is 0; a short key is followed by zeros.
     ///
-    /// `KeyTooLong`, `LabelTooLong`, `LabelNotAscii` and then `NoFreeCounter` come as their names say; after them all
-    /// is as before. A key or a label is never cut.
+    /// Returns, in this order: `KeyTooLong` if the key has more than 112 bytes; `LabelTooLong` if the label has more
+    /// than 380; `LabelNotAscii` if it has a byte of 128 or more; `NoFreeCounter` if no id is free. After an error
+    /// nothing has changed. A key or a label is never cut.
     pub fn allocate_owned(
         &mut self,
         values: &CounterValues,
@@ -144,8 +146,8 @@ impl CountersManager {
 
     /// Sets the value of a counter in use.
     ///
-    /// `BadId` comes where the id is not below the number of counters, `NotAllocated` where no counter in use has it;
-    /// after them all is as before.
+    /// Returns `BadId` if the id is not below the number of counters, `NotAllocated` if no counter in use has it. After
+    /// an error nothing has changed.
     pub fn set(&mut self, values: &CounterValues, id: u32, value: i64) -> Result<(), IdFault>
         requires { IsManagerOf values.now self.old }
         ensures result { result ≡ answer (refusal_at self.old id) tt }
@@ -160,10 +162,10 @@ impl CountersManager {
         Ok(())
     }
 
-    /// Frees a counter at the moment `now`, at most 2^62 milliseconds: its id may be given again `reuse_ms` later.
+    /// Frees a counter at the moment `now`, at most 2^62 milliseconds: its id may be allocated again `reuse_ms` later.
     /// Its other words stay until then.
     ///
-    /// `BadId` and `NotAllocated` come as for `set`; after them all is as before.
+    /// Returns `BadId` and `NotAllocated` as `set` does. After an error nothing has changed.
     pub fn free(&mut self, now: u64, id: u32) -> Result<(), IdFault>
         requires { now ≤ 2 ^ 62 }
         ensures result { result ≡ answer (refusal_at self.old id) tt }
@@ -176,10 +178,10 @@ impl CountersManager {
         Ok(())
     }
 
-    /// Frees each counter in use of an owner at the moment `now`, at most 2^62 milliseconds, by rising id and each as
-    /// `free` does, and gives their number. It looks at every id that was ever used.
+    /// Frees every counter in use of an owner at the moment `now`, at most 2^62 milliseconds, by rising id and each as
+    /// `free` does, and returns their number. It looks at every id that was ever used.
     ///
-    /// `BadOwner` comes where the owner is 0, which stands for none; all is then as before.
+    /// Returns `BadOwner` if the owner is 0, which means none; nothing has changed then.
     pub fn close_owner(&mut self, now: u64, owner: u64) -> Result<u32, BadOwner>
         requires { now ≤ 2 ^ 62 }
         ensures refusal { IsErr result ↔ (owner ≡ 0) }

@@ -1,4 +1,4 @@
-//! A look at the counters in use, one after another, without memory.
+//! An iterator over the counters in use, which takes no memory.
 ghost use Rattle.std.specs.Prelude.{◌≡◌, length};
 ghost use Rattle.std.specs.Iterator.{YieldsFirst, item_count};
 ghost use Rattle.ring_counters.specs.Counter.{zero_padded};
@@ -13,7 +13,7 @@ use ring_layout::counter_descriptor::{MAX_KEY_LENGTH, MAX_LABEL_LENGTH};
 use std::iter::FusedIterator;
 use std::marker::Model;
 
-/// A counter in use, with a look at its records.
+/// A counter in use, with its records.
 #[derive(Drop)]
 pub struct LiveCounter<'a> {
     pub(crate) id: u32,
@@ -59,7 +59,7 @@ impl<'a> LiveCounter<'a> {
         self.values.registration()
     }
 
-    /// Its owner, 0 for none.
+    /// Its owner, 0 if it has none.
     pub fn owner(&self) -> u64
         ensures { result ≡ self.now.1.values.owner }
     {
@@ -73,7 +73,7 @@ impl<'a> LiveCounter<'a> {
         self.metadata.key_into(key);
     }
 
-    /// Copies its label, with zeros after it, and gives its length in bytes.
+    /// Copies its label, with zeros after it, and returns its length in bytes.
     pub fn label_into(&self, label: &mut [u8; MAX_LABEL_LENGTH]) -> usize
         ensures len { result ≡ length self.now.1.metadata.label }
         ensures label { label.new ≡ zero_padded 380 self.now.1.metadata.label }
@@ -126,9 +126,9 @@ impl<'a> Iterator for LiveCounters<'a> {
 impl<'a> FusedIterator for LiveCounters<'a> {}
 
 impl CountersManager {
-    /// Goes over the counters in use, by rising id: the same counters that `live` lists. It takes no memory, and
-    /// looks at every id that was ever used. Keys and labels are copied into the caller's buffers, where the caller
-    /// asks for them.
+    /// Iterates over the counters in use, by rising id: those that `live` lists. It takes no memory, and looks at every
+    /// id that was ever used. Keys and labels are copied into the caller's buffers, and only if the caller asks for
+    /// them.
     pub fn iter(&self) -> LiveCounters<'_>
         ensures { result ≡ live_of (registry_of self.now) }
     {

@@ -19,16 +19,16 @@ use ring_layout::counter_descriptor::{MAX_KEY_LENGTH, MAX_LABEL_LENGTH};
 use std::alloc::Global;
 
 impl CountersManager {
-    /// The number of counters that it was made with: an id is in range where it is below this.
+    /// The number of counters that it was made with. An id is in range if it is below this.
     pub fn count(&self) -> u32
         ensures { result ≡ count_of (registry_of self.now) }
     {
         self.records.count()
     }
 
-    /// The value of a counter in use.
+    /// Returns the value of a counter in use.
     ///
-    /// `BadId` comes where the id is not below the number of counters, `NotAllocated` where no counter in use has it.
+    /// Returns `BadId` if the id is not below the number of counters, `NotAllocated` if no counter in use has it.
     pub fn value(&self, id: u32) -> Result<i64, IdFault>
         ensures { result ≡ answer (refusal_at self.now id) (counter_in self.now id).values.value }
     {
@@ -36,7 +36,7 @@ impl CountersManager {
         Ok(self.records.values(id).value())
     }
 
-    /// The owner of a counter in use, 0 for none. `BadId` and `NotAllocated` come as for `value`.
+    /// Returns the owner of a counter in use, 0 if it has none. Errors as for `value`.
     pub fn owner(&self, id: u32) -> Result<u64, IdFault>
         ensures { result ≡ answer (refusal_at self.now id) (counter_in self.now id).values.owner }
     {
@@ -44,7 +44,7 @@ impl CountersManager {
         Ok(self.records.values(id).owner())
     }
 
-    /// The type that a counter in use was allocated with. `BadId` and `NotAllocated` come as for `value`.
+    /// Returns the type that a counter in use was allocated with. Errors as for `value`.
     pub fn type_id(&self, id: u32) -> Result<i32, IdFault>
         ensures { result ≡ answer (refusal_at self.now id) (counter_in self.now id).metadata.type_id }
     {
@@ -52,7 +52,7 @@ impl CountersManager {
         Ok(self.records.metadata(id).type_id())
     }
 
-    /// The registration id that a counter in use was allocated with. `BadId` and `NotAllocated` come as for `value`.
+    /// Returns the registration id that a counter in use was allocated with. Errors as for `value`.
     pub fn registration(&self, id: u32) -> Result<u64, IdFault>
         ensures { result ≡ answer (refusal_at self.now id) (counter_in self.now id).values.registration }
     {
@@ -60,16 +60,16 @@ impl CountersManager {
         Ok(self.records.values(id).registration())
     }
 
-    /// The lowest id in use with this type and registration id, `None` where there is none. It looks at every id that
-    /// was ever used.
+    /// Returns the lowest id in use with this type and registration id, `None` if there is none. It looks at every id
+    /// that was ever used.
     pub fn find(&self, type_id: i32, registration: u64) -> Option<u32>
         ensures { result ≡ registered_id (registry_of self.now) type_id registration }
     {
         self.records.find(type_id, registration)
     }
 
-    /// Copies the label of a counter in use, with zeros after it, and gives its length in bytes. `BadId` and
-    /// `NotAllocated` come as for `value`; `label` is then as before.
+    /// Copies the label of a counter in use, with zeros after it, and returns its length in bytes. Errors as for
+    /// `value`; `label` is then unchanged.
     pub fn label_into(&self, id: u32, label: &mut [u8; MAX_LABEL_LENGTH]) -> Result<usize, IdFault>
         ensures result { result ≡ answer (refusal_at self.now id) (length (counter_in self.now id).metadata.label) }
         ensures label { OnOk result (label.new ≡ zero_padded 380 (counter_in self.now id).metadata.label) }
@@ -79,8 +79,8 @@ impl CountersManager {
         Ok(self.records.metadata(id).label_into(label))
     }
 
-    /// Copies the key of a counter in use, with zeros after a short one. `BadId` and `NotAllocated` come as for
-    /// `value`; `key` is then as before.
+    /// Copies the key of a counter in use, with zeros after a short one. Errors as for `value`; `key` is then
+    /// unchanged.
     pub fn key_into(&self, id: u32, key: &mut [u8; MAX_KEY_LENGTH]) -> Result<(), IdFault>
         ensures result { result ≡ answer (refusal_at self.now id) tt }
         ensures key { OnOk result (key.new ≡ (counter_in self.now id).metadata.key) }
@@ -91,9 +91,9 @@ impl CountersManager {
         Ok(())
     }
 
-    /// The state of a record: 0 where it was never used, 1 where the counter is in use, -1 where it was freed.
+    /// Returns the state of a record: 0 if it was never used, 1 if the counter is in use, -1 if it was freed.
     ///
-    /// `BadId` comes where the id is not below the number of counters.
+    /// Returns `BadId` if the id is not below the number of counters.
     pub fn state(&self, id: u32) -> Result<i32, IdFault>
         ensures { result ≡ answer (range_refusal_at self.now id) (state_of (counter_in self.now id).metadata.status) }
     {
@@ -101,8 +101,8 @@ impl CountersManager {
         Ok(self.records.metadata(id).state())
     }
 
-    /// The moment from which an id may be given again, in milliseconds: 0 where it was never used, 2^63 - 1 where the
-    /// counter is in use. `BadId` comes as for `state`.
+    /// Returns the moment from which an id may be allocated again, in milliseconds: 0 if it was never used, 2^63 - 1 if
+    /// the counter is in use. Returns `BadId` as `state` does.
     pub fn deadline(&self, id: u32) -> Result<u64, IdFault>
         ensures { result
             ≡ answer (range_refusal_at self.now id) (deadline_of (counter_in self.now id).metadata.status) }
@@ -113,7 +113,7 @@ impl CountersManager {
 
     /// Lists the counters in use, by rising id. It looks at every id that was ever used.
     ///
-    /// `OutOfMemory` comes where memory is wanting.
+    /// Returns `OutOfMemory` if memory runs out.
     pub fn live(&self, alloc: Global) -> Result<Vec<CounterInfo>, OutOfMemory>
         ensures { IfOk result (λ infos. AreInfos infos.items (live_of (registry_of self.now))) }
     {
@@ -123,7 +123,7 @@ impl CountersManager {
         }
     }
 
-    /// The `k`-th word of an id's metadata record.
+    /// Returns word `k` of an id's metadata record.
     pub fn metadata_word(&self, id: u32, k: usize) -> u64
         requires id { id < count_of (registry_of self.now) }
         requires k { k < 64 }
@@ -132,7 +132,7 @@ impl CountersManager {
         self.records.metadata(id).word(k)
     }
 
-    /// The `k`-th word of an id's value record.
+    /// Returns word `k` of an id's value record.
     pub fn value_word(&self, id: u32, k: usize) -> u64
         requires id { id < count_of (registry_of self.now) }
         requires k { k < 16 }
@@ -143,7 +143,7 @@ impl CountersManager {
 
     /// Makes a reader of the values, for another thread. It takes one share.
     ///
-    /// `NoShares` comes where one share is left; all is then as before.
+    /// Returns `NoShares` if one share is left; nothing has changed then.
     pub fn reader(&mut self, values: &CounterValues) -> Result<ValueReader, NoShares>
         requires { IsManagerOf values.now self.old }
         ensures enough { IsOk result ↔ (1 < shares_of self.old) }
@@ -160,7 +160,8 @@ impl CountersManager {
         requires manager { IsManagerOf values.now self.old }
         requires reader { IsReaderOf values.now reader }
 
-        // What the reader loaded are values after first parts of the writes, after which the values are the registry's.
+        // What the reader loaded are values after prefixes of the writes; after all of them the values are the
+        // registry's.
         ensures loads { AreLoads (made_of reader) (loads_of reader) (writes_of self.new) }
         ensures agree { Agree (registry_of self.new) (writes_of self.new) }
         ensures shares { shares_of self.new ≡ shares_of self.old + 1 }

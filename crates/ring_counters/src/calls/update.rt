@@ -8,10 +8,10 @@ use crate::manager::CountersManager;
 use crate::values::seats::CounterValues;
 
 impl CountersManager {
-    /// Adds to the value of a counter in use, and gives the value that it had before. It is one `set`.
+    /// Adds to the value of a counter in use, and returns the value before. It is one `set`.
     ///
-    /// The sum is taken modulo 2^64: above 2^63 - 1 it goes on at -2^63, and below -2^63 at 2^63 - 1. `BadId` and
-    /// `NotAllocated` come as for `set`; after them all is as before.
+    /// The sum is taken modulo 2^64: above 2^63 - 1 it wraps to -2^63, below -2^63 to 2^63 - 1. Errors as for `set`;
+    /// nothing has changed then.
     pub fn add(&mut self, values: &CounterValues, id: u32, delta: i64) -> Result<i64, IdFault>
         requires { IsManagerOf values.now self.old }
         ensures before { result ≡ answer (refusal_at self.old id) (value_at (registry_of self.old) id) }
@@ -25,10 +25,10 @@ impl CountersManager {
         Ok(before)
     }
 
-    /// Sets the value of a counter in use where its value is below this one, and tells whether it was. It is one
-    /// `set`, or nothing.
+    /// Sets the value of a counter in use if it is below this one, and returns whether it was. It is one `set`, or
+    /// nothing.
     ///
-    /// `BadId` and `NotAllocated` come as for `set`; after them all is as before.
+    /// Errors as for `set`; nothing has changed then.
     pub fn propose_max(
         &mut self,
         values: &CounterValues,

@@ -45,7 +45,7 @@ fn store_label(words: &mut [u64], at: usize, label: &[u8])
     ensures below { (i : ℕ) → i < at → slice_index words.new i ≡ slice_index words.old i }
     ensures above { (i : ℕ) → at + (length label.now + 11) / 8 ≤ i → slice_index words.new i ≡ slice_index words.old i }
 {
-    // The label's first 4 bytes stand in one word with its length.
+    // The label's first 4 bytes are in one word with its length.
     words[at] = first_word(label) << 32 | label.len() as u64;
     store_bytes(words, at + 1, &label[label.len().min(LABEL_LENGTH_BYTES)..]);
 }
@@ -73,7 +73,7 @@ impl MetadataRecord {
         store_label(&mut self.words, LABEL_WORD, label);
     }
 
-    /// Marks the record as reclaimed. All else stays until the id is given again.
+    /// Marks the record as reclaimed. Everything else stays until the id is allocated again.
     pub(crate) fn reclaim(&mut self, deadline: u64)
         ensures { self.new ≡ record self.old { status = Reclaimed deadline } }
     {

@@ -5,8 +5,8 @@ ghost use Rattle.ring_counters.specs.Counter.{Values, unused_values, value_word}
 use ring_layout::counter_descriptor::{OWNER_ID_WORD, REGISTRATION_ID_WORD, VALUE_WORD};
 use std::marker::Model;
 
-/// A value record without the 13 words that are always 0, so that the records of many counters stand close together: a
-/// set touches nothing else of the manager's but this and a flag.
+/// A value record without the 13 words that are always 0, so that the records of many counters are close together: a
+/// set touches only this and a flag of the manager's.
 #[derive(Drop)]
 pub(crate) struct ValueRecord {
     value: i64,

@@ -1,4 +1,4 @@
-//! What each kind of step tells. These types are for the proofs alone: no value of them is made.
+//! What each kind of step says. These types are for the proofs alone: no value of them is made.
 ghost use Rattle.std.specs.Prelude.{◌≡◌, ◌+◌, ◌-◌, false, []};
 ghost use Rattle.ring_counters.specs.Views.{values_view};
 ghost use Rattle.ring_counters.specs.ValueSteps.{Loads, LearnsLoads, WritesValue};

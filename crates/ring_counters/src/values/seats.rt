@@ -26,7 +26,8 @@ pub(crate) struct ValueWriter {
     ghost some: { (0 < shares) × (shares ≤ all_shares) },
 }
 
-/// Loads values, by id, on any thread; it is used by one at a time. Nothing waits for one that is let go.
+/// Loads values by id. It is used by one thread at a time, and may move between threads. A reader may be dropped:
+/// nothing waits for it.
 #[derive(Drop)]
 pub struct ValueReader {
     pub(crate) seat: Seat<(), ValuesView>,

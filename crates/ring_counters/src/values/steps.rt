@@ -49,9 +49,10 @@ impl CounterValues {
             .store::<StoreValue>(&mut writer.seat, id as usize, value.cast_unsigned());
     }
 
-    /// Loads the value of an id: of one never used 0, of a freed one its last value. It takes one step and no memory.
+    /// Loads the value of an id: 0 if it was never used, the last value if it was freed. It takes one step and no
+    /// memory.
     ///
-    /// `BadId` comes where the id is not below the number of counters; the reader then stays as it is.
+    /// Returns `BadId` if the id is not below the number of counters; the reader is then unchanged.
     pub fn load(&self, reader: &mut ValueReader, id: u32) -> Result<i64, BadId>
         requires { IsReaderOf self.now reader.old }
         ensures reader { IsReaderOf self.now reader.new }
@@ -104,7 +105,7 @@ impl CounterValues {
         self.table
             .shared
             .join_seat::<JoinReader>(&mut writer.seat, seat);
-        // What the joined reader loaded is told by the next step alone.
+        // Only the next step says what the joined reader loaded.
         self.table.shared.load::<LearnLoads>(&mut writer.seat, 0);
         writer.shares = shares;
     }

@@ -94,15 +94,16 @@ fn command_in(type_id: i32, body: &[u8]) -> Result<Command<'_>, Bad>
     command.ok_or(Bad::Malformed { correlation })
 }
 
-/// Reads the command that the type id and the body spell. The command borrows its key and its label from the body.
+/// Decodes the command that the type id and the body encode. The command borrows its key and its label from the body.
 ///
-/// Fails with `UnknownType` where no command has the type id, and else with `Malformed` where the body spells none.
+/// Returns `UnknownType` if no command has the type id, and otherwise `Malformed` if the body is not an encoding of
+/// one.
 pub fn decode_command(type_id: i32, body: &[u8]) -> Result<Command<'_>, Bad>
-    // A command exactly where the bytes are its spelling.
+    // A command exactly if the bytes are its encoding.
     ensures found { IfOk result (λ c. Spells type_id body.now (content_of c)) }
     ensures only { (c : Instruction) → Spells type_id body.now c → IsOkAnd result (λ d. content_of d ≡ c) }
 
-    // Else the fault, with the correlation that the reply has.
+    // Otherwise the fault, with the correlation that the reply has.
     ensures bad { IfErr result (IsFaultOf (IsCommandType type_id) body.now) }
 
     // All of that as one function of the type id and the body.

@@ -77,11 +77,11 @@ fn close(out: &mut [u8], correlation: u64, owner: u64) -> Option<usize>
     write_fields(out, &[&correlation.to_le_bytes(), &owner.to_le_bytes()])
 }
 
-/// Writes the one spelling of the command over the start of the output, and says how many bytes it takes. The rest of
-/// the output is unchanged.
+/// Encodes the command at the start of the output, and returns the number of bytes. The rest of the output is
+/// unchanged.
 ///
-/// Answers `None`, and writes nothing, where the spelling does not fit, or where the key or the label is longer than
-/// 2^32 - 1 bytes.
+/// Returns `None`, and writes nothing, if the encoding does not fit, or if the key or the label is longer than 2^32 - 1
+/// bytes.
 pub fn encode_command(command: &Command, out: &mut [u8]) -> Option<usize>
     ensures { Encodes (content_of command.now) out.old out.new result }
 {

@@ -5,7 +5,7 @@ ghost use Rattle.std.specs.List.{flat_map};
 ghost use Rattle.ring_protocol.specs.Field.{u32_field};
 ghost use Rattle.ring_protocol.specs.Writing.{WritesText};
 
-/// How many bytes the fields have together, where that is no more than the limit.
+/// The total length of the fields, if it is no more than the limit.
 #[inline]
 fn joined_len(fields: &[&[u8]], limit: usize) -> Option<usize>
     ensures fits { IsSome result ↔ (length (flat_map (λ field. field.now) fields.now) ≤ limit) }
@@ -18,7 +18,7 @@ fn joined_len(fields: &[&[u8]], limit: usize) -> Option<usize>
     Some(limit - room)
 }
 
-/// Writes the fields one after the other over the start of the output, where they fit.
+/// Writes the fields one after another at the start of the output, if they fit.
 #[inline]
 pub fn write_fields(out: &mut [u8], fields: &[&[u8]]) -> Option<usize>
     ensures { WritesText (flat_map (λ field. field.now) fields.now) out.old out.new result }
@@ -32,7 +32,7 @@ pub fn write_fields(out: &mut [u8], fields: &[&[u8]]) -> Option<usize>
     Some(len)
 }
 
-/// The length of the bytes as it stands before them, where four bytes can say it.
+/// The length of the bytes as the field before them, if four bytes can hold it.
 #[tactic(auto, unfolding(crate::specs::Field::u32_field))]
 #[inline]
 pub fn len_field(bytes: &[u8]) -> Option<[u8; 4]>

@@ -62,15 +62,15 @@ fn reply_in(type_id: i32, body: &[u8]) -> Result<Reply, Bad>
     reply.ok_or(Bad::Malformed { correlation })
 }
 
-/// Reads the reply that the type id and the body spell.
+/// Decodes the reply that the type id and the body encode.
 ///
-/// Fails with `UnknownType` where no reply has the type id, and else with `Malformed` where the body spells none.
+/// Returns `UnknownType` if no reply has the type id, and otherwise `Malformed` if the body is not an encoding of one.
 pub fn decode_reply(type_id: i32, body: &[u8]) -> Result<Reply, Bad>
-    // A reply exactly where the bytes are its spelling.
+    // A reply exactly if the bytes are its encoding.
     ensures found { IfOk result (Spells type_id body.now) }
     ensures only { (reply : Reply) → Spells type_id body.now reply → result ≡ Ok reply }
 
-    // Else the fault, with the correlation in the body.
+    // Otherwise the fault, with the correlation in the body.
     ensures bad { IfErr result (IsFaultOf (IsReplyType type_id) body.now) }
 
     // All of that as one function of the type id and the body.

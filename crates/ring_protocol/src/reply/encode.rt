@@ -5,8 +5,8 @@ ghost use Rattle.ring_protocol.specs.Writing.{EncodesReply};
 use super::Reply;
 use crate::fields::write::write_fields;
 
-/// Writes the one spelling of the reply over the start of the output, and says how many bytes it takes: 8 for a
-/// `Done`, and else 12. The rest of the output is unchanged.
+/// Encodes the reply at the start of the output, and returns the number of bytes: 8 for a `Done`, otherwise 12. The
+/// rest of the output is unchanged.
 pub fn encode_reply(reply: &Reply, out: &mut [u8; 12]) -> usize
     ensures { EncodesReply reply.now out.old out.new result }
 {

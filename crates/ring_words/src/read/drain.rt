@@ -23,8 +23,8 @@ impl Handler for Ignore {
 }
 
 impl SoloRing {
-    /// Takes all messages that can be read, and says how many they were. An open claim stays, and all behind it; where
-    /// there is none, all messages are counted, and the ring is empty afterwards.
+    /// Takes all messages that can be read, and returns their number. An open claim stays, with everything after it. If
+    /// no claim is open, all messages are counted and the ring is empty afterwards.
     pub fn drain(&mut self) -> u32
         ensures drained { (h : List Claim) → Has self.old h → Drains h result self.new }
         ensures whole { (h : List Claim) → Has self.old h → AllSettled h

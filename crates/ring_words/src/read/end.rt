@@ -3,22 +3,22 @@
 /// Why a read stopped.
 #[derive(Clone, Copy, Debug, PartialEq, Eq)]
 pub enum Stop {
-    /// As many messages were read as were wanted.
+    /// The read took the number of messages that it was limited to.
     Limit,
-    /// The end of the buffer was reached: the next read goes on behind it.
+    /// The end of the buffer was reached. The next read goes on after it.
     Block,
     /// There is no settled record at the head.
     Unpublished,
-    /// The handler answered `Abort` or `Break`.
+    /// The handler returned `Abort` or `Break`.
     Action,
 }
 
 /// What a read did.
 #[derive(Clone, Copy, Debug, PartialEq, Eq)]
 pub struct ReadEnd {
-    /// How many messages were consumed.
+    /// The number of messages consumed.
     pub messages: u32,
-    /// By how many bytes the head moved.
+    /// The number of bytes by which the head moved.
     pub bytes: u64,
     pub stopped: Stop,
 }

@@ -1,4 +1,4 @@
-//! Who takes the messages of a read.
+//! What a read shows its messages to.
 ghost use Rattle.ring_layout.specs.declared.message.Message.{Message};
 ghost use Rattle.ring_words.specs.declared.read.action.Action.{Action as Answer};
 
@@ -6,13 +6,13 @@ use crate::read::action::Action;
 
 /// Takes the messages of a read, one after another.
 pub trait Handler {
-    /// The states in which it may be called. Each call keeps it.
+    /// The states in which the handler may be called. Each call keeps it.
     ghost ready: { Self → Type 0 } = { λ _. Unit {0} };
 
-    /// What a call does: the state before, the message, the state after, and the action answered.
+    /// What a call does: the state before, the message, the state after, and the action returned.
     ghost step: { Self → Message → Self → Answer → Type 0 };
 
-    /// Is shown a message, whose body stands in a copy, and answers what the read is to do.
+    /// Receives a copy of a message, and returns what the read does next.
     fn on_message(&mut self, type_id: i32, body: &[u8]) -> Action
         requires { ready self.old }
         ensures kept { ready self.new }

@@ -74,7 +74,7 @@ pub(crate) fn show_at_head<H: Handler>(
     handler.on_message(settled.type_id, body)
 }
 
-/// Clears the settled record or padding at the head, moves the head behind it, and answers the new head.
+/// Clears the settled record or padding at the head, moves the head past it, and returns the new head.
 pub(crate) fn take_at_head(words: &mut [u64], capacity: u32, head: u64, settled: Settled) -> u64
     requires ring { IsRingAt (ring capacity words.old) head }
     requires seen { (h : List Claim) → Has (ring capacity words.old) h

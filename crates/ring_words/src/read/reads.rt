@@ -28,7 +28,7 @@ impl SoloRing {
         settled_at_head(&self.words, self.capacity, head)
     }
 
-    /// Shows the message at the head to the handler. Answers its action, or `Continue` where that is not heeded.
+    /// Shows the message at the head to the handler. Returns its action, or `Continue` if the read does not heed it.
     fn show<H: Handler>(
         &mut self,
         head: u64,
@@ -57,7 +57,7 @@ impl SoloRing {
         .heard(heeds)
     }
 
-    /// Passes the settled record or padding at the head, and answers the new head.
+    /// Passes the settled record or padding at the head, and returns the new head.
     fn pass(&mut self, head: u64, settled: Settled) -> u64
         requires head { head ≡ head_of self.old }
         requires seen { (h : List Claim) → Has self.old h → Sees self.old h (Some settled) }
@@ -135,12 +135,11 @@ impl SoloRing {
         }
     }
 
-    /// Reads at most `limit` messages, and takes every action of the handler as `Continue`. The handler is shown each
-    /// message in a copy.
+    /// Reads at most `limit` messages, and takes every action of the handler as `Continue`. The handler is shown a copy
+    /// of each message.
     ///
-    /// It stops with `Limit` where `limit` messages were read, else with `Block` where it came to the end of the
-    /// buffer, else with `Unpublished` where no settled record lies at the head. What it passes is set to 0, and then
-    /// the head moves.
+    /// Stops with `Limit` after `limit` messages, otherwise with `Block` at the end of the buffer, otherwise with
+    /// `Unpublished` if no settled record is at the head. What it passes is set to 0, and then the head moves.
     pub fn read<H: Handler>(&mut self, limit: u32, handler: &mut H) -> ReadEnd
         requires { H.ready handler.old }
         ensures ready { H.ready handler.new }
@@ -152,9 +151,9 @@ impl SoloRing {
         self.run(limit, false, handler)
     }
 
-    /// Reads as `read` does, and goes on behind the end of the buffer: where the first read stops with `Block`, a
-    /// second one follows, and no third. So `Unpublished` tells that no settled record lies at the head, and it stops
-    /// with `Block` only where it went from one end of the buffer to the next.
+    /// Reads as `read` does, and goes on past the end of the buffer: if the first read stops with `Block`, a second one
+    /// follows, and no third. So `Unpublished` says that no settled record is at the head, and `Block` only that the
+    /// read went from one end of the buffer to the next.
     pub fn read_across<H: Handler>(&mut self, limit: u32, handler: &mut H) -> ReadEnd
         requires { H.ready handler.old }
         ensures ready { H.ready handler.new }
@@ -175,8 +174,8 @@ impl SoloRing {
     }
 
     /// Reads as `read` does, and heeds the handler's actions: `Abort` leaves the message and stops, `Break` takes it
-    /// and stops, both with `Action`; `Commit` and `Continue` go on. Padding and aborted records that were passed
-    /// before a message is left stay passed.
+    /// and stops, both with `Action`; `Commit` and `Continue` go on. Padding and aborted records passed before a
+    /// message that is left stay passed.
     pub fn controlled_read<H: Handler>(&mut self, limit: u32, handler: &mut H) -> ReadEnd
         requires { H.ready handler.old }
         ensures ready { H.ready handler.new }

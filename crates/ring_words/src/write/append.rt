@@ -1,4 +1,4 @@
-//! Storing a record behind the tail.
+//! Storing a record after the tail.
 ghost use Rattle.std.specs.Prelude.{◌≡◌, ℕ, ◌+◌, ◌-◌, ◌*◌, ◌/◌, ◌%◌, ◌^◌, ◌<◌, ◌≤◌, pos, neg_ℤ, ◌≤ℤ◌, length, slice_index, slice_set};
 ghost use Rattle.ring_layout.specs.History.{span};
 ghost use Rattle.ring_layout.specs.Places.{IsCapacity, index, next_place};
@@ -27,7 +27,7 @@ fn store_headers(words: &mut [u64], capacity: u32, admission: Admission, header:
     words[word_index(capacity, place)] = header;
 }
 
-/// Appends an open claim to the words of a ring. The words behind the tail are 0, and so is its body.
+/// Appends an open claim to the words of a ring. The words after the tail are 0, and so is its body.
 pub(crate) fn append_claim(
     words: &mut [u64],
     capacity: u32,

@@ -36,7 +36,7 @@ fn new_claim(capacity: u32, admission: Admission, type_id: i32, len: usize) -> S
 }
 
 impl SoloRing {
-    /// Tests whether a record fits, and says where it goes.
+    /// Tests whether a record fits, and returns where it goes.
     fn admit(&self, type_id: i32, len: usize) -> Result<Admission, ClaimFault>
         ensures refused { IsRefusedBy (refusal_of self.now type_id len) result }
         ensures type_id { OnOk result (pos 1 ≤ℤ type_id) }
@@ -60,11 +60,11 @@ impl SoloRing {
         Ok(admission)
     }
 
-    /// Writes a message: it is claimed, stored and committed.
+    /// Writes a message: claims room, stores it and commits it.
     ///
-    /// It refuses, in this order, with `BadType` a type id below 1, with `TooLong` a body of more than an eighth of the
-    /// capacity, with `PositionLimit` a record that would end above 2^62, and with `InsufficientCapacity` one that does
-    /// not fit. Then nothing is changed.
+    /// Returns, in this order: `BadType` if the type id is below 1; `TooLong` if the body has more than an eighth of
+    /// the capacity in bytes; `PositionLimit` if the record would end above 2^62; `InsufficientCapacity` if it does not
+    /// fit. After an error nothing has changed.
     pub fn write(&mut self, type_id: i32, body: &[u8]) -> Result<(), ClaimFault>
         ensures refused { IsRefusedBy (refusal_of self.old type_id (length body.now)) result }
         ensures same { OnErr result (self.new ≡ self.old) }
@@ -76,8 +76,8 @@ impl SoloRing {
         Ok(())
     }
 
-    /// Claims room for a message of `len` bytes, which are 0 until they are `put`. It refuses as `write` does. Several
-    /// claims may be open at once.
+    /// Claims room for a message of `len` bytes, which are 0 until they are `put`. The errors are those of `write`.
+    /// Several claims may be open at once.
     pub fn claim(&mut self, type_id: i32, len: usize) -> Result<SoloClaim, ClaimFault>
         ensures refused { IsRefusedBy (refusal_of self.old type_id len) result }
         ensures same { OnErr result (self.new ≡ self.old) }
@@ -92,8 +92,8 @@ impl SoloRing {
         Ok(new_claim(self.capacity, admission, type_id, len))
     }
 
-    /// Puts bytes into an open claim of this ring, from the byte `offset` of its body on. It refuses bytes that do not
-    /// lie inside the body, and then nothing is changed.
+    /// Puts bytes into an open claim of this ring, from byte `offset` of its body on. Returns `PutRange` if they are
+    /// not inside the body; nothing has changed then.
     pub fn put(
         &mut self,
         claim: &mut SoloClaim,

@@ -1,4 +1,4 @@
-//! What the receivers' steps tell. A load of a counter tells that the step was one of that counter's word.
+//! What the receivers' steps say. A load of a counter says that the step was one of that counter's word.
 ghost use Rattle.std.specs.Prelude.{◌≡◌};
 ghost use Rattle.ring_board.specs.Layout.{intent_index, tail_index, latest_index};
 ghost use Rattle.ring_board.specs.ReceiverSteps.{LoadsTail, LoadsHeader, LoadsWord, LoadsIntent, AnswersEntry, LoadsLatest, LoadsUnread, ChecksAnswered};
@@ -34,21 +34,21 @@ impl Play<(), View> for LoadIntent {
     ghost then = { λ st m x m'. LoadsIntent m x m' × (st.word ≡ intent_index m.0.capacity) };
 }
 
-/// The intent is loaded, to validate a header that is answered unread.
+/// The intent is loaded, to validate a header that is returned unread.
 pub struct AnswerEntry;
 
 impl Play<(), View> for AnswerEntry {
     ghost then = { λ st m x m'. AnswersEntry m x m' × (st.word ≡ intent_index m.0.capacity) };
 }
 
-/// A word of the body of an answered record is loaded.
+/// A word of the body of a returned record is loaded.
 pub struct LoadUnread;
 
 impl Play<(), View> for LoadUnread {
     ghost then = { λ st m x m'. LoadsUnread st.word m x m' };
 }
 
-/// The intent is loaded, to validate what was loaded of an answered record.
+/// The intent is loaded, to validate what was loaded of a returned record.
 pub struct CheckAnswered;
 
 impl Play<(), View> for CheckAnswered {

@@ -1,4 +1,4 @@
-//! What the steps tell that cut a seat in two or put two together.
+//! What the steps say that cut a seat in two or put two together.
 ghost use Rattle.ring_board.specs.Views.{fewer, newcomer, joined, spent};
 
 use crate::shared::view::View;

@@ -1,4 +1,4 @@
-//! What the transmitter's steps tell.
+//! What the transmitter's steps say.
 ghost use Rattle.std.specs.Prelude.{◌≡◌};
 ghost use Rattle.ring_board.specs.Layout.{latest_index};
 ghost use Rattle.ring_board.specs.TransmitterSteps.{StoresIntent, StoresPadding, StoresWord, StoresHeader, StoresLatest, StoresTail, Learns};

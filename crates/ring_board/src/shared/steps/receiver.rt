@@ -28,7 +28,7 @@ impl Board {
             .load::<LoadTail>(seat, self.trailer_index(TAIL_COUNTER_WORD))
     }
 
-    /// Loads the next header: at the receiver's place, or behind padding there.
+    /// Loads the next header: at the receiver's place, or after padding there.
     pub(crate) fn load_header(&self, seat: &mut BoardSeat, place: u64) -> u64
         requires seat { IsSeatOf self.now seat.old }
         requires place { IsHeaderPlace seat.old.me.0 place }
@@ -64,7 +64,7 @@ impl Board {
             .load::<LoadIntent>(seat, self.trailer_index(TAIL_INTENT_COUNTER_WORD))
     }
 
-    /// Loads the intent, to validate the header of an entry that is then answered unread.
+    /// Loads the intent, to validate the header of an entry that is then returned unread.
     pub(crate) fn answer_entry(&self, seat: &mut BoardSeat) -> u64
         requires seat { IsSeatOf self.now seat.old }
         requires stage { (w : ℕ) × IsUnread w seat.old.me.0.stage }
@@ -76,7 +76,7 @@ impl Board {
             .load::<AnswerEntry>(seat, self.trailer_index(TAIL_INTENT_COUNTER_WORD))
     }
 
-    /// Loads a word of the body of a record that was answered unread.
+    /// Loads a word of the body of a record that was returned unread.
     pub(crate) fn load_unread(&self, seat: &mut BoardSeat, at: usize) -> u64
         requires seat { IsSeatOf self.now seat.old }
         requires stage { seat.old.me.0.stage ≡ Resting }
@@ -87,7 +87,7 @@ impl Board {
         self.table.shared.load::<LoadUnread>(seat, at)
     }
 
-    /// Loads the intent, to validate a record that was answered unread.
+    /// Loads the intent, to validate a record that was returned unread.
     pub(crate) fn check_answered(&self, seat: &mut BoardSeat) -> u64
         requires seat { IsSeatOf self.now seat.old }
         requires stage { (seat.old.me.0.stage ≡ Resting) × (seat.old.me.0.capacity ≡ self.now.capacity) }

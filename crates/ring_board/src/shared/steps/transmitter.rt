@@ -23,7 +23,7 @@ use ring_layout::broadcast_buffer_descriptor::{
 use ring_layout::first_word;
 
 impl Board {
-    /// Stores the intent: a transmission begins that is to end at `end`.
+    /// Stores the intent: a transmission begins that will end at `end`.
     pub(crate) fn store_intent(&self, seat: &mut BoardSeat, end: u64)
         requires seat { IsSeatOf self.now seat.old }
         requires idle { seat.old.me.0.stage ≡ Idle }
@@ -102,7 +102,7 @@ impl Board {
             .store::<StoreTail>(seat, self.trailer_index(TAIL_COUNTER_WORD), tail);
     }
 
-    /// Stores a body behind the place of its record.
+    /// Stores a body after the place of its record.
     pub(crate) fn store_body(&self, seat: &mut BoardSeat, place: u64, body: &[u8])
         requires seat { IsSeatOf self.now seat.old }
         requires stage { (d : Draft) × (seat.old.me.0.stage ≡ Storing d) × (d.words ≡ []) × (d.place ≡ place)

@@ -19,7 +19,7 @@ stored_on old words bytes at k word fits is before = record {
       ∙ before.above i (omega arith);
 }
 
--- a word is told by its eight bytes
+-- a word is given by its eight bytes
 word_of_eight : (n : ℕ) (bytes : List ℕ) → n ≡ 8 → from_le_bytes w64 (take n bytes) ≡ from_le_bytes w64 bytes
 word_of_eight n bytes is = from_le_bytes-same (take n bytes) bytes (λ i lt. get_or-take n bytes i 0 (omega arith))
 

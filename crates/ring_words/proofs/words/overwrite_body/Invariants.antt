@@ -3,7 +3,7 @@ use Rattle.ring_layout.specs.History.{overwritten}
 use Rattle.ring_layout.specs.Bytes.{HoldsBytes}
 use Rattle.ring_words.proofs.words.overwrite_body.Given as goal
 
--- the first bytes are put, and nothing else is changed
+-- the first bytes are put, and no others are changed
 pub record Puts (old new bytes : List ℕ) (at offset done : ℕ) : Type 0 where
   pub most : done ≤ length bytes
   pub inside : (body : List ℕ) → All (λ b. b < 256) body → offset + length bytes ≤ length body → HoldsBytes old at body

@@ -86,7 +86,7 @@ turns-smaller g c =
     let moves = (turns-preserved g c).0.0.moves in
     omega (arith, on, moves.within)
 
--- the read ends behind the message that was shown
+-- the read ends after the message that was shown
 broken : (g : Over) (c : After-read_end-in-Break g)
     → Broke (heeded c.args.heeds g.H.Handler.step) c.args.limit c.args.self.now c.pass-head-in-Break.new.self
     c.args.handler.now c.show.new.handler c.read_end-in-Break.result
