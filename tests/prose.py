@@ -1,0 +1,137 @@
+"""What tests/documents asks of prose: paths that exist, plain words, and not too many of them."""
+import fnmatch
+import os
+import re
+import subprocess
+
+TOP = os.path.dirname(os.path.dirname(os.path.abspath(__file__)))
+MOST_WORDS = 60000
+MOST_WORDS_OF_README = 1000
+MOST_LINES_OF_README = 120
+PLACEHOLDER = r"(^|[/_])(NAME|CRATE|X|FILE|FUNCTION|MODULE|TYPE|DIR|PATH)([/_.]|$)"
+ENDINGS = r"[\w}]\.(?:rt|antt|md|py|svg|c|h|hpp|rs|ring|out|edit|txt|toml)$"
+COMMENT = {".rt": r"^\s*//[/!]? ?(.*)", ".antt": r"^\s*-- ?(.*)"}
+
+
+def read(path):
+    with open(os.path.join(TOP, path), encoding="utf-8") as file:
+        return file.read()
+
+
+def tracked():
+    """Every file of the repository, and every folder that has one."""
+    listed = subprocess.run(["git", "ls-files", "-co", "--exclude-standard"], cwd=TOP, stdout=subprocess.PIPE, check=True)
+    files = [path for path in listed.stdout.decode().split("\n") if path and os.path.exists(os.path.join(TOP, path))]
+    folders = {path[:at] for path in files for at in range(len(path)) if path[at] == "/"}
+    return files, folders
+
+
+def generated(path):
+    return path.endswith("/CALLING.md")
+
+
+def without_code(text):
+    """The lines of a page with their numbers, but for blocks of code."""
+    in_code = False
+    for number, line in enumerate(text.split("\n"), 1):
+        fence = line.startswith("```")
+        if not in_code and not fence and not line.startswith("    "):
+            yield number, line
+        in_code ^= fence
+
+
+def expanded(path):
+    """`a/{b,c}.rt` as two paths."""
+    group = re.search(r"\{([^{}]*)\}", path)
+    if group is None:
+        return [path]
+    return [one for part in group.group(1).split(",") for one in
+            expanded(path[:group.start()] + part + path[group.end():])]
+
+
+def is_path(word, tops):
+    """Whether a word in backticks names a file or folder of the repository, and no placeholder such as `X/out`."""
+    if not re.fullmatch(r"[\w./{},*-]+", word) or word.startswith(("/", "../")) or ".." in word:
+        return False
+    if re.search(PLACEHOLDER, word):
+        return False
+    first = word.split("/")[0]
+    return bool(re.search(ENDINGS, word)) or ("/" in word and first in tops)
+
+
+class Places:
+    def __init__(self):
+        files, folders = tracked()
+        self.all = set(files) | folders
+        self.tops = {path.split("/")[0] for path in files if "/" in path} | set(os.listdir(os.path.join(TOP, "crates")))
+        self.tops |= {"src", "specs", "proofs"}
+
+    def has(self, path):
+        path = path[2:] if path.startswith("./") else path
+        ends = [path, path + ".antt", path + ".rt"]
+        if any(sign in path for sign in "*["):
+            return any(fnmatch.fnmatch("/" + place, "*/" + path) for place in self.all)
+        return any(place == end or place.endswith("/" + end) for end in ends for place in self.all)
+
+
+def check_paths(report, page, text, places):
+    for number, line in without_code(text):
+        for quoted in re.findall(r"`([^`]+)`", line):
+            for word in quoted.split():
+                if is_path(word, places.tops):
+                    for path in expanded(word.rstrip(".,/")):
+                        report.need("%s:%d" % (page, number), "out" in path.split("/") or places.has(path),
+                                    "nothing is at `%s`" % path)
+
+
+class Words:
+    """The list in tests/words: what to write instead, where, and the lines that are right as they are."""
+
+    def __init__(self):
+        self.words, self.exceptions, self.later = [], set(), []
+        for line in read("tests/words").split("\n"):
+            kind, _, rest = line.partition(" ")
+            if kind in ("word", "in-documents"):
+                pattern, _, instead = rest.strip().partition(" -> ")
+                self.words.append((re.compile(r"\b(?:%s)\b" % pattern.strip(), re.I), instead, kind == "word"))
+            elif kind == "right":
+                self.exceptions.add(rest.strip())
+            elif kind == "later":
+                self.later.append(rest.strip())
+
+    def check(self, report, path, lines, in_comments):
+        if path.startswith(tuple(self.later)):
+            return
+        for number, line in lines:
+            plain = re.sub(r"`[^`]*`", "", line)
+            for pattern, instead, everywhere in self.words:
+                found = pattern.search(plain) if everywhere or not in_comments else None
+                if found and "%s: %s" % (path, line.strip()) not in self.exceptions:
+                    report.need("%s:%d" % (path, number), False, "%r: write %s" % (found.group(0), instead))
+
+
+def comments(path):
+    pattern = re.compile(COMMENT[os.path.splitext(path)[1]])
+    in_picture = False
+    for number, line in enumerate(read(path).split("\n"), 1):
+        found = pattern.match(line)
+        if found:
+            in_picture ^= found.group(1).startswith("```")
+            if not in_picture:
+                yield number, found.group(1)
+
+
+def check_comments(report, words):
+    files, _folders = tracked()
+    for path in files:
+        if os.path.splitext(path)[1] in COMMENT:
+            words.check(report, path, comments(path), True)
+
+
+def check_counts(report, pages):
+    counts = {page: len(read(page).split()) for page in pages if not generated(page)}
+    total = sum(counts.values())
+    report.need("documents", total <= MOST_WORDS, "%d words, and at most %d are wanted" % (total, MOST_WORDS))
+    readme = read("README.md")
+    report.need("README.md", counts["README.md"] <= MOST_WORDS_OF_README, "%d words" % counts["README.md"])
+    report.need("README.md", readme.count("\n") <= MOST_LINES_OF_README, "%d lines" % readme.count("\n"))
