@@ -1,203 +1,243 @@
 #!/usr/bin/env python3
-"""Writes what sets of bench/run gave into a page and a picture: page.py PAGE PICTURE SET..
+"""Writes what is in bench/results.json into the documents.
 
-Each SET is a file of `bench/run --json SET`. The tables go between the two marks of PAGE; PICTURE is an SVG with the
-ratios of each row. A ratio is the median over the rounds of a set; its bar goes over all rounds of all sets.
-
-page.py --c PAGE SET.. writes what programs in C got, from sets measured with FELTER, between two marks of its own."""
-import json
-import math
+  bench/page.py                        docs/PERFORMANCE.md, its pictures, bench/RESULTS.md and the rows in README.md
+  bench/page.py --check                writes nothing: tells what would change, with status 1 if anything would
+  bench/page.py --keep RUN SET.. [--twins TEXT]
+                                       first keeps sets of `bench/run --json SET` as the run RUN: sets, queues or felter
+"""
+import argparse
+import os
 import statistics
 import sys
 import textwrap
 
-BEGIN, END = "<!-- the tables: begin -->", "<!-- the tables: end -->"
-BEGIN_C, END_C = "<!-- from C: begin -->", "<!-- from C: end -->"
-RINGS = (("one owner", "ours-solo", "o2o"), ("one-to-one", "ours-o2o", "o2o"), ("many-to-one", "ours-m2o", "m2o"))
-SIZES = (8, 32, 128, 1024)
+sys.dont_write_bytecode = True
+sys.path.insert(0, os.path.dirname(os.path.abspath(__file__)))
+import pictures
+import results
+from rows import (C_ROWS, CURVES, LENGTH_ROWS, OTHER_ROWS, PERCENTILES, README_ROWS, SECTIONS, USER_ROWS, USER_QUEUES,
+                  twin_of)
 
-
-def of_sizes(rings, workload, sizes, threads=1):
-    return [("%s, %d bytes" % (name, size), workload, ours, twin, size, threads, "ns")
-            for name, ours, twin in rings for size in sizes]
-
-
-# Title, and for each row: label, workload, who is ours, the twins' name, bytes, threads, metric
-SECTIONS = (
-    ("One thread, batches of 16 written and read: ns a message", of_sizes(RINGS, "W1", SIZES)),
-    ("The same with bodies of which every other word is 0: ns a message", of_sizes(RINGS, "sparse", SIZES[1:])),
-    ("One producer thread, one consumer thread: ns a message", of_sizes(RINGS[1:], "W2", SIZES)),
-    ("Several producers, one consumer: ns a message",
-     [("%d producers, %d bytes" % (threads, size), "W3", "ours-m2o", "m2o", size, threads, "ns")
-      for threads in (2, 4) for size in (8, 64)]),
-    ("A command to the conductor and its reply back: ns",
-     [("%s, %s" % (name, said), "W4", ours, twin, 20, 1, metric) for name, ours, twin in RINGS[1:]
-      for said, metric in (("mean", "mean"), ("p50", "p50"), ("p99", "p99"), ("p99.9", "p999"))]),
-    ("One transmitter, two receivers: ns a transmission",
-     [("board, %d bytes" % size, "W5", "ours-board", "board", size, 2, "ns") for size in (64, 1024)]),
-    ("Counters: ns",
-     [(said, "W6", "ours-counters", "counters", 8, 2, metric) for said, metric in (
-         ("allocate and free", "alloc_free"), ("get", "get"), ("set", "set"),
-         ("set that two threads watch", "set_watched"))]),
-    ("Storms: ns a command",
-     [("%d client%s%s" % (n, "" if n == 1 else "s", said), "W7", "ours-storm", "storm", 20, n, metric)
-      for said, metric in (("", "ns"), (", whole call", "whole")) for n in (1, 2, 4, 16, 64)]),
-)
-# The same through felter.h: label, workload, who calls it, the plain calls, bytes, threads, metric
-C_RINGS = tuple(("%s, %s" % (name, said), "felter-%s%s" % (ring, ending), "ours-%s" % ring)
-                for name, ring in (("one-to-one", "o2o"), ("many-to-one", "m2o"))
-                for said, ending in (("read", ""), ("read in batches", "-batch")))
-C_ROWS = (
-    [("one thread, %s, %d bytes" % (name, size), "W1", c, plain, size, 1, "ns")
-     for name, c, plain in C_RINGS for size in SIZES]
-    + [("two threads, %s, %d bytes" % (name, size), "W2", c, plain, size, 1, "ns")
-       for name, c, plain in C_RINGS for size in SIZES]
-    + [("4 producers, %s, %d bytes" % (name, size), "W3", c, plain, size, 4, "ns")
-       for name, c, plain in C_RINGS[2:] for size in (8, 64)]
-    + [("a command and its reply, %s" % said, "W4", "felter-m2o", "ours-m2o", 20, 1, metric)
-       for said, metric in (("mean", "mean"), ("p50", "p50"), ("p99", "p99"))])
-# What ours alone is measured by, and what of the twins stands beside it
-BESIDE = {"whole": "ns"}
-
-
-class Set:
-    """What one run of bench/run measured."""
-
-    def __init__(self, path):
-        with open(path) as it:
-            read = json.load(it)
-        self.about = read["about"]
-        self.values = {(r["workload"], r["contender"], r["size"], r["threads"], r["metric"]): r["values"]
-                       for r in read["results"]}
-
-    def rounds(self, row, twin):
-        """Ours by a twin's, round by round."""
-        _, workload, ours, name, size, threads, metric = row
-        mine = self.values.get((workload, ours, size, threads, metric))
-        its = self.values.get((workload, "%s-%s" % (name, twin), size, threads, BESIDE.get(metric, metric)))
-        return [a / b for a, b in zip(mine, its)] if mine and its else []
-
-    def median(self, row, contender):
-        _, workload, ours, _, size, threads, metric = row
-        metric = metric if contender == ours else BESIDE.get(metric, metric)
-        found = self.values.get((workload, contender, size, threads, metric))
-        return statistics.median(found) if found else None
+TOP = os.path.dirname(os.path.dirname(os.path.abspath(__file__)))
+NONE = "–"
 
 
 def number(value):
-    return "" if value is None else "%.0f" % value if value >= 1000 else "%.3g" % value
+    if value is None:
+        return NONE
+    return f"{value:,.0f}" if value >= 1000 else f"{value:.3g}"
 
 
-def middle(values):
-    known = [it for it in values if it is not None]
-    return statistics.median(known) if known else None
+def times(found):
+    """A ratio with its spread: the median of the sets, and of these the least and the greatest."""
+    if not found:
+        return NONE
+    every = found["sets"]
+    middle = statistics.median(every)
+    if len(every) == 1:
+        return f"{middle:.2f} ({found['low']:.2f}–{found['high']:.2f})"
+    return f"{middle:.2f} ({min(every):.2f}–{max(every):.2f})"
 
 
-def table(rows, sets):
-    yield "|  | ours | `sc` | ours / `sc`, set by set | `ar` | ours / `ar`, set by set |"
-    yield "|---|---|---|---|---|---|"
-    for row in rows:
-        if not any(it.rounds(row, "sc") for it in sets):
-            continue
-        cells = [row[0], number(middle(it.median(row, row[2]) for it in sets))]
-        for twin in ("sc", "ar"):
-            cells.append(number(middle(it.median(row, "%s-%s" % (row[3], twin)) for it in sets)))
-            ratios = [it.rounds(row, twin) for it in sets]
-            cells.append(", ".join("%.2f" % statistics.median(it) for it in ratios if it))
-        yield "| %s |" % " | ".join(cells)
+def table(head, lines):
+    yield "| " + " | ".join(head) + " |"
+    yield "|" + "---|" * len(head)
+    for cells in lines:
+        yield "| " + " | ".join(cells) + " |"
 
 
-def against(it, row, other):
-    """A row's contender by another, round by round."""
-    _, workload, mine, _, size, threads, metric = row
-    its = [it.values.get((workload, who, size, threads, metric)) for who in (mine, other)]
-    return [a / b for a, b in zip(*its)] if all(its) else []
+def about(run, what):
+    it = run.about
+    others = ", ".join(f"{median:g} and {worst:g}" for median, worst in it["others"])
+    steal = ", ".join(f"{median:g} and {worst:g}" for median, worst in it["steal"])
+    sets = f"{it['sets']} sets" if it["sets"] > 1 else "one set"
+    fifo = ", with `--fifo`" if it["fifo"] else ""
+    words = (f"{what}: {it['cpu']}, {it['cores']} processors, a virtual machine, Linux {it['kernel']}; {sets} of "
+             f"{it['reps']} rounds{fifo}; twins: {it['twins']}. Processors that other programs used in each set, "
+             f"median and worst: {others}; that the host took: {steal}.")
+    return textwrap.fill(words, 120).split("\n")
 
 
-def table_c(sets):
-    yield "|  | from C | plain | from C / plain, set by set | from C / `sc` | from C / `ar` |"
-    yield "|---|---|---|---|---|---|"
-    for row in C_ROWS:
-        name, _, mine, plain = row[:4]
-        if not any(against(it, row, plain) for it in sets):
-            continue
-        cells = [name] + [number(middle(it.median(row, who) for it in sets)) for who in (mine, plain)]
-        for other in (plain, plain.replace("ours-", "") + "-sc", plain.replace("ours-", "") + "-ar"):
-            ratios = [against(it, row, other) for it in sets]
-            cells.append(", ".join("%.2f" % statistics.median(it) for it in ratios if it))
-        yield "| %s |" % " | ".join(cells)
+def user_cells(runs, row):
+    """A row of what users would pick: ours, and each queue, all in times `ar`."""
+    label, point, ours, queues = row
+    workload, size, threads, metric = point
+    twin = twin_of(ours) + "-ar"
+    cells = [label, number(runs["sets"].ns(workload, ours, size, threads, metric)),
+             times(runs["sets"].against(twin, workload, ours, size, threads, metric))]
+    for name, _ in USER_QUEUES:
+        found = [runs["queues"].against(twin, workload, queue, size, threads, metric) for queue in queues.get(name, ())]
+        cells.append(times(next((it for it in found if it), None)))
+    return cells
 
 
-def about(sets):
-    first = sets[0].about
-    taken = ", ".join("%s and %s" % (it.about["others_median"], it.about["others_worst"]) for it in sets)
-    stolen = ", ".join("%s and %s" % (it.about["steal_median"], it.about["steal_worst"]) for it in sets)
-    return ("Machine: %s, %d processors, Linux %s. %d sets of %d rounds, medians%s. Processors that other programs used "
-            "in each set, median and worst: %s; that the host took: %s."
-            % (first["cpu"], first["cores"], first["kernel"], len(sets), first["reps"],
-               ", with `--fifo`" if first["fifo"] else "", taken, stolen))
+def users(runs):
+    yield from about(runs["sets"], "Ours")
+    yield ""
+    yield from about(runs["queues"], "Queues")
+    yield ""
+    yield from table(["times `ar`", "ours, ns", "ours", *(title for _, title in USER_QUEUES)],
+                     [user_cells(runs, row) for row in USER_ROWS])
 
 
-def picture(sets):
-    """The ratios of all rows on a logarithmic scale: a dot for the sets' median, a bar over all rounds."""
-    left, width, high = 230, 560, 16
-    least, most = 0.125, 64.0
-    at = lambda ratio: left + width * math.log(min(max(ratio, least), most) / least) / math.log(most / least)
-    lines, y = [], 40
+def limit(runs):
+    run = runs["sets"]
+    lines = []
+    for label, workload, ours, sizes in LENGTH_ROWS:
+        twin = twin_of(ours) + "-sc"
+        lines.append([label] + [times(run.against(twin, workload, ours, size, 1, "ns")) if size in sizes else NONE
+                                for size in (8, 32, 128, 1024)])
+    yield from table(["times `sc`", "8 bytes", "32", "128", "1,024"], lines)
+    yield ""
+    lines = []
+    for label, workload, ours, size, threads, metric in OTHER_ROWS:
+        key = (workload, ours, size, threads, metric)
+        lines.append([label, number(run.ns(*key)), *(times(run.against(f"{twin_of(ours)}-{twin}", *key))
+                                                     for twin in ("sc", "ar"))])
+    yield from table(["", "ours, ns", "times `sc`", "times `ar`"], lines)
+
+
+def readme(runs):
+    lines = []
+    for label, point, ours, queues in README_ROWS:
+        workload, size, threads, metric = point
+        twin = twin_of(ours) + "-ar"
+        key = (workload, ours, size, threads, metric)
+        cells = [label, number(runs["sets"].ns(*key)), times(runs["sets"].against(twin, *key))]
+        for queue in queues:
+            cells.append(times(queue and runs["queues"].against(twin, workload, queue, size, threads, metric)))
+        lines.append(cells)
+    yield from table(["", "ns", "ours / `ar`", "Rust's queue / `ar`", "Java's queue / `ar`"], lines)
+
+
+def all_rows(runs):
+    """RESULTS.md: every row, set by set."""
+    yield "# All rows"
+    yield ""
+    yield "Written by `bench/page.py` from `bench/results.json`; [PERFORMANCE.md](../docs/PERFORMANCE.md) is the page."
+    yield ""
+    yield from about(runs["sets"], "Machine")
+    yield ""
     for title, rows in SECTIONS:
-        lines.append('<text x="8" y="%d" font-weight="bold">%s</text>' % (y, title))
-        y += high
-        for row in rows:
-            drawn = False
-            for twin, colour, lift in (("sc", "#1f5fa8", -3), ("ar", "#c2571a", 3)):
-                rounds = [it.rounds(row, twin) for it in sets]
-                every = [ratio for it in rounds for ratio in it]
-                if not every:
-                    continue
-                drawn = True
-                dot = statistics.median(statistics.median(it) for it in rounds if it)
-                lines.append('<line x1="%.1f" y1="%d" x2="%.1f" y2="%d" stroke="%s" stroke-width="3" opacity="0.4"/>'
-                             % (at(min(every)), y + lift - 4, at(max(every)), y + lift - 4, colour))
-                lines.append('<circle cx="%.1f" cy="%d" r="3" fill="%s"/>' % (at(dot), y + lift - 4, colour))
-            if drawn:
-                lines.append('<text x="24" y="%d">%s</text>' % (y, row[0]))
-                y += high
-        y += 6
-    ticks = [0.125, 0.25, 0.5, 1, 2, 4, 8, 16, 32, 64]
-    grid = ['<line x1="%.1f" y1="26" x2="%.1f" y2="%d" stroke="%s"/><text x="%.1f" y="20" text-anchor="middle">%g</text>'
-            % (at(t), at(t), y - 12, "#000" if t == 1 else "#ddd", at(t), t) for t in ticks]
-    key = ('<text x="8" y="%d"><tspan fill="#1f5fa8">ours / sc</tspan>, <tspan fill="#c2571a">ours / ar</tspan>: '
-           'dots are medians, bars go over all rounds; 1 is as fast as the twin, less is faster</text>' % (y + 6))
-    head = ('<svg xmlns="http://www.w3.org/2000/svg" width="%d" height="%d" font-family="sans-serif" font-size="11">'
-            % (left + width + 24, y + 20))
-    return "\n".join([head, '<rect width="100%" height="100%" fill="#fff"/>', *grid, *lines, key, "</svg>"]) + "\n"
+        yield "## " + title
+        yield ""
+        yield from table(["", "ours", "`sc`", "ours / `sc`, set by set", "`ar`", "ours / `ar`, set by set"],
+                         [row_cells(runs["sets"], row) for row in rows])
+        yield ""
+    yield "## From C, through felter.h"
+    yield ""
+    yield from about(runs["felter"], "Machine")
+    yield ""
+    yield from table(["", "from C", "plain", "from C / plain", "from C / `sc`", "from C / `ar`"],
+                     [c_cells(runs["felter"], row) for row in C_ROWS])
 
 
-def put(page, begin, end, made):
-    """Puts lines between two marks of a page."""
-    with open(page) as it:
-        before, rest = it.read().split(begin)
-    behind = rest.split(end)[1]
-    with open(page, "w") as it:
-        it.write(before + begin + "\n\n" + "\n".join(made) + "\n" + end + behind)
+def set_by_set(found):
+    return ", ".join(f"{it:.2f}" for it in found["sets"]) if found else NONE
+
+
+def row_cells(run, row):
+    label, workload, ours, size, threads, metric = row
+    key, cells = (workload, ours, size, threads, metric), []
+    for twin in ("sc", "ar"):
+        other = f"{twin_of(ours)}-{twin}"
+        cells += [number(run.ns(workload, other, size, threads, metric)), set_by_set(run.against(other, *key))]
+    return [label, number(run.ns(*key)), *cells]
+
+
+def c_cells(run, row):
+    label, workload, mine, plain, size, threads, metric = row
+    key = (workload, mine, size, threads, metric)
+    others = (plain, twin_of(plain) + "-sc", twin_of(plain) + "-ar")
+    return [label, number(run.ns(*key)), number(run.ns(workload, plain, size, threads, metric)),
+            *(set_by_set(run.against(other, *key)) for other in others)]
+
+
+def ratio_picture(runs):
+    sections = []
+    for title, rows in SECTIONS:
+        drawn = []
+        for label, workload, ours, size, threads, metric in rows:
+            key, bars = (workload, ours, size, threads, metric), []
+            for twin in ("sc", "ar"):
+                found = runs["sets"].against(f"{twin_of(ours)}-{twin}", *key)
+                if found:
+                    bars.append((twin, statistics.median(found["sets"]), found["low"], found["high"]))
+            drawn.append((label, bars))
+        sections.append((title, drawn))
+    return pictures.ratios(sections, (("sc", "ours / sc"), ("ar", "ours / ar")))
+
+
+def curve(run, title, below, ticks, lines):
+    """A panel of those lines that have two points or more."""
+    series = []
+    for name, colour, dash, keys in lines:
+        points = [(x, run.ns(*key)) for x, key in keys]
+        points = [(x, ns) for x, ns in points if ns]
+        if len(points) > 1:
+            series.append((name, colour, dash, points))
+    shown = [tick for tick in ticks if any(x == tick[0] for *_, points in series for x, _ in points)]
+    return title, below, shown, series
+
+
+def made(runs):
+    """Each file that is written whole, and what comes between two marks of a page: {path: text or [(mark, lines)]}."""
+    files = {"bench/RESULTS.md": "\n".join(all_rows(runs)) + "\n",
+             "docs/performance/ratios.svg": ratio_picture(runs),
+             "docs/PERFORMANCE.md": [("users", users(runs)), ("limit", limit(runs))],
+             "README.md": [("performance", readme(runs))]}
+    for name, panels in CURVES.items():
+        files[f"docs/performance/{name}.svg"] = pictures.curves([curve(runs["sets"], *panel) for panel in panels])
+    return files
+
+
+def between(text, path, mark, lines):
+    """A page with lines put between two marks."""
+    begin, end = f"<!-- {mark}: begin -->", f"<!-- {mark}: end -->"
+    if text.count(begin) != 1 or text.count(end) != 1:
+        sys.exit(f"bench/page.py: {path} has not one of each: {begin} {end}")
+    before, _, rest = text.partition(begin)
+    return before + begin + "\n" + "\n".join(lines) + "\n" + end + rest.partition(end)[2]
+
+
+def read(path):
+    try:
+        with open(os.path.join(TOP, path), encoding="utf-8") as file:
+            return file.read()
+    except FileNotFoundError:
+        return ""
 
 
 def main():
-    is_c = sys.argv[1:2] == ["--c"]
-    words = sys.argv[1 + is_c:]
-    if len(words) < 3 - is_c:
-        sys.exit(__doc__)
-    page, sets = words[0], [Set(it) for it in words[2 - is_c:]]
-    made = [textwrap.fill(about(sets), 120), ""]
-    if is_c:
-        put(page, BEGIN_C, END_C, made + [*table_c(sets), ""])
-        return
-    for title, rows in SECTIONS:
-        made += ["## " + title, "", *table(rows, sets), ""]
-    put(page, BEGIN, END, made)
-    with open(words[1], "w") as it:
-        it.write(picture(sets))
+    ask = argparse.ArgumentParser(prog="bench/page.py", description=__doc__,
+                                  formatter_class=argparse.RawDescriptionHelpFormatter)
+    ask.add_argument("--check", action="store_true")
+    ask.add_argument("--keep", nargs="+", metavar="RUN SET", default=[])
+    ask.add_argument("--twins", default="those of bench/twins")
+    options = ask.parse_args()
+    runs = results.load()
+    if options.keep:
+        runs[options.keep[0]] = results.run_of_sets(options.keep[1:], options.twins)
+        results.save(runs)
+    stale = []
+    for path, wanted in made(runs).items():
+        had = read(path)
+        if not isinstance(wanted, str):
+            text = had
+            for mark, lines in wanted:
+                text = between(text, path, mark, lines)
+            wanted = text
+        if wanted != had:
+            stale.append(path)
+            if not options.check:
+                os.makedirs(os.path.dirname(os.path.join(TOP, path)), exist_ok=True)
+                with open(os.path.join(TOP, path), "w", encoding="utf-8") as file:
+                    file.write(wanted)
+    for path in stale:
+        print(f"{path}: {'is not what bench/page.py writes' if options.check else 'written'}")
+    return 1 if stale and options.check else 0
 
 
 if __name__ == "__main__":
-    main()
+    sys.exit(main())

@@ -1,4 +1,4 @@
-/* Measures what felter.h offers: a worker for bench/run, which speaks the line protocol of the folder of peers.
+/* Measures what felter.h offers: a worker for bench/run, which speaks the line protocol of bench/README.md.
  *
  *     list                                          the workloads and contenders: has WORKLOAD CONTENDER
  *     run W CONTENDER SIZE CAPACITY THREADS MS      one measurement of some MS milliseconds: ns 42.5
@@ -16,8 +16,8 @@
 #include <string.h>
 #include <time.h>
 
-/* The workloads, as the peers name them: batches of one thread, and those of which every other word is 0; two threads;
- * several producers; a command and its reply. */
+/* The workloads, by the names of bench/README.md: batches of one thread, and those of which every other word is 0; two
+ * threads; several producers; a command and its reply. */
 #define BATCHES "W1"
 #define SPARSE "sparse"
 #define PAIR "W2"
@@ -39,7 +39,7 @@ static uint64_t now_ns(void) {
     return (uint64_t)at.tv_sec * 1000000000u + (uint64_t)at.tv_nsec;
 }
 
-/* The rest between two tries, as every worker of the peers has it: 64 pauses, then the processor is given away. */
+/* The rest between two tries, as every worker has it: 64 pauses, then the processor is given away. */
 static void rest(unsigned *turns) {
     if (++*turns <= 64) __builtin_ia32_pause();
     else sched_yield();

@@ -1,0 +1,127 @@
+/* Messages through a ring: in batches of one thread, and from producers to a consumer on threads of their own. */
+#include "ring.h"
+#include "worker.h"
+
+#define BATCH 16
+
+/* The body of a message: sevens, of which, if it is sparse, every other word is 0 but for the first and the last. */
+static void fill_body(uint8_t *body, const struct request *request) {
+    memset(body, 7, MAX_BODY);
+    if (strcmp(request->workload, "sparse") != 0) return;
+    for (uint32_t k = 8; k + 8 < request->size; k += 16) memset(body + k, 0, 8);
+}
+
+/* One thread ------------------------------------------------------------------------------------------------------- */
+
+struct sum {
+    uint64_t of, count;
+};
+
+static void add(void *with, int32_t type, const uint8_t *body, uint32_t len) {
+    struct sum *sum = with;
+    (void)type;
+    sum->of += look(body, len);
+    sum->count++;
+}
+
+static void write_batch(struct ring *ring, const struct request *request, uint8_t *body, uint64_t from,
+                        uint64_t count) {
+    for (uint64_t number = from; number < from + count; number++) {
+        memcpy(body, &number, 8);
+        if (ring_write(ring, request->is_for_one, MESSAGE, body, request->size)) wrong("a write was refused");
+    }
+}
+
+uint64_t run_batches(const struct request *request, uint64_t times) {
+    struct ring ring;
+    ring_open(&ring, request->capacity, 0);
+    uint8_t body[MAX_BODY];
+    fill_body(body, request);
+    struct sum sum = {0, 0};
+    uint64_t began = now_ns();
+    for (uint64_t written = 0; written < times;) {
+        uint64_t count = times - written < BATCH ? times - written : BATCH;
+        write_batch(&ring, request, body, written, count);
+        written += count;
+        for (int turns = 0; sum.count < written; turns++) {
+            ring_read(&ring, LIMIT, add, &sum);
+            if (turns > 1000000) wrong("a message was lost");
+        }
+    }
+    uint64_t took = now_ns() - began;
+    if (sum.of != times * (times - 1) / 2) wrong("other messages were read");
+    ring_close(&ring);
+    return took;
+}
+
+/* Threads ---------------------------------------------------------------------------------------------------------- */
+
+/* A producer's part. The first word of a message has the producer in its upper 16 bits, and a number below. */
+struct producer {
+    const struct request *request;
+    struct ring *ring;
+    atomic_bool *go;
+    uint64_t id, messages;
+    pthread_t thread;
+};
+
+static void *produce(void *with) {
+    struct producer *producer = with;
+    const struct request *request = producer->request;
+    uint8_t body[MAX_BODY];
+    fill_body(body, request);
+    while (!atomic_load(producer->go)) sched_yield();
+    for (uint64_t number = 0; number < producer->messages; number++) {
+        uint64_t word = producer->id << 48 | number;
+        memcpy(body, &word, 8);
+        unsigned turns = 0;
+        while (ring_write(producer->ring, request->is_for_one, MESSAGE, body, request->size)) rest(&turns);
+    }
+    return NULL;
+}
+
+/* The number of the next message of each producer. */
+struct order {
+    uint64_t next[MAX_THREADS];
+    bool is_broken;
+};
+
+static void follow(void *with, int32_t type, const uint8_t *body, uint32_t len) {
+    struct order *order = with;
+    (void)type;
+    uint64_t word = look(body, len), id = word >> 48;
+    order->is_broken |= id >= MAX_THREADS || order->next[id % MAX_THREADS]++ != (word & 0xffffffffffff);
+}
+
+static void consume(struct ring *ring, uint64_t messages) {
+    struct order order = {{0}, false};
+    unsigned turns = 0;
+    for (uint64_t got = 0; got < messages;) {
+        uint32_t came = ring_read(ring, LIMIT, follow, &order);
+        got += came;
+        if (came) turns = 0;
+        else rest(&turns);
+    }
+    if (order.is_broken) wrong("another order");
+}
+
+uint64_t run_flow(const struct request *request, uint64_t times) {
+    struct ring ring;
+    ring_open(&ring, request->capacity, 0);
+    struct producer producers[MAX_THREADS];
+    atomic_bool go = false;
+    uint64_t given = 0;
+    for (uint32_t id = 0; id < request->threads; id++) {
+        uint64_t share = (times - given) / (request->threads - id);
+        producers[id] = (struct producer){request, &ring, &go, id, share, 0};
+        start_thread(&producers[id].thread, produce, &producers[id]);
+        given += share;
+    }
+    uint64_t began = now_ns();
+    atomic_store(&go, true);
+    consume(&ring, times);
+    uint64_t took = now_ns() - began;
+    for (uint32_t id = 0; id < request->threads; id++) pthread_join(producers[id].thread, NULL);
+    ring_close(&ring);
+    return took;
+}

@@ -1,0 +1,196 @@
+/* The many-to-one and the one-to-one ring. */
+#ifndef TWINS_RING_H
+#define TWINS_RING_H
+
+#include "steps.h"
+
+#include <stdbool.h>
+
+struct ring {
+    uint8_t *words;   /* the buffer and the trailer */
+    uint8_t *bodies;  /* where bodies lie: the same, or a block of their own */
+    uint8_t *scratch; /* the consumer's copy of a body */
+    uint64_t capacity;
+    _Alignas(APART) uint64_t own_tail; /* of the producer of a one-to-one ring */
+    _Alignas(APART) uint64_t own_head; /* of the consumer */
+};
+
+/* What a handler of a controlled read answers. */
+enum action { ACT_ABORT, ACT_BREAK, ACT_COMMIT, ACT_CONTINUE };
+
+typedef void (*handler)(void *with, int32_t type, const uint8_t *body, uint32_t len);
+typedef enum action (*controller)(void *with, int32_t type, const uint8_t *body, uint32_t len);
+
+static inline void ring_open(struct ring *ring, uint64_t capacity, uint64_t start) {
+    memset(ring, 0, sizeof *ring);
+    ring->words = zeroed(capacity + RING_TRAILER);
+    ring->bodies = HAS_BODIES_APART ? zeroed(capacity) : ring->words;
+    ring->scratch = zeroed(capacity / 8 + 8);
+    ring->capacity = capacity;
+    ring->own_tail = ring->own_head = start;
+    static const int positions[] = {RING_TAIL, RING_CACHED_HEAD, RING_HEAD};
+    for (int k = 0; k < 3; k++) memcpy(ring->words + capacity + positions[k], &start, 8);
+}
+
+static inline void ring_close(struct ring *ring) {
+    free(ring->words);
+    if (HAS_BODIES_APART) free(ring->bodies);
+    free(ring->scratch);
+}
+
+static inline uint8_t *in_trailer(const struct ring *ring, int field) {
+    return ring->words + ring->capacity + field;
+}
+
+/* What a record would take: the padding before it and its span, from a tail on. */
+struct room {
+    uint64_t tail, padding, span;
+};
+
+static inline uint64_t end_of(const struct room *room) {
+    return room->tail + room->padding + room->span;
+}
+
+static inline struct room room_at(const struct ring *ring, uint64_t tail, uint32_t len) {
+    uint64_t to_end = ring->capacity - (tail & (ring->capacity - 1));
+    uint64_t span = span_of(HEADER + (uint64_t)len);
+    return (struct room){tail, span > to_end ? to_end : 0, span};
+}
+
+/* Tests whether a record fits. Sums are compared and no differences, since a head may lie beyond a tail that was loaded
+ * long before it; then the tail is no longer the ring's, and the exchange that follows fails. */
+static inline int find_room(const struct ring *ring, const struct room *room) {
+    if (end_of(room) > LAST_POSITION) return POSITION_LIMIT;
+    if (end_of(room) <= load(in_trailer(ring, RING_CACHED_HEAD)) + ring->capacity) return 0;
+    uint64_t head = load(in_trailer(ring, RING_HEAD));
+    if (end_of(room) > head + ring->capacity) return INSUFFICIENT_CAPACITY;
+    store(in_trailer(ring, RING_CACHED_HEAD), head);
+    return 0;
+}
+
+static inline int test_message(uint64_t capacity, int32_t type, uint32_t len) {
+    if (type < 1) return BAD_TYPE;
+    return len > capacity / 8 ? TOO_LONG : 0;
+}
+
+/* Stores the headers of what was claimed, and returns the index of the body. */
+static inline int64_t open_record(struct ring *ring, const struct room *room, int32_t type, uint32_t len) {
+    uint64_t index = room->tail & (ring->capacity - 1);
+    if (room->padding) {
+        settle_header(ring->words + index, (int32_t)room->padding, PADDING);
+        index = 0;
+    }
+    open_header(ring->words + index, (int32_t)(HEADER + len), type);
+    return (int64_t)(index + HEADER);
+}
+
+/* Claims a record of a ring of many producers: the index of its body, or a refusal. */
+static inline int64_t claim_of_many(struct ring *ring, int32_t type, uint32_t len) {
+    int refusal = test_message(ring->capacity, type, len);
+    if (refusal) return refusal;
+    uint8_t *word = in_trailer(ring, RING_TAIL);
+    for (;;) {
+        struct room room = room_at(ring, load(word), len);
+        refusal = find_room(ring, &room);
+        if (refusal) return refusal;
+        uint64_t tail = room.tail;
+        if (__atomic_compare_exchange_n((uint64_t *)word, &tail, end_of(&room), 0, __ATOMIC_SEQ_CST, __ATOMIC_SEQ_CST))
+            return open_record(ring, &room, type, len);
+    }
+}
+
+/* The same of a ring of one producer, who alone moves the tail. */
+static inline int64_t claim_of_one(struct ring *ring, int32_t type, uint32_t len) {
+    int refusal = test_message(ring->capacity, type, len);
+    if (refusal) return refusal;
+    struct room room = room_at(ring, ring->own_tail, len);
+    refusal = find_room(ring, &room);
+    if (refusal) return refusal;
+    ring->own_tail = end_of(&room);
+    store(in_trailer(ring, RING_TAIL), ring->own_tail);
+    return open_record(ring, &room, type, len);
+}
+
+static inline int64_t ring_claim(struct ring *ring, bool is_for_one, int32_t type, uint32_t len) {
+    return is_for_one ? claim_of_one(ring, type, len) : claim_of_many(ring, type, len);
+}
+
+static inline void ring_commit(struct ring *ring, int64_t index, int32_t type, uint32_t len) {
+    settle_header(ring->words + index - HEADER, (int32_t)(HEADER + len), type);
+}
+
+static inline void ring_abort(struct ring *ring, int64_t index, uint32_t len) {
+    settle_header(ring->words + index - HEADER, (int32_t)(HEADER + len), PADDING);
+}
+
+/* Writes a message: 0, or a refusal. */
+static inline int ring_write(struct ring *ring, bool is_for_one, int32_t type, const uint8_t *body, uint32_t len) {
+    int64_t index = ring_claim(ring, is_for_one, type, len);
+    if (index < 0) return (int)index;
+    put_body(ring->bodies + index, body, len);
+    ring_commit(ring, index, type, len);
+    return 0;
+}
+
+/* Gives what was passed back to the producers. */
+static inline void give_back(struct ring *ring, uint64_t index, uint64_t bytes) {
+    clear_block(ring->words + index, bytes);
+    ring->own_head += bytes;
+    store(in_trailer(ring, RING_HEAD), ring->own_head);
+}
+
+static inline const uint8_t *body_at(const struct ring *ring, uint64_t index, uint32_t len) {
+    return show_body(ring->bodies + index + HEADER, ring->scratch, len);
+}
+
+/* Reads at most `limit` messages, up to the end of the buffer, and returns how many. */
+static inline uint32_t ring_read(struct ring *ring, uint32_t limit, handler on, void *with) {
+    uint64_t index = ring->own_head & (ring->capacity - 1), block = ring->capacity - index, bytes = 0;
+    uint32_t messages = 0;
+    while (bytes < block && messages < limit) {
+        uint64_t at = index + bytes;
+        struct header header = load_header(ring->words + at);
+        if (header.length <= 0) break;
+        if (header.type != PADDING) {
+            uint32_t len = (uint32_t)header.length - HEADER;
+            on(with, header.type, body_at(ring, at, len), len);
+            messages++;
+        }
+        pass_record(ring->words + at);
+        bytes += span_of((uint32_t)header.length);
+    }
+    if (bytes) give_back(ring, index, bytes);
+    return messages;
+}
+
+/* The same with a handler that answers each message by an action. */
+static inline uint32_t ring_controlled_read(struct ring *ring, uint32_t limit, controller on, void *with) {
+    uint64_t index = ring->own_head & (ring->capacity - 1), block = ring->capacity - index, bytes = 0, given = 0;
+    uint32_t messages = 0;
+    enum action action = ACT_CONTINUE;
+    while (bytes < block && messages < limit && action != ACT_BREAK) {
+        uint64_t at = index + bytes;
+        struct header header = load_header(ring->words + at);
+        if (header.length <= 0) break;
+        if (header.type != PADDING) {
+            uint32_t len = (uint32_t)header.length - HEADER;
+            action = on(with, header.type, body_at(ring, at, len), len);
+            if (action == ACT_ABORT) break;
+            messages++;
+        }
+        pass_record(ring->words + at);
+        bytes += span_of((uint32_t)header.length);
+        if (action == ACT_COMMIT) {
+            give_back(ring, index + given, bytes - given);
+            given = bytes;
+        }
+    }
+    if (bytes > given) give_back(ring, index + given, bytes - given);
+    return messages;
+}
+
+static inline uint64_t next_correlation_id(struct ring *ring) {
+    return __atomic_fetch_add((uint64_t *)in_trailer(ring, RING_CORRELATION), 1, __ATOMIC_SEQ_CST);
+}
+
+#endif
