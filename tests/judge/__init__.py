@@ -1,0 +1,7 @@
+"""Judges wrong bodies: many edits of one crate are put into one copy of it, and one check tells of each what it came to.
+
+functions   the functions of a source file, as `rt fmt` lays it out
+edits       an edit, and which edits may be tried together
+log         what a check said of each function
+checks      copies of the crates, checks in them, and a queue of checks
+"""

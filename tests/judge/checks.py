@@ -1,0 +1,180 @@
+"""Runs checks in copies of the crates, so that nothing in the repository changes but what was built."""
+import collections
+import concurrent.futures
+import hashlib
+import os
+import re
+import shutil
+import subprocess
+import sys
+import tempfile
+import threading
+import time
+
+from .edits import read, replaced
+from .log import Log
+
+TOP = os.path.dirname(os.path.dirname(os.path.dirname(os.path.realpath(__file__))))
+KEPT = os.path.join(os.environ.get("XDG_CACHE_HOME") or os.path.expanduser("~/.cache"), "felter-wrong-bodies")
+SOURCES = ("src", "specs", "proofs")
+# What a check takes of the memory at most, in kB.
+NEEDS = 3_000_000
+
+
+def free_memory():
+    return int(re.search(r"^MemAvailable:\s+(\d+)", read("/proc/meminfo"), re.M)[1])
+
+
+class Run:
+    """The crates, and what the checks of this run took."""
+
+    def __init__(self, logs=None):
+        self.logs, self.seconds = logs, collections.Counter()
+        rows = [line for line in read(f"{TOP}/crates.txt").splitlines(True) if re.match(r"\w", line)]
+        self.lines = {re.match(r"\w+", line)[0]: line for line in rows}
+        self.starting, self.running = threading.Lock(), 0
+
+    def deps(self, crate):
+        return [it for it in self.lines[crate].partition(":")[2].split() if it in self.lines]
+
+    def all_below(self, crate):
+        """Returns the crate and all that it depends on."""
+        return {crate, *(it for dep in self.deps(crate) for it in self.all_below(dep))}
+
+    def sum_of(self, crate, *folders):
+        """Returns a sum of all that the verdicts on a crate's edits depend on."""
+        said = subprocess.run(["rt", "version"], stdout=subprocess.PIPE, check=True).stdout
+        parts = [f"{TOP}/tests/judge", *(f"{TOP}/crates/{crate}/{it}" for it in folders)]
+        parts += [f"{TOP}/crates/{it}/{part}" for it in sorted(self.all_below(crate)) for part in SOURCES]
+        total = hashlib.sha256(said)
+        for part in parts:
+            for at, inner, files in os.walk(part):
+                inner[:] = sorted(it for it in inner if it != "__pycache__")
+                for it in sorted(files):
+                    total.update(repr((os.path.relpath(f"{at}/{it}", TOP), read(f"{at}/{it}"))).encode())
+        return f"{crate}-{total.hexdigest()}"
+
+    def copy(self, crate, edits, room):
+        """Copies the crate with these edits, and what was built of it and of those below. Returns its folder."""
+        own = f"{room}/crates/{crate}"
+        for it in self.all_below(crate):
+            for part in (*SOURCES, "out/incremental" if it == crate else "out/rlib"):
+                if os.path.isdir(f"{TOP}/crates/{it}/{part}"):
+                    shutil.copytree(f"{TOP}/crates/{it}/{part}", f"{room}/crates/{it}/{part}")
+        with open(f"{room}/crates.txt", "w", encoding="utf-8") as it:
+            it.writelines(self.lines[name] for name in sorted(self.all_below(crate)))
+        for file in {change[0] for edit in edits for change in edit.changes}:
+            changes = [change[1:] for edit in edits for change in edit.changes if change[0] == file]
+            text = replaced(read(f"{own}/{file}"), changes)
+            with open(f"{own}/{file}", "w", encoding="utf-8") as it:
+                it.write(text)
+        return own
+
+    def wait_for_memory(self):
+        """Returns once there is memory for one more check, or no other check of this run is left to wait for."""
+        with self.starting:
+            while self.running and free_memory() < NEEDS:
+                time.sleep(2)
+            self.running += 1
+
+    def rt(self, crate, words, edits, label):
+        """Runs rt in a copy of the crate that has these edits, and keeps what a build made."""
+        self.wait_for_memory()
+        try:
+            with tempfile.TemporaryDirectory(prefix="wrong-bodies-") as room:
+                own = self.copy(crate, edits, room)
+                began = time.time()
+                log, seconds = self.ran(crate, words, own, f"{self.logs or room}/{crate}-{label}.log")
+                if not edits and log.status == 0:
+                    keep(crate, own, began)
+        finally:
+            self.running -= 1
+        self.seconds[crate] += seconds
+        spent = f"{seconds:.0f} s of processor, {time.time() - began:.0f} s"
+        print(f"{crate}: {label}: {len(edits)} edits, {spent}", flush=True)
+        has_said = log.is_verdict or re.search(r"\berror(\[|:)", log.text)
+        if not has_said if edits else log.status:
+            sys.exit(f"{sys.argv[0]}: rt {words[0]} of {crate} ended with status {log.status}: {log.text[-600:]}")
+        return log
+
+    def ran(self, crate, words, folder, path):
+        """Runs rt in a folder. Returns what it said, and its seconds of processor."""
+        with open(path, "w+", errors="replace", encoding="utf-8") as said:
+            done = subprocess.Popen(["rt", *words], cwd=folder, stdin=subprocess.DEVNULL, stdout=said, stderr=subprocess.STDOUT)
+            _, ended, used = os.wait4(done.pid, 0)
+            said.seek(0)
+            return Log(crate, said.read(), os.waitstatus_to_exitcode(ended)), used.ru_utime + used.ru_stime
+
+    def build(self, crate):
+        self.rt(crate, ["lib", "--jobs", "1"], [], "build")
+
+    def judge(self, crate, edits, label):
+        """Settles these edits by as few checks as it takes."""
+        log = self.rt(crate, ["check", "--jobs", "1"], edits, label)
+        if len(edits) == 1:
+            edits[0].settle(*log.verdict_alone(edits[0]))
+            return
+        for number, part in enumerate(self.parts_left(crate, edits, label, log)):
+            self.judge(crate, part, f"{label}.{number}")
+
+    def parts_left(self, crate, edits, label, log):
+        """Settles what a check of several edits decides, and returns the rest as it is tried next."""
+        halves = [edits[::2], edits[1::2]]
+        if not log.is_verdict:
+            # those whose line the front end names are tried apart
+            named = [it for it in edits if any(line in log.text for line in it.lines)]
+            others = [it for it in edits if it not in named]
+            return [*([it] for it in named), others] if named and others else halves
+        leaks = {*log.own} - {log.find(target) for it in edits for target in it.targets}
+        if leaks:
+            why = f"{' '.join(sorted(leaks))}: {log.own[min(leaks)][0][:200]}"
+            print(f"{crate}: {label}: no edit changes what fails: {why}", flush=True)
+            return halves
+        for it in edits:
+            it.settle(*log.verdict(it))
+        undecided = [it for it in edits if it.verdict == "undecided"]
+        # (the functions that they call are whole again, but for their own edits)
+        return [undecided] if 0 < len(undecided) < len(edits) else [[it] for it in undecided]
+
+
+def keep(crate, own, began):
+    """Moves what a build made into the repository's out/."""
+    for it in ("incremental", "rlib", f"lib{crate}.a"):
+        made, to = f"{own}/out/{it}", f"{TOP}/crates/{crate}/out/{it}"
+        if os.path.exists(made):
+            # (./build --stands compares times: a source that was changed meanwhile is newer)
+            os.utime(f"{made}/stamp" if it == "rlib" else made, (began, began))
+            os.makedirs(os.path.dirname(to), exist_ok=True)
+            shutil.rmtree(to, ignore_errors=True)
+            shutil.move(made, to)
+
+
+def builds(run, crates):
+    """Returns a task for each of these crates and of those below that builds it, if it is not built."""
+    tasks = {}
+    for crate in {below for it in crates for below in run.all_below(it)}:
+        is_built = subprocess.run([f"{TOP}/build", "--stands", crate], stdout=subprocess.DEVNULL).returncode == 0
+        files = [f"{at}/{it}" for at, _, names in os.walk(f"{TOP}/crates/{crate}/src") for it in names]
+        seconds = 0 if is_built else sum(len(read(it)) for it in files) / 300
+        call = (lambda: None,) if is_built else (run.build, crate)
+        tasks[crate, "build"] = ([(it, "build") for it in run.deps(crate)], seconds, *call)
+    return tasks
+
+
+def in_turn(tasks, jobs):
+    """Makes calls, so many at once, each after those that it waits for, and first those that the most waits for.
+
+    A task is the keys that it waits for, its seconds as far as they are known, a function and its arguments.
+    """
+    def after(key):
+        return tasks[key][1] + max((after(it) for it in tasks if key in tasks[it][0]), default=0)
+
+    left, running, ended = sorted(tasks, key=after, reverse=True), {}, set()
+    with concurrent.futures.ThreadPoolExecutor(jobs) as pool:
+        while left or running:
+            for key in [it for it in left if ended.issuperset(tasks[it][0])][: jobs - len(running)]:
+                left.remove(key)
+                running[pool.submit(*tasks[key][2:])] = key
+            for it in concurrent.futures.wait(running, return_when=concurrent.futures.FIRST_COMPLETED).done:
+                it.result()
+                ended.add(running.pop(it))

@@ -1,0 +1,91 @@
+"""Finds the functions of a source file."""
+import re
+from dataclasses import dataclass
+
+# The head of a function, and that of an impl, a trait or a macro.
+HEAD = re.compile(r"(?:pub(?:\([\w: ]+\))? )?(?:(?:const|unsafe|extern \"C\") )*fn (\w+)")
+OWNER = re.compile(
+    r"(?:pub(?:\([\w: ]+\))? )?(?:unsafe )?(impl|trait|macro_rules!)(?:<(?:[^<>]|<[^<>]*>)*>)? (.*?)(?: where\b.*| \{|$)"
+)
+TYPE = re.compile(r"(?:\w+::)*(\w*)<?(.*?)>?$")
+
+
+@dataclass(frozen=True)
+class Function:
+    """A function of a source file, and how a check names it."""
+
+    name: str  # `f`, or `Type::f`
+    pattern: re.Pattern  # of the name that a check prints
+    module: str  # the path of its module, with that of the crate first
+    argument: str  # what its name has more than that of the same function in another impl
+    cycle: str  # the cycle of calls that it belongs to, or ""
+    begin: int  # where its body begins in the file, and where it ends
+    end: int
+
+    def key(self):
+        """Returns what two functions share that one check cannot tell apart."""
+        return self.cycle or (self.module, self.begin)
+
+
+def functions_of(crate, file, text):
+    """Returns the functions of a file that `rt fmt` laid out: a block ends at a brace of its own depth."""
+    path = "::".join([crate, *re.sub(r"^src/|(\b(mod|lib|main))?\.rt$", "", file).strip("/").split("/")])
+    path = path.removesuffix("::")
+    lines = text.split("\n")
+    depths = [len(it) - len(it.lstrip()) if it.strip() else 999 for it in lines]
+    places = [0]
+    for it in lines:
+        places.append(places[-1] + len(it) + 1)
+    found, owners = [], []
+    for at, line in enumerate(lines):
+        head, owner = HEAD.match(line.strip()), OWNER.match(line.strip())
+        if not head and not owner:
+            continue
+        begin, end = block(lines, depths, at)
+        if owner:
+            owners.append((end, *owner.groups()))
+        within = [it[1:] for it in owners if at < it[0]]
+        if not head or any(kind == "macro_rules!" for kind, _ in within):
+            continue
+        above = "\n".join(lines[max(at - 4, 0) : at]).rpartition("}")[2]
+        cycle = (re.findall(r"#\[cycle\((\w+)\)\]", above) or [""])[0]
+        name, pattern, argument = names_of(head[1], path, within)
+        found.append(Function(name, re.compile(pattern), path, argument, cycle, places[begin + 1], places[end]))
+    return found
+
+
+def block(lines, depths, at):
+    """Returns the lines at which the block of an item begins and ends."""
+    ends_head = (it for it in range(at, len(lines)) if depths[it] == depths[at] and lines[it].rstrip().endswith(("{", "}", ";")))
+    begin = next(ends_head, at)
+    if not lines[begin].rstrip().endswith("{"):
+        return begin, begin
+    closes = (it for it in range(begin + 1, len(lines)) if depths[it] == depths[at] and lines[it].strip().startswith("}"))
+    return begin, next(closes, begin)
+
+
+def names_of(name, path, within):
+    """Returns the name of a function, a pattern of what a check calls it, and what tells it from those of other impls.
+
+    A check calls `f` of `impl From<B> for Type<A>` `..::Type+AFromB::f`, and `f` of `impl Type<A, B>` `..::Type+A+B::f`.
+    """
+    if not within:
+        return name, f"^{path}::{name}$", ""
+    trait, _, own = within[-1][1].rpartition(" for ")
+    kind, of = TYPE.match(own.strip()).groups()
+    trait, given = TYPE.match(trait.strip()).groups()
+    of, given = of.replace(", ", "+"), re.sub(r"<.*|\W", "", given)
+    argument = f"{kind}{trait}{given[:1].upper()}{given[1:]}::" if trait else f"{kind}+{of}::"
+    more = trait and trait + r"[\w+]*"
+    return f"{kind}::{name}", rf"::{kind}(\+[\w+]+)?{more}::{name}$", argument
+
+
+def at_place(functions, place):
+    """Returns the innermost function whose body has this place of the file, or None."""
+    inside = [it for it in functions if it.begin <= place < it.end]
+    return inside[-1] if inside else None
+
+
+def line_of(text, place):
+    """Returns the number of the line that a place lies on, from 1 on."""
+    return text.count("\n", 0, place) + 1
