@@ -26,10 +26,13 @@ def free_memory():
 
 
 class Run:
-    """The crates, and what the checks of this run took."""
+    """The crates, and what the checks of this run took.
 
-    def __init__(self, logs=None):
-        self.logs, self.seconds = logs, collections.Counter()
+    is_random: the edits were written at random, and many do not compile. One whose line the front end names is bad.
+    """
+
+    def __init__(self, logs=None, is_random=False):
+        self.logs, self.is_random, self.seconds = logs, is_random, collections.Counter()
         rows = [line for line in read(f"{TOP}/crates.txt").splitlines(True) if re.match(r"\w", line)]
         self.lines = {re.match(r"\w+", line)[0]: line for line in rows}
         self.starting, self.running = threading.Lock(), 0
@@ -122,8 +125,13 @@ class Run:
         halves = [edits[::2], edits[1::2]]
         if not log.is_verdict:
             # those whose line the front end names are tried apart
-            named = [it for it in edits if any(line in log.text for line in it.lines)]
+            refused = log.lines_refused()
+            named = [it for it in edits if it.lines & refused]
             others = [it for it in edits if it not in named]
+            if self.is_random and named:
+                for it in named:
+                    it.settle("bad", "it does not compile")
+                return [others] if others else []
             return [*([it] for it in named), others] if named and others else halves
         leaks = {*log.own} - {log.find(target) for it in edits for target in it.targets}
         if leaks:

@@ -51,6 +51,10 @@ class Log:
             for kept in (self.own, self.gone):
                 kept[of] += kept.pop(name, [])
 
+    def lines_refused(self):
+        """Returns the lines that the front end refuses, each as FILE:LINE:."""
+        return set(re.findall(r"\b(src/\S+?:\d+:)\d+: error", self.text))
+
     def find(self, target):
         """Returns the check's name of a function, or None if the check does not name exactly one."""
         found = [it for it in self.functions if target.pattern.search(it) or target.cycle and it.endswith(f"+{target.cycle}")]
