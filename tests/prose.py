@@ -89,25 +89,28 @@ class Words:
     """The list in tests/words: what to write instead, where, and the lines that are right as they are."""
 
     def __init__(self):
-        self.words, self.exceptions, self.later = [], set(), []
+        self.words, self.exceptions, self.later = [], [], []
         for line in read("tests/words").split("\n"):
             kind, _, rest = line.partition(" ")
             if kind in ("word", "in-documents"):
                 pattern, _, instead = rest.strip().partition(" -> ")
                 self.words.append((re.compile(r"\b(?:%s)\b" % pattern.strip(), re.I), instead, kind == "word"))
             elif kind == "right":
-                self.exceptions.add(rest.strip())
+                self.exceptions.append(tuple(rest.strip().split(": ", 1)))
             elif kind == "later":
                 self.later.append(rest.strip())
 
     def check(self, report, path, lines, in_comments):
         if path.startswith(tuple(self.later)):
             return
+        right = [part for name, part in self.exceptions if name == path]
         for number, line in lines:
             plain = re.sub(r"`[^`]*`", "", line)
+            for part in right:
+                plain = plain.replace(part, "")
             for pattern, instead, everywhere in self.words:
                 found = pattern.search(plain) if everywhere or not in_comments else None
-                if found and "%s: %s" % (path, line.strip()) not in self.exceptions:
+                if found:
                     report.need("%s:%d" % (path, number), False, "%r: write %s" % (found.group(0), instead))
 
 
