@@ -1,4 +1,4 @@
-"""Judges wrong bodies: many edits of one crate are put into one copy of it, and one check tells of each what it came to.
+"""Judges wrong bodies: many edits of one crate are put into one copy of it, and one check decides on each.
 
 functions   the functions of a source file, as `rt fmt` lays it out
 edits       an edit, and which edits may be tried together

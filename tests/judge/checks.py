@@ -5,6 +5,7 @@ import hashlib
 import os
 import re
 import shutil
+import signal
 import subprocess
 import sys
 import tempfile
@@ -17,8 +18,8 @@ from .log import Log
 TOP = os.path.dirname(os.path.dirname(os.path.dirname(os.path.realpath(__file__))))
 KEPT = os.path.join(os.environ.get("XDG_CACHE_HOME") or os.path.expanduser("~/.cache"), "felter-wrong-bodies")
 SOURCES = ("src", "specs", "proofs")
-# What a check takes of the memory at most, in kB.
-NEEDS = 3_000_000
+# What a check takes of the memory at most, in kB, with something to spare for those that run.
+NEEDS = 4_000_000
 
 
 def free_memory():
@@ -28,7 +29,7 @@ def free_memory():
 class Run:
     """The crates, and what the checks of this run took.
 
-    is_random: the edits were written at random, and many do not compile. One whose line the front end names is bad.
+    is_random: the edits were written at random, and many do not compile. Those that the front end names are bad.
     """
 
     def __init__(self, logs=None, is_random=False):
@@ -88,6 +89,10 @@ class Run:
                 own = self.copy(crate, edits, room)
                 began = time.time()
                 log, seconds = self.ran(crate, words, own, f"{self.logs or room}/{crate}-{label}.log")
+                if log.status == -signal.SIGKILL:
+                    # most likely for memory, which the others give back
+                    log, more = self.ran(crate, words, own, f"{self.logs or room}/{crate}-{label}-again.log")
+                    seconds += more
                 if not edits and log.status == 0:
                     keep(crate, own, began)
         finally:
@@ -103,7 +108,8 @@ class Run:
     def ran(self, crate, words, folder, path):
         """Runs rt in a folder. Returns what it said, and its seconds of processor."""
         with open(path, "w+", errors="replace", encoding="utf-8") as said:
-            done = subprocess.Popen(["rt", *words], cwd=folder, stdin=subprocess.DEVNULL, stdout=said, stderr=subprocess.STDOUT)
+            streams = {"stdin": subprocess.DEVNULL, "stdout": said, "stderr": subprocess.STDOUT}
+            done = subprocess.Popen(["rt", *words], cwd=folder, **streams)
             _, ended, used = os.wait4(done.pid, 0)
             said.seek(0)
             return Log(crate, said.read(), os.waitstatus_to_exitcode(ended)), used.ru_utime + used.ru_stime
@@ -124,9 +130,9 @@ class Run:
         """Settles what a check of several edits decides, and returns the rest as it is tried next."""
         halves = [edits[::2], edits[1::2]]
         if not log.is_verdict:
-            # those whose line the front end names are tried apart
+            # those of a function in which the front end names a line are tried apart
             refused = log.lines_refused()
-            named = [it for it in edits if it.lines & refused]
+            named = [it for it in edits if any(it.has_line(*line) for line in refused)]
             others = [it for it in edits if it not in named]
             if self.is_random and named:
                 for it in named:

@@ -23,7 +23,7 @@ class Edit:
         self.crate, self.name = crate, name
         self.changes = []  # (file, start, end, new text)
         self.targets = []  # the functions that it changes
-        self.lines = set()  # "FILE:LINE:", as the front end names them
+        self.spans = []  # (file, first line, last line) of these functions, or of the line itself
         self.is_shared = False  # whether it changes what other functions can see
         self.verdict, self.why = None, ""
 
@@ -33,13 +33,18 @@ class Edit:
     def keys(self):
         return {it.key() for it in self.targets}
 
+    def has_line(self, file, line):
+        """Tests whether a line is in a function that it changes."""
+        return any(file == of and first <= line <= last for of, first, last in self.spans)
+
     def replace(self, file, text, start, end, new):
         """Adds a stretch of a file, whose text this is."""
         function = None
         if file.startswith("src/"):
             function = at_place(functions_of(self.crate, file, text), start)
         self.changes.append((file, start, end, new))
-        self.lines.add(f"{file}:{line_of(text, start)}:")
+        begin, last = (function.begin, function.end) if function else (start, end)
+        self.spans.append((file, line_of(text, begin), line_of(text, last)))
         self.targets += [function] if function else []
         self.is_shared = self.is_shared or function is None
 

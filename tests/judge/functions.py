@@ -5,7 +5,8 @@ from dataclasses import dataclass
 # The head of a function, and that of an impl, a trait or a macro.
 HEAD = re.compile(r"(?:pub(?:\([\w: ]+\))? )?(?:(?:const|unsafe|extern \"C\") )*fn (\w+)")
 OWNER = re.compile(
-    r"(?:pub(?:\([\w: ]+\))? )?(?:unsafe )?(impl|trait|macro_rules!)(?:<(?:[^<>]|<[^<>]*>)*>)? (.*?)(?: where\b.*| \{|$)"
+    r"(?:pub(?:\([\w: ]+\))? )?(?:unsafe )?(impl|trait|macro_rules!)(?:<(?:[^<>]|<[^<>]*>)*>)? "
+    r"(.*?)(?: where\b.*| \{|$)"
 )
 TYPE = re.compile(r"(?:\w+::)*(\w*)<?(.*?)>?$")
 
@@ -56,18 +57,18 @@ def functions_of(crate, file, text):
 
 def block(lines, depths, at):
     """Returns the lines at which the block of an item begins and ends."""
-    ends_head = (it for it in range(at, len(lines)) if depths[it] == depths[at] and lines[it].rstrip().endswith(("{", "}", ";")))
-    begin = next(ends_head, at)
+    same = [it for it in range(at, len(lines)) if depths[it] == depths[at]]
+    begin = next((it for it in same if lines[it].rstrip().endswith(("{", "}", ";"))), at)
     if not lines[begin].rstrip().endswith("{"):
         return begin, begin
-    closes = (it for it in range(begin + 1, len(lines)) if depths[it] == depths[at] and lines[it].strip().startswith("}"))
-    return begin, next(closes, begin)
+    return begin, next((it for it in same if it > begin and lines[it].strip().startswith("}")), begin)
 
 
 def names_of(name, path, within):
     """Returns the name of a function, a pattern of what a check calls it, and what tells it from those of other impls.
 
-    A check calls `f` of `impl From<B> for Type<A>` `..::Type+AFromB::f`, and `f` of `impl Type<A, B>` `..::Type+A+B::f`.
+    A check calls `f` of `impl From<B> for Type<A>` `..::Type+AFromB::f`, and that of `impl Type<A, B>`
+    `..::Type+A+B::f`.
     """
     if not within:
         return name, f"^{path}::{name}$", ""

@@ -52,12 +52,13 @@ class Log:
                 kept[of] += kept.pop(name, [])
 
     def lines_refused(self):
-        """Returns the lines that the front end refuses, each as FILE:LINE:."""
-        return set(re.findall(r"\b(src/\S+?:\d+:)\d+: error", self.text))
+        """Returns the lines that the front end refuses, each with its file."""
+        return {(file, int(line)) for file, line in re.findall(r"\b(src/\S+?):(\d+):\d+: error", self.text)}
 
     def find(self, target):
         """Returns the check's name of a function, or None if the check does not name exactly one."""
-        found = [it for it in self.functions if target.pattern.search(it) or target.cycle and it.endswith(f"+{target.cycle}")]
+        end = f"+{target.cycle}" if target.cycle else "\0"
+        found = [it for it in self.functions if target.pattern.search(it) or it.endswith(end)]
         for word in (target.argument, f"{target.module}::"):
             found = [it for it in found if word in it] if len(found) > 1 else found
         return found[0] if len(found) == 1 else None

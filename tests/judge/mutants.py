@@ -65,7 +65,7 @@ def twins_in(sources):
             own = VARIANT.findall(body)
             for name in own:
                 variants.setdefault(f"{enum}::{name}", set()).update(f"{enum}::{it}" for it in own if it != name)
-    return {it: sorted(others) for it, others in fields.items() if others}, {it: sorted(others) for it, others in variants.items() if others}
+    return tuple({it: sorted(others) for it, others in kept.items() if others} for kept in (fields, variants))
 
 
 def changes_of(line, fields, variants):
