@@ -1,0 +1,125 @@
+"""The public calls of a library with their contracts, as its CALLING.md has them."""
+import os
+import re
+
+TOP = os.path.dirname(os.path.dirname(os.path.realpath(__file__)))
+CALL = re.compile(r"^( *)(pub )?((?:const |unsafe |extern \"C\" )*fn (\w+).*)$")
+CLAUSE = re.compile(r"^ *(requires|ensures)\b")
+HEAD = """# Calling `%s`
+
+%s
+
+The public calls with their contracts, quoted from `src` by `tests/calling`. In a clause `self.old` and `self.new` are
+`self` before and after the call, `self.now` what a shared reference shows; `specs` defines the words.
+
+```text
+%s
+```
+"""
+
+
+def libraries():
+    """The crates that others use: no programs, no tests."""
+    folder = os.path.join(TOP, "crates")
+    return sorted(name for name in os.listdir(folder) if os.path.exists(os.path.join(folder, name, "src/lib.rt"))
+                  and not name.endswith("_tests"))
+
+
+def page_of(crate):
+    return os.path.join(TOP, "crates", crate, "CALLING.md")
+
+
+def sources(crate):
+    """The files of src, by path; lib.rt and the files of a folder come before the folders in it."""
+    found = []
+    for path, _folders, names in os.walk(os.path.join(TOP, "crates", crate, "src")):
+        found += [os.path.join(path, name) for name in names if name.endswith(".rt")]
+    return sorted(found, key=lambda path: (path.count("/"), path))
+
+
+def lines_of(path):
+    with open(path, encoding="utf-8") as file:
+        return file.read().split("\n")
+
+
+def exported(crate):
+    """The names that lib.rt makes public, and the modules."""
+    text = "\n".join(lines_of(os.path.join(TOP, "crates", crate, "src/lib.rt")))
+    names = set()
+    for used in re.findall(r"pub use ([^;]*);", text):
+        names |= set(re.findall(r"\w+", used.split("{", 1)[-1] if "{" in used else used.rsplit("::", 1)[-1]))
+    return names, set(re.findall(r"pub mod (\w+);", text))
+
+
+def joined(lines):
+    """Lines of a signature or a clause as one."""
+    text = " ".join(line.strip() for line in lines)
+    return re.sub(r",? \)", ")", text.replace("( ", "("))
+
+
+def header(lines, at):
+    """The signature and the clauses of the function that begins at a line."""
+    indent = CALL.match(lines[at]).group(1)
+    signature, clauses, into = [], [], None
+    for line in lines[at:]:
+        code = line.split(" // ")[0].rstrip()
+        if code.strip().startswith("//"):
+            continue
+        if code in (indent + "{", indent + "{}"):
+            break
+        if CLAUSE.match(code) and not (into and into is not signature and unbalanced(into)):
+            clauses.append([])
+            into = clauses[-1]
+        elif into is None:
+            into = signature
+        into.append(code)
+        if into is signature and code.endswith((" {", ";")) or code.endswith("};"):
+            break
+    return joined(signature).rstrip(" {;"), [joined(clause) for clause in clauses]
+
+
+def unbalanced(lines):
+    text = " ".join(lines)
+    return text.count("{") != text.count("}")
+
+
+def shown(clause):
+    """`ensures name { fact }` as `ensures name: fact`."""
+    found = re.match(r"(requires|ensures)\s*(\w*)\s*\{\s*(.*?)\s*\};?$", clause)
+    if not found:
+        return clause
+    kind, name, fact = found.groups()
+    return "%s%s: %s" % (kind, " " + name if name else "", fact)
+
+
+def calls_in(path, names, whole):
+    """The public functions of a file, with the type or trait that they are of."""
+    owner, is_trait = None, False
+    lines = lines_of(path)
+    for at, line in enumerate(lines):
+        block = re.match(r"^(?:pub )?(impl|trait)(?:<.*?>)? (?:(\w[\w:]*)(?:<.*?>)? for )?(\w+)", line)
+        if block:
+            is_trait = block.group(1) == "trait" and line.startswith("pub ")
+            owner = None if block.group(2) else block.group(3)
+        elif line.startswith("}"):
+            owner, is_trait = None, False
+        found = CALL.match(line)
+        if not found or (len(found.group(1)) == 4 and owner is None) or len(found.group(1)) > 4:
+            continue
+        of = owner if found.group(1) else found.group(4)
+        if (found.group(2) or (is_trait and found.group(1))) and (whole or of in names):
+            signature, clauses = header(lines, at)
+            name = signature.replace("pub ", "", 1)
+            yield name.replace("fn ", "fn %s::" % owner, 1) if found.group(1) else name, clauses
+
+
+def calling(crate):
+    names, modules = exported(crate)
+    listed = []
+    for path in sources(crate):
+        stem = os.path.basename(path)[:-len(".rt")]
+        for signature, clauses in calls_in(path, names, stem in modules):
+            listed.append("\n".join([signature] + ["  " + shown(clause) for clause in clauses]))
+    first = next(line[3:].strip() for line in lines_of(os.path.join(TOP, "crates", crate, "src/lib.rt"))
+                 if line.startswith("//!"))
+    return HEAD % (crate, first, "\n".join(listed))
