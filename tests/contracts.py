@@ -94,13 +94,14 @@ def shown(clause):
 
 def calls_in(path, names, whole):
     """The public functions of a file, with the type or trait that they are of."""
-    owner, is_trait = None, False
+    owner, shown_as, is_trait = None, None, False
     lines = lines_of(path)
     for at, line in enumerate(lines):
-        block = re.match(r"^(?:pub )?(impl|trait)(?:<.*?>)? (?:(\w[\w:]*)(?:<.*?>)? for )?(\w+)", line)
+        block = re.match(r"^(?:pub )?(impl|trait)(?:<.*?>)? (?:(\w[\w:]*)(?:<.*?>)? for )?(\w+)((?:<[^']*?>)?)", line)
         if block:
             is_trait = block.group(1) == "trait" and line.startswith("pub ")
             owner = None if block.group(2) else block.group(3)
+            shown_as = block.group(3) + block.group(4)
         elif line.startswith("}"):
             owner, is_trait = None, False
         found = CALL.match(line)
@@ -110,7 +111,7 @@ def calls_in(path, names, whole):
         if (found.group(2) or (is_trait and found.group(1))) and (whole or of in names):
             signature, clauses = header(lines, at)
             name = signature.replace("pub ", "", 1)
-            yield name.replace("fn ", "fn %s::" % owner, 1) if found.group(1) else name, clauses
+            yield name.replace("fn ", "fn %s::" % shown_as, 1) if found.group(1) else name, clauses
 
 
 def calling(crate):
