@@ -25,7 +25,7 @@ use Rattle.ring_loose.proofs.HeldLemmas.{held_inside, in_pushed, in_set}
 
 -- Claims that are held -----------------------------------------------------------
 
--- what is known of each claim, where the one at a place is changed
+-- what is known of each claim, if the one at a place is changed
 module _ (P Q : StagedClaim → Type 0) (p : ℕ) (f : StagedClaim → StagedClaim)
     (here : (c : StagedClaim) → c.place ≡ p → P c → Q (f c)) (there : (c : StagedClaim) → c.place ≢ p → P c → Q c) where
   pub all_changed : (cs : List StagedClaim) → All P cs → All Q (changed p f cs)
@@ -93,7 +93,7 @@ held_less cs claims k t s settled had all =
           at_place = held.at_place;
         }
 
--- no claim is open where none is held
+-- no claim is open if none is held
 pub none_counted : (cs : List StagedClaim) (claims : List (Option ClaimAt)) → HoldsNothing claims → AreHeld cs claims
     → open_count cs ≡ 0
 none_counted [] claims none all = refl

@@ -1,4 +1,4 @@
--- What is held by number: a list with None where nothing is.
+-- What is held by number: a list with None if nothing is.
 use Rattle.std.proofs.Common.{◌≡◌, ◌≢◌, ℕ, suc, ◌+◌, ◌-◌, ◌<◌, ◌≤◌, IfNone, OnSome, List, [], ◌∷◌, ◌++◌, drop, length, set, slice_index_or, cond, is_some, refl, ap, Option, Some, None, sym, ◌∙◌, subst, arith, ◌⊎◌, inl, inr, get_or-set_same, get_or-set_other}
 use mathlib.Core.Logic.{dite}
 use native.Mathlib.Decide.{ℕ_discrete}
@@ -10,7 +10,7 @@ use Rattle.std.proofs.lemmas.List.{get_or_append_left, get_or_push, get_or_past,
 use Rattle.ring_loose.specs.Held.{Comes, Goes, HasAt, IsFree, IsVacant, Stays}
 
 module _ {A : Type 0} where
-  -- what is held lies in the list
+  -- what is held is in the list
   pub held_inside : (xs : List (Option A)) (k : ℕ) (t : A) → HasAt xs k t → k < length xs
   held_inside xs k t has =
       elim (cases_lt k (length xs)) as (λ _. k < length xs) [
@@ -57,7 +57,7 @@ module _ {A : Type 0} where
       ap (λ o. count_by is_some (set xs k y) + one_if_some o) (sym has)
       ∙ sum_by-set one_if_some xs k y None (held_inside xs k s has)
 
-  -- where nothing is held
+  -- if nothing is held
   count_none : (xs : List (Option A)) → ((k : ℕ) → k < length xs → slice_index_or xs k None ≡ None)
       → count_by is_some xs ≡ 0
   count_none [] all = refl
@@ -153,7 +153,7 @@ module _ {A : Type 0} where
       stay.others ∙ ap (λ z. set old (number - 1) (Some z)) same ∙ ap (λ o. set old (number - 1) o) (sym stay.here.has)
       ∙ set-get_or old (number - 1) None
 
-  -- as many are held then
+  -- the same number is held then
   pub count_stays : (x y : A) (old : List (Option A)) (number : ℕ) (new : List (Option A)) → Stays x y old number new
       → count_by is_some new ≡ count_by is_some old
   count_stays x y old number new stay =
@@ -184,7 +184,7 @@ module _ {A : Type 0} where
     of_goes x old number new all goes = subst OfAll (sym goes.given_up)
         (of_set old (number - 1) None all (held_inside old (number - 1) x goes.here.has) (λ y e. absurd cc))
 
-    -- what is held where another stands in the place of one
+    -- what is held if another is in the place of one
     pub of_stays : (x y : A) (old : List (Option A)) (number : ℕ) (new : List (Option A)) → OfAll old
         → Stays x y old number new → P y → OfAll new
     of_stays x y old number new all stay is =

@@ -43,7 +43,7 @@ module _ (n : ℕ) (now next : Crowd) (inside : n < length now.receivers) where
   left_on None same did free = passes (ap view_of same.0) same.1 free
   left_on (Some x) same did free = leaves did
 
--- what is held where none left
+-- what is held if none left
 pub held_where : {T : Type 0} (A B : Type 0) (r : Option T) → IfNone r (A × B) → IfNone r B
 held_where A B None same = same.1
 held_where A B (Some x) same = tt

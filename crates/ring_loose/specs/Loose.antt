@@ -34,15 +34,15 @@ pub record AreSeats {K : Type 0} (ring : Ring K) (p : Producer) (c : Consumer)
 abbrev pub fresh_loose : ℕ → Loose
 fresh_loose C = record { capacity = C; holder = holder (first_producer C 0) []; consumer = first_consumer C 0 }
 
--- the ring where the producer knows and holds this
+-- the ring whose producer knows and holds this
 abbrev pub with_holder : Holder → Loose → Loose
 with_holder h l = record l { holder = h }
 
--- the ring where the producer knows this
+-- the ring whose producer knows this
 abbrev pub with_view : View → Loose → Loose
 with_view v l = with_holder (holder v l.holder.claims) l
 
--- the ring where the consumer knows this
+-- the ring whose consumer knows this
 abbrev pub with_reader : View → Loose → Loose
 with_reader v l = record l { consumer = v }
 

@@ -20,11 +20,11 @@ pub record Crowd : Type 0 where
 abbrev pub crowd : Transmitter → Numbered CopyReceiver → Crowd
 crowd t receivers = record { transmitter = t; receivers = held_in receivers }
 
--- the receivers are this board's
+-- the receivers are this broadcast buffer's
 abbrev pub AreReceivers : Board → List (Option CopyReceiver) → Type 0
 AreReceivers board receivers = (i : ℕ) (r : CopyReceiver) → HasAt receivers i r → IsReceiverOf board r
 
--- the transmitter is this board's, and so are the receivers
+-- the transmitter is this broadcast buffer's, and so are the receivers
 pub record IsCrowdOf (board : Board) (c : Crowd) : Type 0 where
   pub transmitter : IsTransmitterOf board c.transmitter
   pub receivers : AreReceivers board c.receivers
@@ -40,13 +40,13 @@ pub record Subscribes (old : Crowd) (next : ℕ) (new : Crowd) : Type 0 where
   pub share : view_of new.transmitter ≡ fewer (view_of old.transmitter)
   pub comes : Comes receiver old.receivers next new.receivers
 
--- what a receiver that was told this knows
+-- what a receiver that received this knows
 abbrev pub IsTold : Received → Sat → Sat → Type 0
 IsTold (Copy place type_id body) old new = GotCopy place type_id body.items old new
 IsTold Nothing old new = GotNothing old new
 IsTold (Lapped lapped) old new = GotLapped lapped old new
 
--- the receiver of this number was told this, and no other one changed
+-- the receiver of this number received this, and no other one changed
 pub record ReceivesAt (told : Received) (old : Numbered CopyReceiver) (number : ℕ)
     (new : Numbered CopyReceiver) : Type 0 where
   pub before : CopyReceiver

@@ -2,7 +2,7 @@
 //!
 //! - `numbered`: what is held by number.
 //! - `loose_ring`: a ring with its open claims. `loose_board`: a broadcast buffer with its receivers.
-//! - `receiving`, `received`: a numbered receiver that asks for a message, and what it is told.
+//! - `receiving`, `received`: a numbered receiver that asks for a message, and what it receives.
 #![tactic(auto)]
 
 mod loose_board;

@@ -31,7 +31,7 @@ pub struct LooseBoard {
     ghost shares: { shares_in (crowd transmitter receivers) ≡ all_shares },
 }
 
-/// Makes a receiver, and keeps it under the next number, which is given. The room to keep it is made first.
+/// Makes a receiver, keeps it under the next number, and returns the number. The room to keep it is made first.
 fn make_receiver(
     alloc: Global,
     board: &Board,
@@ -107,7 +107,7 @@ impl LooseBoard {
         self.board.transmit(&mut self.transmitter, type_id, body)
     }
 
-    /// Makes a receiver and gives its number.
+    /// Makes a receiver and returns its number.
     pub fn subscribe(&mut self, alloc: Global) -> Result<Result<usize, SubscribeFault>, AllocError>
         ensures refused { IfOk result (λ made.
             IsSubscribedUnless (subscribe_refusal_of (shares_of self.old.transmitter)) made) }
@@ -123,7 +123,7 @@ impl LooseBoard {
         )
     }
 
-    /// Asks the receiver of this number for the next message; `None` where it is not here.
+    /// Asks the receiver of this number for the next message. Returns `None` if there is no such receiver.
     pub fn receive(&mut self, alloc: Global, number: usize) -> Option<Result<Received, AllocError>>
         ensures told { IfSome result (λ answer. IfOk answer (λ told.
             ReceivesAt told self.old.receivers number self.new.receivers)) }
@@ -133,7 +133,7 @@ impl LooseBoard {
         receive_at(alloc, &self.board, &mut self.receivers, number)
     }
 
-    /// Joins the receiver of this number; `None` where it is not here.
+    /// Joins the receiver of this number. Returns `None` if there is no such receiver.
     pub fn leave(&mut self, number: usize) -> Option<()>
         ensures left { OnSome result (LeavesCrowd
             (crowd self.old.transmitter self.old.receivers) number (crowd self.new.transmitter self.new.receivers)) }
@@ -162,8 +162,8 @@ impl LooseBoard {
         }
     }
 
-    /// Joins all receivers, in rising order of their numbers, and closes the broadcast buffer. What it answers has the
-    /// words of all that was transmitted.
+    /// Joins all receivers, in rising order of their numbers, and closes the broadcast buffer. Returns the words of all
+    /// that was transmitted.
     pub fn close(mut self) -> ClosedBoard
         ensures capacity { closed_capacity result ≡ capacity_of self.board }
         ensures closed { IsClosed (capacity_of self.board) (start_of self.board) (transmitted self.transmitter)

@@ -132,7 +132,7 @@ impl LooseRing {
         self.ring.write(rt, &mut self.producer, type_id, body)
     }
 
-    /// Claims room, and gives the claim's number. It may wait.
+    /// Claims room, and returns the claim's number. It may wait.
     pub fn claim<R: Wait>(
         &mut self,
         rt: &R,
@@ -154,7 +154,7 @@ impl LooseRing {
         )
     }
 
-    /// Puts bytes into the claim of this number; `None` where it is not open.
+    /// Puts bytes into the claim of this number. Returns `None` if it is not open.
     pub fn put(
         &mut self,
         number: usize,
@@ -176,7 +176,7 @@ impl LooseRing {
         )
     }
 
-    /// Settles the claim of this number so; `None` where it is not open.
+    /// Settles the claim of this number. Returns `None` if it is not open.
     fn settle(&mut self, number: usize, state: ClaimState) -> Option<()>
         requires { state ≢ Open }
         ensures settled { MatchOption result (self.new ≡ self.old)
@@ -193,7 +193,7 @@ impl LooseRing {
         Some(())
     }
 
-    /// Commits the claim of this number; `None` where it is not open.
+    /// Commits the claim of this number. Returns `None` if it is not open.
     pub fn commit(&mut self, number: usize) -> Option<()>
         ensures settled { MatchOption result (self.new ≡ self.old)
             (λ _. SettlesAt Committed self.old.holder number self.new.holder) }
@@ -203,7 +203,7 @@ impl LooseRing {
         self.settle(number, ClaimState::Committed)
     }
 
-    /// Aborts the claim of this number; `None` where it is not open.
+    /// Aborts the claim of this number. Returns `None` if it is not open.
     pub fn abort(&mut self, number: usize) -> Option<()>
         ensures settled { MatchOption result (self.new ≡ self.old)
             (λ _. SettlesAt Aborted self.old.holder number self.new.holder) }

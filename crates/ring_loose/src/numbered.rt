@@ -22,14 +22,14 @@ impl<T> Numbered<T> {
         }
     }
 
-    /// How many numbers were drawn, which is the last of them.
+    /// The number of numbers that were drawn, which is the last one.
     pub fn drawn(&self) -> usize
         ensures { result ≡ length (held_in self.now) }
     {
         self.held.len()
     }
 
-    /// Makes room for one more. All that is held stays, also where memory is wanting.
+    /// Makes room for one more. Everything that is held stays, also if memory runs out.
     pub fn reserve(&mut self) -> Result<(), AllocError>
         ensures room { OnOk result (HasRoomToHold self.new) }
         ensures same { held_in self.new ≡ held_in self.old }
@@ -37,7 +37,7 @@ impl<T> Numbered<T> {
         self.held.reserve(1)
     }
 
-    /// Holds one more, for which room was made, under the next number, which is given.
+    /// Holds one more, for which room was made, under the next number, and returns the number.
     pub fn hold(&mut self, x: T) -> usize
         requires { HasRoomToHold self.old }
         ensures { Comes x (held_in self.old) result (held_in self.new) }
@@ -46,7 +46,7 @@ impl<T> Numbered<T> {
         self.drawn()
     }
 
-    /// Takes what is held under this number; `None` where nothing is, and all is then as it was.
+    /// Takes what is held under this number. Returns `None` if nothing is; nothing has changed then.
     pub fn take(&mut self, number: usize) -> Option<T>
         ensures taken { IfSome result (λ x. Goes x (held_in self.old) number (held_in self.new)) }
         ensures same { IfNone result (held_in self.new ≡ held_in self.old) }

@@ -1,13 +1,13 @@
-//! What a receiver is told.
+//! What a receiver receives.
 ghost use Rattle.std.specs.Prelude.{IfOk};
 
 use ring_board::{Board, CopyReceiver, Lapped};
 use std::alloc::{AllocError, Global};
 
-/// What a receiver is told when it asks for the next message.
+/// What a receiver receives when it asks for the next message.
 #[derive(Drop)]
 pub enum Received {
-    /// A copy of a message, whose record lies at this place.
+    /// A copy of a message, whose record is at this place.
     Copy {
         place: u64,
         type_id: i32,

@@ -9,7 +9,7 @@ use ring_rings::{Action, ClaimFault, Consumer, Handler, OneToOneRing, Producer};
 use std::sync::Wait;
 use std::thread::join;
 
-/// How many numbers are sent.
+/// The number of numbers that are sent.
 const NUMBERS: u64 = 1_000;
 
 /// The type id of their messages.
@@ -54,7 +54,7 @@ fn write_numbers<R: Wait>(rt: &R, ring: &OneToOneRing, mut producer: Producer) -
                 backoff.reset();
             }
             Err(ClaimFault::InsufficientCapacity { .. }) => backoff.snooze(),
-            // The type id is lawful, and 8 bytes are at most an eighth of the ring.
+            // The type id is valid, and 8 bytes are at most an eighth of the ring.
             Err(_) => return producer,
         }
     }
@@ -88,7 +88,7 @@ fn main(rt: HostRuntime) -> anyhow::Result<()> {
     let (shared, rt_of_both) = (&ring, &rt);
     let (producer, (consumer, sum)) = join(
         &rt,
-        // A closure's clauses tell what goes into its thread and what comes out of it.
+        // A closure's clauses say what goes into its thread and what comes out of it.
         move || -> Producer
             requires { IsProducerOf shared.now producer × (shares_of producer ≡ all_shares) }
             ensures { IsProducerOf shared.entry.now result }

@@ -3,9 +3,9 @@
 /// Why a try of a call failed.
 #[derive(Clone, Copy, Debug, PartialEq, Eq)]
 pub enum Failure {
-    /// It was refused with `OutOfMemory`, and left all as it was.
+    /// It was refused with `OutOfMemory`, and left everything unchanged.
     Refused,
-    /// It gave another answer, or something had changed.
+    /// It gave another return value, or something had changed.
     Wrong,
 }
 
@@ -45,7 +45,7 @@ impl From<ring_conductor::StormFault> for Failure {
     }
 }
 
-/// The answer of a call after which something was looked at that should not have changed.
+/// The result of a call after which something was looked at that should not have changed.
 pub fn where_kept<F: Into<Failure> + Drop>(
     answer: Result<(), F>,
     is_kept: bool,

@@ -1,8 +1,8 @@
-//! Makes each call that takes memory twice, and prints how many of these tries were refused and which answers were
+//! Makes each call that takes memory twice, and prints how many of these tries were refused and which results were
 //! wrong.
 //!
-//! Without a refused request it prints `refused 0`, and with one, whichever it is, `refused 1`: that try answered
-//! `OutOfMemory` and left all as it was, and the other went well.
+//! Without a refused request it prints `refused 0`, and with one, whichever it is, `refused 1`: that try returned
+//! `OutOfMemory` and left everything unchanged, and the other went well.
 #![tactic(auto)]
 
 mod calls;
