@@ -52,7 +52,7 @@ struct Reading {
     last: Option<u64>,
 }
 
-/// Whether this number may come behind the last one. With equal counts they are neighbours.
+/// Whether this number may come after the last one. With equal counts they are neighbours.
 fn may_follow(last: Option<u64>, number: u64, is_joined: bool) -> bool {
     match last {
         Some(before) => before < number && (!is_joined || number - before == 1),

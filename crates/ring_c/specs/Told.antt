@@ -1,4 +1,4 @@
--- What the answer of an export says of the handles before and after it.
+-- What the return value of an export says of the handles before and after it.
 use Rattle.std.specs.Prelude.{◌≡◌, ◌≢◌, ◌⊎◌, ℕ, ℤ, pos, MatchOption, Bool}
 use Rattle.std.specs.declared.option.Option.{Option}
 use Rattle.std.specs.declared.option.Option.TheVariants.{None, Some}
@@ -15,12 +15,12 @@ use Rattle.ring_handles.specs.Side.{identity_of}
 
 -- Calls of one handle ------------------------------------------------------------
 
--- an empty handle answers 100 and stays empty, and another kind's 101 and stays as it is; of this kind P tells
+-- an empty handle returns 100 and stays empty, and another kind's 101 and stays as it is; of this kind P says
 abbrev pub Uses : {S : Type 0} → (Held → Option S) → (S → S → ℤ → Type 0) → Option Held → Option Held → ℤ → Type 0
 Uses kind P before after code = MatchOption before ((code ≡ pos 100) × (after ≡ None))
     (λ h. MatchOption (kind h) ((code ≡ pos 101) × (after ≡ Some h)) (λ s. HoldsOne kind (λ t. P s t code) after))
 
--- the same of a call that puts something out: of this kind P tells of what is out before and after, else it stays
+-- the same of a call that puts something out: of this kind P says of what is out before and after, otherwise it stays
 abbrev pub Yields : {S O : Type 0} → (Held → Option S) → (O → O → S → S → ℤ → Type 0) → O → O → Option Held
     → Option Held → ℤ → Type 0
 Yields kind P old new before after code =
@@ -28,25 +28,25 @@ Yields kind P old new before after code =
     (λ h. MatchOption (kind h) ((code ≡ pos 101) × (after ≡ Some h) × (new ≡ old))
     (λ s. HoldsOne kind (λ t. P old new s t code) after))
 
--- of a producer the open claims were aborted, and nothing else changed
+-- of a producer the open claims were aborted, and everything else is unchanged
 abbrev pub ClosesHeld : Held → Held → Type 0
 ClosesHeld h k = MatchOption (a_producer h) (k ≡ h) (λ p. MatchOption (a_producer k) ⊥ (λ q. q ≡ closing p))
 
 -- What is made ------------------------------------------------------------------
 
--- handles in use answer 102 and stay as they are; else a ring of this number is made for them, or refused
+-- handles in use return 102 and stay as they are; otherwise a ring of this number is made for them, or refused
 abbrev pub Opens : Bool → ℕ → ℕ → ℕ → Option Held → Option Held → Option Held → Option Held → ℤ → Type 0
 Opens many number C start p c p' c' code = (((p ≢ None) ⊎ (c ≢ None)) × (code ≡ pos 102) × (p' ≡ p) × (c' ≡ c))
     ⊎ ((p ≡ None) × (c ≡ None) × IsMakeCode C start code
     × (((code ≡ pos 0) × HoldFresh many (identity_of number) C start p' c')
     ⊎ ((code ≢ pos 0) × (p' ≡ None) × (c' ≡ None))))
 
--- a handle in use answers 102 and stays as it is; else what Holds says is made for it, or refused with the code
+-- a handle in use returns 102 and stays as it is; otherwise what Holds says is made for it, or refused with the code
 abbrev pub FillsHandle : (ℤ → Type 0) → (Option Held → Type 0) → Option Held → Option Held → ℤ → Type 0
 FillsHandle IsCode Holds h h' code = ((h ≢ None) × (code ≡ pos 102) × (h' ≡ h))
     ⊎ ((h ≡ None) × IsCode code × (((code ≡ pos 0) × Holds h') ⊎ ((code ≢ pos 0) × (h' ≡ None))))
 
--- a board of this number
+-- a broadcast buffer of this number
 abbrev pub OpensBoard : ℕ → ℕ → ℕ → Option Held → Option Held → ℤ → Type 0
 OpensBoard number C start = FillsHandle (IsBoardCode C start) (HoldNewBoard (identity_of number) C start)
 
@@ -70,7 +70,7 @@ Gives kind other Makes Keeps p p' o' code = MatchOption p ((code ≡ pos 100) ×
     (λ s. ((code ≡ pos 0) × HoldsOne kind (λ t. HoldsOne other (λ o. Makes s t o) o') p')
     ⊎ (Keeps s code × HoldsOne kind (λ t. t ≡ s) p' × (o' ≡ None))))
 
--- a handle in use answers 102 and stays as it is; else it is filled, or not
+-- a handle in use returns 102 and stays as it is; otherwise it is filled, or not
 abbrev pub GivesInto : {S T : Type 0} → (Held → Option S) → (Held → Option T) → (S → S → T → Type 0) → (S → ℤ → Type 0)
     → Option Held → Option Held → Option Held → Option Held → ℤ → Type 0
 GivesInto kind other Makes Keeps p o p' o' code = ((o ≢ None) × (code ≡ pos 102) × (p' ≡ p) × (o' ≡ o))
@@ -78,11 +78,11 @@ GivesInto kind other Makes Keeps p o p' o' code = ((o ≢ None) × (code ≡ pos
 
 -- Joining ------------------------------------------------------------------------
 
--- where the handle holds one of this kind, P holds of it
+-- if the handle holds one of this kind, P holds of it
 abbrev pub IfHolds : {S : Type 0} → (Held → Option S) → (S → Type 0) → Option Held → Type 0
 IfHolds kind P held = MatchOption held (Unit {0}) (λ h. MatchOption (kind h) (Unit {0}) P)
 
--- where the first holds one of this kind and the second one of that, P holds of the two
+-- if the first holds one of this kind and the second one of that, P holds of the two
 abbrev pub WhereBoth : {S T : Type 0} → (Held → Option S) → (Held → Option T) → (S → T → Type 0) → Option Held
     → Option Held → Type 0
 WhereBoth kind other P p o = IfHolds kind (λ s. IfHolds other (P s) o) p
@@ -98,7 +98,8 @@ abbrev pub Joined : {S T : Type 0} → (Held → Option S) → (Held → Option 
 Joined kind other Takes Keeps s t p' o' code = ((code ≡ pos 0) × HoldsOne kind (λ u. Takes s t u) p' × (o' ≡ None))
     ⊎ (Keeps s t code × HoldsOne kind (λ u. u ≡ s) p' × HoldsOne other (λ u. u ≡ t) o')
 
--- a handle that is empty, or of another kind, is answered by that, and both stay; else the second is taken in, or not
+-- a handle that is empty, or of another kind, returns that code, and both stay; otherwise the second is taken in, or
+-- not
 abbrev pub JoinsInto : {S T : Type 0} → (Held → Option S) → (Held → Option T) → (S → T → S → Type 0)
     → (S → T → ℤ → Type 0) → Option Held → Option Held → Option Held → Option Held → ℤ → Type 0
 JoinsInto kind other Takes Keeps p o p' o' code = MatchOption p ((code ≡ pos 100) × (p' ≡ None) × (o' ≡ o))
@@ -109,8 +110,8 @@ JoinsInto kind other Takes Keeps p o p' o' code = MatchOption p ((code ≡ pos 1
 
 -- Ending -------------------------------------------------------------------------
 
--- an empty handle answers 100 and stays empty, and another kind's 101 and stays as it is; one of this kind is emptied
--- where what it held ended, or it stays as it is. Numbers are put out at an end alone
+-- an empty handle returns 100 and stays empty, and another kind's 101 and stays as it is; one of this kind is emptied
+-- if what it held ended, otherwise it stays as it is. Numbers are put out only at an end
 abbrev pub EndsAs : {S O : Type 0} → (Held → Option S) → (S → O → Type 0) → (S → ℤ → Type 0) → O → O → Option Held
     → Option Held → ℤ → Type 0
 EndsAs kind Done Keeps before after h h' code =

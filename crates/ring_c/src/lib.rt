@@ -1,7 +1,7 @@
-//! Rings for C: each export works on handles, and each handle owns what it stands for.
+//! Rings for C: each export works on handles, and each handle owns what it means.
 //!
 //! - `exports`: what C calls, by kind of handle. `work_on`: what these calls have in common.
-//! - What a handle stands for, and what its calls do, is in `ring_handles`.
+//! - What a handle means, and what its calls do, is in `ring_handles`.
 #![tactic(auto)]
 
 mod exports;

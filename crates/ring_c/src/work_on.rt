@@ -1,7 +1,7 @@
 //! What calls of handles have in common.
 
-/// Works on what a handle stands for, where it is of this kind, and gives the code of that. An empty handle gives 100,
-/// and one of another kind 101.
+/// Works on what a handle holds, if it is of this kind, and returns the code of that. An empty handle returns 100, and
+/// one of another kind 101.
 macro_rules! work_on {
     ($handle:ident, $alloc:ident, $kind:ident($side:ident) => $work:expr) => {
         match $handle.take($alloc) {
@@ -18,8 +18,8 @@ macro_rules! work_on {
     };
 }
 
-/// Makes something of what a handle stands for, where it is of this kind, for another handle, which is empty, and gives
-/// the code. The room for it is taken first, so that nothing is made where memory is wanting.
+/// Makes something of what a handle holds, if it is of this kind, for another handle, which is empty, and returns the
+/// code. The room for it is taken first, so that nothing is made if memory runs out.
 macro_rules! make_for {
     ($handle:ident, $alloc:ident, $kind:ident($side:ident) => $make:expr, $other:ident, $made:ident) => {
         match $handle.take($alloc) {
@@ -59,8 +59,8 @@ macro_rules! make_into {
     };
 }
 
-/// Takes what another handle stands for in, where both are of these kinds, empties that handle, and gives the code.
-/// What is not taken in comes back into its room.
+/// Takes what another handle holds in, if both are of these kinds, empties that handle, and returns the code. What is
+/// not taken in comes back into its room.
 macro_rules! join_into {
     ($handle:ident, $other:ident, $alloc:ident, $kind:ident($side:ident), $second:ident($joining:ident) => $join:expr) => {
         match ($handle.take($alloc), $other.take($alloc)) {
@@ -102,8 +102,8 @@ macro_rules! join_into {
     };
 }
 
-/// Ends what a handle stands for, where it is of this kind, puts out what is told of the end, empties the handle, and
-/// gives the code. What does not end comes back into its room.
+/// Ends what a handle holds, if it is of this kind, writes what is reported of the end, empties the handle, and returns
+/// the code. What does not end comes back into its room.
 macro_rules! end_with {
     ($handle:ident, $alloc:ident, $kind:ident($side:ident) => $end:expr, $told:ident => $out:expr) => {
         match $handle.take($alloc) {

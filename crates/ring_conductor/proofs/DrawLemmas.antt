@@ -1,4 +1,4 @@
--- How often numbers were drawn: where each below some number was drawn once, there were as many draws.
+-- Numbers drawn: if each below some number was drawn once, there were that many draws.
 use Rattle.std.proofs.Common.{◌≡◌, ◌∙◌, ◌⊎◌, ℕ, zero, suc, ◌+◌, ◌<◌, ◌≤◌, ◌%◌, ◌^◌, ◌==◌, Bool, true, false, cond, if◌then◌else◌, List, [], ◌∷◌, ◌++◌, length, inl, inr, refl, sym, ap, arith}
 use Rattle.std.specs.Prelude.{nat_lt}
 use Rattle.std.proofs.lemmas.Bool.{cases_eq, eq-eqb, lt-ltb, ltb-true, ne_eqb}
@@ -7,11 +7,11 @@ use Rattle.ring_layout.specs.Lists.{total}
 use Rattle.ring_table.specs.Services.{once_below, times}
 use Rattle.ring_conductor.specs.Turns.{drawn_in}
 
--- how many draws there were
+-- the number of draws
 abbrev pub draws_in : List Service → ℕ
 draws_in services = total (λ (s : Service). length s.draws) services
 
--- 1 where the two are the same
+-- 1 if the two are the same
 abbrev pub is_same : ℕ → ℕ → ℕ
 is_same d x = if d == x then 1 else 0
 
@@ -57,7 +57,7 @@ sum_one d (suc n) less = by (cases_eq d n) (sum_one d n)
         let here = not_same d n e in
         omega arith
 
--- where all draws are below n, those of each number below n are all
+-- if all draws are below n, those of each number below n are all
 sum_times : (n : ℕ) (ds : List ℕ) → ((x : ℕ) → 1 ≤ times x ds → x < n) → sum_below (λ x. times x ds) n ≡ length ds
 sum_times n [] low = sum_nothing n
 sum_times n (d ∷ ds) low =
@@ -101,7 +101,7 @@ module _ (n : ℕ) (ss : List Service) (once : (x : ℕ) → drawn_in x ss ≡ o
   pub drawn_below : (x : ℕ) → 1 ≤ drawn_in x ss → x < n
   drawn_below x h = let same = once x in below x n (omega arith)
 
-  -- as many were drawn as there are numbers below n
+  -- the number of draws is n
   pub all_drawn : n ≡ draws_in ss
   all_drawn = sym (sum_once n n (λ x. drawn_in x ss) (omega arith) once) ∙ sum_drawn n ss drawn_below
 

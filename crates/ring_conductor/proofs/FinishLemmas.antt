@@ -77,7 +77,7 @@ all_settled [] h = All-nil (λ (d : Claim). d.state ≢ Open)
 all_settled (c ∷ cs) h = All-cons (λ (d : Claim). d.state ≢ Open) (claim_of c) (unplaced cs) (not_open c.stage h.0)
     (all_settled cs h.1)
 
--- where no claim is open, what was received and what a closed ring shows are all committed messages
+-- if no claim is open, what was received and what a closed ring shows are all committed messages
 pub drained : (C start : ℕ) (p r : View) (rest : Ring) → HandsOut C start p r rest → AreSettled p.producer.claims
     → (count : ℕ) → ((h : List Claim) → Has rest h → AllSettled h → count ≡ length (committed_of h))
     → length r.consumer.taken + count ≡ length (placed_committed_of p.producer.claims)

@@ -70,7 +70,7 @@ never_breaks s t (m ∷ ms) (a ∷ before) h = never_breaks h.0 t ms before h.2
 pub left : (s u t : Serving) (m : Message) (ms : List Message) → Folds s ms u → ActsOn u m t Abort → Folds s ms t
 left s u t m ms f w = (same_twice s u t f.0 w.0, w.1 ∙ f.1, f.2)
 
--- Each reply takes room on the board -----------------------------------------
+-- Each reply takes room on the broadcast buffer ------------------------------
 
 replied_on : (v : View) (reply : Reply) → v.at + 8 ≤ (replied v reply).at
 replied_on v reply =

@@ -52,7 +52,7 @@ counted m x (n ∷ ms) e (inl h) =
 counted m x (n ∷ ms) e (inr h) = let rest = counted m x ms e h in omega arith
 counted m x [] e h = absurd h
 
--- where each correlation id occurs once, it tells the reply
+-- if each correlation id occurs once, it identifies the reply
 unique : (m n : Message) (ms : List Message) → ((x : ℕ) → times x (stamps ms) ≤ 1) → Has m ms → Has n ms
     → stamp m ≡ stamp n → m ≡ n
 unique m n [] once h k same = absurd h
@@ -72,7 +72,7 @@ unique m n (a ∷ ms) once (inr h) (inl f) same =
 unique m n (a ∷ ms) once (inr h) (inr k) same =
     unique m n ms (λ x. let most = once x in omega arith) h k same
 
--- the reply that a client heard is the one that its command got
+-- the reply that a client received is the one that its command got
 told_is : (all : List Message) → ((x : ℕ) → times x (stamps all) ≤ 1) → (client number counter : ℕ) (c : StagedClaim)
     (step : Step all client number counter c) (r : Reply) → reply.HasSpelling r
     → reply.correlation_id_of r ≡ step.correlation → Has (reply_message r) all → step.told ≡ r
@@ -95,7 +95,7 @@ told_is all once client number counter c step r spelled answers has =
 abbrev at : List Counter → ℕ → Counter
 at cs id = slice_index_or cs id unused_counter
 
--- a counter in use, with the client's label and the last number that it set by so many commands
+-- a counter in use, with the client's label and the last number that it set by this many commands
 pub record IsOwn (cs : List Counter) (client id sent : ℕ) : Type 0 where
   pub live : is_live (at cs id) ≡ true
   pub label : (at cs id).metadata.label ≡ label_of client
@@ -113,7 +113,7 @@ inside cs id live = elim (cases_lt id (length cs)) as (λ _. id < length cs) [
   | inr more ↦ absurd (let none = ap is_live (get_or_past cs id unused_counter more) in cc)
 ]
 
--- one client's counter becomes another, and nothing else
+-- one client's counter becomes another, and everything else stays
 module _ (clients : ℕ) (cs : List Counter) (p q p' q' : ℕ → ℕ) (holds : Holds clients cs p q) (c id : ℕ) (new : Counter)
     (below : c < clients) (less : id < length cs) (live : is_live new ≡ true)
     (label : new.metadata.label ≡ label_of c) (value : new.values.value ≡ pos (last_set (p' c)))
@@ -217,7 +217,7 @@ module _ (clients : ℕ) (few : clients ≤ 64) (all : List Message) (once : (x 
   abbrev counters_then : ℕ → ℕ
   counters_then = put client (counter_told step.told (q client)) q
 
-  -- what is to be shown of an outcome
+  -- what must be shown of an outcome
   abbrev Does : Outcome → Type 0
   Does o = Holds clients o.registry.counters sent_then counters_then
 
@@ -316,7 +316,7 @@ module _ (clients : ℕ) (few : clients ≤ 64) (all : List Message) (once : (x 
 
 -- All commands -------------------------------------------------------------------------
 
--- so many clients have sent so many commands each
+-- this many clients have sent this many commands each
 pub record Ends (clients commands live : ℕ) (r : Registry) : Type 0 where
   pub sent : ℕ → ℕ
   pub counters : ℕ → ℕ

@@ -1,4 +1,4 @@
--- How many counters are in use after a storm: one for each client.
+-- The number of counters in use after a storm: one for each client.
 use Rattle.std.proofs.Common.{◌≡◌, ◌∙◌, ◌⊎◌, ℕ, zero, suc, ◌+◌, ◌<◌, ◌≤◌, ◌^◌, ◌%◌, ◌==◌, Bool, true, false, cond, if◌then◌else◌, ℤ, pos, List, [], ◌∷◌, ◌++◌, length, map, Option, Some, None, Ok, add-one, inl, inr, refl, sym, ap, subst, arith}
 use Rattle.std.specs.Prelude.{All, count_by, find, not, nat_lt}
 use Rattle.std.specs.Fmt.{decimal}
@@ -52,7 +52,7 @@ is_live c = is_allocated c.metadata.status
 abbrev pub is_free : Counter → Bool
 is_free c = is_unused c.metadata.status
 
--- of so many counters this many are in use, and no other was ever used
+-- of this many counters this many are in use, and no other was ever used
 pub record HasLive (count : ℕ) (r : Registry) (live : ℕ) : Type 0 where
   pub none_freed : r.freed ≡ []
   pub counted : count_of r ≡ count
@@ -89,7 +89,7 @@ idle_from_unused Unused e = refl
 idle_from_unused Allocated e = absurd cc
 idle_from_unused (Reclaimed deadline) e = refl
 
--- where no counter passes a test, none is counted
+-- if no counter passes a test, none is counted
 none_passes : (p : Counter → Bool) (cs : List Counter) → length cs ≤ position_or_len p cs → count_by p cs ≡ 0
 none_passes p [] h = refl
 none_passes p (c ∷ cs) h = sum_by-cons (λ x. cond (p x) 1 0) c cs ∙ by (p c) (none_passes p cs) h
@@ -138,13 +138,13 @@ module _ (count live : ℕ) (r : Registry) (h : HasLive count r live) where
       let all = h.others in
       absurd (omega arith)
 
-  -- what an allocation with a lawful label gives
+  -- what an allocation with a valid label gives
   pub gives : (now : ℕ) (label : List ℕ) → text_refusal_of [] label ≡ None
       → allocation_of r now [] label ≡ given None (unused_id r)
   gives now label text i =
       given (text i) (or_else (find (λ id. is_due now (status_at r id)) (h.none_freed i)) (unused_id r))
 
-  -- the command for a counter with a lawful label is served, as long as there is one
+  -- the command for a counter with a valid label is served, as long as there is one
   one_more : (now correlation : ℕ) (label : List ℕ) → text_refusal_of [] label ≡ None → live < count
       → HasLive count (obeyed now r (Allocate correlation (pos 1) [] label)).registry (live + 1)
   one_more now correlation label text room =
@@ -186,13 +186,13 @@ module _ (count live : ℕ) (r : Registry) (h : HasLive count r live) where
 
 -- What claims ask ----------------------------------------------------------------
 
--- the message asks for one counter with a lawful label, or for none and sets one
+-- the message asks for one counter with a valid label, or for none and sets one
 abbrev pub IsAsked : Message → ℕ → Type 0
 IsAsked m asked = ((asked ≡ 0) × (m.type_id ≡ pos 3))
     ⊎ ((asked ≡ 1) × (correlation : ℕ) × (label : List ℕ) × (text_refusal_of [] label ≡ None)
     × (command_of m.type_id m.body ≡ Ok (Allocate correlation (pos 1) [] label)))
 
--- the claims are committed, and ask for so many counters
+-- the claims are committed, and ask for this many counters
 abbrev pub Ask : List StagedClaim → ℕ → Type 0
 Ask [] asked = asked ≡ 0
 Ask (c ∷ cs) asked = (one : ℕ) × (others : ℕ) × (c.stage ≡ Stored Committed) × IsAsked c.message one × Ask cs others

@@ -66,7 +66,7 @@ pub record Step (all : List Message) (client number counter : ℕ) (c : StagedCl
   pub spells : reply.Spells heard.type_id heard.body told
   pub answers : reply.correlation_id_of told ≡ correlation
 
--- the claims are a client's commands behind this number, to the last one, where it knows this counter
+-- the claims are a client's commands after this number, to the last one, if it knows this counter
 abbrev pub Rest : List Message → ℕ → ℕ → ℕ → ℕ → List StagedClaim → Type 0
 Rest all commands client number counter [] = number ≡ commands
 Rest all commands client number counter (c ∷ cs) = (step : Step all client (suc number) counter c)
@@ -149,8 +149,8 @@ pub put_there : (c v : ℕ) (f : ℕ → ℕ) (d : ℕ) → (d ≡ c → ⊥) �
 put_there c v f d e = ap (λ b. cond b v (f d)) (ne_eqb d c e)
 
 module _ (all : List Message) (commands : ℕ) where
-  -- the claims are those commands of the clients below a number that come behind the first `sent`, where they know
-  -- these counters
+  -- the claims are those commands of the clients below a number that come after the first `sent`, if they know these
+  -- counters
   abbrev pub AllRest : (ℕ → ℕ) → (ℕ → ℕ) → ℕ → List StagedClaim → Type 0
   AllRest sent counters zero cs = cs ≡ []
   AllRest sent counters (suc n) cs = (others : List StagedClaim) × (own : List StagedClaim)
@@ -220,7 +220,7 @@ module _ (all : List Message) (commands : ℕ) where
             );
           }
 
-  -- where no claim is left each client has sent all
+  -- if no claim is left each client has sent all
   pub all_sent : (p q : ℕ → ℕ) (n : ℕ) → AllRest p q n [] → (c : ℕ) → c < n → p c ≡ commands
   all_sent p q zero h c less = absurd (omega arith)
   all_sent p q (suc n) h c less = by (cases_eq c n) (λ below. all_sent p q n (subst (AllRest p q n) h.4.0 h.2) c below)

@@ -12,7 +12,7 @@ use Rattle.ring_conductor.specs.Conducting.{Works}
 use Rattle.ring_conductor.specs.Running.{Runs, report}
 use Rattle.ring_conductor.proofs.AccountLemmas.{runs_grow, runs_heard}
 
--- with so many messages so far, a run of these cycles makes one of all
+-- with this many messages so far, a run of these cycles makes one of all
 abbrev pub Leads : List Cycle → View → Ledger → List Cycle → WorkStop → ℕ → View → Ledger → Type 0
 Leads cycles v l cs last n u j = (w : View) (k : Ledger) (others : Work) → Runs cs last u w j k others
     → Runs cycles Limit v w l k (report (n + others.messages) others.stopped)
@@ -38,13 +38,13 @@ module _ (cycles : List Cycle) (v : View) (l : Ledger) where
 
 -- After the first i cycles -------------------------------------------------------
 
--- stands for a cycle behind the last
+-- means a cycle after the last
 abbrev idle : Cycle
 idle = record { now = 0; limit = 0 }
 
 module _ (cycles : List Cycle) (v : View) (l : Ledger) (i : ℕ) (last : WorkStop) (n : ℕ) (u : View) (j : Ledger)
     (leads : Leads cycles v l (drop i cycles) last n u j) where
-  -- where they are all
+  -- if they are all
   module _ (out : length cycles ≤ i) where
     pub runs_out : Runs cycles Limit v u l j (report n last)
     runs_out =
@@ -67,7 +67,7 @@ module _ (cycles : List Cycle) (v : View) (l : Ledger) (i : ℕ) (last : WorkSto
         → Leads cycles v l (drop (i + 1) cycles) first.stopped (n + first.messages) y z
     leads_next on = leads_on cycles v l (get_or cycles i idle) (drop (i + 1) cycles) last n u y j z first next works on
 
-    -- which came to the board's end
+    -- which came to the end of the broadcast buffer
     module _ (stop : first.stopped ≡ BoardEnd) where
       runs_stopped : Runs cycles Limit v y l z (report (n + first.messages) first.stopped)
       runs_stopped = next y z first (y, z, first, works, inl (stop, refl, refl, refl))

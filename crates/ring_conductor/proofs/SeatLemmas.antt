@@ -117,14 +117,14 @@ leaves C id r v w (Err fault.TooLong) sent not_sent = same v w not_sent.1
 leaves C id r v w (Err (fault.Refused correlation reason)) sent not_sent =
     refused C (type_id_of (asked r id)) (length (spelling_of (asked r id))) v reason w not_sent.2
 
--- a producer that joined none goes into another: its service comes behind the others
+-- a producer that joined none goes into another: its service comes after the others
 pub joins_service : (C : ℕ) (v w u : View) → Joins C v w u → w.producer.joined ≡ []
     → u.producer.joined ≡ v.producer.joined ++ w.producer.service ∷ []
 joins_service C v w u h none =
     ap (λ (z : View). z.producer.joined) h.view
     ∙ ap (λ (l : List Service). v.producer.joined ++ w.producer.service ∷ l) none
 
--- where a producer drew nothing itself, each number was drawn once by those that were joined into it
+-- if a producer drew nothing itself, each number was drawn once by those that were joined into it
 pub drawn_once : (p : ProducerView) (n : ℕ) → p.service.draws ≡ [] → ((x : ℕ) → times_drawn x p ≡ once_below x n)
     → (x : ℕ) → drawn_in x p.joined ≡ once_below x n
 drawn_once p n none once x = let own = ap (times x) none in let all = once x in omega arith

@@ -1,4 +1,4 @@
--- No message changes how many counters there are, or their reuse timeout.
+-- No message changes the number of counters, or their reuse timeout.
 use Rattle.std.proofs.Common.{◌≡◌, ◌∙◌, ℕ, ◌+◌, ◌==◌, List, [], ◌∷◌, Bool, true, false, cond, Option, Some, None, Result, Ok, Err, refl, sym, ap}
 use Rattle.std.specs.Prelude.{fold}
 use Rattle.std.proofs.Math.ListN.{length-set}

@@ -101,7 +101,7 @@ known_command (Set correlation id value) h = h.0
 known_command (AllocateOwned correlation type_id owner key label) h = h.0
 known_command (Close correlation owner) h = h.0
 
--- Each reply answers its command ---------------------------------------------------
+-- Each reply belongs to its command ---------------------------------------------------
 
 allocated_answers : (r : Registry) (correlation : ℕ) (c : Counter) (found : Result ℕ AllocateRefused)
     → reply.correlation_id_of (allocated r correlation c found).reply ≡ correlation
@@ -215,7 +215,7 @@ pub messages_by-append : (a b : List StagedClaim) → messages_by (a ++ b) ≡ m
 messages_by-append [] b = refl
 messages_by-append (c ∷ a) b = ap (λ l. c.message ∷ l) (messages_by-append a b)
 
--- how often a claim has this correlation id
+-- the number of claims with this correlation id
 abbrev pub stamped : ℕ → List StagedClaim → ℕ
 stamped x cs = times x (stamps (messages_by cs))
 

@@ -95,7 +95,7 @@ module _ (p : StormPlan) (limit : ℕ) (v w : View) (l k : Ledger) (done : Work)
       after ∙ (ap (λ r. counters_after r new) before
       ∙ (sym (counters_after-append (fresh_registry p.clients 0) old new) ∙ sym (ap (storm_counters p) all)))
 
--- How many counters there are --------------------------------------------------
+-- The number of counters -------------------------------------------------------
 
 allocated_count : (r : Registry) (correlation : ℕ) (c : Counter) (found : Result ℕ AllocateRefused)
     → count_of (allocated r correlation c found).registry ≡ count_of r
@@ -144,7 +144,7 @@ after_count : (r : Registry) (ms : List Message) → count_of (counters_after r 
 after_count r [] = refl
 after_count r (m ∷ ms) = after_count (applied 0 r m).registry ms ∙ read_count r (command_of m.type_id m.body)
 
--- there are as many as clients
+-- there is one for each client
 pub storm_count : (p : StormPlan) (ms : List Message) → count_of (storm_counters p ms) ≡ p.clients
 storm_count p ms = after_count (fresh_registry p.clients 0) ms ∙ length-replicate p.clients unused_counter
 
@@ -272,7 +272,7 @@ pub handed_at : (C start n : ℕ) (v w : View) (rest : Ring) → C ≡ n → sta
 handed_at C start n v w rest same begins out =
     subst (λ k. HandsOut k 0 v w rest) same (subst (λ s. HandsOut C s v w rest) begins out)
 
--- The board --------------------------------------------------------------------
+-- The broadcast buffer ---------------------------------------------------------
 
 pub board_for : (p : StormPlan) (all n C : ℕ) → all ≡ all_commands p → C ≡ max n 256 → IsPowerOfTwo n → 24 * all + 1 ≤ n
     → n / 2 < max 1 (24 * all + 1) → IsBoardFor p C

@@ -43,7 +43,7 @@ turn_correlation client counter number correlation = by (number == 1)
     by false = refl
 
 module _ (client : ℕ) (few : client < 64) where
-  -- a client's claims have its draws for correlation ids, and as many are there
+  -- a client's claims have its draws for correlation ids, one each
   own_stamped : (n : ℕ) (d : Deeds) → n ≤ 10000 → AreTurns client n d → stamps (messages_by d.claims) ≡ reduced d.draws
   own_stamped zero d short h = ap (λ l. stamps (messages_by l)) h.0 ∙ sym (ap reduced h.1)
   own_stamped (suc n) d short h =
@@ -82,7 +82,7 @@ module _ (commands : ℕ) (short : commands ≤ 10000) where
       subst (Each IsSaid) (sym one.together) (each_interleaved IsSaid h.0 one.own.claims
       (all_said n h.0 h.1 h.2 (omega arith) h.3) (own_said n (omega arith) commands one.own short one.turns))
 
-  -- how often a claim has a correlation id is how often it was drawn
+  -- a correlation id is claimed as often as it was drawn
   all_stamps : (x clients : ℕ) (claims : List StagedClaim) (receivers : List Joined) (services : List Service)
       → clients ≤ 64 → AreAllTurns commands clients claims receivers services
       → stamped x claims ≡ drawn_reduced x services
@@ -96,7 +96,7 @@ module _ (commands : ℕ) (short : commands ≤ 10000) where
       let more = total-append (λ (s : Service). times x (reduced s.draws)) h.2 (one.service ∷ []) in
       ap (stamped x) one.together ∙ ((omega arith) ∙ sym (ap (drawn_reduced x) one.served))
 
--- each client drew as many numbers as it has commands
+-- each client drew one number for each of its commands
 pub all_draws : (commands clients : ℕ) (claims : List StagedClaim) (receivers : List Joined) (services : List Service)
     → AreAllTurns commands clients claims receivers services → draws_in services ≡ clients * commands
 all_draws commands zero claims receivers services h = let none = ap draws_in h.2 in omega arith
@@ -156,7 +156,7 @@ module _ (r : Registry) (v : ℕ) (each : (id : ℕ) → is_live (counter_at r i
           ∙ (deeper (s + v) (omega arith) ∙ ap pos same))
       by false is deeper low = deeper s low
 
-  -- as many counters in use, each with that value
+  -- this many counters in use, each with that value
   all_sum : (live : ℕ) → length (live_of r) ≡ live → live * v < 2 ^ 63 → sum_of (live_of r) ≡ pos (live * v)
   all_sum live counted low =
       let long : length (listed (ids_of r)) ≡ live = sym (length-map (live_ids r) entry) ∙ counted in

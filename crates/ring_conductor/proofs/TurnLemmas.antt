@@ -52,13 +52,13 @@ refused C c v (Refused f) w (inr (inr h)) = ap (λ (u : View). u.producer.claims
 refused C c v (Contended tail seen) w h = ap (λ (u : View). u.producer.claims) h.view
 
 module _ {T : Type 0} (C id : ℕ) (r : Request) (v w : View) where
-  -- a try adds the command where it succeeds
+  -- a try adds the command if it succeeds
   adds : (result : Result T SendFault) → OnOk result (IsSendable r × SendsAs Writes C id r v w)
       → OnTrue (is_ok result) (Adds (asked r id) v.producer.claims w.producer.claims)
   adds (Ok done) h = written C (asked r id) v w h.1
   adds (Err f) h = tt
 
-  -- and nothing else
+  -- and otherwise nothing
   keeps : (result : Result T SendFault) → IfErr result (λ f. RefusesAs RefusesTry C id r v f w)
       → OnFalse (is_ok result) (w.producer.claims ≡ v.producer.claims)
   keeps (Ok done) h = tt
@@ -77,7 +77,7 @@ module _ {T : Type 0} (C id : ℕ) (r : Request) (v w : View) where
 
 -- Hearing ------------------------------------------------------------------------
 
--- whatever is told, no copy is lost
+-- whatever is returned, no copy is lost
 pub hears_more : (correlation : ℕ) (old new : Sat) (told : Polled) → IsHeard correlation old new told
     → Lengthens old.0.copies new.0.copies
 hears_more correlation old new (Answered r) h = (_, ap (λ (m : Sat). m.0.copies) h.0.copied.1)
@@ -131,14 +131,14 @@ no_more old new more few =
     let both = ap length more.1 ∙ length-append old more.0 in
     more.1 ∙ (ap (λ l. old ++ l) (nothing more.0 (omega arith)) ∙ append-nil old)
 
--- a client did all that it had to, and each of its commands was answered
+-- a client did all that it had to, and each of its commands had its reply
 pub record HasDoneAll (commands client seen : ℕ) (d : Deeds) : Type 0 where
   pub answered : AreAnswered client seen d
   pub counted : seen ≡ commands
   pub few : (length d.claims ≤ commands) × (length d.draws ≤ commands)
   pub rising : AreRising d.claims
 
--- the deeds of a client are put among those of others: its claims by place, receiver and service behind the others
+-- the deeds of a client are put among those of others: its claims by place, receiver and service after the others
 pub record PutAmong (d : Deeds) (claims others : List StagedClaim) (receivers before : List Joined) (receiver : Joined)
     (services served : List Service) (service : Service) : Type 0 where
   pub together : claims ≡ interleaved others d.claims
@@ -147,8 +147,8 @@ pub record PutAmong (d : Deeds) (claims others : List StagedClaim) (receivers be
   pub more : services ≡ served ++ service ∷ []
   pub draws : service.draws ≡ d.draws
 
--- the turns of one client more, which had all its replies: it made no more claims and draws than were answered, so that
--- they are those of its turns
+-- the turns of one client more, which had all its replies: it made no more claims and draws than it had replies, so
+-- that they are those of its turns
 pub all_turns : (commands client seen : ℕ) (d : Deeds) (claims others : List StagedClaim)
     (receivers before : List Joined) (receiver : Joined) (services served : List Service) (service : Service)
     → AreAllTurns commands client others before served → HasDoneAll commands client seen d

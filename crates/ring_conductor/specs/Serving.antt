@@ -28,7 +28,7 @@ ledger_of s = record {
       view_of s.transmitter.now;
 }
 
--- transmitter and counters belong to the board and the values
+-- transmitter and counters belong to the broadcast buffer and the values
 pub record IsReady (s : Serving) : Type 0 where
   pub board : IsTransmitterOf s.board.now s.transmitter.now
   pub values : IsManagerOf s.values.now s.counters.now
@@ -43,7 +43,7 @@ pub record IsSameHandler (s t : Serving) : Type 0 where
   pub transmitter : t.transmitter.ghost_name ≡ s.transmitter.ghost_name
   pub value_shares : shares_of t.counters.now ≡ shares_of s.counters.now
 
--- a message is served, where a reply of 12 bytes has room on the board; where none has, nothing is done
+-- a message is served, if a reply of 12 bytes has room on the broadcast buffer; otherwise nothing is done
 abbrev pub ActsOn : Serving → Message → Serving → Action → Type 0
 ActsOn s m t Abort = IsSameHandler s t × (ledger_of t ≡ ledger_of s) × IsAtEnd (ledger_of s).board
 ActsOn s m t Break = ⊥

@@ -33,7 +33,7 @@ numbered label counter number correlation =
 abbrev pub turn_of : ℕ → ℕ → ℕ → ℕ → Instruction
 turn_of client counter number correlation = numbered (label_of client) counter number correlation
 
--- the last number that a client sets by so many commands: none by the first alone, and its counter has 0
+-- the last number that a client sets by this many commands: none by the first alone, and its counter has 0
 abbrev pub last_set : ℕ → ℕ
 last_set commands = if commands == 1 then 0 else commands
 
@@ -47,7 +47,7 @@ draws_by c = draws_of (producer_of c)
 abbrev pub copies_by : Client → List Taken
 copies_by c = copies_of (receiver_of c)
 
--- how often these services drew a number
+-- the number of times that these services drew a number
 abbrev pub drawn_in : ℕ → List Service → ℕ
 drawn_in x services = total (λ (s : Service). times x s.draws) services
 
@@ -90,8 +90,8 @@ counter_told (Done correlation) counter = counter
 counter_told (Refused correlation code) counter = counter
 counter_told (Closed correlation freed) counter = counter
 
--- A client drew one number, and its command was sent with that correlation id; where it sets a counter, this is the one
--- that the client knew. Then a reply with that id came, which may have told it the id of its counter
+-- A client drew one number, and its command was sent with that correlation id; if it sets a counter, this is the one
+-- that the client knew. Then a reply with that id came, which may have the id of its counter
 pub record Turns (client number : ℕ) (old new : Deeds) : Type 0 where
   pub draw : ℕ
   pub drawn : new.draws ≡ old.draws ++ draw ∷ []

@@ -9,7 +9,8 @@ use ring_protocol::{LONGEST_COMMAND, Reply};
 use ring_rings::{Producer, TryFault};
 use thiserror::Error;
 
-/// One who sends commands through a ring of either kind and hears the replies on a board. One thread has it at a time.
+/// Sends commands through a ring of either kind and receives the replies from a broadcast buffer. One thread has it at
+/// a time.
 #[derive(Drop)]
 pub struct Client {
     pub(crate) producer: Producer,
@@ -29,7 +30,7 @@ pub enum SendFault {
     Refused { correlation: u64, reason: TryFault },
 }
 
-/// What a client is told that waits for a reply.
+/// What a poll for a reply returns.
 #[derive(Clone, Copy, Debug, PartialEq, Eq)]
 pub enum Polled {
     /// The reply to the command that was asked about.

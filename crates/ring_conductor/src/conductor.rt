@@ -18,15 +18,15 @@ use ring_rings::Consumer;
 
 /// Takes commands from a ring, applies them to the counters that it owns, and transmits one reply to each.
 ///
-/// It belongs to the ring, the board and the values of the parts that it was made of; each call that takes them
-/// requires those. It is used by one thread at a time, and may move between threads. Where it is let go, neither the
-/// ring nor the board can ever be closed.
+/// It belongs to the ring, the broadcast buffer and the values of the parts that it was made of; each call that takes
+/// them requires those. It is used by one thread at a time, and may move between threads. If it is dropped, neither the
+/// ring nor the broadcast buffer can ever be closed.
 #[derive(Drop)]
 pub struct Conductor {
     pub(crate) consumer: Consumer,
     pub(crate) transmitter: Transmitter,
     pub(crate) counters: CountersManager,
-    // How many commands it took. Each has a reply of at least 8 bytes on the board.
+    // The number of commands that it took. Each has a reply of at least 8 bytes on the broadcast buffer.
     pub(crate) received: u64,
     ghost counted: { received ≡ length (taken_of consumer) },
     ghost answered: { 8 * received ≤ (view_of transmitter).at },
@@ -36,20 +36,20 @@ pub struct Conductor {
 /// Why the conductor stopped.
 #[derive(Clone, Copy, Debug, PartialEq, Eq)]
 pub enum WorkStop {
-    /// As many commands were taken as were wanted.
+    /// The limit was reached.
     Limit,
-    /// The end of the ring's buffer was reached: the next call goes on behind it.
+    /// The end of the ring's buffer was reached: the next call goes on past it.
     Block,
     /// There was no settled command.
     Unpublished,
-    /// A reply might end above 2^62 on the board. The command stays in the ring, not applied.
+    /// A reply might end above 2^62 on the broadcast buffer. The command stays in the ring, not applied.
     BoardEnd,
 }
 
 /// What the conductor did.
 #[derive(Clone, Copy, Debug, PartialEq, Eq)]
 pub struct Work {
-    /// How many commands were taken.
+    /// The number of commands taken.
     pub messages: u64,
     pub stopped: WorkStop,
 }
@@ -59,6 +59,6 @@ pub struct Work {
 pub struct Cycle {
     /// The moment, in milliseconds and at most 2^62.
     pub now: u64,
-    /// How many commands it may take.
+    /// The number of commands that it may take.
     pub limit: u32,
 }

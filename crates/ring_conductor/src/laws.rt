@@ -6,7 +6,7 @@ ghost use Rattle.ring_board.specs.declared.shared.view.Taken.{Taken};
 ghost use Rattle.ring_layout.specs.Lists.{Begins};
 ghost use Rattle.ring_conductor.specs.Fold.{Ledger, fold_of, with_receivers};
 
-/// The fold of two lists of messages, one behind the other, is a fold of the second from where the first came to.
+/// The fold of two lists of messages, one after the other, is a fold of the second from the end of the first.
 pub fn fold_of_fold()
     ensures { (l : Ledger) (first second : List (ℕ × Message))
         → fold_of l (first ++ second) ≡ fold_of (fold_of l first) second }

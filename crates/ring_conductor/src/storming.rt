@@ -30,18 +30,18 @@ use std::sync::atomic::AtomicBool;
 use std::thread;
 use std::thread::Threads;
 
-/// Runs the clients of a plan against one conductor, all on threads of their own, and says what came of it.
+/// Runs the clients of a plan against one conductor, all on threads of their own, and reports what came of it.
 ///
-/// Each client sends its commands one by one through a many-to-one ring, as the gate lets it, and waits for each
-/// reply on a board that has room for all of them. Its first command allocates a counter of type 1 with an empty key
-/// and the label `c` and the client's number; each further one sets that counter to the command's number. The
-/// conductor works at the moment 0 until it has taken all commands. Then all seats are joined and the conductor
+/// Each client sends its commands one by one through a many-to-one ring, as the gate lets it, and waits for each reply
+/// on a broadcast buffer that has room for all of them. Its first command allocates a counter of type 1 with an empty
+/// key and the label `c` and the client's number; each later one sets that counter to the command's number. The
+/// conductor works at the moment 0 until it has taken all commands. Then all endpoints are joined and the conductor
 /// finishes, whatever came before. So the report's `sum` follows from the plan: each client's counter ends at the
-/// number of its commands, or at 0 where it sends one.
+/// number of its commands, or at 0 if it sends one.
 ///
-/// `BadPlan` comes where a number of the plan is not allowed, before anything is done, then `OutOfMemory` where memory
-/// is wanting, or a thread could not be started or was kept from it by the gate, and then `TurnsSpent` where a wait
-/// took as many turns as the plan allows. All threads have ended by then. It may wait.
+/// Returns, in this order: `BadPlan` if a number of the plan is not allowed, before anything is done; `OutOfMemory` if
+/// memory runs out, or if a thread could not be started or was kept from it by the gate; `TurnsSpent` if a wait took
+/// the number of turns that the plan allows. All threads have ended by then. It may wait.
 pub fn storm<R: Threads + Wait, G: Gate + Sync>(
     rt: &R,
     alloc: Global,

@@ -60,7 +60,7 @@ const COMMANDS: [(Command<'static>, i32, &'static [u8]); 5] = [
     ),
 ];
 
-/// Tests that a command has this type id and is spelled so, with nothing written behind it.
+/// Tests that a command has this type id and is spelled so, with nothing written after it.
 fn is_spelled(rt: &impl Abort, command: &Command<'_>, type_id: i32, bytes: &[u8]) {
     let mut out = [7; 40];
     let len = encode_command(command, &mut out);
@@ -213,7 +213,7 @@ const REPLIES: [(Reply, u64, i32, &'static [u8]); 4] = [
     ),
 ];
 
-/// Tests that a reply is spelled so, with nothing written behind it.
+/// Tests that a reply is spelled so, with nothing written after it.
 fn is_reply(rt: &impl Abort, reply: &Reply, type_id: i32, bytes: &[u8]) {
     let mut out = [7; 12];
     let len = encode_reply(reply, &mut out);

@@ -1,10 +1,10 @@
-//! How refusals are told: by number and name.
+//! The text of each refusal: number and name.
 use ring_conductor::{Bad, FinishFault, StormFault};
 use std::alloc::{AllocError, Global};
 use std::fmt;
 use std::test::Fail;
 
-/// Tests whether this is how the fault is told.
+/// Tests whether this is the fault's text.
 fn tells(alloc: Global, fault: impl fmt::Display + Drop, text: &str) -> Result<bool, AllocError> {
     Ok(fault.to_string(alloc)?.as_str() == text)
 }

@@ -135,7 +135,7 @@ fn refusals_have_these_numbers_and_texts(rt: HostRuntime) -> Result<(), Fail> {
     Ok(())
 }
 
-/// Tests whether a refusal is told as the fault is.
+/// Tests whether a refusal has the text of the fault.
 fn are_alike(
     alloc: Global,
     fault: impl fmt::Display + Drop,

@@ -38,7 +38,7 @@ pub enum Call<'a> {
     Words(u32, usize, usize),
 }
 
-/// What a call answers.
+/// What a call returns.
 #[derive(Clone, Copy, Debug, PartialEq, Eq)]
 pub enum Said {
     Done,
@@ -204,7 +204,7 @@ impl Desk {
         }
     }
 
-    /// Makes the calls, and tests that each answers so.
+    /// Makes the calls, and tests that each returns so.
     pub fn goes(&mut self, rt: &impl Abort, calls: &[(Call<'_>, Said)]) {
         for (at, (call, said)) in calls.iter().enumerate() {
             assert_eq!(rt; self.made(*call), *said, "call {at}");

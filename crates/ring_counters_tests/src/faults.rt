@@ -1,9 +1,9 @@
-//! How refusals are told: by number and name.
+//! The text of each refusal: number and name.
 use ring_counters::{AllocateRefused, BadId, BadOwner, IdFault, MakeFault, NoShares, OutOfMemory};
 use std::alloc::{AllocError, Global};
 use std::fmt;
 
-/// Tests whether this is how the fault is told.
+/// Tests whether this is the fault's text.
 fn tells(alloc: Global, fault: impl fmt::Display + Drop, text: &str) -> bool {
     match fault.to_string(alloc) {
         Ok(told) => told.as_str() == text,

@@ -1,4 +1,4 @@
-//! A client: it sends commands into the ring, and hears their replies on the board.
+//! A client: it sends commands into the ring, and receives their replies from the broadcast buffer.
 ghost use Rattle.std.specs.Prelude.{◌≡◌};
 ghost use Rattle.ring_example.specs.Seats.{IsCallerOf};
 
@@ -8,10 +8,10 @@ use ring_conductor::{Client, Polled, Reply, Request, SendFault};
 use ring_rings::{ClaimFault, TryFault};
 use std::sync::Wait;
 
-/// How many commands are sent before their replies are waited for. Those of two callers fill the ring.
+/// The number of commands that are sent before their replies are waited for. Those of two callers fill the ring.
 const BATCH: usize = 8;
 
-/// How many such batches are sent.
+/// The number of such batches.
 const BATCHES: u32 = 125;
 
 /// A client that counts up, and what it came to.
@@ -19,13 +19,13 @@ const BATCHES: u32 = 125;
 pub struct Caller {
     pub label: &'static str,
     pub client: Client,
-    /// How many of its commands were answered.
+    /// The number of replies to its commands.
     pub replies: u32,
-    /// How often it was lapped.
+    /// The number of times it was lapped.
     pub laps: u32,
 }
 
-// Each call says that the caller's producer stays one of the ring, and its receiver one of the board.
+// Each call states that the caller's producer stays one of the ring, and its receiver one of the broadcast buffer.
 impl Caller {
     /// A caller that has sent nothing yet.
     pub fn new(label: &'static str, client: Client) -> Caller
@@ -39,8 +39,8 @@ impl Caller {
         }
     }
 
-    /// Sends a command, and waits while the ring is full. Answers its correlation id; `None` where the ring never
-    /// takes it.
+    /// Sends a command, and waits while the ring is full. Returns its correlation id; `None` if the ring never takes
+    /// it.
     fn send<R: Wait>(&mut self, rt: &R, on: &Shared, request: Request<'_>) -> Option<u64>
         requires { IsCallerOf on.now self.old }
         ensures { IsCallerOf on.now self.new }
@@ -54,7 +54,7 @@ impl Caller {
                 Err(SendFault::TooLong) => return None,
             };
             match reason {
-                // Another client was faster: at once again.
+                // Lost the race: retry immediately.
                 TryFault::Contended { .. } => {}
                 // Full: first the conductor has to take something.
                 TryFault::Refused(ClaimFault::InsufficientCapacity { .. }) => backoff.snooze(),
@@ -65,8 +65,8 @@ impl Caller {
         unreachable!()
     }
 
-    /// Waits for the reply to the command with this correlation id. `None` where replies were missed: what became of
-    /// the command is then not known.
+    /// Waits for the reply to the command with this correlation id. Returns `None` if replies were missed: what became
+    /// of the command is then unknown.
     fn hear<R: Wait>(&mut self, rt: &R, on: &Shared, correlation: u64) -> Option<Reply>
         requires { IsCallerOf on.now self.old }
         ensures { IsCallerOf on.now self.new }
@@ -78,7 +78,7 @@ impl Caller {
                     self.replies = self.replies.saturating_add(1);
                     return Some(reply);
                 }
-                // The reply to another, or one that is older than this client. More may lie behind it.
+                // The reply to another, or one that is older than this client. More may be after it.
                 Polled::Another(_) | Polled::NoReply => backoff.reset(),
                 Polled::Nothing => backoff.snooze(),
                 Polled::Lapped(_) => {
@@ -126,8 +126,8 @@ impl Caller {
         Some(())
     }
 
-    /// Runs to its end. Whatever came of it, the seats come back: a producer or receiver that is let go on a thread is
-    /// lost, and the conductor could then never finish.
+    /// Runs to its end. Whatever came of it, the endpoints come back: a producer or receiver that is dropped on a
+    /// thread is lost, and the conductor could then never finish.
     pub fn run<R: Wait>(mut self, rt: &R, on: &Shared) -> Caller
         requires { IsCallerOf on.now self }
         ensures { IsCallerOf on.now result }

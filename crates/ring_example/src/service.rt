@@ -9,13 +9,13 @@ use ring_counters::ValueReader;
 use std::sync::Wait;
 use std::sync::atomic::Ordering::SeqCst;
 
-/// How many counters there are.
+/// The number of counters.
 pub const COUNTERS: u32 = 2;
 
 /// The moment at which the conductor works, in milliseconds. It matters to counters that are freed, and here none is.
 const NOW: u64 = 0;
 
-/// Works until it is told to stop and no command is left.
+/// Works until it is stopped and no command is left.
 pub fn conduct<R: Wait>(rt: &R, on: &Shared, mut conductor: Conductor) -> Conductor
     requires { IsConductorAt on.now conductor }
     ensures { IsConductorAt on.now result }
@@ -26,7 +26,7 @@ pub fn conduct<R: Wait>(rt: &R, on: &Shared, mut conductor: Conductor) -> Conduc
         let is_last = on.stop.load(SeqCst);
         let work = conductor.do_work(&on.ring, &on.board, &on.values, NOW, u32::MAX);
         match work.stopped {
-            // The end of the buffer is not the end of the commands: the next call goes on behind it.
+            // The end of the buffer is not the end of the commands: the next call goes on past it.
             WorkStop::Block | WorkStop::Limit => backoff.reset(),
             WorkStop::Unpublished if !is_last => backoff.snooze(),
             WorkStop::Unpublished | WorkStop::BoardEnd => return conductor,
@@ -35,7 +35,7 @@ pub fn conduct<R: Wait>(rt: &R, on: &Shared, mut conductor: Conductor) -> Conduc
     unreachable!()
 }
 
-/// Reads all values until it is told to stop. Says whether one was ever below an earlier one of the same counter.
+/// Reads all values until it is stopped. Returns whether one was ever below an earlier one of the same counter.
 pub fn watch<R: Wait>(rt: &R, on: &Shared, mut reader: ValueReader) -> (ValueReader, bool)
     requires { IsReaderOf on.now.values reader }
     ensures { IsReaderOf on.now.values result.0 }

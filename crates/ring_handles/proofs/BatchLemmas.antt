@@ -1,4 +1,4 @@
--- A controlled read of messages into a buffer, one behind another.
+-- A controlled read of messages into a buffer, one after another.
 use Rattle.std.proofs.Common.{◌≡◌, ◌≢◌, ◌⊎◌, inl, inr, ℕ, zero, suc, ◌+◌, ◌<◌, ◌≤◌, true, false, arith, ℤ, pos, List, [], ◌∷◌, ◌++◌, All, length, refl, sym, ap, ◌∙◌, subst}
 use Rattle.std.proofs.lemmas.List.{append-nil}
 use Rattle.std.proofs.lemmas.List.Elements.{All-head, All-tail}
@@ -19,7 +19,7 @@ use Rattle.ring_handles.specs.Consuming.{RanOut, TookNone}
 use Rattle.ring_handles.specs.Side.{Reading, having_read}
 use Rattle.ring_handles.proofs.EndLemmas.{both, had_none, in_words, next_on, none_once, none_twice, ran_out}
 
--- these messages were laid behind what was used
+-- these messages were laid after what was used
 record WereLaid (s : Laying) (ms : List PlacedMessage) (t : Laying) : Type 0 where
   pub buffer : t.buffer.now ≡ laid s.used (messages_of ms) s.buffer.now
   pub used : t.used ≡ laid_end s.used (messages_of ms)
@@ -28,7 +28,7 @@ record WereLaid (s : Laying) (ms : List PlacedMessage) (t : Laying) : Type 0 whe
   pub size : length t.buffer.now ≡ length s.buffer.now
   pub borrow : t.buffer.ghost_name ≡ s.buffer.ghost_name
 
--- who goes on added the message
+-- to go on means that the message was added
 added : (s u : Laying) (m : Message) (a : Action) → Lays s m u a → GoesOn a → LaysIn s m u a
 added s u m a (inl adds) on = adds
 added s u m a (inr leaves) on = absurd (subst GoesOn leaves.action on)

@@ -30,7 +30,7 @@ module _ {S : Type 0} (step : S → Message → S → Action → Type 0) (limit 
         rest = m.rest;
       }
 
-  -- below its limit a read that nothing stopped ended where no settled record lay, or at the end of the buffer
+  -- below its limit a read that nothing stopped ended at a head without a settled record, or at the end of the buffer
   ran_on : WentOn step limit v w s t end → end.messages ≡ 0 → 0 < limit
       → v.consumer.head + end.bytes ≡ w.consumer.head → (end.stopped ≡ Unpublished → FoundUnsettled v w)
       → RanOut limit end.stopped v w

@@ -8,7 +8,7 @@ use Rattle.ring_rings.specs.Reading.{messages_of}
 use Rattle.ring_conductor.specs.declared.finishing.fault.FinishFault.{FinishFault}
 use Rattle.ring_conductor.proofs.FoldLemmas.{lengths}
 
--- where it succeeded there was no refusal
+-- if it succeeded there was no refusal
 pub no_refusal : {T E : Type 0} (error : FinishFault → E) (o : Option FinishFault) (r : Result T E) (x : T)
     → IsRefusedAs error o r → r ≡ Ok x → o ≡ None
 no_refusal error None r x h is = refl
@@ -24,6 +24,6 @@ rest_counts received all rest count whole counted =
     let sum = ap length whole in
     omega arith
 
--- where a producer may close its ring, none of its claims is open
+-- if a producer may close its ring, none of its claims is open
 pub none_is_open : (open_claims shares : ℕ) → close_refusal_of open_claims shares ≡ None → open_claims ≡ 0
 none_is_open open_claims shares e = grind arith

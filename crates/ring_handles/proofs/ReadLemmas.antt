@@ -74,7 +74,7 @@ none_more v w ms taken none =
 abbrev outs : Copying → Out
 outs s = out s.type_id s.len s.buffer.now
 
--- no message is counted where none was shown
+-- no message is counted if none was shown
 uncounted : (n : ℕ) (ms : List PlacedMessage) → n ≡ length ms → ms ≡ [] → n ≡ 0
 uncounted n ms counted none = counted ∙ ap (λ (ns : List PlacedMessage). length ns) none
 
@@ -124,7 +124,7 @@ took_one v w s t end waits bytes blocked (inr (inr aborts)) =
       },
     ))
 
--- the same where these are what it tells
+-- the same if these are what it says
 pub told_as : (Why : View → View → Type 0) (v w : View) (o : Out) (t : Copying) (type_id : ℤ) (len : ℕ)
     (buffer : List ℕ) (code : ℤ) → type_id ≡ t.type_id → len ≡ t.len → buffer ≡ t.buffer.now → code ≡ t.code
     → TookOne Why v w o (out t.type_id t.len t.buffer.now) t.code → TookOne Why v w o (out type_id len buffer) code

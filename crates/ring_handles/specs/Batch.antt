@@ -1,4 +1,4 @@
--- How messages are laid one behind another into a buffer.
+-- How messages are laid one after another into a buffer.
 use Rattle.std.specs.Prelude.{◌≡◌, ◌≢◌, ◌⊎◌, ℕ, ◌+◌, ◌*◌, ◌/◌, ◌<◌, ◌≤◌, ℤ, true, false, List, [], ◌∷◌, ◌++◌, length}
 use Rattle.std.specs.Int.{cast_unsigned, to_le_bytes, w64}
 use Rattle.ring_layout.specs.declared.message.Message.{Message}
@@ -23,19 +23,19 @@ placed at m bytes = overwritten (at + 16) m.body
     (overwritten (at + 8) (to_le_bytes w64 (cast_unsigned w64 m.type_id))
     (overwritten at (to_le_bytes w64 (length m.body)) bytes))
 
--- the bytes with these messages one behind another from `at` on
+-- the bytes with these messages one after another from `at` on
 abbrev pub laid : ℕ → List Message → List ℕ → List ℕ
 laid at [] bytes = bytes
 laid at (m ∷ ms) bytes = laid (at + span_in (length m.body)) ms (placed at m bytes)
 
--- where they end
+-- the end of these
 abbrev pub laid_end : ℕ → List Message → ℕ
 laid_end at [] = at
 laid_end at (m ∷ ms) = laid_end (at + span_in (length m.body)) ms
 
 -- The handler --------------------------------------------------------------------
 
--- there was room, and the message stands behind those before it
+-- there was room, and the message is after those before it
 pub record LaysIn (s : Laying) (m : Message) (t : Laying) (a : Action) : Type 0 where
   pub room : s.used + span_in (length m.body) ≤ length s.buffer.now
   pub action : a ≡ Continue
@@ -70,7 +70,7 @@ pub record Batch : Type 0 where
 abbrev pub batch : ℕ → ℕ → List ℕ → Batch
 batch count used buffer = record { count = count; used = used; buffer = buffer }
 
--- some messages were taken, at most so many, and stand at the front of the buffer, which was these bytes
+-- some messages were taken, at most this many, and are at the front of the buffer, which was these bytes
 pub record TookSome (limit : ℕ) (v w : View) (bytes : List ℕ) (after : Batch) : Type 0 where
   pub messages : List PlacedMessage
   pub some : messages ≢ []

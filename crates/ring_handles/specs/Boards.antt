@@ -1,5 +1,5 @@
--- What calls of a board's handles do: p is the transmitter before, q after, r is the receiver before, s after, and the
--- code is what is answered.
+-- What calls of a broadcast buffer's handles do: p is the transmitter before, q after, r is the receiver before, s
+-- after, and the code is what is returned.
 use Rattle.std.specs.Prelude.{◌≡◌, ◌⊎◌, ℕ, ◌/◌, ◌<◌, ◌≤◌, ℤ, pos, List, length, take, MatchOption, Option, None, Some}
 use Rattle.atomic_table.specs.Seated.{TableId}
 use Rattle.ring_layout.specs.History.{overwritten}
@@ -55,7 +55,7 @@ pub record Listening : Type 0 where
   pub identity : Identity
   -- the bytes of the board's buffer
   pub capacity : ℕ
-  -- what a conductor shares, where it is a receiver of one's
+  -- what a conductor shares, if it is a receiver of one's
   pub lender : Option Shared
   -- what the receiver knows, with the slots of its seat, which has none
   pub seat : Sat
@@ -77,7 +77,7 @@ pub record Subscribes (p q : Sending) (r : Listening) : Type 0 where
   }
   pub knows : r.seat.0 ≡ newcomer p.view
 
--- why a receiver is not made: the transmitter needs its last share, or memory is wanting
+-- why a receiver is not made: the transmitter needs its last share, or memory runs out
 abbrev pub IsUnheard : Sending → ℤ → Type 0
 IsUnheard p code = ((code ≡ pos 12) × (subscribe_refusal_of p.view.shares ≡ Some NoShares)) ⊎ (code ≡ pos 3)
 
@@ -93,7 +93,7 @@ pub record Heard : Type 0 where
 abbrev pub heard_out : ℤ → ℕ → ℕ → List ℕ → Heard
 heard_out type_id len lapped buffer = record { type_id = type_id; len = len; lapped = lapped; buffer = buffer }
 
--- a message was copied, and as much of it as the buffer has room for stands at its front
+-- a message was copied, and as much of it as the buffer has room for is at its front
 pub record Copies (before after : Heard) (m m' : Sat) : Type 0 where
   pub place : ℕ
   pub type_id : ℤ
@@ -112,7 +112,8 @@ abbrev pub TellsHeard : Heard → Heard → Sat → Sat → ℤ → Type 0
 TellsHeard before after m m' code = ((code ≡ pos 0) × Copies before after m m')
     ⊎ (((code ≡ pos 105) × GotNothing m m' × (after ≡ before)) ⊎ ((code ≡ pos 13) × Laps before after m m'))
 
--- a buffer that has no room for the longest message is refused, and that length is put out; else the receiver hears
+-- a buffer that has no room for the longest message is refused, and that length is put out; otherwise the receiver
+-- receives
 abbrev pub Received : Heard → Heard → Listening → Listening → ℤ → Type 0
 Received before after r s code = ((length before.buffer < r.capacity / 8) × (code ≡ pos 106) × (s ≡ r)
     × (after ≡ record before { len = r.capacity / 8 }))

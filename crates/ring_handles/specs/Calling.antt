@@ -1,5 +1,5 @@
 -- What calls of clients do: k is the client before, l after, m is its seat at the board before, n after, and the code
--- is what is answered.
+-- is what is returned.
 use Rattle.std.specs.Prelude.{◌≡◌, ◌⊎◌, ℕ, ℤ, pos}
 use Rattle.std.specs.Arc.{arc_value}
 use Rattle.ring_table.specs.ServiceSteps.{LoadsHeartbeat}
@@ -57,7 +57,7 @@ pub record PollOut : Type 0 where
 abbrev pub poll_out : ℤ → ℤ → ℕ → PollOut
 poll_out kind number lapped = record { kind = kind; number = number; lapped = lapped }
 
--- what a reply says besides its kind
+-- what a reply says in addition to its kind
 abbrev pub number_in : Reply → ℤ
 number_in (Allocated correlation id) = pos id
 number_in (Done correlation) = pos 0

@@ -11,7 +11,7 @@ use Rattle.ring_conductor.specs.Finishing.{finish_code, joined_by, refusal_to, r
 use Rattle.ring_handles.specs.declared.conductor.ConductorSide.{ConductorSide}
 use Rattle.ring_handles.specs.Conducting.{shared_by}
 
--- The claims of all producers lie one behind the other from the ring's start on. What was received, followed by what
+-- The claims of all producers are one after the other from the ring's start on. What was received, followed by what
 -- was left, is their committed messages, each whole and once. What was received makes of fresh counters, each message
 -- at a moment, these counters, all value writes and the replies. What each receiver that was taken back copied are runs
 -- of the replies
@@ -25,7 +25,7 @@ pub record TellsEnd (c : ConductorSide) (received left : ℕ) : Type 0 where
   pub folded : ∥ IsFoldOfReceived c.conductor (manager_in c.conductor) ∥₁
   pub runs : AreAllRuns (replies_of c.conductor) (joined_by c.conductor)
 
--- it does not end with the number of the library's refusal; where there is none, another handle holds what it shares
+-- it does not end with the number of the library's refusal; if there is none, another handle holds what it shares
 abbrev pub WhyNotFinished : ConductorSide → ℤ → Type 0
 WhyNotFinished c code =
     MatchOption (refusal_to c.conductor c.producer) (code ≡ pos 110) (λ fault. code ≡ finish_code fault)

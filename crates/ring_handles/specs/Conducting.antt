@@ -1,4 +1,4 @@
--- What calls of conductors do: c is the conductor before, d after, and the code is what is answered.
+-- What calls of conductors do: c is the conductor before, d after, and the code is what is returned.
 use Rattle.std.specs.Prelude.{◌≡◌, ◌⊎◌, ◌<◌, ◌≤◌, ◌^◌, ◌&&◌, ℕ, ℤ, pos, [], MatchOption, Option, Some, if◌then◌else◌}
 use Rattle.std.specs.Arc.{arc_value}
 use Rattle.std.specs.Option.{option_map}
@@ -41,7 +41,7 @@ abbrev pub sizes_refused : ℕ → ℕ → ℕ → Option ℤ
 sizes_refused C R count =
     if is_capacity C && is_board_capacity R then option_map make_code (make_refusal_of count) else Some (pos 1)
 
--- sizes are refused with the number of the refusal; where there is none a conductor is made, unless memory is wanting
+-- sizes are refused with the number of the refusal; if there is none a conductor is made, unless memory runs out
 abbrev pub IsConductorCode : ℕ → ℕ → ℕ → ℤ → Type 0
 IsConductorCode C R count code =
     MatchOption (sizes_refused C R count) ((code ≡ pos 0) ⊎ (code ≡ pos 3)) (λ refused. code ≡ refused)
@@ -69,7 +69,7 @@ pub record Hires (c d : ConductorSide) (k : ClientSide) : Type 0 where
   pub replies_right : (client_seat k.client).0 ≡ newcomer (board_view c.conductor)
   pub rest : KeepsTheRest c.conductor d.conductor
 
--- why a client is not made: ring or board has one share left, or memory is wanting
+-- why a client is not made: ring or board has one share left, or memory runs out
 abbrev pub IsUnhired : ConductorSide → ℤ → Type 0
 IsUnhired c code = ((code ≡ pos 12)
     × ((shares_of c.producer ≡ 1) ⊎ (subscribe_refusal_of (board_view c.conductor).shares ≡ Some NoShares)))
@@ -104,7 +104,7 @@ pub record TakesCommands (now limit : ℕ) (c d : ConductorSide) (after : Report
   pub values : value_shares_of d.conductor ≡ value_shares_of c.conductor
   pub rest : KeepsProducer c d
 
--- the moment is above 2^62, and nothing changed; else commands were taken
+-- the moment is above 2^62, and nothing changed; otherwise commands were taken
 abbrev pub Worked : ℕ → ℕ → Report → Report → ConductorSide → ConductorSide → ℤ → Type 0
 Worked now limit before after c d code = ((2 ^ 62 < now) × (code ≡ pos 107) × (d ≡ c) × (after ≡ before))
     ⊎ ((now ≤ 2 ^ 62) × (code ≡ pos 0) × TakesCommands now limit c d after)

@@ -1,4 +1,4 @@
--- What a consumer's calls do: r is the consumer before, s after, and the code is what is answered.
+-- What a consumer's calls do: r is the consumer before, s after, and the code is what is returned.
 use Rattle.std.specs.Prelude.{◌≡◌, ◌⊎◌, ℕ, ◌<◌, ◌≤◌, ◌%◌, ℤ, pos, List, [], ◌∷◌, ◌++◌, length}
 use Rattle.ring_layout.specs.declared.message.Message.{Message}
 use Rattle.ring_layout.specs.History.{overwritten}
@@ -27,8 +27,8 @@ pub record CameToEnd (v w : View) : Type 0 where
   pub on : v.consumer.head < w.consumer.head
   pub end : w.consumer.head % w.capacity ≡ 0
 
--- one read of up to so many messages that stopped so: none was asked for, no settled record lay at the new head, or it
--- came to the end of the buffer
+-- one read of up to this many messages that stopped so: none was asked for, no settled record was at the new head, or
+-- it came to the end of the buffer
 abbrev pub RanOut : ℕ → Stop → View → View → Type 0
 RanOut limit stopped v w =
     (limit ≡ 0) ⊎ (((stopped ≡ Unpublished) × FoundUnsettled v w) ⊎ ((stopped ≡ Block) × CameToEnd v w))
@@ -41,7 +41,7 @@ pub record CameTwice (v w : View) : Type 0 where
   pub further : between < w.consumer.head
   pub last : w.consumer.head % v.capacity ≡ 0
 
--- none was asked for, no settled record lay at the new head, or from one end of the buffer to the next was no message
+-- none was asked for, no settled record was at the new head, or from one end of the buffer to the next was no message
 abbrev pub HadNone : ℕ → View → View → Type 0
 HadNone limit v w = (limit ≡ 0) ⊎ (FoundUnsettled v w ⊎ CameTwice v w)
 
@@ -51,7 +51,7 @@ pub record TookNone {O : Type 0} (Why : View → View → Type 0) (v w : View) (
   pub why : Why v w
   pub outs : after ≡ before
 
--- the code of a read: 0 where something was taken, 105 where nothing was, 106 where the buffer is too short
+-- the code of a read: 0 if something was taken, 105 if nothing was, 106 if the buffer is too short
 abbrev pub ReadCode : Type 0 → Type 0 → Type 0 → ℤ → Type 0
 ReadCode Taken None Short code =
     ((code ≡ pos 0) × Taken) ⊎ (((code ≡ pos 105) × None) ⊎ ((code ≡ pos 106) × Short))
@@ -67,7 +67,7 @@ pub record Out : Type 0 where
 abbrev pub out : ℤ → ℕ → List ℕ → Out
 out type_id len buffer = record { type_id = type_id; len = len; buffer = buffer }
 
--- one message more was taken, and stands at the front of the buffer
+-- one message more was taken, and is at the front of the buffer
 pub record Took (v w : View) (before after : Out) : Type 0 where
   pub message : PlacedMessage
   pub taken : w.consumer.taken ≡ v.consumer.taken ++ message ∷ []

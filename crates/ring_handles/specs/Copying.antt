@@ -6,12 +6,12 @@ use Rattle.ring_words.specs.declared.read.action.Action.{Action}
 use Rattle.ring_words.specs.declared.read.action.Action.TheVariants.{Abort, Break}
 use Rattle.ring_handles.specs.declared.copying.Copying.{Copying}
 
--- the message's type id and length are told
+-- the message's type id and length are put out
 pub record Tells (m : Message) (t : Copying) : Type 0 where
   pub type_id : t.type_id ≡ m.type_id
   pub len : t.len ≡ length m.body
 
--- there was room, and the body stands at the front of the buffer
+-- there was room, and the body is at the front of the buffer
 pub record CopiesIn (s : Copying) (m : Message) (t : Copying) (a : Action) : Type 0 where
   pub room : length m.body ≤ length s.buffer.now
   pub action : a ≡ Break

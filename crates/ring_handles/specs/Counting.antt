@@ -1,4 +1,4 @@
--- What calls of counters do: c are the counters before, d after, and the code is what is answered.
+-- What calls of counters do: c are the counters before, d after, and the code is what is returned.
 use Rattle.std.specs.Prelude.{◌≡◌, ◌≢◌, ◌⊎◌, ◌<◌, ◌≤◌, ◌^◌, ℕ, ℤ, pos, List, [], ◌∷◌, ◌++◌, length, Some, None, Ok, Err}
 use Rattle.std.specs.Arc.{arc_value}
 use Rattle.ring_layout.specs.History.{overwritten}
@@ -38,14 +38,14 @@ pub record StoresValue (id : ℕ) (value : ℤ) (c d : CountersSide) : Type 0 wh
 abbrev pub WasSet : ℕ → ℤ → CountersSide → CountersSide → ℤ → Type 0
 WasSet id value c d code = ((code ≡ pos 0) × StoresValue id value c d) ⊎ IdRefused {T = Unit {0}} tt id c d code
 
--- so much was added, and the value before is put out
+-- this much was added, and the value before is put out
 abbrev pub WasAdded : ℕ → ℤ → ℤ → ℤ → CountersSide → CountersSide → ℤ → Type 0
 WasAdded id delta before after c d code =
     ((code ≡ pos 0) × (after ≡ value_at (registry_of c.manager) id)
     × StoresValue id (value_plus (registry_of c.manager) id delta) c d)
     ⊎ (IdRefused (value_at (registry_of c.manager) id) id c d code × (after ≡ before))
 
--- the moment is above 2^62, and nothing changed, as Same says; else P tells
+-- the moment is above 2^62, and nothing changed, as Same says; otherwise P holds
 abbrev pub AtMoment : ℕ → Type 0 → Type 0 → ℤ → Type 0
 AtMoment now Same P code = ((2 ^ 62 < now) × (code ≡ pos 107) × Same) ⊎ ((now ≤ 2 ^ 62) × P)
 
@@ -98,7 +98,7 @@ WasFound type_id registration before id c d code = (d ≡ c)
 abbrev pub WasCounted : ℕ → CountersSide → CountersSide → ℤ → Type 0
 WasCounted count c d code = (d ≡ c) × (code ≡ pos 0) × (count ≡ count_of (registry_of c.manager))
 
--- these bytes stand at the front of the buffer, or it is too short for them, and stays
+-- these bytes are at the front of the buffer, or it is too short for them, and stays
 abbrev pub FillsBuffer : List ℕ → List ℕ → List ℕ → ℤ → Type 0
 FillsBuffer bytes before after code =
     ((code ≡ pos 0) × (length bytes ≤ length before) × (after ≡ overwritten 0 bytes before))
@@ -115,14 +115,14 @@ pub record LabelOut : Type 0 where
 abbrev pub label_out : ℕ → List ℕ → LabelOut
 label_out len buffer = record { len = len; buffer = buffer }
 
--- the label's length is put out, and the label where there is room for it
+-- the label's length is put out, and the label if there is room for it
 abbrev pub SaysLabel : ℕ → LabelOut → LabelOut → CountersSide → CountersSide → ℤ → Type 0
 SaysLabel id before after c d code =
     ((answer (id_refusal_of (registry_of c.manager) id) (length (label_at c id)) ≡ Ok after.len) × (d ≡ c)
     × FillsBuffer (label_at c id) before.buffer after.buffer code)
     ⊎ (IdRefused (length (label_at c id)) id c d code × (after ≡ before))
 
--- the key of 112 bytes is put out, where there is room for it
+-- the key of 112 bytes is put out, if there is room for it
 abbrev pub SaysKey : ℕ → List ℕ → List ℕ → CountersSide → CountersSide → ℤ → Type 0
 SaysKey id before after c d code =
     ((answer {T = Unit {0}} (id_refusal_of (registry_of c.manager) id) tt ≡ Ok tt) × (d ≡ c)

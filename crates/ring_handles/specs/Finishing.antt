@@ -1,5 +1,5 @@
 -- How a ring that is no conductor's ends: r is the consumer before, s after, p is a producer, and the code is what is
--- answered.
+-- returned.
 use Rattle.std.specs.Prelude.{◌≡◌, ◌≢◌, ◌⊎◌, ℕ, ℤ, pos, List, ◌++◌, length, MatchOption, None, Some, IsSome}
 use Rattle.ring_layout.specs.declared.message.Message.{Message}
 use Rattle.ring_table.specs.Passing.{placed_committed_of}
@@ -19,7 +19,7 @@ pub record TakesLast (r : Reading) (p : Side) (s : Reading) : Type 0 where
   pub first : r.last ≡ None
   pub rest : s ≡ record r { last = Some p.view }
 
--- why it was not: the consumer has its ring's producer already, or the kinds or the numbers differ; else it is the
+-- why it was not: the consumer has its ring's producer already, or the kinds or the numbers differ; otherwise it is the
 -- library's refusal
 abbrev pub IsNotLast : Reading → Side → ℤ → Type 0
 IsNotLast r p code = ((code ≡ pos 108) × (IsSome r.last ⊎ ((r.many ≢ p.many) ⊎ (r.identity ≢ p.identity))))
@@ -28,7 +28,7 @@ IsNotLast r p code = ((code ≡ pos 108) × (IsSome r.last ⊎ ((r.many ≢ p.ma
 
 -- Finishing ----------------------------------------------------------------------
 
--- The claims lie one behind the other from a start on. What was received, followed by what was left, is their committed
+-- The claims are one after the other from a start on. What was received, followed by what was left, is their committed
 -- messages, each whole and once
 pub record LeavesUnread (capacity : ℕ) (claims : List StagedClaim) (taken : List PlacedMessage)
     (left : ℕ) : Type 0 where

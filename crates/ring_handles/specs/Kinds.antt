@@ -1,4 +1,4 @@
--- What a handle holds, where it is of one kind.
+-- What a handle holds, if it is of one kind.
 use Rattle.std.specs.Prelude.{MatchOption}
 use Rattle.std.specs.declared.option.Option.{Option}
 use Rattle.std.specs.declared.option.Option.TheVariants.{None, Some}

@@ -1,5 +1,5 @@
 -- What calls of readers of values do: c are the counters before, d after, r is the reader before, s after, and the code
--- is what is answered.
+-- is what is returned.
 use Rattle.std.specs.Prelude.{◌≡◌, ◌⊎◌, ◌<◌, ◌≤◌, ℕ, ◌+◌, ℤ, pos, [], ◌∷◌, ◌++◌, None}
 use Rattle.std.specs.Arc.{arc_value}
 use Rattle.ring_counters.specs.Manager.{registry_of, shares_of, writes_of}
@@ -24,7 +24,7 @@ pub record Lends (c d : CountersSide) (r : ReaderSide) : Type 0 where
   pub seen : seen_by r.reader ≡ writes_of c.manager
   pub loads : loads_of r.reader ≡ []
 
--- why a reader is not made: the counters need their last share, or memory is wanting
+-- why a reader is not made: the counters need their last share, or memory runs out
 abbrev pub WhyNotLent : CountersSide → ℤ → Type 0
 WhyNotLent c code = ((code ≡ pos 12) × (shares_of c.manager ≤ 1)) ⊎ (code ≡ pos 3)
 

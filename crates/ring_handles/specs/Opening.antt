@@ -1,4 +1,4 @@
--- What is made for handles: a new ring, board, counters or conductor, and the code where it is refused.
+-- What is made for handles: a new ring, broadcast buffer, counters or conductor, and the code if it is refused.
 use Rattle.std.specs.Prelude.{◌≡◌, ◌⊎◌, ℕ, ℤ, pos, [], MatchOption, Bool}
 use Rattle.std.specs.declared.option.Option.{Option}
 use Rattle.std.specs.declared.option.Option.TheVariants.{None}
@@ -20,7 +20,7 @@ use Rattle.ring_handles.specs.Side.{Reading, Side}
 
 -- Rings -------------------------------------------------------------------------
 
--- a ring is refused with the refusal's code; where there is none it is made, unless memory is wanting
+-- a ring is refused with the refusal's code; if there is none it is made, unless memory runs out
 abbrev pub IsMakeCode : ℕ → ℕ → ℤ → Type 0
 IsMakeCode C start code =
     MatchOption (make_refusal_of (is_capacity C) C start) ((code ≡ pos 0) ⊎ (code ≡ pos 3))
@@ -48,13 +48,13 @@ pub record ArePaired (many : Bool) (i : Identity) (C : ℕ) (v w : View) (p : Si
 abbrev pub HoldPair : Bool → Identity → ℕ → View → View → Option Held → Option Held → Type 0
 HoldPair many i C v w p c = HoldsOne a_producer (λ s. HoldsOne a_consumer (λ r. ArePaired many i C v w s r) c) p
 
--- the producer holds all shares, and both stand at the start
+-- the producer holds all shares, and both are at the start
 abbrev pub HoldFresh : Bool → Identity → ℕ → ℕ → Option Held → Option Held → Type 0
 HoldFresh many i C start p c = HoldPair many i C (first_producer C start) (first_consumer C start) p c
 
 -- Boards ------------------------------------------------------------------------
 
--- a board is refused with the refusal's code; where there is none it is made, unless memory is wanting
+-- a board is refused with the refusal's code; if there is none it is made, unless memory runs out
 abbrev pub IsBoardCode : ℕ → ℕ → ℤ → Type 0
 IsBoardCode C start code =
     MatchOption (make_refusal_of (is_board_capacity C) C start) ((code ≡ pos 0) ⊎ (code ≡ pos 3))
@@ -68,7 +68,7 @@ HoldNewBoard i C start h =
 
 -- Counters ----------------------------------------------------------------------
 
--- counters are refused with the refusal's code; where there is none they are made, unless memory is wanting
+-- counters are refused with the refusal's code; if there is none they are made, unless memory runs out
 abbrev pub IsCountersCode : ℕ → ℤ → Type 0
 IsCountersCode count code =
     MatchOption (counters_refusal_of count) ((code ≡ pos 0) ⊎ (code ≡ pos 3)) (λ fault. code ≡ counters_code fault)

@@ -1,4 +1,4 @@
--- What a producer's calls do: p is the producer before, q after, and the code is what is answered.
+-- What a producer's calls do: p is the producer before, q after, and the code is what is returned.
 use Rattle.std.specs.Prelude.{◌≡◌, ◌≢◌, ◌⊎◌, ℕ, ◌+◌, ◌<◌, ℤ, pos, List, [], ◌∷◌, ◌++◌, length, MatchOption, Bool, true, false}
 use Rattle.ring_layout.specs.declared.message.ClaimState.{ClaimState}
 use Rattle.ring_words.specs.Open.{ClaimAt}
@@ -72,7 +72,7 @@ pub record ClaimRefused (Refuses : Refusing) (type_id : ℤ) (len : ℕ) (p q : 
   pub side : q ≡ knowing q.view p
   pub number_is : number ≡ before
 
--- a claim was made, or refused, or memory to keep it is wanting
+-- a claim was made, or refused, or memory to keep it ran out
 abbrev pub ClaimedAs : Claiming → Refusing → ℤ → ℕ → ℕ → ℕ → Side → Side → ℤ → Type 0
 ClaimedAs ClaimsOne Refuses type_id len before number p q code =
     ((code ≡ pos 0) × MadeClaim ClaimsOne type_id len p q number)
@@ -83,11 +83,11 @@ abbrev pub Claimed : ℤ → ℕ → ℕ → ℕ → Side → Side → ℤ → T
 Claimed type_id len before number p q code =
     ClaimedAs (claiming p.many) (refusing p.many) type_id len before number p q code
 
--- the claim of this number is open, and P tells; else 104
+-- the claim of this number is open, and P holds; otherwise 104
 abbrev pub WithClaim : ℕ → (ClaimAt → Type 0) → Side → Side → ℤ → Type 0
 WithClaim number P p q code = MatchOption (claim_numbered number p.claims) (Declined (pos 104) p q code) P
 
--- bytes were put into the claim of this number, or do not lie inside it
+-- bytes were put into the claim of this number, or are not inside it
 abbrev pub Put : ℕ → ℕ → List ℕ → Side → Side → ℤ → Type 0
 Put number offset bytes p q code =
     WithClaim number (λ t. ((code ≡ pos 0) × (q ≡ knowing q.view p) × PutsBytes t.place offset bytes p.view q.view)
@@ -149,7 +149,7 @@ pub record Splits (p q other : Side) : Type 0 where
   pub left : q ≡ knowing (without_share p.view) p
   pub right : other ≡ other_of p
 
--- why a producer is not split: its ring has one producer, it has one share, or memory is wanting
+-- why a producer is not split: its ring has one producer, it has one share, or memory runs out
 abbrev pub WhyNotSplit : Side → ℤ → Type 0
 WhyNotSplit p code = ((code ≡ pos 101) × (p.many ≡ false))
     ⊎ (((code ≡ pos 12) × (p.view.producer.shares ≡ 1)) ⊎ (code ≡ pos 3))
@@ -160,7 +160,7 @@ pub record TakesIn (p other q : Side) : Type 0 where
   pub view : Joins p.capacity p.view other.view q.view
   pub rest : q ≡ holding (p.claims ++ other.claims) (knowing q.view p)
 
--- why it was not: a ring has one producer; else the numbers differ; else memory is wanting
+-- why it was not: a ring has one producer; otherwise the numbers differ; otherwise memory runs out
 abbrev pub IsApart : Side → Side → ℤ → Type 0
 IsApart p other code = ((code ≡ pos 101) × ((p.many ≡ false) ⊎ (other.many ≡ false)))
     ⊎ ((p.many ≡ true) × (other.many ≡ true)

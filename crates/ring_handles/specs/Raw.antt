@@ -1,4 +1,4 @@
--- What calls of a raw receiver's handle do: r is the receiver before, s after, and the code is what is answered.
+-- What calls of a raw receiver's handle do: r is the receiver before, s after, and the code is what is returned.
 use Rattle.std.specs.Prelude.{◌≡◌, ◌⊎◌, ℕ, ◌<◌, ◌≤◌, ℤ, pos, Bool, true, List, length, take, drop, MatchOption, Option, None, Some, IsSome, if◌then◌else◌}
 use Rattle.atomic_table.specs.Seated.{TableId}
 use Rattle.ring_layout.specs.Refusals.{share_refusal_of}
@@ -20,7 +20,7 @@ pub record Watching : Type 0 where
   pub capacity : ℕ
   -- what the receiver knows, with the slots of its seat, which has none
   pub seat : Sat
-  -- the record that it answered last
+  -- the record that it returned last
   pub latest : Option RawRecord
 
 -- the receiver with this seat
@@ -29,7 +29,7 @@ reseated m r = record r { seat = m }
 
 -- Subscribing --------------------------------------------------------------------
 
--- a share was moved to a raw receiver, which starts at the record at latest and has answered none
+-- a share was moved to a raw receiver, which starts at the record at latest and has returned none
 pub record SubscribesRaw (p q : Sending) (r : Watching) : Type 0 where
   pub spare : share_refusal_of p.view.shares ≡ None
   pub left : q ≡ knowing (fewer p.view) p
@@ -42,7 +42,7 @@ pub record SubscribesRaw (p q : Sending) (r : Watching) : Type 0 where
   }
   pub knows : r.seat.0 ≡ newcomer p.view
 
--- why it is not made: the transmitter needs its last share, or memory is wanting
+-- why it is not made: the transmitter needs its last share, or memory runs out
 abbrev pub IsUnwatched : Sending → ℤ → Type 0
 IsUnwatched p code = ((code ≡ pos 12) × IsSome (share_refusal_of p.view.shares)) ⊎ (code ≡ pos 3)
 
@@ -57,7 +57,7 @@ pub record Seen : Type 0 where
 abbrev pub seen : ℤ → ℕ → ℕ → Seen
 seen type_id len lapped = record { type_id = type_id; len = len; lapped = lapped }
 
--- a record was answered unread, and is the latest one
+-- a record was returned unread, and is the latest one
 pub record Answers (before after : Seen) (latest : Option RawRecord) (m m' : Sat) : Type 0 where
   pub raw : RawRecord
   pub got : GotRecord raw m m'
@@ -70,7 +70,7 @@ pub record LapsRaw (before after : Seen) (m m' : Sat) : Type 0 where
   pub got : GotLapped lapped m m'
   pub outs : after ≡ record before { lapped = lapped.count }
 
--- a record was answered, or there was none, or the receiver was lapped
+-- a record was returned, or there was none, or the receiver was lapped
 abbrev pub TellsSeen : Seen → Seen → Option RawRecord → Option RawRecord → Sat → Sat → ℤ → Type 0
 TellsSeen before after latest latest' m m' code = ((code ≡ pos 0) × Answers before after latest' m m')
     ⊎ (((code ≡ pos 105) × GotNothing m m' × (latest' ≡ latest) × (after ≡ before))
@@ -82,13 +82,13 @@ NextSeen before after r s code = (s ≡ record r { seat = s.seat; latest = s.lat
 
 -- Bodies -------------------------------------------------------------------------
 
--- words were loaded where the record's body lies, and their bytes stand at the front of the buffer
+-- words were loaded at the record's body, and their bytes are at the front of the buffer
 pub record LoadsBodyInto (raw : RawRecord) (before after : List ℕ) (m m' : Sat) : Type 0 where
   pub room : len_of raw ≤ length before
   pub gave : GaveBody (place_of raw) (take (len_of raw) after) m m'
   pub rest : drop (len_of raw) after ≡ drop (len_of raw) before
 
--- of the latest record the body was loaded, or the buffer is too short; 105 where none was answered yet
+-- of the latest record the body was loaded, or the buffer is too short; 105 if none was returned yet
 abbrev pub LoadsAnswered : Option RawRecord → List ℕ → List ℕ → Sat → Sat → ℤ → Type 0
 LoadsAnswered latest before after m m' code = MatchOption latest ((code ≡ pos 105) × (m' ≡ m) × (after ≡ before))
     (λ raw. ((code ≡ pos 0) × LoadsBodyInto raw before after m m')
@@ -97,7 +97,7 @@ LoadsAnswered latest before after m m' code = MatchOption latest ((code ≡ pos 
 abbrev pub BodyLoaded : List ℕ → List ℕ → Watching → Watching → ℤ → Type 0
 BodyLoaded before after r s code = (s ≡ reseated s.seat r) × LoadsAnswered r.latest before after r.seat s.seat code
 
--- an intent was loaded, and 0 answered where it shows that the record was not overwritten, and else 13. Where it was
+-- an intent was loaded, and 0 returned if it shows that the record was not overwritten, and otherwise 13. If it was
 -- not, each body of it that was loaded before is the one that was transmitted
 pub record Tests (raw : RawRecord) (m m' : Sat) (code : ℤ) : Type 0 where
   pub valid : Bool
@@ -105,7 +105,7 @@ pub record Tests (raw : RawRecord) (m m' : Sat) (code : ℤ) : Type 0 where
   pub code_is : code ≡ (if valid then pos 0 else pos 13)
   pub right : valid ≡ true → IsRight m.0 raw
 
--- the latest record was tested; 105 where none was answered yet
+-- the latest record was tested; 105 if none was returned yet
 abbrev pub TestsLatest : Option RawRecord → Sat → Sat → ℤ → Type 0
 TestsLatest latest m m' code = MatchOption latest ((code ≡ pos 105) × (m' ≡ m)) (λ raw. Tests raw m m' code)
 

@@ -1,5 +1,5 @@
--- What boards and counters take back, and how a board ends: p is the transmitter before, q after, c are the counters
--- before, d after, r is a receiver or a reader, and the code is what is answered.
+-- What broadcast buffers and counters take back, and how a broadcast buffer ends: p is the transmitter before, q after,
+-- c are the counters before, d after, r is a receiver or a reader, and the code is what is returned.
 use Rattle.std.specs.Prelude.{◌≡◌, ◌≢◌, ℕ, ◌+◌, ℤ, pos, MatchOption, None}
 use Rattle.std.specs.Arc.{arc_value}
 use Rattle.atomic_table.specs.Seated.{TableId}
@@ -27,7 +27,7 @@ pub record TakesBack (p : Sending) (m : Sat) (q : Sending) : Type 0 where
 abbrev pub IsAtBoard : Sending → TableId → ℕ → Sat → Type 0
 IsAtBoard p table capacity m = (p.table ≡ table) × (p.capacity ≡ capacity) × (p.view.start ≡ m.0.start)
 
--- where it has the same number and is no conductor's, the receiver is of the transmitter's board
+-- if it has the same number and is no conductor's, the receiver is of the transmitter's broadcast buffer
 abbrev pub IsOfThisBoard : Sending → Listening → Type 0
 IsOfThisBoard p r =
     MatchOption r.lender (p.identity ≡ r.identity → IsAtBoard p r.table r.capacity r.seat) (λ _. Unit {0})
@@ -40,7 +40,7 @@ TakesListener p r q = (r.lender ≡ None) × (p.identity ≡ r.identity) × Take
 abbrev pub IsAstray : Sending → Listening → ℤ → Type 0
 IsAstray p r code = (code ≡ pos 108) × MatchOption r.lender (p.identity ≢ r.identity) (λ _. Unit {0})
 
--- where it has the same number, the raw receiver is of the transmitter's board
+-- if it has the same number, the raw receiver is of the transmitter's broadcast buffer
 abbrev pub IsRawOfThisBoard : Sending → Watching → Type 0
 IsRawOfThisBoard p r = p.identity ≡ r.identity → IsAtBoard p r.table r.capacity r.seat
 
@@ -61,13 +61,13 @@ pub record BoardEndsAt (p : Sending) (tail : ℕ) : Type 0 where
   pub tail_is : tail ≡ tail_in p
   pub runs : AreAllRuns p.view.sent p.view.heard
 
--- shares are with receivers; where none is, another handle holds the board
+-- shares are with receivers; if none is, another handle holds the board
 abbrev pub IsBoardKept : Sending → ℤ → Type 0
 IsBoardKept p code = MatchOption (close_refusal_of p.view.shares) (code ≡ pos 110) (λ _. code ≡ pos 14)
 
 -- Readers ------------------------------------------------------------------------
 
--- where it has the same number and is no conductor's, the reader is of these counters
+-- if it has the same number and is no conductor's, the reader is of these counters
 abbrev pub IsOfThese : CountersSide → ReaderSide → Type 0
 IsOfThese c r = MatchOption (conductor_of r.values)
     (c.identity ≡ r.identity → values_in r.values ≡ arc_value c.values) (λ _. Unit {0})

@@ -1,5 +1,5 @@
 -- Seats that a conductor gives and takes back: c is the conductor before, d after, k is a client, r a receiver or a
--- reader, and the code is what is answered.
+-- reader, and the code is what is returned.
 use Rattle.std.specs.Prelude.{◌≡◌, ◌⊎◌, ◌≤◌, ◌+◌, ℤ, pos, [], IfSome, Option, Some}
 use Rattle.std.specs.Arc.{arc_value}
 use Rattle.ring_rings.specs.Joining.{Joins}
@@ -43,7 +43,7 @@ pub record LendsReceiver (c d : ConductorSide) (r : Listening) : Type 0 where
         seat = r.seat;
       }
 
--- why a receiver is not made: the conductor needs its last share, or memory is wanting
+-- why a receiver is not made: the conductor needs its last share, or memory runs out
 abbrev pub IsUnheard : ConductorSide → ℤ → Type 0
 IsUnheard c code = ((code ≡ pos 12) × (subscribe_refusal_of (board_view c.conductor).shares ≡ Some NoShares))
     ⊎ (code ≡ pos 3)
@@ -64,7 +64,7 @@ pub record LendsReader (c d : ConductorSide) (r : ReaderSide) : Type 0 where
   pub loads : loads_of r.reader ≡ []
   pub keeps : KeepsSideCounters c d
 
--- why a reader is not made: the conductor needs its last share, or memory is wanting
+-- why a reader is not made: the conductor needs its last share, or memory runs out
 abbrev pub WhyNotSeated : ConductorSide → ℤ → Type 0
 WhyNotSeated c code = ((code ≡ pos 12) × (value_shares_of c.conductor ≤ 1)) ⊎ (code ≡ pos 3)
 
@@ -101,7 +101,7 @@ pub record TakesReader (c : ConductorSide) (r : ReaderSide) (d : ConductorSide) 
 abbrev pub IsForeign : ConductorSide → Option Shared → ℤ → Type 0
 IsForeign c lender code = (code ≡ pos 108) × IsNumberedOtherwise (shared_by c).identity lender
 
--- what a conductor shares, where the client, the receiver or the reader is one's
+-- what a conductor shares, if the client, the receiver or the reader is one's
 abbrev pub lends_client : ClientSide → Option Shared
 lends_client k = Some (arc_value k.shared)
 
@@ -111,6 +111,6 @@ lends_reader r = conductor_of r.values
 abbrev pub lends_receiver : Listening → Option Shared
 lends_receiver r = r.lender
 
--- where it is a conductor's of the same number, it is this one's
+-- if it is a conductor's of the same number, it is this one's
 abbrev pub IsOfThisConductor : ConductorSide → Option Shared → Type 0
 IsOfThisConductor c lender = IfSome lender (λ s. s.identity ≡ (shared_by c).identity → s ≡ shared_by c)

@@ -8,7 +8,7 @@ use Rattle.ring_handles.specs.declared.lending.Shared.{Shared}
 use Rattle.ring_handles.specs.declared.lending.Lender.{Lender}
 use Rattle.ring_handles.specs.declared.lending.Lender.TheVariants.{Own, Lent}
 
--- the board that a receiver listens to
+-- the broadcast buffer of a receiver
 abbrev pub board_in : Lender Board → Board
 board_in (Own board) = arc_value board
 board_in (Lent shared) = (arc_value shared).board
@@ -18,7 +18,7 @@ abbrev pub values_in : Lender CounterValues → CounterValues
 values_in (Own values) = arc_value values
 values_in (Lent shared) = (arc_value shared).values
 
--- what a conductor shares, where the lender is one
+-- what a conductor shares, if the lender is one
 abbrev pub conductor_of : {T : Type 0} → Lender T → Option Shared
 conductor_of (Own own) = None
 conductor_of (Lent shared) = Some (arc_value shared)

@@ -1,4 +1,4 @@
-//! Messages laid one behind another into a buffer.
+//! Messages laid one after another into a buffer.
 ghost use Rattle.std.specs.Prelude.{◌≡◌, ◌≢◌, ◌+◌, ◌^◌, ◌<◌, ◌≤◌, false, length};
 ghost use Rattle.ring_layout.specs.declared.message.Message.{Message};
 ghost use Rattle.ring_rings.specs.Seats.{consumer_view, IsConsumerOf};

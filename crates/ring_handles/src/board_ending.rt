@@ -1,4 +1,4 @@
-//! What a transmitter takes back, and how its board ends.
+//! What a transmitter takes back, and how its broadcast buffer ends.
 ghost use Rattle.std.specs.Prelude.{◌≡◌, IfErr, IfOk, OnOk};
 ghost use Rattle.ring_handles.specs.Returning.{BoardEndsAt, IsAstray, IsBoardKept, IsOfThisBoard};
 ghost use Rattle.ring_handles.specs.Returning.{IsRawAstray, IsRawOfThisBoard, TakesListener, TakesWatcher};
@@ -11,7 +11,7 @@ use ring_layout::ALL_SHARES;
 use std::sync::Arc;
 
 impl TransmitterSide {
-    /// Takes a receiver of the board back, with its share. Else it comes back.
+    /// Takes a receiver of the broadcast buffer back, with its share. Otherwise it comes back.
     pub fn join(&mut self, receiver: ReceiverSide) -> Result<(), (i32, ReceiverSide)>
         requires { IsOfThisBoard self.old receiver }
         ensures joined { OnOk result (TakesListener self.old receiver self.new) }
@@ -33,7 +33,7 @@ impl TransmitterSide {
         Ok(())
     }
 
-    /// Takes a raw receiver of the board back, with its share. Else it comes back.
+    /// Takes a raw receiver of the broadcast buffer back, with its share. Otherwise it comes back.
     pub fn join_raw(&mut self, raw: RawReceiverSide) -> Result<(), (i32, RawReceiverSide)>
         requires { IsRawOfThisBoard self.old raw }
         ensures joined { OnOk result (TakesWatcher self.old raw self.new) }
@@ -53,8 +53,8 @@ impl TransmitterSide {
         Ok(())
     }
 
-    /// Takes the board apart, where all shares are back and nobody else holds it, and says where the last transmission
-    /// ended. Else the transmitter comes back.
+    /// Takes the broadcast buffer apart, if all shares are back and no other handle has it, and returns the end of the
+    /// last transmission. Otherwise the transmitter comes back.
     pub fn close(self) -> Result<u64, (i32, TransmitterSide)>
         ensures closed { IfOk result (BoardEndsAt self) }
         ensures refused { IfErr result (λ r. (r.1 ≡ self) × IsBoardKept self r.0) }

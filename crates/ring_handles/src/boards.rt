@@ -1,4 +1,4 @@
-//! What a board's handles do.
+//! What a broadcast buffer's handles do.
 ghost use Rattle.std.specs.Prelude.{◌≡◌, length, take, IfErr, IfOk};
 ghost use Rattle.ring_layout.specs.History.{overwritten};
 ghost use Rattle.ring_board.specs.Seats.{receiver_seat, IsReceiverOf};
@@ -13,11 +13,11 @@ use std::alloc::Global;
 use std::marker::Model;
 use std::sync::Arc;
 
-/// A transmitter, with its board.
+/// A transmitter, with its broadcast buffer.
 #[derive(Drop)]
 pub struct TransmitterSide {
     pub(crate) board: Arc<Board>,
-    /// The board's.
+    /// The broadcast buffer's number.
     pub(crate) identity: Identity,
     pub(crate) transmitter: Transmitter,
 }
@@ -40,11 +40,11 @@ impl Model for TransmitterSide {
     ghost invariant = { λ a. IsTransmitterOf (arc_value a.board) a.transmitter };
 }
 
-/// A receiver, with its board.
+/// A receiver, with its broadcast buffer.
 #[derive(Drop)]
 pub struct ReceiverSide {
     pub(crate) board: Lender<Board>,
-    /// The board's, or its conductor's.
+    /// The number of the broadcast buffer, or of its conductor.
     pub(crate) identity: Identity,
     pub(crate) receiver: CopyReceiver,
 }
@@ -79,7 +79,7 @@ impl TransmitterSide {
         }
     }
 
-    /// Makes a receiver of the same board.
+    /// Makes a receiver of the same broadcast buffer.
     pub fn subscribe(&mut self, alloc: Global) -> Result<ReceiverSide, i32>
         ensures subscribed { IfOk result (Subscribes self.old self.new) }
         ensures refused { IfErr result (λ code. (self.new ≡ self.old) × IsUnheard self.old code) }

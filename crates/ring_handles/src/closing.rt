@@ -26,7 +26,7 @@ fn test_last(producer: &Producer) -> Result<(), i32>
     Ok(())
 }
 
-/// Takes a ring apart, and says how many messages still lay in it.
+/// Takes a ring apart, and returns the number of messages that were still in it.
 fn end<K>(ring: Ring<K>, producer: Producer, consumer: Consumer) -> u64
     requires producer { IsProducerOf ring producer }
     requires consumer { IsConsumerOf ring consumer }
@@ -42,7 +42,7 @@ fn end<K>(ring: Ring<K>, producer: Producer, consumer: Consumer) -> u64
 }
 
 impl ConsumerSide {
-    /// Takes the ring's producer in, which ends writing. Else it comes back.
+    /// Takes the ring's producer in, which ends writing. Otherwise it comes back.
     pub fn close(&mut self, producer: ProducerSide) -> Result<(), (i32, ProducerSide)>
         requires { IsOfThisRing self.old producer }
         ensures closed { OnOk result (TakesLast self.old producer self.new) }
@@ -68,8 +68,8 @@ impl ConsumerSide {
         Ok(())
     }
 
-    /// Takes the ring apart, where its producer was taken in and nobody else holds it, and says how many messages still
-    /// lay in it. Else the consumer comes back.
+    /// Takes the ring apart, if its producer was taken in and no other handle has it, and returns the number of
+    /// messages that were still in it. Otherwise the consumer comes back.
     pub fn finish(self) -> Result<u64, (i32, ConsumerSide)>
         ensures finished { IfOk result (Finishes self) }
         ensures refused { IfErr result (λ r. (r.1 ≡ self) × IsUnfinished self r.0) }

@@ -1,4 +1,4 @@
-//! The codes that exports answer: 0, the number of a refusal, or what only handles refuse or tell, from 100 on.
+//! The codes that exports return: 0, the number of a refusal, or what only handles refuse or say, from 100 on.
 
 pub use ring_layout::refusal_codes::{
     BAD_CAPACITY, BAD_COUNT, BAD_ID, BAD_OWNER, CLAIMS_OPEN, LAPPED, NO_SHARES, NOT_ALLOCATED,
@@ -9,7 +9,7 @@ pub use ring_layout::refusal_codes::{
 pub const DONE: i32 = 0;
 /// The handle is empty.
 pub const NO_HANDLE: i32 = 100;
-/// The handle stands for something else.
+/// The handle is of another kind.
 pub const WRONG_HANDLE: i32 = 101;
 /// The handle that was to be filled is not empty.
 pub const HANDLE_IN_USE: i32 = 102;
@@ -21,7 +21,7 @@ pub const NO_MESSAGE: i32 = 105;
 pub const SHORT_BUFFER: i32 = 106;
 /// The moment is above 2^62.
 pub const BAD_MOMENT: i32 = 107;
-/// The two handles are of two rings, boards, conductors or sets of counters.
+/// The two handles are of two rings, broadcast buffers, conductors or sets of counters.
 pub const OTHER_RING: i32 = 108;
 /// What came is the reply to another command, or none.
 pub const OTHER_REPLY: i32 = 109;

@@ -6,7 +6,7 @@ ghost use Rattle.ring_handles.specs.Copying.{Copies};
 use crate::code::{DONE, SHORT_BUFFER};
 use ring_rings::{Action, Handler};
 
-/// Takes one message, where the buffer has room for it.
+/// Takes one message, if the buffer has room for it.
 #[derive(Drop)]
 pub(crate) struct Copying<'a> {
     pub(crate) buffer: &'a mut [u8],

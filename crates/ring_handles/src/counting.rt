@@ -22,7 +22,7 @@ pub struct Wanted<'a> {
     pub owner: u64,
 }
 
-/// Puts out what a call answers, and gives the code: 0, or the number of the refusal, with what is out as it was.
+/// Puts out what a call returns, and gives the code: 0, or the number of the refusal, with what is out as it was.
 macro_rules! tell {
     ($out:ident, $answer:expr) => {
         match $answer {

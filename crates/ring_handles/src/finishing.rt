@@ -11,7 +11,7 @@ use ring_conductor::finish;
 use ring_layout::ALL_SHARES;
 use std::sync::Arc;
 
-/// How many commands a conductor received, and how many still lay in its ring.
+/// The number of commands that a conductor received, and of those still in its ring.
 #[derive(Clone, Copy)]
 pub struct Ended {
     pub received: u64,
@@ -19,7 +19,7 @@ pub struct Ended {
 }
 
 impl ConductorSide {
-    /// Tests whether all shares of ring and board are back.
+    /// Tests whether all shares of ring and broadcast buffer are back.
     fn test(&self) -> Result<(), i32>
         ensures { IsRefusedAs finish_code (refusal_to self.now.conductor self.now.producer) result }
     {
@@ -32,7 +32,7 @@ impl ConductorSide {
         Ok(())
     }
 
-    /// Ends the conductor, where all shares are back and nobody else holds what it shares. Else it comes back.
+    /// Ends the conductor, if all shares are back and no other handle has what it shares. Otherwise it comes back.
     pub fn finish(self) -> Result<Ended, (i32, ConductorSide)>
         ensures ended { IfOk result (λ e. TellsEnd self e.received e.left) }
         ensures refused { IfErr result (λ r. (r.1 ≡ self) × WhyNotFinished self r.0) }

@@ -1,4 +1,4 @@
-//! What a handle can stand for.
+//! What a handle can be for.
 use crate::boards::{ReceiverSide, TransmitterSide};
 use crate::client::ClientSide;
 use crate::conductor::ConductorSide;
@@ -7,7 +7,7 @@ use crate::counters::{CountersSide, ReaderSide};
 use crate::producer::ProducerSide;
 use crate::raw::RawReceiverSide;
 
-/// What a handle can stand for.
+/// What a handle can be for.
 #[derive(Drop)]
 pub enum Held {
     /// Room that was taken for what a call makes.

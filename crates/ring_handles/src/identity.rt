@@ -1,7 +1,8 @@
-//! Numbers that tell two rings, boards, counters or conductors apart.
+//! Numbers that distinguish two rings, broadcast buffers, counters or conductors.
 ghost use Rattle.std.specs.Prelude.{◌≡◌, ◌≢◌, false, true};
 
-/// The number of a ring, a board, counters or a conductor, which its maker gives. Each handle of it has the same.
+/// The number of a ring, a broadcast buffer, counters or a conductor, which its maker passes. Each handle of it has the
+/// same.
 #[derive(Clone, Copy)]
 pub struct Identity {
     /// The number.

@@ -8,8 +8,8 @@ use ring_counters::CounterValues;
 use ring_rings::ManyToOneRing;
 use std::sync::Arc;
 
-/// What the handles of one conductor share: the ring of its commands, the board of its replies, and the values of its
-/// counters.
+/// What the handles of one conductor share: the ring of its commands, the broadcast buffer of its replies, and the
+/// values of its counters.
 #[derive(Drop)]
 pub struct Shared {
     /// The conductor's.
@@ -19,7 +19,7 @@ pub struct Shared {
     pub(crate) values: CounterValues,
 }
 
-/// Where a handle has its board, or its values, from.
+/// The source of a handle's broadcast buffer, or of its values.
 #[derive(Drop)]
 pub enum Lender<T> {
     /// Handles of it alone share it.
@@ -42,7 +42,7 @@ impl Shared {
 }
 
 impl Lender<Board> {
-    /// The board.
+    /// The broadcast buffer.
     pub(crate) fn board(&self) -> &Board
         ensures { result.now ≡ board_in self.now }
     {

@@ -1,14 +1,14 @@
-//! Rings, boards, counters and conductors by *handle*: one pointer that owns what it stands for together with what that
-//! belongs to, so that a program in another language can keep it.
+//! Rings, broadcast buffers, counters and conductors by *handle*: one pointer that owns an endpoint together with what
+//! it belongs to, so that a program in another language can keep it.
 //!
-//! - `handle`, `held`, `loose`: what such a program keeps, and what it can stand for. `identity`: what tells two rings
-//!   apart. `code`: what calls answer. `opening`: what is made for handles.
+//! - `handle`, `held`, `loose`: what such a program keeps, and what it can be. `identity`: what distinguishes two
+//!   rings. `code`: what calls return. `opening`: what is made for handles.
 //! - `producer`, `claims`, `consumer`, `copying`, `batch`, `closing`, `ring`: handles of a ring.
-//! - `boards`, `raw`, `board_ending`: handles of a board. `counters`, `counting`, `reading`: of counters and their
-//!   readers.
+//! - `boards`, `raw`, `board_ending`: handles of a broadcast buffer. `counters`, `counting`, `reading`: of counters and
+//!   their readers.
 //! - `conductor`, `client`, `lending`, `finishing`: a conductor, its clients, and what it lends.
 //!
-//! One thread calls at a time with a handle, which may cross threads.
+//! One thread at a time calls with a handle, which may move between threads.
 #![tactic(auto)]
 
 mod batch;

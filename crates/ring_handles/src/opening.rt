@@ -1,4 +1,4 @@
-//! What is made for handles: rings, boards, counters and conductors, each in a box.
+//! What is made for handles: rings, broadcast buffers, counters and conductors, each in a box.
 ghost use Rattle.std.specs.Prelude.{◌≡◌, ◌≢◌, pos, true, false, IfErr, IfOk, MatchResult};
 ghost use Rattle.std.specs.Arc.{arc_value};
 ghost use Rattle.std.specs.declared.option.Option.TheVariants.{Some};
@@ -27,7 +27,7 @@ use std::sync::Arc;
 /// What two handles are filled with: a producer, and the consumer of its ring.
 pub type Pair = (Box<Held>, Box<Held>);
 
-/// Two references to one value. 3 where there is no memory.
+/// Two references to one value. 3 if there is no memory.
 fn share<T: Drop>(alloc: Global, value: T) -> Result<(Arc<T>, Arc<T>), i32>
     ensures shared { IfOk result (λ both. (arc_value both.0 ≡ value) × (arc_value both.1 ≡ value)) }
     ensures refused { IfErr result (λ code. code ≡ pos 3) }
@@ -41,7 +41,7 @@ fn share<T: Drop>(alloc: Global, value: T) -> Result<(Arc<T>, Arc<T>), i32>
     Ok((one, two))
 }
 
-/// Puts what a handle can stand for into a box. 3 where there is no memory.
+/// Puts what a handle can be for into a box. 3 if there is no memory.
 fn boxed(alloc: Global, held: Held) -> Result<Box<Held>, i32>
     ensures made { IfOk result (λ made. made.value ≡ held) }
     ensures refused { IfErr result (λ code. code ≡ pos 3) }
@@ -52,7 +52,7 @@ fn boxed(alloc: Global, held: Held) -> Result<Box<Held>, i32>
     }
 }
 
-/// Puts a new ring's producer and consumer into boxes, with its number. 3 where there is no memory.
+/// Puts a new ring's producer and consumer into boxes, with its number. 3 if there is no memory.
 fn box_both(
     alloc: Global,
     identity: Identity,
@@ -88,7 +88,7 @@ fn box_both(
 
 /// Makes a ring of many producers, with a producer that holds all shares, and its consumer.
 ///
-/// The code of the library's refusal comes for a capacity or a start that no ring may have, and 3 where there is no
+/// The code of the library's refusal comes for a capacity or a start that no ring may have, and 3 if there is no
 /// memory.
 pub fn open_many_to_one(
     alloc: Global,
@@ -131,7 +131,7 @@ pub fn open_one_to_one(
     box_both(alloc, identity, ring, same, producer, consumer)
 }
 
-/// Makes a board, with a transmitter that holds all shares. It refuses as `open_many_to_one`.
+/// Makes a broadcast buffer, with a transmitter that holds all shares. The errors are those of `open_many_to_one`.
 pub fn open_board(
     alloc: Global,
     identity: Identity,
@@ -159,10 +159,10 @@ pub fn open_board(
     )
 }
 
-/// Makes so many counters, of which none is used, with all shares of their values. Their ids are used again
+/// Makes this many counters, of which none is used, with all shares of their values. Their ids are used again
 /// `reuse_ms` milliseconds after they were freed.
 ///
-/// The code of the library's refusal comes for a number that no counters may have, and 3 where there is no memory.
+/// The code of the library's refusal comes for a number that no counters may have, and 3 if there is no memory.
 pub fn open_counters(
     alloc: Global,
     identity: Identity,
@@ -192,7 +192,7 @@ pub fn open_counters(
 
 /// Makes a conductor of these sizes, to which nothing was sent.
 ///
-/// The first refusal comes of ring, board and counters, and 3 where there is no memory.
+/// The first refusal comes of ring, board and counters, and 3 if there is no memory.
 pub fn open_conductor(alloc: Global, identity: Identity, sizes: Sizes) -> Result<Box<Held>, i32>
     ensures made { IfOk result (λ made.
         HoldNewConductor identity sizes.capacity sizes.replies sizes.counters sizes.reuse_ms (Some made.value)) }

@@ -180,7 +180,7 @@ impl ProducerSide {
         }
     }
 
-    /// Takes another producer of the same ring in, with its shares and its open claims. Else it comes back.
+    /// Takes another producer of the same ring in, with its shares and its open claims. Otherwise it comes back.
     pub fn join(&mut self, other: ProducerSide) -> Result<(), (i32, ProducerSide)>
         requires { AreOfOneRing self.old other }
         ensures joined { OnOk result (TakesIn self.old other self.new) }

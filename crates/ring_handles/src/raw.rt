@@ -1,4 +1,4 @@
-//! What a board's raw receivers do.
+//! What a broadcast buffer's raw receivers do.
 ghost use Rattle.std.specs.Prelude.{◌≡◌, IfErr, IfOk, IfSome};
 ghost use Rattle.ring_board.specs.Seats.{raw_seat, raw_view, IsAnsweredRecord, IsRawOf};
 ghost use Rattle.ring_handles.specs.Raw.{seen, BodyLoaded, IsUnwatched, LoadsAnswered, NextSeen, SaysLaps, TellsSeen, SubscribesRaw, Tested, TestsLatest};
@@ -10,14 +10,14 @@ use ring_board::{Board, RawRecord, Receiver};
 use std::marker::Model;
 use std::sync::Arc;
 
-/// A raw receiver, with its board.
+/// A raw receiver, with its broadcast buffer.
 #[derive(Drop)]
 pub struct RawReceiverSide {
     pub(crate) board: Arc<Board>,
-    /// The board's.
+    /// The broadcast buffer's number.
     pub(crate) identity: Identity,
     pub(crate) receiver: Receiver,
-    /// The record that it answered last.
+    /// The record that it returned last.
     pub(crate) latest: Option<RawRecord>,
 }
 
@@ -44,7 +44,7 @@ impl Model for RawReceiverSide {
 }
 
 impl TransmitterSide {
-    /// Makes a raw receiver of the same board.
+    /// Makes a raw receiver of the same broadcast buffer.
     pub fn subscribe_raw(&mut self) -> Result<RawReceiverSide, i32>
         ensures subscribed { IfOk result (SubscribesRaw self.old self.new) }
         ensures refused { IfErr result (λ code. (self.new ≡ self.old) × IsUnwatched self.old code) }
@@ -64,7 +64,7 @@ impl TransmitterSide {
     }
 }
 
-/// Answers the next record unread, and goes behind it. It is the latest one then.
+/// Returns the next record unread, and goes past it. It is the latest one then.
 fn look(
     board: &Board,
     receiver: &mut Receiver,
@@ -141,7 +141,7 @@ fn test_latest(board: &Board, receiver: &mut Receiver, latest: Option<RawRecord>
 }
 
 impl RawReceiverSide {
-    /// Answers the next record unread, and goes behind it.
+    /// Returns the next record unread, and goes past it.
     pub fn receive_next(&mut self, type_id: &mut i32, len: &mut usize, lapped: &mut u64) -> i32
         ensures { NextSeen (seen type_id.old len.old lapped.old) (seen type_id.new len.new lapped.new)
             self.old self.new result }
@@ -156,14 +156,14 @@ impl RawReceiverSide {
         )
     }
 
-    /// Copies the body of the record that was answered last to the front of a buffer, unvalidated.
+    /// Copies the body of the record that was returned last to the front of a buffer, unvalidated.
     pub fn load_body(&mut self, buffer: &mut [u8]) -> i32
         ensures { BodyLoaded buffer.old buffer.new self.old self.new result }
     {
         load_latest(&self.board, &mut self.receiver, self.latest, buffer)
     }
 
-    /// Tests whether the record that was answered last was not yet overwritten.
+    /// Tests whether the record that was returned last was not yet overwritten.
     pub fn validate(&mut self) -> i32
         ensures { Tested self.old self.new result }
     {

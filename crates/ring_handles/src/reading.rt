@@ -27,7 +27,7 @@ impl CountersSide {
         }
     }
 
-    /// Takes a reader of the values back, with its share. Else it comes back.
+    /// Takes a reader of the values back, with its share. Otherwise it comes back.
     pub fn join(&mut self, reader: ReaderSide) -> Result<(), (i32, ReaderSide)>
         requires { IsOfThese self.old reader }
         ensures joined { OnOk result (TakesLoads self.old reader self.new) }

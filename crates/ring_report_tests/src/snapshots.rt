@@ -1,4 +1,4 @@
-//! The snapshots of `examples/snapshots`, made anew.
+//! The snapshots of `examples/snapshots`, made again.
 ghost use Rattle.std.specs.Prelude.{◌^◌, ◌≤◌};
 ghost use Rattle.ring_counters.specs.Manager.{IsManagerOf};
 
@@ -78,7 +78,7 @@ pub fn wrapped(alloc: Global) -> Result<SoloRing, Fail> {
     Ok(ring)
 }
 
-/// A board of 256 bytes on which twelve messages were transmitted: the last four lie in the second lap.
+/// A broadcast buffer of 256 bytes on which twelve messages were transmitted: the last four are in the second lap.
 pub fn lapped(alloc: Global) -> Result<ClosedBoard, Fail> {
     let (board, mut transmitter) = Board::new(alloc, 256)?;
     'sends: for (type_id, text) in [

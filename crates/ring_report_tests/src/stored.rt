@@ -4,7 +4,7 @@ use ring_snapshot::{CounterMetadata, CounterValueWords};
 use std::alloc::{AllocError, Global};
 use std::test::Fail;
 
-/// A file's name, its bytes in lines of 32 but for lines of zeros, each behind its index, and how many bytes there are.
+/// A file's name, its bytes in lines of 32 but for lines of zeros, each after its index, and how many bytes there are.
 fn lines_of(alloc: Global, name: &str, bytes: &[u8]) -> Result<String, AllocError> {
     let mut text = format!(in alloc; "{name}\n")?;
     for k in 0..bytes.len() / 32 {

@@ -1,10 +1,10 @@
--- What a read that goes on behind another found, said of both.
+-- What a read that goes on past another found, said of both.
 use Rattle.std.proofs.Common.{◌≡◌, ℕ, List, [], ◌∷◌, ◌++◌, ap, sym, ◌∙◌, append_assoc}
 use Rattle.ring_table.specs.declared.view.View.{View}
 use Rattle.ring_layout.specs.Places.{index}
 use Rattle.ring_rings.specs.Reading.{FoundUnsettled}
 
--- u's log is v's with these loads behind it
+-- u's log is v's with these loads after it
 pub blocked_on : (v u w : View) (loads : List (ℕ × ℕ)) → u.log ≡ v.log ++ loads → FoundUnsettled u w
     → FoundUnsettled v w
 blocked_on v u w loads more b =

@@ -52,7 +52,7 @@ keeps_try C type_id len v (Contended tail seen) w h = keeps_looked _ _ _ v w h.v
 
 -- Written ------------------------------------------------------------------------
 
--- the shares stay, and as many claims are open
+-- the shares stay, and the number of open claims
 pub record AsManyOpen (v w : View) : Type 0 where
   pub shares : w.producer.shares ≡ v.producer.shares
   pub open_claims : open_count w.producer.claims ≡ open_count v.producer.claims

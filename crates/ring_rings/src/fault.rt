@@ -42,10 +42,10 @@ impl From<ClaimFault> for TryFault {
 /// Why a ring is not closed.
 #[derive(Clone, Copy, Debug, PartialEq, Eq, Error)]
 pub enum CloseFault {
-    /// So many claims of this producer are open.
+    /// This many claims of this producer are open.
     #[error("{} ClaimsOpen {claims}", self.code())]
     ClaimsOpen { claims: u64 },
-    /// So many shares are with other producers.
+    /// This many shares are with other producers.
     #[error("{} ProducersOut {shares}", self.code())]
     ProducersOut { shares: u32 },
 }

@@ -9,12 +9,12 @@ use Rattle.ring_conductor.specs.Conducting.{manager_in, received_of}
 use Rattle.ring_scenario.specs.declared.service.CommandService.{CommandService}
 use Rattle.ring_scenario.specs.declared.service.closing.Served.{Served}
 
--- how many messages the reads of a ring took, held within 64 bits
+-- the number of messages that the reads of a ring took, held within 64 bits
 abbrev pub read_count : Loose → ℕ
 read_count l = min (length l.consumer.consumer.taken) (2 ^ 64 - 1)
 
--- the commands that the conductor took, and how many it left of the committed messages of its ring, with its counters,
--- which have all shares of the values
+-- the number of commands that the conductor took and that it left, together all committed messages of its ring, with
+-- its counters, which have all shares of the values
 pub record TookAndLeft (service : CommandService) (served : Served) : Type 0 where
   pub received : served.received ≡ length (received_of service.conductor)
   pub left : served.received + served.left ≡ length (placed_committed_of (claims_of service.producer))

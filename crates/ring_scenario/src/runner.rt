@@ -35,14 +35,14 @@ pub struct Runner {
     ghost counted: { messages ≡ read_count loose },
 }
 
-/// What `end` tells.
+/// What `end` says.
 #[derive(Drop)]
 pub struct Ended {
-    /// How many messages the reads consumed.
+    /// The number of messages that the reads consumed.
     pub messages: u64,
-    /// How many messages were left.
+    /// The number of messages that were left.
     pub left: u64,
-    /// What the conductor handed out, where a line asked something of its side.
+    /// What the conductor returned, if a line used its side.
     pub served: Option<Served>,
 }
 

@@ -29,7 +29,7 @@ pub fn run_scenario<R: AllocGlobal + Threads + Wait, I: Read, O: Write>(
     // The last line that is no blank one is `end`.
     ensures ended { OnOk result (IfSome (I.remaining reader.old) IsEnded) }
 
-    // An option that does not do is found before anything is read, and nothing else is called so.
+    // Options are checked before any input is read, and only they give these faults.
     ensures sizes { IfSome (size_fault_of options.now) (λ fault. (result ≡ Err fault) × (reader.new ≡ reader.old)) }
     ensures capacity { result ≡ Err RunFault.BadCapacity → size_fault_of options.now ≡ Some RunFault.BadCapacity }
     ensures count { result ≡ Err RunFault.BadCount → size_fault_of options.now ≡ Some RunFault.BadCount }
@@ -43,7 +43,7 @@ pub fn run_scenario<R: AllocGlobal + Threads + Wait, I: Read, O: Write>(
     run_text(rt, alloc, runner, input.as_slice(), writer)
 }
 
-/// Executes the lines of a text in order, closes what the runner holds, and tells how it ended.
+/// Executes the lines of a text in order, closes what the runner holds, and says how it ended.
 fn run_text<R: Threads + Wait, O: Write>(
     rt: &R,
     alloc: Global,
@@ -92,7 +92,7 @@ fn run_to_end<R: Threads + Wait, O: Write>(
     })
 }
 
-/// Tests that the lines behind `end` have no words but comments.
+/// Tests that the lines after `end` have no words but comments.
 fn rest_is_blank(alloc: Global, lines: &mut Lines) -> Result<(), RunFault>
     ensures blank { OnOk result (AllBlank (lines_of lines.old.rest.now)) }
     ensures late { IfErr result (λ fault. ¬ IsEarly fault) }
@@ -107,7 +107,7 @@ fn rest_is_blank(alloc: Global, lines: &mut Lines) -> Result<(), RunFault>
     Ok(())
 }
 
-/// Writes what `end` tells: a line, and one more where a conductor finished.
+/// Writes what `end` prints: a line, and one more if a conductor finished.
 fn write_end<O: Write>(alloc: Global, ended: Ended, writer: &mut O) -> Result<(), RunFault>
     ensures late { IfErr result (λ fault. ¬ IsEarly fault) }
 {
@@ -131,11 +131,11 @@ fn write_finished<O: Write>(alloc: Global, served: &Served, writer: &mut O) -> R
     write_text(writer, text.as_str())
 }
 
-/// How many counters are in use.
+/// The number of counters in use.
 fn count_live(counters: &CountersManager) -> usize
     ensures { result ≡ length (live_of (registry_of counters.now)) }
 {
-    // The proof wants a bound: those in use are no more than all, whose number is a u32.
+    // The proof needs a bound: those in use are no more than all, whose number is a u32.
     let _all = counters.count();
     counters.iter().count()
 }

@@ -6,7 +6,7 @@ use ring_snapshot::{BoardFinding, BoardRecord, BoardSnapshot};
 use std::alloc::Global;
 use std::test::Fail;
 
-/// A closed board of 256 bytes, on which so many messages of lengths that look random were transmitted: message k has
+/// A closed board of 256 bytes, on which this many messages of lengths that look random were transmitted: message k has
 /// the type id k and bytes k - 1 modulo 256.
 fn transmitted(alloc: Global, numbers: &mut Numbers, sent: i32) -> Result<ClosedBoard, Fail> {
     let (board, mut transmitter) = Board::new(alloc, 256)?;
@@ -28,7 +28,7 @@ struct Lap {
 }
 
 impl Lap {
-    /// Goes on by a record, which has to be the message behind the last one.
+    /// Goes on by a record, which has to be the message after the last one.
     fn goes_on(&mut self, record: BoardRecord<'_>) -> bool {
         let follows = self.listed == 0 || record.type_id.wrapping_sub(self.last) == 1;
         if record.place != self.place || record.is_padding || !follows {
@@ -135,7 +135,7 @@ struct Sum {
 }
 
 impl Sum {
-    /// Reads all that lies in some words.
+    /// Reads all that is in some words.
     fn add(&mut self, words: &[u64]) {
         let Ok(records) = BoardSnapshot::new(words).and_then(|board| board.records()) else {
             self.refused = self.refused.wrapping_add(1);

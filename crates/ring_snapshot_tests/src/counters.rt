@@ -49,7 +49,7 @@ impl Desk {
     }
 }
 
-/// Tests whether the numbers of a counter in use are those that the manager tells.
+/// Tests whether the numbers of a counter in use are those that the manager says.
 fn has_numbers(manager: &CountersManager, counter: &Counter<'_>) -> bool {
     let id = counter.id;
     manager.type_id(id) == Ok(counter.type_id)
@@ -58,7 +58,7 @@ fn has_numbers(manager: &CountersManager, counter: &Counter<'_>) -> bool {
         && manager.registration(id) == Ok(counter.registration)
 }
 
-/// Tests whether label and key of a counter in use are those that the manager tells.
+/// Tests whether label and key of a counter in use are those that the manager says.
 fn has_texts(manager: &CountersManager, counter: Counter<'_>) -> Result<bool, IdFault> {
     let mut label = [0u8; 380];
     let len = manager.label_into(counter.id, &mut label)?;
@@ -68,7 +68,7 @@ fn has_texts(manager: &CountersManager, counter: Counter<'_>) -> Result<bool, Id
     Ok(has_bytes(counter.label, label) && has_bytes(counter.key, &key))
 }
 
-/// Tests whether a counter is as the manager tells of its id.
+/// Tests whether a counter is as the manager says of its id.
 fn is_told(manager: &CountersManager, counter: Counter<'_>) -> Result<bool, IdFault> {
     if manager.deadline(counter.id)? != counter.deadline {
         return Ok(false);
@@ -85,7 +85,7 @@ fn is_told(manager: &CountersManager, counter: Counter<'_>) -> Result<bool, IdFa
     }
 }
 
-/// How many counters are listed, which have to be those that the manager tells of.
+/// How many counters are listed, which have to be those that the manager says of.
 fn listed_of(alloc: Global, manager: &CountersManager) -> Result<u32, Fail> {
     let metadata = words_of(alloc, &CounterMetadata(manager))?;
     let values = words_of(alloc, &CounterValueWords(manager))?;
@@ -195,7 +195,7 @@ struct Sum {
 }
 
 impl Sum {
-    /// Reads all that lies in some words.
+    /// Reads all that is in some words.
     fn add(&mut self, metadata: &[u64], values: &[u64]) {
         let Ok(snapshot) = CountersSnapshot::new(metadata, values) else {
             return;
@@ -212,7 +212,7 @@ impl Sum {
     }
 }
 
-/// Stores words into the records of an id, 0 or 1, that are near to lawful ones, and now and then any.
+/// Stores words into the records of an id, 0 or 1, that are near to valid ones, and now and then any.
 fn change(metadata: &mut [u64; 128], values: &mut [u64; 32], id: usize, numbers: &mut Numbers)
     requires { id < 2 }
 {

@@ -12,7 +12,7 @@ impl Numbers {
         self.0
     }
 
-    /// A header whose length and type id are near to lawful ones, and now and then any word.
+    /// A header whose length and type id are near to valid ones, and now and then any word.
     pub fn next_header(&mut self) -> u64 {
         let number = self.next();
         if number % 8 == 0 {

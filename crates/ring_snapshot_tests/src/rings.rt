@@ -94,7 +94,7 @@ struct Sum {
 }
 
 impl Sum {
-    /// Reads all that lies in some words.
+    /// Reads all that is in some words.
     fn add(&mut self, words: &[u64]) {
         let Ok(records) = RingSnapshot::new(words).and_then(|ring| ring.records()) else {
             self.refused = self.refused.wrapping_add(1);
@@ -170,7 +170,7 @@ fn first_committed(words: &[u64]) -> Option<i32> {
     None
 }
 
-/// Writes a message, or aborts a claim, where there is room.
+/// Writes a message, or aborts a claim, if there is room.
 fn write_or_abort(ring: &mut SoloRing, numbers: &mut Numbers, type_id: i32) {
     let body = [7u8; 16];
     let len = (numbers.next() % 17) as usize;

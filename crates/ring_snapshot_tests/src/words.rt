@@ -14,7 +14,7 @@ pub fn words_of<S: Words>(alloc: Global, source: &S) -> Result<Vec<u64>, AllocEr
     Ok(words)
 }
 
-/// Tests whether these are the bytes, and are as many as is told.
+/// Tests whether these are the bytes, and the number of them.
 pub fn has_bytes(body: Body<'_>, wanted: &[u8]) -> bool {
     if body.len() != wanted.len() || body.is_empty() != wanted.is_empty() {
         return false;

@@ -6,7 +6,7 @@ use std::alloc::Global;
 use std::io::{self, ErrorKind, Write};
 use std::test::Fail;
 
-/// Keeps what it is given: at most so many bytes at a time, and none beyond a limit.
+/// Keeps what it is given: at most this many bytes at a time, and none beyond a limit.
 #[derive(Drop)]
 struct Slow {
     bytes: Vec<u8>,
@@ -42,7 +42,7 @@ fn is_written<S: Words>(alloc: Global, source: &S, most: usize, limit: usize) ->
     (done, out.bytes.len())
 }
 
-/// What is written, so many bytes at a time.
+/// What is written, this many bytes at a time.
 fn written<S: Words>(alloc: Global, source: &S, most: usize) -> Result<Vec<u8>, Fail> {
     let mut out = Slow {
         bytes: Vec::new(alloc),
@@ -53,7 +53,7 @@ fn written<S: Words>(alloc: Global, source: &S, most: usize) -> Result<Vec<u8>, 
     Ok(out.bytes)
 }
 
-/// Tests whether these bytes stand at an index.
+/// Tests whether these bytes are at an index.
 fn stand(bytes: &[u8], at: usize, wanted: &[u8]) -> bool {
     bytes.get(at..).is_some_and(|rest| rest.starts_with(wanted))
 }
@@ -72,7 +72,7 @@ fn writes_words_little_endian(rt: HostRuntime) -> Result<(), Fail> {
     assert_eq!(rt; bytes.len(), 128 + 768);
     let record = [13u8, 0, 0, 0, 7, 0, 0, 0, 104, 101, 108, 108, 111, 0, 0, 0];
     assert!(rt; stand(bytes.as_slice(), 0, &record));
-    // The tail, 128 bytes behind the buffer.
+    // The tail, 128 bytes after the buffer.
     assert!(rt; stand(bytes.as_slice(), 256, &[16, 0, 0, 0, 0, 0, 0, 0]));
     Ok(())
 }

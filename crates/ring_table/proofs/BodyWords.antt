@@ -38,7 +38,7 @@ length-with_word at word body le =
     ∙ length-append (take at body) (part at word body ++ drop (at + p) body) in
     omega arith
 
--- the bytes before, inside and behind
+-- the bytes before, inside and after
 pub before : (at word : ℕ) (body : List ℕ) (j : ℕ) → at ≤ length body → j < at
     → slice_index (with_word at word body) j ≡ slice_index body j
 unfolding part

@@ -26,7 +26,7 @@ use Rattle.ring_table.proofs.MemoryLemmas.{memory_appended, service_elsewhere}
 use Rattle.ring_table.proofs.LoadLemmas.{Ok, May, sees, end_below, tail_position}
 
 module _ (C start : ℕ) where
-  -- a claim of n bytes joins the history at its end, where the tail is
+  -- a claim of n bytes joins the history at its end, the tail
   appends : (words : List ℕ) (views : List View) (r : Kept C start words views) (id : ℕ) (v : View)
       → get_elem? views id ≡ some v → (type_id : ℤ) (n old new : ℕ) → old ≡ staged_end start (all_of r.hist)
       → 0 < v.producer.shares → IsClaimable C old new type_id n v.producer.seen_head

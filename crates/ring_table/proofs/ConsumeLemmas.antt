@@ -43,7 +43,7 @@ not_positive (pos n) fits le t = let low = t.0 in omega (arith, ints)
 not_positive (negsuc n) fits le t = let high = t.1 in omega (arith, fits.sfits)
 
 module _ (C start : ℕ) where
-  -- the consumer steps: one word changes, and it is where `now` says
+  -- the consumer steps: one word changes, and the consumer is at `now`
   pub consumed : (words : List ℕ) (views : List View) (r : Kept C start words views) (id : ℕ) (v : View)
       → get_elem? views id ≡ some v → v.consumes ≡ true → (i value : ℕ) (now : ConsumerView) (log : List (ℕ × ℕ))
       → IsMemory C start (set words i value) (all_of r.hist) now → IsNoService C i → GoesOn r.consumer now

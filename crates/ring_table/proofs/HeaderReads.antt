@@ -50,7 +50,7 @@ pub record FindsAt (C s e : ℕ) (cs : List StagedClaim) (got : List PlacedMessa
   pub lawful : IsMessage C message
   pub reaches : Reaches (s + rounded len) e cs (got ++ (record { place = s; message = message }) ∷ [])
 
--- where the header w, whose length is positive, leads
+-- the position to which the header w, whose length is positive, leads
 pub record Leads (C s e : ℕ) (cs : List StagedClaim) (got : List PlacedMessage) (w : ℕ) : Type 0 where
   pub padding : w / 2 ^ 32 ≡ 2 ^ 32 - 1 → Reaches (s + rounded (w % 2 ^ 32)) e cs got
   pub message : w / 2 ^ 32 ≢ 2 ^ 32 - 1 → FindsAt C s e cs got (w % 2 ^ 32) (w / 2 ^ 32)

@@ -46,7 +46,7 @@ pub owned_by-append_other : (j id : ℕ) (h : OwnedHistory) (c : StagedClaim) �
 owned_by-append_other j id [] c ne = ap (λ b. cond b (c ∷ []) []) (ne_eqb id j (λ e. ne (sym e)))
 owned_by-append_other j id (y ∷ ys) c ne = ap (λ l. cond (eqb y.0 j) (y.1 ∷ l) l) (owned_by-append_other j id ys c ne)
 
--- ---- the claims of a seat stand in the history
+-- ---- the claims of a seat are in the history
 
 pub owned_at : (id : ℕ) (h : OwnedHistory) (k : ℕ) (c : StagedClaim) → get_elem? (owned_by id h) k ≡ some c
     → (i : ℕ) × (get_elem? h i ≡ some (id, c))
@@ -65,14 +65,14 @@ owned_at id (x ∷ xs) k c e = dite (ℕ_discrete x.0 id)
 
 -- ---- one claim changed
 
--- d may stand for c: it has the same place and span
+-- d may be for c: it has the same place and span
 pub record MayReplace (C : ℕ) (c d : StagedClaim) : Type 0 where
   pub from : d.from ≡ c.from
   pub place : d.place ≡ c.place
   pub same_span : staged_span d ≡ staged_span c
   pub message : IsMessage C c.message → IsMessage C d.message
 
--- what f makes of the claims at the place p may stand for them
+-- what f makes of the claims at the place p may be for them
 abbrev pub MayReplaceAt : ℕ → ℕ → (StagedClaim → StagedClaim) → OwnedHistory → Type 0
 MayReplaceAt C p f h = (i : ℕ) (x : ℕ × StagedClaim) → get_elem? h i ≡ some x → x.1.place ≡ p → MayReplace C x.1 (f x.1)
 
@@ -158,7 +158,7 @@ module _ (id p : ℕ) (f : StagedClaim → StagedClaim) where
               (placed_edited (claim_end x.1) xs (λ i. may (suc i)) h.1),
         )
 
-    -- the word at q stays where those of the changed claims stay
+    -- the word at q stays if those of the changed claims stay
     pub staged_word_at-edited : (q : ℕ) (h : OwnedHistory) → MayReplaceAt C p f h
         → ((i : ℕ) (x : ℕ × StagedClaim) → get_elem? h i ≡ some x → x.1.place ≡ p
         → staged_word (f x.1) q ≡ staged_word x.1 q)

@@ -37,7 +37,7 @@ insert_claim_last c (d ∷ ds) below =
     ap (λ b. cond b (c ∷ d ∷ ds) (d ∷ insert_claim c ds)) (le-ltb c.place d.place (omega arith))
     ∙ ap (λ l. d ∷ l) (insert_claim_last c ds below.1)
 
--- a claim behind all others that joins one producer's claims stands at the end of the whole
+-- a claim after all others that joins one producer's claims is at the end of the whole
 pub interleaved-append_left : (c : StagedClaim) (xs ys : List StagedClaim) → AreBelow c.place ys
     → interleaved (xs ++ c ∷ []) ys ≡ interleaved xs ys ++ c ∷ []
 interleaved-append_left c xs [] below = refl
@@ -105,7 +105,7 @@ above_at p [] k c above e = absurd (some-ne-none c (sym e))
 above_at p (d ∷ ds) zero c above e = subst (λ (z : StagedClaim). p < z.place) (some-injective d c e) above.0
 above_at p (d ∷ ds) (suc k) c above e = above_at p ds k c above.1 e
 
--- where places rise, a change changes one claim, so the open claims change by that one
+-- if places rise, a change changes one claim, so the open claims change by that one
 pub open_count-changed : (f : StagedClaim → StagedClaim) (cs : List StagedClaim) (k : ℕ) (c : StagedClaim)
     → AreRising cs → get_elem? cs k ≡ some c
     → open_count (changed c.place f cs) + one_if_open (stage_state c.stage)
@@ -136,7 +136,7 @@ open_count-changed f (d ∷ ds) (suc k) c rising e =
     let sum : here + deep + old ≡ here + rest + new = omega arith in
     ap (λ (z : StagedClaim). one_if_open (stage_state z.stage) + deep + old) (changed_at_other c.place f d other) ∙ sum
 
--- where no claim is open, all are settled, and their headers are stored
+-- if no claim is open, all are settled, and their headers are stored
 pub none_open : (cs : List StagedClaim) → open_count cs ≡ 0 → AreSettled cs × AreStored cs
 none_open [] e = (tt, tt)
 none_open (c ∷ cs) e =

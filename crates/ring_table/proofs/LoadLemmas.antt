@@ -158,7 +158,7 @@ module _ (C start : ℕ) where
     pub claim : HasClaim v k c
     pub unsettled : IsSettled c.stage → ⊥
 
-  -- where such a claim lies
+  -- the place of such a claim
   pub record Stands (words : List ℕ) (views : List View) (r : Kept C start words views) (id : ℕ)
       (c : StagedClaim) : Type 0 where
     pub nth : ℕ

@@ -37,7 +37,7 @@ pub record EditsWord (C : ℕ) (h : OwnedHistory) (id p : ℕ) (f : StagedClaim 
   pub others : (i : ℕ) (x : ℕ × StagedClaim) → get_elem? h i ≡ some x → x.1.place ≡ p → (r : ℕ) → r % 8 ≡ 0 → r ≢ q
       → staged_word (f x.1) r ≡ staged_word x.1 r
 
--- a claim that shows nothing yet lies behind a history, and ends at `new`
+-- a claim that shows nothing yet is after a history, and ends at `new`
 pub record JoinsSilent (C start : ℕ) (h : OwnedHistory) (x : ℕ × StagedClaim) (new : ℕ) : Type 0 where
   pub lies : LiesAfter C (staged_end start (all_of h)) x.1
   pub ends : new ≡ claim_end x.1
@@ -62,7 +62,7 @@ module _ (C start : ℕ) (law : IsLawful C start) where
       apart C head p q (record { some = omega arith; whole = c8 }) at there same
 
   module _ (words : List ℕ) (consumer : ConsumerView) where
-    -- where the head lies
+    -- bounds of the head
     pub head_bounds : (cs : List StagedClaim) → IsMemory C start words cs consumer
         → (start ≤ consumer.head) × (consumer.head ≤ staged_end start cs) × (consumer.head % 8 ≡ 0)
     head_bounds cs m =
@@ -94,7 +94,7 @@ module _ (C start : ℕ) (law : IsLawful C start) where
           ∙ m.shows p p8 p0 p1;
     }
 
-    -- a word that is neither the cache nor the correlation counter nor the heartbeat, while the head does not fall
+    -- a word other than the cache, the correlation counter and the heartbeat, while the head does not fall
     pub service_elsewhere : (n : ℕ) → IsService C words consumer n → (i value : ℕ) → IsNoService C i
         → (consumer' : ConsumerView) → GoesOn consumer consumer' → IsService C (set words i value) consumer' n
     service_elsewhere n s i value away consumer' on =

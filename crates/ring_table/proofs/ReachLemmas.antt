@@ -64,7 +64,7 @@ reach_edited C id p f s e (x ∷ xs) got may un r =
     (λ _ at. absurd ((un 0 x refl at).0 a.0))
     (a.0, (a.1.0, a.1.1, moved)))))) r
 
--- a claim that is not settled lies behind what was passed
+-- a claim that is not settled is after what was passed
 pub not_passed : (C s e : ℕ) (h : OwnedHistory) (got : List PlacedMessage) (i : ℕ) (x : ℕ × StagedClaim)
     → ArePlaced C e (all_of h) → Reaches s e (all_of h) got → get_elem? h i ≡ some x → (IsSettled x.1.stage → ⊥)
     → (s ≤ x.1.place) × (x.1.stage ≡ Moved → s ≤ x.1.from)
@@ -109,7 +109,7 @@ stored_of Moved settled = absurd settled
 stored_of Padded settled = absurd settled
 stored_of (Stored s) settled = tt
 
--- where a word of the body of a message that was passed lies, and what it is
+-- the position and the value of a word of the body of a message that was passed
 pub record ShowsBody (s e : ℕ) (cs : List StagedClaim) (m : PlacedMessage) (at : ℕ) : Type 0 where
   pub above : e ≤ m.place
   pub below : m.place + 8 + at < s

@@ -1,4 +1,4 @@
--- What a read leaves is a history of its own, from where the read stands.
+-- What a read leaves is a history of its own, from the place of the read.
 use Rattle.std.proofs.Common.{◌≡◌, ℕ, ◌+◌, ◌-◌, ◌≤◌, ◌<◌, List, [], ◌∷◌, ◌++◌, cond, ltb, sym, refl, ap, ◌∙◌, inl, inr, ⊎_elim, length, lt-ltb, le-ltb, arith}
 use mathlib.Core.Logic.{dite}
 use native.Mathlib.Decide.{ℕ_discrete}
@@ -34,7 +34,7 @@ stored_record (Stored s) word stored = refl
 here : (c : StagedClaim) (cs : List StagedClaim) (p : ℕ) → p < claim_end c → staged_word_at (c ∷ cs) p ≡ staged_word c p
 here c cs p lt = ap (λ b. cond b (staged_word c p) (staged_word_at cs p)) (lt-ltb p (claim_end c) lt)
 
--- where all headers are stored, the two pictures are one
+-- if all headers are stored, the two pictures are one
 pub staged_word_at-claims_of : (C e : ℕ) (cs : List StagedClaim) (p : ℕ) → ArePlaced C e cs → AreStored cs
     → staged_word_at cs p ≡ word_at C e (unplaced cs) p
 unfolding word_at

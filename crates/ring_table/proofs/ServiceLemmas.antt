@@ -21,7 +21,7 @@ pub rising_append : (low n : ℕ) (xs : List ℕ) → AreRisingBelow low n xs �
 rising_append low n [] h = (h, omega arith)
 rising_append low n (x ∷ xs) h = (h.0, rising_append (x + 1) n xs h.1)
 
--- one more of the number n where there were those below n
+-- one more of the number n after those below n
 once_below-more : (x n : ℕ) → once_below x (n + 1) ≡ once_below x n + cond (eqb n x) 1 0
 once_below-more x n =
     let is : ℕ = once_below x (n + 1) in

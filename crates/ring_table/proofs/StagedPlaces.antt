@@ -1,4 +1,4 @@
--- Where claims lie.
+-- The places of claims.
 use Rattle.std.proofs.Common.{◌≡◌, ℕ, zero, suc, ◌%◌, ◌≤◌, ◌<◌, List, [], ◌∷◌, cond, length, sym, refl, ap, ◌∙◌, subst, arith, lt-ltb, le-ltb}
 use mathlib.Core.Option.{some, some-injective, some-ne-none}
 use lib.ListN.{get_elem?}
@@ -28,7 +28,7 @@ end_le C e (c ∷ cs) h =
     let at = h.0.place in
     omega arith
 
--- where a claim of a history lies
+-- the place of a claim of a history
 pub record LiesIn (C e : ℕ) (cs : List StagedClaim) (c : StagedClaim) : Type 0 where
   pub above : e ≤ c.from
   pub padded : c.from ≤ c.place
@@ -66,7 +66,7 @@ lies_in C e (y ∷ ys) (suc i) x h at =
           there.message;
     }
 
--- behind the claims there is 0
+-- after the claims there is 0
 pub nothing_behind : (C e : ℕ) (cs : List StagedClaim) (p : ℕ) → ArePlaced C e cs → staged_end e cs ≤ p
     → staged_word_at cs p ≡ 0
 nothing_behind C e [] p h le = refl
@@ -126,7 +126,7 @@ one_at_place C e h i j x y placed a b same =
 
 -- ---- multiples of 8
 
--- claims are placed one behind the other, from a multiple of 8 on
+-- claims are placed one after the other, from a multiple of 8 on
 pub record StandFrom (C e : ℕ) (cs : List StagedClaim) : Type 0 where
   pub whole : e % 8 ≡ 0
   pub placed : ArePlaced C e cs

@@ -81,7 +81,7 @@ staged_word-fresh C e type_id n p =
     no_record true word = refl
     no_record false word = refl
 
--- what two claims at one place show at a position that is neither the header's nor the padding's
+-- what two claims at one place show at a position other than the header's and the padding's
 same_padding : (c d : StagedClaim) (p : ℕ) → d.from ≡ c.from → d.place ≡ c.place → p < c.place
     → (p ≡ c.from → masked_padding d.stage (padding_header (c.place - c.from))
     ≡ masked_padding c.stage (padding_header (c.place - c.from))) → staged_word d p ≡ staged_word c p
@@ -92,7 +92,7 @@ same_padding c d p from place lt same = dite (ℕ_discrete p c.from)
     (λ else_at. staged_word-padding_behind d p (λ is. else_at (is ∙ from)) (omega arith)
     ∙ sym (staged_word-padding_behind c p else_at lt))
 
--- another stage shows the same in the body, and in the padding where the padding's header is as before
+-- another stage shows the same in the body, and in the padding if the padding's header is as before
 pub staged_word-staged : (c : StagedClaim) (t : Stage) (p : ℕ) → p % 8 ≡ 0 → c.place % 8 ≡ 0 → p ≢ c.place
     → ((word : ℕ) → masked_record t word ≡ masked_record c.stage word)
     → (p ≡ c.from → masked_padding t (padding_header (c.place - c.from))

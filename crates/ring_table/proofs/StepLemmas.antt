@@ -44,7 +44,7 @@ sole_sees_top views id v top sum latest at all = dite (ℕ_discrete latest.seat 
     let rich = latest.rich in
     absurd (omega arith))
 
--- somebody sees the new top where who saw the old one does
+-- some seat sees the new top if one saw the old one
 pub sees_top_after : (views : List View) (id : ℕ) (v w : View) (top top' : ℕ) → get_elem? views id ≡ some v
     → (0 < v.producer.shares → 0 < w.producer.shares) → top' ≡ top
     → (v.producer.seen_tail ≡ top → w.producer.seen_tail ≡ top') → SeesTop views top → SeesTop (set views id w) top'

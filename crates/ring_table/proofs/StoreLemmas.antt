@@ -38,7 +38,7 @@ one_negated zero (suc n) e = absurd (omega (arith, ints))
 one_negated (suc m) zero e = absurd (omega (arith, ints))
 one_negated (suc m) (suc n) e = omega (arith, ints)
 
--- a claimed header tells type id and length
+-- a claimed header says type id and length
 one_length : (type_id : ℤ) (n : ℕ) (type_id' : ℤ) (n' : ℕ) → 8 + n < 2 ^ 31 → 8 + n' < 2 ^ 31
     → open_header type_id n ≡ open_header type_id' n' → n ≡ n'
 one_length type_id n type_id' n' small small' same =
@@ -54,14 +54,14 @@ one_type type_id n type_id' n' fits small fits' small' same =
     ∙ ap (λ w. cast_signed w32 (w / 2 ^ 32)) same
     ∙ type_of-header (neg_ℤ (pos (8 + n'))) type_id' (fits_neg (8 + n') small') fits'
 
--- a word of a claim's record lies at q, or one of the padding before it while only the tail was moved
+-- a word of a claim's record is at q, or one of the padding before it while only the tail was moved
 record IsWordOf (c : StagedClaim) (q : ℕ) : Type 0 where
   pub whole : q % 8 ≡ 0
   pub from : c.from ≤ q
   pub below : q < claim_end c
   pub late : (c.place ≤ q) ⊎ (c.stage ≡ Moved)
 
--- a claim d may stand in the place of c once the word at q has this value, and no other word changes
+-- a claim d may be in the place of c once the word at q has this value, and no other word changes
 record Rewords (C : ℕ) (c d : StagedClaim) (q value : ℕ) : Type 0 where
   pub may : MayReplace C c d
   pub goes : c.stage ≢ Moved → d.stage ≢ Moved

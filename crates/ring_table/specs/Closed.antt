@@ -35,8 +35,8 @@ abbrev pub restarted : ℕ → List StagedClaim → List StagedClaim
 restarted head [] = []
 restarted head (c ∷ cs) = record { from = head; place = c.place; message = c.message; stage = c.stage } ∷ cs
 
--- What a reader leaves: the first claims are settled, and the messages taken are their committed ones. The others lie
--- where they lay, from the head on, and the words are their picture
+-- What a reader leaves: the first claims are settled, and the messages taken are their committed ones. The others keep
+-- their places, from the head on, and the words are their picture
 pub record LeavesRest (C : ℕ) (words : List ℕ) (v : View) : Type 0 where
   pub taken : List StagedClaim
   pub rest : List StagedClaim

@@ -1,4 +1,4 @@
--- What the steps of the consumer tell it: v is its view before, w after, n the number found.
+-- What the consumer learns by its steps: v is its view before, w after, n the number found.
 use Rattle.std.specs.Prelude.{◌≡◌, ◌≢◌, ℕ, ◌+◌, ◌*◌, ◌/◌, ◌%◌, ◌^◌, ◌≤◌, ◌<◌, ℤ, pos, ◌≤ℤ◌, FitsSigned, List, [], ◌∷◌, ◌++◌, length}
 use Rattle.std.specs.Int.{w32}
 use mathlib.Core.Option.{some}
@@ -37,7 +37,7 @@ pub record FindsMessage (C scan : ℕ) (got : List PlacedMessage) (v : View) (n 
       (got ++ (record { place = scan; message = record { type_id = type_id; body = body } }) ∷ []) v
   pub inside : IsInside C scan (rounded len)
 
--- what a header at the position `scan` tells a read that has come there and got these messages
+-- what a header at the position `scan` shows a read that has come there and got these messages
 pub record LoadsHeader (C scan : ℕ) (got : List PlacedMessage) (v : View) (n : ℕ) (w : View) : Type 0 where
   pub capacity : w.capacity ≡ v.capacity
   pub padding : (len : ℕ) → 0 < len → len < 2 ^ 31 → n ≡ header (pos len) padding_type
@@ -56,7 +56,7 @@ LoadsBody word v n = (k : ℕ) (m : PlacedMessage) (at : ℕ) → get_elem? v.co
 abbrev pub ClearsWord : View → View → Type 0
 ClearsWord v w = w ≡ with_consumer (cleared_to (v.consumer.cleared + 8) v.consumer) v
 
--- the next word to clear was found to be n: where that is 0 it is passed, and needs no store. The log does not tell
+-- the next word to clear was found to be n: if that is 0 it is passed, and needs no store. The log does not have it
 pub record LoadsPassed (v : View) (n : ℕ) (w : View) : Type 0 where
   pub zero : n ≡ 0 → ClearsWord v w
   pub other : n ≢ 0 → w ≡ v

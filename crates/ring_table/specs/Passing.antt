@@ -30,7 +30,7 @@ abbrev pub placed_committed_of : List StagedClaim → List PlacedMessage
 placed_committed_of [] = []
 placed_committed_of (c ∷ cs) = shown_at c.stage (placed_message c) ++ placed_committed_of cs
 
--- From e on a reader has come to s and got these messages: it is at the first claim, or behind that claim's padding,
+-- From e on a reader has come to s and got these messages: it is at the first claim, or after that claim's padding,
 -- whose header is stored, or past the claim, which is settled
 abbrev pub Reaches : ℕ → ℕ → List StagedClaim → List PlacedMessage → Type 0
 Reaches s e [] got = (s ≡ e) × (got ≡ [])

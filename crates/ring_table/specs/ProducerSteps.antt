@@ -1,4 +1,4 @@
--- What the steps of a producer tell it: v is its view before, w after, n the number found.
+-- What a producer learns by its steps: v is its view before, w after, n the number found.
 use Rattle.std.specs.Prelude.{◌≡◌, ◌≢◌, ℕ, ◌+◌, ◌%◌, ◌≤◌, ◌<◌, ℤ, FitsSigned, ◌^◌, List, All, length, slice_index}
 use Rattle.std.specs.Int.{w32, w64, to_le_bytes}
 use mathlib.Core.Option.{some}
@@ -53,7 +53,7 @@ pub record IsClaimable (C old new : ℕ) (type_id : ℤ) (n seen_head : ℕ) : T
   pub limit : new ≤ max_position
   pub room : new ≤ seen_head + C
 
--- the exchange found the tail `old`, and the claim is made behind all that the producer has, or it found a later tail
+-- the exchange found the tail `old`, and the claim is made after all that the producer has, or it found a later tail
 pub record MovesTail (C old new : ℕ) (wanted : Wanted) (v : View) (n : ℕ) (w : View) : Type 0 where
   pub hit : n ≡ old → w ≡ with_claim (moved_claim C old wanted.type_id wanted.len) new v
   pub behind : n ≡ old → EndBelow old v.producer.claims
@@ -123,7 +123,7 @@ pub record NeedsPadding (from : ℕ) (c : StagedClaim) : Type 0 where
   pub from_is : c.from ≡ from
   pub some_padding : from < c.place
 
--- the header of n bytes is to be stored, and a provisional length has the right span
+-- the header of n bytes must be stored, and a provisional length has the right span
 pub record NeedsHeader (n : ℕ) (c : StagedClaim) : Type 0 where
   pub stage : c.stage ≡ Padded
   pub same_span : span n ≡ staged_span c
@@ -134,7 +134,7 @@ pub record IsStagedOpen (type_id : ℤ) (n : ℕ) (c : StagedClaim) : Type 0 whe
   pub type_is : c.message.type_id ≡ type_id
   pub len_is : length c.message.body ≡ n
 
--- the value may be the body's word at the offset `at`: its bytes behind the body are 0
+-- the value may be the body's word at the offset `at`: its bytes after the body are 0
 pub record IsWordOfBody (at value : ℕ) (c : StagedClaim) : Type 0 where
   pub stage : c.stage ≡ Stored Open
   pub aligned : at % 8 ≡ 0

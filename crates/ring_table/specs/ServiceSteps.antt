@@ -1,4 +1,4 @@
--- What the steps on the head cache, the correlation counter and the heartbeat tell: v is the view before, w after, n
+-- What the steps on the head cache, the correlation counter and the heartbeat say: v is the view before, w after, n
 -- the number found.
 use Rattle.std.specs.Prelude.{◌≡◌, ℕ, ◌%◌, ◌^◌, ◌≤◌, max}
 use Rattle.ring_layout.specs.Places.{max_position}

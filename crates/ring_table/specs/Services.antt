@@ -6,15 +6,15 @@ use Rattle.ring_layout.specs.Lists.{total}
 pub use Rattle.ring_table.specs.declared.view.Service.{Service}
 use Rattle.ring_table.specs.declared.view.ProducerView.{ProducerView}
 
--- how often x stands in the list
+-- the number of times that x is in the list
 abbrev pub times : ℕ → List ℕ → ℕ
 times x xs = total (λ y. if y == x then 1 else 0) xs
 
--- how often a producer, or one that was joined into it, drew the number x
+-- the number of times that a producer, or one that was joined into it, drew the number x
 abbrev pub times_drawn : ℕ → ProducerView → ℕ
 times_drawn x p = total (λ (s : Service). times x s.draws) (p.service ∷ p.joined)
 
--- 1 where x is below n
+-- 1 if x is below n
 abbrev pub once_below : ℕ → ℕ → ℕ
 once_below x n = if nat_lt x n then 1 else 0
 

@@ -56,18 +56,18 @@ staged_word c p =
 unfoldable pub body_word : List ℕ → ℕ → ℕ
 body_word body at = from_le_bytes w64 (drop at body)
 
--- the word at position p of claims that lie one behind the other, 0 behind them
+-- the word at position p of claims that are one after the other, 0 after them
 abbrev pub staged_word_at : List StagedClaim → ℕ → ℕ
 staged_word_at [] p = 0
 staged_word_at (c ∷ cs) p = if nat_lt p (claim_end c) then staged_word c p else staged_word_at cs p
 
--- a lawful claim that comes after the end e
+-- a valid claim that comes after the end e
 pub record LiesAfter (C e : ℕ) (c : StagedClaim) : Type 0 where
   pub from : c.from ≡ e
   pub place : c.place ≡ next_place C e (staged_span c)
   pub message : IsMessage C c.message
 
--- the claims lie one behind the other from e on
+-- the claims are one after the other from e on
 abbrev pub ArePlaced : ℕ → ℕ → List StagedClaim → Type 0
 ArePlaced C e [] = ⊤
 ArePlaced C e (c ∷ cs) = LiesAfter C e c × ArePlaced C (claim_end c) cs

@@ -44,7 +44,7 @@ first_view k = record {
 abbrev pub logged : ℕ → ℕ → View → View
 logged word n v = record v { log = v.log ++ (word, n) ∷ [] }
 
--- the log is longer by one load: of this word, where n was found
+-- the log is longer by one load: of this word, which was n
 abbrev pub Logs : ℕ → ℕ → View → View → Type 0
 Logs word n v w = w.log ≡ v.log ++ (word, n) ∷ []
 
@@ -106,7 +106,7 @@ no_consumer = consumer_from 0
 abbrev pub without_consumer : View → View
 without_consumer v = record v { consumes = false; consumer = no_consumer }
 
--- a seat of its own, with so many shares, which has seen what this one has
+-- a seat of its own, with this many shares, which has seen what this one has
 abbrev pub alone : ℕ → View → View
 alone shares v =
     record v { log = []; producer = new_producer shares v.producer.seen_tail v.producer.seen_head }

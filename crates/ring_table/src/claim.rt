@@ -4,7 +4,7 @@ use std::collections::LinkedList;
 
 /// How far a claim is.
 pub enum Stage {
-    /// The tail is moved. Padding lies before the record, and its header is not stored.
+    /// The tail is moved. Padding is before the record, and its header is not stored.
     Moved,
     /// The padding's header is stored, or there is no padding. The claim's own header is not stored.
     Padded,

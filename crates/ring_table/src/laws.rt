@@ -12,8 +12,8 @@ ghost use Rattle.ring_table.specs.Passing.{AreSettled};
 ghost use Rattle.ring_table.specs.ProducerSteps.{EndBelow};
 ghost use Rattle.ring_table.specs.OpenClaims.{AreBelow, one_if_open, open_count};
 
-/// Where the header of each claim is stored, the words of the claims with their places are those of the claims alone,
-/// and both end at one position.
+/// If the header of each claim is stored, the words of the claims with their places are those of the claims alone, and
+/// both end at one position.
 pub fn stored_claims_show_one_picture()
     ensures word { (capacity e : ℕ) (cs : List StagedClaim) (p : ℕ) → ArePlaced capacity e cs → AreStored cs
         → staged_word_at cs p ≡ word_at capacity e (unplaced cs) p }
@@ -21,7 +21,7 @@ pub fn stored_claims_show_one_picture()
         → staged_end e cs ≡ end_of capacity e (unplaced cs) }
 {}
 
-/// A claim behind all others that one of two producers gets stands at the end of their claims put together, and changes
+/// A claim after all others that one of two producers gets is at the end of their claims put together, and changes
 /// no other place.
 pub fn last_claim_stands_last()
     ensures left { (c : StagedClaim) (xs ys : List StagedClaim) → AreBelow c.place ys
@@ -30,13 +30,13 @@ pub fn last_claim_stands_last()
         → interleaved xs (ys ++ c ∷ []) ≡ interleaved xs ys ++ c ∷ [] }
 {}
 
-/// A change at the place of the newest claim, behind the end of all others, changes that claim alone.
+/// A change at the place of the newest claim, after the end of all others, changes that claim alone.
 pub fn newest_claim_changes_alone()
     ensures { (from : ℕ) (cs : List StagedClaim) (c : StagedClaim) (f : StagedClaim → StagedClaim)
         → EndBelow from cs → from ≤ c.place → changed c.place f (cs ++ c ∷ []) ≡ cs ++ f c ∷ [] }
 {}
 
-/// How the number of open claims goes on: a join adds those of both, a change of one claim counts that one, and where
+/// How the number of open claims changes: a join adds those of both, a change of one claim counts that one, and if
 /// there are none all claims are settled and have their headers.
 pub fn open_claims_are_counted()
     ensures join { (xs ys : List StagedClaim) → open_count (interleaved xs ys) ≡ open_count xs + open_count ys }

@@ -1,7 +1,7 @@
 //! The rule of a shared ring, and a small function for each kind of step.
 //!
 //! - `view`, `claim`: what each seat knows. `rule`: what holds between any two steps.
-//! - `plays`: what each kind of step tells, by role. `steps`: a function for each kind, in files of the same names.
+//! - `plays`: what each kind of step says, by role. `steps`: a function for each kind, in files of the same names.
 //! - `table`: a ring's table, from its making to its close. `laws`: what follows from the rule.
 #![tactic(auto)]
 

@@ -58,7 +58,7 @@ pub fn close(table: RingTable, seat: RingSeat) -> Closed<Wanted, Global>
     ensures full { IsFull result.words }
     ensures closed { IsClosed table.shared.key.capacity table.shared.key.start (slots_items result.words) seat.me.0 }
 
-    // Where no claim is open and no read is running, the words are the picture of what the reader left.
+    // If no claim is open and no read is running, the words are the picture of what the reader left.
     ensures rest { open_count seat.me.0.producer.claims ≡ 0 → seat.me.0.consumer.cleared ≡ seat.me.0.consumer.head
         → LeavesRest table.shared.key.capacity (slots_items result.words) seat.me.0 }
 {

@@ -2,7 +2,7 @@
 use crate::claim::{PlacedMessage, StagedClaim};
 use std::collections::LinkedList;
 
-/// What a table is told once.
+/// What a table is made of.
 #[derive(Clone, Copy)]
 pub struct Key {
     /// In bytes.
@@ -11,7 +11,7 @@ pub struct Key {
     pub start: u64,
 }
 
-/// What a producer is about to claim, which the compare-exchange of the tail tells the rule.
+/// What a producer is about to claim, which the compare-exchange of the tail announces to the rule.
 #[derive(Clone, Copy)]
 pub struct Wanted {
     pub type_id: i32,
@@ -44,7 +44,7 @@ pub struct ProducerView {
 /// What the consumer knows.
 pub struct ConsumerView {
     pub head: u64,
-    /// Up to where the running read has set words to 0, or has found them so.
+    /// The position up to which the running read has set words to 0, or has found them so.
     pub cleared: u64,
     /// How far the running read has come.
     pub scan: u64,
@@ -62,7 +62,7 @@ pub struct View {
     /// Word and value of each load, but for those of words to be cleared.
     pub log: LinkedList<(u64, u64)>,
     pub producer: ProducerView,
-    /// Whether the seat is the consumer's. Where it is not, `consumer` says nothing.
+    /// Whether the seat is the consumer's. If it is not, `consumer` says nothing.
     pub consumes: bool,
     pub consumer: ConsumerView,
 }

@@ -3,7 +3,7 @@ use ring_words::{Action, Handler, ReadEnd, Stop};
 
 pub const BODY: [u8; 16] = [0, 1, 2, 3, 4, 5, 6, 7, 8, 9, 10, 11, 12, 13, 14, 15];
 
-/// Notes the first messages that it is shown, and answers them by a script; behind the script it goes on.
+/// Notes the first messages that it is shown, and replies by a script; after the script it goes on.
 #[derive(Drop)]
 pub struct Script<'a> {
     actions: &'a [Action],
@@ -26,7 +26,7 @@ impl<'a> Script<'a> {
         self.type_ids.get(index).copied()
     }
 
-    /// The body, with zeros behind it.
+    /// The body, with zeros after it.
     pub fn body(&self, index: usize) -> Option<[u8; 16]> {
         self.bodies.get(index).copied()
     }

@@ -12,7 +12,7 @@ fn read(ring: &mut SoloRing, script: &mut Script<'_>) -> ReadEnd
     ring.read(9, script)
 }
 
-/// Reads at most so many messages, and answers them by a script.
+/// Reads at most this many messages, and replies by a script.
 fn controlled_read(ring: &mut SoloRing, limit: u32, actions: &[Action]) -> ReadEnd {
     ring.controlled_read(limit, &mut Script::new(actions))
 }
@@ -21,7 +21,7 @@ fn write(ring: &mut SoloRing, type_id: i32, body: &[u8]) -> Result<(), ClaimFaul
     ring.write(type_id, body)
 }
 
-/// Writes a body of 16 bytes so many times.
+/// Writes a body of 16 bytes this many times.
 fn write_often(ring: &mut SoloRing, times: u32) -> Result<(), ClaimFault> {
     for _ in 0..times {
         ring.write(1, &BODY)?;

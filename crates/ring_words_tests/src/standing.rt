@@ -51,7 +51,7 @@ fn reads_on_behind_the_end_of_the_buffer(rt: HostRuntime) -> Result<(), Fail> {
         messages: 0,
         bytes: 0,
     };
-    // Padding of 16 bytes, and a record of 24 behind it.
+    // Padding of 16 bytes, and a record of 24 after it.
     ring.write(2, &[7; 16])?;
     assert_eq!(rt;
         ring.positions(),
@@ -80,7 +80,7 @@ fn counts_the_messages_of_both_reads(rt: HostRuntime) -> Result<(), Fail> {
     for _ in 0..4 {
         ring.write(3, &[1; 8])?;
     }
-    // One up to the end of the buffer, and two of the three behind it.
+    // One up to the end of the buffer, and two of the three after it.
     assert_eq!(rt; ring.read_across(3, &mut count), end(3, 48, Stop::Limit));
     assert_eq!(rt; count.messages, 3);
     assert_eq!(rt; ring.read(9, &mut count), end(1, 16, Stop::Unpublished));

@@ -1,4 +1,4 @@
-//! What handles of a board do.
+//! What handles of a broadcast buffer do.
 ghost use Rattle.std.specs.Prelude.{◌≡◌};
 ghost use Rattle.ring_handles.specs.Boards.{heard_out, IsUnheard, Received, SaysLapped, Subscribes, Transmitted};
 ghost use Rattle.ring_handles.specs.Kinds.{a_receiver, a_transmitter};
@@ -8,7 +8,7 @@ use crate::work_on::{fill, make_into, work_on};
 use ring_handles::{Handle, Identity, open_board};
 use std::alloc::Global;
 
-/// Makes a board that starts at 0, with its transmitter.
+/// Makes a broadcast buffer that starts at 0, with its transmitter.
 #[unsafe(no_mangle)]
 pub extern "C" fn felter_board_new_numbered(
     alloc: Global,
@@ -25,7 +25,7 @@ pub extern "C" fn felter_board_new_numbered(
     )
 }
 
-/// Makes a board that starts at a multiple of its capacity, with its transmitter.
+/// Makes a broadcast buffer that starts at a multiple of its capacity, with its transmitter.
 #[unsafe(no_mangle)]
 pub extern "C" fn felter_board_new_at_numbered(
     alloc: Global,

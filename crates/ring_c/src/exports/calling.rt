@@ -93,7 +93,8 @@ pub extern "C" fn felter_send_close_owner(
     work_on!(client, alloc, Client(side) => side.send(Request::Close { owner }, id))
 }
 
-/// Takes the next message of the board, and says of the reply to the command with this correlation id what it is.
+/// Takes the next message of the broadcast buffer, and says of the reply to the command with this correlation id what
+/// it is.
 #[unsafe(no_mangle)]
 pub extern "C" fn felter_poll(
     alloc: Global,

@@ -8,7 +8,7 @@ use crate::work_on::{fill, make_into, work_on};
 use ring_handles::{Handle, Identity, Sizes, open_conductor};
 use std::alloc::Global;
 
-/// Makes a conductor, with a ring for the commands, a board for the replies and counters.
+/// Makes a conductor, with a ring for the commands, a broadcast buffer for the replies, and counters.
 #[unsafe(no_mangle)]
 pub extern "C" fn felter_conductor_new_numbered(
     alloc: Global,
@@ -34,7 +34,7 @@ pub extern "C" fn felter_conductor_new_numbered(
     )
 }
 
-/// Makes a client, with one share of the ring and one of the board.
+/// Makes a client, with one share of the ring and one of the broadcast buffer.
 #[unsafe(no_mangle)]
 pub extern "C" fn felter_conductor_client(
     alloc: Global,

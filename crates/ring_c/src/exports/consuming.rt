@@ -23,7 +23,7 @@ pub extern "C" fn felter_read(
     work_on!(consumer, alloc, Consumer(side) => side.read(type_id, len, buffer))
 }
 
-/// Reads up to `limit` messages into a buffer, one behind another, and says how many and the bytes that they take.
+/// Reads up to `limit` messages into a buffer, one after another, and says how many and the bytes that they take.
 #[unsafe(no_mangle)]
 pub extern "C" fn felter_read_batch(
     alloc: Global,

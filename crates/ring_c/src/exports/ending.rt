@@ -1,4 +1,4 @@
-//! Rings and boards that end, and what boards and counters take back.
+//! Rings and broadcast buffers that end, and what broadcast buffers and counters take back.
 ghost use Rattle.ring_handles.specs.Finishing.{Finishes, IsNotLast, IsUnfinished, TakesLast};
 ghost use Rattle.ring_handles.specs.Returning.{BoardEndsAt, IsAstray, IsBoardKept, IsOfOthers, IsOfThese, IsOfThisBoard};
 ghost use Rattle.ring_handles.specs.Returning.{IsRawAstray, IsRawOfThisBoard, TakesListener, TakesLoads, TakesWatcher};
@@ -11,10 +11,10 @@ use crate::work_on::{end_with, join_into};
 use ring_handles::Handle;
 use std::alloc::Global;
 
-/// Ends writing to a ring: takes the producer of a consumer's ring in, where it has all shares and no open claim, and
-/// empties its handle. What lies in the ring can be read as before. 108 where the consumer has its ring's producer
-/// already, or this is one of another ring, which kind and number tell; then 10 where claims are open, then 11 where
-/// shares are with other producers. Both handles stay as they are then.
+/// Ends writing to a ring: takes the producer of a consumer's ring in, if it has all shares and no open claim, and
+/// empties its handle. What is in the ring can be read as before. Returns 108 if the consumer has its ring's producer
+/// already, or if this is one of another ring, as kind and number say; then 10 if claims are open, then 11 if shares
+/// are with other producers. Both handles are unchanged then.
 #[unsafe(no_mangle)]
 pub extern "C" fn felter_close(alloc: Global, consumer: &mut Handle, producer: &mut Handle) -> i32
     requires { WhereBoth a_consumer a_producer IsOfThisRing consumer.old.held producer.old.held }
@@ -25,8 +25,8 @@ pub extern "C" fn felter_close(alloc: Global, consumer: &mut Handle, producer: &
 }
 
 /// Takes a ring apart whose producer its consumer has taken in, empties the consumer's handle, and says how many
-/// messages were left unread. 11 where no producer was taken in, or 110 where another handle holds the ring, and the
-/// handle stays as it is.
+/// messages were left unread. Returns 11 if no producer was taken in, or 110 if another handle has the ring; the handle
+/// is unchanged then.
 #[unsafe(no_mangle)]
 pub extern "C" fn felter_finish(alloc: Global, consumer: &mut Handle, left: &mut u64) -> i32
     ensures { EndsAs a_consumer Finishes IsUnfinished left.old left.new consumer.old.held consumer.new.held result }
@@ -34,8 +34,8 @@ pub extern "C" fn felter_finish(alloc: Global, consumer: &mut Handle, left: &mut
     end_with!(consumer, alloc, Consumer(side) => side.finish(), count => *left = count)
 }
 
-/// Takes a receiver of a transmitter's board back, with its share, and empties its handle. 108 for a conductor's
-/// receiver, and for one of another board, which its number tells; both handles stay as they are then.
+/// Takes a receiver of a transmitter's broadcast buffer back, with its share, and empties its handle. Returns 108 for a
+/// conductor's receiver, and for one of another broadcast buffer, as its number says; both handles are unchanged then.
 #[unsafe(no_mangle)]
 pub extern "C" fn felter_board_join(
     alloc: Global,
@@ -49,8 +49,8 @@ pub extern "C" fn felter_board_join(
     join_into!(transmitter, receiver, alloc, Transmitter(side), Receiver(joining) => side.join(joining))
 }
 
-/// Takes a raw receiver of a transmitter's board back, with its share, and empties its handle. 108 for one of another
-/// board, which its number tells; both handles stay as they are then.
+/// Takes a raw receiver of a transmitter's broadcast buffer back, with its share, and empties its handle. Returns 108
+/// for one of another broadcast buffer, as its number says; both handles are unchanged then.
 #[unsafe(no_mangle)]
 pub extern "C" fn felter_board_join_raw(
     alloc: Global,
@@ -64,9 +64,9 @@ pub extern "C" fn felter_board_join_raw(
     join_into!(transmitter, receiver, alloc, Transmitter(side), RawReceiver(joining) => side.join_raw(joining))
 }
 
-/// Takes a board apart whose receivers were all taken back, empties the transmitter's handle, and says where the last
-/// transmission ended. 14 where shares are with receivers, then 110 where another handle holds the board, and the
-/// handle stays as it is.
+/// Takes a broadcast buffer apart whose receivers were all taken back, empties the transmitter's handle, and says where
+/// the last transmission ended. Returns 14 if shares are with receivers, then 110 if another handle has the broadcast
+/// buffer; the handle is unchanged then.
 #[unsafe(no_mangle)]
 pub extern "C" fn felter_board_close(alloc: Global, transmitter: &mut Handle, tail: &mut u64) -> i32
     ensures { EndsAs a_transmitter BoardEndsAt IsBoardKept tail.old tail.new transmitter.old.held transmitter.new.held
@@ -76,7 +76,7 @@ pub extern "C" fn felter_board_close(alloc: Global, transmitter: &mut Handle, ta
 }
 
 /// Takes a reader of these counters' values back, with its share, and empties its handle. 108 for a conductor's reader,
-/// and for one of other counters, which its number tells; both handles stay as they are then.
+/// and for one of other counters, which its number says; both handles stay as they are then.
 #[unsafe(no_mangle)]
 pub extern "C" fn felter_counters_join(
     alloc: Global,

@@ -37,7 +37,7 @@ pub extern "C" fn felter_conductor_reader(
 }
 
 /// Takes a client of this conductor's back, with its shares, and empties its handle. 108 for another conductor's, which
-/// its number tells; both handles stay as they are then.
+/// its number says; both handles stay as they are then.
 #[unsafe(no_mangle)]
 pub extern "C" fn felter_conductor_join(
     alloc: Global,
@@ -51,8 +51,8 @@ pub extern "C" fn felter_conductor_join(
     join_into!(conductor, client, alloc, Conductor(side), Client(joining) => side.join(joining))
 }
 
-/// Takes a receiver of this conductor's back, with its share, and empties its handle. 108 for a board's, and for
-/// another conductor's, which its number tells; both handles stay as they are then.
+/// Takes a receiver of this conductor's back, with its share, and empties its handle. Returns 108 for a broadcast
+/// buffer's, and for another conductor's, as its number says; both handles are unchanged then.
 #[unsafe(no_mangle)]
 pub extern "C" fn felter_conductor_join_receiver(
     alloc: Global,
@@ -67,7 +67,7 @@ pub extern "C" fn felter_conductor_join_receiver(
 }
 
 /// Takes a reader of this conductor's back, with its share, and empties its handle. 108 for one of counters, and for
-/// another conductor's, which its number tells; both handles stay as they are then.
+/// another conductor's, which its number says; both handles stay as they are then.
 #[unsafe(no_mangle)]
 pub extern "C" fn felter_conductor_join_reader(
     alloc: Global,

@@ -21,7 +21,7 @@ pub extern "C" fn felter_subscribe_raw(
     make_into!(transmitter, alloc, Transmitter(side) => side.subscribe_raw(), receiver, RawReceiver)
 }
 
-/// Answers the next record unread, by its type id and length, or says how often the receiver was lapped.
+/// Returns the next record unread, by its type id and length, or says how often the receiver was lapped.
 #[unsafe(no_mangle)]
 pub extern "C" fn felter_receive_next(
     alloc: Global,
@@ -36,7 +36,7 @@ pub extern "C" fn felter_receive_next(
     work_on!(receiver, alloc, RawReceiver(side) => side.receive_next(type_id, len, lapped))
 }
 
-/// Copies the body of the record that was answered last to the front of a buffer, without validation.
+/// Copies the body of the record that was returned last to the front of a buffer, without validation.
 #[unsafe(no_mangle)]
 pub extern "C" fn felter_load_body(alloc: Global, receiver: &mut Handle, buffer: &mut [u8]) -> i32
     ensures { Yields a_raw_receiver BodyLoaded buffer.old buffer.new receiver.old.held receiver.new.held result }
@@ -44,7 +44,7 @@ pub extern "C" fn felter_load_body(alloc: Global, receiver: &mut Handle, buffer:
     work_on!(receiver, alloc, RawReceiver(side) => side.load_body(buffer))
 }
 
-/// Tests whether the record that was answered last was not yet overwritten.
+/// Tests whether the record that was returned last was not yet overwritten.
 #[unsafe(no_mangle)]
 pub extern "C" fn felter_validate(alloc: Global, receiver: &mut Handle) -> i32
     ensures { Uses a_raw_receiver Tested receiver.old.held receiver.new.held result }

@@ -1,4 +1,4 @@
-//! Producers that are split off, and handles that are let go.
+//! Producers that are split off, and handles that are freed.
 ghost use Rattle.std.specs.Prelude.{◌≡◌};
 ghost use Rattle.std.specs.declared.option.Option.TheVariants.{None};
 ghost use Rattle.ring_handles.specs.Producing.{WhyNotSplit, Splits};
@@ -18,7 +18,7 @@ pub extern "C" fn felter_split(alloc: Global, producer: &mut Handle, other: &mut
     make_into!(producer, alloc, Producer(side) => side.split(alloc), other, Producer)
 }
 
-/// Aborts the open claims of what is to be let go.
+/// Aborts the open claims of what is freed.
 fn close(held: &mut Held)
     ensures { ClosesHeld held.old held.new }
 {
@@ -27,7 +27,7 @@ fn close(held: &mut Held)
     }
 }
 
-/// Lets go of what a handle stands for, and empties it. Open claims are aborted.
+/// Frees what a handle owns, and empties it. Open claims are aborted.
 #[unsafe(no_mangle)]
 pub extern "C" fn felter_free(alloc: Global, handle: &mut Handle)
     ensures { handle.new.held ≡ None }

@@ -14,7 +14,7 @@ use ring_protocol::{LONGEST_COMMAND, decode_reply, encode_command};
 use ring_rings::{Kind, Producer, Ring};
 
 impl Client {
-    /// Makes a client of a producer of the command ring and a receiver of the board with the replies.
+    /// Makes a client of a producer of the command ring and a receiver of the broadcast buffer with the replies.
     pub fn new(producer: Producer, receiver: CopyReceiver) -> Client
         ensures producer { producer_of result ≡ producer }
         ensures receiver { receiver_of result ≡ receiver }
@@ -39,7 +39,7 @@ impl Client {
         (producer, receiver)
     }
 
-    /// Draws the correlation id of a command that `send_as` is to send.
+    /// Draws the correlation id of a command, for `send_as`.
     pub fn next_correlation_id<K>(&mut self, ring: &Ring<K>) -> u64
         requires { IsProducerOf ring.now (producer_of self.old) }
         ensures producer { IsProducerOf ring.now (producer_of self.new) }
@@ -50,9 +50,8 @@ impl Client {
         ring.next_correlation_id(&mut self.producer)
     }
 
-    /// Loads the heartbeat that the conductor stores, by one step: 0 where it stored none, and no value before one that
-    /// this client loaded. What was sent and heard stays as it was. Whether a conductor that stores none any more lives
-    /// is the caller's to judge.
+    /// Loads the heartbeat that the conductor stores, by one step: 0 if it stored none, and no value before one that
+    /// this client loaded. Whether a conductor that stores none any more still lives is for the caller to judge.
     pub fn heartbeat<K>(&mut self, ring: &Ring<K>) -> u64
         requires { IsProducerOf ring.now (producer_of self.old) }
         ensures producer { IsProducerOf ring.now (producer_of self.new) }
@@ -66,8 +65,8 @@ impl Client {
     /// Makes one try to send a command with a correlation id that was drawn for it. It never waits, and takes no
     /// memory.
     ///
-    /// It refuses with `TooLong` a command of more than `LONGEST_COMMAND` bytes, and with `Refused` where
-    /// `Kind::write_once` does. Nothing was written then, and the call can be made again with the same id.
+    /// Returns `TooLong` if the command has more than `LONGEST_COMMAND` bytes, and `Refused` if `Kind::write_once`
+    /// refuses. Nothing was written then, and the call can be made again with the same id.
     pub fn send_as<K: Kind>(
         &mut self,
         ring: &Ring<K>,
@@ -102,12 +101,12 @@ impl Client {
         }
     }
 
-    /// Draws a correlation id and makes one try to send the command with that id, which is answered. It never waits,
-    /// and takes no memory.
+    /// Draws a correlation id, makes one try to send the command with it, and returns the id. It never waits, and takes
+    /// no memory.
     ///
-    /// It refuses with `TooLong` a command of more than `LONGEST_COMMAND` bytes, for which no id was drawn, and with
-    /// `Refused` where `Kind::write_once` does. Nothing was written then; the id, which the refusal gives,
-    /// stays drawn, and `send_as` can try again with it.
+    /// Returns `TooLong` if the command has more than `LONGEST_COMMAND` bytes, for which no id was drawn, and `Refused`
+    /// if `Kind::write_once` refuses. Nothing was written then; the id in the refusal stays drawn, and `send_as` can
+    /// try again with it.
     pub fn send<K: Kind>(&mut self, ring: &Ring<K>, request: Request<'_>) -> Result<u64, SendFault>
         requires producer { IsProducerOf ring.now (producer_of self.old) }
         requires sole { MayClaim K.is_for_one (producer_of self.old) }
@@ -128,10 +127,10 @@ impl Client {
         Ok(correlation)
     }
 
-    /// Takes what comes next on the board, for one who waits for the reply to the command with this correlation id.
-    /// It never waits, and takes no memory.
+    /// Takes the next message of the broadcast buffer, for a caller that waits for the reply to the command with this
+    /// correlation id. It never waits, and takes no memory.
     ///
-    /// After `Lapped` the next call goes on with the reply at latest. The bytes passed over lie from its `place` on.
+    /// After `Lapped` the next call goes on with the reply at latest. The bytes passed over are from its `place` on.
     pub fn poll(&mut self, board: &Board, correlation: u64) -> Polled
         requires { IsReceiverOf board.now (receiver_of self.old) }
         ensures receiver { IsReceiverOf board.now (receiver_of self.new) }

@@ -1,4 +1,4 @@
-//! One command: applied, and answered.
+//! One command: applied, and replied to.
 
 ghost use Rattle.std.specs.Prelude.{◌≡◌, ◌≤◌, length};
 ghost use Rattle.ring_board.specs.Seats.{IsTransmitterOf, view_of, capacity_of, tail_of};

@@ -1,4 +1,4 @@
-//! Those who listen to the conductor's replies, and those who read the counters' values.
+//! Receivers of the conductor's replies, and readers of the counters' values.
 
 ghost use Rattle.std.specs.Prelude.{◌≡◌, ◌+◌, ◌<◌, ◌↔◌, IfOk, IsOk, OnErr, OnOk};
 ghost use Rattle.ring_board.specs.Refusals.{subscribe_refusal_of, IsSubscribedUnless};
@@ -20,7 +20,7 @@ use std::alloc::Global;
 
 impl Conductor {
     /// Makes a receiver of the replies, which starts with the one at latest, with one share of the transmitter's.
-    /// `NoShares` where the transmitter has one share, then `OutOfMemory`; all is then as before.
+    /// `NoShares` if the transmitter has one share, then `OutOfMemory`; all is then as before.
     pub fn subscribe(
         &mut self,
         alloc: Global,
@@ -52,7 +52,7 @@ impl Conductor {
 
     /// Makes a reader of the counters' values, for another thread. It takes one share of the values.
     ///
-    /// `NoShares` comes where one share is left; all is then as before.
+    /// Returns `NoShares` if one share is left; nothing has changed then.
     pub fn value_reader(&mut self, values: &CounterValues) -> Result<ValueReader, NoShares>
         requires { IsManagerOf values.now (manager_in self.old) }
         ensures enough { IsOk result ↔ (1 < value_shares_of self.old) }

@@ -1,4 +1,4 @@
-//! Who takes the commands of a read.
+//! The handler that takes the commands of a read.
 use ring_board::{Board, Transmitter};
 use ring_counters::{CounterValues, CountersManager};
 

@@ -12,13 +12,13 @@ use thiserror::Error;
 /// Why a conductor does not finish.
 #[derive(Clone, Copy, Debug, PartialEq, Eq, Error)]
 pub enum FinishFault {
-    /// So many claims of the producer are open.
+    /// This many claims of the producer are open.
     #[error("{} ClaimsOpen {claims}", self.code())]
     ClaimsOpen { claims: u64 },
-    /// So many shares of the ring are with other producers.
+    /// This many shares of the ring are with other producers.
     #[error("{} ProducersOut {shares}", self.code())]
     ProducersOut { shares: u32 },
-    /// So many shares of the board are with receivers.
+    /// This many shares of the broadcast buffer are with receivers.
     #[error("{} ReceiversOut {receivers}", self.code())]
     ReceiversOut { receivers: u32 },
 }

@@ -54,7 +54,7 @@ fn request_of(label: &[u8], counter: u32, number: u32) -> Request<'_>
     }
 }
 
-/// One try to send a command. It is refused as long as the ring is full, or where another client was faster.
+/// One try to send a command. It is refused while the ring is full, or if another client was faster.
 fn try_send(
     ring: &ManyToOneRing,
     client: &mut Client,
@@ -88,7 +88,7 @@ impl<G: Gate> Shared<'_, G> {
         false
     }
 
-    /// Waits until the command with a correlation id is sent, which is answered.
+    /// Waits until the command with a correlation id is sent, which is returned.
     fn send(&self, client: &mut Client, request: Request<'_>) -> Option<u64>
         requires { IsClientSeat self.now.ring.now (producer_of client.old) }
         ensures seat { IsClientSeat self.now.ring.now (producer_of client.new) }
@@ -129,7 +129,7 @@ impl<G: Gate> Shared<'_, G> {
             }
             match client.poll(self.board, correlation) {
                 Polled::Answered(reply) => return Some(reply),
-                // More may lie behind it already.
+                // More may be after it already.
                 Polled::Another(_) | Polled::NoReply => backoff.reset(),
                 Polled::Nothing | Polled::Lapped(_) => backoff.snooze(),
             }
@@ -137,15 +137,15 @@ impl<G: Gate> Shared<'_, G> {
         None
     }
 
-    /// Tells the gate that the client's newest command, which has this number, was answered. The gate is told here
-    /// alone.
+    /// Reports to the gate that the client's newest command, which has this number, has its reply. Only this function
+    /// reports to the gate.
     fn tell_answered(&self, client: &StormClient, number: u32)
         requires heard { (before : Deeds) × Turns client.now.index number before (deeds_of client.now) }
     {
         self.gate.answered(client.index, number);
     }
 
-    /// Sends one command and waits for its reply. `None` where a wait came to its end.
+    /// Sends one command and waits for its reply. Returns `None` if a wait took all its turns.
     fn command(&self, client: &mut StormClient, number: u32) -> Option<()>
         requires { IsClientAt self.now client.old }
         ensures client { IsClientAt self.now client.new }
@@ -168,7 +168,7 @@ impl<G: Gate> Shared<'_, G> {
         Some(())
     }
 
-    /// Runs a client to its end. Where it gives up, all others are told to end.
+    /// Runs a client to its end. If it gives up, it stops all others.
     pub(crate) fn run_client(&self, mut client: StormClient) -> StormClient
         requires client { IsClientAt self.now client }
         requires new { IsNew client }

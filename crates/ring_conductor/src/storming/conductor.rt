@@ -16,7 +16,7 @@ pub(crate) struct ConductorEnd {
 }
 
 impl<G> Shared<'_, G> {
-    /// Works until a command comes, and says how many came. 0 where none came.
+    /// Works until a command comes, and returns how many came; 0 if none came.
     fn work(&self, conductor: &mut Conductor) -> u64
         requires conductor { IsConductorAt self.now conductor.old }
         requires counters { HasCounters self.now.plan conductor.old }
@@ -34,7 +34,7 @@ impl<G> Shared<'_, G> {
             if work.messages > 0 {
                 return work.messages;
             }
-            // At the end of the buffer the next commands lie behind it.
+            // At the end of the buffer the next commands are after it.
             if work.stopped != WorkStop::Block {
                 backoff.snooze();
             }
@@ -42,7 +42,7 @@ impl<G> Shared<'_, G> {
         0
     }
 
-    /// Works until all commands are taken. Where it gives up, all others are told to end.
+    /// Works until all commands are taken. If it gives up, it stops all others.
     pub(crate) fn run_conductor(&self, mut conductor: Conductor) -> ConductorEnd
         requires plan { IsPlan self.now.plan }
         requires conductor { IsConductorAt self.now conductor }

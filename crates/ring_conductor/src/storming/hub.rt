@@ -10,7 +10,7 @@ use ring_board::SubscribeFault;
 use std::alloc::Global;
 
 impl<G> Shared<'_, G> {
-    /// Makes a client with seats of its own. Where memory is wanting, all is as before.
+    /// Makes a client with endpoints of its own. If memory runs out, nothing has changed.
     pub(crate) fn split_client(
         &self,
         alloc: Global,
@@ -38,7 +38,7 @@ impl<G> Shared<'_, G> {
         })
     }
 
-    /// Takes a client's seats back, and says how many of its commands were answered.
+    /// Takes a client's endpoints back, and returns how many of its commands had their replies.
     pub(crate) fn join_client(&self, hub: &mut Hub, client: StormClient) -> u64
         requires hub { IsHubAt self.now hub.old }
         requires client { IsClientAt self.now client }

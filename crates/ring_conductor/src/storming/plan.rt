@@ -1,35 +1,35 @@
-//! What a storm is to do, and what it says afterwards.
+//! What a storm does, and what it reports.
 ghost use Rattle.std.specs.Prelude.{◌≡◌, ◌*◌, ◌↔◌, IsTrue};
 ghost use Rattle.ring_conductor.specs.Storming.{IsBoardFor, IsPlan, storm_code};
 
 use ring_layout::refusal_codes::{BAD_PLAN, OUT_OF_MEMORY, TURNS_SPENT};
 use thiserror::Error;
 
-/// What a storm is to do.
+/// What a storm does.
 #[derive(Clone, Copy, Debug, PartialEq, Eq)]
 pub struct StormPlan {
-    /// How many clients there are: 1 to 64.
+    /// The number of clients: 1 to 64.
     pub clients: u32,
-    /// How many commands each client sends: 1 to 10,000.
+    /// The number of commands of each client: 1 to 10,000.
     pub commands: u32,
     /// The capacity of the command ring in bytes: a power of two from 256 to 2^24.
     pub ring: u32,
-    /// How many turns each wait may take: at least one.
+    /// The number of turns that each wait may take: at least one.
     pub turns: u64,
 }
 
 /// What a storm did.
 #[derive(Clone, Copy, Debug, PartialEq, Eq)]
 pub struct StormReport {
-    /// How many commands the conductor took.
+    /// The number of commands that the conductor took.
     pub received: u64,
-    /// How many commands were left in the ring.
+    /// The number of commands left in the ring.
     pub left: u64,
-    /// How many replies came to the clients that had sent their commands.
+    /// The number of replies that came to the clients that had sent their commands.
     pub seen: u64,
-    /// How many counters are in use: one for each client.
+    /// The number of counters in use: one for each client.
     pub live: u32,
-    /// The sum of their values: for each client the last number that it set, 0 where it sent one command alone.
+    /// The sum of their values: for each client the last number that it set, 0 if it sent one command.
     pub sum: i64,
 }
 
@@ -39,10 +39,10 @@ pub enum StormFault {
     /// A number of the plan is not allowed.
     #[error("{} BadPlan", self.code())]
     BadPlan,
-    /// Memory is wanting, or a thread could not be started.
+    /// Out of memory, or a thread could not be started.
     #[error("{} OutOfMemory", self.code())]
     OutOfMemory,
-    /// A wait took as many turns as it may.
+    /// A wait took the number of turns that it was allowed.
     #[error("{} TurnsSpent", self.code())]
     TurnsSpent,
 }
@@ -75,7 +75,7 @@ impl StormPlan {
             && 1 <= self.turns
     }
 
-    /// How many commands all clients send.
+    /// The number of commands of all clients.
     pub(crate) fn all_commands(&self) -> u32
         requires { IsPlan self.now }
         ensures { result ≡ self.now.clients * self.now.commands }
@@ -83,7 +83,7 @@ impl StormPlan {
         self.clients * self.commands
     }
 
-    /// The capacity of a board on which no reply of all is overtaken.
+    /// The capacity of a broadcast buffer on which no reply of all is overtaken.
     pub(crate) fn board_capacity(&self) -> u32
         requires { IsPlan self.now }
         ensures { IsBoardFor self.now result }

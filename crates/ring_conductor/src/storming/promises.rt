@@ -10,7 +10,7 @@ use ring_counters::CounterValues;
 use ring_rings::ManyToOneRing;
 use std::thread::Promise;
 
-/// A client comes back with its seats, and each command that it counts was answered.
+/// A client comes back with its seats, and each command that it counts had its reply.
 #[derive(Clone, Copy)]
 pub(crate) struct ClientBack<'a> {
     pub(crate) ring: &'a ManyToOneRing,

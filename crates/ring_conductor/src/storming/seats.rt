@@ -1,4 +1,4 @@
-//! Those who take part in a storm, with their seats.
+//! The clients and the conductor of a storm, with their seats.
 ghost use Rattle.std.specs.Prelude.{◌≢◌};
 ghost use Rattle.ring_conductor.specs.declared.storming.plan.StormFault.TheVariants.{BadPlan};
 
@@ -16,7 +16,7 @@ pub(crate) struct StormClient {
     pub(crate) client: Client,
     /// The id of its counter, once that is allocated.
     pub(crate) counter: u32,
-    /// How many of its commands were answered.
+    /// The number of its commands that had their replies.
     pub(crate) seen: u64,
 }
 
@@ -30,9 +30,9 @@ pub(crate) struct Hub {
 /// Why a storm does not go on.
 #[derive(Clone, Copy)]
 pub(crate) enum Failure {
-    /// Memory is wanting, or a thread could not be started.
+    /// Out of memory, or a thread could not be started.
     OutOfMemory,
-    /// A wait took as many turns as it may.
+    /// A wait took the number of turns that it was allowed.
     TurnsSpent,
 }
 
@@ -51,7 +51,7 @@ impl From<Failure> for StormFault {
 #[derive(Drop)]
 pub(crate) struct LevelEnd {
     pub(crate) hub: Hub,
-    /// How many replies came to the clients that had sent their commands.
+    /// The number of replies that came to the clients that had sent their commands.
     pub(crate) seen: u64,
     pub(crate) failure: Option<Failure>,
 }
@@ -60,7 +60,7 @@ pub(crate) struct LevelEnd {
 #[derive(Drop)]
 pub(crate) struct StormEnd {
     pub(crate) finished: Finished,
-    /// How many replies came to the clients that had sent their commands.
+    /// The number of replies that came to the clients that had sent their commands.
     pub(crate) seen: u64,
     pub(crate) failure: Option<Failure>,
 }

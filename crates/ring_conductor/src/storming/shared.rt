@@ -14,7 +14,7 @@ pub(crate) struct Shared<'a, G> {
     pub(crate) board: &'a Board,
     pub(crate) values: &'a CounterValues,
     pub(crate) gate: &'a G,
-    /// Whether somebody gave up. Each wait looks at it in each turn.
+    /// Whether a thread gave up. Each wait looks at it in each turn.
     pub(crate) stopped: &'a AtomicBool,
     pub(crate) plan: StormPlan,
 }
@@ -24,7 +24,7 @@ impl<G> Shared<'_, G> {
         self.stopped.load(SeqCst)
     }
 
-    /// Tells all others to end.
+    /// Stops all others.
     pub(crate) fn stop(&self) {
         self.stopped.store(true, SeqCst);
     }

@@ -19,7 +19,7 @@ fn send_number(fault: SendFault) -> i32
     }
 }
 
-/// What a reply says besides its kind.
+/// What a reply says in addition to its kind.
 fn number_in(reply: Reply) -> i64
     ensures { result ≡ number_in reply }
 {
@@ -51,7 +51,7 @@ impl ClientSide {
         }
     }
 
-    /// Takes what comes next on the board, and says of the reply that was asked about what it is.
+    /// Takes the next message of the broadcast buffer, and says of the reply that was asked about what it is.
     pub fn poll(
         &mut self,
         correlation: u64,

@@ -23,7 +23,7 @@ fn stop_number(stopped: WorkStop) -> i32
 }
 
 impl ConductorSide {
-    /// Makes a client. Its receiver is made first, since a producer is split off where there are shares for it.
+    /// Makes a client. Its receiver is made first, since a producer is split off if there are shares for it.
     pub fn client(&mut self, alloc: Global) -> Result<ClientSide, i32>
         ensures hired { IfOk result (Hires self.old self.new) }
         ensures refused { IfErr result (λ code. (self.new ≡ self.old) × IsUnhired self.old code) }

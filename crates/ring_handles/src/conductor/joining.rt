@@ -11,7 +11,7 @@ use crate::counters::ReaderSide;
 use crate::lending::Shared;
 
 impl ConductorSide {
-    /// Takes a client back, with its shares of ring and board. Else it comes back.
+    /// Takes a client back, with its shares of ring and broadcast buffer. Otherwise it comes back.
     pub fn join(&mut self, client: ClientSide) -> Result<(), (i32, ClientSide)>
         requires { IsOfThisConductor self.old (lends_client client) }
         ensures joined { OnOk result (TakesClient self.old client self.new) }
@@ -30,7 +30,7 @@ impl ConductorSide {
         Ok(())
     }
 
-    /// Takes a receiver of the replies back, with its share. Else it comes back.
+    /// Takes a receiver of the replies back, with its share. Otherwise it comes back.
     pub fn join_receiver(&mut self, receiver: ReceiverSide) -> Result<(), (i32, ReceiverSide)>
         requires { IsOfThisConductor self.old (lends_receiver receiver) }
         ensures joined { OnOk result (TakesReceiver self.old receiver self.new) }
@@ -51,7 +51,7 @@ impl ConductorSide {
         Ok(())
     }
 
-    /// Takes a reader of the values back, with its share. Else it comes back.
+    /// Takes a reader of the values back, with its share. Otherwise it comes back.
     pub fn join_reader(&mut self, reader: ReaderSide) -> Result<(), (i32, ReaderSide)>
         requires { IsOfThisConductor self.old (lends_reader reader) }
         ensures joined { OnOk result (TakesReader self.old reader self.new) }

@@ -15,7 +15,8 @@ use std::alloc::Global;
 use std::sync::Arc;
 
 impl ConductorSide {
-    /// Moves a share of the board to a receiver of the replies, and gives it with what the conductor shares.
+    /// Moves a share of the broadcast buffer to a receiver of the replies, and returns it with what the conductor
+    /// shares.
     pub(crate) fn lend_receiver(
         &mut self,
         alloc: Global,

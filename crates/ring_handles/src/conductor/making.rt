@@ -20,15 +20,15 @@ use std::sync::Arc;
 pub struct Sizes {
     /// The bytes of the ring for the commands.
     pub capacity: u32,
-    /// The bytes of the board for the replies.
+    /// The bytes of the broadcast buffer for the replies.
     pub replies: u32,
     pub counters: u32,
-    /// After how many milliseconds the id of a freed counter may be given again.
+    /// The milliseconds after which the id of a freed counter may be allocated again.
     pub reuse_ms: u32,
 }
 
 impl Sizes {
-    /// Tests whether ring, board and counters may have these sizes.
+    /// Tests whether ring, broadcast buffer and counters may have these sizes.
     fn test(self) -> Result<(), i32>
         ensures { MatchResult result (λ _. sizes_refused self.capacity self.replies self.counters ≡ None)
             (λ code. sizes_refused self.capacity self.replies self.counters ≡ Some code) }

@@ -59,7 +59,7 @@ pub(crate) fn store_body(
     ensures stored { (cs : List StagedClaim) (c : StagedClaim) → IsFreshClaim place (length body.now) cs c seat.old.me.0
         → seat.new.me.0 ≡ with_claims (cs ++ put_at 0 body.now c ∷ []) seat.old.me.0 }
 {
-    // A record does not cross the end of the buffer, so its words lie side by side.
+    // A record does not cross the end of the buffer, so its words are side by side.
     let first = word_index(capacity, place) + 1;
     let whole = body.len() / 8;
     for k in 0..whole {
@@ -97,8 +97,8 @@ pub(crate) fn store_message(
     store_committed_header(words, seat, capacity, place, wanted);
 }
 
-/// The word of an open claim's body with these bytes in place of its own from the byte `at` on. The word is loaded
-/// where the bytes are not all of it.
+/// The word of an open claim's body with these bytes in place of its own from byte `at` on. The word is loaded if the
+/// bytes are not all of it.
 fn merged_word(
     words: &SharedRing,
     seat: &mut RingSeat,

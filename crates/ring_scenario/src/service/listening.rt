@@ -79,7 +79,7 @@ impl CommandService {
         make_listener(alloc, &self.board, &mut self.conductor, &mut self.listeners)
     }
 
-    /// Asks the listener of this number for the next reply; `None` where it is not here.
+    /// Asks the listener of this number for the next reply. Returns `None` if there is no such listener.
     pub fn hear(&mut self, alloc: Global, number: usize) -> Option<Result<Received, AllocError>>
         ensures told { IfSome result (λ answer. IfOk answer (λ told.
             ReceivesAt told self.old.listeners number self.new.listeners)) }

@@ -34,7 +34,7 @@ fn write_message<R: Wait>(
     ring.write(rt, producer, type_id, body)
 }
 
-/// Draws a correlation id and writes the command that has it; `None` where the command has no room. An id that was
+/// Draws a correlation id and writes the command that has it; `None` if the command has no room. An id that was
 /// drawn stays drawn.
 fn send_request<R: Wait>(
     rt: &R,
@@ -77,10 +77,10 @@ impl CommandService {
         write_message(rt, &self.ring, &mut self.producer, type_id, body)
     }
 
-    /// Draws a correlation id and writes the command that has it into the ring; the id is given. An id that was drawn
-    /// stays drawn, also where the ring refuses the command as `ManyToOneRing::write` does.
+    /// Draws a correlation id, writes the command with it into the ring, and returns the id. An id that was drawn stays
+    /// drawn, even if the ring refuses the command as `ManyToOneRing::write` does.
     ///
-    /// `None` where the command takes more than 4,096 bytes; all is then as before.
+    /// Returns `None` if the command takes more than 4,096 bytes; nothing has changed then.
     pub fn request<R: Wait>(&mut self, rt: &R, request: &Request) -> Option<Result<u64, ClaimFault>>
         ensures fits { IsSome result ↔ FitsRoom request.now }
         ensures sent { IfSome result (λ answer. IfOk answer (λ correlation. SendsRequest

@@ -82,7 +82,7 @@ fn join_watcher(
 }
 
 impl CommandService {
-    /// Makes a watcher and gives its number. `NoShares` where one share of the values is left.
+    /// Makes a watcher and returns its number. Returns `NoShares` if one share of the values is left.
     pub fn watch(&mut self) -> Result<Result<usize, NoShares>, AllocError>
         ensures made { IfOk result (λ made. IfOk made (λ number.
             Watches (writes_of (manager_in self.old.conductor)) self.old.watchers number self.new.watchers)) }
@@ -93,8 +93,8 @@ impl CommandService {
         make_watcher(&self.values, &mut self.conductor, &mut self.watchers)
     }
 
-    /// Loads the value of an id for the watcher of this number; `None` where it is not here. `BadId` where the id is
-    /// not below the number of counters.
+    /// Loads the value of an id for the watcher of this number. Returns `None` if there is no such watcher, `BadId` if
+    /// the id is not below the number of counters.
     pub fn peek(&mut self, number: usize, id: u32) -> Option<Result<i64, BadId>>
         ensures in_range { IfSome result (λ loaded. IsOk loaded ↔ (id < values_count self.old.values)) }
         ensures loaded { IfSome result (λ loaded. IfOk loaded (λ value.
@@ -109,7 +109,7 @@ impl CommandService {
         load_at(&self.values, &mut self.watchers, number, id)
     }
 
-    /// Takes the watcher of this number away; `None` where it is not here.
+    /// Joins the watcher of this number. Returns `None` if there is no such watcher.
     pub fn unwatch(&mut self, number: usize) -> Option<()>
         ensures left { OnSome result (Unwatches self.old.watchers number self.new.watchers) }
         ensures same { IfNone result (held_in self.new.watchers ≡ held_in self.old.watchers) }

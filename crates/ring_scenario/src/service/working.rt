@@ -22,15 +22,15 @@ impl CommandService {
             .do_work(&self.ring, &self.board, &self.values, now.ms(), limit)
     }
 
-    /// Lists the counters in use, by rising id. `OutOfMemory` where memory is wanting.
+    /// Lists the counters in use, by rising id. `OutOfMemory` if memory runs out.
     pub fn live(&self, alloc: Global) -> Result<Vec<CounterInfo>, OutOfMemory>
         ensures { IfOk result (λ infos. AreInfos infos.items (live_of (registry_of (manager_in self.now.conductor)))) }
     {
         self.conductor.counters().live(alloc)
     }
 
-    /// The owner of a counter in use, 0 for none. `BadId` where the id is not below the number of counters,
-    /// `NotAllocated` where no counter in use has it.
+    /// Returns the owner of a counter in use, 0 if it has none. Returns `BadId` if the id is not below the number of
+    /// counters, `NotAllocated` if no counter in use has it.
     pub fn owner(&self, id: u32) -> Result<u64, IdFault>
         ensures { result ≡ answer (id_refusal_of (registry_of (manager_in self.now.conductor)) id)
             (counter_at (registry_of (manager_in self.now.conductor)) id).values.owner }

@@ -113,7 +113,7 @@ fn finds_a_bad_line_when_its_turn_comes(rt: HostRuntime) {
             5,
             b"refused 4 BadType 0\n",
         ),
-        // words behind `end`
+        // words after `end`
         (b"end\nend\n", 2, b"end messages 0 left 0\n"),
         (
             b"write 1 -\nend\n\n# more\n read 1\n",

@@ -104,7 +104,7 @@ fn refuses_a_number_that_is_not_held(rt: HostRuntime) {
     }
 }
 
-/// The line with so many key bytes, and without a label.
+/// The line with this many key bytes, and without a label.
 fn with_key<R: AllocGlobal>(rt: &R, words: &[u8], len: usize) -> Result<Vec<u8>, Fail> {
     let mut line = words.to_vec(rt.alloc())?;
     for _ in 0..len {

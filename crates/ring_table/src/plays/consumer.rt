@@ -1,4 +1,4 @@
-//! What the steps of the consumer tell.
+//! What the steps of the consumer say.
 ghost use Rattle.std.specs.Prelude.{◌≡◌};
 ghost use Rattle.ring_table.specs.Views.{Logs, logged};
 ghost use Rattle.ring_table.specs.ConsumerSteps.{LoadsHeader, LoadsBody, LoadsPassed, ClearsWord};

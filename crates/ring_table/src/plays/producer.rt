@@ -1,4 +1,4 @@
-//! What the steps of a producer tell.
+//! What the steps of a producer say.
 ghost use Rattle.std.specs.Prelude.{◌≡◌, ◌≢◌, ℕ};
 ghost use mathlib.Core.Option.{some};
 ghost use Rattle.ring_layout.specs.declared.message.ClaimState.TheVariants.{Aborted, Committed};

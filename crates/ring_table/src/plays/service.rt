@@ -1,4 +1,4 @@
-//! What the steps on the head cache, the correlation counter and the heartbeat tell.
+//! What the steps on the head cache, the correlation counter and the heartbeat say.
 ghost use Rattle.std.specs.Prelude.{◌≡◌};
 ghost use Rattle.ring_table.specs.Views.{Logs, with_beat};
 ghost use Rattle.ring_table.specs.ServiceSteps.{LoadsCache, DrawsId, LoadsHeartbeat};

@@ -31,7 +31,7 @@ pub fn load_first_header(
     ring.load::<LoadFirstHeader>(consumer, word_index(capacity, head))
 }
 
-/// Loads the header where the running read has come to.
+/// Loads the header that the running read has reached.
 pub fn load_next_header(ring: &SharedRing, consumer: &mut RingSeat, capacity: u32, scan: u64) -> u64
     requires seat { IsSeatOf ring.now.table_id ring.now.key capacity consumer.old }
     requires consumes { consumer.old.me.0.consumes ≡ true }
@@ -43,7 +43,7 @@ pub fn load_next_header(ring: &SharedRing, consumer: &mut RingSeat, capacity: u3
     ring.load::<LoadNextHeader>(consumer, word_index(capacity, scan))
 }
 
-/// Loads the word at a position, which tells what a message that the running read has got has there. Its index in the
+/// Loads the word at a position, which says what a message that the running read has got has there. Its index in the
 /// buffer is `target`.
 pub fn load_body_word(
     ring: &SharedRing,
@@ -62,8 +62,8 @@ pub fn load_body_word(
     ring.load::<LoadBody>(consumer, target)
 }
 
-/// Loads the next word that the read has passed and not yet cleared. Where it is 0 it counts as cleared, since nobody
-/// else stores to it. Its index in the buffer is `target`.
+/// Loads the next word that the read has passed and not yet cleared. If it is 0 it counts as cleared, since no other
+/// thread stores to it. Its index in the buffer is `target`.
 pub fn load_passed_word(
     ring: &SharedRing,
     consumer: &mut RingSeat,
@@ -101,7 +101,7 @@ pub fn clear_word(
     ring.store::<ClearWord>(consumer, target, 0);
 }
 
-/// Stores the head behind all that the read has passed, which is cleared.
+/// Stores the head after all that the read has passed, which is cleared.
 pub fn store_head(ring: &SharedRing, consumer: &mut RingSeat, capacity: u32, head: u64)
     requires seat { IsSeatOf ring.now.table_id ring.now.key capacity consumer.old }
     requires consumes { consumer.old.me.0.consumes ≡ true }

@@ -38,7 +38,7 @@ pub fn load_head(ring: &SharedRing, producer: &mut RingSeat, capacity: u32) -> u
     ring.load::<LoadHead>(producer, trailer_word(capacity, HEAD_POSITION_WORD))
 }
 
-/// Moves the tail from `old` to `new` where it is still `old`, which makes a claim of `wanted`. Returns the tail found.
+/// Moves the tail from `old` to `new` if it is still `old`, which makes a claim of `wanted`. Returns the tail found.
 pub fn move_tail(
     ring: &SharedRing,
     producer: &mut RingSeat,
@@ -76,7 +76,7 @@ pub fn store_tail(
     ring.store::<MoveOwnTail>(producer, trailer_word(capacity, TAIL_POSITION_WORD), new);
 }
 
-/// Stores the header of the padding that lies from `from` up to the claim's place, both in bytes.
+/// Stores the header of the padding that is from `from` up to the claim's place, both in bytes.
 pub fn store_padding_header(
     ring: &SharedRing,
     producer: &mut RingSeat,
@@ -174,7 +174,7 @@ pub fn store_body_word(
     ring.store::<StoreBody>(producer, target, word);
 }
 
-/// Loads the word at a position, which tells what the producer's own open claim has there.
+/// Loads the word at a position, which says what the producer's own open claim has there.
 pub fn load_own_word(
     ring: &SharedRing,
     producer: &mut RingSeat,

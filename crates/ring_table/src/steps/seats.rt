@@ -45,7 +45,7 @@ pub fn join_consumer(ring: &SharedRing, producer: &mut RingSeat, consumer: RingS
 }
 
 /// Joins another producer into this one: its claims are put among this one's by rising place, its shares are added, and
-/// its draws and heartbeats stand beside this one's.
+/// its draws and heartbeats are beside this one's.
 pub fn join_producer(ring: &SharedRing, producer: &mut RingSeat, other: RingSeat)
     requires table { (producer.old.table_id ≡ ring.now.table_id) × (other.table_id ≡ ring.now.table_id) }
     requires words { 0 < ring.now.table_id.words }

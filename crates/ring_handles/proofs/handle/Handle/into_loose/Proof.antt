@@ -1,4 +1,4 @@
--- `into_loose` tests the pointer, and takes the box out where there is one.
+-- `into_loose` tests the pointer, and takes the box out if there is one.
 use Rattle.std.proofs.Common.{◌≡◌, List, [], ◌∷◌, ◌++◌, refl, sym, ap, ◌∙◌, subst, lit<}
 use mir.Val.{Val, vptr, vcons, vnil}
 use base.Logic.{SProp, ent, emp, id⊢}

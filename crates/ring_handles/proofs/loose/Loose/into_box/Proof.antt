@@ -85,7 +85,7 @@ into_box_spec 𝓤 𝓛 𝓜 𝓡 wired T A L LA g d dx dd allocator glue glued 
     sets ! (of_opd ! (get_in ! (fld ! refl (stop !)) (sub ! 1 refl (whole !)))) refl fits $
     first ! $ blocks ! $ sets ! (of_opd ! (get ! refl)) refl fits $
     calls_at_last ! (fm 𝓛 𝓜 𝓡) k from_raw y (and_then ! (get ! refl) (and_then ! (get ! refl) (no_more !))) (λ u.
-    -- what it answers
+    -- what it returns
     use1 𝓛 (later
     (some (λ (r : B.Denot). (lives ⊛ ‵ (B.own_val r (u ∷ []))) ⊛ some
     (λ (ls : Lasts (callee.ended T A g d dd) κs y.0.3). ‵ (lasts (callee.ended T A g d dd) κs y.0.3 ls) ⊛

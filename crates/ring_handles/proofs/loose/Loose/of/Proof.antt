@@ -1,4 +1,4 @@
--- `of` calls `into_raw_with_allocator`, and keeps the pointer and the handle that it answers.
+-- `of` calls `into_raw_with_allocator`, and keeps the pointer and the handle that it returns.
 use Rattle.std.proofs.Common.{◌≡◌, List, [], ◌∷◌, ◌++◌, refl, sym, ap, ◌∙◌, subst}
 use mir.Syntax.{a_type, dcons, dnil}
 use mir.Raw.{raw as bare}
@@ -80,7 +80,7 @@ of_spec 𝓤 𝓛 𝓜 𝓡 wired T A L LA g d dx dd allocator glue glued =
     pass_all ! refl (typed, tt) $
     sets ! (of_opd ! (get ! refl)) refl typed $
     calls_at ! (fm 𝓛 𝓜 𝓡) k into_raw y (and_then ! (get ! refl) (no_more !)) (λ u.
-    -- what it answers
+    -- what it returns
     use1 𝓛 (later
     (some (λ (r : Ptr × A.Denot). (lives ⊛ ‵ (Pair.own_val r (u ∷ []))) ⊛ some
     (λ (_ : (Unit {0} × (Unit {0} × Unit {0})) × Unit {0}). ‵ (fsep (fsep ftrue (fsep ftrue ftrue)) ftrue) ⊛
