@@ -27,7 +27,7 @@ def tracked():
 
 
 def generated(path):
-    return path.endswith("/CALLING.md")
+    return path.endswith("/CALLING.md") or path == "bench/RESULTS.md"
 
 
 def without_code(text):
