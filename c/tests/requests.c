@@ -1,0 +1,235 @@
+/* No call requests memory but those that make something: the constructors, felter_split, felter_claim, the calls that
+ * subscribe, and those that make clients and readers. Each other call of felter.h is made once or more, with success
+ * and with an error, and the requests in it are counted.
+ * Link with -Wl,--wrap=malloc,--wrap=calloc,--wrap=realloc,--wrap=aligned_alloc,--wrap=posix_memalign,--wrap=free. */
+#include "check.h"
+
+void *__real_malloc(size_t size);
+void *__real_calloc(size_t count, size_t size);
+void *__real_realloc(void *at, size_t size);
+void *__real_aligned_alloc(size_t align, size_t size);
+int __real_posix_memalign(void **at, size_t align, size_t size);
+void __real_free(void *at);
+
+static long requests;
+
+void *__wrap_malloc(size_t size) {
+    requests++;
+    return __real_malloc(size);
+}
+
+void *__wrap_calloc(size_t count, size_t size) {
+    requests++;
+    return __real_calloc(count, size);
+}
+
+void *__wrap_realloc(void *from, size_t size) {
+    requests++;
+    return __real_realloc(from, size);
+}
+
+void *__wrap_aligned_alloc(size_t align, size_t size) {
+    requests++;
+    return __real_aligned_alloc(align, size);
+}
+
+int __wrap_posix_memalign(void **at, size_t align, size_t size) {
+    requests++;
+    return __real_posix_memalign(at, align, size);
+}
+
+void __wrap_free(void *at) {
+    __real_free(at);
+}
+
+static int calls; /* that requested none */
+
+/* The call returns the code, and requests no memory. */
+#define NONE(code, call)                                                                               \
+    do {                                                                                               \
+        long before = requests;                                                                        \
+        EXPECT(code, call);                                                                            \
+        if (requests != before) {                                                                      \
+            fprintf(stderr, "%s:%d: %ld requests: %s\n", __FILE__, __LINE__, requests - before, #call); \
+            exit(1);                                                                                   \
+        }                                                                                              \
+        calls++;                                                                                       \
+    } while (0)
+
+/* The call succeeds, and requests memory: so that requests are counted at all. */
+#define SOME(call)                                                                   \
+    do {                                                                             \
+        long before = requests;                                                      \
+        EXPECT(FELTER_OK, call);                                                     \
+        if (requests == before) {                                                    \
+            fprintf(stderr, "%s:%d: no request: %s\n", __FILE__, __LINE__, #call);   \
+            exit(1);                                                                 \
+        }                                                                            \
+    } while (0)
+
+static uint8_t buffer[1024];
+static int32_t type_id, why;
+static size_t len, used;
+static uint64_t head, tail, id, number, lapped, left, took;
+static uint32_t count;
+static int64_t value;
+
+static void write_and_read(felter_producer *producer, felter_consumer *consumer) {
+    NONE(FELTER_OK, felter_write(producer, 1, BYTES("first")));
+    NONE(FELTER_OK, felter_write(producer, 2, BYTES("second")));
+    NONE(FELTER_BAD_TYPE, felter_write(producer, 0, BYTES("")));
+    SOME(felter_claim(producer, 3, 4, &number));
+    NONE(FELTER_OK, felter_put(producer, number, 0, BYTES("put!")));
+    NONE(FELTER_PUT_RANGE, felter_put(producer, number, 1, BYTES("put!")));
+    NONE(FELTER_OK, felter_commit(producer, number));
+    NONE(FELTER_NO_CLAIM, felter_commit(producer, number));
+    EXPECT(FELTER_OK, felter_claim(producer, 3, 4, &number));
+    NONE(FELTER_OK, felter_abort(producer, number));
+    NONE(FELTER_OK, felter_positions(producer, &head, &tail));
+    NONE(FELTER_OK, felter_next_id(producer, &id));
+    NONE(FELTER_OK, felter_set_heartbeat(consumer, 5));
+    NONE(FELTER_OK, felter_heartbeat(producer, &number));
+    NONE(FELTER_OK, felter_shares(producer, &count));
+    NONE(FELTER_SHORT_BUFFER, felter_read(consumer, &type_id, &len, buffer, 1));
+    NONE(FELTER_OK, felter_read(consumer, &type_id, &len, buffer, sizeof buffer));
+    CHECK(type_id == 1 && len == 5);
+    NONE(FELTER_OK, felter_read_batch(consumer, 9, &count, &used, buffer, sizeof buffer));
+    CHECK(count == 2);
+    NONE(FELTER_NO_MESSAGE, felter_read(consumer, &type_id, &len, buffer, sizeof buffer));
+}
+
+static void fill(felter_producer *producer) {
+    int32_t code = FELTER_OK;
+    while (code == FELTER_OK) {
+        long before = requests;
+        code = felter_write(producer, 1, BYTES("full"));
+        CHECK(requests == before);
+    }
+    CHECK(code == FELTER_INSUFFICIENT_CAPACITY);
+}
+
+static void rings(void) {
+    felter_producer producer = FELTER_EMPTY, other = FELTER_EMPTY, single = FELTER_EMPTY;
+    felter_consumer consumer = FELTER_EMPTY, of_single = FELTER_EMPTY;
+    SOME(felter_many_to_one_new(128, &producer, &consumer));
+    SOME(felter_one_to_one_new(128, &single, &of_single));
+    SOME(felter_split(&producer, &other));
+    write_and_read(&producer, &consumer);
+    write_and_read(&single, &of_single);
+    fill(&other);
+    fill(&single);
+    NONE(FELTER_PRODUCERS_OUT, felter_close(&consumer, &producer));
+    NONE(FELTER_OK, felter_join(&producer, &other));
+    NONE(FELTER_OTHER_RING, felter_close(&consumer, &single));
+    NONE(FELTER_OK, felter_close(&consumer, &producer));
+    NONE(FELTER_OK, felter_finish(&consumer, &left));
+    NONE(FELTER_OK, felter_close(&of_single, &single));
+    NONE(FELTER_OK, felter_finish(&of_single, &left));
+}
+
+static void broadcast_buffers(void) {
+    felter_transmitter transmitter = FELTER_EMPTY;
+    felter_receiver receiver = FELTER_EMPTY;
+    felter_raw_receiver raw = FELTER_EMPTY;
+    SOME(felter_board_new(256, &transmitter));
+    SOME(felter_subscribe(&transmitter, &receiver));
+    SOME(felter_subscribe_raw(&transmitter, &raw));
+    NONE(FELTER_NO_MESSAGE, felter_receive(&receiver, &type_id, &len, &lapped, buffer, sizeof buffer));
+    NONE(FELTER_OK, felter_transmit(&transmitter, 4, BYTES("seen")));
+    NONE(FELTER_TOO_LONG, felter_transmit(&transmitter, 4, buffer, 33));
+    NONE(FELTER_OK, felter_receive(&receiver, &type_id, &len, &lapped, buffer, sizeof buffer));
+    NONE(FELTER_OK, felter_receive_next(&raw, &type_id, &len, &lapped));
+    NONE(FELTER_OK, felter_load_body(&raw, buffer, sizeof buffer));
+    NONE(FELTER_OK, felter_validate(&raw));
+    for (int i = 0; i < 40; i++) NONE(FELTER_OK, felter_transmit(&transmitter, 4, BYTES("sixteen bytes...")));
+    NONE(FELTER_LAPPED, felter_receive(&receiver, &type_id, &len, &lapped, buffer, sizeof buffer));
+    NONE(FELTER_LAPPED, felter_receive_next(&raw, &type_id, &len, &lapped));
+    NONE(FELTER_OK, felter_lapped_count(&receiver, &number));
+    NONE(FELTER_OK, felter_raw_lapped_count(&raw, &number));
+    NONE(FELTER_RECEIVERS_OUT, felter_board_close(&transmitter, &tail));
+    NONE(FELTER_OK, felter_board_join(&transmitter, &receiver));
+    NONE(FELTER_OK, felter_board_join_raw(&transmitter, &raw));
+    NONE(FELTER_OK, felter_board_close(&transmitter, &tail));
+}
+
+static void counters(void) {
+    felter_counters all = FELTER_EMPTY;
+    felter_reader reader = FELTER_EMPTY;
+    SOME(felter_counters_new(3, 0, &all));
+    SOME(felter_counters_reader(&all, &reader));
+    NONE(FELTER_OK, felter_counter_allocate(&all, 0, 1, BYTES("key"), BYTES("label"), 7, &count));
+    NONE(FELTER_OK, felter_counter_allocate_owned(&all, 0, 2, BYTES("key"), BYTES("label"), 8, 9, &count));
+    NONE(FELTER_OK, felter_counter_allocate_owned(&all, 0, 2, BYTES("key"), BYTES("label"), 8, 9, &count));
+    NONE(FELTER_NO_FREE_COUNTER, felter_counter_allocate(&all, 0, 1, BYTES(""), BYTES(""), 7, &count));
+    NONE(FELTER_OK, felter_counter_set(&all, 0, 5));
+    NONE(FELTER_OK, felter_counter_add(&all, 0, 1, &value));
+    NONE(FELTER_OK, felter_counter_value(&all, 0, &value));
+    NONE(FELTER_OK, felter_counter_type_id(&all, 0, &type_id));
+    NONE(FELTER_OK, felter_counter_registration(&all, 0, &number));
+    NONE(FELTER_OK, felter_counter_owner(&all, 1, &number));
+    NONE(FELTER_OK, felter_counter_label(&all, 0, &len, buffer, sizeof buffer));
+    NONE(FELTER_OK, felter_counter_key(&all, 0, buffer, sizeof buffer));
+    NONE(FELTER_OK, felter_counter_find(&all, 1, 7, &count));
+    NONE(FELTER_OK, felter_counters_count(&all, &count));
+    NONE(FELTER_OK, felter_reader_value(&reader, 0, &value));
+    NONE(FELTER_OK, felter_counter_free(&all, 0, 0));
+    NONE(FELTER_NOT_ALLOCATED, felter_counter_free(&all, 0, 0));
+    NONE(FELTER_OK, felter_counters_close_owner(&all, 0, 9, &count));
+    CHECK(count == 2);
+    NONE(FELTER_OK, felter_counter_allocate(&all, 0, 1, BYTES("key"), BYTES("again"), 7, &count));
+    NONE(FELTER_OK, felter_counters_join(&all, &reader));
+    felter_free(&all.handle);
+}
+
+/* Obeys what was sent, and gets the reply to it, of this kind. */
+static void obey(felter_conductor *conductor, felter_client *client, int32_t kind) {
+    int32_t found = 0;
+    NONE(FELTER_OK, felter_conductor_work(conductor, 0, 9, &took, &why));
+    CHECK(took == 1);
+    NONE(FELTER_OK, felter_poll(client, id, &found, &value, &lapped));
+    CHECK(found == kind);
+    NONE(FELTER_NO_MESSAGE, felter_poll(client, id, &found, &value, &lapped));
+}
+
+static void conductors(void) {
+    felter_conductor conductor = FELTER_EMPTY;
+    felter_client client = FELTER_EMPTY;
+    felter_receiver replies = FELTER_EMPTY;
+    felter_reader values = FELTER_EMPTY;
+    SOME(felter_conductor_new(1024, 1024, 2, 0, &conductor));
+    SOME(felter_conductor_client(&conductor, &client));
+    SOME(felter_conductor_subscribe(&conductor, &replies));
+    SOME(felter_conductor_reader(&conductor, &values));
+    NONE(FELTER_OK, felter_conductor_set_heartbeat(&conductor, 4));
+    NONE(FELTER_OK, felter_client_heartbeat(&client, &number));
+    NONE(FELTER_OK, felter_send_allocate(&client, 1, BYTES("k"), BYTES("l"), &id));
+    obey(&conductor, &client, FELTER_REPLY_ALLOCATED);
+    NONE(FELTER_OK, felter_send_set(&client, 0, 3, &id));
+    obey(&conductor, &client, FELTER_REPLY_DONE);
+    NONE(FELTER_OK, felter_send_set(&client, 9, 3, &id));
+    obey(&conductor, &client, FELTER_REPLY_REFUSED);
+    NONE(FELTER_OK, felter_send_allocate_owned(&client, 1, 6, BYTES("k"), BYTES("l"), &id));
+    obey(&conductor, &client, FELTER_REPLY_ALLOCATED);
+    NONE(FELTER_OK, felter_send_free(&client, 0, &id));
+    obey(&conductor, &client, FELTER_REPLY_DONE);
+    NONE(FELTER_OK, felter_send_close_owner(&client, 6, &id));
+    obey(&conductor, &client, FELTER_REPLY_CLOSED);
+    NONE(FELTER_TOO_LONG, felter_send_allocate(&client, 1, buffer, 600, BYTES(""), &id));
+    NONE(FELTER_OK, felter_receive(&replies, &type_id, &len, &lapped, buffer, sizeof buffer));
+    NONE(FELTER_OK, felter_reader_value(&values, 0, &value));
+    NONE(FELTER_PRODUCERS_OUT, felter_conductor_finish(&conductor, &took, &left));
+    NONE(FELTER_OK, felter_conductor_join(&conductor, &client));
+    NONE(FELTER_OK, felter_conductor_join_receiver(&conductor, &replies));
+    NONE(FELTER_OK, felter_conductor_join_reader(&conductor, &values));
+    NONE(FELTER_OK, felter_conductor_finish(&conductor, &took, &left));
+}
+
+int main(void) {
+    setvbuf(stdout, NULL, _IONBF, 0);
+    rings();
+    broadcast_buffers();
+    counters();
+    conductors();
+    printf("requests: %d calls requested no memory\n", calls);
+    return 0;
+}
