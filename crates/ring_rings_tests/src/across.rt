@@ -1,11 +1,10 @@
 //! Reads near the end of the buffer: on behind it, and up to a message at which the handler breaks off.
-use crate::bench::Call;
 use crate::bench::Call::{ControlledRead, Positions, Read, ReadAcross, Write};
 use crate::bench::Said::{self, At, Done};
+use crate::bench::{Call, opened};
 use crate::play::{PLAY, Play, plays};
 use crate::script::Script;
-use ring_rings::{Action, ManyToOneRing, Standing, Stop};
-use std::test::Fail;
+use ring_rings::{Action, ManyToOne, Standing, Stop};
 
 const WRITE: (Call<'static>, Said) = (Write(1, &[0; 16]), Done);
 
@@ -67,8 +66,8 @@ const LIMITED: Play<'static> = Play {
 };
 
 #[test]
-fn reads_on_behind_the_end_of_the_buffer(rt: HostRuntime) -> Result<(), Fail> {
-    plays(&rt, rt.alloc(), &[PADDED, LIMITED])
+fn reads_on_behind_the_end_of_the_buffer(rt: HostRuntime) {
+    plays(&rt, rt.alloc(), &[PADDED, LIMITED]);
 }
 
 const BROKEN: Play<'static> = Play {
@@ -106,21 +105,22 @@ const BROKEN: Play<'static> = Play {
 };
 
 #[test]
-fn break_leaves_the_padding_behind_the_message(rt: HostRuntime) -> Result<(), Fail> {
-    plays(&rt, rt.alloc(), &[BROKEN])
+fn break_leaves_the_padding_behind_the_message(rt: HostRuntime) {
+    plays(&rt, rt.alloc(), &[BROKEN]);
 }
 
 #[test]
-fn positions_around_a_read_tell_empty_from_moving(rt: HostRuntime) -> Result<(), Fail> {
-    let (ring, mut producer, mut consumer) = ManyToOneRing::new(rt.alloc(), 128)?;
-    let mut count = Script::new(&[]);
+fn positions_around_a_read_tell_empty_from_moving(rt: HostRuntime) {
+    let (ring, mut producer, mut consumer) = opened::<ManyToOne>(&rt, rt.alloc(), 0);
+    let mut count = Script::new(&[], &[(1, &[0; 8])]);
     let before = ring.positions(&mut producer);
     let read = ring.read(&mut consumer, 9, &mut count);
     let after = ring.positions(&mut producer);
     assert_eq!(rt; read.standing(before, after), Standing::Empty);
-    ring.write_once(&mut producer, 1, &[0; 8])?;
+    ring.write_once(&mut producer, 1, &[0; 8])
+        .expect(&rt, "room");
     let read = ring.read(&mut consumer, 9, &mut count);
     let later = ring.positions(&mut producer);
     assert_eq!(rt; read.standing(after, later), Standing::Moving);
-    Ok(())
+    assert!(rt; count.is_done());
 }

@@ -4,12 +4,11 @@ ghost use Rattle.ring_rings.specs.Seats.{all_shares, shares_of, IsConsumerOf, Is
 
 use crate::script::Script;
 use ring_rings::{
-    Claim, ClaimFault, CloseFault, CloseRefused, Consumer, Kind, MakeFault, Positions, Producer,
-    ReadEnd, Ring, Stop, TryFault,
+    Claim, ClaimFault, Consumer, Kind, Positions, Producer, ReadEnd, Ring, Stop, TryFault,
 };
 use ring_words::SoloRing;
 use std::alloc::Global;
-use std::test::Fail;
+use std::process::Abort;
 
 /// Bytes that are put at an offset into a claim, and whether they fit.
 pub type Fill<'a> = (usize, &'a [u8], bool);
@@ -87,15 +86,24 @@ fn read(end: ReadEnd) -> Said {
     Said::Read(end.messages, end.bytes, end.stopped)
 }
 
+/// A ring of 128 bytes with its seats, which begins at this position.
+pub fn opened<K>(rt: &impl Abort, alloc: Global, start: u64) -> (Ring<K>, Producer, Consumer)
+    ensures producer { IsProducerOf result.0 result.1 }
+    ensures sole { shares_of result.1 ≡ all_shares }
+    ensures consumer { IsConsumerOf result.0 result.2 }
+{
+    Ring::new_at(alloc, 128, start).expect(rt, "a ring")
+}
+
 impl<K: Kind> Bench<K> {
     /// A ring of 128 bytes that begins at this position.
-    pub fn new(alloc: Global, start: u64) -> Result<Self, MakeFault> {
-        let (ring, producer, consumer) = Ring::new_at(alloc, 128, start)?;
-        Ok(Bench {
+    pub fn new(rt: &impl Abort, alloc: Global, start: u64) -> Self {
+        let (ring, producer, consumer) = opened(rt, alloc, start);
+        Bench {
             ring,
             producer,
             consumer,
-        })
+        }
     }
 
     fn commit(&mut self, type_id: i32, len: usize, fills: &[Fill<'_>]) -> Said {
@@ -164,35 +172,13 @@ impl<K: Kind> Bench<K> {
         }
     }
 
-    /// The ring's content, or the reason why it can't be had, and all as it was.
-    pub fn close(self) -> Result<SoloRing, (CloseFault, Self)> {
+    /// The ring's content, if the ring can be closed.
+    pub fn close(self) -> Option<SoloRing> {
         let Bench {
             ring,
             producer,
             consumer,
         } = self;
-        match ring.close(producer, consumer) {
-            Ok(rest) => Ok(rest),
-            Err(
-                CloseRefused {
-                    reason,
-                    ring,
-                    producer,
-                    consumer,
-                },
-            ) => Err((
-                reason,
-                Bench {
-                    ring,
-                    producer,
-                    consumer,
-                },
-            )),
-        }
+        ring.close(producer, consumer).ok()
     }
-}
-
-/// The content of a ring that can be closed.
-pub fn closed<K: Kind>(bench: Bench<K>) -> Result<SoloRing, Fail> {
-    Ok(bench.close().map_err(|refused| refused.0)?)
 }

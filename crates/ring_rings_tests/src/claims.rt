@@ -1,12 +1,14 @@
 //! Claims that are filled, settled and given up.
+ghost use Rattle.ring_rings.specs.Seats.{IsNewClaimOf, IsProducerOf, KeepsHoldings, MayClaim};
+
 use crate::bench::Call::{Abort, Commit, Read, Write};
-use crate::bench::Fill;
 use crate::bench::Said::{self, Done, Made};
-use crate::play::{PLAY, Play, plays, was_shown};
-use crate::script::{BODY, Script, end};
-use ring_rings::{Kind, ManyToOne, OneToOne, ReadEnd, Ring, Stop};
+use crate::bench::{Fill, opened};
+use crate::play::{PLAY, Play, plays};
+use crate::script::{BODY, Message, Script, end};
+use ring_rings::{Claim, Kind, ManyToOne, OneToOne, Producer, ReadEnd, Ring, Stop};
 use std::alloc::Global;
-use std::test::Fail;
+use std::process;
 
 /// Bytes over others, across words.
 const OVER: [Fill<'static>; 2] = [(0, &BODY, true), (5, &[0xF5, 0xF6, 0xF7, 0xF8, 0xF9], true)];
@@ -18,52 +20,72 @@ const OUTSIDE: [Fill<'static>; 3] = [
     (8, &[], true),
 ];
 
+/// Claims room in a ring that has some.
+pub fn claimed<K: Kind>(
+    rt: &impl process::Abort,
+    ring: &Ring<K>,
+    producer: &mut Producer,
+    type_id: i32,
+    len: usize,
+) -> Claim
+    requires producer { IsProducerOf ring.now producer.old }
+    requires sole { MayClaim K.is_for_one producer.old }
+    ensures producer { IsProducerOf ring.now producer.new }
+    ensures opened { IsNewClaimOf ring.now producer.old producer.new result }
+    ensures holdings { KeepsHoldings ring.now producer.old producer.new }
+{
+    K::claim_once(ring, producer, type_id, len).expect(rt, "a claim")
+}
+
 /// Place and index of the second of two claims, and what is read when it was committed, and then when the first one
 /// was.
 fn settles_the_second_first<K: Kind>(
+    rt: &impl process::Abort,
     alloc: Global,
     script: &mut Script<'_>,
-) -> Result<((u64, u32), [ReadEnd; 2]), Fail> {
-    let (ring, mut producer, mut consumer) = Ring::<K>::new_at(alloc, 128, 0)?;
-    let first = K::claim_once(&ring, &mut producer, 1, 0)?;
-    let second = K::claim_once(&ring, &mut producer, 2, 0)?;
+) -> ((u64, u32), [ReadEnd; 2]) {
+    let (ring, mut producer, mut consumer) = opened::<K>(rt, alloc, 0);
+    let first = claimed(rt, &ring, &mut producer, 1, 0);
+    let second = claimed(rt, &ring, &mut producer, 2, 0);
     let lies = (second.place(), second.index());
     ring.commit(&mut producer, second);
     let before = ring.read(&mut consumer, 9, script);
     ring.commit(&mut producer, first);
-    Ok((lies, [before, ring.read(&mut consumer, 9, script)]))
+    (lies, [before, ring.read(&mut consumer, 9, script)])
 }
 
 #[test]
-fn claims_are_settled_in_any_order(rt: HostRuntime) -> Result<(), Fail> {
-    let mut script = Script::new(&[]);
+fn claims_are_settled_in_any_order(rt: HostRuntime) {
+    let mut script = Script::new(&[], &[(1, &[]), (2, &[]), (1, &[]), (2, &[])]);
     let none = end(0, 0, Stop::Unpublished);
     let both = end(2, 16, Stop::Unpublished);
-    let one = settles_the_second_first::<OneToOne>(rt.alloc(), &mut script)?;
-    let many = settles_the_second_first::<ManyToOne>(rt.alloc(), &mut script)?;
+    let one = settles_the_second_first::<OneToOne>(&rt, rt.alloc(), &mut script);
+    let many = settles_the_second_first::<ManyToOne>(&rt, rt.alloc(), &mut script);
     assert_eq!(rt; [one, many], [((8, 16), [none, both]); 2]);
-    was_shown(&rt, &script, &[(1, &[]), (2, &[]), (1, &[]), (2, &[])]);
-    Ok(())
+    assert!(rt; script.is_done());
 }
 
 /// What is read when the first of two claims was aborted, and the second one committed.
-fn aborts_the_first<K: Kind>(alloc: Global, script: &mut Script<'_>) -> Result<ReadEnd, Fail> {
-    let (ring, mut producer, mut consumer) = Ring::<K>::new_at(alloc, 128, 0)?;
-    let first = K::claim_once(&ring, &mut producer, 1, 0)?;
-    let second = K::claim_once(&ring, &mut producer, 2, 0)?;
+fn aborts_the_first<K: Kind>(
+    rt: &impl process::Abort,
+    alloc: Global,
+    script: &mut Script<'_>,
+) -> ReadEnd {
+    let (ring, mut producer, mut consumer) = opened::<K>(rt, alloc, 0);
+    let first = claimed(rt, &ring, &mut producer, 1, 0);
+    let second = claimed(rt, &ring, &mut producer, 2, 0);
     ring.abort(&mut producer, first);
     ring.commit(&mut producer, second);
-    Ok(ring.read(&mut consumer, 9, script))
+    ring.read(&mut consumer, 9, script)
 }
 
 #[test]
-fn passes_an_aborted_claim(rt: HostRuntime) -> Result<(), Fail> {
-    let mut script = Script::new(&[]);
-    let one = aborts_the_first::<OneToOne>(rt.alloc(), &mut script)?;
-    let many = aborts_the_first::<ManyToOne>(rt.alloc(), &mut script)?;
+fn passes_an_aborted_claim(rt: HostRuntime) {
+    let mut script = Script::new(&[], &[(2, &[]), (2, &[])]);
+    let one = aborts_the_first::<OneToOne>(&rt, rt.alloc(), &mut script);
+    let many = aborts_the_first::<ManyToOne>(&rt, rt.alloc(), &mut script);
     assert_eq!(rt; [one, many], [end(1, 16, Stop::Unpublished); 2]);
-    was_shown(&rt, &script, &[(2, &[]), (2, &[])]);
-    Ok(())
+    assert!(rt; script.is_done());
 }
 
 const INSIDE: Play<'static> = Play {
@@ -105,18 +127,19 @@ const BEHIND: Play<'static> = Play {
 };
 
 #[test]
-fn puts_bytes_into_a_claim(rt: HostRuntime) -> Result<(), Fail> {
-    plays(&rt, rt.alloc(), &[INSIDE, ACROSS_WORDS, BEHIND])
+fn puts_bytes_into_a_claim(rt: HostRuntime) {
+    plays(&rt, rt.alloc(), &[INSIDE, ACROSS_WORDS, BEHIND]);
 }
 
 /// What other calls answer while a claim is open, and what reads find before it is filled, before it is committed, and
 /// then: the number of open claims, a tail, an id, a heartbeat, and the messages of each read.
 fn others_and_reads<K: Kind>(
+    rt: &impl process::Abort,
     alloc: Global,
     script: &mut Script<'_>,
-) -> Result<([u64; 4], [ReadEnd; 3]), Fail> {
-    let (ring, mut producer, mut consumer) = Ring::<K>::new_at(alloc, 128, 0)?;
-    let mut claim = K::claim_once(&ring, &mut producer, 1, 8)?;
+) -> ([u64; 4], [ReadEnd; 3]) {
+    let (ring, mut producer, mut consumer) = opened::<K>(rt, alloc, 0);
+    let mut claim = claimed(rt, &ring, &mut producer, 1, 8);
     let others = [
         producer.open_claims(),
         ring.positions(&mut producer).tail,
@@ -124,22 +147,23 @@ fn others_and_reads<K: Kind>(
         ring.heartbeat(&mut producer),
     ];
     let empty = ring.read(&mut consumer, 9, script);
-    ring.put(&mut producer, &mut claim, 0, &[0, 1, 2, 3, 4, 5, 6, 7])?;
+    ring.put(&mut producer, &mut claim, 0, &[0, 1, 2, 3, 4, 5, 6, 7])
+        .expect(rt, "room");
     let filled = ring.read(&mut consumer, 9, script);
     ring.commit(&mut producer, claim);
     let committed = ring.read(&mut consumer, 9, script);
-    Ok((others, [empty, filled, committed]))
+    (others, [empty, filled, committed])
 }
 
 #[test]
-fn a_claim_is_shown_when_it_is_committed(rt: HostRuntime) -> Result<(), Fail> {
-    let mut script = Script::new(&[]);
+fn a_claim_is_shown_when_it_is_committed(rt: HostRuntime) {
+    let eight = [0, 1, 2, 3, 4, 5, 6, 7];
+    let shown: [Message<'_>; 2] = [(1, &eight), (1, &eight)];
+    let mut script = Script::new(&[], &shown);
     let none = end(0, 0, Stop::Unpublished);
     let reads = [none, none, end(1, 16, Stop::Unpublished)];
-    let one = others_and_reads::<OneToOne>(rt.alloc(), &mut script)?;
-    let many = others_and_reads::<ManyToOne>(rt.alloc(), &mut script)?;
+    let one = others_and_reads::<OneToOne>(&rt, rt.alloc(), &mut script);
+    let many = others_and_reads::<ManyToOne>(&rt, rt.alloc(), &mut script);
     assert_eq!(rt; [one, many], [([1, 16, 0, 0], reads); 2]);
-    let eight = [0, 1, 2, 3, 4, 5, 6, 7];
-    was_shown(&rt, &script, &[(1, &eight), (1, &eight)]);
-    Ok(())
+    assert!(rt; script.is_done());
 }

@@ -1,85 +1,107 @@
 //! When a ring closes, and what lies in it then.
-ghost use Rattle.std.specs.Prelude.{◌≡◌, IfOk};
+ghost use Rattle.std.specs.Prelude.{◌≡◌};
 ghost use Rattle.ring_rings.specs.Seats.{IsConsumerOf, IsProducerOf};
 
-use crate::bench::Call::{Read, Write};
-use crate::bench::{Call, Said};
-use crate::play::{PLAY, Play, plays, was_shown};
-use crate::script::{BODY, Script, end};
+use crate::bench::Call::{Abort, ControlledRead, Read, Write};
+use crate::bench::{Said, opened};
+use crate::claims::claimed;
+use crate::play::{PLAY, Play, plays};
+use crate::script::{Script, end};
 use ring_rings::{
-    ClaimFault, CloseFault, CloseRefused, Consumer, Kind, ManyToOne, ManyToOneRing, NoShares,
-    OneToOne, Producer, ReadEnd, Ring, Stop, TryFault,
+    Action, ClaimFault, CloseFault, CloseRefused, Consumer, Kind, ManyToOne, ManyToOneRing,
+    NoShares, OneToOne, Producer, ReadEnd, Ring, Stop, TryFault,
 };
 use std::alloc::Global;
-use std::test::Fail;
-
-const WRITE: (Call<'static>, Said) = (Write(1, &BODY), Said::Done);
+use std::process;
 
 /// All of a ring that does not close, for this reason.
 fn refused<K>(
+    rt: &impl process::Abort,
     ring: Ring<K>,
     producer: Producer,
     consumer: Consumer,
     reason: CloseFault,
-) -> Result<CloseRefused<Ring<K>>, Fail>
+) -> CloseRefused<Ring<K>>
     requires producer { IsProducerOf ring producer }
     requires consumer { IsConsumerOf ring consumer }
-    ensures ring { IfOk result (λ back. back.ring ≡ ring) }
-    ensures producer { IfOk result (λ back. back.producer ≡ producer) }
-    ensures consumer { IfOk result (λ back. back.consumer ≡ consumer) }
+    ensures ring { result.ring ≡ ring }
+    ensures producer { result.producer ≡ producer }
+    ensures consumer { result.consumer ≡ consumer }
 {
-    let Err(back) = ring.close(producer, consumer) else {
-        return Err(Fail::from("closed"));
-    };
-    if back.reason != reason {
-        return Err(Fail::from("refused for another reason"));
-    }
-    Ok(back)
+    let back = ring.close(producer, consumer).err().expect(rt, "a refusal");
+    assert_eq!(rt; back.reason, reason);
+    back
 }
 
 /// What is left of a ring that does not close while a claim is open, and does when that is settled.
 fn closed_late<K: Kind>(
+    rt: &impl process::Abort,
     alloc: Global,
     commits: bool,
     script: &mut Script<'_>,
-) -> Result<ReadEnd, Fail> {
-    let (ring, mut producer, consumer) = Ring::<K>::new_at(alloc, 128, 0)?;
-    let claim = K::claim_once(&ring, &mut producer, 1, 0)?;
+) -> ReadEnd {
+    let (ring, mut producer, consumer) = opened::<K>(rt, alloc, 0);
+    let claim = claimed(rt, &ring, &mut producer, 1, 0);
     let open = CloseFault::ClaimsOpen { claims: 1 };
-    let back = refused(ring, producer, consumer, open)?;
-    let mut back = refused(back.ring, back.producer, back.consumer, open)?;
+    let back = refused(rt, ring, producer, consumer, open);
+    let mut back = refused(rt, back.ring, back.producer, back.consumer, open);
     if commits {
         back.ring.commit(&mut back.producer, claim);
     } else {
         back.ring.abort(&mut back.producer, claim);
     }
     let closed = back.ring.close(back.producer, back.consumer);
-    Ok(closed.map_err(|refused| refused.reason)?.read(9, script))
+    closed.ok().expect(rt, "a closed ring").read(9, script)
 }
 
 #[test]
-fn closes_when_a_claim_is_settled(rt: HostRuntime) -> Result<(), Fail> {
-    let mut script = Script::new(&[]);
+fn closes_when_a_claim_is_settled(rt: HostRuntime) {
+    let mut script = Script::new(&[], &[(1, &[]), (1, &[])]);
     for (commits, messages) in [(true, 1), (false, 0)] {
-        let one = closed_late::<OneToOne>(rt.alloc(), commits, &mut script)?;
-        let many = closed_late::<ManyToOne>(rt.alloc(), commits, &mut script)?;
+        let one = closed_late::<OneToOne>(&rt, rt.alloc(), commits, &mut script);
+        let many = closed_late::<ManyToOne>(&rt, rt.alloc(), commits, &mut script);
         assert_eq!(rt; [one, many], [end(messages, 8, Stop::Unpublished); 2]);
     }
-    was_shown(&rt, &script, &[(1, &[]), (1, &[])]);
-    Ok(())
+    assert!(rt; script.is_done());
 }
+
+/// Bodies of two words, of which the second is 9.
+const NINE_0: [u8; 16] = [0, 0, 0, 0, 0, 0, 0, 0, 9, 0, 0, 0, 0, 0, 0, 0];
+
+const NINE_1: [u8; 16] = [1, 0, 0, 0, 0, 0, 0, 0, 9, 0, 0, 0, 0, 0, 0, 0];
+
+const NINE_2: [u8; 16] = [2, 0, 0, 0, 0, 0, 0, 0, 9, 0, 0, 0, 0, 0, 0, 0];
+
+const NINE_3: [u8; 16] = [3, 0, 0, 0, 0, 0, 0, 0, 9, 0, 0, 0, 0, 0, 0, 0];
+
+const NINE_4: [u8; 16] = [4, 0, 0, 0, 0, 0, 0, 0, 9, 0, 0, 0, 0, 0, 0, 0];
+
+const NINE_5: [u8; 16] = [5, 0, 0, 0, 0, 0, 0, 0, 9, 0, 0, 0, 0, 0, 0, 0];
+
+/// A body of the words 1 and 2; likewise the next two.
+const ONE_TWO: [u8; 16] = [1, 0, 0, 0, 0, 0, 0, 0, 2, 0, 0, 0, 0, 0, 0, 0];
+
+const THREE_FOUR: [u8; 16] = [3, 0, 0, 0, 0, 0, 0, 0, 4, 0, 0, 0, 0, 0, 0, 0];
+
+const ZERO_SEVEN: [u8; 16] = [0, 0, 0, 0, 0, 0, 0, 0, 7, 0, 0, 0, 0, 0, 0, 0];
 
 const CACHED: Play<'static> = Play {
     calls: &[
-        WRITE,
-        WRITE,
-        WRITE,
-        WRITE,
-        WRITE,
+        (Write(1, &NINE_0), Said::Done),
+        (Write(1, &NINE_1), Said::Done),
+        (Write(1, &NINE_2), Said::Done),
+        (Write(1, &NINE_3), Said::Done),
+        (Write(1, &NINE_4), Said::Done),
         (Read(9), Said::Read(5, 120, Stop::Unpublished)),
-        WRITE,
+        (Write(1, &NINE_5), Said::Done),
     ],
-    shown: &[(1, &BODY), (1, &BODY), (1, &BODY), (1, &BODY), (1, &BODY)],
+    shown: &[
+        (1, &NINE_0),
+        (1, &NINE_1),
+        (1, &NINE_2),
+        (1, &NINE_3),
+        (1, &NINE_4),
+    ],
     ends: (120, 152),
     words: &[
         (32, Some(152)),
@@ -87,49 +109,98 @@ const CACHED: Play<'static> = Play {
         (64, Some(120)),
         (15, Some(0xFFFF_FFFF_0000_0008)),
         (0, Some(0x0000_0001_0000_0018)),
+        (1, Some(5)),
+        (3, Some(0)),
     ],
     ..PLAY
 };
 
+/// The second message stays in the ring, with the head before it.
+const LEFT: Play<'static> = Play {
+    actions: &[Action::Continue, Action::Abort, Action::Abort],
+    calls: &[
+        (Write(1, &ONE_TWO), Said::Done),
+        (Write(1, &THREE_FOUR), Said::Done),
+        (ControlledRead(9), Said::Read(1, 24, Stop::Action)),
+        (ControlledRead(9), Said::Read(0, 0, Stop::Action)),
+    ],
+    shown: &[(1, &ONE_TWO), (1, &THREE_FOUR), (1, &THREE_FOUR)],
+    ends: (24, 48),
+    words: &[
+        (32, Some(48)),
+        (64, Some(24)),
+        (0, Some(0)),
+        (1, Some(0)),
+        (2, Some(0)),
+        (3, Some(0x0000_0001_0000_0018)),
+        (4, Some(3)),
+        (5, Some(4)),
+    ],
+    ..PLAY
+};
+
+/// Of the words that a read passes, one is 0 before it.
+const ZERO_WORD: Play<'static> = Play {
+    calls: &[
+        (Write(1, &ZERO_SEVEN), Said::Done),
+        (Read(9), Said::Read(1, 24, Stop::Unpublished)),
+    ],
+    shown: &[(1, &ZERO_SEVEN)],
+    ends: (24, 24),
+    words: &[
+        (0, Some(0)),
+        (1, Some(0)),
+        (2, Some(0)),
+        (32, Some(24)),
+        (64, Some(24)),
+    ],
+    ..PLAY
+};
+
+const ABORTED: Play<'static> = Play {
+    calls: &[
+        (Abort(1, 16), Said::Made(8)),
+        (Read(9), Said::Read(0, 24, Stop::Unpublished)),
+    ],
+    ends: (24, 24),
+    words: &[(0, Some(0)), (32, Some(24)), (64, Some(24))],
+    ..PLAY
+};
+
 #[test]
-fn caches_the_head_where_a_claim_loads_it(rt: HostRuntime) -> Result<(), Fail> {
-    plays(&rt, rt.alloc(), &[CACHED])
+fn leaves_these_words(rt: HostRuntime) {
+    plays(&rt, rt.alloc(), &[CACHED, LEFT, ZERO_WORD, ABORTED]);
 }
 
 /// Claims are tested before shares.
 #[test]
-fn closes_when_all_shares_are_back(rt: HostRuntime) -> Result<(), Fail> {
-    let (ring, mut first, consumer) = ManyToOneRing::new(rt.alloc(), 128)?;
+fn closes_when_all_shares_are_back(rt: HostRuntime) {
+    let (ring, mut first, consumer) = opened::<ManyToOne>(&rt, rt.alloc(), 0);
     let whole = first.shares();
-    let mut second = ring.split(&mut first)?;
+    let mut second = ring.split(&mut first).expect(&rt, "a producer");
     assert_eq!(rt; [whole, first.shares(), second.shares()], [65536, 65535, 1]);
     assert_eq!(rt; ring.split(&mut second).err(), Some(NoShares));
-    let claim = ring.claim_once(&mut first, 1, 0)?;
-    let mut back = refused(ring, first, consumer, CloseFault::ClaimsOpen { claims: 1 })?;
+    let claim = claimed(&rt, &ring, &mut first, 1, 0);
+    let open = CloseFault::ClaimsOpen { claims: 1 };
+    let mut back = refused(&rt, ring, first, consumer, open);
     back.ring.abort(&mut back.producer, claim);
     let out = CloseFault::ProducersOut { shares: 1 };
-    let mut back = refused(back.ring, back.producer, back.consumer, out)?;
+    let mut back = refused(&rt, back.ring, back.producer, back.consumer, out);
     back.ring.join(&mut back.producer, second);
     assert_eq!(rt; back.producer.shares(), 65536);
     assert!(rt; back.ring.close(back.producer, back.consumer).is_ok());
-    Ok(())
 }
 
 #[test]
-fn splits_until_one_share_is_left(rt: HostRuntime) -> Result<(), Fail> {
-    let (ring, mut first, consumer) = ManyToOneRing::new(rt.alloc(), 128)?;
+fn splits_until_one_share_is_left(rt: HostRuntime) {
+    let (ring, mut first, consumer) = opened::<ManyToOne>(&rt, rt.alloc(), 0);
     for _ in 0..65535 {
-        ring.split(&mut first)?;
+        assert!(rt; ring.split(&mut first).is_ok());
     }
     assert_eq!(rt; first.shares(), 1);
     assert_eq!(rt; ring.split(&mut first).err(), Some(NoShares));
-    refused(
-        ring,
-        first,
-        consumer,
-        CloseFault::ProducersOut { shares: 65535 },
-    )?;
-    Ok(())
+    let out = CloseFault::ProducersOut { shares: 65535 };
+    refused(&rt, ring, first, consumer, out);
 }
 
 /// Writes empty messages.
@@ -148,17 +219,16 @@ pub fn write_often(
 }
 
 #[test]
-fn a_lost_producer_keeps_the_ring_open(rt: HostRuntime) -> Result<(), Fail> {
-    let (ring, mut first, mut consumer) = ManyToOneRing::new(rt.alloc(), 128)?;
-    let mut second = ring.split(&mut first)?;
-    let _kept_aside = ring.claim_once(&mut second, 1, 0)?;
-    write_often(&ring, &mut first, 15)?;
+fn a_lost_producer_keeps_the_ring_open(rt: HostRuntime) {
+    let (ring, mut first, mut consumer) = opened::<ManyToOne>(&rt, rt.alloc(), 0);
+    let mut second = ring.split(&mut first).expect(&rt, "a producer");
+    let _kept_aside = claimed(&rt, &ring, &mut second, 1, 0);
+    assert_eq!(rt; write_often(&ring, &mut first, 15), Ok(()));
     let full = TryFault::Refused(ClaimFault::InsufficientCapacity { tail: 128, head: 0 });
     assert_eq!(rt; write_often(&ring, &mut first, 1), Err(full));
-    let read = ring.read(&mut consumer, 9, &mut Script::new(&[]));
+    let read = ring.read(&mut consumer, 9, &mut Script::new(&[], &[]));
     assert_eq!(rt; read, end(0, 0, Stop::Unpublished));
     let out = CloseFault::ProducersOut { shares: 1 };
-    let back = refused(ring, first, consumer, out)?;
-    refused(back.ring, back.producer, back.consumer, out)?;
-    Ok(())
+    let back = refused(&rt, ring, first, consumer, out);
+    refused(&rt, back.ring, back.producer, back.consumer, out);
 }

@@ -1,12 +1,11 @@
 //! How far reads go, and what the handler's actions do.
 use crate::bench::Call::{Abort, Commit, ControlledRead, Positions, Read, Write};
 use crate::bench::Said::{At, Done, Made};
-use crate::bench::{Call, Said};
+use crate::bench::{Call, Said, opened};
 use crate::closing::write_often;
 use crate::play::{PLAY, Play, plays};
 use crate::script::{BODY, end};
-use ring_rings::{Action, ClaimFault, Handler, ManyToOneRing, Producer, Stop, TryFault};
-use std::test::Fail;
+use ring_rings::{Action, ClaimFault, Handler, ManyToOne, ManyToOneRing, Producer, Stop, TryFault};
 
 const WRITE: (Call<'static>, Said) = (Write(1, &BODY), Done);
 
@@ -36,8 +35,8 @@ const SHORT: Play<'static> = Play {
 };
 
 #[test]
-fn reads_what_was_committed(rt: HostRuntime) -> Result<(), Fail> {
-    plays(&rt, rt.alloc(), &[COMMITTED, SHORT])
+fn reads_what_was_committed(rt: HostRuntime) {
+    plays(&rt, rt.alloc(), &[COMMITTED, SHORT]);
 }
 
 const LIMITED: Play<'static> = Play {
@@ -55,8 +54,8 @@ const LIMITED: Play<'static> = Play {
 };
 
 #[test]
-fn stops_at_the_limit(rt: HostRuntime) -> Result<(), Fail> {
-    plays(&rt, rt.alloc(), &[LIMITED])
+fn stops_at_the_limit(rt: HostRuntime) {
+    plays(&rt, rt.alloc(), &[LIMITED]);
 }
 
 const AROUND: Play<'static> = Play {
@@ -85,8 +84,8 @@ const AROUND: Play<'static> = Play {
 
 /// Up to the padding, up to the end of the buffer, and on from its beginning.
 #[test]
-fn reads_up_to_the_end_and_then_on(rt: HostRuntime) -> Result<(), Fail> {
-    plays(&rt, rt.alloc(), &[AROUND])
+fn reads_up_to_the_end_and_then_on(rt: HostRuntime) {
+    plays(&rt, rt.alloc(), &[AROUND]);
 }
 
 const LEFT_FIRST: Play<'static> = Play {
@@ -136,8 +135,8 @@ const LEFT_BEHIND: Play<'static> = Play {
 };
 
 #[test]
-fn leaves_a_message_at_abort(rt: HostRuntime) -> Result<(), Fail> {
-    plays(&rt, rt.alloc(), &[LEFT_FIRST, LEFT_LAST, LEFT_BEHIND])
+fn leaves_a_message_at_abort(rt: HostRuntime) {
+    plays(&rt, rt.alloc(), &[LEFT_FIRST, LEFT_LAST, LEFT_BEHIND]);
 }
 
 const BROKEN: Play<'static> = Play {
@@ -170,8 +169,8 @@ const BROKEN_AFTER_COMMIT: Play<'static> = Play {
 };
 
 #[test]
-fn takes_a_message_at_break(rt: HostRuntime) -> Result<(), Fail> {
-    plays(&rt, rt.alloc(), &[BROKEN, BROKEN_AFTER_COMMIT])
+fn takes_a_message_at_break(rt: HostRuntime) {
+    plays(&rt, rt.alloc(), &[BROKEN, BROKEN_AFTER_COMMIT]);
 }
 
 const ALL_ACTIONS: Play<'static> = Play {
@@ -188,8 +187,8 @@ const ALL_ACTIONS: Play<'static> = Play {
 };
 
 #[test]
-fn read_takes_each_action_as_continue(rt: HostRuntime) -> Result<(), Fail> {
-    plays(&rt, rt.alloc(), &[ALL_ACTIONS])
+fn read_takes_each_action_as_continue(rt: HostRuntime) {
+    plays(&rt, rt.alloc(), &[ALL_ACTIONS]);
 }
 
 /// Answers `Commit`, and at the second message tries to write.
@@ -218,9 +217,9 @@ impl Handler for Sender<'_> {
 }
 
 #[test]
-fn commit_gives_room_at_once(rt: HostRuntime) -> Result<(), Fail> {
-    let (ring, mut producer, mut consumer) = ManyToOneRing::new(rt.alloc(), 128)?;
-    write_often(&ring, &mut producer, 16)?;
+fn commit_gives_room_at_once(rt: HostRuntime) {
+    let (ring, mut producer, mut consumer) = opened::<ManyToOne>(&rt, rt.alloc(), 0);
+    assert_eq!(rt; write_often(&ring, &mut producer, 16), Ok(()));
     let full = TryFault::Refused(ClaimFault::InsufficientCapacity { tail: 128, head: 0 });
     assert_eq!(rt; write_often(&ring, &mut producer, 1), Err(full));
     let mut sender = Sender {
@@ -231,5 +230,4 @@ fn commit_gives_room_at_once(rt: HostRuntime) -> Result<(), Fail> {
     };
     let read = ring.controlled_read(&mut consumer, 9, &mut sender);
     assert_eq!(rt; (read, sender.sent), (end(9, 72, Stop::Limit), true));
-    Ok(())
 }

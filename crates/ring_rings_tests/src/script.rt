@@ -1,40 +1,35 @@
-//! A handler that notes what it is shown.
+//! A handler that compares what it is shown.
 use ring_rings::{Action, Handler, ReadEnd, Stop};
 
 pub const BODY: [u8; 16] = [0, 1, 2, 3, 4, 5, 6, 7, 8, 9, 10, 11, 12, 13, 14, 15];
 
-/// What a handler was shown: type id, length, and the body with zeros behind it.
-pub type Note = (i32, usize, [u8; 16]);
+/// A type id and a body.
+pub type Message<'a> = (i32, &'a [u8]);
 
-/// Notes the first messages that it is shown, and answers them by a script; behind the script it goes on.
+/// Compares the messages that it is shown with those that it expects, and answers them by a script. After the script
+/// it goes on.
 #[derive(Drop)]
 pub struct Script<'a> {
     actions: &'a [Action],
-    pub shown: usize,
-    notes: [Note; 10],
+    expected: &'a [Message<'a>],
+    shown: usize,
+    right: bool,
 }
 
 impl<'a> Script<'a> {
-    pub fn new(actions: &'a [Action]) -> Self {
+    pub fn new(actions: &'a [Action], expected: &'a [Message<'a>]) -> Self {
         Script {
             actions,
+            expected,
             shown: 0,
-            notes: [(0, 0, [0; 16]); 10],
+            right: true,
         }
     }
 
-    pub fn note(&self, index: usize) -> Option<Note> {
-        self.notes.get(index).copied()
+    /// Tests whether the expected messages were shown, and no others.
+    pub fn is_done(&self) -> bool {
+        self.right && self.shown == self.expected.len()
     }
-}
-
-/// What is noted of a body.
-pub fn note(type_id: i32, body: &[u8]) -> Note {
-    let mut bytes = [0; 16];
-    for (to, from) in bytes.iter_mut().zip(body) {
-        *to = *from;
-    }
-    (type_id, body.len(), bytes)
 }
 
 impl Handler for Script<'_> {
@@ -42,9 +37,11 @@ impl Handler for Script<'_> {
 
     fn on_message(&mut self, type_id: i32, body: &[u8]) -> Action {
         let index = self.shown;
-        if let Some(slot) = self.notes.get_mut(index) {
-            *slot = note(type_id, body);
-        }
+        let is_expected = match self.expected.get(index) {
+            Some((expected, bytes)) => *expected == type_id && *bytes == body,
+            None => false,
+        };
+        self.right = self.right && is_expected;
         self.shown = index.saturating_add(1);
         self.actions.get(index).copied().unwrap_or(Action::Continue)
     }

@@ -1,13 +1,12 @@
 //! Ids, heartbeats and positions.
 use crate::bench::Call::{Capacity, CorrelationId, Heartbeat, Positions, SetHeartbeat};
 use crate::bench::Said::{At, Done, Number};
+use crate::bench::opened;
 use crate::play::{PLAY, Play, plays};
 use crate::script::end;
-use ring_rings::{
-    Action, Handler, Kind, ManyToOne, ManyToOneRing, OneToOne, Producer, ReadEnd, Ring, Stop,
-};
+use ring_rings::{Action, Handler, Kind, ManyToOne, OneToOne, Producer, ReadEnd, Ring, Stop};
 use std::alloc::Global;
-use std::test::Fail;
+use std::process::Abort;
 
 const SERVED: Play<'static> = Play {
     calls: &[
@@ -19,13 +18,19 @@ const SERVED: Play<'static> = Play {
         (Positions, At(0, 0)),
         (Capacity, Number(128)),
     ],
-    words: &[(32, Some(0)), (80, Some(2)), (96, Some(77)), (112, None)],
+    words: &[
+        (32, Some(0)),
+        (48, Some(0)),
+        (80, Some(2)),
+        (96, Some(77)),
+        (112, None),
+    ],
     ..PLAY
 };
 
 #[test]
-fn draws_ids_and_beats(rt: HostRuntime) -> Result<(), Fail> {
-    plays(&rt, rt.alloc(), &[SERVED])
+fn draws_ids_and_beats(rt: HostRuntime) {
+    plays(&rt, rt.alloc(), &[SERVED]);
 }
 
 /// Answers always the same, and notes the head at each message.
@@ -56,11 +61,15 @@ impl<K> Handler for HeadNotes<'_, K> {
 }
 
 /// What a handler sees of the head that always answers this.
-fn heads_seen<K: Kind>(alloc: Global, action: Action) -> Result<(ReadEnd, usize, [u64; 3]), Fail> {
-    let (ring, mut producer, mut consumer) = Ring::<K>::new_at(alloc, 128, 0)?;
-    K::write_once(&ring, &mut producer, 1, &[])?;
-    K::write_once(&ring, &mut producer, 1, &[])?;
-    K::write_once(&ring, &mut producer, 1, &[])?;
+fn heads_seen<K: Kind>(
+    rt: &impl Abort,
+    alloc: Global,
+    action: Action,
+) -> (ReadEnd, usize, [u64; 3]) {
+    let (ring, mut producer, mut consumer) = opened::<K>(rt, alloc, 0);
+    K::write_once(&ring, &mut producer, 1, &[]).expect(rt, "room");
+    K::write_once(&ring, &mut producer, 1, &[]).expect(rt, "room");
+    K::write_once(&ring, &mut producer, 1, &[]).expect(rt, "room");
     let mut notes = HeadNotes {
         ring: &ring,
         producer,
@@ -69,23 +78,22 @@ fn heads_seen<K: Kind>(alloc: Global, action: Action) -> Result<(ReadEnd, usize,
         heads: [u64::MAX; 3],
     };
     let read = ring.controlled_read(&mut consumer, 9, &mut notes);
-    Ok((read, notes.shown, notes.heads))
+    (read, notes.shown, notes.heads)
 }
 
 #[test]
-fn commit_moves_the_head_at_once_and_continue_at_the_end(rt: HostRuntime) -> Result<(), Fail> {
+fn commit_moves_the_head_at_once_and_continue_at_the_end(rt: HostRuntime) {
     for (action, heads) in [(Action::Commit, [0, 8, 16]), (Action::Continue, [0, 0, 0])] {
-        let one = heads_seen::<OneToOne>(rt.alloc(), action)?;
-        let many = heads_seen::<ManyToOne>(rt.alloc(), action)?;
+        let one = heads_seen::<OneToOne>(&rt, rt.alloc(), action);
+        let many = heads_seen::<ManyToOne>(&rt, rt.alloc(), action);
         assert_eq!(rt; [one, many], [(end(3, 24, Stop::Unpublished), 3, heads); 2]);
     }
-    Ok(())
 }
 
 #[test]
-fn ids_are_drawn_once_over_producers(rt: HostRuntime) -> Result<(), Fail> {
-    let (ring, mut first, mut consumer) = ManyToOneRing::new(rt.alloc(), 128)?;
-    let mut second = ring.split(&mut first)?;
+fn ids_are_drawn_once_over_producers(rt: HostRuntime) {
+    let (ring, mut first, mut consumer) = opened::<ManyToOne>(&rt, rt.alloc(), 0);
+    let mut second = ring.split(&mut first).expect(&rt, "a producer");
     ring.set_heartbeat(&mut consumer, 77);
     let drawn = [
         ring.next_correlation_id(&mut first),
@@ -96,5 +104,4 @@ fn ids_are_drawn_once_over_producers(rt: HostRuntime) -> Result<(), Fail> {
     ring.join(&mut first, second);
     let last = ring.next_correlation_id(&mut first);
     assert_eq!(rt; (drawn, last), ([0, 1, 2, 77], 3));
-    Ok(())
 }

@@ -6,7 +6,6 @@ use ring_rings::{
     Action, ClaimFault, Consumer, Handler, ManyToOneRing, OneToOneRing, Positions, Producer, Stop,
     TryFault,
 };
-use std::test::Fail;
 use std::thread::{Threads, join, yield_now};
 
 /// What one thread tries at most.
@@ -77,8 +76,8 @@ fn read_numbers(ring: &OneToOneRing, mut consumer: Consumer) -> (Consumer, Numbe
 }
 
 #[test]
-fn numbers_come_in_order(rt: HostRuntime) -> Result<(), Fail> {
-    let (ring, producer, consumer) = OneToOneRing::new(rt.alloc(), 128)?;
+fn numbers_come_in_order(rt: HostRuntime) {
+    let (ring, producer, consumer) = OneToOneRing::new(rt.alloc(), 128).expect(&rt, "a ring");
     let shared = &ring;
     let ((producer, written), (consumer, numbers)) = join(
         &rt,
@@ -96,7 +95,8 @@ fn numbers_come_in_order(rt: HostRuntime) -> Result<(), Fail> {
     assert!(rt; numbers.right);
     let rest = ring
         .close(producer, consumer)
-        .map_err(|refused| refused.reason)?;
+        .ok()
+        .expect(&rt, "a closed ring");
     assert_eq!(rt;
         rest.positions(),
         Positions {
@@ -104,7 +104,6 @@ fn numbers_come_in_order(rt: HostRuntime) -> Result<(), Fail> {
             tail: 16_000
         }
     );
-    Ok(())
 }
 
 /// What a producer came to: how many messages it wrote, and the ids that it drew.
@@ -222,7 +221,32 @@ fn write_two<R: Threads + Sync>(
     )
 }
 
-/// Four producers and the consumer, each on a thread of its own.
+/// Four producers, each on a thread of its own.
+fn write_four<R: Threads + Sync>(
+    rt: &R,
+    ring: &ManyToOneRing,
+    first: (Producer, Producer),
+    last: (Producer, Producer),
+) -> ((Written, Written), (Written, Written))
+    requires first { IsProducerOf ring.now first.0 × IsProducerOf ring.now first.1 }
+    requires last { IsProducerOf ring.now last.0 × IsProducerOf ring.now last.1 }
+    ensures first { IsProducerOf ring.now result.0.0.producer × IsProducerOf ring.now result.0.1.producer }
+    ensures last { IsProducerOf ring.now result.1.0.producer × IsProducerOf ring.now result.1.1.producer }
+{
+    join(
+        rt,
+        move || -> (Written, Written)
+            requires { IsSync R.row × IsProducerOf ring.now first.0 × IsProducerOf ring.now first.1 }
+            ensures { IsProducerOf ring.entry.now result.0.producer × IsProducerOf ring.entry.now result.1.producer }
+        { write_two(rt, ring, first, 0) },
+        move || -> (Written, Written)
+            requires { IsSync R.row × IsProducerOf ring.now last.0 × IsProducerOf ring.now last.1 }
+            ensures { IsProducerOf ring.entry.now result.0.producer × IsProducerOf ring.entry.now result.1.producer }
+        { write_two(rt, ring, last, 2) },
+    )
+}
+
+/// The same, and the consumer on a thread of its own.
 fn run_shares<R: Threads + Sync>(
     rt: &R,
     ring: &ManyToOneRing,
@@ -251,21 +275,7 @@ fn run_shares<R: Threads + Sync>(
                 × IsProducerOf ring.entry.now result.0.1.producer }
             ensures last { IsProducerOf ring.entry.now result.1.0.producer
                 × IsProducerOf ring.entry.now result.1.1.producer }
-        {
-            join(
-                rt,
-                move || -> (Written, Written)
-                    requires { IsSync R.row × IsProducerOf ring.now first.0 × IsProducerOf ring.now first.1 }
-                    ensures { IsProducerOf ring.entry.now result.0.producer
-                        × IsProducerOf ring.entry.now result.1.producer }
-                { write_two(rt, ring, first, 0) },
-                move || -> (Written, Written)
-                    requires { IsSync R.row × IsProducerOf ring.now last.0 × IsProducerOf ring.now last.1 }
-                    ensures { IsProducerOf ring.entry.now result.0.producer
-                        × IsProducerOf ring.entry.now result.1.producer }
-                { write_two(rt, ring, last, 2) },
-            )
-        },
+        { write_four(rt, ring, first, last) },
     )
 }
 
@@ -277,11 +287,11 @@ fn count_draws(all: &[&Written], id: u64) -> usize {
 }
 
 #[test]
-fn four_producers_lose_no_message(rt: HostRuntime) -> Result<(), Fail> {
-    let (ring, mut one, consumer) = ManyToOneRing::new(rt.alloc(), 1024)?;
-    let two = ring.split(&mut one)?;
-    let three = ring.split(&mut one)?;
-    let four = ring.split(&mut one)?;
+fn four_producers_lose_no_message(rt: HostRuntime) {
+    let (ring, mut one, consumer) = ManyToOneRing::new(rt.alloc(), 1024).expect(&rt, "a ring");
+    let two = ring.split(&mut one).expect(&rt, "a producer");
+    let three = ring.split(&mut one).expect(&rt, "a producer");
+    let four = ring.split(&mut one).expect(&rt, "a producer");
     let ((consumer, tally), ((one, two), (three, four))) = run_shares(
         &rt,
         &ring,
@@ -303,7 +313,8 @@ fn four_producers_lose_no_message(rt: HostRuntime) -> Result<(), Fail> {
     ring.join(&mut producer, four.producer);
     let rest = ring
         .close(producer, consumer)
-        .map_err(|refused| refused.reason)?;
+        .ok()
+        .expect(&rt, "a closed ring");
     assert_eq!(rt;
         rest.positions(),
         Positions {
@@ -311,5 +322,4 @@ fn four_producers_lose_no_message(rt: HostRuntime) -> Result<(), Fail> {
             tail: 160_000
         }
     );
-    Ok(())
 }

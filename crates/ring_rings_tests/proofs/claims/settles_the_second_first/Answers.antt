@@ -2,7 +2,7 @@ use Rattle.ring_rings_tests.proofs.claims.settles_the_second_first.Goals as goal
 
 pub commit-requires-2-clause-claim : goal.commit-requires-2-clause-claim
 commit-requires-2-clause-claim g c =
-    let first = c.in_ok-first.first in
-    let opened = c.in_ok-first.ensures.opened.is_open in
-    c.commit.ensures.others.claims first (c.in_ok-second.ensures.holdings.claims first opened)
-    (c.in_ok-second.ensures.opened.apart first opened)
+    let first = c.claimed-first.result in
+    let opened = c.claimed-first.ensures.opened.is_open in
+    c.commit.ensures.others.claims first (c.claimed-second.ensures.holdings.claims first opened)
+    (c.claimed-second.ensures.opened.apart first opened)

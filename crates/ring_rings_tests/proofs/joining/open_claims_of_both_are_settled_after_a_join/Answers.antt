@@ -2,12 +2,12 @@ use Rattle.ring_rings_tests.proofs.joining.open_claims_of_both_are_settled_after
 
 pub commit-requires-clause-claim : goal.commit-requires-clause-claim
 commit-requires-clause-claim g c =
-    c.join.ensures.claims.second c.in_ok-second.second c.in_ok-second.ensures.opened.is_open
+    c.join.ensures.claims.second c.claimed-second.result c.claimed-second.ensures.opened.is_open
 
 pub abort-requires-clause-claim : goal.abort-requires-clause-claim
 abort-requires-clause-claim g c =
-    let first = c.in_ok-first.first in
-    let second = c.in_ok-second.second in
-    let mine = c.in_ok-first.ensures.opened.is_open in
+    let first = c.claimed-first.result in
+    let second = c.claimed-second.result in
+    let mine = c.claimed-first.ensures.opened.is_open in
     c.commit.ensures.others.claims first (c.join.ensures.claims.first first mine)
-    (c.join.ensures.claims.apart first second mine c.in_ok-second.ensures.opened.is_open)
+    (c.join.ensures.claims.apart first second mine c.claimed-second.ensures.opened.is_open)
