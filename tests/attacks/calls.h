@@ -1,0 +1,53 @@
+/* What the random calls share: where choices come from, buffers that end at a guard page, memory that is refused, and
+ * checks. */
+#ifndef ATTACKS_CALLS_H
+#define ATTACKS_CALLS_H
+
+#include "model.h"
+
+#include <stdio.h>
+#include <stdlib.h>
+#include <string.h>
+
+/* A choice below a number. */
+uint64_t pick(uint64_t below);
+static inline bool once_in(uint64_t times) { return pick(times) == 0; }
+/* One of these. */
+#define ONE_OF(...) (((uint64_t[]){__VA_ARGS__})[pick(sizeof(uint64_t[]){__VA_ARGS__} / sizeof(uint64_t))])
+
+/* A position at which a ring or a broadcast buffer may start, or nearly so. */
+static inline uint64_t some_start(uint64_t capacity) {
+    return ONE_OF(0, capacity, 77 * capacity, LAST - capacity, LAST, LAST + capacity, 8);
+}
+
+/* Bytes to be read by a call, and a buffer to be written; each ends where a page begins that nobody may touch. */
+uint8_t *input(size_t len);
+uint8_t *output(size_t room);
+
+/* Ends the program, and says where and after how many calls. */
+_Noreturn void fail(const char *what, const char *file, int line);
+
+#define CHECK(holds) \
+    do { \
+        if (!(holds)) fail(#holds, __FILE__, __LINE__); \
+    } while (0)
+
+/* Makes a call with this code, or FELTER_OUT_OF_MEMORY if a request of it for memory was refused; gives the code. */
+#define CALL(wanted, call) (before_call(), after_call((call), (wanted), #call, __FILE__, __LINE__))
+void before_call(void);
+int32_t after_call(int32_t code, int32_t wanted, const char *call, const char *file, int line);
+
+/* What a number has before a call that must not write it. */
+#define UNTOUCHED 0x5a5a5a5a
+
+/* A step of each part, and its end, in which all handles are freed. */
+void ring_step(void);
+void ring_end(void);
+void board_step(void);
+void board_end(void);
+void counter_step(void);
+void counter_end(void);
+void conductor_step(void);
+void conductor_end(void);
+
+#endif

@@ -1,0 +1,347 @@
+/* Random calls of rings of both kinds. */
+#include "calls.h"
+
+#define RINGS 2
+#define PRODUCERS 4
+
+struct ring {
+    bool is_there, is_one, has_consumer, has_closed;
+    bool has[PRODUCERS];
+    uint32_t shares[PRODUCERS];
+    felter_producer producers[PRODUCERS];
+    felter_consumer consumer;
+    struct model_ring model;
+};
+
+static struct ring rings[RINGS];
+static const felter_producer no_producer = FELTER_EMPTY;
+
+/* Which producers there are; a ring is gone with its last handle. */
+static int some_producer(const struct ring *ring) {
+    int all = 0, found[PRODUCERS];
+    for (int k = 0; k < PRODUCERS; k++)
+        if (ring->has[k]) found[all++] = k;
+    return all ? found[pick((uint64_t)all)] : -1;
+}
+
+static int no_producer_at(const struct ring *ring) {
+    for (int k = 0; k < PRODUCERS; k++)
+        if (!ring->has[k]) return k;
+    return -1;
+}
+
+static void look_whether_gone(struct ring *ring) {
+    bool is_there = ring->has_consumer;
+    for (int k = 0; k < PRODUCERS; k++) is_there |= ring->has[k];
+    ring->is_there = is_there;
+}
+
+static void make(struct ring *ring) {
+    bool is_one = once_in(3), is_at = once_in(2);
+    uint32_t capacity = (uint32_t)ONE_OF(128, 128, 256, 1024, 8192, 16384, 0, 64, 100);
+    uint64_t start = is_at ? some_start(capacity) : 0;
+    int32_t wanted = model_capacity(capacity, 128, start);
+    felter_producer *producer = &ring->producers[0];
+    int32_t code = is_one ? is_at ? CALL(wanted, felter_one_to_one_new_at(capacity, start, producer, &ring->consumer))
+                                  : CALL(wanted, felter_one_to_one_new(capacity, producer, &ring->consumer))
+        : is_at           ? CALL(wanted, felter_many_to_one_new_at(capacity, start, producer, &ring->consumer))
+                          : CALL(wanted, felter_many_to_one_new(capacity, producer, &ring->consumer));
+    CHECK((code == FELTER_OK) == (producer->handle.at != NULL));
+    CHECK((code == FELTER_OK) == (ring->consumer.handle.at != NULL));
+    if (code) return;
+    ring->is_there = ring->has_consumer = ring->has[0] = true;
+    ring->is_one = is_one;
+    ring->has_closed = false;
+    ring->shares[0] = ALL_SHARES;
+    model_ring_open(&ring->model, capacity, start);
+    CALL(FELTER_HANDLE_IN_USE, felter_many_to_one_new(128, producer, &ring->consumer));
+}
+
+static size_t some_len(const struct ring *ring) {
+    uint32_t most = ring->model.records.capacity / 8;
+    return (size_t)ONE_OF(0, 1, 8, pick(most + 1), pick(most + 1), most, most + 1);
+}
+
+static int32_t some_type(void) {
+    return once_in(30) ? -(int32_t)pick(3) : (int32_t)ONE_OF(1, 7, INT32_MAX);
+}
+
+static void write_message(struct ring *ring, int at) {
+    size_t len = some_len(ring);
+    int32_t type_id = some_type();
+    uint8_t *body = input(len);
+    struct record *record = NULL;
+    uint32_t count = ring->model.records.count;
+    uint64_t tail = ring->model.records.tail;
+    int32_t wanted = model_claim(&ring->model, type_id, len, &record);
+    int32_t code = CALL(wanted, felter_write(&ring->producers[at], type_id, len || once_in(2) ? body : NULL, len));
+    if (wanted) return;
+    if (code) { /* refused memory: nothing was claimed */
+        ring->model.records.count = count;
+        ring->model.records.tail = tail;
+        return;
+    }
+    if (len) memcpy(model_body(&ring->model.records, record), body, len);
+    record->state = COMMITTED;
+}
+
+static void claim(struct ring *ring, int at) {
+    size_t len = once_in(20) ? SIZE_MAX : some_len(ring);
+    int32_t type_id = some_type();
+    struct record *record = NULL;
+    uint32_t count = ring->model.records.count;
+    uint64_t tail = ring->model.records.tail, number = UNTOUCHED;
+    int32_t wanted = model_claim(&ring->model, type_id, len, &record);
+    int32_t code = CALL(wanted, felter_claim(&ring->producers[at], type_id, len, &number));
+    CHECK(code || number == record->place);
+    CHECK(!code || number == UNTOUCHED);
+    if (!wanted && code) {
+        ring->model.records.count = count;
+        ring->model.records.tail = tail;
+    } else if (!code) {
+        record->owner = at;
+    }
+}
+
+/* The place of an open claim of a producer, or nearly so. */
+static uint64_t some_claim(struct ring *ring, int at) {
+    for (uint32_t k = 0; k < ring->model.records.count; k++) {
+        struct record *record = model_at(&ring->model.records, k);
+        if (record->state == OPEN && record->owner == at && !once_in(3)) return record->place;
+    }
+    return ONE_OF(ring->model.head, ring->model.records.tail, UINT64_MAX, 0);
+}
+
+static void put(struct ring *ring, int at) {
+    uint64_t number = some_claim(ring, at);
+    struct record *record = model_find(&ring->model, at, number);
+    size_t most = record ? record->len : 16, len = (size_t)ONE_OF(0, 1, 8, pick(most + 1), most, most + 1);
+    size_t offset = (size_t)ONE_OF(0, 1, pick(most + 1), most, most + 1, SIZE_MAX);
+    uint8_t *bytes = input(len);
+    int32_t wanted = !record ? FELTER_NO_CLAIM
+        : offset > record->len || len > record->len - offset ? FELTER_PUT_RANGE
+                                                             : FELTER_OK;
+    if (CALL(wanted, felter_put(&ring->producers[at], number, offset, bytes, len)) == FELTER_OK && len)
+        memcpy(model_body(&ring->model.records, record) + offset, bytes, len);
+}
+
+static void settle(struct ring *ring, int at) {
+    uint64_t number = some_claim(ring, at);
+    struct record *record = model_find(&ring->model, at, number);
+    bool is_commit = !once_in(3);
+    int32_t wanted = record ? FELTER_OK : FELTER_NO_CLAIM;
+    int32_t code = is_commit ? CALL(wanted, felter_commit(&ring->producers[at], number))
+                             : CALL(wanted, felter_abort(&ring->producers[at], number));
+    if (code == FELTER_OK) record->state = is_commit ? COMMITTED : ABORTED;
+}
+
+static void split(struct ring *ring, int at) {
+    int to = no_producer_at(ring);
+    if (to < 0) return;
+    int32_t wanted = ring->is_one ? FELTER_WRONG_HANDLE : ring->shares[at] < 2 ? FELTER_NO_SHARES : FELTER_OK;
+    if (CALL(wanted, felter_split(&ring->producers[at], &ring->producers[to]))) return;
+    ring->has[to] = true;
+    ring->shares[to] = 1;
+    ring->shares[at]--;
+}
+
+static void join(struct ring *ring, int at) {
+    struct ring *of = once_in(4) ? &rings[pick(RINGS)] : ring;
+    int other = some_producer(of);
+    if (other < 0 || (of == ring && other == at)) return;
+    int32_t wanted = ring->is_one || of->is_one ? FELTER_WRONG_HANDLE : of == ring ? FELTER_OK : FELTER_OTHER_RING;
+    if (CALL(wanted, felter_join(&ring->producers[at], &of->producers[other]))) return;
+    CHECK(of->producers[other].handle.at == NULL);
+    ring->has[other] = false;
+    ring->shares[at] += ring->shares[other];
+    for (uint32_t k = 0; k < ring->model.records.count; k++) {
+        struct record *record = model_at(&ring->model.records, k);
+        if (record->owner == other) record->owner = at;
+    }
+}
+
+/* The head may have passed what no message is of; the model follows it. */
+static void look_at_positions(struct ring *ring) {
+    int at = some_producer(ring);
+    uint64_t head = UNTOUCHED, tail = UNTOUCHED;
+    if (at < 0) return;
+    if (CALL(FELTER_OK, felter_positions(&ring->producers[at], &head, &tail))) return;
+    CHECK(tail == ring->model.records.tail);
+    CHECK(model_pass(&ring->model, head));
+}
+
+static void look_at_words(struct ring *ring, int at) {
+    uint64_t id = UNTOUCHED, heartbeat = UNTOUCHED;
+    uint32_t shares = UNTOUCHED;
+    if (CALL(FELTER_OK, felter_next_id(&ring->producers[at], &id)) == FELTER_OK) CHECK(id == ring->model.drawn++);
+    if (ring->has_consumer && once_in(2)) {
+        uint64_t value = ONE_OF(0, 1, 1 + pick(1000), UINT64_MAX);
+        if (CALL(FELTER_OK, felter_set_heartbeat(&ring->consumer, value)) == FELTER_OK) ring->model.heartbeat = value;
+    }
+    if (CALL(FELTER_OK, felter_heartbeat(&ring->producers[at], &heartbeat)) == FELTER_OK)
+        CHECK(heartbeat == ring->model.heartbeat);
+    if (CALL(FELTER_OK, felter_shares(&ring->producers[at], &shares)) == FELTER_OK) CHECK(shares == ring->shares[at]);
+}
+
+/* Passes a message that was read. */
+static void take(struct ring *ring, const struct record *record) {
+    uint64_t place = record->place, end = place + record->span;
+    CHECK(model_pass(&ring->model, place));
+    model_at(&ring->model.records, 0)->state = ABORTED;
+    CHECK(model_pass(&ring->model, end));
+}
+
+static void read_one(struct ring *ring) {
+    struct record *next = model_next(&ring->model);
+    size_t most = ring->model.records.capacity / 8, its = next ? next->len : 0;
+    size_t room = (size_t)ONE_OF(most, most, its, its + 1, its ? its - 1 : 0, pick(most + 1)), len = UNTOUCHED;
+    int32_t type_id = UNTOUCHED;
+    uint8_t *buffer = output(room);
+    int32_t wanted = !next ? FELTER_NO_MESSAGE : room < its ? FELTER_SHORT_BUFFER : FELTER_OK;
+    int32_t code = CALL(wanted, felter_read(&ring->consumer, &type_id, &len, buffer, room));
+    if (code == FELTER_SHORT_BUFFER) CHECK(len == its);
+    if (code == FELTER_NO_MESSAGE) CHECK(len == UNTOUCHED && type_id == UNTOUCHED);
+    if (code == FELTER_OK) {
+        CHECK(type_id == next->type_id && len == its);
+        CHECK(!len || memcmp(buffer, model_body(&ring->model.records, next), len) == 0);
+        for (size_t k = len; k < room; k++) CHECK(buffer[k] == 0xa5);
+        take(ring, next);
+    }
+    look_at_positions(ring);
+}
+
+static void read_batch(struct ring *ring) {
+    struct record *next = model_next(&ring->model);
+    uint32_t limit = (uint32_t)ONE_OF(0, 1, 2, 5, UINT32_MAX), count = UNTOUCHED;
+    size_t most = FELTER_SPAN(ring->model.records.capacity / 8), its = next ? FELTER_SPAN(next->len) : 0;
+    size_t room = (size_t)ONE_OF(most, 4 * most, its, its ? its - 1 : 0, pick(2 * most)), used = UNTOUCHED, at = 0;
+    uint8_t *buffer = output(room);
+    int32_t wanted = !next || !limit ? FELTER_NO_MESSAGE : room < its ? FELTER_SHORT_BUFFER : FELTER_OK;
+    int32_t code = CALL(wanted, felter_read_batch(&ring->consumer, limit, &count, &used, buffer, room));
+    if (code) CHECK(count == UNTOUCHED && used == UNTOUCHED);
+    else CHECK(count >= 1 && count <= limit && used <= room);
+    for (uint32_t k = 0; !code && k < count; k++) {
+        felter_record record;
+        next = model_next(&ring->model);
+        CHECK(next && at + sizeof record <= used);
+        memcpy(&record, buffer + at, sizeof record);
+        CHECK(record.len == next->len && record.type_id == next->type_id && at + FELTER_SPAN(record.len) <= used);
+        const uint8_t *body = model_body(&ring->model.records, next);
+        CHECK(!record.len || memcmp(buffer + at + sizeof record, body, next->len) == 0);
+        at += FELTER_SPAN(record.len);
+        take(ring, next);
+    }
+    if (!code) CHECK(at == used);
+    look_at_positions(ring);
+}
+
+static bool has_open(struct ring *ring, int at) {
+    for (uint32_t k = 0; k < ring->model.records.count; k++) {
+        struct record *record = model_at(&ring->model.records, k);
+        if (record->state == OPEN && record->owner == at) return true;
+    }
+    return false;
+}
+
+static void close_ring(struct ring *ring) {
+    struct ring *of = once_in(4) ? &rings[pick(RINGS)] : ring;
+    int at = some_producer(of);
+    if (at < 0) return;
+    int32_t wanted = of != ring || ring->has_closed ? FELTER_OTHER_RING
+        : has_open(ring, at)                        ? FELTER_CLAIMS_OPEN
+        : ring->shares[at] != ALL_SHARES            ? FELTER_PRODUCERS_OUT
+                                                    : FELTER_OK;
+    if (CALL(wanted, felter_close(&ring->consumer, &of->producers[at]))) return;
+    CHECK(of->producers[at].handle.at == NULL);
+    ring->has[at] = false;
+    ring->has_closed = true;
+}
+
+static void finish(struct ring *ring) {
+    uint64_t left = UNTOUCHED;
+    int32_t wanted = ring->has_closed ? FELTER_OK : FELTER_PRODUCERS_OUT;
+    if (CALL(wanted, felter_finish(&ring->consumer, &left))) return;
+    CHECK(ring->consumer.handle.at == NULL && left == model_left(&ring->model));
+    ring->has_consumer = false;
+    look_whether_gone(ring);
+}
+
+static void free_producer(struct ring *ring, int at) {
+    CALL(FELTER_OK, (felter_free(&ring->producers[at].handle), FELTER_OK));
+    CHECK(ring->producers[at].handle.at == NULL);
+    ring->has[at] = false;
+    for (uint32_t k = 0; k < ring->model.records.count; k++) {
+        struct record *record = model_at(&ring->model.records, k);
+        if (record->state == OPEN && record->owner == at) record->state = ABORTED;
+    }
+    look_whether_gone(ring);
+}
+
+static void free_consumer(struct ring *ring) {
+    CALL(FELTER_OK, (felter_free(&ring->consumer.handle), FELTER_OK));
+    CHECK(ring->consumer.handle.at == NULL);
+    ring->has_consumer = false;
+    look_whether_gone(ring);
+}
+
+/* Handles that are empty, or of another kind. */
+static void misuse(struct ring *ring) {
+    felter_producer none = no_producer;
+    felter_consumer nobody = FELTER_EMPTY;
+    uint64_t number = UNTOUCHED;
+    size_t len = UNTOUCHED;
+    int32_t type_id = UNTOUCHED;
+    CALL(FELTER_NO_HANDLE, felter_write(&none, 1, NULL, 0));
+    CALL(FELTER_NO_HANDLE, felter_claim(&none, 1, 0, &number));
+    CALL(FELTER_NO_HANDLE, felter_read(&nobody, &type_id, &len, NULL, 0));
+    felter_free(&none.handle);
+    if (ring->has_consumer) {
+        CALL(FELTER_WRONG_HANDLE, felter_write((felter_producer *)&ring->consumer, 1, NULL, 0));
+        CALL(FELTER_WRONG_HANDLE, felter_counter_set((felter_counters *)&ring->consumer, 0, 1));
+    }
+    int at = some_producer(ring);
+    felter_consumer *wrong = at < 0 ? NULL : (felter_consumer *)&ring->producers[at];
+    if (wrong) CALL(FELTER_WRONG_HANDLE, felter_read(wrong, &type_id, &len, NULL, 0));
+    CHECK(number == UNTOUCHED && len == UNTOUCHED && type_id == UNTOUCHED);
+}
+
+void ring_step(void) {
+    struct ring *ring = &rings[pick(RINGS)];
+    if (!ring->is_there) {
+        make(ring);
+        return;
+    }
+    int at = some_producer(ring);
+    if (at >= 0) switch (pick(24)) {
+        case 0: case 1: case 2: case 3: case 4: case 5: case 6: write_message(ring, at); break;
+        case 7: case 8: case 9: claim(ring, at); break;
+        case 10: case 11: put(ring, at); break;
+        case 12: case 13: case 14: settle(ring, at); break;
+        case 15: split(ring, at); break;
+        case 16: join(ring, at); break;
+        case 17: look_at_words(ring, at); break;
+        case 18: look_at_positions(ring); break;
+        case 19: misuse(ring); break;
+        case 20: if (once_in(4)) free_producer(ring, at); break;
+        default: break;
+        }
+    if (ring->has_consumer) switch (pick(14)) {
+        case 0: case 1: case 2: case 3: read_one(ring); break;
+        case 4: case 5: case 6: read_batch(ring); break;
+        case 7: if (once_in(8)) close_ring(ring); break;
+        case 8: if (once_in(4)) finish(ring); break;
+        case 9: if (once_in(40)) free_consumer(ring); break;
+        default: break;
+        }
+}
+
+void ring_end(void) {
+    for (int k = 0; k < RINGS; k++) {
+        struct ring *ring = &rings[k];
+        bool is_consumer_first = once_in(2);
+        if (ring->has_consumer && is_consumer_first) free_consumer(ring);
+        for (int at = 0; at < PRODUCERS; at++)
+            if (ring->has[at]) free_producer(ring, at);
+        if (ring->has_consumer) free_consumer(ring);
+    }
+}

@@ -1,0 +1,32 @@
+"""Ctrl-C at any place of a program in Python."""
+import os
+import random
+import signal
+import subprocess
+import sys
+import time
+
+from .shared import ATTACKS, TOP, Clock, Finding, NotRun, library
+
+
+def run(seconds, seed):
+    folder, dice = library(), random.Random(seed)
+    if not os.path.exists(os.path.join(folder, "libfelter.so")):
+        raise NotRun(f"there is no libfelter.so in {folder}")
+    environment = dict(os.environ, FELTER_DIR=folder, PYTHONPATH=os.path.join(TOP, "python"))
+    words = [sys.executable, "-B", os.path.join(ATTACKS, "interrupted.py"), str(max(0.5, seconds - 1))]
+    with subprocess.Popen(words, stdout=subprocess.PIPE, stderr=subprocess.PIPE, env=environment) as child:
+        if child.stdout.readline() != b"ready\n":
+            raise Finding(f"the program did not start: {child.stderr.read().decode()[-500:]}")
+        clock = Clock(seconds + 60)
+        while child.poll() is None and clock.runs():
+            time.sleep(dice.choice((0.0001, 0.0003, 0.001, 0.003)))
+            if child.poll() is None:
+                os.kill(child.pid, signal.SIGINT)
+        if child.poll() is None:
+            child.kill()
+            raise Finding("the program did not end")
+        out, err = child.stdout.read().decode().strip(), child.stderr.read().decode().strip()
+    if child.returncode:
+        raise Finding(f"status {child.returncode}: {err[-700:]}")
+    return out

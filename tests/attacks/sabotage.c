@@ -1,0 +1,108 @@
+/* Faults put before calls of the C library, one for each build: SABOTAGE_NAME says which, and the linker wraps the
+ * call. tests/attacks/sabotages.py has the table. Most happen once in some hundred calls. */
+#include "felter.h"
+
+#include <string.h>
+
+#define ONCE_IN(times) (++turns % (times) == 0)
+static unsigned turns;
+
+#if defined SABOTAGE_LOST || defined SABOTAGE_DOUBLED || defined SABOTAGE_FULL
+int32_t __real_felter_write(felter_producer *producer, int32_t type_id, const uint8_t *body, size_t len);
+
+int32_t __wrap_felter_write(felter_producer *producer, int32_t type_id, const uint8_t *body, size_t len) {
+#if defined SABOTAGE_LOST
+    if (len && ONCE_IN(300)) return FELTER_OK;
+#elif defined SABOTAGE_FULL
+    if (len && ONCE_IN(300)) return FELTER_INSUFFICIENT_CAPACITY;
+#endif
+    int32_t code = __real_felter_write(producer, type_id, body, len);
+#if defined SABOTAGE_DOUBLED
+    if (code == FELTER_OK && ONCE_IN(300)) __real_felter_write(producer, type_id, body, len);
+#endif
+    return code;
+}
+#endif
+
+#if defined SABOTAGE_TORN || defined SABOTAGE_BEYOND
+int32_t __real_felter_read(felter_consumer *consumer, int32_t *type_id, size_t *len, uint8_t *buffer, size_t room);
+
+int32_t __wrap_felter_read(felter_consumer *consumer, int32_t *type_id, size_t *len, uint8_t *buffer, size_t room) {
+    int32_t code = __real_felter_read(consumer, type_id, len, buffer, room);
+    if (code != FELTER_OK || !*len || !ONCE_IN(200)) return code;
+#if defined SABOTAGE_TORN
+    buffer[*len - 1] ^= 1;
+#else
+    buffer[*len] = 0;
+#endif
+    return code;
+}
+#endif
+
+#if defined SABOTAGE_UNABORTED
+int32_t __real_felter_abort(felter_producer *producer, uint64_t claim);
+
+/* An aborted claim is shown. */
+int32_t __wrap_felter_abort(felter_producer *producer, uint64_t claim) {
+    return ONCE_IN(50) ? felter_commit(producer, claim) : __real_felter_abort(producer, claim);
+}
+#endif
+
+#if defined SABOTAGE_SHORT_PUT
+int32_t __real_felter_put(felter_producer *producer, uint64_t claim, size_t offset, const uint8_t *bytes, size_t len);
+
+/* The last byte is not put. */
+int32_t __wrap_felter_put(felter_producer *producer, uint64_t claim, size_t offset, const uint8_t *bytes, size_t len) {
+    return __real_felter_put(producer, claim, offset, bytes, len > 1 && ONCE_IN(50) ? len - 1 : len);
+}
+#endif
+
+#if defined SABOTAGE_LEAK
+void __real_felter_free(felter_handle *handle);
+
+void __wrap_felter_free(felter_handle *handle) {
+    if (ONCE_IN(50)) handle->at = NULL;
+    else __real_felter_free(handle);
+}
+#endif
+
+#if defined SABOTAGE_UNSAID_LAP
+int32_t __real_felter_receive(felter_receiver *receiver, int32_t *type_id, size_t *len, uint64_t *lapped,
+                              uint8_t *buffer, size_t room);
+
+int32_t __wrap_felter_receive(felter_receiver *receiver, int32_t *type_id, size_t *len, uint64_t *lapped,
+                              uint8_t *buffer, size_t room) {
+    int32_t code = __real_felter_receive(receiver, type_id, len, lapped, buffer, room);
+    return code == FELTER_LAPPED ? __real_felter_receive(receiver, type_id, len, lapped, buffer, room) : code;
+}
+#endif
+
+#if defined SABOTAGE_STALE
+int32_t __real_felter_reader_value(felter_reader *reader, uint32_t id, int64_t *value);
+
+/* The value that was loaded before, of whatever counter. */
+int32_t __wrap_felter_reader_value(felter_reader *reader, uint32_t id, int64_t *value) {
+    static int64_t last;
+    int32_t code = __real_felter_reader_value(reader, id, value);
+    if (code != FELTER_OK) return code;
+    int64_t loaded = *value;
+    if (ONCE_IN(20)) *value = last;
+    last = loaded;
+    return code;
+}
+#endif
+
+#if defined SABOTAGE_OTHER_REPLY
+int32_t __real_felter_poll(felter_client *client, uint64_t correlation, int32_t *kind, int64_t *number,
+                           uint64_t *lapped);
+
+/* A reply to another command is taken for one's own. */
+int32_t __wrap_felter_poll(felter_client *client, uint64_t correlation, int32_t *kind, int64_t *number,
+                           uint64_t *lapped) {
+    int32_t code = __real_felter_poll(client, correlation, kind, number, lapped);
+    if (code != FELTER_OTHER_REPLY || !ONCE_IN(20)) return code;
+    *kind = FELTER_REPLY_DONE;
+    *number = 0;
+    return FELTER_OK;
+}
+#endif

@@ -1,0 +1,128 @@
+"""Copies of memory with changed bytes: ring_show against the model, for rings, and for findings and JSON for all."""
+import json
+import os
+import random
+import re
+import struct
+import subprocess
+import tempfile
+
+from model import snapshot
+
+from .shared import TOP, Clock, Finding, program, run_program
+
+FOLDER = os.path.join(TOP, "examples", "snapshots")
+ROW = re.compile(r"^ *(\d+) +(\d+) +([a-z ]+?) +(-?\d+) +(\d+)(?: |$)")
+NOT_STORED = re.compile(r"^ *(\d+) +(\d+) +not stored yet")
+FINDING = re.compile(r"(BadSize|UnalignedPosition|TailBefore\w+|TailTooFar|IntentBeforeTail|IntentTooFar|"
+                     r"OutsideOfRecords|BadLength at|BadType at|BadState of|BadLabelLength of)")
+INTERESTING = (0, 1, 7, 8, 9, 16, 24, 128, 2**31 - 1, 2**31, 2**32 - 1, 2**63, 2**64 - 1, 2**62)
+
+
+def changed(dice, data):
+    """A copy with some bytes, words or its length changed."""
+    data = bytearray(data)
+    for _ in range(dice.choice((0, 1, 1, 1, 2, 3, 8, 40))):
+        at = dice.randrange(len(data) // 8) * 8
+        kind = dice.randrange(5)
+        if kind == 0:
+            data[at + dice.randrange(8)] ^= 1 << dice.randrange(8)
+        elif kind == 1:
+            struct.pack_into("<Q", data, at, dice.choice(INTERESTING))
+        elif kind == 2:
+            half = dice.choice((0, 8, -8, 24, -16, 2**31 - 1, -2**31, -1, 1))
+            struct.pack_into("<i", data, at + dice.choice((0, 4)), half)
+        elif kind == 3:
+            old = struct.unpack_from("<Q", data, at)[0]
+            struct.pack_into("<Q", data, at, (old + dice.choice((-8, 8, -128, 128, -1, 1, 256))) % 2**64)
+        else:
+            data[at:at + 8] = bytes(8)
+    if dice.random() < 0.05:
+        data = data[:dice.randrange(len(data) // 8) * 8] + bytes(8 * dice.choice((0, dice.randint(1, 100))))
+    return bytes(data)
+
+
+def random_ring(dice):
+    """A ring of its own: records that the model places, in random states."""
+    capacity = dice.choice((128, 256, 1024))
+    data = bytearray(capacity + snapshot.TRAILER)
+    head = dice.randrange(0, 4 * capacity, 8)
+    place = head
+    while place < head + capacity and dice.random() < 0.9:
+        index = place % capacity
+        most = min(capacity - index, head + capacity - place, 8 + capacity // 8)
+        length = dice.randint(8, most) if dice.random() < 0.8 else most
+        kind = dice.randrange(5)
+        struct.pack_into("<ii", data, index, -length if kind == 0 else length, -1 if kind == 1 else dice.randint(1, 9))
+        place += (length + 7) // 8 * 8
+    struct.pack_into("<Q", data, capacity + snapshot.HEAD, head)
+    struct.pack_into("<Q", data, capacity + snapshot.TAIL, place)
+    return bytes(data)
+
+
+def show(path, *words):
+    done = run_program([path, *words], stdin=subprocess.DEVNULL, timeout=60)
+    return done.returncode, done.stdout.decode(), done.stderr.decode()
+
+
+def rows_of(out):
+    """The rows of a table of a ring."""
+    for line in out.split("\n"):
+        if NOT_STORED.match(line):
+            yield tuple(map(int, NOT_STORED.match(line).groups())) + ("not stored yet",)
+        elif ROW.match(line):
+            place, index, state, type_id, length = ROW.match(line).groups()
+            yield int(place), int(index), state, int(type_id), int(length)
+
+
+def compare_ring(path, file, data):
+    records, findings = snapshot.list_ring(data)
+    status, out, err = show(path, "ring", file, "--bodies", "none")
+    if status != (1 if findings else 0) or (findings and not any(it in err for it in findings)):
+        raise Finding(f"{file}: status {status}, {err.strip()!r}; the model has {findings or 'no finding'}")
+    found = list(rows_of(out))
+    if found != records and not any(it.startswith("BadSize") for it in findings):
+        raise Finding(f"{file}: rows {found[:4]}.., the model has {records[:4]}..")
+
+
+def check_json(path, kind, files):
+    """JSON that can be read, and a finding for status 1."""
+    status, out, err = show(path, kind, *files, "--format", "json")
+    if status not in (0, 1) or (status == 1) != bool(FINDING.search(err)):
+        raise Finding(f"{kind} {files}: status {status}, {err.strip()[:200]!r}")
+    try:
+        json.loads(out)
+    except ValueError as why:
+        raise Finding(f"{kind} {files}: no JSON: {why}") from why
+
+
+def read(name):
+    with open(os.path.join(FOLDER, name), "rb") as file:
+        return file.read()
+
+
+def run(seconds, seed):
+    path, clock, dice = program("ring_show", "RING_SHOW"), Clock(seconds), random.Random(seed)
+    rings = [read(name) for name in sorted(os.listdir(FOLDER)) if name.endswith(".ring")]
+    boards = [read(name) for name in sorted(os.listdir(FOLDER)) if name.endswith(".board")]
+    counters = read("reused.metadata"), read("reused.values")
+    shown = 0
+    with tempfile.TemporaryDirectory(prefix="attack") as folder:
+        one, two = os.path.join(folder, "one"), os.path.join(folder, "two")
+        while clock.runs():
+            for name, data in ((one, dice.choice(rings + [random_ring(dice)] * 3)),):
+                data = changed(dice, data)
+                with open(name, "wb") as file:
+                    file.write(data)
+                compare_ring(path, name, data)
+            check_json(path, "ring", [one])
+            for name, data in ((one, changed(dice, dice.choice(boards))),):
+                with open(name, "wb") as file:
+                    file.write(data)
+            check_json(path, "board", [one])
+            for name, data in zip((one, two), counters):
+                with open(name, "wb") as file:
+                    file.write(changed(dice, data))
+            check_json(path, "counters", [one, two])
+            shown += 4
+    return f"{shown} listings of changed copies"
