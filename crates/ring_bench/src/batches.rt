@@ -2,21 +2,20 @@
 ghost use Rattle.std.specs.Prelude.{IfOk};
 ghost use Rattle.ring_rings.specs.Seats.{IsConsumerOf, IsProducerOf, MayClaim};
 
-use crate::entry::{Contender, Workload};
 use crate::fault::Fault;
 use crate::message::{Body, Sum, TYPE_ID};
-use crate::request::Request;
-use crate::sample::{Sample, nanos_since};
+use crate::request::{Contender, Request, Workload};
+use crate::sample::Sample;
+use crate::task::{Task, time};
 use ring_rings::{Consumer, Kind, ManyToOne, OneToOne, Producer, Ring};
 use ring_words::SoloRing;
 use std::alloc::Global;
 use std::rt::Clock;
-use std::time::Instant;
 
 /// The messages that a read may take.
 const LIMIT: u32 = 64;
 
-/// The most messages of a batch.
+/// The messages of a batch.
 const BATCH: u64 = 16;
 
 /// The tries to read a batch.
@@ -82,81 +81,113 @@ impl<K: Kind> Lane for Seated<K> {
     }
 }
 
-/// Writes so many messages, from this number on.
-fn put_batch<L: Lane>(lane: &mut L, body: &mut Body, from: u64, count: u64) -> Result<(), Fault>
-    requires { L.whole lane.old }
-    ensures { L.whole lane.new }
-{
-    for k in 0..count {
-        if !lane.put(body.numbered(from.wrapping_add(k))) {
-            return Err(Fault::Refused);
-        }
-    }
-    Ok(())
+/// Batches that go through a ring.
+#[derive(Drop)]
+struct Batches<L> {
+    lane: L,
+    body: Body,
+    sum: Sum,
 }
 
-/// Reads until so many messages came in all.
-fn take_batch<L: Lane>(lane: &mut L, sum: &mut Sum, count: u64) -> Result<(), Fault>
-    requires { L.whole lane.old }
-    ensures { L.whole lane.new }
-{
-    for _ in 0..READS {
-        if sum.count >= count {
-            return Ok(());
+impl<L: Lane> Batches<L> {
+    /// Writes a batch, of which the first message has this number.
+    fn put(&mut self, first: u64) -> Result<(), Fault>
+        requires { L.whole self.old.lane }
+        ensures { L.whole self.new.lane }
+    {
+        for k in 0..BATCH {
+            if !self.lane.put(self.body.numbered(first.wrapping_add(k))) {
+                return Err(Fault::REFUSED);
+            }
         }
-        lane.take(sum);
+        Ok(())
     }
-    Err(Fault::Stuck)
+
+    /// Reads until so many messages came in all.
+    fn take(&mut self, count: u64) -> Result<(), Fault>
+        requires { L.whole self.old.lane }
+        ensures { L.whole self.new.lane }
+    {
+        for _ in 0..READS {
+            if self.sum.count >= count {
+                return Ok(());
+            }
+            self.lane.take(&mut self.sum);
+        }
+        Err(Fault::STUCK)
+    }
 }
 
-fn run_lane<L: Lane, R: Clock>(
+impl<L: Lane> Task for Batches<L> {
+    ghost is_ready = { λ b. L.whole b.lane };
+
+    fn step(&mut self, number: u64) -> Result<(), Fault> {
+        let first = number.wrapping_mul(BATCH);
+        self.put(first)?;
+        self.take(first.wrapping_add(BATCH))
+    }
+}
+
+/// Writes and reads at least so many messages.
+fn run_lane<L: Lane + Drop, R: Clock>(
     rt: &R,
-    lane: &mut L,
-    body: &mut Body,
+    lane: L,
+    body: Body,
     times: u64,
 ) -> Result<Sample, Fault>
-    requires { L.whole lane.old }
+    requires { L.whole lane }
 {
-    let mut sum = Sum::new();
-    let mut number = 0u64;
-    let start = Instant::now(rt)?;
-    for _ in 0..times.div_ceil(BATCH) {
-        let count = BATCH.min(times.saturating_sub(number));
-        put_batch(lane, body, number, count)?;
-        number = number.wrapping_add(count);
-        take_batch(lane, &mut sum, number)?;
-    }
-    let nanos = nanos_since(rt, start)?;
-    sum.check(number)?;
-    Ok(Sample::new(nanos, number))
+    let sum = Sum::new();
+    let mut batches = Batches { lane, body, sum };
+    let count = times.div_ceil(BATCH);
+    let nanos = time(rt, &mut batches, count)?;
+    let messages = count.wrapping_mul(BATCH);
+    batches.sum.check(messages)?;
+    Ok(Sample::new(nanos, messages))
 }
 
-/// Writes and reads so many messages. `NoContender` where the contender is no ring, or the size is no multiple of 8;
-/// `NoRing` where there is no ring of that capacity; `Refused`, `Stuck` and `WrongMessage` where messages are lost.
+fn body_of(alloc: Global, request: &Request) -> Result<Body, Fault> {
+    if request.workload == Workload::Sparse {
+        Body::sparse(alloc, request.size)
+    } else {
+        Body::new(alloc, request.size)
+    }
+}
+
+fn run_seated<K: Kind, R: Clock>(
+    rt: &R,
+    alloc: Global,
+    request: &Request,
+    times: u64,
+) -> Result<Sample, Fault> {
+    let body = body_of(alloc, request)?;
+    let lane = Seated::<K>::open(alloc, request.capacity)?;
+    run_lane(rt, lane, body, times)
+}
+
+fn run_solo<R: Clock>(
+    rt: &R,
+    alloc: Global,
+    request: &Request,
+    times: u64,
+) -> Result<Sample, Fault> {
+    let body = body_of(alloc, request)?;
+    let lane = SoloRing::new(alloc, request.capacity)?;
+    run_lane(rt, lane, body, times)
+}
+
+/// Writes and reads at least so many messages. `NO_CONTENDER` if the size is no multiple of 8; `NO_BUFFER` if there is no
+/// ring of that capacity; `REFUSED`, `STUCK` and `WRONG_MESSAGE` if messages are lost.
 pub fn run_batches<R: Clock>(
     rt: &R,
     alloc: Global,
     request: &Request,
     times: u64,
 ) -> Result<Sample, Fault> {
-    let mut body = match request.workload {
-        Workload::Sparse => Body::sparse(alloc, request.size)?,
-        _ => Body::new(alloc, request.size)?,
-    };
-    let capacity = request.capacity;
     match request.contender {
-        Contender::Solo => {
-            let mut ring = SoloRing::new(alloc, capacity)?;
-            run_lane(rt, &mut ring, &mut body, times)
-        }
-        Contender::OneToOne => {
-            let mut ring = Seated::<OneToOne>::open(alloc, capacity)?;
-            run_lane(rt, &mut ring, &mut body, times)
-        }
-        Contender::ManyToOne => {
-            let mut ring = Seated::<ManyToOne>::open(alloc, capacity)?;
-            run_lane(rt, &mut ring, &mut body, times)
-        }
-        Contender::Board | Contender::Counters | Contender::Storm => Err(Fault::NoContender),
+        Contender::Solo => run_solo(rt, alloc, request, times),
+        Contender::OneToOne => run_seated::<OneToOne, R>(rt, alloc, request, times),
+        Contender::ManyToOne => run_seated::<ManyToOne, R>(rt, alloc, request, times),
+        _ => Err(Fault::NO_CONTENDER),
     }
 }

@@ -1,77 +1,71 @@
-//! One transmitter that never waits, and two receivers.
+//! One transmitter that never waits, and its receivers, each on a thread of its own.
+ghost use Rattle.std.specs.Prelude.{◌≡◌, All, IfOk};
 ghost use Rattle.std.specs.Thread.{IsSync};
 ghost use Rattle.ring_board.specs.Seats.{IsTransmitterOf, IsReceiverOf};
 
-use crate::entry::Contender;
 use crate::fault::Fault;
-use crate::gate::Gate;
 use crate::message::{Body, TYPE_ID, look};
 use crate::request::Request;
 use crate::rest::{Rest, TRIES};
-use crate::sample::{Heard, Sample, nanos_since};
+use crate::sample::{Detail, Sample};
+use crate::task::{Task, time};
 use ring_board::{Board, CopyReceiver, Transmitter};
 use std::alloc::Global;
 use std::rt::Clock;
 use std::sync::atomic::{AtomicBool, Ordering};
-use std::thread::{Threads, join};
-use std::time::Instant;
+use std::sync::{Barrier, Wait};
+use std::thread::{Threads, join, map_vec};
 
-/// The receivers of a run.
-const RECEIVERS: u64 = 2;
+/// The transmitter and what it sends.
+#[derive(Drop)]
+struct Sender<'a> {
+    board: &'a Board,
+    transmitter: Transmitter,
+    body: Body,
+}
 
-/// Transmits the messages with the numbers below `times`, and gives the nanoseconds that it took.
-fn transmit_all<R: Clock>(
-    rt: &R,
-    board: &Board,
-    mut transmitter: Transmitter,
-    mut body: Body,
-    times: u64,
-) -> Result<u64, Fault>
-    requires { IsTransmitterOf board.now transmitter }
-{
-    let start = Instant::now(rt)?;
-    for number in 0..times {
-        if board
-            .transmit(&mut transmitter, TYPE_ID, body.numbered(number))
-            .is_err()
-        {
-            return Err(Fault::Refused);
+impl<'a> Task for Sender<'a> {
+    ghost is_ready = { λ s. IsTransmitterOf s.board.now s.transmitter };
+
+    fn step(&mut self, number: u64) -> Result<(), Fault> {
+        let body = self.body.numbered(number);
+        match self.board.transmit(&mut self.transmitter, TYPE_ID, body) {
+            Ok(_) => Ok(()),
+            Err(_refused) => Err(Fault::REFUSED),
         }
     }
-    nanos_since(rt, start)
 }
 
 /// What a receiver came to.
-#[derive(Clone, Copy, Debug)]
+#[derive(Clone, Copy)]
 struct Copies {
     count: u64,
+    laps: u64,
     last: u64,
-    stray: u64,
+    is_wrong: bool,
 }
 
 impl Copies {
     fn new() -> Copies {
         Copies {
             count: 0,
+            laps: 0,
             last: 0,
-            stray: 0,
+            is_wrong: false,
         }
     }
 
     /// Looks at a copy: its number is greater than the last one.
     fn note(&mut self, body: &[u8]) {
         let (number, stray) = look(body).unwrap_or((0, 1));
-        self.stray |= stray;
-        if self.count > 0 && number <= self.last {
-            self.stray = 1;
-        }
+        self.is_wrong |= stray != 0 || self.count > 0 && number <= self.last;
         self.last = number;
         self.count = self.count.wrapping_add(1);
     }
 }
 
 /// Receives until all is transmitted and nothing is left.
-fn receive_all(board: &Board, mut receiver: CopyReceiver, is_over: &AtomicBool) -> (Copies, u64)
+fn receive_all(board: &Board, mut receiver: CopyReceiver, is_over: &AtomicBool) -> Copies
     requires { IsReceiverOf board.now receiver }
 {
     let mut copies = Copies::new();
@@ -83,96 +77,136 @@ fn receive_all(board: &Board, mut receiver: CopyReceiver, is_over: &AtomicBool) 
                 copies.note(copied.body);
                 rest.reset();
             }
-            Ok(None) => {
-                if was_over {
-                    break;
-                }
-                rest.wait();
-            }
+            Ok(None) if was_over => break,
+            Ok(None) => rest.wait(),
             Err(_lapped) => {}
         }
     }
-    (copies, receiver.lapped_count())
+    copies.laps = receiver.lapped_count();
+    copies
 }
 
-/// A receiver on a thread of its own. `WrongMessage` where its last copy is not of the last message, or one is out of
-/// order.
-fn listen(
+/// All receivers, each on a thread of its own, once all threads are there.
+fn receive_each<R: Threads + Sync + Wait>(
+    rt: &R,
     board: &Board,
-    receiver: CopyReceiver,
-    gate: &Gate,
+    receivers: Vec<CopyReceiver>,
+    start: &Barrier,
+    is_over: &AtomicBool,
+) -> Result<Vec<Copies>, Fault>
+    requires { All (λ receiver. IsReceiverOf board.now receiver) receivers.items }
+{
+    let copies = map_vec(
+        rt,
+        receivers,
+        &|receiver: CopyReceiver| -> Copies
+            requires { IsReceiverOf board.now receiver }
+        {
+            start.wait(rt);
+            receive_all(board, receiver, is_over)
+        },
+    )?;
+    Ok(copies)
+}
+
+/// Subscribes so many receivers.
+fn subscribe_all(
+    alloc: Global,
+    board: &Board,
+    transmitter: &mut Transmitter,
+    receivers: u32,
+) -> Result<Vec<CopyReceiver>, Fault>
+    requires { IsTransmitterOf board.now transmitter.old }
+    ensures transmitter { IsTransmitterOf board.now transmitter.new }
+    ensures receivers { IfOk result (λ them. All (λ receiver. IsReceiverOf board.now receiver) them.items) }
+{
+    let mut them = Vec::new(alloc);
+    for _ in 0..receivers {
+        let receiver = board.subscribe(alloc, transmitter)?;
+        them.push(receiver)?;
+    }
+    Ok(them)
+}
+
+/// Sends all messages once all receivers are there, and returns the nanoseconds that this took.
+fn send_all<R: Clock + Wait>(
+    rt: &R,
+    mut sender: Sender<'_>,
+    start: &Barrier,
     is_over: &AtomicBool,
     times: u64,
-) -> Result<Heard, Fault>
-    requires { IsReceiverOf board.now receiver }
+) -> Result<u64, Fault>
+    requires { IsTransmitterOf sender.board.now sender.transmitter }
 {
-    gate.arrive();
-    let (copies, laps) = receive_all(board, receiver, is_over);
-    if copies.stray != 0 || copies.last.wrapping_add(1) != times {
-        return Err(Fault::WrongMessage);
+    start.wait(rt);
+    let nanos = time(rt, &mut sender, times);
+    is_over.store(true, Ordering::SeqCst);
+    nanos
+}
+
+/// What all receivers came to. `WRONG_MESSAGE` if a copy is wrong or out of order, or the last one of a receiver is not
+/// the last message.
+fn add_up(copies: &[Copies], times: u64) -> Result<Detail, Fault> {
+    let (mut count, mut laps) = (0u64, 0u64);
+    for one in copies {
+        if one.is_wrong || one.last.wrapping_add(1) != times {
+            return Err(Fault::WRONG_MESSAGE);
+        }
+        count = count.wrapping_add(one.count);
+        laps = laps.wrapping_add(one.laps);
     }
-    Ok(Heard {
-        receivers: 1,
-        copies: copies.count,
+    Ok(Detail::Received {
+        all: times.saturating_mul(copies.len() as u64),
+        copies: count,
         laps,
     })
 }
 
-/// Two receivers, each on a thread of its own.
-fn listen_two<R: Threads + Sync>(
+/// The transmitter and the receivers.
+fn run_all<R: Clock + Threads + Sync + Wait>(
     rt: &R,
-    board: &Board,
-    receivers: (CopyReceiver, CopyReceiver),
-    gate: &Gate,
-    is_over: &AtomicBool,
+    sender: Sender<'_>,
+    receivers: Vec<CopyReceiver>,
     times: u64,
-) -> Result<Heard, Fault>
-    requires { IsReceiverOf board.now receivers.0 × IsReceiverOf board.now receivers.1 }
+) -> Result<Sample, Fault>
+    requires sender { IsTransmitterOf sender.board.now sender.transmitter }
+    requires receivers { All (λ receiver. IsReceiverOf sender.board.now receiver) receivers.items }
 {
-    let (one, two) = receivers;
-    let (first, second) = join(
+    let start = Barrier::new(receivers.len().saturating_add(1));
+    let is_over = AtomicBool::new(false);
+    let (board, start, is_over) = (sender.board, &start, &is_over);
+    let (nanos, copies) = join(
         rt,
-        move || -> Result<Heard, Fault>
-            requires { IsReceiverOf board.now one }
-        { listen(board, one, gate, is_over, times) },
-        move || -> Result<Heard, Fault>
-            requires { IsReceiverOf board.now two }
-        { listen(board, two, gate, is_over, times) },
+        move || -> Result<u64, Fault>
+            requires { IsTransmitterOf sender.board.now sender.transmitter }
+        { send_all(rt, sender, start, is_over, times) },
+        move || -> Result<Vec<Copies>, Fault>
+            requires { IsSync R.row × All (λ receiver. IsReceiverOf board.now receiver) receivers.items }
+        { receive_each(rt, board, receivers, start, is_over) },
     );
-    Ok(first?.plus(second?))
+    let detail = add_up(copies?.as_slice(), times)?;
+    Ok(Sample {
+        nanos: nanos?,
+        times,
+        detail,
+    })
 }
 
-/// Transmits so many messages. `NoContender` where the contender is no board, there are not two receivers, or the size
-/// is no multiple of 8; `NoBoard` where there is no board of that capacity; `Refused` and `WrongMessage` where messages
-/// are lost.
-pub fn run_broadcast<R: Clock + Threads + Sync>(
+/// Transmits so many messages. `NO_CONTENDER` if the size is no multiple of 8; `NO_BUFFER` if there is no board of that
+/// capacity; `REFUSED` and `WRONG_MESSAGE` if messages are lost.
+pub fn run_broadcast<R: Clock + Threads + Sync + Wait>(
     rt: &R,
     alloc: Global,
     request: &Request,
     times: u64,
 ) -> Result<Sample, Fault> {
-    if request.contender != Contender::Board || request.threads != RECEIVERS {
-        return Err(Fault::NoContender);
-    }
-    let (board, mut transmitter) = Board::new(alloc, request.capacity).map_err(Fault::NoBoard)?;
-    let one = board.subscribe(alloc, &mut transmitter)?;
-    let two = board.subscribe(alloc, &mut transmitter)?;
     let body = Body::new(alloc, request.size)?;
-    let (gate, is_over) = (Gate::new(), AtomicBool::new(false));
-    let (board, gate, is_over) = (&board, &gate, &is_over);
-    let (nanos, heard) = join(
-        rt,
-        move || -> Result<u64, Fault>
-            requires { IsTransmitterOf board.now transmitter }
-        {
-            gate.wait_for(RECEIVERS);
-            let nanos = transmit_all(rt, board, transmitter, body, times);
-            is_over.store(true, Ordering::SeqCst);
-            nanos
-        },
-        move || -> Result<Heard, Fault>
-            requires { IsSync R.row × IsReceiverOf board.now one × IsReceiverOf board.now two }
-        { listen_two(rt, board, (one, two), gate, is_over, times) },
-    );
-    Ok(Sample::new(nanos?, times).with_heard(heard?))
+    let (board, mut transmitter) = Board::new(alloc, request.capacity)?;
+    let receivers = subscribe_all(alloc, &board, &mut transmitter, request.threads)?;
+    let sender = Sender {
+        board: &board,
+        transmitter,
+        body,
+    };
+    run_all(rt, sender, receivers, times)
 }

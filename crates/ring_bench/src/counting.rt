@@ -1,18 +1,18 @@
 //! Counters: set, read, allocated and freed by one thread.
 ghost use Rattle.std.specs.Prelude.{◌≡◌};
 ghost use Rattle.ring_counters.specs.Manager.{IsManagerOf};
+ghost use Rattle.ring_counters.specs.Seats.{IsReaderOf};
 
-use crate::entry::Contender;
 use crate::fault::Fault;
 use crate::job::Job;
-use crate::request::Request;
-use crate::sample::{Sample, nanos_since};
+use crate::sample::Sample;
+use crate::task::{Task, time};
 use crate::watching::run_watched;
-use ring_counters::{CounterValues, CountersManager};
+use ring_counters::{CounterValues, CountersManager, ValueReader};
 use std::alloc::Global;
 use std::rt::Clock;
+use std::sync::Wait;
 use std::thread::Threads;
-use std::time::Instant;
 
 /// The counters of a run.
 const COUNTERS: u32 = 4096;
@@ -28,165 +28,180 @@ fn scattered(step: u64) -> u32 {
     ((step.wrapping_mul(2_654_435_761) >> 7) % u64::from(COUNTERS)) as u32
 }
 
-/// Allocates a counter at a moment. The number is its key and its registration id.
-fn allocate(
-    values: &CounterValues,
-    counters: &mut CountersManager,
-    moment: u32,
-    number: u64,
-) -> Result<u32, Fault>
-    requires { IsManagerOf values.now counters.old }
-    ensures { IsManagerOf values.now counters.new }
-{
-    let key = number.to_le_bytes();
-    counters
-        .allocate(values, u64::from(moment), TYPE_ID, &key, LABEL, number)
-        .map_err(|_| Fault::Refused)
+/// Counters and their manager.
+#[derive(Drop)]
+struct Managed<'a> {
+    values: &'a CounterValues,
+    counters: CountersManager,
 }
 
-fn set(
-    values: &CounterValues,
-    counters: &mut CountersManager,
-    id: u32,
-    value: u64,
-) -> Result<(), Fault>
-    requires { IsManagerOf values.now counters.old }
-    ensures { IsManagerOf values.now counters.new }
-{
-    counters
-        .set(values, id, value.cast_signed())
-        .map_err(|_| Fault::Refused)
-}
-
-/// Allocates all counters.
-fn fill(values: &CounterValues, counters: &mut CountersManager) -> Result<(), Fault>
-    requires { IsManagerOf values.now counters.old }
-    ensures { IsManagerOf values.now counters.new }
-{
-    for id in 0..COUNTERS {
-        allocate(values, counters, 0, u64::from(id))?;
+impl<'a> Managed<'a> {
+    /// Allocates all counters at a moment.
+    fn fill(&mut self, moment: u32) -> Result<(), Fault>
+        requires { IsManagerOf self.old.values.now self.old.counters }
+        ensures counters { IsManagerOf self.new.values.now self.new.counters }
+        ensures values { self.new.values ≡ self.old.values }
+    {
+        for k in 0..COUNTERS {
+            let number = u64::from(moment) * u64::from(COUNTERS) + u64::from(k);
+            let key = number.to_le_bytes();
+            let moment = u64::from(moment);
+            let allocated = self
+                .counters
+                .allocate(self.values, moment, TYPE_ID, &key, LABEL, number);
+            if allocated.is_err() {
+                return Err(Fault::REFUSED);
+            }
+        }
+        Ok(())
     }
-    Ok(())
-}
 
-/// Sets each counter to its id.
-fn number_all(values: &CounterValues, counters: &mut CountersManager) -> Result<(), Fault>
-    requires { IsManagerOf values.now counters.old }
-    ensures { IsManagerOf values.now counters.new }
-{
-    for id in 0..COUNTERS {
-        set(values, counters, id, u64::from(id))?;
+    /// Frees all counters at a moment.
+    fn free_all(&mut self, moment: u32) -> Result<(), Fault>
+        requires { IsManagerOf self.old.values.now self.old.counters }
+        ensures { IsManagerOf self.new.values.now self.new.counters }
+    {
+        for id in 0..COUNTERS {
+            if self.counters.free(u64::from(moment), id).is_err() {
+                return Err(Fault::REFUSED);
+            }
+        }
+        Ok(())
     }
-    Ok(())
-}
 
-/// Sets counters, and gives the nanoseconds that it took.
-fn set_often<R: Clock>(
-    rt: &R,
-    values: &CounterValues,
-    counters: &mut CountersManager,
-    times: u64,
-) -> Result<u64, Fault>
-    requires { IsManagerOf values.now counters.old }
-{
-    let start = Instant::now(rt)?;
-    for step in 0..times {
-        set(values, counters, scattered(step), step)?;
+    fn set(&mut self, id: u32, value: u64) -> Result<(), Fault>
+        requires { IsManagerOf self.old.values.now self.old.counters }
+        ensures { IsManagerOf self.new.values.now self.new.counters }
+    {
+        self.counters
+            .set(self.values, id, value.cast_signed())
+            .or(Err(Fault::REFUSED))
     }
-    nanos_since(rt, start)
 }
 
-/// The sum of the values that so many steps read.
-fn sum_of(times: u64) -> u64 {
-    (0..times).fold(0, |sum: u64, step| {
-        sum.wrapping_add(u64::from(scattered(step)))
-    })
+/// Sets counters.
+#[derive(Drop)]
+struct Sets<'a>(Managed<'a>);
+
+impl<'a> Task for Sets<'a> {
+    ghost is_ready = { λ s. IsManagerOf s.0.values.now s.0.counters };
+
+    fn step(&mut self, number: u64) -> Result<(), Fault> {
+        self.0.set(scattered(number), number)
+    }
 }
 
-/// Reads counters after it set each to its id, and gives the nanoseconds that it took.
-fn get_often<R: Clock>(
-    rt: &R,
-    values: &CounterValues,
-    counters: &mut CountersManager,
-    times: u64,
-) -> Result<u64, Fault>
-    requires { IsManagerOf values.now counters.old }
-{
-    number_all(values, counters)?;
-    let mut reader = counters.reader(values)?;
-    let mut sum = 0u64;
-    let start = Instant::now(rt)?;
-    for step in 0..times {
-        match values.load(&mut reader, scattered(step)) {
-            Ok(value) => sum = sum.wrapping_add(value.cast_unsigned()),
-            Err(_bad_id) => return Err(Fault::Refused),
+/// Allocates all counters and frees them.
+#[derive(Drop)]
+struct Cycles<'a>(Managed<'a>);
+
+impl<'a> Task for Cycles<'a> {
+    ghost is_ready = { λ s. IsManagerOf s.0.values.now s.0.counters };
+
+    fn step(&mut self, number: u64) -> Result<(), Fault> {
+        let moment = u32::try_from(number).unwrap_or(u32::MAX);
+        self.0.fill(moment)?;
+        self.0.free_all(moment)
+    }
+}
+
+/// Reads counters.
+#[derive(Drop)]
+struct Gets<'a> {
+    values: &'a CounterValues,
+    reader: ValueReader,
+    sum: u64,
+}
+
+impl<'a> Task for Gets<'a> {
+    ghost is_ready = { λ s. IsReaderOf s.values.now s.reader };
+
+    fn step(&mut self, number: u64) -> Result<(), Fault> {
+        match self.values.load(&mut self.reader, scattered(number)) {
+            Ok(value) => {
+                self.sum = self.sum.wrapping_add(value.cast_unsigned());
+                Ok(())
+            }
+            Err(_bad_id) => Err(Fault::REFUSED),
         }
     }
-    let nanos = nanos_since(rt, start)?;
-    if sum == sum_of(times) {
+}
+
+/// The sum of the values that so many steps read, if each counter has its id.
+fn sum_of(times: u64) -> u64 {
+    let mut sum = 0u64;
+    for step in 0..times {
+        sum = sum.wrapping_add(u64::from(scattered(step)));
+    }
+    sum
+}
+
+/// Reads counters after it set each to its id, and returns the nanoseconds that this took.
+fn get_often<R: Clock>(rt: &R, mut managed: Managed<'_>, times: u64) -> Result<u64, Fault>
+    requires { IsManagerOf managed.values.now managed.counters }
+{
+    for id in 0..COUNTERS {
+        managed.set(id, u64::from(id))?;
+    }
+    let Managed {
+        values,
+        mut counters,
+    } = managed;
+    let reader = counters.reader(values)?;
+    let mut gets = Gets {
+        values,
+        reader,
+        sum: 0,
+    };
+    let nanos = time(rt, &mut gets, times)?;
+    if gets.sum == sum_of(times) {
         Ok(nanos)
     } else {
-        Err(Fault::WrongMessage)
+        Err(Fault::WRONG_MESSAGE)
     }
 }
 
-/// Allocates all counters at a moment, and frees them.
-fn cycle(values: &CounterValues, counters: &mut CountersManager, moment: u32) -> Result<(), Fault>
-    requires { IsManagerOf values.now counters.old }
-    ensures { IsManagerOf values.now counters.new }
+/// Allocates and frees all counters so often.
+fn cycle_often<R: Clock>(rt: &R, managed: Managed<'_>, rounds: u64) -> Result<Sample, Fault>
+    requires { IsManagerOf managed.values.now managed.counters }
 {
-    for k in 0..COUNTERS {
-        let number = u64::from(moment) * u64::from(COUNTERS) + u64::from(k);
-        allocate(values, counters, moment, number)?;
-    }
-    for id in 0..COUNTERS {
-        if counters.free(u64::from(moment), id).is_err() {
-            return Err(Fault::Refused);
-        }
-    }
-    Ok(())
+    let nanos = time(rt, &mut Cycles(managed), rounds)?;
+    Ok(Sample::new(nanos, rounds.wrapping_mul(u64::from(COUNTERS))))
 }
 
-/// Allocates and frees all counters so often, and gives the nanoseconds that it took.
-fn cycle_often<R: Clock>(
-    rt: &R,
-    values: &CounterValues,
-    counters: &mut CountersManager,
-    rounds: u32,
-) -> Result<u64, Fault>
-    requires { IsManagerOf values.now counters.old }
-{
-    let start = Instant::now(rt)?;
-    for moment in 0..rounds {
-        cycle(values, counters, moment)?;
-    }
-    nanos_since(rt, start)
-}
-
-/// Does so often, or some more, what the job says. `NoContender` where the contender is no counters, or the job is none
-/// of theirs; `Refused`, `Stuck` and `WrongMessage` where values are lost.
-pub fn run_counters<R: Clock + Threads + Sync>(
+/// Does a job with counters that are all in use.
+fn run_filled<R: Clock + Threads + Sync + Wait>(
     rt: &R,
     alloc: Global,
-    request: &Request,
+    managed: Managed<'_>,
+    job: Job,
+    times: u64,
+) -> Result<u64, Fault>
+    requires { IsManagerOf managed.values.now managed.counters }
+{
+    match job {
+        Job::Sets => time(rt, &mut Sets(managed), times),
+        Job::Gets => get_often(rt, managed, times),
+        _ => run_watched(rt, alloc, managed.values, managed.counters, times),
+    }
+}
+
+/// Does so often, or some more, what the job says. `REFUSED`, `STUCK` and `WRONG_MESSAGE` if values are lost.
+pub fn run_counters<R: Clock + Threads + Sync + Wait>(
+    rt: &R,
+    alloc: Global,
     job: Job,
     times: u64,
 ) -> Result<Sample, Fault> {
-    if request.contender != Contender::Counters {
-        return Err(Fault::NoContender);
-    }
-    let (values, mut counters) = CountersManager::new(alloc, COUNTERS, 0)?;
-    if job == Job::Cycles {
-        let rounds = u32::try_from(times.div_ceil(u64::from(COUNTERS))).unwrap_or(u32::MAX);
-        let nanos = cycle_often(rt, &values, &mut counters, rounds)?;
-        return Ok(Sample::new(nanos, u64::from(rounds) * u64::from(COUNTERS)));
-    }
-    fill(&values, &mut counters)?;
-    let nanos = match job {
-        Job::Sets => set_often(rt, &values, &mut counters, times),
-        Job::Gets => get_often(rt, &values, &mut counters, times),
-        Job::WatchedSets => run_watched(rt, &values, counters, times),
-        _ => Err(Fault::NoContender),
+    let (values, counters) = CountersManager::new(alloc, COUNTERS, 0)?;
+    let mut managed = Managed {
+        values: &values,
+        counters,
     };
-    Ok(Sample::new(nanos?, times))
+    if job == Job::Cycles {
+        return cycle_often(rt, managed, times.div_ceil(u64::from(COUNTERS)));
+    }
+    managed.fill(0)?;
+    let nanos = run_filled(rt, alloc, managed, job, times)?;
+    Ok(Sample::new(nanos, times))
 }

@@ -1,266 +1,240 @@
-//! Messages from one thread to another.
+//! Messages from producers to the consumer, each on a thread of its own.
+ghost use Rattle.std.specs.Prelude.{All, IfOk, IsTrue};
 ghost use Rattle.std.specs.Thread.{IsSync};
 ghost use Rattle.ring_rings.specs.Seats.{IsConsumerOf, IsProducerOf, MayClaim};
 
-use crate::entry::{Contender, Workload};
 use crate::fault::Fault;
-use crate::gate::Gate;
 use crate::message::{Body, TYPE_ID, Tally, first_word};
-use crate::request::Request;
+use crate::request::{Contender, Request, Workload};
 use crate::rest::{Rest, TRIES};
 use crate::sample::{Sample, nanos_since};
-use crate::shared::send;
-use ring_rings::{Consumer, Kind, ManyToOne, ManyToOneRing, OneToOne, Producer, Ring};
+use ring_rings::{
+    ClaimFault, Consumer, Kind, ManyToOne, ManyToOneRing, OneToOne, Producer, Ring, TryFault,
+};
 use std::alloc::Global;
+use std::hint::spin_loop;
 use std::rt::Clock;
-use std::thread::{Threads, join};
+use std::sync::{Barrier, Wait};
+use std::thread::{Threads, join, map_vec};
 use std::time::Instant;
 
 /// The messages that a read may take.
 const LIMIT: u32 = 64;
 
-/// What a producer sends, as soon as the gate is open.
+/// A producer, and what it sends.
 #[derive(Drop)]
-struct Load<'a> {
-    gate: &'a Gate,
+struct Load {
+    producer: Producer,
     body: Body,
     /// The number of the producer.
-    id: u64,
-    messages: u64,
+    id: u32,
 }
 
-impl<'a> Load<'a> {
-    fn new(
-        alloc: Global,
-        gate: &'a Gate,
-        size: usize,
-        id: u64,
-        messages: u64,
-    ) -> Result<Load<'a>, Fault> {
-        let body = Body::new(alloc, size)?;
-        Ok(Load {
-            gate,
-            body,
-            id,
-            messages,
-        })
+/// Writes a message, and waits while there is no room. `REFUSED` if such a message is never taken, `STUCK` if there was
+/// no room for a long time.
+fn send<K: Kind>(ring: &Ring<K>, producer: &mut Producer, body: &[u8]) -> Result<(), Fault>
+    requires producer { IsProducerOf ring.now producer.old }
+    requires sole { MayClaim K.is_for_one producer.old }
+    ensures producer { IsProducerOf ring.now producer.new }
+    ensures sole { MayClaim K.is_for_one producer.new }
+{
+    let mut rest = Rest::new();
+    for _ in 0..TRIES {
+        match K::write_once(ring, producer, TYPE_ID, body) {
+            Ok(()) => return Ok(()),
+            Err(TryFault::Refused(ClaimFault::InsufficientCapacity { .. })) => rest.wait(),
+            Err(TryFault::Refused(_)) => return Err(Fault::REFUSED),
+            Err(TryFault::Contended { .. }) => spin_loop(),
+        }
     }
+    Err(Fault::STUCK)
 }
 
 /// Sends all messages of a producer.
-fn produce<K: Kind>(ring: &Ring<K>, mut producer: Producer, load: Load<'_>) -> Result<(), Fault>
-    requires producer { IsProducerOf ring.now producer }
-    requires sole { MayClaim K.is_for_one producer }
+fn produce<K: Kind, R: Wait>(
+    rt: &R,
+    ring: &Ring<K>,
+    load: Load,
+    start: &Barrier,
+    messages: u64,
+) -> Result<(), Fault>
+    requires { IsProducerOf ring.now load.producer × MayClaim K.is_for_one load.producer }
 {
     let Load {
-        gate,
+        mut producer,
         mut body,
         id,
-        messages,
     } = load;
-    gate.enter();
+    start.wait(rt);
     for number in 0..messages {
-        let body = body.numbered(first_word(id, number));
-        send(ring, &mut producer, TYPE_ID, body)?;
+        send(
+            ring,
+            &mut producer,
+            body.numbered(first_word(u64::from(id), number)),
+        )?;
+    }
+    Ok(())
+}
+
+/// Sends all messages of all producers, each on a thread of its own.
+fn produce_all<K: Kind + Sync, R: Threads + Sync + Wait>(
+    rt: &R,
+    ring: &Ring<K>,
+    loads: Vec<Load>,
+    start: &Barrier,
+    messages: u64,
+) -> Result<(), Fault>
+    requires { All (λ load. IsProducerOf ring.now load.producer × MayClaim K.is_for_one load.producer) loads.items }
+{
+    let sent = map_vec(
+        rt,
+        loads,
+        &|load: Load| -> Result<(), Fault>
+            requires { IsProducerOf ring.now load.producer × MayClaim K.is_for_one load.producer }
+        { produce(rt, ring, load, start, messages) },
+    )?;
+    for result in sent.iter() {
+        (*result)?;
     }
     Ok(())
 }
 
 /// Reads until so many messages have come.
-fn take_all<K>(ring: &Ring<K>, mut consumer: Consumer, tally: &mut Tally, messages: u64)
+fn take_all<K>(ring: &Ring<K>, mut consumer: Consumer, messages: u64) -> Tally
     requires { IsConsumerOf ring.now consumer }
 {
+    let mut tally = Tally::new();
     let mut rest = Rest::new();
     for _ in 0..TRIES {
         if tally.count >= messages {
             break;
         }
-        if ring.read(&mut consumer, LIMIT, tally).messages > 0 {
+        if ring.read(&mut consumer, LIMIT, &mut tally).messages > 0 {
             rest.reset();
         } else {
             rest.wait();
         }
     }
+    tally
 }
 
-/// Opens the gate once the producers are there, and takes their messages.
-fn consume<R: Clock, K>(
+/// Takes all messages, and measures the time from when all threads are there.
+fn consume<K, R: Clock + Wait>(
     rt: &R,
     ring: &Ring<K>,
     consumer: Consumer,
-    gate: &Gate,
-    producers: u64,
+    start: &Barrier,
     messages: u64,
 ) -> Result<Sample, Fault>
     requires { IsConsumerOf ring.now consumer }
 {
-    gate.wait_for(producers);
-    let start = Instant::now(rt);
-    gate.open();
-    let mut tally = Tally::new();
-    take_all(ring, consumer, &mut tally, messages);
-    let nanos = nanos_since(rt, start?)?;
+    start.wait(rt);
+    let begin = Instant::now(rt)?;
+    let tally = take_all(ring, consumer, messages);
+    let nanos = nanos_since(rt, begin)?;
     tally.check(messages)?;
     Ok(Sample::new(nanos, messages))
 }
 
-/// One producer and the consumer.
-fn run_pair<R: Clock + Threads + Sync, K: Kind + Sync>(
+/// The producers, each of which sends so many messages, and the consumer.
+fn run_all<K: Kind + Sync, R: Clock + Threads + Sync + Wait>(
+    rt: &R,
+    ring: &Ring<K>,
+    loads: Vec<Load>,
+    consumer: Consumer,
+    messages: u64,
+) -> Result<Sample, Fault>
+    requires loads { All (λ load. IsProducerOf ring.now load.producer × MayClaim K.is_for_one load.producer)
+        loads.items }
+    requires consumer { IsConsumerOf ring.now consumer }
+{
+    let producers = loads.len();
+    let all = messages.wrapping_mul(producers as u64);
+    let start = Barrier::new(producers.saturating_add(1));
+    let start = &start;
+    let (sent, sample) = join(
+        rt,
+        move || -> Result<(), Fault>
+            requires { IsSync R.row × All (λ load. IsProducerOf ring.now load.producer
+                × MayClaim K.is_for_one load.producer) loads.items }
+        { produce_all(rt, ring, loads, start, messages) },
+        move || -> Result<Sample, Fault>
+            requires { IsConsumerOf ring.now consumer }
+        { consume(rt, ring, consumer, start, all) },
+    );
+    sent.and(sample)
+}
+
+/// Splits off a producer for each load, one less than there are producers.
+fn loads_of(
+    alloc: Global,
+    ring: &ManyToOneRing,
+    mut producer: Producer,
+    size: usize,
+    producers: u32,
+) -> Result<Vec<Load>, Fault>
+    requires { IsProducerOf ring.now producer }
+    ensures { IfOk result (λ loads. All (λ load. IsProducerOf ring.now load.producer) loads.items) }
+{
+    let mut loads = Vec::new(alloc);
+    for id in 1..producers {
+        let body = Body::new(alloc, size)?;
+        let producer = ring.split(&mut producer)?;
+        loads.push(Load { producer, body, id })?;
+    }
+    let body = Body::new(alloc, size)?;
+    let id = 0;
+    loads.push(Load { producer, body, id })?;
+    Ok(loads)
+}
+
+/// One producer and the consumer of a ring of one producer.
+fn run_one_to_one<R: Clock + Threads + Sync + Wait>(
     rt: &R,
     alloc: Global,
     request: &Request,
     messages: u64,
 ) -> Result<Sample, Fault> {
-    let (ring, producer, consumer) = Ring::<K>::new(alloc, request.capacity)?;
-    let gate = Gate::new();
-    let load = Load::new(alloc, &gate, request.size, 0, messages)?;
-    let (ring, gate) = (&ring, &gate);
-    let (sent, sample) = join(
-        rt,
-        move || -> Result<(), Fault>
-            requires producer { IsProducerOf ring.now producer }
-            requires sole { MayClaim K.is_for_one producer }
-        { produce(ring, producer, load) },
-        move || -> Result<Sample, Fault>
-            requires { IsConsumerOf ring.now consumer }
-        { consume(rt, ring, consumer, gate, 1, messages) },
-    );
-    sent?;
-    sample
+    let body = Body::new(alloc, request.size)?;
+    let (ring, producer, consumer) = Ring::<OneToOne>::new(alloc, request.capacity)?;
+    let load = Load {
+        producer,
+        body,
+        id: 0,
+    };
+    let loads = vec![in alloc; load]?;
+    run_all(rt, &ring, loads, consumer, messages)
 }
 
-/// Two producers, each on a thread of its own.
-fn produce_two<R: Threads + Sync>(
-    rt: &R,
-    ring: &ManyToOneRing,
-    producers: (Producer, Producer),
-    loads: (Load<'_>, Load<'_>),
-) -> Result<(), Fault>
-    requires { IsProducerOf ring.now producers.0 × IsProducerOf ring.now producers.1 }
-{
-    let (one, two) = producers;
-    let (first, second) = loads;
-    let (first, second) = join(
-        rt,
-        move || -> Result<(), Fault>
-            requires { IsProducerOf ring.now one }
-        { produce(ring, one, first) },
-        move || -> Result<(), Fault>
-            requires { IsProducerOf ring.now two }
-        { produce(ring, two, second) },
-    );
-    first?;
-    second
-}
-
-/// Four producers, each on a thread of its own.
-fn produce_four<R: Threads + Sync>(
-    rt: &R,
-    ring: &ManyToOneRing,
-    producers: ((Producer, Producer), (Producer, Producer)),
-    loads: ((Load<'_>, Load<'_>), (Load<'_>, Load<'_>)),
-) -> Result<(), Fault>
-    requires first { IsProducerOf ring.now producers.0.0 × IsProducerOf ring.now producers.0.1 }
-    requires last { IsProducerOf ring.now producers.1.0 × IsProducerOf ring.now producers.1.1 }
-{
-    let (first, last) = producers;
-    let (first_loads, last_loads) = loads;
-    let (first, last) = join(
-        rt,
-        move || -> Result<(), Fault>
-            requires { IsSync R.row × IsProducerOf ring.now first.0 × IsProducerOf ring.now first.1 }
-        { produce_two(rt, ring, first, first_loads) },
-        move || -> Result<(), Fault>
-            requires { IsSync R.row × IsProducerOf ring.now last.0 × IsProducerOf ring.now last.1 }
-        { produce_two(rt, ring, last, last_loads) },
-    );
-    first?;
-    last
-}
-
-/// Two producers and the consumer.
-fn run_three<R: Clock + Threads + Sync>(
+/// Some producers and the consumer of a ring of many producers.
+fn run_many_to_one<R: Clock + Threads + Sync + Wait>(
     rt: &R,
     alloc: Global,
     request: &Request,
-    each: u64,
+    messages: u64,
+    producers: u32,
 ) -> Result<Sample, Fault> {
-    let (ring, mut one, consumer) = ManyToOneRing::new(alloc, request.capacity)?;
-    let two = ring.split(&mut one)?;
-    let gate = Gate::new();
-    let first = Load::new(alloc, &gate, request.size, 0, each)?;
-    let second = Load::new(alloc, &gate, request.size, 1, each)?;
-    let (ring, gate) = (&ring, &gate);
-    let (sent, sample) = join(
-        rt,
-        move || -> Result<(), Fault>
-            requires { IsSync R.row × IsProducerOf ring.now one × IsProducerOf ring.now two }
-        { produce_two(rt, ring, (one, two), (first, second)) },
-        move || -> Result<Sample, Fault>
-            requires { IsConsumerOf ring.now consumer }
-        { consume(rt, ring, consumer, gate, 2, each.saturating_mul(2)) },
-    );
-    sent?;
-    sample
+    let (ring, producer, consumer) = ManyToOneRing::new(alloc, request.capacity)?;
+    let loads = loads_of(alloc, &ring, producer, request.size, producers)?;
+    run_all(rt, &ring, loads, consumer, messages)
 }
 
-/// Four producers and the consumer.
-fn run_five<R: Clock + Threads + Sync>(
-    rt: &R,
-    alloc: Global,
-    request: &Request,
-    each: u64,
-) -> Result<Sample, Fault> {
-    let (ring, mut one, consumer) = ManyToOneRing::new(alloc, request.capacity)?;
-    let two = ring.split(&mut one)?;
-    let three = ring.split(&mut one)?;
-    let four = ring.split(&mut one)?;
-    let gate = Gate::new();
-    let first = Load::new(alloc, &gate, request.size, 0, each)?;
-    let second = Load::new(alloc, &gate, request.size, 1, each)?;
-    let third = Load::new(alloc, &gate, request.size, 2, each)?;
-    let fourth = Load::new(alloc, &gate, request.size, 3, each)?;
-    let (ring, gate) = (&ring, &gate);
-    let (sent, sample) = join(
-        rt,
-        move || -> Result<(), Fault>
-            requires sync { IsSync R.row }
-            requires first { IsProducerOf ring.now one × IsProducerOf ring.now two }
-            requires last { IsProducerOf ring.now three × IsProducerOf ring.now four }
-        {
-            produce_four(
-                rt,
-                ring,
-                ((one, two), (three, four)),
-                ((first, second), (third, fourth)),
-            )
-        },
-        move || -> Result<Sample, Fault>
-            requires { IsConsumerOf ring.now consumer }
-        { consume(rt, ring, consumer, gate, 4, each.saturating_mul(4)) },
-    );
-    sent?;
-    sample
-}
-
-/// Sends so many messages, or some more, from the producers to the consumer. `NoContender` where no such ring takes
-/// part with so many producers, or the size is no multiple of 8; `NoRing` where there is no ring of that capacity;
-/// `Refused`, `Stuck` and `WrongMessage` where messages are lost.
-pub fn run_flow<R: Clock + Threads + Sync>(
+/// Sends so many messages, or some more, from the producers to the consumer. `NO_CONTENDER` if no such ring takes part
+/// with so many producers, or the size is no multiple of 8; `NO_BUFFER` if there is no ring of that capacity;
+/// `REFUSED`, `STUCK` and `WRONG_MESSAGE` if messages are lost.
+pub fn run_flow<R: Clock + Threads + Sync + Wait>(
     rt: &R,
     alloc: Global,
     request: &Request,
     times: u64,
 ) -> Result<Sample, Fault> {
     match (request.workload, request.contender, request.threads) {
-        (Workload::Pair, Contender::OneToOne, _) => {
-            run_pair::<R, OneToOne>(rt, alloc, request, times)
+        (Workload::Pair, Contender::OneToOne, _) => run_one_to_one(rt, alloc, request, times),
+        (Workload::Pair, _, _) => run_many_to_one(rt, alloc, request, times, 1),
+        (_, _, producers @ 1..=64) => {
+            let each = (times / u64::from(producers)).saturating_add(1);
+            run_many_to_one(rt, alloc, request, each, producers)
         }
-        (Workload::Pair, Contender::ManyToOne, _) => {
-            run_pair::<R, ManyToOne>(rt, alloc, request, times)
-        }
-        (Workload::Crowd, Contender::ManyToOne, 2) => run_three(rt, alloc, request, times / 2 + 1),
-        (Workload::Crowd, Contender::ManyToOne, 4) => run_five(rt, alloc, request, times / 4 + 1),
-        _ => Err(Fault::NoContender),
+        _ => Err(Fault::NO_CONTENDER),
     }
 }

@@ -1,7 +1,7 @@
 //! What one run of a measurement does.
 
 /// What is done over and over for as long as is measured.
-#[derive(Clone, Copy, Debug, PartialEq, Eq)]
+#[derive(Clone, Copy, PartialEq, Eq)]
 pub enum Job {
     /// A message is written and read by one thread.
     Batches,
@@ -36,24 +36,15 @@ impl Job {
         }
     }
 
-    /// How often a run does it at least.
-    pub fn least(self) -> u64 {
+    /// How often a run does it at least and at most.
+    pub fn limits(self) -> (u64, u64) {
         match self {
-            Job::Batches | Job::Flow | Job::Broadcast => 2_000,
-            Job::Trips => 500,
-            Job::Sets | Job::Gets | Job::Cycles | Job::WatchedSets => 4_096,
-            Job::Storm => 50,
-        }
-    }
-
-    /// How often a run does it at most.
-    pub fn most(self) -> u64 {
-        match self {
-            Job::Batches | Job::Flow | Job::Broadcast | Job::WatchedSets => 50_000_000,
-            Job::Trips => 1_000_000,
-            Job::Sets | Job::Gets => 100_000_000,
-            Job::Cycles => 10_000_000,
-            Job::Storm => 10_000,
+            Job::Batches | Job::Flow | Job::Broadcast => (2_000, 50_000_000),
+            Job::Trips => (500, 1_000_000),
+            Job::Sets | Job::Gets => (4_096, 100_000_000),
+            Job::Cycles => (4_096, 10_000_000),
+            Job::WatchedSets => (4_096, 50_000_000),
+            Job::Storm => (50, 10_000),
         }
     }
 }

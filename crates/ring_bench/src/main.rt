@@ -6,26 +6,21 @@
 mod batches;
 mod broadcast;
 mod counting;
-mod decimal;
-mod entry;
 mod fault;
 mod flow;
-mod gate;
 mod job;
 mod measuring;
 mod message;
 mod request;
 mod rest;
 mod sample;
-mod shared;
 mod storm;
+mod task;
 mod trips;
 mod watching;
 
-use entry::ENTRIES;
-use fault::Fault;
 use measuring::Measurer;
-use request::Request;
+use request::ENTRIES;
 use std::io;
 
 fn main(rt: HostRuntime) -> io::Result<()> {
@@ -38,7 +33,7 @@ fn main(rt: HostRuntime) -> io::Result<()> {
             ["list"] => list(&rt)?,
             ["run", rest @ ..] => {
                 if let Err(fault) = measurer.answer(&rt, rest) {
-                    println!(rt; "error {fault}")?;
+                    println!(rt; "error {}", fault.0)?;
                 }
             }
             _ => {}

@@ -15,7 +15,7 @@ use std::sync::Wait;
 use std::thread::Threads;
 
 /// How often a job fills the time of a request.
-#[derive(Clone, Copy, Debug)]
+#[derive(Clone, Copy)]
 struct Found {
     request: Request,
     job: Job,
@@ -35,6 +35,50 @@ const TRIES: u32 = 8;
 /// The greatest step from one try to the next.
 const MOST_GROWTH: u64 = 64;
 
+/// Runs a job so many times.
+fn run<R: Clock + Threads + Sync + Wait>(
+    rt: &R,
+    alloc: Global,
+    request: &Request,
+    job: Job,
+    times: u64,
+) -> Result<Sample, Fault> {
+    match job {
+        Job::Batches => run_batches(rt, alloc, request, times),
+        Job::Trips => run_trips(rt, alloc, request, times),
+        Job::Flow => run_flow(rt, alloc, request, times),
+        Job::Broadcast => run_broadcast(rt, alloc, request, times),
+        Job::Sets | Job::Gets | Job::Cycles | Job::WatchedSets => run_counters(
+            rt, alloc, job, times,
+        ),
+        Job::Storm => run_storm(rt, alloc, request, times),
+    }
+}
+
+/// Runs a job more and more often, until it takes about as long as is asked for, and returns how often that is.
+fn fill<R: Clock + Threads + Sync + Wait>(
+    rt: &R,
+    alloc: Global,
+    request: &Request,
+    job: Job,
+) -> Result<u64, Fault> {
+    let wanted = request.milliseconds.clamp(1, 1000) * 1_000_000;
+    let (least, most) = job.limits();
+    let mut times = least;
+    for _ in 0..TRIES {
+        let nanos = run(rt, alloc, request, job, times)?.nanos;
+        let grown = times.saturating_mul(wanted) / nanos.max(1);
+        times = grown
+            .min(times.saturating_mul(MOST_GROWTH))
+            .max(least)
+            .min(most);
+        if nanos > wanted / 4 || times == most {
+            break;
+        }
+    }
+    Ok(times)
+}
+
 impl Measurer {
     pub fn new(alloc: Global) -> Measurer {
         Measurer {
@@ -43,80 +87,28 @@ impl Measurer {
         }
     }
 
-    /// How often a job fills the time of a request, as far as it is known.
-    fn known(&self, request: &Request, job: Job) -> Option<u64> {
-        self.found
-            .iter()
-            .find(|it| it.request == *request && it.job == job)
-            .map(|it| it.times)
-    }
-
-    /// Runs a job more and more often, until it takes about as long as is asked for.
-    fn fill<R: Clock + Threads + Sync + Wait>(
-        &self,
-        rt: &R,
-        request: &Request,
-        job: Job,
-    ) -> Result<u64, Fault> {
-        let wanted = request.milliseconds.clamp(1, 1000) * 1_000_000;
-        let mut times = job.least();
-        for _ in 0..TRIES {
-            let sample = self.run(rt, request, job, times)?;
-            let grown = times.saturating_mul(wanted) / sample.nanos.max(1);
-            times = grown
-                .min(times.saturating_mul(MOST_GROWTH))
-                .max(job.least())
-                .min(job.most());
-            if sample.nanos > wanted / 4 || times == job.most() {
-                break;
-            }
-        }
-        Ok(times)
-    }
-
-    /// Runs a job so many times.
-    fn run<R: Clock + Threads + Sync + Wait>(
-        &self,
-        rt: &R,
-        request: &Request,
-        job: Job,
-        times: u64,
-    ) -> Result<Sample, Fault> {
-        match job {
-            Job::Batches => run_batches(rt, self.alloc, request, times),
-            Job::Trips => run_trips(rt, self.alloc, request, times),
-            Job::Flow => run_flow(rt, self.alloc, request, times),
-            Job::Broadcast => run_broadcast(rt, self.alloc, request, times),
-            Job::Sets | Job::Gets | Job::Cycles | Job::WatchedSets => {
-                run_counters(rt, self.alloc, request, job, times)
-            }
-            Job::Storm => run_storm(rt, self.alloc, request, times),
-        }
-    }
-
-    /// Measures a job once.
-    fn measure<R: Clock + Threads + Sync + Wait>(
+    /// How often a job fills the time of a request. It is found out once.
+    fn times<R: Clock + Threads + Sync + Wait>(
         &mut self,
         rt: &R,
         request: &Request,
         job: Job,
-    ) -> Result<Sample, Fault> {
-        let times = match self.known(request, job) {
-            Some(times) => times,
-            None => {
-                let times = self.fill(rt, request, job)?;
-                self.found.push(Found {
-                    request: *request,
-                    job,
-                    times,
-                })?;
-                times
+    ) -> Result<u64, Fault> {
+        for it in self.found.iter() {
+            if it.request == *request && it.job == job {
+                return Ok(it.times);
             }
-        };
-        self.run(rt, request, job, times)
+        }
+        let times = fill(rt, self.alloc, request, job)?;
+        self.found.push(Found {
+            request: *request,
+            job,
+            times,
+        })?;
+        Ok(times)
     }
 
-    /// Answers a request, of which these are the words behind `run`.
+    /// Answers a request, of which these are the words after `run`.
     pub fn answer<R: Clock + Print + Threads + Sync + Wait>(
         &mut self,
         rt: &R,
@@ -124,7 +116,8 @@ impl Measurer {
     ) -> Result<(), Fault> {
         let request = Request::parse(words)?;
         for job in request.workload.jobs() {
-            let sample = self.measure(rt, &request, *job)?;
+            let times = self.times(rt, &request, *job)?;
+            let sample = run(rt, self.alloc, &request, *job, times)?;
             sample.print(rt, job.metric())?;
         }
         Ok(())

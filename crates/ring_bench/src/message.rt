@@ -3,8 +3,9 @@ ghost use Rattle.std.specs.Prelude.{◌≡◌};
 ghost use Rattle.ring_words.specs.declared.read.action.Action.TheVariants.{Continue};
 
 use crate::fault::Fault;
+use ring_layout::put_part;
 use ring_rings::{Action, Handler};
-use std::alloc::{AllocError, Global};
+use std::alloc::Global;
 
 /// The type id of all messages.
 pub const TYPE_ID: i32 = 1;
@@ -12,7 +13,7 @@ pub const TYPE_ID: i32 = 1;
 /// The bytes of a word.
 const WORD: usize = 8;
 
-/// What a body has behind its first word.
+/// What a body has after its first word.
 const FILL: u64 = 0x0707_0707_0707_0707;
 
 /// A body to be sent. Its first word is a number.
@@ -22,10 +23,10 @@ pub struct Body {
 }
 
 impl Body {
-    /// A body of so many bytes. `NoContender` where that is no multiple of 8, or 0.
+    /// A body of so many bytes. `NO_CONTENDER` if that is no multiple of 8, or 0.
     pub fn new(alloc: Global, size: usize) -> Result<Body, Fault> {
         if size < WORD || size % WORD != 0 {
-            return Err(Fault::NoContender);
+            return Err(Fault::NO_CONTENDER);
         }
         let bytes = vec![in alloc; 7u8; size]?;
         Ok(Body { bytes })
@@ -45,14 +46,12 @@ impl Body {
 
     /// The bytes, with this number in front.
     pub fn numbered(&mut self, number: u64) -> &[u8] {
-        if let Some(first) = self.bytes.first_chunk_mut::<WORD>() {
-            *first = number.to_le_bytes();
-        }
+        put_part(self.bytes.as_mut_slice(), 0, number);
         self.bytes.as_slice()
     }
 }
 
-/// The first word of a body, and what its last word has that it should not; `None` where it has no words.
+/// The first word of a body, and what its last word has that it should not; `None` if it has no words.
 pub fn look(body: &[u8]) -> Option<(u64, u64)> {
     let first = u64::from_le_bytes(*body.first_chunk::<WORD>()?);
     if body.len() == WORD {
@@ -63,7 +62,7 @@ pub fn look(body: &[u8]) -> Option<(u64, u64)> {
 }
 
 /// Adds up the numbers of the messages that come.
-#[derive(Clone, Copy, Debug)]
+#[derive(Clone, Copy)]
 pub struct Sum {
     pub count: u64,
     total: u64,
@@ -79,13 +78,13 @@ impl Sum {
         }
     }
 
-    /// `WrongMessage` where not the messages with the numbers below `count` came, each once.
+    /// `WRONG_MESSAGE` unless the messages with the numbers below `count` came, each once.
     pub fn check(&self, count: u64) -> Result<(), Fault> {
         let pairs = count.wrapping_mul(count.wrapping_sub(1)) / 2;
         if self.count == count && self.total == pairs && self.stray == 0 {
             Ok(())
         } else {
-            Err(Fault::WrongMessage)
+            Err(Fault::WRONG_MESSAGE)
         }
     }
 }
@@ -103,7 +102,7 @@ impl Handler for Sum {
 }
 
 /// The producers that a tally knows.
-pub const PRODUCERS: usize = 4;
+pub const PRODUCERS: usize = 64;
 
 /// The bits of a number of a message. The ones above them are its producer.
 const NUMBER_BITS: u32 = 48;
@@ -114,7 +113,7 @@ pub fn first_word(producer: u64, number: u64) -> u64 {
 }
 
 /// Follows the messages that come from each producer.
-#[derive(Clone, Copy, Debug)]
+#[derive(Clone, Copy)]
 pub struct Tally {
     pub count: u64,
     next: [u64; PRODUCERS],
@@ -130,12 +129,12 @@ impl Tally {
         }
     }
 
-    /// `WrongMessage` where a message came out of turn, or not so many came.
+    /// `WRONG_MESSAGE` if a message came out of turn, or not so many came.
     pub fn check(&self, count: u64) -> Result<(), Fault> {
         if self.count == count && self.stray == 0 {
             Ok(())
         } else {
-            Err(Fault::WrongMessage)
+            Err(Fault::WRONG_MESSAGE)
         }
     }
 }

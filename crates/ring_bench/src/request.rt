@@ -1,9 +1,107 @@
 //! What is asked for: a contender in a workload, and the sizes.
-use crate::entry::{Contender, ENTRIES, Workload};
 use crate::fault::Fault;
+use crate::job::Job;
+
+/// What is measured.
+#[derive(Clone, Copy, PartialEq, Eq)]
+pub enum Workload {
+    /// One thread writes a batch of messages and reads it.
+    Batches,
+    /// The same with bodies of which every other word is 0.
+    Sparse,
+    /// One producer and one consumer, each on a thread.
+    Pair,
+    /// Several producers and one consumer, each on a thread.
+    Crowd,
+    /// A client sends commands, one after another, and waits for each reply of a conductor on another thread.
+    Trips,
+    /// One transmitter and its receivers, each on a thread.
+    Broadcast,
+    /// Counters are set, read, allocated and freed.
+    Counters,
+    /// Clients send commands to a conductor, all on threads of their own, and each waits for every reply.
+    Storm,
+}
+
+impl Workload {
+    /// Its name in requests.
+    pub fn name(self) -> &'static str {
+        match self {
+            Workload::Batches => "W1",
+            Workload::Sparse => "sparse",
+            Workload::Pair => "W2",
+            Workload::Crowd => "W3",
+            Workload::Trips => "W4",
+            Workload::Broadcast => "W5",
+            Workload::Counters => "W6",
+            Workload::Storm => "W7",
+        }
+    }
+
+    /// What is run for it, one after another.
+    pub fn jobs(self) -> &'static [Job] {
+        match self {
+            Workload::Batches | Workload::Sparse => &[Job::Batches],
+            Workload::Pair | Workload::Crowd => &[Job::Flow],
+            Workload::Trips => &[Job::Trips],
+            Workload::Broadcast => &[Job::Broadcast],
+            Workload::Counters => &[Job::Sets, Job::Gets, Job::Cycles, Job::WatchedSets],
+            Workload::Storm => &[Job::Storm],
+        }
+    }
+}
+
+/// What is compared with others.
+#[derive(Clone, Copy, PartialEq, Eq)]
+pub enum Contender {
+    /// The ring of one owner.
+    Solo,
+    /// The ring of one producer.
+    OneToOne,
+    /// The ring of many producers.
+    ManyToOne,
+    /// The broadcast buffer.
+    Board,
+    /// Counters and their manager.
+    Counters,
+    /// Clients and a conductor, with all that they share.
+    Storm,
+}
+
+impl Contender {
+    /// Its name in requests.
+    pub fn name(self) -> &'static str {
+        match self {
+            Contender::Solo => "ours-solo",
+            Contender::OneToOne => "ours-o2o",
+            Contender::ManyToOne => "ours-m2o",
+            Contender::Board => "ours-board",
+            Contender::Counters => "ours-counters",
+            Contender::Storm => "ours-storm",
+        }
+    }
+}
+
+/// Who takes part in which workload.
+pub const ENTRIES: [(Workload, Contender); 14] = [
+    (Workload::Batches, Contender::Solo),
+    (Workload::Batches, Contender::OneToOne),
+    (Workload::Batches, Contender::ManyToOne),
+    (Workload::Sparse, Contender::Solo),
+    (Workload::Sparse, Contender::OneToOne),
+    (Workload::Sparse, Contender::ManyToOne),
+    (Workload::Pair, Contender::OneToOne),
+    (Workload::Pair, Contender::ManyToOne),
+    (Workload::Crowd, Contender::ManyToOne),
+    (Workload::Trips, Contender::OneToOne),
+    (Workload::Trips, Contender::ManyToOne),
+    (Workload::Broadcast, Contender::Board),
+    (Workload::Counters, Contender::Counters),
+    (Workload::Storm, Contender::Storm),
+];
 
 /// A request for one measurement.
-#[derive(Clone, Copy, Debug, PartialEq, Eq)]
+#[derive(Clone, Copy, PartialEq, Eq)]
 pub struct Request {
     pub workload: Workload,
     pub contender: Contender,
@@ -12,38 +110,44 @@ pub struct Request {
     /// The bytes of a buffer.
     pub capacity: u32,
     /// Producers, receivers or clients.
-    pub threads: u64,
+    pub threads: u32,
     /// For about how long to measure.
     pub milliseconds: u64,
 }
 
 /// The entry with these names.
-fn find_entry(workload: &str, contender: &str) -> Option<(Workload, Contender)> {
-    ENTRIES
-        .iter()
-        .copied()
-        .find(|(w, c)| w.name() == workload && c.name() == contender)
+fn find_entry(workload: &str, contender: &str) -> Result<(Workload, Contender), Fault> {
+    for (w, c) in ENTRIES {
+        if w.name() == workload && c.name() == contender {
+            return Ok((w, c));
+        }
+    }
+    Err(Fault::NO_CONTENDER)
 }
 
 /// The number that a word spells; of one with a fraction the whole part.
-fn number(word: &str) -> Result<u64, Fault> {
+fn number<T: TryFrom<u64> + Drop>(word: &str) -> Result<T, Fault>
+where
+    T::Error: Drop,
+{
     let whole = word.split('.').next().unwrap_or(word);
-    whole.parse().map_err(|_| Fault::BadRequest)
+    let number: u64 = whole.parse().or(Err(Fault::BAD_REQUEST))?;
+    T::try_from(number).or(Err(Fault::BAD_REQUEST))
 }
 
 impl Request {
-    /// Reads the words behind `run`. `BadRequest` where one is missing or no number, and `NoContender` where there is
-    /// no entry with these names.
+    /// Reads the words after `run`. `BAD_REQUEST` if one is missing or not a number, and `NO_CONTENDER` if there is no
+    /// entry with these names.
     pub fn parse(words: &[&str]) -> Result<Request, Fault> {
         let [workload, contender, size, capacity, threads, milliseconds] = words else {
-            return Err(Fault::BadRequest);
+            return Err(Fault::BAD_REQUEST);
         };
-        let (workload, contender) = find_entry(workload, contender).ok_or(Fault::NoContender)?;
+        let (workload, contender) = find_entry(workload, contender)?;
         Ok(Request {
             workload,
             contender,
-            size: usize::try_from(number(size)?).map_err(|_| Fault::BadRequest)?,
-            capacity: u32::try_from(number(capacity)?).map_err(|_| Fault::BadRequest)?,
+            size: number(size)?,
+            capacity: number(capacity)?,
             threads: number(threads)?,
             milliseconds: number(milliseconds)?,
         })

@@ -1,4 +1,4 @@
-//! Waiting.
+//! Waiting, as the workers in other languages wait.
 use std::hint::spin_loop;
 use std::thread::yield_now;
 
@@ -8,8 +8,9 @@ const SPINS: u32 = 64;
 /// How often one thread tries before it takes the others for stopped.
 pub const TRIES: u64 = 1_000_000_000;
 
-/// Waits between tries: the first ones are short, and then the processor is given away.
-#[derive(Clone, Copy, Debug)]
+/// Waits between tries. The first waits are one pause each, so that what comes is seen at once; later ones give the
+/// processor away. (`Backoff` pauses longer and longer, and the workers that this is compared with do not.)
+#[derive(Clone, Copy)]
 pub struct Rest {
     turns: u32,
 }

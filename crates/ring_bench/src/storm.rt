@@ -1,9 +1,8 @@
 //! Clients, each on a thread, that send commands to one conductor and wait for every reply.
-use crate::entry::Contender;
 use crate::fault::Fault;
 use crate::request::Request;
 use crate::rest::TRIES;
-use crate::sample::{Sample, nanos_since};
+use crate::sample::{Detail, Sample, nanos_since};
 use ring_conductor::{Gate, StormPlan, StormReport, storm};
 use std::alloc::Global;
 use std::rt::Clock;
@@ -24,7 +23,7 @@ struct Timed<'a, R> {
 }
 
 impl<R: Clock> Timed<'_, R> {
-    /// The nanoseconds since it was made, very many where the clock cannot be read.
+    /// The nanoseconds since it was made, very many if the clock cannot be read.
     fn nanos(&self) -> u64 {
         nanos_since(self.rt, self.made).unwrap_or(u64::MAX)
     }
@@ -49,22 +48,12 @@ impl<R: Clock> Gate for Timed<'_, R> {
     }
 }
 
-/// The plan of a request, in which each client sends so many commands. What is too large for it stays too large.
-fn plan_of(request: &Request, commands: u64) -> StormPlan {
-    StormPlan {
-        clients: u32::try_from(request.threads).unwrap_or(u32::MAX),
-        commands: u32::try_from(commands).unwrap_or(u32::MAX),
-        ring: request.capacity,
-        turns: TRIES,
-    }
-}
-
 /// How many commands all clients of a plan send.
 fn all_commands(plan: &StormPlan) -> u64 {
     u64::from(plan.clients).wrapping_mul(u64::from(plan.commands))
 }
 
-/// `WrongMessage` where not each command came and was answered, or a counter has not its client's last value.
+/// `WRONG_MESSAGE` unless each command came and was answered, and each counter has its client's last value.
 fn check(plan: &StormPlan, report: &StormReport) -> Result<(), Fault> {
     let all = all_commands(plan);
     // The first command of a client sets nothing.
@@ -79,25 +68,42 @@ fn check(plan: &StormPlan, report: &StormReport) -> Result<(), Fault> {
     if *report == wanted {
         Ok(())
     } else {
-        Err(Fault::WrongMessage)
+        Err(Fault::WRONG_MESSAGE)
+    }
+}
+
+impl<R: Clock> Timed<'_, R> {
+    /// The sample of a storm that took so many nanoseconds from its call to its return.
+    fn sample(&self, whole: u64) -> Result<Sample, Fault> {
+        let began = self.began.load(Ordering::SeqCst);
+        let ended = self.ended.load(Ordering::SeqCst);
+        if began > ended || ended > whole {
+            return Err(Fault::NO_SYSTEM);
+        }
+        Ok(Sample {
+            nanos: ended - began,
+            times: all_commands(&self.plan),
+            detail: Detail::Whole(whole),
+        })
     }
 }
 
 /// Runs a storm in which each client sends so many commands. Its time runs from the start of the first thread until the
 /// last reply has come, as that of the twins nearly does; the time of the whole call, in which all is made, joined and
-/// taken apart, stands beside it. `NoContender` where the contender is no storm; `NoStorm` where its numbers are not
-/// allowed, memory or a thread is wanting, or nothing came for a long time; `WrongMessage` where commands or replies
-/// are lost; `NoSystem` where the clock cannot be read.
+/// taken apart, is its detail. `NO_STORM` if its numbers are not allowed, memory or a thread is missing, or nothing came
+/// for a long time; `WRONG_MESSAGE` if commands or replies are lost; `NO_SYSTEM` if the clock cannot be read.
 pub fn run_storm<R: Clock + Threads + Sync + Wait>(
     rt: &R,
     alloc: Global,
     request: &Request,
     times: u64,
 ) -> Result<Sample, Fault> {
-    if request.contender != Contender::Storm {
-        return Err(Fault::NoContender);
-    }
-    let plan = plan_of(request, times);
+    let plan = StormPlan {
+        clients: request.threads,
+        commands: u32::try_from(times).unwrap_or(u32::MAX),
+        ring: request.capacity,
+        turns: TRIES,
+    };
     let gate = Timed {
         rt,
         plan,
@@ -108,12 +114,5 @@ pub fn run_storm<R: Clock + Threads + Sync + Wait>(
     let report = storm(rt, alloc, &plan, &gate)?;
     let whole = nanos_since(rt, gate.made)?;
     check(&plan, &report)?;
-    let (began, ended) = (
-        gate.began.load(Ordering::SeqCst),
-        gate.ended.load(Ordering::SeqCst),
-    );
-    if began > ended || ended > whole {
-        return Err(Fault::NoSystem);
-    }
-    Ok(Sample::new(ended.saturating_sub(began), all_commands(&plan)).with_whole(whole))
+    gate.sample(whole)
 }

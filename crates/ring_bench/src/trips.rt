@@ -1,15 +1,15 @@
 //! Commands to the conductor, and its replies.
-ghost use Rattle.std.specs.Prelude.{◌≡◌};
+ghost use Rattle.std.specs.Prelude.{◌≡◌, IfOk};
 ghost use Rattle.ring_rings.specs.Seats.{IsConsumerOf};
 ghost use Rattle.ring_board.specs.Seats.{IsReceiverOf};
 ghost use Rattle.ring_conductor.specs.Asking.{producer_of, receiver_of, IsSeatedAt};
 ghost use Rattle.ring_conductor.specs.Conducting.{IsConductorOf};
 
-use crate::entry::Contender;
 use crate::fault::Fault;
-use crate::request::Request;
+use crate::request::{Contender, Request};
 use crate::rest::{Rest, TRIES};
-use crate::sample::{Sample, nanos_since};
+use crate::sample::{Detail, Sample};
+use crate::task::{Task, time};
 use ring_board::Board;
 use ring_conductor::Request::{Allocate, Set};
 use ring_conductor::{Client, Conductor, Polled, Reply};
@@ -27,9 +27,22 @@ const LIMIT: u32 = 64;
 /// The counters of the conductor.
 const COUNTERS: u32 = 16;
 
-/// Waits for the reply to the command with this correlation id, and passes others. `WrongMessage` where some were
-/// missed, `Stuck` where it does not come.
-fn hear(board: &Board, client: &mut Client, correlation: u64) -> Result<Reply, Fault>
+/// A client that sends commands, one after another, and waits for each reply.
+#[derive(Drop)]
+struct Caller<'a, K, R> {
+    rt: &'a R,
+    ring: &'a Ring<K>,
+    board: &'a Board,
+    client: Client,
+    /// When the last reply came.
+    last: Instant,
+    /// The nanoseconds of each trip.
+    trips: Vec<u32>,
+}
+
+/// Waits for the reply to the command with this correlation id, and passes others. `WRONG_MESSAGE` if some were missed,
+/// `STUCK` if it does not come.
+fn receive(board: &Board, client: &mut Client, correlation: u64) -> Result<Reply, Fault>
     requires { IsReceiverOf board.now (receiver_of client.old) }
     ensures receiver { IsReceiverOf board.now (receiver_of client.new) }
     ensures producer { producer_of client.new ≡ producer_of client.old }
@@ -39,38 +52,10 @@ fn hear(board: &Board, client: &mut Client, correlation: u64) -> Result<Reply, F
         match client.poll(board, correlation) {
             Polled::Answered(reply) => return Ok(reply),
             Polled::Another(_) | Polled::NoReply | Polled::Nothing => rest.wait(),
-            Polled::Lapped(_) => return Err(Fault::WrongMessage),
+            Polled::Lapped(_) => return Err(Fault::WRONG_MESSAGE),
         }
     }
-    Err(Fault::Stuck)
-}
-
-/// Allocates the counter 0.
-fn allocate<K: Kind>(
-    ring: &Ring<K>,
-    board: &Board,
-    values: &CounterValues,
-    conductor: &mut Conductor,
-    client: &mut Client,
-) -> Result<(), Fault>
-    requires conductor { IsConductorOf IsConsumerOf ring.now board.now values.now conductor.old }
-    requires client { IsSeatedAt K.is_for_one ring.now board.now client.old }
-    ensures conductor { IsConductorOf IsConsumerOf ring.now board.now values.now conductor.new }
-    ensures client { IsSeatedAt K.is_for_one ring.now board.now client.new }
-{
-    let correlation = client.send(
-        ring,
-        Allocate {
-            type_id: 1,
-            key: &[],
-            label: &[],
-        },
-    )?;
-    conductor.do_work(ring, board, values, 0, LIMIT);
-    match hear(board, client, correlation)? {
-        Reply::Allocated { id: 0, .. } => Ok(()),
-        _ => Err(Fault::WrongMessage),
-    }
+    Err(Fault::STUCK)
 }
 
 /// Sets the counter 0, and waits for the reply.
@@ -79,35 +64,85 @@ fn set<K: Kind>(ring: &Ring<K>, board: &Board, client: &mut Client, value: i64) 
     ensures { IsSeatedAt K.is_for_one ring.now board.now client.new }
 {
     let correlation = client.send(ring, Set { id: 0, value })?;
-    match hear(board, client, correlation)? {
+    match receive(board, client, correlation)? {
         Reply::Done { .. } => Ok(()),
-        _ => Err(Fault::WrongMessage),
+        _ => Err(Fault::WRONG_MESSAGE),
     }
 }
 
-/// Sets the counter 0 to each of the numbers below `times`, and gives the nanoseconds that each took.
-fn set_often<R: Clock, K: Kind>(
-    rt: &R,
-    ring: &Ring<K>,
-    board: &Board,
-    mut client: Client,
-    mut trips: Vec<u32>,
-    times: u32,
-) -> Result<Vec<u32>, Fault>
-    requires { IsSeatedAt K.is_for_one ring.now board.now client }
-{
-    let start = Instant::now(rt)?;
-    let mut last = 0;
-    for value in 0..times {
-        set(ring, board, &mut client, i64::from(value))?;
-        let now = nanos_since(rt, start)?;
-        trips.push(u32::try_from(now.saturating_sub(last)).unwrap_or(u32::MAX))?;
-        last = now;
+impl<'a, K: Kind, R: Clock> Task for Caller<'a, K, R> {
+    ghost is_ready = { λ s. IsSeatedAt K.is_for_one s.ring.now s.board.now s.client };
+
+    fn step(&mut self, number: u64) -> Result<(), Fault> {
+        set(
+            self.ring,
+            self.board,
+            &mut self.client,
+            number.cast_signed(),
+        )?;
+        let now = Instant::now(self.rt)?;
+        let nanos = now.duration_since(self.last).as_nanos();
+        self.trips.push(u32::try_from(nanos).unwrap_or(u32::MAX))?;
+        self.last = now;
+        Ok(())
     }
-    Ok(trips)
 }
 
-/// Conducts until it is told to stop.
+/// What client and conductor share, and the two.
+#[derive(Drop)]
+struct Service<K> {
+    ring: Ring<K>,
+    board: Board,
+    values: CounterValues,
+    conductor: Conductor,
+    client: Client,
+}
+
+impl<K: Kind> Service<K> {
+    /// A ring and a board of this capacity, with a conductor and a client.
+    fn open(alloc: Global, capacity: u32) -> Result<Service<K>, Fault>
+        ensures conductor { IfOk result (λ s. IsConductorOf IsConsumerOf s.ring s.board s.values s.conductor) }
+        ensures client { IfOk result (λ s. IsSeatedAt K.is_for_one s.ring s.board s.client) }
+    {
+        let (ring, producer, consumer) = Ring::<K>::new(alloc, capacity)?;
+        let (board, transmitter) = Board::new(alloc, capacity)?;
+        let (values, counters) = CountersManager::new(alloc, COUNTERS, 0)?;
+        let mut conductor = Conductor::new(consumer, transmitter, counters);
+        let receiver = conductor.subscribe(alloc, &board)?;
+        Ok(Service {
+            ring,
+            board,
+            values,
+            conductor,
+            client: Client::new(producer, receiver),
+        })
+    }
+
+    /// Allocates the counter 0.
+    fn allocate(&mut self) -> Result<(), Fault>
+        requires conductor { IsConductorOf IsConsumerOf self.old.ring self.old.board self.old.values
+            self.old.conductor }
+        requires client { IsSeatedAt K.is_for_one self.old.ring self.old.board self.old.client }
+        ensures conductor { IsConductorOf IsConsumerOf self.new.ring self.new.board self.new.values
+            self.new.conductor }
+        ensures client { IsSeatedAt K.is_for_one self.new.ring self.new.board self.new.client }
+    {
+        let allocate = Allocate {
+            type_id: 1,
+            key: &[],
+            label: &[],
+        };
+        let correlation = self.client.send(&self.ring, allocate)?;
+        self.conductor
+            .do_work(&self.ring, &self.board, &self.values, 0, LIMIT);
+        match receive(&self.board, &mut self.client, correlation)? {
+            Reply::Allocated { id: 0, .. } => Ok(()),
+            _ => Err(Fault::WRONG_MESSAGE),
+        }
+    }
+}
+
+/// Works until it is told to stop.
 fn conduct<K>(
     ring: &Ring<K>,
     board: &Board,
@@ -131,66 +166,116 @@ fn conduct<K>(
     conductor
 }
 
-/// `WrongMessage` where the counter 0 has not the last one of so many values.
-fn check_last(conductor: &Conductor, times: u32) -> Result<(), Fault> {
-    if conductor.counters().value(0) == Ok(i64::from(times) - 1) {
-        Ok(())
+/// The one among sorted numbers that so many thousandths of them lie below.
+fn part_of(sorted: &[u32], thousandths: usize) -> u32 {
+    let place = sorted.len().saturating_mul(thousandths) / 1000;
+    if place < sorted.len() {
+        sorted[place]
     } else {
-        Err(Fault::WrongMessage)
+        0
+    }
+}
+
+/// The sample of round trips that took so many nanoseconds.
+fn sample_of(nanos: u64, mut trips: Vec<u32>) -> Result<Sample, Fault> {
+    trips.sort()?;
+    let sorted = trips.as_slice();
+    Ok(Sample {
+        nanos,
+        times: sorted.len() as u64,
+        detail: Detail::Trips {
+            p50: part_of(sorted, 500),
+            p99: part_of(sorted, 990),
+            p999: part_of(sorted, 999),
+        },
+    })
+}
+
+/// Sends all commands, and then tells the conductor to stop.
+fn call_all<R: Clock, K: Kind>(
+    rt: &R,
+    mut caller: Caller<'_, K, R>,
+    stop: &AtomicBool,
+    times: u64,
+) -> Result<Sample, Fault>
+    requires { IsSeatedAt K.is_for_one caller.ring.now caller.board.now caller.client }
+{
+    let nanos = time(rt, &mut caller, times);
+    stop.store(true, Ordering::SeqCst);
+    sample_of(nanos?, caller.trips)
+}
+
+/// `WRONG_MESSAGE` unless the counter 0 has the last one of so many values.
+fn check_last(conductor: &Conductor, times: u64) -> Result<(), Fault> {
+    match conductor.counters().value(0) {
+        Ok(value) if value == times.wrapping_sub(1).cast_signed() => Ok(()),
+        _ => Err(Fault::WRONG_MESSAGE),
     }
 }
 
 /// A client and the conductor, each on a thread.
-fn run_served<R: Clock + Threads + Sync, K: Kind + Sync>(
+fn run_service<R: Clock + Threads + Sync, K: Kind + Sync>(
     rt: &R,
-    alloc: Global,
-    capacity: u32,
-    times: u32,
-) -> Result<Sample, Fault> {
-    let (ring, producer, consumer) = Ring::<K>::new(alloc, capacity)?;
-    let (board, transmitter) = Board::new(alloc, capacity).map_err(Fault::NoBoard)?;
-    let (values, counters) = CountersManager::new(alloc, COUNTERS, 0)?;
-    let mut conductor = Conductor::new(consumer, transmitter, counters);
-    let receiver = conductor.subscribe(alloc, &board)?;
-    let mut client = Client::new(producer, receiver);
-    allocate(&ring, &board, &values, &mut conductor, &mut client)?;
-    let trips = Vec::with_capacity(alloc, times as usize)?;
+    service: Service<K>,
+    trips: Vec<u32>,
+    times: u64,
+) -> Result<Sample, Fault>
+    requires conductor { IsConductorOf IsConsumerOf service.ring service.board service.values service.conductor }
+    requires client { IsSeatedAt K.is_for_one service.ring service.board service.client }
+{
+    let Service {
+        ring,
+        board,
+        values,
+        conductor,
+        client,
+    } = service;
     let stop = AtomicBool::new(false);
     let (ring, board, values, stop) = (&ring, &board, &values, &stop);
-    let (trips, conductor) = join(
+    let last = Instant::now(rt)?;
+    let caller = Caller {
         rt,
-        move || -> Result<Vec<u32>, Fault>
-            requires { IsSeatedAt K.is_for_one ring.now board.now client }
-        {
-            let trips = set_often(rt, ring, board, client, trips, times);
-            stop.store(true, Ordering::SeqCst);
-            trips
-        },
+        ring,
+        board,
+        client,
+        last,
+        trips,
+    };
+    let (sample, conductor) = join(
+        rt,
+        move || -> Result<Sample, Fault>
+            requires { IsSeatedAt K.is_for_one caller.ring.now caller.board.now caller.client }
+        { call_all(rt, caller, stop, times) },
         move || -> Conductor
             requires { IsConductorOf IsConsumerOf ring.now board.now values.now conductor }
         { conduct(ring, board, values, conductor, stop) },
     );
-    let trips = trips?;
-    check_last(&conductor, times)?;
-    Sample::of_trips(trips)
+    check_last(&conductor, times).and(sample)
 }
 
-/// Sends so many commands, one after another, and waits for each reply. `NoContender` where no such ring takes part,
-/// `NoRing` and `NoBoard` where there is none of that capacity; `Refused`, `Stuck` and `WrongMessage` where commands or
-/// replies are lost.
+fn run_kind<R: Clock + Threads + Sync, K: Kind + Sync>(
+    rt: &R,
+    alloc: Global,
+    capacity: u32,
+    times: u64,
+) -> Result<Sample, Fault> {
+    let trips = Vec::with_capacity(alloc, times.min(1 << 24) as usize)?;
+    let mut service = Service::<K>::open(alloc, capacity)?;
+    service.allocate()?;
+    run_service(rt, service, trips, times)
+}
+
+/// Sends so many commands, one after another, and waits for each reply. `NO_CONTENDER` if no such ring takes part,
+/// `NO_BUFFER` if there is none of that capacity; `REFUSED`, `STUCK` and `WRONG_MESSAGE` if commands or replies are lost.
 pub fn run_trips<R: Clock + Threads + Sync>(
     rt: &R,
     alloc: Global,
     request: &Request,
     times: u64,
 ) -> Result<Sample, Fault> {
-    let capacity = request.capacity;
-    let times = u32::try_from(times).unwrap_or(u32::MAX);
     match request.contender {
-        Contender::OneToOne => run_served::<R, OneToOne>(rt, alloc, capacity, times),
-        Contender::ManyToOne => run_served::<R, ManyToOne>(rt, alloc, capacity, times),
-        Contender::Solo | Contender::Board | Contender::Counters | Contender::Storm => Err(
-            Fault::NoContender,
-        ),
+        Contender::OneToOne => run_kind::<R, OneToOne>(rt, alloc, request.capacity, times),
+        Contender::ManyToOne => run_kind::<R, ManyToOne>(rt, alloc, request.capacity, times),
+        _ => Err(Fault::NO_CONTENDER),
     }
 }

@@ -1,5 +1,5 @@
-use Rattle.ring_counters.specs.Seats.{IsReaderOf}
+use Rattle.ring_counters.specs.Manager.{IsManagerOf}
 use Rattle.ring_bench.proofs.counting.get_often.Given as goal
 
-abbrev pub invariant-loop-step : goal.invariant-loop-step
-invariant-loop-step g l = IsReaderOf l.values l.reader
+abbrev pub invariant-loop-id : goal.invariant-loop-id
+invariant-loop-id g l = IsManagerOf l.managed.values.now l.managed.counters

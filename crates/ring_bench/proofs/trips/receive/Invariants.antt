@@ -1,7 +1,7 @@
 use Rattle.std.proofs.Common.{◌≡◌}
 use Rattle.ring_board.specs.Seats.{IsReceiverOf}
 use Rattle.ring_conductor.specs.Asking.{producer_of, receiver_of}
-use Rattle.ring_bench.proofs.trips.hear.Given as goal
+use Rattle.ring_bench.proofs.trips.receive.Given as goal
 
 abbrev pub invariant-loop : goal.invariant-loop
 invariant-loop l = IsReceiverOf l.board (receiver_of l.client)
