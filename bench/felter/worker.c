@@ -336,8 +336,13 @@ static void say_trips(const struct point *of, uint64_t messages) {
     double sum = 0;
     for (uint64_t k = 0; k < messages; k++) sum += ns[k];
     qsort(ns, messages, sizeof *ns, rising);
-    printf("mean %.1f\np50 %u\np99 %u\np999 %u\n", sum / (double)messages, ns[messages / 2],
-           ns[messages * 99 / 100], ns[messages * 999 / 1000]);
+    static const struct {
+        const char *name;
+        uint64_t part;
+    } metrics[] = {{"p50", 5000}, {"p90", 9000}, {"p99", 9900}, {"p999", 9990}, {"p9999", 9999}};
+    printf("mean %.1f\n", sum / (double)messages);
+    for (size_t k = 0; k < sizeof metrics / sizeof *metrics; k++)
+        printf("%s %u\n", metrics[k].name, ns[messages * metrics[k].part / 10000]);
     free(ns);
 }
 

@@ -4,7 +4,7 @@ import shutil
 import subprocess
 import time
 
-TESTS = os.path.dirname(os.path.dirname(os.path.abspath(__file__)))
+TESTS = os.path.dirname(os.path.dirname(os.path.realpath(__file__)))
 TOP = os.path.dirname(TESTS)
 ATTACKS = os.path.join(TESTS, "attacks")
 
