@@ -2,7 +2,7 @@
 """Writes what is in bench/results.json into the documents.
 
   bench/page.py                        docs/PERFORMANCE.md, its pictures, bench/RESULTS.md and the rows in README.md
-  bench/page.py --check                writes nothing: tells what would change, with status 1 if anything would
+  bench/page.py --check                writes nothing: says what would change, with status 1 if anything would
   bench/page.py --keep RUN SET.. [--twins TEXT]
                                        first keeps sets of `bench/run --json SET` as the run RUN: sets, queues or felter
 """

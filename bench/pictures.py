@@ -23,7 +23,7 @@ def framed(width, height, parts):
 
 
 def scale(low, high, start, length):
-    """Where a number lies on a logarithmic scale."""
+    """The place of a number on a logarithmic scale."""
     def at(number):
         part = math.log(min(max(number, low), high) / low) / math.log(high / low)
         return start + length * part
@@ -89,7 +89,7 @@ def curves(panels):
 
 
 def panel_lines(series, across, up, right):
-    """The lines of one panel, each with its name at its end, where names do not lie on one another."""
+    """The lines of one panel, each with its name at its end, apart from the others."""
     ends, parts = [], []
     for name, colour, dash, points in sorted(series, key=lambda it: -it[3][-1][1]):
         path = " ".join(f"{across(x):.1f},{up(ns):.1f}" for x, ns in points)

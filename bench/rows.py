@@ -118,7 +118,7 @@ def ticks(numbers):
     return [(it, f"{it:,}") for it in numbers]
 
 
-# Percentiles lie as far apart as their tails grow: one of ten, of a hundred and so on.
+# Percentiles are as far apart as their tails grow: one of ten, of a hundred and so on.
 TAILS = [(100 / (100 - part), f"p{part:g}") for _, part in PERCENTILES]
 CURVES = {
     "round-trips": [("A command and its reply: ns", "percentile", TAILS,

@@ -47,7 +47,7 @@ static uint64_t transmit_all(struct board *board, uint32_t size, uint64_t times)
     return now_ns() - began;
 }
 
-uint64_t run_broadcast(const struct request *request, uint64_t times, struct heard *heard) {
+uint64_t run_broadcast(const struct request *request, uint64_t times, struct received *received) {
     struct board board;
     struct listener listeners[RECEIVERS];
     atomic_bool is_over = false;
@@ -63,12 +63,12 @@ uint64_t run_broadcast(const struct request *request, uint64_t times, struct hea
     while (atomic_load(&ready) < RECEIVERS) sched_yield();
     uint64_t took = transmit_all(&board, request->size, times);
     atomic_store(&is_over, true);
-    *heard = (struct heard){0, 0};
+    *received = (struct received){0, 0};
     for (int k = 0; k < RECEIVERS; k++) {
         pthread_join(listeners[k].thread, NULL);
         if (listeners[k].last != times - 1) wrong("the last message was not copied");
-        heard->copies += listeners[k].copies;
-        heard->laps += listeners[k].receiver.lapped;
+        received->copies += listeners[k].copies;
+        received->laps += listeners[k].receiver.lapped;
         receiver_close(&listeners[k].receiver);
     }
     board_close(&board);

@@ -8,14 +8,14 @@
 
 struct ring {
     uint8_t *words;   /* the buffer and the trailer */
-    uint8_t *bodies;  /* where bodies lie: the same, or a block of their own */
+    uint8_t *bodies;  /* the bodies: the same, or a block of their own */
     uint8_t *scratch; /* the consumer's copy of a body */
     uint64_t capacity;
     _Alignas(APART) uint64_t own_tail; /* of the producer of a one-to-one ring */
     _Alignas(APART) uint64_t own_head; /* of the consumer */
 };
 
-/* What a handler of a controlled read answers. */
+/* What a handler of a controlled read returns. */
 enum action { ACT_ABORT, ACT_BREAK, ACT_COMMIT, ACT_CONTINUE };
 
 typedef void (*handler)(void *with, int32_t type, const uint8_t *body, uint32_t len);
@@ -57,7 +57,7 @@ static inline struct room room_at(const struct ring *ring, uint64_t tail, uint32
     return (struct room){tail, span > to_end ? to_end : 0, span};
 }
 
-/* Tests whether a record fits. Sums are compared and no differences, since a head may lie beyond a tail that was loaded
+/* Tests whether a record fits. Sums are compared and no differences, since a head may be beyond a tail that was loaded
  * long before it; then the tail is no longer the ring's, and the exchange that follows fails. */
 static inline int find_room(const struct ring *ring, const struct room *room) {
     if (end_of(room) > LAST_POSITION) return POSITION_LIMIT;
@@ -163,7 +163,7 @@ static inline uint32_t ring_read(struct ring *ring, uint32_t limit, handler on, 
     return messages;
 }
 
-/* The same with a handler that answers each message by an action. */
+/* The same with a handler that returns an action for each message. */
 static inline uint32_t ring_controlled_read(struct ring *ring, uint32_t limit, controller on, void *with) {
     uint64_t index = ring->own_head & (ring->capacity - 1), block = ring->capacity - index, bytes = 0, given = 0;
     uint32_t messages = 0;

@@ -4,12 +4,12 @@
  *   load_header                    the header of a record in a ring
  *   open_header, settle_header     the header of a claim, and of a record that is committed, aborted or padding
  *   put_body, show_body            the bytes of a message in a ring: in, and out (in place, or a copy)
- *   pass_record, clear_block       what a reader leaves behind it: record by record, and then the whole block
+ *   pass_record, clear_block       what a reader has passed: record by record, and then the whole block
  *   put_copy, get_copy             the bytes of a message in a broadcast buffer
  *   load_copied, store_copied      the header of a record there
  *   before_bodies, before_check    fences of a broadcast buffer
  *
- * and HAS_BODIES_APART: whether the bodies of a ring lie in a block of their own. */
+ * and HAS_BODIES_APART: whether the bodies of a ring are in a block of their own. */
 #ifndef TWINS_STEPS_H
 #define TWINS_STEPS_H
 

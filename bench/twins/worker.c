@@ -1,4 +1,4 @@
-/* A worker of bench/run: it answers requests on standard input, one a line, each with lines of which the last is `end`.
+/* A worker of bench/run: it takes requests on standard input, one a line, and prints lines, of which the last is `end`.
  *
  *     list                                           who takes part in what: has WORKLOAD CONTENDER
  *     run W CONTENDER SIZE CAPACITY THREADS MS       a measurement of about MS milliseconds: METRIC VALUE ..
@@ -67,9 +67,9 @@ static const struct entry {
 #define ENTRIES (sizeof entries / sizeof *entries)
 #define KNOWN 256
 
-/* What a run of a job found besides its time. */
+/* What a run of a job found apart from its time. */
 struct found {
-    struct heard heard;
+    struct received received;
     uint64_t whole;
     uint32_t *trips;
 };
@@ -79,7 +79,7 @@ static uint64_t run_job(enum job job, const struct request *request, uint64_t ti
     case BATCHES: return run_batches(request, times);
     case FLOW: return run_flow(request, times);
     case TRIPS: return run_trips(request, times, found->trips);
-    case BROADCAST: return run_broadcast(request, times, &found->heard);
+    case BROADCAST: return run_broadcast(request, times, &found->received);
     case SETS: return run_sets(times);
     case GETS: return run_gets(times);
     case CYCLES: return run_cycles(times);
@@ -141,8 +141,8 @@ static void measure(const char *line, enum job job, const struct request *reques
     if (job == TRIPS) print_trips(found.trips, times);
     if (job == STORM) printf("whole %.3f\n", (double)found.whole / (double)all);
     if (job == BROADCAST)
-        printf("copied %.4f\nlaps_per_million %.1f\n", (double)found.heard.copies / 2 / (double)times,
-               (double)found.heard.laps / 2 / (double)times * 1e6);
+        printf("copied %.4f\nlaps_per_million %.1f\n", (double)found.received.copies / 2 / (double)times,
+               (double)found.received.laps / 2 / (double)times * 1e6);
     free(found.trips);
 }
 

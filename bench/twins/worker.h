@@ -25,21 +25,21 @@ struct request {
 };
 
 /* What receivers of a broadcast came to, in all. */
-struct heard {
+struct received {
     uint64_t copies, laps;
 };
 
-/* Each runs a job so many times and returns the nanoseconds that took. A message that was lost or came in another order
- * ends the program. */
+/* Each runs a job this many times and returns the nanoseconds that took. A message that was lost or came in another
+ * order ends the program. */
 uint64_t run_batches(const struct request *request, uint64_t times);
 uint64_t run_flow(const struct request *request, uint64_t times);
-uint64_t run_broadcast(const struct request *request, uint64_t times, struct heard *heard);
+uint64_t run_broadcast(const struct request *request, uint64_t times, struct received *received);
 uint64_t run_sets(uint64_t times);
 uint64_t run_gets(uint64_t times);
 uint64_t run_cycles(uint64_t times);
 uint64_t run_watched_sets(uint64_t times);
 
-/* The nanoseconds of each of so many round trips go into `trips`, unless that is NULL. */
+/* The nanoseconds of each round trip go into `trips`, unless that is NULL. */
 uint64_t run_trips(const struct request *request, uint64_t times, uint32_t *trips);
 
 /* `times` commands of each client. `whole` is the time with what is made and taken apart. */

@@ -15,7 +15,7 @@ SABOTAGES = {
     "UNABORTED": "felter_abort",      # an aborted claim is shown
     "SHORT_PUT": "felter_put",        # the last byte is not put
     "LEAK": "felter_free",            # a handle is emptied, and what it owned is kept
-    "UNSAID_LAP": "felter_receive",   # a receiver is not told that it missed something
+    "UNSAID_LAP": "felter_receive",   # a receiver does not learn that it missed something
     "STALE": "felter_reader_value",   # a reader gets the value that it loaded before
     "OTHER_REPLY": "felter_poll",     # a client takes the reply to another command for its own
 }
