@@ -12,8 +12,7 @@
  *      Different handles may be used at the same time, also of one ring.
  *   3. The handles of one call are different ones, and its buffers, numbers and handles do not overlap. A buffer that
  *      is read is readable for its length, and one that is written is writable for its room (at most 2^63 - 1 bytes),
- *      and no other thread touches it during the call. NULL goes only with length 0. A pointer to a number is never
- *      NULL.
+ *      and no other thread touches it during the call.
  *   4. No call from a signal handler or from a forked child of a process with threads, and no asynchronous cancellation
  *      during a call: a handle that a call was working on is empty then.
  *   5. malloc, realloc and free are one allocator, and align to 16 bytes. The processor has x86-64-v2.
@@ -28,15 +27,24 @@
  * apart only if their numbers differ: this header counts from 1 on, the Rust crate from 2^62, the Python module from
  * 2^63.
  *
- * Answers. Each call but felter_free answers a code of enum felter_code; FELTER_OK is 0. A call that refuses leaves
- * every handle as it was. Out numbers are written on FELTER_OK alone, unless a call says otherwise. Nothing waits:
- * FELTER_INSUFFICIENT_CAPACITY, FELTER_CONTENDED and FELTER_NO_MESSAGE are for the caller to try again, with a pause of
- * its own. Every call of a handle can answer FELTER_NO_HANDLE and FELTER_WRONG_HANDLE.
+ * Answers. Each call but felter_free answers a code of enum felter_code; FELTER_OK is 0, and felter_text(code) says
+ * it in words. A call that refuses leaves every handle as it was. Out numbers are written on FELTER_OK alone, unless a
+ * call says otherwise. Nothing waits: FELTER_INSUFFICIENT_CAPACITY, FELTER_CONTENDED and FELTER_NO_MESSAGE are for the
+ * caller to try again, with a pause of its own. Every call of a handle can answer FELTER_WRONG_HANDLE, and
+ * FELTER_NO_HANDLE, also if it is a NULL pointer. Another pointer that is NULL is answered by FELTER_NULL_POINTER; a
+ * buffer may be NULL if its length is 0. These answers to NULL are given by felter_inline.h, which this header
+ * includes: a program that calls the library without the header has to see to it itself. Compilers warn if an answer
+ * is not looked at.
  *
  * Units. Capacities, lengths, offsets and positions are bytes; positions count from the ring's start and never wrap.
  * Moments are milliseconds, at most 2^62, by a clock of the caller.
  *
- * Link: cc program.c libring_c.a liblibc_c.a
+ * Checked. If all files of a program are compiled with -DFELTER_CHECKED, then a call ends the program by abort, with a
+ * line on standard error, if a pointer is NULL, a handle is a copy of one that was freed or was never made, one handle
+ * is given twice, or a call on another thread uses the handle. Such a build is slower: it is for tests.
+ *
+ * Link: cc program.c -Iinclude lib/libfelter.a, or cc program.c $(pkg-config --cflags --libs felter), or in CMake
+ * find_package(felter) and target_link_libraries(program felter::felter). C++ programs can include felter.hpp.
  */
 #ifndef FELTER_H
 #define FELTER_H
@@ -44,24 +52,31 @@
 #include <stddef.h>
 #include <stdint.h>
 
+/* The version of this header, and what felter_version says of a library that fits it. */
+#define FELTER_VERSION_MAJOR 0
+#define FELTER_VERSION_MINOR 1
+#define FELTER_VERSION_PATCH 0
+#define FELTER_VERSION "0.1.0"
+
 #ifdef __cplusplus
 extern "C" {
 #endif
 
+/* Each comment is what felter_text says. */
 enum felter_code {
-    FELTER_OK = 0,
+    FELTER_OK = 0,                    /* no error */
     /* Numbers of the library. */
-    FELTER_BAD_CAPACITY = 1,          /* no power of two from 128 (of a board 256) to 2^24 */
-    FELTER_BAD_START = 2,             /* no multiple of the capacity, or above 2^62 */
-    FELTER_OUT_OF_MEMORY = 3,         /* there was no memory */
+    FELTER_BAD_CAPACITY = 1,          /* the capacity is not a power of two from 128 (of a board 256) to 2^24 */
+    FELTER_BAD_START = 2,             /* the start is not a multiple of the capacity, or is above 2^62 */
+    FELTER_OUT_OF_MEMORY = 3,         /* out of memory */
     FELTER_BAD_TYPE = 4,              /* the type id is below 1 */
-    FELTER_TOO_LONG = 5,              /* more than an eighth of the capacity, or a command of more than 520 bytes */
+    FELTER_TOO_LONG = 5,              /* the message has more than an eighth of the capacity, or the command 520 */
     FELTER_POSITION_LIMIT = 6,        /* the record would end above 2^62 */
     FELTER_INSUFFICIENT_CAPACITY = 7, /* the ring is full */
     FELTER_CONTENDED = 8,             /* another producer was faster */
     FELTER_PUT_RANGE = 9,             /* the bytes do not lie inside the claim */
     FELTER_CLAIMS_OPEN = 10,          /* a claim of the producer is open */
-    FELTER_PRODUCERS_OUT = 11,        /* a producer was not taken in, or a client not taken back */
+    FELTER_PRODUCERS_OUT = 11,        /* a producer or a client was not taken back */
     FELTER_NO_SHARES = 12,            /* one share is left, and is needed */
     FELTER_LAPPED = 13,               /* the transmitter overtook the receiver */
     FELTER_RECEIVERS_OUT = 14,        /* a receiver was not taken back */
@@ -69,22 +84,26 @@ enum felter_code {
     FELTER_KEY_TOO_LONG = 16,         /* the key has more than 112 bytes */
     FELTER_LABEL_TOO_LONG = 17,       /* the label has more than 380 bytes */
     FELTER_LABEL_NOT_ASCII = 18,      /* the label has a byte of 128 or more */
-    FELTER_NO_FREE_COUNTER = 19,      /* every id was used, and none that was freed is due */
+    FELTER_NO_FREE_COUNTER = 19,      /* every counter is in use, or was freed too short a time ago */
     FELTER_BAD_ID = 20,               /* the id is not below the number of counters */
-    FELTER_NOT_ALLOCATED = 21,        /* no counter with this id is in use */
-    FELTER_BAD_OWNER = 28,            /* the owner is 0, which stands for none */
+    FELTER_NOT_ALLOCATED = 21,        /* no such counter is in use */
+    FELTER_BAD_OWNER = 28,            /* the owner is 0, which means none */
     /* Numbers of this interface. */
     FELTER_NO_HANDLE = 100,           /* the handle is empty */
     FELTER_WRONG_HANDLE = 101,        /* the handle is of another kind */
     FELTER_HANDLE_IN_USE = 102,       /* the handle that was to be filled is not empty */
     FELTER_NO_CLAIM = 104,            /* no claim of this number is open */
-    FELTER_NO_MESSAGE = 105,          /* nothing is there yet */
+    FELTER_NO_MESSAGE = 105,          /* no message is there yet */
     FELTER_SHORT_BUFFER = 106,        /* the message is longer than the buffer, and stays */
     FELTER_BAD_MOMENT = 107,          /* the moment is above 2^62 */
     FELTER_OTHER_RING = 108,          /* the two handles are of two rings, boards, conductors or sets of counters */
-    FELTER_OTHER_REPLY = 109,         /* what came is the reply to another command, or none */
-    FELTER_IN_USE = 110               /* another handle holds what was to be closed */
+    FELTER_OTHER_REPLY = 109,         /* the message is the reply to another command, or no reply */
+    FELTER_IN_USE = 110,              /* another handle holds what was to be closed */
+    FELTER_NULL_POINTER = 111         /* a pointer is NULL */
 };
+
+/* What a code means, in words. */
+static inline const char *felter_text(int32_t code);
 
 /* What a handle is inside. */
 typedef struct felter_handle { void *at; } felter_handle;
@@ -108,20 +127,10 @@ typedef struct felter_client { felter_handle handle; } felter_client;
  * felter_join, felter_split answers FELTER_NO_SHARES. */
 void felter_free(felter_handle *handle);
 
-/* Numbers -------------------------------------------------------------------------------------------------------- */
-
-/* How many numbers were drawn. It is weak, so that all files of a program, in C and in C++, share one. A shared library
- * that includes this header can have one of its own, as where dlopen loads it, and both give the same numbers then. */
-__attribute__((weak)) uint64_t felter_numbers_drawn = 0;
-
-/* Draws the number of what is made next: 1, 2, 3, .. by any threads. */
-static inline uint64_t felter_next_number(void) {
-    return __atomic_add_fetch(&felter_numbers_drawn, 1, __ATOMIC_RELAXED);
-}
-
 /* Each call that makes something has two forms: a function of the library that ends in _numbered and takes a number,
- * and one without it here, which draws it. The number may be any that no other ring, board, set of counters or
- * conductor that lives has; whoever makes things from several languages in one process sees to that. */
+ * and one without it, which draws it: 1, 2, 3, .. by any threads. The number may be any that no other ring, board, set
+ * of counters or conductor that lives has; a program that makes things from several languages in one process sees to
+ * that. */
 
 /* Rings ---------------------------------------------------------------------------------------------------------- */
 
@@ -131,29 +140,21 @@ int32_t felter_many_to_one_new_numbered(uint64_t number, uint32_t capacity, felt
                                         felter_consumer *consumer);
 int32_t felter_many_to_one_new_at_numbered(uint64_t number, uint32_t capacity, uint64_t start,
                                            felter_producer *producer, felter_consumer *consumer);
-static inline int32_t felter_many_to_one_new(uint32_t capacity, felter_producer *producer, felter_consumer *consumer) {
-    return felter_many_to_one_new_numbered(felter_next_number(), capacity, producer, consumer);
-}
+static inline int32_t felter_many_to_one_new(uint32_t capacity, felter_producer *producer, felter_consumer *consumer);
 static inline int32_t felter_many_to_one_new_at(uint32_t capacity, uint64_t start, felter_producer *producer,
-                                                felter_consumer *consumer) {
-    return felter_many_to_one_new_at_numbered(felter_next_number(), capacity, start, producer, consumer);
-}
+                                                felter_consumer *consumer);
 /* The same of a ring with one producer, which cannot be split. */
 int32_t felter_one_to_one_new_numbered(uint64_t number, uint32_t capacity, felter_producer *producer,
                                        felter_consumer *consumer);
 int32_t felter_one_to_one_new_at_numbered(uint64_t number, uint32_t capacity, uint64_t start,
                                           felter_producer *producer, felter_consumer *consumer);
-static inline int32_t felter_one_to_one_new(uint32_t capacity, felter_producer *producer, felter_consumer *consumer) {
-    return felter_one_to_one_new_numbered(felter_next_number(), capacity, producer, consumer);
-}
+static inline int32_t felter_one_to_one_new(uint32_t capacity, felter_producer *producer, felter_consumer *consumer);
 static inline int32_t felter_one_to_one_new_at(uint32_t capacity, uint64_t start, felter_producer *producer,
-                                               felter_consumer *consumer) {
-    return felter_one_to_one_new_at_numbered(felter_next_number(), capacity, start, producer, consumer);
-}
+                                               felter_consumer *consumer);
 
 /* Writes a message, by one try. FELTER_BAD_TYPE, FELTER_TOO_LONG, FELTER_POSITION_LIMIT, FELTER_INSUFFICIENT_CAPACITY,
  * FELTER_CONTENDED (many-to-one alone). */
-int32_t felter_write(felter_producer *producer, int32_t type_id, const uint8_t *body, size_t len);
+int32_t felter_write(felter_producer *producer, int32_t type_id, const void *body, size_t len);
 
 /* Claims room for a message of len bytes, which are 0 until they are put, and says the claim's number: its place, which
  * is given once in a ring. Any number of claims may be open at once, and they may be settled in any order; the consumer
@@ -161,7 +162,7 @@ int32_t felter_write(felter_producer *producer, int32_t type_id, const uint8_t *
  * tried, where there is no memory to keep one claim more. */
 int32_t felter_claim(felter_producer *producer, int32_t type_id, size_t len, uint64_t *claim);
 /* Puts bytes into an open claim of the producer from a byte on. FELTER_NO_CLAIM, FELTER_PUT_RANGE. */
-int32_t felter_put(felter_producer *producer, uint64_t claim, size_t offset, const uint8_t *bytes, size_t len);
+int32_t felter_put(felter_producer *producer, uint64_t claim, size_t offset, const void *bytes, size_t len);
 /* Settles an open claim of the producer: the consumer is shown its message (commit) or passes it (abort).
  * FELTER_NO_CLAIM. */
 int32_t felter_commit(felter_producer *producer, uint64_t claim);
@@ -185,9 +186,9 @@ int32_t felter_set_heartbeat(felter_consumer *consumer, uint64_t value);
 /* How many of the ring's 65,536 shares the producer holds. */
 int32_t felter_shares(felter_producer *producer, uint32_t *shares);
 
-/* Reads the next message into a buffer. FELTER_NO_MESSAGE; FELTER_SHORT_BUFFER, where *len says how many bytes are
- * wanted. An eighth of the capacity is always enough. */
-int32_t felter_read(felter_consumer *consumer, int32_t *type_id, size_t *len, uint8_t *buffer, size_t room);
+/* Reads the next message into a buffer. FELTER_NO_MESSAGE; FELTER_SHORT_BUFFER if the message is longer than the
+ * buffer: *len is then its length and *type_id its type id. An eighth of the capacity is always enough. */
+int32_t felter_read(felter_consumer *consumer, int32_t *type_id, size_t *len, void *buffer, size_t room);
 
 /* What stands before the bytes of a message in a batch. It may be read in place where the buffer is aligned to 8 bytes;
  * else memcpy it out. */
@@ -204,7 +205,7 @@ typedef struct felter_record {
  * It stops where the buffer is full, and the message that has no room stays; fewer messages can come than are there.
  * FELTER_NO_MESSAGE, also where the limit is 0; FELTER_SHORT_BUFFER where the first one has no room (for which
  * felter_read says its length): FELTER_SPAN(capacity / 8) bytes are always enough for one. */
-int32_t felter_read_batch(felter_consumer *consumer, uint32_t limit, uint32_t *count, size_t *used, uint8_t *buffer,
+int32_t felter_read_batch(felter_consumer *consumer, uint32_t limit, uint32_t *count, size_t *used, void *buffer,
                           size_t room);
 
 /* Takes the producer of the consumer's ring, of either kind, which holds all 65,536 shares and has no open claim, into
@@ -225,14 +226,10 @@ int32_t felter_finish(felter_consumer *consumer, uint64_t *left);
 int32_t felter_board_new_numbered(uint64_t number, uint32_t capacity, felter_transmitter *transmitter);
 int32_t felter_board_new_at_numbered(uint64_t number, uint32_t capacity, uint64_t start,
                                      felter_transmitter *transmitter);
-static inline int32_t felter_board_new(uint32_t capacity, felter_transmitter *transmitter) {
-    return felter_board_new_numbered(felter_next_number(), capacity, transmitter);
-}
-static inline int32_t felter_board_new_at(uint32_t capacity, uint64_t start, felter_transmitter *transmitter) {
-    return felter_board_new_at_numbered(felter_next_number(), capacity, start, transmitter);
-}
+static inline int32_t felter_board_new(uint32_t capacity, felter_transmitter *transmitter);
+static inline int32_t felter_board_new_at(uint32_t capacity, uint64_t start, felter_transmitter *transmitter);
 /* Transmits a message. FELTER_BAD_TYPE, FELTER_TOO_LONG, FELTER_POSITION_LIMIT. */
-int32_t felter_transmit(felter_transmitter *transmitter, int32_t type_id, const uint8_t *body, size_t len);
+int32_t felter_transmit(felter_transmitter *transmitter, int32_t type_id, const void *body, size_t len);
 /* Makes a receiver, which starts with the message that was transmitted last, with one share of the transmitter's. The
  * share is lost when the receiver is freed without felter_board_join: after 65,535 of them the answer is
  * FELTER_NO_SHARES, and after one the board cannot be closed. FELTER_OUT_OF_MEMORY, FELTER_HANDLE_IN_USE. */
@@ -241,7 +238,7 @@ int32_t felter_subscribe(felter_transmitter *transmitter, felter_receiver *recei
  * *lapped says how often by now, and the next call goes on with the message that was transmitted last.
  * FELTER_SHORT_BUFFER where the room is less than an eighth of the capacity, whatever the message: *len says that
  * eighth, and nothing is taken. */
-int32_t felter_receive(felter_receiver *receiver, int32_t *type_id, size_t *len, uint64_t *lapped, uint8_t *buffer,
+int32_t felter_receive(felter_receiver *receiver, int32_t *type_id, size_t *len, uint64_t *lapped, void *buffer,
                        size_t room);
 /* How often the receiver was lapped. */
 int32_t felter_lapped_count(felter_receiver *receiver, uint64_t *count);
@@ -254,7 +251,7 @@ int32_t felter_receive_next(felter_raw_receiver *receiver, int32_t *type_id, siz
 /* Copies the body of the record that felter_receive_next answered last to the front of a buffer. The bytes may be those
  * of another record, unless felter_validate then answers FELTER_OK. FELTER_NO_MESSAGE where none was answered yet,
  * FELTER_SHORT_BUFFER where the body is longer than the room. */
-int32_t felter_load_body(felter_raw_receiver *receiver, uint8_t *buffer, size_t room);
+int32_t felter_load_body(felter_raw_receiver *receiver, void *buffer, size_t room);
 /* Tests whether that record was not yet overwritten: then each body of it that was copied before is the one that was
  * transmitted. FELTER_LAPPED where it was; FELTER_NO_MESSAGE where none was answered yet. */
 int32_t felter_validate(felter_raw_receiver *receiver);
@@ -275,17 +272,15 @@ int32_t felter_board_close(felter_transmitter *transmitter, uint64_t *tail);
 /* Makes counters with the ids below `count`. A freed id rests for `reuse_ms`. FELTER_BAD_COUNT, FELTER_OUT_OF_MEMORY,
  * FELTER_HANDLE_IN_USE. */
 int32_t felter_counters_new_numbered(uint64_t number, uint32_t count, uint32_t reuse_ms, felter_counters *counters);
-static inline int32_t felter_counters_new(uint32_t count, uint32_t reuse_ms, felter_counters *counters) {
-    return felter_counters_new_numbered(felter_next_number(), count, reuse_ms, counters);
-}
+static inline int32_t felter_counters_new(uint32_t count, uint32_t reuse_ms, felter_counters *counters);
 /* Allocates a counter of value 0, and says its id. FELTER_KEY_TOO_LONG, FELTER_LABEL_TOO_LONG, FELTER_LABEL_NOT_ASCII,
  * FELTER_NO_FREE_COUNTER. */
-int32_t felter_counter_allocate(felter_counters *counters, uint64_t now, int32_t type_id, const uint8_t *key,
-                                size_t key_len, const uint8_t *label, size_t label_len, uint64_t registration,
+int32_t felter_counter_allocate(felter_counters *counters, uint64_t now, int32_t type_id, const void *key,
+                                size_t key_len, const void *label, size_t label_len, uint64_t registration,
                                 uint32_t *id);
 /* The same with an owner; 0 stands for none. */
-int32_t felter_counter_allocate_owned(felter_counters *counters, uint64_t now, int32_t type_id, const uint8_t *key,
-                                      size_t key_len, const uint8_t *label, size_t label_len, uint64_t registration,
+int32_t felter_counter_allocate_owned(felter_counters *counters, uint64_t now, int32_t type_id, const void *key,
+                                      size_t key_len, const void *label, size_t label_len, uint64_t registration,
                                       uint64_t owner, uint32_t *id);
 /* Each call with an id can answer FELTER_BAD_ID and FELTER_NOT_ALLOCATED. */
 int32_t felter_counter_free(felter_counters *counters, uint64_t now, uint32_t id); /* FELTER_BAD_MOMENT */
@@ -298,9 +293,9 @@ int32_t felter_counter_registration(felter_counters *counters, uint32_t id, uint
 int32_t felter_counter_owner(felter_counters *counters, uint32_t id, uint64_t *owner);
 /* Copies the label, of at most 380 bytes and without an end, and says its length: also with FELTER_SHORT_BUFFER, where
  * the room is less. */
-int32_t felter_counter_label(felter_counters *counters, uint32_t id, size_t *len, uint8_t *buffer, size_t room);
+int32_t felter_counter_label(felter_counters *counters, uint32_t id, size_t *len, void *buffer, size_t room);
 /* Copies the key, of 112 bytes with zeros after a shorter one. FELTER_SHORT_BUFFER where the room is less. */
-int32_t felter_counter_key(felter_counters *counters, uint32_t id, uint8_t *buffer, size_t room);
+int32_t felter_counter_key(felter_counters *counters, uint32_t id, void *buffer, size_t room);
 /* Finds the lowest id in use of a type and registration id; else FELTER_NOT_ALLOCATED. */
 int32_t felter_counter_find(felter_counters *counters, int32_t type_id, uint64_t registration, uint32_t *id);
 /* The number of ids, in use or not. To list the counters in use, ask for each id's type: FELTER_NOT_ALLOCATED says that
@@ -330,9 +325,7 @@ int32_t felter_counters_join(felter_counters *counters, felter_reader *reader);
 int32_t felter_conductor_new_numbered(uint64_t number, uint32_t capacity, uint32_t replies, uint32_t counters,
                                       uint32_t reuse_ms, felter_conductor *conductor);
 static inline int32_t felter_conductor_new(uint32_t capacity, uint32_t replies, uint32_t counters, uint32_t reuse_ms,
-                                           felter_conductor *conductor) {
-    return felter_conductor_new_numbered(felter_next_number(), capacity, replies, counters, reuse_ms, conductor);
-}
+                                           felter_conductor *conductor);
 /* Makes a client, with one share of the ring's 65,536 and one of the board's, which starts with the reply that was
  * transmitted last. FELTER_HANDLE_IN_USE, FELTER_NO_SHARES of either, FELTER_OUT_OF_MEMORY: nothing is lost then. Both
  * shares are lost when the client is freed without felter_conductor_join, and the conductor cannot finish any more. */
@@ -380,11 +373,11 @@ int32_t felter_conductor_finish(felter_conductor *conductor, uint64_t *received,
  *
  * Allocates a counter of value 0, whose registration id is the correlation id. The command takes 20 bytes and those of
  * key and label. */
-int32_t felter_send_allocate(felter_client *client, int32_t type_id, const uint8_t *key, size_t key_len,
-                             const uint8_t *label, size_t label_len, uint64_t *id);
+int32_t felter_send_allocate(felter_client *client, int32_t type_id, const void *key, size_t key_len,
+                             const void *label, size_t label_len, uint64_t *id);
 /* The same with an owner; 0 stands for none. The command takes 8 bytes more. */
-int32_t felter_send_allocate_owned(felter_client *client, int32_t type_id, uint64_t owner, const uint8_t *key,
-                                   size_t key_len, const uint8_t *label, size_t label_len, uint64_t *id);
+int32_t felter_send_allocate_owned(felter_client *client, int32_t type_id, uint64_t owner, const void *key,
+                                   size_t key_len, const void *label, size_t label_len, uint64_t *id);
 /* Frees a counter. */
 int32_t felter_send_free(felter_client *client, uint32_t counter, uint64_t *id);
 /* Sets a counter's value. */
@@ -407,6 +400,8 @@ enum felter_reply {
  * FELTER_LAPPED where the conductor overtook the client: *lapped says how often by now, the next call goes on with the
  * reply that was transmitted last, and what became of the commands that were on their way is not known. */
 int32_t felter_poll(felter_client *client, uint64_t correlation, int32_t *kind, int64_t *number, uint64_t *lapped);
+
+#include "felter_inline.h"
 
 #ifdef __cplusplus
 }

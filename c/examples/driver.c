@@ -106,9 +106,8 @@ static void *watch(void *unused) {
     int64_t latest[CLIENTS] = {0};
     while (!stop) {
         for (uint32_t id = 0; id < CLIENTS; id++) {
-            int64_t now = INT64_MIN;
-            felter_reader_value(&reader, id, &now);
-            saw_fall |= now < latest[id];
+            int64_t now;
+            saw_fall |= felter_reader_value(&reader, id, &now) != FELTER_OK || now < latest[id];
             latest[id] = now;
         }
         sched_yield();

@@ -10,7 +10,7 @@ int main(void) {
     int32_t type_id;
     size_t len;
     if (felter_many_to_one_new(512, &producer, &consumer) != FELTER_OK) return 1;
-    if (felter_write(&producer, 7, (const uint8_t *)"hello", 5) != FELTER_OK) return 1;
+    if (felter_write(&producer, 7, "hello", 5) != FELTER_OK) return 1;
     if (felter_read(&consumer, &type_id, &len, body, sizeof body) != FELTER_OK) return 1;
     printf("%d %.*s\n", (int)type_id, (int)len, (const char *)body);
     felter_free(&producer.handle);

@@ -1,4 +1,5 @@
-//! The calls of `felter.h`, as they stand there. `c/compare` compares them.
+//! Written by c/bindings from felter.h: change that, and run it again.
+#![allow(dead_code)]
 use std::ffi::c_void;
 use std::ptr;
 
@@ -14,17 +15,24 @@ impl Raw {
 
 pub(crate) const OK: i32 = 0;
 
-// Handles.
 extern "C" {
     pub(crate) fn felter_free(handle: *mut Raw);
-}
-
-// Rings.
-extern "C" {
+    pub(crate) fn felter_many_to_one_new_numbered(
+        number: u64,
+        capacity: u32,
+        producer: *mut Raw,
+        consumer: *mut Raw,
+    ) -> i32;
     pub(crate) fn felter_many_to_one_new_at_numbered(
         number: u64,
         capacity: u32,
         start: u64,
+        producer: *mut Raw,
+        consumer: *mut Raw,
+    ) -> i32;
+    pub(crate) fn felter_one_to_one_new_numbered(
+        number: u64,
+        capacity: u32,
         producer: *mut Raw,
         consumer: *mut Raw,
     ) -> i32;
@@ -40,8 +48,8 @@ extern "C" {
     pub(crate) fn felter_put(producer: *mut Raw, claim: u64, offset: usize, bytes: *const u8, len: usize) -> i32;
     pub(crate) fn felter_commit(producer: *mut Raw, claim: u64) -> i32;
     pub(crate) fn felter_abort(producer: *mut Raw, claim: u64) -> i32;
-    pub(crate) fn felter_split(producer: *mut Raw, other_producer: *mut Raw) -> i32;
-    pub(crate) fn felter_join(producer: *mut Raw, other_producer: *mut Raw) -> i32;
+    pub(crate) fn felter_split(producer: *mut Raw, other: *mut Raw) -> i32;
+    pub(crate) fn felter_join(producer: *mut Raw, other: *mut Raw) -> i32;
     pub(crate) fn felter_positions(producer: *mut Raw, head: *mut u64, tail: *mut u64) -> i32;
     pub(crate) fn felter_next_id(producer: *mut Raw, id: *mut u64) -> i32;
     pub(crate) fn felter_heartbeat(producer: *mut Raw, value: *mut u64) -> i32;
@@ -64,10 +72,7 @@ extern "C" {
     ) -> i32;
     pub(crate) fn felter_close(consumer: *mut Raw, producer: *mut Raw) -> i32;
     pub(crate) fn felter_finish(consumer: *mut Raw, left: *mut u64) -> i32;
-}
-
-// Boards.
-extern "C" {
+    pub(crate) fn felter_board_new_numbered(number: u64, capacity: u32, transmitter: *mut Raw) -> i32;
     pub(crate) fn felter_board_new_at_numbered(number: u64, capacity: u32, start: u64, transmitter: *mut Raw) -> i32;
     pub(crate) fn felter_transmit(transmitter: *mut Raw, type_id: i32, body: *const u8, len: usize) -> i32;
     pub(crate) fn felter_subscribe(transmitter: *mut Raw, receiver: *mut Raw) -> i32;
@@ -80,24 +85,26 @@ extern "C" {
         room: usize,
     ) -> i32;
     pub(crate) fn felter_lapped_count(receiver: *mut Raw, count: *mut u64) -> i32;
-    pub(crate) fn felter_subscribe_raw(transmitter: *mut Raw, raw_receiver: *mut Raw) -> i32;
-    pub(crate) fn felter_receive_next(
-        raw_receiver: *mut Raw,
-        type_id: *mut i32,
-        len: *mut usize,
-        lapped: *mut u64,
-    ) -> i32;
-    pub(crate) fn felter_load_body(raw_receiver: *mut Raw, buffer: *mut u8, room: usize) -> i32;
-    pub(crate) fn felter_validate(raw_receiver: *mut Raw) -> i32;
-    pub(crate) fn felter_raw_lapped_count(raw_receiver: *mut Raw, count: *mut u64) -> i32;
+    pub(crate) fn felter_subscribe_raw(transmitter: *mut Raw, receiver: *mut Raw) -> i32;
+    pub(crate) fn felter_receive_next(receiver: *mut Raw, type_id: *mut i32, len: *mut usize, lapped: *mut u64) -> i32;
+    pub(crate) fn felter_load_body(receiver: *mut Raw, buffer: *mut u8, room: usize) -> i32;
+    pub(crate) fn felter_validate(receiver: *mut Raw) -> i32;
+    pub(crate) fn felter_raw_lapped_count(receiver: *mut Raw, count: *mut u64) -> i32;
     pub(crate) fn felter_board_join(transmitter: *mut Raw, receiver: *mut Raw) -> i32;
-    pub(crate) fn felter_board_join_raw(transmitter: *mut Raw, raw_receiver: *mut Raw) -> i32;
+    pub(crate) fn felter_board_join_raw(transmitter: *mut Raw, receiver: *mut Raw) -> i32;
     pub(crate) fn felter_board_close(transmitter: *mut Raw, tail: *mut u64) -> i32;
-}
-
-// Counters.
-extern "C" {
     pub(crate) fn felter_counters_new_numbered(number: u64, count: u32, reuse_ms: u32, counters: *mut Raw) -> i32;
+    pub(crate) fn felter_counter_allocate(
+        counters: *mut Raw,
+        now: u64,
+        type_id: i32,
+        key: *const u8,
+        key_len: usize,
+        label: *const u8,
+        label_len: usize,
+        registration: u64,
+        id: *mut u32,
+    ) -> i32;
     pub(crate) fn felter_counter_allocate_owned(
         counters: *mut Raw,
         now: u64,
@@ -131,10 +138,6 @@ extern "C" {
     pub(crate) fn felter_counters_reader(counters: *mut Raw, reader: *mut Raw) -> i32;
     pub(crate) fn felter_reader_value(reader: *mut Raw, id: u32, value: *mut i64) -> i32;
     pub(crate) fn felter_counters_join(counters: *mut Raw, reader: *mut Raw) -> i32;
-}
-
-// Conductors.
-extern "C" {
     pub(crate) fn felter_conductor_new_numbered(
         number: u64,
         capacity: u32,
@@ -152,17 +155,13 @@ extern "C" {
         stopped: *mut i32,
     ) -> i32;
     pub(crate) fn felter_conductor_set_heartbeat(conductor: *mut Raw, value: u64) -> i32;
+    pub(crate) fn felter_client_heartbeat(client: *mut Raw, value: *mut u64) -> i32;
     pub(crate) fn felter_conductor_subscribe(conductor: *mut Raw, receiver: *mut Raw) -> i32;
     pub(crate) fn felter_conductor_reader(conductor: *mut Raw, reader: *mut Raw) -> i32;
     pub(crate) fn felter_conductor_join(conductor: *mut Raw, client: *mut Raw) -> i32;
     pub(crate) fn felter_conductor_join_receiver(conductor: *mut Raw, receiver: *mut Raw) -> i32;
     pub(crate) fn felter_conductor_join_reader(conductor: *mut Raw, reader: *mut Raw) -> i32;
     pub(crate) fn felter_conductor_finish(conductor: *mut Raw, received: *mut u64, left: *mut u64) -> i32;
-}
-
-// Clients.
-extern "C" {
-    pub(crate) fn felter_client_heartbeat(client: *mut Raw, value: *mut u64) -> i32;
     pub(crate) fn felter_send_allocate(
         client: *mut Raw,
         type_id: i32,

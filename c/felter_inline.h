@@ -1,0 +1,850 @@
+/* Written by c/bindings from felter.h: change that, and run it again.
+ *
+ * A program includes felter.h alone, which includes this. Each name of a function of the library is a macro that names
+ * a function here, which looks for pointers that are NULL before it calls. */
+#ifndef FELTER_INLINE_H
+#define FELTER_INLINE_H
+
+#define FELTER_GUARD static inline __attribute__((warn_unused_result))
+
+#ifdef FELTER_CHECKED
+#include "felter_checked.h"
+#else
+static inline int32_t felter_refuse(const char *call, int32_t code) {
+    (void)call;
+    return code;
+}
+#define FELTER_ENTER1(call, handle) (void)0
+#define FELTER_ENTER2(call, handle, other) (void)0
+#define FELTER_LEAVE1() (void)0
+#define FELTER_LEAVE2() (void)0
+#endif
+
+/* How many numbers were drawn. It is weak, so that all files of a program, in C and in C++, share one. A shared library
+ * that includes this header can have one of its own, as where dlopen loads it, and both give the same numbers then. */
+__attribute__((weak)) uint64_t felter_numbers_drawn = 0;
+
+/* Draws the number of what is made next: 1, 2, 3, .. by any threads. */
+static inline uint64_t felter_next_number(void) {
+    return __atomic_add_fetch(&felter_numbers_drawn, 1, __ATOMIC_RELAXED);
+}
+
+static inline const char *felter_text(int32_t code) {
+    switch (code) {
+    case 0: return "no error";
+    case 1: return "the capacity is not a power of two from 128 (of a board 256) to 2^24";
+    case 2: return "the start is not a multiple of the capacity, or is above 2^62";
+    case 3: return "out of memory";
+    case 4: return "the type id is below 1";
+    case 5: return "the message has more than an eighth of the capacity, or the command 520";
+    case 6: return "the record would end above 2^62";
+    case 7: return "the ring is full";
+    case 8: return "another producer was faster";
+    case 9: return "the bytes do not lie inside the claim";
+    case 10: return "a claim of the producer is open";
+    case 11: return "a producer or a client was not taken back";
+    case 12: return "one share is left, and is needed";
+    case 13: return "the transmitter overtook the receiver";
+    case 14: return "a receiver was not taken back";
+    case 15: return "the number of counters is 0 or above 4096";
+    case 16: return "the key has more than 112 bytes";
+    case 17: return "the label has more than 380 bytes";
+    case 18: return "the label has a byte of 128 or more";
+    case 19: return "every counter is in use, or was freed too short a time ago";
+    case 20: return "the id is not below the number of counters";
+    case 21: return "no such counter is in use";
+    case 28: return "the owner is 0, which means none";
+    case 100: return "the handle is empty";
+    case 101: return "the handle is of another kind";
+    case 102: return "the handle that was to be filled is not empty";
+    case 104: return "no claim of this number is open";
+    case 105: return "no message is there yet";
+    case 106: return "the message is longer than the buffer, and stays";
+    case 107: return "the moment is above 2^62";
+    case 108: return "the two handles are of two rings, boards, conductors or sets of counters";
+    case 109: return "the message is the reply to another command, or no reply";
+    case 110: return "another handle holds what was to be closed";
+    case 111: return "a pointer is NULL";
+    default: return "unknown code";
+    }
+}
+
+static inline void felter_guarded_free(felter_handle *handle) {
+    if (!handle) return;
+    FELTER_ENTER1("felter_free", handle);
+    felter_free(handle);
+    FELTER_LEAVE1();
+}
+
+FELTER_GUARD int32_t felter_guarded_many_to_one_new_numbered(uint64_t number, uint32_t capacity,
+                                                             felter_producer *producer, felter_consumer *consumer) {
+    if (!producer) return felter_refuse("felter_many_to_one_new_numbered", FELTER_NO_HANDLE);
+    if (!consumer) return felter_refuse("felter_many_to_one_new_numbered", FELTER_NO_HANDLE);
+    FELTER_ENTER2("felter_many_to_one_new_numbered", &producer->handle, &consumer->handle);
+    int32_t code = felter_many_to_one_new_numbered(number, capacity, producer, consumer);
+    FELTER_LEAVE2();
+    return code;
+}
+
+FELTER_GUARD int32_t felter_guarded_many_to_one_new_at_numbered(uint64_t number, uint32_t capacity, uint64_t start,
+                                                                felter_producer *producer, felter_consumer *consumer) {
+    if (!producer) return felter_refuse("felter_many_to_one_new_at_numbered", FELTER_NO_HANDLE);
+    if (!consumer) return felter_refuse("felter_many_to_one_new_at_numbered", FELTER_NO_HANDLE);
+    FELTER_ENTER2("felter_many_to_one_new_at_numbered", &producer->handle, &consumer->handle);
+    int32_t code = felter_many_to_one_new_at_numbered(number, capacity, start, producer, consumer);
+    FELTER_LEAVE2();
+    return code;
+}
+
+FELTER_GUARD int32_t felter_guarded_one_to_one_new_numbered(uint64_t number, uint32_t capacity,
+                                                            felter_producer *producer, felter_consumer *consumer) {
+    if (!producer) return felter_refuse("felter_one_to_one_new_numbered", FELTER_NO_HANDLE);
+    if (!consumer) return felter_refuse("felter_one_to_one_new_numbered", FELTER_NO_HANDLE);
+    FELTER_ENTER2("felter_one_to_one_new_numbered", &producer->handle, &consumer->handle);
+    int32_t code = felter_one_to_one_new_numbered(number, capacity, producer, consumer);
+    FELTER_LEAVE2();
+    return code;
+}
+
+FELTER_GUARD int32_t felter_guarded_one_to_one_new_at_numbered(uint64_t number, uint32_t capacity, uint64_t start,
+                                                               felter_producer *producer, felter_consumer *consumer) {
+    if (!producer) return felter_refuse("felter_one_to_one_new_at_numbered", FELTER_NO_HANDLE);
+    if (!consumer) return felter_refuse("felter_one_to_one_new_at_numbered", FELTER_NO_HANDLE);
+    FELTER_ENTER2("felter_one_to_one_new_at_numbered", &producer->handle, &consumer->handle);
+    int32_t code = felter_one_to_one_new_at_numbered(number, capacity, start, producer, consumer);
+    FELTER_LEAVE2();
+    return code;
+}
+
+FELTER_GUARD int32_t felter_guarded_write(felter_producer *producer, int32_t type_id, const void *body, size_t len) {
+    if (!producer) return felter_refuse("felter_write", FELTER_NO_HANDLE);
+    if (!body && len) return felter_refuse("felter_write", FELTER_NULL_POINTER);
+    FELTER_ENTER1("felter_write", &producer->handle);
+    int32_t code = felter_write(producer, type_id, body, len);
+    FELTER_LEAVE1();
+    return code;
+}
+
+FELTER_GUARD int32_t felter_guarded_claim(felter_producer *producer, int32_t type_id, size_t len, uint64_t *claim) {
+    if (!producer) return felter_refuse("felter_claim", FELTER_NO_HANDLE);
+    if (!claim) return felter_refuse("felter_claim", FELTER_NULL_POINTER);
+    FELTER_ENTER1("felter_claim", &producer->handle);
+    int32_t code = felter_claim(producer, type_id, len, claim);
+    FELTER_LEAVE1();
+    return code;
+}
+
+FELTER_GUARD int32_t felter_guarded_put(felter_producer *producer, uint64_t claim, size_t offset, const void *bytes,
+                                        size_t len) {
+    if (!producer) return felter_refuse("felter_put", FELTER_NO_HANDLE);
+    if (!bytes && len) return felter_refuse("felter_put", FELTER_NULL_POINTER);
+    FELTER_ENTER1("felter_put", &producer->handle);
+    int32_t code = felter_put(producer, claim, offset, bytes, len);
+    FELTER_LEAVE1();
+    return code;
+}
+
+FELTER_GUARD int32_t felter_guarded_commit(felter_producer *producer, uint64_t claim) {
+    if (!producer) return felter_refuse("felter_commit", FELTER_NO_HANDLE);
+    FELTER_ENTER1("felter_commit", &producer->handle);
+    int32_t code = felter_commit(producer, claim);
+    FELTER_LEAVE1();
+    return code;
+}
+
+FELTER_GUARD int32_t felter_guarded_abort(felter_producer *producer, uint64_t claim) {
+    if (!producer) return felter_refuse("felter_abort", FELTER_NO_HANDLE);
+    FELTER_ENTER1("felter_abort", &producer->handle);
+    int32_t code = felter_abort(producer, claim);
+    FELTER_LEAVE1();
+    return code;
+}
+
+FELTER_GUARD int32_t felter_guarded_split(felter_producer *producer, felter_producer *other) {
+    if (!producer) return felter_refuse("felter_split", FELTER_NO_HANDLE);
+    if (!other) return felter_refuse("felter_split", FELTER_NO_HANDLE);
+    FELTER_ENTER2("felter_split", &producer->handle, &other->handle);
+    int32_t code = felter_split(producer, other);
+    FELTER_LEAVE2();
+    return code;
+}
+
+FELTER_GUARD int32_t felter_guarded_join(felter_producer *producer, felter_producer *other) {
+    if (!producer) return felter_refuse("felter_join", FELTER_NO_HANDLE);
+    if (!other) return felter_refuse("felter_join", FELTER_NO_HANDLE);
+    FELTER_ENTER2("felter_join", &producer->handle, &other->handle);
+    int32_t code = felter_join(producer, other);
+    FELTER_LEAVE2();
+    return code;
+}
+
+FELTER_GUARD int32_t felter_guarded_positions(felter_producer *producer, uint64_t *head, uint64_t *tail) {
+    if (!producer) return felter_refuse("felter_positions", FELTER_NO_HANDLE);
+    if (!head) return felter_refuse("felter_positions", FELTER_NULL_POINTER);
+    if (!tail) return felter_refuse("felter_positions", FELTER_NULL_POINTER);
+    FELTER_ENTER1("felter_positions", &producer->handle);
+    int32_t code = felter_positions(producer, head, tail);
+    FELTER_LEAVE1();
+    return code;
+}
+
+FELTER_GUARD int32_t felter_guarded_next_id(felter_producer *producer, uint64_t *id) {
+    if (!producer) return felter_refuse("felter_next_id", FELTER_NO_HANDLE);
+    if (!id) return felter_refuse("felter_next_id", FELTER_NULL_POINTER);
+    FELTER_ENTER1("felter_next_id", &producer->handle);
+    int32_t code = felter_next_id(producer, id);
+    FELTER_LEAVE1();
+    return code;
+}
+
+FELTER_GUARD int32_t felter_guarded_heartbeat(felter_producer *producer, uint64_t *value) {
+    if (!producer) return felter_refuse("felter_heartbeat", FELTER_NO_HANDLE);
+    if (!value) return felter_refuse("felter_heartbeat", FELTER_NULL_POINTER);
+    FELTER_ENTER1("felter_heartbeat", &producer->handle);
+    int32_t code = felter_heartbeat(producer, value);
+    FELTER_LEAVE1();
+    return code;
+}
+
+FELTER_GUARD int32_t felter_guarded_set_heartbeat(felter_consumer *consumer, uint64_t value) {
+    if (!consumer) return felter_refuse("felter_set_heartbeat", FELTER_NO_HANDLE);
+    FELTER_ENTER1("felter_set_heartbeat", &consumer->handle);
+    int32_t code = felter_set_heartbeat(consumer, value);
+    FELTER_LEAVE1();
+    return code;
+}
+
+FELTER_GUARD int32_t felter_guarded_shares(felter_producer *producer, uint32_t *shares) {
+    if (!producer) return felter_refuse("felter_shares", FELTER_NO_HANDLE);
+    if (!shares) return felter_refuse("felter_shares", FELTER_NULL_POINTER);
+    FELTER_ENTER1("felter_shares", &producer->handle);
+    int32_t code = felter_shares(producer, shares);
+    FELTER_LEAVE1();
+    return code;
+}
+
+FELTER_GUARD int32_t felter_guarded_read(felter_consumer *consumer, int32_t *type_id, size_t *len, void *buffer,
+                                         size_t room) {
+    if (!consumer) return felter_refuse("felter_read", FELTER_NO_HANDLE);
+    if (!type_id) return felter_refuse("felter_read", FELTER_NULL_POINTER);
+    if (!len) return felter_refuse("felter_read", FELTER_NULL_POINTER);
+    if (!buffer && room) return felter_refuse("felter_read", FELTER_NULL_POINTER);
+    FELTER_ENTER1("felter_read", &consumer->handle);
+    int32_t code = felter_read(consumer, type_id, len, buffer, room);
+    FELTER_LEAVE1();
+    return code;
+}
+
+FELTER_GUARD int32_t felter_guarded_read_batch(felter_consumer *consumer, uint32_t limit, uint32_t *count, size_t *used,
+                                               void *buffer, size_t room) {
+    if (!consumer) return felter_refuse("felter_read_batch", FELTER_NO_HANDLE);
+    if (!count) return felter_refuse("felter_read_batch", FELTER_NULL_POINTER);
+    if (!used) return felter_refuse("felter_read_batch", FELTER_NULL_POINTER);
+    if (!buffer && room) return felter_refuse("felter_read_batch", FELTER_NULL_POINTER);
+    FELTER_ENTER1("felter_read_batch", &consumer->handle);
+    int32_t code = felter_read_batch(consumer, limit, count, used, buffer, room);
+    FELTER_LEAVE1();
+    return code;
+}
+
+FELTER_GUARD int32_t felter_guarded_close(felter_consumer *consumer, felter_producer *producer) {
+    if (!consumer) return felter_refuse("felter_close", FELTER_NO_HANDLE);
+    if (!producer) return felter_refuse("felter_close", FELTER_NO_HANDLE);
+    FELTER_ENTER2("felter_close", &consumer->handle, &producer->handle);
+    int32_t code = felter_close(consumer, producer);
+    FELTER_LEAVE2();
+    return code;
+}
+
+FELTER_GUARD int32_t felter_guarded_finish(felter_consumer *consumer, uint64_t *left) {
+    if (!consumer) return felter_refuse("felter_finish", FELTER_NO_HANDLE);
+    if (!left) return felter_refuse("felter_finish", FELTER_NULL_POINTER);
+    FELTER_ENTER1("felter_finish", &consumer->handle);
+    int32_t code = felter_finish(consumer, left);
+    FELTER_LEAVE1();
+    return code;
+}
+
+FELTER_GUARD int32_t felter_guarded_board_new_numbered(uint64_t number, uint32_t capacity,
+                                                       felter_transmitter *transmitter) {
+    if (!transmitter) return felter_refuse("felter_board_new_numbered", FELTER_NO_HANDLE);
+    FELTER_ENTER1("felter_board_new_numbered", &transmitter->handle);
+    int32_t code = felter_board_new_numbered(number, capacity, transmitter);
+    FELTER_LEAVE1();
+    return code;
+}
+
+FELTER_GUARD int32_t felter_guarded_board_new_at_numbered(uint64_t number, uint32_t capacity, uint64_t start,
+                                                          felter_transmitter *transmitter) {
+    if (!transmitter) return felter_refuse("felter_board_new_at_numbered", FELTER_NO_HANDLE);
+    FELTER_ENTER1("felter_board_new_at_numbered", &transmitter->handle);
+    int32_t code = felter_board_new_at_numbered(number, capacity, start, transmitter);
+    FELTER_LEAVE1();
+    return code;
+}
+
+FELTER_GUARD int32_t felter_guarded_transmit(felter_transmitter *transmitter, int32_t type_id, const void *body,
+                                             size_t len) {
+    if (!transmitter) return felter_refuse("felter_transmit", FELTER_NO_HANDLE);
+    if (!body && len) return felter_refuse("felter_transmit", FELTER_NULL_POINTER);
+    FELTER_ENTER1("felter_transmit", &transmitter->handle);
+    int32_t code = felter_transmit(transmitter, type_id, body, len);
+    FELTER_LEAVE1();
+    return code;
+}
+
+FELTER_GUARD int32_t felter_guarded_subscribe(felter_transmitter *transmitter, felter_receiver *receiver) {
+    if (!transmitter) return felter_refuse("felter_subscribe", FELTER_NO_HANDLE);
+    if (!receiver) return felter_refuse("felter_subscribe", FELTER_NO_HANDLE);
+    FELTER_ENTER2("felter_subscribe", &transmitter->handle, &receiver->handle);
+    int32_t code = felter_subscribe(transmitter, receiver);
+    FELTER_LEAVE2();
+    return code;
+}
+
+FELTER_GUARD int32_t felter_guarded_receive(felter_receiver *receiver, int32_t *type_id, size_t *len, uint64_t *lapped,
+                                            void *buffer, size_t room) {
+    if (!receiver) return felter_refuse("felter_receive", FELTER_NO_HANDLE);
+    if (!type_id) return felter_refuse("felter_receive", FELTER_NULL_POINTER);
+    if (!len) return felter_refuse("felter_receive", FELTER_NULL_POINTER);
+    if (!lapped) return felter_refuse("felter_receive", FELTER_NULL_POINTER);
+    if (!buffer && room) return felter_refuse("felter_receive", FELTER_NULL_POINTER);
+    FELTER_ENTER1("felter_receive", &receiver->handle);
+    int32_t code = felter_receive(receiver, type_id, len, lapped, buffer, room);
+    FELTER_LEAVE1();
+    return code;
+}
+
+FELTER_GUARD int32_t felter_guarded_lapped_count(felter_receiver *receiver, uint64_t *count) {
+    if (!receiver) return felter_refuse("felter_lapped_count", FELTER_NO_HANDLE);
+    if (!count) return felter_refuse("felter_lapped_count", FELTER_NULL_POINTER);
+    FELTER_ENTER1("felter_lapped_count", &receiver->handle);
+    int32_t code = felter_lapped_count(receiver, count);
+    FELTER_LEAVE1();
+    return code;
+}
+
+FELTER_GUARD int32_t felter_guarded_subscribe_raw(felter_transmitter *transmitter, felter_raw_receiver *receiver) {
+    if (!transmitter) return felter_refuse("felter_subscribe_raw", FELTER_NO_HANDLE);
+    if (!receiver) return felter_refuse("felter_subscribe_raw", FELTER_NO_HANDLE);
+    FELTER_ENTER2("felter_subscribe_raw", &transmitter->handle, &receiver->handle);
+    int32_t code = felter_subscribe_raw(transmitter, receiver);
+    FELTER_LEAVE2();
+    return code;
+}
+
+FELTER_GUARD int32_t felter_guarded_receive_next(felter_raw_receiver *receiver, int32_t *type_id, size_t *len,
+                                                 uint64_t *lapped) {
+    if (!receiver) return felter_refuse("felter_receive_next", FELTER_NO_HANDLE);
+    if (!type_id) return felter_refuse("felter_receive_next", FELTER_NULL_POINTER);
+    if (!len) return felter_refuse("felter_receive_next", FELTER_NULL_POINTER);
+    if (!lapped) return felter_refuse("felter_receive_next", FELTER_NULL_POINTER);
+    FELTER_ENTER1("felter_receive_next", &receiver->handle);
+    int32_t code = felter_receive_next(receiver, type_id, len, lapped);
+    FELTER_LEAVE1();
+    return code;
+}
+
+FELTER_GUARD int32_t felter_guarded_load_body(felter_raw_receiver *receiver, void *buffer, size_t room) {
+    if (!receiver) return felter_refuse("felter_load_body", FELTER_NO_HANDLE);
+    if (!buffer && room) return felter_refuse("felter_load_body", FELTER_NULL_POINTER);
+    FELTER_ENTER1("felter_load_body", &receiver->handle);
+    int32_t code = felter_load_body(receiver, buffer, room);
+    FELTER_LEAVE1();
+    return code;
+}
+
+FELTER_GUARD int32_t felter_guarded_validate(felter_raw_receiver *receiver) {
+    if (!receiver) return felter_refuse("felter_validate", FELTER_NO_HANDLE);
+    FELTER_ENTER1("felter_validate", &receiver->handle);
+    int32_t code = felter_validate(receiver);
+    FELTER_LEAVE1();
+    return code;
+}
+
+FELTER_GUARD int32_t felter_guarded_raw_lapped_count(felter_raw_receiver *receiver, uint64_t *count) {
+    if (!receiver) return felter_refuse("felter_raw_lapped_count", FELTER_NO_HANDLE);
+    if (!count) return felter_refuse("felter_raw_lapped_count", FELTER_NULL_POINTER);
+    FELTER_ENTER1("felter_raw_lapped_count", &receiver->handle);
+    int32_t code = felter_raw_lapped_count(receiver, count);
+    FELTER_LEAVE1();
+    return code;
+}
+
+FELTER_GUARD int32_t felter_guarded_board_join(felter_transmitter *transmitter, felter_receiver *receiver) {
+    if (!transmitter) return felter_refuse("felter_board_join", FELTER_NO_HANDLE);
+    if (!receiver) return felter_refuse("felter_board_join", FELTER_NO_HANDLE);
+    FELTER_ENTER2("felter_board_join", &transmitter->handle, &receiver->handle);
+    int32_t code = felter_board_join(transmitter, receiver);
+    FELTER_LEAVE2();
+    return code;
+}
+
+FELTER_GUARD int32_t felter_guarded_board_join_raw(felter_transmitter *transmitter, felter_raw_receiver *receiver) {
+    if (!transmitter) return felter_refuse("felter_board_join_raw", FELTER_NO_HANDLE);
+    if (!receiver) return felter_refuse("felter_board_join_raw", FELTER_NO_HANDLE);
+    FELTER_ENTER2("felter_board_join_raw", &transmitter->handle, &receiver->handle);
+    int32_t code = felter_board_join_raw(transmitter, receiver);
+    FELTER_LEAVE2();
+    return code;
+}
+
+FELTER_GUARD int32_t felter_guarded_board_close(felter_transmitter *transmitter, uint64_t *tail) {
+    if (!transmitter) return felter_refuse("felter_board_close", FELTER_NO_HANDLE);
+    if (!tail) return felter_refuse("felter_board_close", FELTER_NULL_POINTER);
+    FELTER_ENTER1("felter_board_close", &transmitter->handle);
+    int32_t code = felter_board_close(transmitter, tail);
+    FELTER_LEAVE1();
+    return code;
+}
+
+FELTER_GUARD int32_t felter_guarded_counters_new_numbered(uint64_t number, uint32_t count, uint32_t reuse_ms,
+                                                          felter_counters *counters) {
+    if (!counters) return felter_refuse("felter_counters_new_numbered", FELTER_NO_HANDLE);
+    FELTER_ENTER1("felter_counters_new_numbered", &counters->handle);
+    int32_t code = felter_counters_new_numbered(number, count, reuse_ms, counters);
+    FELTER_LEAVE1();
+    return code;
+}
+
+FELTER_GUARD int32_t felter_guarded_counter_allocate(felter_counters *counters, uint64_t now, int32_t type_id, const
+                                                     void *key, size_t key_len, const void *label, size_t label_len,
+                                                     uint64_t registration, uint32_t *id) {
+    if (!counters) return felter_refuse("felter_counter_allocate", FELTER_NO_HANDLE);
+    if (!key && key_len) return felter_refuse("felter_counter_allocate", FELTER_NULL_POINTER);
+    if (!label && label_len) return felter_refuse("felter_counter_allocate", FELTER_NULL_POINTER);
+    if (!id) return felter_refuse("felter_counter_allocate", FELTER_NULL_POINTER);
+    FELTER_ENTER1("felter_counter_allocate", &counters->handle);
+    int32_t code = felter_counter_allocate(counters, now, type_id, key, key_len, label, label_len, registration, id);
+    FELTER_LEAVE1();
+    return code;
+}
+
+FELTER_GUARD int32_t felter_guarded_counter_allocate_owned(felter_counters *counters, uint64_t now, int32_t type_id,
+                                                           const void *key, size_t key_len, const void *label,
+                                                           size_t label_len, uint64_t registration, uint64_t owner,
+                                                           uint32_t *id) {
+    if (!counters) return felter_refuse("felter_counter_allocate_owned", FELTER_NO_HANDLE);
+    if (!key && key_len) return felter_refuse("felter_counter_allocate_owned", FELTER_NULL_POINTER);
+    if (!label && label_len) return felter_refuse("felter_counter_allocate_owned", FELTER_NULL_POINTER);
+    if (!id) return felter_refuse("felter_counter_allocate_owned", FELTER_NULL_POINTER);
+    FELTER_ENTER1("felter_counter_allocate_owned", &counters->handle);
+    int32_t code = felter_counter_allocate_owned(counters, now, type_id, key, key_len, label, label_len, registration,
+                                                 owner, id);
+    FELTER_LEAVE1();
+    return code;
+}
+
+FELTER_GUARD int32_t felter_guarded_counter_free(felter_counters *counters, uint64_t now, uint32_t id) {
+    if (!counters) return felter_refuse("felter_counter_free", FELTER_NO_HANDLE);
+    FELTER_ENTER1("felter_counter_free", &counters->handle);
+    int32_t code = felter_counter_free(counters, now, id);
+    FELTER_LEAVE1();
+    return code;
+}
+
+FELTER_GUARD int32_t felter_guarded_counter_set(felter_counters *counters, uint32_t id, int64_t value) {
+    if (!counters) return felter_refuse("felter_counter_set", FELTER_NO_HANDLE);
+    FELTER_ENTER1("felter_counter_set", &counters->handle);
+    int32_t code = felter_counter_set(counters, id, value);
+    FELTER_LEAVE1();
+    return code;
+}
+
+FELTER_GUARD int32_t felter_guarded_counter_add(felter_counters *counters, uint32_t id, int64_t delta, int64_t *before)
+                                                {
+    if (!counters) return felter_refuse("felter_counter_add", FELTER_NO_HANDLE);
+    if (!before) return felter_refuse("felter_counter_add", FELTER_NULL_POINTER);
+    FELTER_ENTER1("felter_counter_add", &counters->handle);
+    int32_t code = felter_counter_add(counters, id, delta, before);
+    FELTER_LEAVE1();
+    return code;
+}
+
+FELTER_GUARD int32_t felter_guarded_counter_value(felter_counters *counters, uint32_t id, int64_t *value) {
+    if (!counters) return felter_refuse("felter_counter_value", FELTER_NO_HANDLE);
+    if (!value) return felter_refuse("felter_counter_value", FELTER_NULL_POINTER);
+    FELTER_ENTER1("felter_counter_value", &counters->handle);
+    int32_t code = felter_counter_value(counters, id, value);
+    FELTER_LEAVE1();
+    return code;
+}
+
+FELTER_GUARD int32_t felter_guarded_counter_type_id(felter_counters *counters, uint32_t id, int32_t *type_id) {
+    if (!counters) return felter_refuse("felter_counter_type_id", FELTER_NO_HANDLE);
+    if (!type_id) return felter_refuse("felter_counter_type_id", FELTER_NULL_POINTER);
+    FELTER_ENTER1("felter_counter_type_id", &counters->handle);
+    int32_t code = felter_counter_type_id(counters, id, type_id);
+    FELTER_LEAVE1();
+    return code;
+}
+
+FELTER_GUARD int32_t felter_guarded_counter_registration(felter_counters *counters, uint32_t id, uint64_t *registration)
+                                                         {
+    if (!counters) return felter_refuse("felter_counter_registration", FELTER_NO_HANDLE);
+    if (!registration) return felter_refuse("felter_counter_registration", FELTER_NULL_POINTER);
+    FELTER_ENTER1("felter_counter_registration", &counters->handle);
+    int32_t code = felter_counter_registration(counters, id, registration);
+    FELTER_LEAVE1();
+    return code;
+}
+
+FELTER_GUARD int32_t felter_guarded_counter_owner(felter_counters *counters, uint32_t id, uint64_t *owner) {
+    if (!counters) return felter_refuse("felter_counter_owner", FELTER_NO_HANDLE);
+    if (!owner) return felter_refuse("felter_counter_owner", FELTER_NULL_POINTER);
+    FELTER_ENTER1("felter_counter_owner", &counters->handle);
+    int32_t code = felter_counter_owner(counters, id, owner);
+    FELTER_LEAVE1();
+    return code;
+}
+
+FELTER_GUARD int32_t felter_guarded_counter_label(felter_counters *counters, uint32_t id, size_t *len, void *buffer,
+                                                  size_t room) {
+    if (!counters) return felter_refuse("felter_counter_label", FELTER_NO_HANDLE);
+    if (!len) return felter_refuse("felter_counter_label", FELTER_NULL_POINTER);
+    if (!buffer && room) return felter_refuse("felter_counter_label", FELTER_NULL_POINTER);
+    FELTER_ENTER1("felter_counter_label", &counters->handle);
+    int32_t code = felter_counter_label(counters, id, len, buffer, room);
+    FELTER_LEAVE1();
+    return code;
+}
+
+FELTER_GUARD int32_t felter_guarded_counter_key(felter_counters *counters, uint32_t id, void *buffer, size_t room) {
+    if (!counters) return felter_refuse("felter_counter_key", FELTER_NO_HANDLE);
+    if (!buffer && room) return felter_refuse("felter_counter_key", FELTER_NULL_POINTER);
+    FELTER_ENTER1("felter_counter_key", &counters->handle);
+    int32_t code = felter_counter_key(counters, id, buffer, room);
+    FELTER_LEAVE1();
+    return code;
+}
+
+FELTER_GUARD int32_t felter_guarded_counter_find(felter_counters *counters, int32_t type_id, uint64_t registration,
+                                                 uint32_t *id) {
+    if (!counters) return felter_refuse("felter_counter_find", FELTER_NO_HANDLE);
+    if (!id) return felter_refuse("felter_counter_find", FELTER_NULL_POINTER);
+    FELTER_ENTER1("felter_counter_find", &counters->handle);
+    int32_t code = felter_counter_find(counters, type_id, registration, id);
+    FELTER_LEAVE1();
+    return code;
+}
+
+FELTER_GUARD int32_t felter_guarded_counters_count(felter_counters *counters, uint32_t *count) {
+    if (!counters) return felter_refuse("felter_counters_count", FELTER_NO_HANDLE);
+    if (!count) return felter_refuse("felter_counters_count", FELTER_NULL_POINTER);
+    FELTER_ENTER1("felter_counters_count", &counters->handle);
+    int32_t code = felter_counters_count(counters, count);
+    FELTER_LEAVE1();
+    return code;
+}
+
+FELTER_GUARD int32_t felter_guarded_counters_close_owner(felter_counters *counters, uint64_t now, uint64_t owner,
+                                                         uint32_t *freed) {
+    if (!counters) return felter_refuse("felter_counters_close_owner", FELTER_NO_HANDLE);
+    if (!freed) return felter_refuse("felter_counters_close_owner", FELTER_NULL_POINTER);
+    FELTER_ENTER1("felter_counters_close_owner", &counters->handle);
+    int32_t code = felter_counters_close_owner(counters, now, owner, freed);
+    FELTER_LEAVE1();
+    return code;
+}
+
+FELTER_GUARD int32_t felter_guarded_counters_reader(felter_counters *counters, felter_reader *reader) {
+    if (!counters) return felter_refuse("felter_counters_reader", FELTER_NO_HANDLE);
+    if (!reader) return felter_refuse("felter_counters_reader", FELTER_NO_HANDLE);
+    FELTER_ENTER2("felter_counters_reader", &counters->handle, &reader->handle);
+    int32_t code = felter_counters_reader(counters, reader);
+    FELTER_LEAVE2();
+    return code;
+}
+
+FELTER_GUARD int32_t felter_guarded_reader_value(felter_reader *reader, uint32_t id, int64_t *value) {
+    if (!reader) return felter_refuse("felter_reader_value", FELTER_NO_HANDLE);
+    if (!value) return felter_refuse("felter_reader_value", FELTER_NULL_POINTER);
+    FELTER_ENTER1("felter_reader_value", &reader->handle);
+    int32_t code = felter_reader_value(reader, id, value);
+    FELTER_LEAVE1();
+    return code;
+}
+
+FELTER_GUARD int32_t felter_guarded_counters_join(felter_counters *counters, felter_reader *reader) {
+    if (!counters) return felter_refuse("felter_counters_join", FELTER_NO_HANDLE);
+    if (!reader) return felter_refuse("felter_counters_join", FELTER_NO_HANDLE);
+    FELTER_ENTER2("felter_counters_join", &counters->handle, &reader->handle);
+    int32_t code = felter_counters_join(counters, reader);
+    FELTER_LEAVE2();
+    return code;
+}
+
+FELTER_GUARD int32_t felter_guarded_conductor_new_numbered(uint64_t number, uint32_t capacity, uint32_t replies,
+                                                           uint32_t counters, uint32_t reuse_ms,
+                                                           felter_conductor *conductor) {
+    if (!conductor) return felter_refuse("felter_conductor_new_numbered", FELTER_NO_HANDLE);
+    FELTER_ENTER1("felter_conductor_new_numbered", &conductor->handle);
+    int32_t code = felter_conductor_new_numbered(number, capacity, replies, counters, reuse_ms, conductor);
+    FELTER_LEAVE1();
+    return code;
+}
+
+FELTER_GUARD int32_t felter_guarded_conductor_client(felter_conductor *conductor, felter_client *client) {
+    if (!conductor) return felter_refuse("felter_conductor_client", FELTER_NO_HANDLE);
+    if (!client) return felter_refuse("felter_conductor_client", FELTER_NO_HANDLE);
+    FELTER_ENTER2("felter_conductor_client", &conductor->handle, &client->handle);
+    int32_t code = felter_conductor_client(conductor, client);
+    FELTER_LEAVE2();
+    return code;
+}
+
+FELTER_GUARD int32_t felter_guarded_conductor_work(felter_conductor *conductor, uint64_t now, uint32_t limit,
+                                                   uint64_t *messages, int32_t *stopped) {
+    if (!conductor) return felter_refuse("felter_conductor_work", FELTER_NO_HANDLE);
+    if (!messages) return felter_refuse("felter_conductor_work", FELTER_NULL_POINTER);
+    if (!stopped) return felter_refuse("felter_conductor_work", FELTER_NULL_POINTER);
+    FELTER_ENTER1("felter_conductor_work", &conductor->handle);
+    int32_t code = felter_conductor_work(conductor, now, limit, messages, stopped);
+    FELTER_LEAVE1();
+    return code;
+}
+
+FELTER_GUARD int32_t felter_guarded_conductor_set_heartbeat(felter_conductor *conductor, uint64_t value) {
+    if (!conductor) return felter_refuse("felter_conductor_set_heartbeat", FELTER_NO_HANDLE);
+    FELTER_ENTER1("felter_conductor_set_heartbeat", &conductor->handle);
+    int32_t code = felter_conductor_set_heartbeat(conductor, value);
+    FELTER_LEAVE1();
+    return code;
+}
+
+FELTER_GUARD int32_t felter_guarded_client_heartbeat(felter_client *client, uint64_t *value) {
+    if (!client) return felter_refuse("felter_client_heartbeat", FELTER_NO_HANDLE);
+    if (!value) return felter_refuse("felter_client_heartbeat", FELTER_NULL_POINTER);
+    FELTER_ENTER1("felter_client_heartbeat", &client->handle);
+    int32_t code = felter_client_heartbeat(client, value);
+    FELTER_LEAVE1();
+    return code;
+}
+
+FELTER_GUARD int32_t felter_guarded_conductor_subscribe(felter_conductor *conductor, felter_receiver *receiver) {
+    if (!conductor) return felter_refuse("felter_conductor_subscribe", FELTER_NO_HANDLE);
+    if (!receiver) return felter_refuse("felter_conductor_subscribe", FELTER_NO_HANDLE);
+    FELTER_ENTER2("felter_conductor_subscribe", &conductor->handle, &receiver->handle);
+    int32_t code = felter_conductor_subscribe(conductor, receiver);
+    FELTER_LEAVE2();
+    return code;
+}
+
+FELTER_GUARD int32_t felter_guarded_conductor_reader(felter_conductor *conductor, felter_reader *reader) {
+    if (!conductor) return felter_refuse("felter_conductor_reader", FELTER_NO_HANDLE);
+    if (!reader) return felter_refuse("felter_conductor_reader", FELTER_NO_HANDLE);
+    FELTER_ENTER2("felter_conductor_reader", &conductor->handle, &reader->handle);
+    int32_t code = felter_conductor_reader(conductor, reader);
+    FELTER_LEAVE2();
+    return code;
+}
+
+FELTER_GUARD int32_t felter_guarded_conductor_join(felter_conductor *conductor, felter_client *client) {
+    if (!conductor) return felter_refuse("felter_conductor_join", FELTER_NO_HANDLE);
+    if (!client) return felter_refuse("felter_conductor_join", FELTER_NO_HANDLE);
+    FELTER_ENTER2("felter_conductor_join", &conductor->handle, &client->handle);
+    int32_t code = felter_conductor_join(conductor, client);
+    FELTER_LEAVE2();
+    return code;
+}
+
+FELTER_GUARD int32_t felter_guarded_conductor_join_receiver(felter_conductor *conductor, felter_receiver *receiver) {
+    if (!conductor) return felter_refuse("felter_conductor_join_receiver", FELTER_NO_HANDLE);
+    if (!receiver) return felter_refuse("felter_conductor_join_receiver", FELTER_NO_HANDLE);
+    FELTER_ENTER2("felter_conductor_join_receiver", &conductor->handle, &receiver->handle);
+    int32_t code = felter_conductor_join_receiver(conductor, receiver);
+    FELTER_LEAVE2();
+    return code;
+}
+
+FELTER_GUARD int32_t felter_guarded_conductor_join_reader(felter_conductor *conductor, felter_reader *reader) {
+    if (!conductor) return felter_refuse("felter_conductor_join_reader", FELTER_NO_HANDLE);
+    if (!reader) return felter_refuse("felter_conductor_join_reader", FELTER_NO_HANDLE);
+    FELTER_ENTER2("felter_conductor_join_reader", &conductor->handle, &reader->handle);
+    int32_t code = felter_conductor_join_reader(conductor, reader);
+    FELTER_LEAVE2();
+    return code;
+}
+
+FELTER_GUARD int32_t felter_guarded_conductor_finish(felter_conductor *conductor, uint64_t *received, uint64_t *left) {
+    if (!conductor) return felter_refuse("felter_conductor_finish", FELTER_NO_HANDLE);
+    if (!received) return felter_refuse("felter_conductor_finish", FELTER_NULL_POINTER);
+    if (!left) return felter_refuse("felter_conductor_finish", FELTER_NULL_POINTER);
+    FELTER_ENTER1("felter_conductor_finish", &conductor->handle);
+    int32_t code = felter_conductor_finish(conductor, received, left);
+    FELTER_LEAVE1();
+    return code;
+}
+
+FELTER_GUARD int32_t felter_guarded_send_allocate(felter_client *client, int32_t type_id, const void *key,
+                                                  size_t key_len, const void *label, size_t label_len, uint64_t *id) {
+    if (!client) return felter_refuse("felter_send_allocate", FELTER_NO_HANDLE);
+    if (!key && key_len) return felter_refuse("felter_send_allocate", FELTER_NULL_POINTER);
+    if (!label && label_len) return felter_refuse("felter_send_allocate", FELTER_NULL_POINTER);
+    if (!id) return felter_refuse("felter_send_allocate", FELTER_NULL_POINTER);
+    FELTER_ENTER1("felter_send_allocate", &client->handle);
+    int32_t code = felter_send_allocate(client, type_id, key, key_len, label, label_len, id);
+    FELTER_LEAVE1();
+    return code;
+}
+
+FELTER_GUARD int32_t felter_guarded_send_allocate_owned(felter_client *client, int32_t type_id, uint64_t owner, const
+                                                        void *key, size_t key_len, const void *label, size_t label_len,
+                                                        uint64_t *id) {
+    if (!client) return felter_refuse("felter_send_allocate_owned", FELTER_NO_HANDLE);
+    if (!key && key_len) return felter_refuse("felter_send_allocate_owned", FELTER_NULL_POINTER);
+    if (!label && label_len) return felter_refuse("felter_send_allocate_owned", FELTER_NULL_POINTER);
+    if (!id) return felter_refuse("felter_send_allocate_owned", FELTER_NULL_POINTER);
+    FELTER_ENTER1("felter_send_allocate_owned", &client->handle);
+    int32_t code = felter_send_allocate_owned(client, type_id, owner, key, key_len, label, label_len, id);
+    FELTER_LEAVE1();
+    return code;
+}
+
+FELTER_GUARD int32_t felter_guarded_send_free(felter_client *client, uint32_t counter, uint64_t *id) {
+    if (!client) return felter_refuse("felter_send_free", FELTER_NO_HANDLE);
+    if (!id) return felter_refuse("felter_send_free", FELTER_NULL_POINTER);
+    FELTER_ENTER1("felter_send_free", &client->handle);
+    int32_t code = felter_send_free(client, counter, id);
+    FELTER_LEAVE1();
+    return code;
+}
+
+FELTER_GUARD int32_t felter_guarded_send_set(felter_client *client, uint32_t counter, int64_t value, uint64_t *id) {
+    if (!client) return felter_refuse("felter_send_set", FELTER_NO_HANDLE);
+    if (!id) return felter_refuse("felter_send_set", FELTER_NULL_POINTER);
+    FELTER_ENTER1("felter_send_set", &client->handle);
+    int32_t code = felter_send_set(client, counter, value, id);
+    FELTER_LEAVE1();
+    return code;
+}
+
+FELTER_GUARD int32_t felter_guarded_send_close_owner(felter_client *client, uint64_t owner, uint64_t *id) {
+    if (!client) return felter_refuse("felter_send_close_owner", FELTER_NO_HANDLE);
+    if (!id) return felter_refuse("felter_send_close_owner", FELTER_NULL_POINTER);
+    FELTER_ENTER1("felter_send_close_owner", &client->handle);
+    int32_t code = felter_send_close_owner(client, owner, id);
+    FELTER_LEAVE1();
+    return code;
+}
+
+FELTER_GUARD int32_t felter_guarded_poll(felter_client *client, uint64_t correlation, int32_t *kind, int64_t *number,
+                                         uint64_t *lapped) {
+    if (!client) return felter_refuse("felter_poll", FELTER_NO_HANDLE);
+    if (!kind) return felter_refuse("felter_poll", FELTER_NULL_POINTER);
+    if (!number) return felter_refuse("felter_poll", FELTER_NULL_POINTER);
+    if (!lapped) return felter_refuse("felter_poll", FELTER_NULL_POINTER);
+    FELTER_ENTER1("felter_poll", &client->handle);
+    int32_t code = felter_poll(client, correlation, kind, number, lapped);
+    FELTER_LEAVE1();
+    return code;
+}
+
+FELTER_GUARD int32_t felter_many_to_one_new(uint32_t capacity, felter_producer *producer, felter_consumer *consumer) {
+    return felter_guarded_many_to_one_new_numbered(felter_next_number(), capacity, producer, consumer);
+}
+
+FELTER_GUARD int32_t felter_many_to_one_new_at(uint32_t capacity, uint64_t start, felter_producer *producer,
+                                               felter_consumer *consumer) {
+    return felter_guarded_many_to_one_new_at_numbered(felter_next_number(), capacity, start, producer, consumer);
+}
+
+FELTER_GUARD int32_t felter_one_to_one_new(uint32_t capacity, felter_producer *producer, felter_consumer *consumer) {
+    return felter_guarded_one_to_one_new_numbered(felter_next_number(), capacity, producer, consumer);
+}
+
+FELTER_GUARD int32_t felter_one_to_one_new_at(uint32_t capacity, uint64_t start, felter_producer *producer,
+                                              felter_consumer *consumer) {
+    return felter_guarded_one_to_one_new_at_numbered(felter_next_number(), capacity, start, producer, consumer);
+}
+
+FELTER_GUARD int32_t felter_board_new(uint32_t capacity, felter_transmitter *transmitter) {
+    return felter_guarded_board_new_numbered(felter_next_number(), capacity, transmitter);
+}
+
+FELTER_GUARD int32_t felter_board_new_at(uint32_t capacity, uint64_t start, felter_transmitter *transmitter) {
+    return felter_guarded_board_new_at_numbered(felter_next_number(), capacity, start, transmitter);
+}
+
+FELTER_GUARD int32_t felter_counters_new(uint32_t count, uint32_t reuse_ms, felter_counters *counters) {
+    return felter_guarded_counters_new_numbered(felter_next_number(), count, reuse_ms, counters);
+}
+
+FELTER_GUARD int32_t felter_conductor_new(uint32_t capacity, uint32_t replies, uint32_t counters, uint32_t reuse_ms,
+                                          felter_conductor *conductor) {
+    return felter_guarded_conductor_new_numbered(felter_next_number(), capacity, replies, counters, reuse_ms,
+                                                 conductor);
+}
+
+#define felter_free felter_guarded_free
+#define felter_many_to_one_new_numbered felter_guarded_many_to_one_new_numbered
+#define felter_many_to_one_new_at_numbered felter_guarded_many_to_one_new_at_numbered
+#define felter_one_to_one_new_numbered felter_guarded_one_to_one_new_numbered
+#define felter_one_to_one_new_at_numbered felter_guarded_one_to_one_new_at_numbered
+#define felter_write felter_guarded_write
+#define felter_claim felter_guarded_claim
+#define felter_put felter_guarded_put
+#define felter_commit felter_guarded_commit
+#define felter_abort felter_guarded_abort
+#define felter_split felter_guarded_split
+#define felter_join felter_guarded_join
+#define felter_positions felter_guarded_positions
+#define felter_next_id felter_guarded_next_id
+#define felter_heartbeat felter_guarded_heartbeat
+#define felter_set_heartbeat felter_guarded_set_heartbeat
+#define felter_shares felter_guarded_shares
+#define felter_read felter_guarded_read
+#define felter_read_batch felter_guarded_read_batch
+#define felter_close felter_guarded_close
+#define felter_finish felter_guarded_finish
+#define felter_board_new_numbered felter_guarded_board_new_numbered
+#define felter_board_new_at_numbered felter_guarded_board_new_at_numbered
+#define felter_transmit felter_guarded_transmit
+#define felter_subscribe felter_guarded_subscribe
+#define felter_receive felter_guarded_receive
+#define felter_lapped_count felter_guarded_lapped_count
+#define felter_subscribe_raw felter_guarded_subscribe_raw
+#define felter_receive_next felter_guarded_receive_next
+#define felter_load_body felter_guarded_load_body
+#define felter_validate felter_guarded_validate
+#define felter_raw_lapped_count felter_guarded_raw_lapped_count
+#define felter_board_join felter_guarded_board_join
+#define felter_board_join_raw felter_guarded_board_join_raw
+#define felter_board_close felter_guarded_board_close
+#define felter_counters_new_numbered felter_guarded_counters_new_numbered
+#define felter_counter_allocate felter_guarded_counter_allocate
+#define felter_counter_allocate_owned felter_guarded_counter_allocate_owned
+#define felter_counter_free felter_guarded_counter_free
+#define felter_counter_set felter_guarded_counter_set
+#define felter_counter_add felter_guarded_counter_add
+#define felter_counter_value felter_guarded_counter_value
+#define felter_counter_type_id felter_guarded_counter_type_id
+#define felter_counter_registration felter_guarded_counter_registration
+#define felter_counter_owner felter_guarded_counter_owner
+#define felter_counter_label felter_guarded_counter_label
+#define felter_counter_key felter_guarded_counter_key
+#define felter_counter_find felter_guarded_counter_find
+#define felter_counters_count felter_guarded_counters_count
+#define felter_counters_close_owner felter_guarded_counters_close_owner
+#define felter_counters_reader felter_guarded_counters_reader
+#define felter_reader_value felter_guarded_reader_value
+#define felter_counters_join felter_guarded_counters_join
+#define felter_conductor_new_numbered felter_guarded_conductor_new_numbered
+#define felter_conductor_client felter_guarded_conductor_client
+#define felter_conductor_work felter_guarded_conductor_work
+#define felter_conductor_set_heartbeat felter_guarded_conductor_set_heartbeat
+#define felter_client_heartbeat felter_guarded_client_heartbeat
+#define felter_conductor_subscribe felter_guarded_conductor_subscribe
+#define felter_conductor_reader felter_guarded_conductor_reader
+#define felter_conductor_join felter_guarded_conductor_join
+#define felter_conductor_join_receiver felter_guarded_conductor_join_receiver
+#define felter_conductor_join_reader felter_guarded_conductor_join_reader
+#define felter_conductor_finish felter_guarded_conductor_finish
+#define felter_send_allocate felter_guarded_send_allocate
+#define felter_send_allocate_owned felter_guarded_send_allocate_owned
+#define felter_send_free felter_guarded_send_free
+#define felter_send_set felter_guarded_send_set
+#define felter_send_close_owner felter_guarded_send_close_owner
+#define felter_poll felter_guarded_poll
+
+#endif

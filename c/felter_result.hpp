@@ -1,0 +1,160 @@
+// What the methods of felter.hpp take and answer: codes, results, views of bytes, and handles that free themselves.
+#ifndef FELTER_RESULT_HPP
+#define FELTER_RESULT_HPP
+
+#include "felter.h"
+
+#include <optional>
+#include <stdexcept>
+#include <string>
+#include <string_view>
+#include <type_traits>
+#include <utility>
+#if __has_include(<version>)
+#include <version>
+#endif
+#ifdef __cpp_lib_span
+#include <span>
+#endif
+
+namespace felter {
+
+// Why a call did not succeed, as enum felter_code; it is also the answer of a call that has no value.
+class [[nodiscard]] code {
+public:
+    constexpr code(std::int32_t number = FELTER_OK) noexcept : number_(number) {}
+    constexpr explicit operator bool() const noexcept { return number_ == FELTER_OK; }
+    constexpr std::int32_t number() const noexcept { return number_; }
+    const char *text() const noexcept { return felter_text(number_); }
+    // Whether the same call may succeed later: the ring was full, another producer was faster, or nothing was there.
+    constexpr bool is_passing() const noexcept {
+        return number_ == FELTER_INSUFFICIENT_CAPACITY || number_ == FELTER_CONTENDED || number_ == FELTER_NO_MESSAGE;
+    }
+    // Throws felter::error unless it is FELTER_OK.
+    void value() const;
+    friend constexpr bool operator==(code one, code two) noexcept { return one.number_ == two.number_; }
+    friend constexpr bool operator!=(code one, code two) noexcept { return one.number_ != two.number_; }
+
+private:
+    std::int32_t number_;
+};
+
+// What value() throws.
+class error : public std::runtime_error {
+public:
+    explicit error(code why) : std::runtime_error(std::to_string(why.number()) + ' ' + why.text()), why_(why) {}
+    code why() const noexcept { return why_; }
+
+private:
+    code why_;
+};
+
+inline void code::value() const {
+    if (number_ != FELTER_OK) throw error(*this);
+}
+
+// A value, or the code that tells why there is none.
+template <class T>
+class [[nodiscard]] result {
+public:
+    result(T value) : value_(std::move(value)) {}
+    result(felter::code why) noexcept : why_(why) {}
+    explicit operator bool() const noexcept { return value_.has_value(); }
+    felter::code code() const noexcept { return why_; }
+    T &operator*() & noexcept { return *value_; }
+    T *operator->() noexcept { return &*value_; }
+    // The value; throws felter::error if there is none.
+    T &value() & { return why_.value(), *value_; }
+    T &&value() && { return why_.value(), std::move(*value_); }
+
+private:
+    std::optional<T> value_;
+    felter::code why_;
+};
+
+// Bytes that somebody else owns: Byte is const void or void. They come from any container or text of bytes.
+template <class Byte>
+class view {
+    template <class C>
+    using element = std::remove_pointer_t<decltype(std::declval<C &>().data())>;
+    template <class C>
+    using if_bytes = std::enable_if_t<sizeof(element<C>) == 1 && std::is_convertible_v<element<C> *, Byte *>>;
+
+public:
+    constexpr view() noexcept = default;
+    constexpr view(Byte *data, std::size_t size) noexcept : data_(data), size_(size) {}
+    template <class C, class = if_bytes<C>>
+    constexpr view(C &&from) noexcept : data_(from.data()), size_(from.size()) {}
+    // A text in quotes, without its end.
+    template <std::size_t N, class B = Byte, class = std::enable_if_t<std::is_const_v<B>>>
+    constexpr view(const char (&text)[N]) noexcept : data_(text), size_(N - 1) {}
+
+    constexpr Byte *data() const noexcept { return data_; }
+    constexpr std::size_t size() const noexcept { return size_; }
+    std::string_view text() const noexcept { return {static_cast<const char *>(data_), size_}; }
+#ifdef __cpp_lib_span
+    using byte = std::conditional_t<std::is_const_v<Byte>, const std::byte, std::byte>;
+    operator std::span<byte>() const noexcept { return {static_cast<byte *>(data_), size_}; }
+#endif
+
+private:
+    Byte *data_ = nullptr;
+    std::size_t size_ = 0;
+};
+
+using bytes = view<const void>;
+using buffer = view<void>;
+
+// A message in a buffer of the caller.
+struct message {
+    std::int32_t type_id;
+    bytes body;
+};
+
+// A handle that frees what it owns at its end. It moves, and what it was moved from is empty.
+template <class Raw>
+class owner {
+public:
+    owner() noexcept = default;
+    owner(owner &&from) noexcept : raw_(std::exchange(from.raw_, Raw{})) {}
+    owner &operator=(owner &&from) noexcept {
+        if (this != &from) {
+            felter_free(&raw_.handle);
+            raw_ = std::exchange(from.raw_, Raw{});
+        }
+        return *this;
+    }
+    ~owner() { felter_free(&raw_.handle); }
+    // For a call of felter.h.
+    Raw *raw() noexcept { return &raw_; }
+
+private:
+    Raw raw_ = FELTER_EMPTY;
+};
+
+namespace detail {
+template <class T>
+result<T> answer(std::int32_t number, T value) {
+    if (number != FELTER_OK) return felter::code(number);
+    return value;
+}
+
+// What a call put into a last argument.
+template <class T, class Call>
+result<T> out(Call call) {
+    T value{};
+    const std::int32_t number = call(&value);
+    return answer(number, std::move(value));
+}
+
+template <class Kind, class Call>
+result<Kind> made(Call call) {
+    Kind kind;
+    const std::int32_t number = call(kind.raw());
+    return answer(number, std::move(kind));
+}
+} // namespace detail
+
+} // namespace felter
+
+#endif
