@@ -44,7 +44,7 @@ class Closing(Case):
         producer, consumer = felter.many_to_one(256)
         other = producer.split()
         claim = producer.claim(1, 3)
-        self.assertEqual(str(self.refuses(Number.CLAIMS_OPEN, consumer.close, producer)), "10 CLAIMS_OPEN")
+        self.assertIn("10 CLAIMS_OPEN: ", str(self.refuses(Number.CLAIMS_OPEN, consumer.close, producer)))
         claim.commit()
         second = other.claim(2, 3)
         self.refuses(Number.PRODUCERS_OUT, consumer.close, producer)
@@ -106,7 +106,7 @@ class Closing(Case):
         # They take 16, 40 and 8 bytes.
         transmitter.transmit(1, bytes(5))
         transmitter.transmit(2, bytes(32))
-        self.assertEqual(str(self.refuses(Number.RECEIVERS_OUT, transmitter.close)), "14 RECEIVERS_OUT")
+        self.assertIn("14 RECEIVERS_OUT: ", str(self.refuses(Number.RECEIVERS_OUT, transmitter.close)))
         transmitter.transmit(3, b"")
         self.assertEqual(receiver.receive(), Message(1, bytes(5)))
         transmitter.join(receiver)

@@ -1,6 +1,5 @@
 """Tests of felter's conductors: python3 python/test_conductor.py"""
 
-import ctypes
 import time
 import unittest
 
@@ -129,7 +128,7 @@ class Conductors(Case):
         self.refuses(Number.BAD_CAPACITY, felter.Conductor, 100, 256, 1)
         self.refuses(Number.BAD_CAPACITY, felter.Conductor, 128, 128, 1)
         self.refuses(Number.BAD_COUNT, felter.Conductor, 128, 256, 4097)
-        with self.assertRaises(ctypes.ArgumentError):
+        with self.assertRaises(OverflowError):
             felter.Conductor(128, 2**32 + 256, 1)
         conductor = felter.Conductor(128, 256, 1)
         client, late = conductor.client(), conductor.client()
@@ -152,7 +151,7 @@ class Conductors(Case):
         conductor.work(0)
         conductor.work(0)
         lapped = self.refuses(Number.LAPPED, late.poll, last)
-        self.assertEqual((lapped.count, str(lapped)), (1, "13 LAPPED"))
+        self.assertEqual((lapped.count, str(lapped)), (1, "13 LAPPED: the transmitter overtook the receiver"))
         self.assertEqual(late.poll(last), (ReplyKind.REFUSED, Number.NOT_ALLOCATED))
         self.assertEqual(client.heartbeat(), 0)
         conductor.set_heartbeat(2**64 - 1)
@@ -161,7 +160,7 @@ class Conductors(Case):
     def test_a_finish_is_refused_until_all_came_back(self):
         conductor = felter.Conductor(256, 256, 1)
         client, receiver, reader = conductor.client(), conductor.subscribe(), conductor.reader()
-        self.assertEqual(str(self.refuses(Number.PRODUCERS_OUT, conductor.finish)), "11 PRODUCERS_OUT")
+        self.assertIn("11 PRODUCERS_OUT: ", str(self.refuses(Number.PRODUCERS_OUT, conductor.finish)))
         client.close_owner(5)
         client.close_owner(5)
         self.assertEqual(conductor.work(0, 1), (1, WorkStop.LIMIT))

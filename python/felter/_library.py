@@ -1,34 +1,25 @@
-"""The calls of libfelter.so."""
+"""The calls of libfelter.so, by ctypes."""
 
 import ctypes
+import operator
 import os
+import typing
 
-from felter.errors import Error, Number
+from felter._calls import CALLS
+from felter.errors import Number, refusal
 
 
 class Handle(ctypes.Structure):
     _fields_ = [("at", ctypes.c_void_p)]
 
 
-def whole(kind, bits, is_signed):
-    """A parameter that is a number of so many bits. ctypes alone would cut a larger one off."""
-    low = -(2 ** (bits - 1)) if is_signed else 0
-
-    def convert(value):
-        if not low <= value < low + 2**bits:
-            raise OverflowError("%d is no number of %d bits" % (value, bits))
-        return kind(value)
-
-    return type("Whole", (), {"from_param": staticmethod(convert)})
-
-
-# What stands for a type of C in the lines below.
-TYPES = {
-    "i32": whole(ctypes.c_int32, 32, True),
-    "u32": whole(ctypes.c_uint32, 32, False),
-    "i64": whole(ctypes.c_int64, 64, True),
-    "u64": whole(ctypes.c_uint64, 64, False),
-    "usize": whole(ctypes.c_size_t, 64, False),
+# What stands for a type of C in the table of calls.
+TYPES: typing.Dict[str, typing.Any] = {
+    "i32": ctypes.c_int32,
+    "u32": ctypes.c_uint32,
+    "i64": ctypes.c_int64,
+    "u64": ctypes.c_uint64,
+    "usize": ctypes.c_size_t,
     "bytes": ctypes.c_char_p,
     "*u8": ctypes.c_void_p,
     "*i32": ctypes.POINTER(ctypes.c_int32),
@@ -42,102 +33,81 @@ TYPES = {
 KINDS = "handle producer consumer transmitter receiver raw_receiver counters reader conductor client"
 TYPES.update(("*" + kind, ctypes.POINTER(Handle)) for kind in KINDS.split())
 
-# The calls of felter.h with what they take, as they stand there. c/compare compares them.
-CALLS = """
-felter_free *handle
-felter_many_to_one_new_at_numbered u64 u32 u64 *producer *consumer
-felter_one_to_one_new_at_numbered u64 u32 u64 *producer *consumer
-felter_write *producer i32 bytes usize
-felter_claim *producer i32 usize *u64
-felter_put *producer u64 usize bytes usize
-felter_commit *producer u64
-felter_abort *producer u64
-felter_split *producer *producer
-felter_join *producer *producer
-felter_positions *producer *u64 *u64
-felter_next_id *producer *u64
-felter_heartbeat *producer *u64
-felter_set_heartbeat *consumer u64
-felter_shares *producer *u32
-felter_read *consumer *i32 *usize *u8 usize
-felter_read_batch *consumer u32 *u32 *usize *u8 usize
-felter_close *consumer *producer
-felter_finish *consumer *u64
-felter_board_new_at_numbered u64 u32 u64 *transmitter
-felter_transmit *transmitter i32 bytes usize
-felter_subscribe *transmitter *receiver
-felter_receive *receiver *i32 *usize *u64 *u8 usize
-felter_lapped_count *receiver *u64
-felter_subscribe_raw *transmitter *raw_receiver
-felter_receive_next *raw_receiver *i32 *usize *u64
-felter_load_body *raw_receiver *u8 usize
-felter_validate *raw_receiver
-felter_raw_lapped_count *raw_receiver *u64
-felter_board_join *transmitter *receiver
-felter_board_join_raw *transmitter *raw_receiver
-felter_board_close *transmitter *u64
-felter_counters_new_numbered u64 u32 u32 *counters
-felter_counter_allocate_owned *counters u64 i32 bytes usize bytes usize u64 u64 *u32
-felter_counter_free *counters u64 u32
-felter_counter_set *counters u32 i64
-felter_counter_add *counters u32 i64 *i64
-felter_counter_value *counters u32 *i64
-felter_counter_type_id *counters u32 *i32
-felter_counter_registration *counters u32 *u64
-felter_counter_owner *counters u32 *u64
-felter_counter_label *counters u32 *usize *u8 usize
-felter_counter_key *counters u32 *u8 usize
-felter_counter_find *counters i32 u64 *u32
-felter_counters_count *counters *u32
-felter_counters_close_owner *counters u64 u64 *u32
-felter_counters_reader *counters *reader
-felter_reader_value *reader u32 *i64
-felter_counters_join *counters *reader
-felter_conductor_new_numbered u64 u32 u32 u32 u32 *conductor
-felter_conductor_client *conductor *client
-felter_conductor_work *conductor u64 u32 *u64 *i32
-felter_conductor_set_heartbeat *conductor u64
-felter_conductor_subscribe *conductor *receiver
-felter_conductor_reader *conductor *reader
-felter_conductor_join *conductor *client
-felter_conductor_join_receiver *conductor *receiver
-felter_conductor_join_reader *conductor *reader
-felter_conductor_finish *conductor *u64 *u64
-felter_client_heartbeat *client *u64
-felter_send_allocate *client i32 bytes usize bytes usize *u64
-felter_send_allocate_owned *client i32 u64 bytes usize bytes usize *u64
-felter_send_free *client u32 *u64
-felter_send_set *client u32 i64 *u64
-felter_send_close_owner *client u64 *u64
-felter_poll *client u64 *i32 *i64 *u64
-"""
+# The numbers that a parameter can be. ctypes alone would cut a larger one off.
+RANGES = {
+    "i32": (-(2**31), 2**31),
+    "u32": (0, 2**32),
+    "i64": (-(2**63), 2**63),
+    "u64": (0, 2**64),
+    "usize": (0, 2**64),
+}
+
+Range = typing.Tuple[int, int, int]
+Function = typing.Tuple[typing.Callable[..., int], typing.List[Range]]
 
 
-def load():
+def load() -> ctypes.CDLL:
+    """The library: in the folder that FELTER_DIR names, or else in this package, or else in this repository's c/out."""
     here = os.path.dirname(os.path.abspath(__file__))
-    folder = os.environ.get("FELTER_DIR") or os.path.join(here, "..", "..", "c", "out")
-    found = ctypes.CDLL(os.path.join(folder, "libfelter.so"))
+    folder = os.environ.get("FELTER_DIR")
+    folders = [folder] if folder else [here, os.path.normpath(os.path.join(here, "..", "..", "c", "out"))]
+    paths = [os.path.join(it, "libfelter.so") for it in folders]
+    for path in paths:
+        if os.path.exists(path):
+            try:
+                return ctypes.CDLL(path)
+            except OSError as why:
+                raise ImportError("felter: %s cannot be loaded: %s" % (path, why)) from why
+    raise ImportError(
+        "felter: there is no %s. Install the wheel that c/package makes, or run c/build in the repository, or let "
+        "FELTER_DIR name the folder of libfelter.so." % " and no ".join(paths)
+    )
+
+
+def functions_of(found: ctypes.CDLL) -> typing.Dict[str, Function]:
+    """The functions with the ranges of their numbers: where the number stands, the least, and the first too large."""
+    functions = {}
     for line in CALLS.strip().splitlines():
         name, *parameters = line.split()
-        function = getattr(found, name)
+        try:
+            function = getattr(found, name)
+        except AttributeError:
+            raise ImportError("felter: %s has no %s: it is of another version" % (found._name, name)) from None
         function.argtypes = [TYPES[it] for it in parameters]
         function.restype = None if name == "felter_free" else ctypes.c_int32
-    return found
+        functions[name] = function, [(i, *RANGES[it]) for i, it in enumerate(parameters) if it in RANGES]
+    return functions
 
 
 library = load()
+functions = functions_of(library)
 
 
-def call(name, *parameters):
+def octets(data: typing.Any) -> bytes:
+    """The bytes of an object that has some, whatever it says of its length. A bytearray or a memoryview is copied."""
+    return data if type(data) is bytes else memoryview(data).tobytes()
+
+
+def code_of(name: str, *parameters: typing.Any) -> int:
+    """What a call answers. Numbers are looked at here and not by ctypes, where an interrupt would become another
+    exception."""
+    function, ranges = functions[name]
+    for index, low, end in ranges:
+        if not low <= operator.index(parameters[index]) < end:
+            raise OverflowError("%d is not from %d to %d" % (parameters[index], low, end - 1))
+    return function(*parameters)
+
+
+def call(name: str, *parameters: typing.Any) -> None:
     """Calls, and raises what was refused."""
-    code = getattr(library, name)(*parameters)
-    if code != 0:
-        raise Error(code)
+    code = code_of(name, *parameters)
+    if code:
+        raise refusal(code)
 
 
-def is_there(name, *parameters):
+def is_there(name: str, *parameters: typing.Any) -> bool:
     """Calls, and says whether there was a message."""
-    code = getattr(library, name)(*parameters)
-    if code not in (0, Number.NO_MESSAGE):
-        raise Error(code)
-    return code == 0
+    code = code_of(name, *parameters)
+    if code and code != Number.NO_MESSAGE:
+        raise refusal(code)
+    return not code

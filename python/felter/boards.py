@@ -3,46 +3,57 @@
 import ctypes
 import typing
 
-from felter._library import call, is_there
+from felter._library import call, code_of, octets
 from felter._owner import Owner, numbers
-from felter.errors import Error, Lapped, Number
+from felter.errors import Error, Lapped, Number, refusal
 from felter.message import Message
+
+
+def is_received(name: str, *parameters: typing.Any, lapped: ctypes.c_uint64) -> bool:
+    """Calls, and says whether there was a message. `lapped` is among the parameters."""
+    code = code_of(name, *parameters)
+    if code == Number.LAPPED:
+        raise Lapped(lapped.value)
+    if code and code != Number.NO_MESSAGE:
+        raise refusal(code)
+    return not code
 
 
 class Transmitter(Owner):
     """Transmits on a board of a capacity. It never waits: a receiver that is too slow is overtaken, and learns that."""
 
-    def __init__(self, capacity, start=0):
+    def __init__(self, capacity: int, start: int = 0) -> None:
         super().__init__(next(numbers))
         self._capacity = capacity
         call("felter_board_new_at_numbered", self._number, capacity, start, self._handle)
 
-    def transmit(self, type_id, body):
-        """Transmits a message."""
+    def transmit(self, type_id: int, body: typing.Any) -> None:
+        """Transmits a message. The body is any object with bytes."""
+        body = octets(body)
         self._do("felter_transmit", type_id, body, len(body))
 
-    def subscribe(self):
+    def subscribe(self) -> "Receiver":
         """Makes a receiver, which starts with the message that was transmitted last. It has one share of 65,536. One
         that is freed takes its share with it, and the board is then never closed: join it where that matters."""
         receiver = Receiver(self._capacity, self._number)
         self._do("felter_subscribe", receiver._handle)
         return receiver
 
-    def subscribe_raw(self):
+    def subscribe_raw(self) -> "RawReceiver":
         """Makes a raw receiver, which answers each record unread; else as `subscribe`."""
         receiver = RawReceiver(self._number)
         self._do("felter_subscribe_raw", receiver._handle)
         return receiver
 
-    def join(self, receiver):
+    def join(self, receiver: "Receiver") -> None:
         """Takes back a receiver of its board, with its share."""
         self._with("felter_board_join", receiver)
 
-    def join_raw(self, receiver):
+    def join_raw(self, receiver: "RawReceiver") -> None:
         """Takes back a raw receiver of its board, with its share."""
         self._with("felter_board_join_raw", receiver)
 
-    def close(self):
+    def close(self) -> int:
         """Ends a board whose receivers were all taken back, frees the transmitter, and answers the position where the
         last transmission ended. Refused with RECEIVERS_OUT, it goes on as before."""
         return self._say("felter_board_close", ctypes.c_uint64)
@@ -51,27 +62,25 @@ class Transmitter(Owner):
 class Receiver(Owner):
     """Receives what is transmitted on a board."""
 
-    def __init__(self, capacity, number):
+    def __init__(self, capacity: int, number: int) -> None:
         super().__init__(number)
         self._buffer = ctypes.create_string_buffer(capacity // 8)
 
-    def receive(self):
+    def receive(self) -> typing.Optional[Message]:
         """The next message, or None where nothing is there. Raises Lapped where the transmitter overtook the receiver;
         the next call goes on with the message that was transmitted last."""
         type_id, length, lapped = ctypes.c_int32(), ctypes.c_size_t(), ctypes.c_uint64()
+        self._check()
         with self._lock:
             outs = type_id, length, lapped, self._buffer, len(self._buffer)
-            try:
-                took = is_there("felter_receive", self._handle, *outs)
-            except Error as refused:
-                raise Lapped(lapped.value) if refused.number == Number.LAPPED else refused
-            return Message(type_id.value, self._buffer[:length.value]) if took else None
+            took = is_received("felter_receive", self._handle, *outs, lapped=lapped)
+            return Message(type_id.value, self._buffer[: length.value]) if took else None
 
-    def __iter__(self):
+    def __iter__(self) -> typing.Iterator[Message]:
         """The messages that are there, each taken as it is asked for."""
         return iter(self.receive, None)
 
-    def lapped_count(self):
+    def lapped_count(self) -> int:
         """How often it was lapped."""
         return self._say("felter_lapped_count", ctypes.c_uint64)
 
@@ -86,25 +95,23 @@ class RawRecord(typing.NamedTuple):
 class RawReceiver(Owner):
     """Receives what is transmitted on a board, each record unread."""
 
-    def receive_next(self):
+    def receive_next(self) -> typing.Optional[RawRecord]:
         """Goes behind the next record, and says its type id and length; None where nothing is there. Raises Lapped as
         Receiver.receive does."""
         type_id, length, lapped = ctypes.c_int32(), ctypes.c_size_t(), ctypes.c_uint64()
+        self._check()
         with self._lock:
-            try:
-                took = is_there("felter_receive_next", self._handle, type_id, length, lapped)
-            except Error as refused:
-                raise Lapped(lapped.value) if refused.number == Number.LAPPED else refused
+            took = is_received("felter_receive_next", self._handle, type_id, length, lapped, lapped=lapped)
             return RawRecord(type_id.value, length.value) if took else None
 
-    def load_body(self, length):
+    def load_body(self, length: int) -> bytes:
         """The body of the record that was answered last, which has so many bytes. They may be those of another record,
         unless `validate` then says True."""
         buffer = ctypes.create_string_buffer(length)
         self._do("felter_load_body", buffer, length)
         return buffer.raw[:length]
 
-    def validate(self):
+    def validate(self) -> bool:
         """Whether the record that was answered last was not yet overwritten. If so, each body of it that was loaded
         before is the one that was transmitted."""
         try:
@@ -115,6 +122,6 @@ class RawReceiver(Owner):
             return False
         return True
 
-    def lapped_count(self):
+    def lapped_count(self) -> int:
         """How often `receive_next` was lapped."""
         return self._say("felter_raw_lapped_count", ctypes.c_uint64)

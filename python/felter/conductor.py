@@ -4,11 +4,11 @@ import ctypes
 import enum
 import typing
 
-from felter._library import call, is_there
+from felter._library import call, octets
 from felter._owner import Owner, numbers
-from felter.boards import Receiver
+from felter.boards import Receiver, is_received
 from felter.counters import Reader
-from felter.errors import Error, Lapped, Number
+from felter.errors import Error, Number
 
 
 class WorkStop(enum.IntEnum):
@@ -65,56 +65,56 @@ class Conductor(Owner):
 
     A client or a receiver that is freed is missed for good: the conductor then never finishes."""
 
-    def __init__(self, capacity, replies, counters, reuse_ms=0):
+    def __init__(self, capacity: int, replies: int, counters: int, reuse_ms: int = 0) -> None:
         super().__init__(next(numbers))
         self._replies = replies
         parameters = capacity, replies, counters, reuse_ms
         call("felter_conductor_new_numbered", self._number, *parameters, self._handle)
 
-    def client(self):
+    def client(self) -> "Client":
         """Makes a client, with one share of the ring's 65,536 and one of the board's. It starts with the reply that was
         transmitted last."""
         client = Client(self._number)
         self._do("felter_conductor_client", client._handle)
         return client
 
-    def subscribe(self):
+    def subscribe(self) -> Receiver:
         """Makes a receiver of the replies as they lie on the board, which starts with the one that was transmitted
         last, with one of the board's shares."""
         receiver = Receiver(self._replies, self._number)
         self._do("felter_conductor_subscribe", receiver._handle)
         return receiver
 
-    def reader(self):
+    def reader(self) -> Reader:
         """Makes a reader of the counters' values, for another thread, with one of the counters' 65,536 shares. One that
         is freed takes its share with it, and is in nobody's way."""
         reader = Reader(self._number)
         self._do("felter_conductor_reader", reader._handle)
         return reader
 
-    def work(self, now, limit=2**32 - 1):
+    def work(self, now: int, limit: int = 2**32 - 1) -> Work:
         """Takes up to `limit` commands, applies each at a moment, and transmits its reply. Answers a Work."""
         messages, stopped = ctypes.c_uint64(), ctypes.c_int32()
         self._do("felter_conductor_work", now, limit, messages, stopped)
         return Work(messages.value, WorkStop(stopped.value))
 
-    def set_heartbeat(self, value):
+    def set_heartbeat(self, value: int) -> None:
         """Stores the heartbeat that clients load."""
         self._do("felter_conductor_set_heartbeat", value)
 
-    def join(self, client):
+    def join(self, client: "Client") -> None:
         """Takes back a client of this conductor's, with its shares."""
         self._with("felter_conductor_join", client)
 
-    def join_receiver(self, receiver):
+    def join_receiver(self, receiver: Receiver) -> None:
         """Takes back a receiver of this conductor's, with its share."""
         self._with("felter_conductor_join_receiver", receiver)
 
-    def join_reader(self, reader):
+    def join_reader(self, reader: Reader) -> None:
         """Takes back a reader of this conductor's, with its share."""
         self._with("felter_conductor_join_reader", reader)
 
-    def finish(self):
+    def finish(self) -> Finished:
         """Ends a conductor whose clients and receivers were all taken back, and answers a Finished. Refused with
         PRODUCERS_OUT, then RECEIVERS_OUT, and then IN_USE where a reader is out, it goes on as before."""
         received, left = ctypes.c_uint64(), ctypes.c_uint64()
@@ -126,47 +126,48 @@ class Client(Owner):
     """Sends commands to its conductor, and hears its replies. Each call that sends makes one try, and answers the
     correlation id that was drawn for the command; `poll` asks for its reply."""
 
-    def _send(self, name, *parameters):
+    def _send(self, name: str, *parameters: typing.Any) -> int:
         return self._say(name, ctypes.c_uint64, *parameters)
 
-    def allocate(self, type_id, key=b"", label=b"", owner=0):
+    def allocate(self, type_id: int, key: typing.Any = b"", label: typing.Any = b"", owner: int = 0) -> int:
         """Asks for a counter of value 0; its registration id is the correlation id. The owner 0 stands for none. The
         command takes 20 bytes and those of key and label, and with an owner 8 more."""
+        key, label = octets(key), octets(label)
         texts = key, len(key), label, len(label)
         if owner == 0:
             return self._send("felter_send_allocate", type_id, *texts)
         return self._send("felter_send_allocate_owned", type_id, owner, *texts)
 
-    def release(self, counter):
+    def release(self, counter: int) -> int:
         """Asks that a counter is freed."""
         return self._send("felter_send_free", counter)
 
-    def set(self, counter, value):
+    def set(self, counter: int, value: int) -> int:
         """Asks that a counter's value is set."""
         return self._send("felter_send_set", counter, value)
 
-    def close_owner(self, owner):
+    def close_owner(self, owner: int) -> int:
         """Asks that each counter of an owner is freed."""
         return self._send("felter_send_close_owner", owner)
 
-    def poll(self, correlation):
+    def poll(self, correlation: int) -> typing.Optional[Reply]:
         """The reply to the command with this correlation id, or None where it is not there yet. Replies to other
         commands are passed over, so ask for those of one client in the order in which they were sent.
 
         Raises Lapped where the conductor overtook the client: the next call goes on with the reply that was transmitted
         last, and what became of the commands that were on their way is not known."""
         kind, number, lapped = ctypes.c_int32(), ctypes.c_int64(), ctypes.c_uint64()
+        outs = kind, number, lapped
+        self._check()
         with self._lock:
             while True:
                 try:
-                    took = is_there("felter_poll", self._handle, correlation, kind, number, lapped)
+                    took = is_received("felter_poll", self._handle, correlation, *outs, lapped=lapped)
                     return Reply(ReplyKind(kind.value), number.value) if took else None
                 except Error as refused:
-                    if refused.number == Number.LAPPED:
-                        raise Lapped(lapped.value) from None
                     if refused.number != Number.OTHER_REPLY:
                         raise
 
-    def heartbeat(self):
+    def heartbeat(self) -> int:
         """Loads the heartbeat that the conductor stored last, 0 before the first."""
         return self._say("felter_client_heartbeat", ctypes.c_uint64)

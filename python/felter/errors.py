@@ -1,61 +1,74 @@
 """Why a call is refused."""
 
-import enum
+import typing
 
+from felter._codes import TEXTS, Number
 
-class Number(enum.IntEnum):
-    """The numbers of refusals, as in felter.h."""
-
-    BAD_CAPACITY = 1
-    BAD_START = 2
-    OUT_OF_MEMORY = 3
-    BAD_TYPE = 4
-    TOO_LONG = 5
-    POSITION_LIMIT = 6
-    INSUFFICIENT_CAPACITY = 7
-    CONTENDED = 8
-    PUT_RANGE = 9
-    CLAIMS_OPEN = 10
-    PRODUCERS_OUT = 11
-    NO_SHARES = 12
-    LAPPED = 13
-    RECEIVERS_OUT = 14
-    BAD_COUNT = 15
-    KEY_TOO_LONG = 16
-    LABEL_TOO_LONG = 17
-    LABEL_NOT_ASCII = 18
-    NO_FREE_COUNTER = 19
-    BAD_ID = 20
-    NOT_ALLOCATED = 21
-    BAD_OWNER = 28
-    NO_HANDLE = 100
-    WRONG_HANDLE = 101
-    HANDLE_IN_USE = 102
-    NO_CLAIM = 104
-    NO_MESSAGE = 105
-    SHORT_BUFFER = 106
-    BAD_MOMENT = 107
-    OTHER_RING = 108
-    OTHER_REPLY = 109
-    IN_USE = 110
+__all__ = ["Closed", "Contended", "Error", "Full", "Lapped", "Number"]
 
 
 class Error(Exception):
-    """A call was refused: `number` says why."""
+    """A call was refused: `number` says why, and the text says it in words."""
 
-    def __init__(self, number):
+    number: Number
+
+    def __init__(self, number: int) -> None:
         self.number = Number(number)
-        super().__init__("%d %s" % (number, self.number.name))
+        super().__init__("%d %s: %s" % (number, self.number.name, TEXTS[self.number]))
+
+    def __reduce__(self) -> typing.Tuple[typing.Any, ...]:
+        return type(self), self._made_of()
+
+    def _made_of(self) -> typing.Tuple[int, ...]:
+        return (int(self.number),)
 
     @property
-    def is_passing(self):
+    def is_passing(self) -> bool:
         """Whether the same call may succeed later: the ring was full, or another producer was faster."""
         return self.number in (Number.INSUFFICIENT_CAPACITY, Number.CONTENDED)
+
+
+class Full(Error):
+    """The ring is full: try again after the consumer has read on."""
+
+    def __init__(self, number: int = Number.INSUFFICIENT_CAPACITY) -> None:
+        super().__init__(number)
+
+
+class Contended(Error):
+    """Another producer was faster: try again."""
+
+    def __init__(self, number: int = Number.CONTENDED) -> None:
+        super().__init__(number)
+
+
+class Closed(Error):
+    """The handle is empty: it was freed, or taken in by another one."""
+
+    def __init__(self, number: int = Number.NO_HANDLE) -> None:
+        super().__init__(number)
 
 
 class Lapped(Error):
     """The transmitter overtook the receiver: `count` says how often by now."""
 
-    def __init__(self, count):
+    count: int
+
+    def __init__(self, count: int) -> None:
         super().__init__(Number.LAPPED)
         self.count = count
+
+    def _made_of(self) -> typing.Tuple[int, ...]:
+        return (self.count,)
+
+
+CAUSES: typing.Dict[int, typing.Type[Error]] = {
+    Number.INSUFFICIENT_CAPACITY: Full,
+    Number.CONTENDED: Contended,
+    Number.NO_HANDLE: Closed,
+}
+
+
+def refusal(number: int) -> Error:
+    """The exception of a code."""
+    return CAUSES.get(number, Error)(number)

@@ -1,0 +1,75 @@
+"""The calls of libfelter.so, with what they take."""
+
+# Written by c/bindings from felter.h: change that, and run it again.
+CALLS = """
+felter_free *handle
+felter_many_to_one_new_numbered u64 u32 *producer *consumer
+felter_many_to_one_new_at_numbered u64 u32 u64 *producer *consumer
+felter_one_to_one_new_numbered u64 u32 *producer *consumer
+felter_one_to_one_new_at_numbered u64 u32 u64 *producer *consumer
+felter_write *producer i32 bytes usize
+felter_claim *producer i32 usize *u64
+felter_put *producer u64 usize bytes usize
+felter_commit *producer u64
+felter_abort *producer u64
+felter_split *producer *producer
+felter_join *producer *producer
+felter_positions *producer *u64 *u64
+felter_next_id *producer *u64
+felter_heartbeat *producer *u64
+felter_set_heartbeat *consumer u64
+felter_shares *producer *u32
+felter_read *consumer *i32 *usize *u8 usize
+felter_read_batch *consumer u32 *u32 *usize *u8 usize
+felter_close *consumer *producer
+felter_finish *consumer *u64
+felter_board_new_numbered u64 u32 *transmitter
+felter_board_new_at_numbered u64 u32 u64 *transmitter
+felter_transmit *transmitter i32 bytes usize
+felter_subscribe *transmitter *receiver
+felter_receive *receiver *i32 *usize *u64 *u8 usize
+felter_lapped_count *receiver *u64
+felter_subscribe_raw *transmitter *raw_receiver
+felter_receive_next *raw_receiver *i32 *usize *u64
+felter_load_body *raw_receiver *u8 usize
+felter_validate *raw_receiver
+felter_raw_lapped_count *raw_receiver *u64
+felter_board_join *transmitter *receiver
+felter_board_join_raw *transmitter *raw_receiver
+felter_board_close *transmitter *u64
+felter_counters_new_numbered u64 u32 u32 *counters
+felter_counter_allocate *counters u64 i32 bytes usize bytes usize u64 *u32
+felter_counter_allocate_owned *counters u64 i32 bytes usize bytes usize u64 u64 *u32
+felter_counter_free *counters u64 u32
+felter_counter_set *counters u32 i64
+felter_counter_add *counters u32 i64 *i64
+felter_counter_value *counters u32 *i64
+felter_counter_type_id *counters u32 *i32
+felter_counter_registration *counters u32 *u64
+felter_counter_owner *counters u32 *u64
+felter_counter_label *counters u32 *usize *u8 usize
+felter_counter_key *counters u32 *u8 usize
+felter_counter_find *counters i32 u64 *u32
+felter_counters_count *counters *u32
+felter_counters_close_owner *counters u64 u64 *u32
+felter_counters_reader *counters *reader
+felter_reader_value *reader u32 *i64
+felter_counters_join *counters *reader
+felter_conductor_new_numbered u64 u32 u32 u32 u32 *conductor
+felter_conductor_client *conductor *client
+felter_conductor_work *conductor u64 u32 *u64 *i32
+felter_conductor_set_heartbeat *conductor u64
+felter_client_heartbeat *client *u64
+felter_conductor_subscribe *conductor *receiver
+felter_conductor_reader *conductor *reader
+felter_conductor_join *conductor *client
+felter_conductor_join_receiver *conductor *receiver
+felter_conductor_join_reader *conductor *reader
+felter_conductor_finish *conductor *u64 *u64
+felter_send_allocate *client i32 bytes usize bytes usize *u64
+felter_send_allocate_owned *client i32 u64 bytes usize bytes usize *u64
+felter_send_free *client u32 *u64
+felter_send_set *client u32 i64 *u64
+felter_send_close_owner *client u64 *u64
+felter_poll *client u64 *i32 *i64 *u64
+"""

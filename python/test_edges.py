@@ -1,0 +1,240 @@
+"""Tests of what Python adds: copies, pickles, buffers, interrupts, forks: python3 python/test_edges.py"""
+
+import array
+import copy
+import os
+import pathlib
+import pickle
+import signal
+import subprocess
+import sys
+import threading
+import unittest
+
+import felter
+from felter import Message, Number
+from test_felter import Case
+
+HERE = pathlib.Path(__file__).resolve().parent
+
+
+class Liar(bytes):
+    def __len__(self):
+        return 64
+
+
+class Edges(Case):
+    def test_nothing_that_owns_is_copied(self):
+        producer, consumer = felter.many_to_one(256)
+        claim = producer.claim(1, 4)
+        counters = felter.Counters(2)
+        conductor = felter.Conductor(1024, 1024, 2)
+        transmitter = felter.Transmitter(256)
+        owners = [producer, consumer, claim, counters, counters.reader(), conductor, conductor.client(), transmitter]
+        owners += [transmitter.subscribe(), transmitter.subscribe_raw()]
+        for it in owners:
+            for way in copy.copy, copy.deepcopy, pickle.dumps:
+                with self.assertRaises(TypeError):
+                    way(it)
+        claim.commit()
+        producer.write(2, b"still there")
+        self.assertEqual(list(consumer), [Message(1, bytes(4)), Message(2, b"still there")])
+
+    def test_errors_go_through_pickles_and_have_classes(self):
+        errors = [felter.Error(Number.BAD_TYPE), felter.Lapped(7), felter.Full(), felter.Contended(), felter.Closed()]
+        for it in errors:
+            for back in pickle.loads(pickle.dumps(it)), copy.copy(it), copy.deepcopy(it):
+                self.assertEqual((type(back), back.number, str(back)), (type(it), it.number, str(it)))
+        self.assertEqual(pickle.loads(pickle.dumps(felter.Lapped(7))).count, 7)
+        producer, consumer = felter.one_to_one(128)
+        with self.assertRaises(felter.Full) as full:
+            while True:
+                producer.write(1, bytes(16))
+        self.assertTrue(full.exception.is_passing)
+        self.assertEqual(str(full.exception), "7 INSUFFICIENT_CAPACITY: the ring is full")
+        producer.free()
+        with self.assertRaises(felter.Closed):
+            producer.write(1, b"")
+
+    def test_bodies_are_any_buffer_and_lengths_are_not_believed(self):
+        producer, consumer = felter.many_to_one(1024)
+        words = array.array("H", [1, 2])
+        for body in bytearray(b"abc"), memoryview(b"xabcx")[1:4], Liar(b"abc"), memoryview(b"a-b-c")[::2]:
+            producer.write(1, body)
+            self.assertEqual(consumer.read(), Message(1, b"abc"))
+        producer.write(1, words)
+        self.assertEqual(consumer.read(), Message(1, words.tobytes()))
+        with producer.claim(2, 4) as claim:
+            claim.put(1, bytearray(b"ab"))
+        self.assertEqual(consumer.read(), Message(2, b"\0ab\0"))
+        for body in "text", 5, None, [1]:
+            with self.assertRaises(TypeError):
+                producer.write(1, body)
+        counters = felter.Counters(1)
+        self.assertEqual(counters.label(counters.allocate(0, 1, bytearray(b"k"), memoryview(b"label"))), b"label")
+        transmitter = felter.Transmitter(256)
+        receiver = transmitter.subscribe()
+        transmitter.transmit(1, Liar(b"abc"))
+        self.assertEqual(receiver.receive(), Message(1, b"abc"))
+
+    def test_numbers_that_do_not_fit_are_refused(self):
+        producer, consumer = felter.many_to_one(256)
+        for type_id in 2**31, -(2**31) - 1, 2**64:
+            with self.assertRaises(OverflowError):
+                producer.write(type_id, b"")
+        for type_id in 1.5, "1", None:
+            with self.assertRaises(TypeError):
+                producer.write(type_id, b"")
+        self.assertEqual(list(consumer), [])
+
+    def test_a_dropped_claim_is_aborted(self):
+        producer, consumer = felter.many_to_one(256)
+        producer.claim(1, 4)
+        producer.write(2, b"behind it")
+        self.assertEqual(list(consumer), [Message(2, b"behind it")])
+        kept, other = producer.claim(3, 1), producer.split()
+        theirs = other.claim(4, 1)
+        producer.join(other)
+        del theirs
+        kept.commit()
+        producer.write(5, b"")
+        self.assertEqual(list(consumer), [Message(3, b"\0"), Message(5, b"")])
+        consumer.close(producer)
+        self.assertEqual(consumer.finish(), 0)
+
+    def test_a_dropped_claim_of_a_producer_that_was_freed_is_no_matter(self):
+        producer, consumer = felter.many_to_one(256)
+        claim = producer.claim(1, 4)
+        producer.free()
+        self.refuses(Number.NO_HANDLE, claim.commit)
+        del claim
+        self.assertEqual(list(consumer), [])
+
+
+class Interrupts(Case):
+    """Ctrl-C at any place: it stays KeyboardInterrupt, and no claim stays open."""
+
+    def interrupted(self, work, seconds):
+        """Runs work again and again under a timer that interrupts it. Returns how often it was interrupted."""
+
+        def interrupt(*_):
+            raise KeyboardInterrupt
+
+        before = signal.signal(signal.SIGALRM, interrupt)
+        count, end = 0, os.times().elapsed + seconds
+        try:
+            while os.times().elapsed < end:
+                try:
+                    signal.setitimer(signal.ITIMER_REAL, 0.0002)
+                    # (an end, since an interrupt during a finalizer is only reported)
+                    for _ in range(1000):
+                        work()
+                except KeyboardInterrupt:
+                    count += 1
+        finally:
+            signal.setitimer(signal.ITIMER_REAL, 0)
+            signal.signal(signal.SIGALRM, before)
+        return count
+
+    def test_interrupts_stay_what_they_are(self):
+        producer, consumer = felter.many_to_one(256)
+
+        def work():
+            while consumer.read():
+                pass
+            producer.write(1, b"body")
+
+        self.assertGreater(self.interrupted(work, 0.5), 100)
+        while consumer.read():
+            pass
+        producer.write(2, b"after")
+        self.assertEqual(list(consumer), [Message(2, b"after")])
+
+    def test_no_claim_stays_open(self):
+        producer, consumer = felter.many_to_one(1024)
+
+        def work():
+            with producer.claim(1, 8) as claim:
+                claim.put(0, b"whole....")
+            while consumer.read():
+                pass
+
+        with self.assertRaises(felter.Error):
+            work()
+
+        def whole():
+            with producer.claim(1, 5) as claim:
+                claim.put(0, b"whole")
+            while consumer.read():
+                pass
+
+        hook, sys.unraisablehook = sys.unraisablehook, lambda _: None
+        try:
+            self.assertGreater(self.interrupted(whole, 1), 200)
+        finally:
+            sys.unraisablehook = hook
+        producer.write(9, b"after")
+        self.assertEqual(list(consumer)[-1], Message(9, b"after"))
+        consumer.close(producer)
+        self.assertEqual(consumer.finish(), 0)
+
+    def test_a_handler_that_uses_the_interrupted_handle_is_refused(self):
+        producer, consumer = felter.many_to_one(256)
+        said = []
+
+        def use(*_):
+            try:
+                producer.write(1, b"")
+            except RuntimeError as why:
+                said.append(str(why))
+            except felter.Full:
+                pass
+
+        before = signal.signal(signal.SIGALRM, use)
+        try:
+            signal.setitimer(signal.ITIMER_REAL, 0.0003, 0.0003)
+            end = os.times().elapsed + 3
+            while not said and os.times().elapsed < end:
+                producer.positions()
+        finally:
+            signal.setitimer(signal.ITIMER_REAL, 0)
+            signal.signal(signal.SIGALRM, before)
+        self.assertIn("interrupted", said[0])
+
+    def test_a_forked_child_is_refused(self):
+        producer, consumer = felter.many_to_one(256)
+        held = threading.Event()
+        done = threading.Event()
+
+        def hold():
+            with producer._lock:
+                held.set()
+                done.wait()
+
+        thread = threading.Thread(target=hold)
+        thread.start()
+        held.wait()
+        child = os.fork()
+        if child == 0:
+            try:
+                producer.write(1, b"")
+            except RuntimeError:
+                os._exit(7)
+            os._exit(1)
+        done.set()
+        thread.join()
+        self.assertEqual(os.waitstatus_to_exitcode(os.waitpid(child, 0)[1]), 7)
+        producer.write(1, b"ours")
+        self.assertEqual(list(consumer), [Message(1, b"ours")])
+
+
+class Imports(Case):
+    def test_without_the_library_the_error_says_what_to_do(self):
+        environment = {**os.environ, "FELTER_DIR": "/nowhere", "PYTHONPATH": str(HERE)}
+        done = subprocess.run([sys.executable, "-c", "import felter"], env=environment, capture_output=True, text=True)
+        self.assertIn("ImportError: felter: there is no /nowhere/libfelter.so.", done.stderr)
+        self.assertIn("run c/build in the repository", done.stderr)
+
+
+if __name__ == "__main__":
+    unittest.main()
