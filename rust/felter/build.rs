@@ -1,19 +1,59 @@
-//! Links libfelter.a, from the folder that FELTER_DIR names, or else from this repository's `c/out`, where `c/build`
-//! puts it.
+//! Links libfelter.a: from the folder that FELTER_DIR names (a relative one counts from where cargo was started), or
+//! else from `native` in this crate, from where pkg-config has felter, or from the repository's `c/out`, where `c/build`
+//! puts it. Where there is none, DOCS_RS lets the documentation be built all the same.
 use std::env;
-use std::path::PathBuf;
+use std::path::{Path, PathBuf};
+use std::process::Command;
+
+const ARCHIVE: &str = "libfelter.a";
+
+/// The folder that FELTER_DIR names.
+fn named() -> Option<PathBuf> {
+    let folder = PathBuf::from(env::var_os("FELTER_DIR").filter(|it| !it.is_empty())?);
+    let started = env::var_os("PWD").map(PathBuf::from).unwrap_or_default();
+    Some(started.join(folder))
+}
+
+/// The folder where pkg-config has the library.
+fn packaged() -> Option<PathBuf> {
+    let said = Command::new("pkg-config").args(["--variable=libdir", "felter"]).output().ok()?;
+    let folder = String::from_utf8(said.stdout).ok()?;
+    said.status.success().then(|| PathBuf::from(folder.trim()))
+}
+
+/// The folders in which the archive may be, the first one first.
+fn candidates(here: &Path) -> Vec<PathBuf> {
+    if let Some(folder) = named() {
+        return vec![folder];
+    }
+    let mut folders = vec![here.join("native")];
+    folders.extend(packaged());
+    folders.push(here.join("../../c/out"));
+    folders
+}
 
 fn main() {
-    println!("cargo:rerun-if-env-changed=FELTER_DIR");
-    let here = PathBuf::from(env::var("CARGO_MANIFEST_DIR").expect("cargo names the crate's folder"));
-    let folder = env::var_os("FELTER_DIR").map_or_else(|| here.join("../../c/out"), PathBuf::from);
-    let archive = folder.join("libfelter.a");
-    println!("cargo:rerun-if-changed={}", archive.display());
-    assert!(
-        archive.is_file(),
-        "there is no {}: run c/build, or let FELTER_DIR name the folder that it filled",
-        archive.display()
+    for name in ["FELTER_DIR", "DOCS_RS", "PKG_CONFIG_PATH"] {
+        println!("cargo:rerun-if-env-changed={name}");
+    }
+    let here = PathBuf::from(env::var_os("CARGO_MANIFEST_DIR").expect("cargo names the crate's folder"));
+    let folders = candidates(&here);
+    for folder in &folders {
+        println!("cargo:rerun-if-changed={}", folder.join(ARCHIVE).display());
+    }
+    if let Some(folder) = folders.iter().find(|it| it.join(ARCHIVE).is_file()) {
+        println!("cargo:rustc-link-search=native={}", folder.display());
+        println!("cargo:rustc-link-lib=static=felter");
+        return;
+    }
+    let looked: Vec<_> = folders.iter().map(|it| it.display().to_string()).collect();
+    let missing = format!(
+        "felter: there is no {ARCHIVE} in {}: run c/build, or let FELTER_DIR name the folder that it filled",
+        looked.join(", ")
     );
-    println!("cargo:rustc-link-search=native={}", folder.display());
-    println!("cargo:rustc-link-lib=static=felter");
+    if env::var_os("DOCS_RS").is_none() {
+        eprintln!("{missing}");
+        std::process::exit(1);
+    }
+    println!("cargo:warning={missing}");
 }

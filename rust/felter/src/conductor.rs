@@ -27,11 +27,11 @@ use crate::raw;
 ///
 /// One thread uses a conductor, a client, a receiver or a reader at a time:
 ///
-/// ```compile_fail,E0277
+/// ```compile_fail,E0596
 /// let mut conductor = felter::Conductor::new(128, 256, 1, 0).expect("sizes");
 /// let client = conductor.client().expect("a share");
 /// std::thread::scope(|scope| {
-///     scope.spawn(|| { let _shared = &client; });
+///     scope.spawn(|| { let shared = &client; shared.free(0) });
 /// });
 /// ```
 #[derive(Debug)]

@@ -1,166 +1,114 @@
 //! Why calls are refused.
 use std::fmt;
 
-/// Why a call was refused. Each has the number that C gets, and the same name.
-#[derive(Clone, Copy, Debug, PartialEq, Eq, Hash)]
-#[non_exhaustive]
-pub enum Error {
+/// Defines the errors: each with its number, and for one that carries something what it carries.
+macro_rules! errors {
+    ($($(#[$doc:meta])* $name:ident $({ $(#[$note:meta])* $field:ident: $kind:ty })? = $number:literal,)*) => {
+        /// Why a call was refused. Each has the number that C gets, and the same name.
+        #[derive(Clone, Copy, Debug, PartialEq, Eq, Hash)]
+        #[non_exhaustive]
+        pub enum Error {
+            $($(#[$doc])* $name $({ $(#[$note])* $field: $kind })?,)*
+            /// A number that this crate does not know.
+            Unknown(i32),
+        }
+
+        impl Error {
+            /// The number that C gets.
+            pub fn number(self) -> i32 {
+                match self {
+                    $(Error::$name $({ $field: _ })? => $number,)*
+                    Error::Unknown(number) => number,
+                }
+            }
+
+            /// The error of a number that is not 0. What it carries is 0.
+            pub(crate) fn of(number: i32) -> Error {
+                match number {
+                    $($number => Error::$name $({ $field: 0 })?,)*
+                    other => Error::Unknown(other),
+                }
+            }
+        }
+    };
+}
+
+errors! {
     /// No power of two from 128 to 2^24.
-    BadCapacity,
+    BadCapacity = 1,
     /// No multiple of the capacity, or above 2^62.
-    BadStart,
+    BadStart = 2,
     /// There was no memory.
-    OutOfMemory,
+    OutOfMemory = 3,
     /// The type id is below 1.
-    BadType,
+    BadType = 4,
     /// The message is longer than an eighth of the capacity.
-    TooLong,
+    TooLong = 5,
     /// The record would end above 2^62.
-    PositionLimit,
+    PositionLimit = 6,
     /// The ring is full: try again when the consumer has read on.
-    InsufficientCapacity,
+    InsufficientCapacity = 7,
     /// Another producer was faster: try again.
-    Contended,
+    Contended = 8,
     /// The bytes do not lie inside the claim.
-    PutRange,
+    PutRange = 9,
     /// A claim of the producer is open: it was kept, or forgotten.
-    ClaimsOpen,
+    ClaimsOpen = 10,
     /// A producer or a client was not taken back: it is out, or was dropped, and then for good.
-    ProducersOut,
+    ProducersOut = 11,
     /// One share is left, and is needed.
-    NoShares,
+    NoShares = 12,
     /// The transmitter overtook the receiver.
     Lapped {
         /// How often by now.
-        count: u64,
-    },
+        count: u64
+    } = 13,
     /// A receiver was not taken back: it is out, or was dropped, and then for good.
-    ReceiversOut,
+    ReceiversOut = 14,
     /// The number of counters is 0 or above 4096.
-    BadCount,
+    BadCount = 15,
     /// The key has more than 112 bytes.
-    KeyTooLong,
+    KeyTooLong = 16,
     /// The label has more than 380 bytes.
-    LabelTooLong,
+    LabelTooLong = 17,
     /// The label has a byte of 128 or more.
-    LabelNotAscii,
+    LabelNotAscii = 18,
     /// Every id was used, and none that was freed is due.
-    NoFreeCounter,
+    NoFreeCounter = 19,
     /// The id is not below the number of counters.
-    BadId,
+    BadId = 20,
     /// No counter with this id is in use.
-    NotAllocated,
+    NotAllocated = 21,
     /// The owner is 0, which stands for none.
-    BadOwner,
+    BadOwner = 28,
     /// The handle is empty. No call of this crate brings it about.
-    NoHandle,
+    NoHandle = 100,
     /// The handle is of another kind: a producer of a one-to-one ring was to be split.
-    WrongHandle,
+    WrongHandle = 101,
     /// The handle that was to be filled is not empty. No call of this crate brings it about.
-    HandleInUse,
+    HandleInUse = 102,
     /// No claim of this number is open.
-    NoClaim,
+    NoClaim = 104,
     /// Nothing is there yet. This crate answers `None` in its place.
-    NoMessage,
+    NoMessage = 105,
     /// The message is longer than the buffer, and stays.
     ShortBuffer {
         /// How many bytes are wanted.
-        wanted: usize,
-    },
+        wanted: usize
+    } = 106,
     /// The moment is above 2^62.
-    BadMoment,
+    BadMoment = 107,
     /// The two handles are of two rings, boards, conductors or sets of counters.
-    OtherRing,
+    OtherRing = 108,
     /// What came is the reply to another command. This crate answers [`Polled::Another`](crate::Polled) in its place.
-    OtherReply,
+    OtherReply = 109,
     /// Another handle holds what was to be closed: a reader of a conductor's that is out.
-    InUse,
-    /// A number that this crate does not know.
-    Unknown(i32),
+    InUse = 110,
+    /// A pointer is NULL. No call of this crate brings it about.
+    NullPointer = 111,
 }
 
 impl Error {
-    /// The number that C gets.
-    pub fn number(self) -> i32 {
-        match self {
-            Error::BadCapacity => 1,
-            Error::BadStart => 2,
-            Error::OutOfMemory => 3,
-            Error::BadType => 4,
-            Error::TooLong => 5,
-            Error::PositionLimit => 6,
-            Error::InsufficientCapacity => 7,
-            Error::Contended => 8,
-            Error::PutRange => 9,
-            Error::ClaimsOpen => 10,
-            Error::ProducersOut => 11,
-            Error::NoShares => 12,
-            Error::Lapped { .. } => 13,
-            Error::ReceiversOut => 14,
-            Error::BadCount => 15,
-            Error::KeyTooLong => 16,
-            Error::LabelTooLong => 17,
-            Error::LabelNotAscii => 18,
-            Error::NoFreeCounter => 19,
-            Error::BadId => 20,
-            Error::NotAllocated => 21,
-            Error::BadOwner => 28,
-            Error::NoHandle => 100,
-            Error::WrongHandle => 101,
-            Error::HandleInUse => 102,
-            Error::NoClaim => 104,
-            Error::NoMessage => 105,
-            Error::ShortBuffer { .. } => 106,
-            Error::BadMoment => 107,
-            Error::OtherRing => 108,
-            Error::OtherReply => 109,
-            Error::InUse => 110,
-            Error::Unknown(number) => number,
-        }
-    }
-
-    /// The error of a number that is not 0.
-    pub(crate) fn of(number: i32) -> Error {
-        const KNOWN: [Error; 30] = [
-            Error::BadCapacity,
-            Error::BadStart,
-            Error::OutOfMemory,
-            Error::BadType,
-            Error::TooLong,
-            Error::PositionLimit,
-            Error::InsufficientCapacity,
-            Error::Contended,
-            Error::PutRange,
-            Error::ClaimsOpen,
-            Error::ProducersOut,
-            Error::NoShares,
-            Error::ReceiversOut,
-            Error::BadCount,
-            Error::KeyTooLong,
-            Error::LabelTooLong,
-            Error::LabelNotAscii,
-            Error::NoFreeCounter,
-            Error::BadId,
-            Error::NotAllocated,
-            Error::BadOwner,
-            Error::NoHandle,
-            Error::WrongHandle,
-            Error::HandleInUse,
-            Error::NoClaim,
-            Error::NoMessage,
-            Error::BadMoment,
-            Error::OtherRing,
-            Error::OtherReply,
-            Error::InUse,
-        ];
-        let found = KNOWN.into_iter().find(|it| it.number() == number);
-        found.unwrap_or(match number {
-            13 => Error::Lapped { count: 0 },
-            106 => Error::ShortBuffer { wanted: 0 },
-            other => Error::Unknown(other),
-        })
-    }
-
     /// Whether the same call may succeed later: the ring was full, or another producer was faster.
     ///
     /// ```
@@ -203,7 +151,11 @@ impl<T> fmt::Display for Refused<T> {
     }
 }
 
-impl<T: fmt::Debug> std::error::Error for Refused<T> {}
+impl<T: fmt::Debug> std::error::Error for Refused<T> {
+    fn source(&self) -> Option<&(dyn std::error::Error + 'static)> {
+        Some(&self.reason)
+    }
+}
 
 impl<T> From<Refused<T>> for Error {
     fn from(refused: Refused<T>) -> Error {

@@ -1,25 +1,25 @@
 //! A handle that frees itself, and the numbers that tell what a handle belongs to.
 use crate::error::Error;
 use crate::raw::{self, Raw};
-use std::cell::Cell;
 use std::fmt;
-use std::marker::PhantomData;
 use std::sync::atomic::{AtomicU64, Ordering};
 
-/// A handle. It is not `Sync`, by its marker.
+/// A handle.
 pub(crate) struct Handle {
     raw: Raw,
-    one_call: PhantomData<Cell<()>>,
 }
 
 // SAFETY: that the library's handles may go to another thread is proved there. A value that is moved to another thread
 // is moved after the calls before it.
 unsafe impl Send for Handle {}
 
+// SAFETY: nothing can be done with a handle that is shared: each call takes it by `&mut`.
+unsafe impl Sync for Handle {}
+
 impl Handle {
     /// An empty one.
     pub(crate) const fn empty() -> Handle {
-        Handle { raw: Raw::EMPTY, one_call: PhantomData }
+        Handle { raw: Raw::EMPTY }
     }
 
     /// For a call. The pointer is used in that call alone.

@@ -15,13 +15,13 @@
 //! its own. Capacities, lengths and positions are bytes; moments are milliseconds by a clock of the caller.
 //!
 //! Each handle owns what it stands for together with its ring, board, counters or conductor, so no lifetime ties them,
-//! and they may be dropped in any order. A handle may go to another thread, and one thread uses it at a time: handles
-//! are [`Send`] and not [`Sync`].
+//! and they may be dropped in any order. A handle may go to another thread. Each call takes its handle by `&mut`, so one
+//! thread at a time uses it:
 //!
-//! ```compile_fail,E0277
+//! ```compile_fail,E0596
 //! let (producer, _consumer) = felter::many_to_one(128).expect("a power of two");
 //! std::thread::scope(|scope| {
-//!     scope.spawn(|| { let _shared = &producer; });
+//!     scope.spawn(|| { let shared = &producer; shared.write(1, b"no") });
 //! });
 //! ```
 //!
