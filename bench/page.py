@@ -59,6 +59,22 @@ def about(run, what):
     return textwrap.fill(words, 120).split("\n")
 
 
+def has_plain(run):
+    """Whether rings with plain bodies were measured."""
+    return any(row["contender"].startswith("plain-") for row in run.rows)
+
+
+def measured(run, rows):
+    """The rows that have a figure."""
+    return [row for row in rows if run.ns(*row[1:]) is not None]
+
+
+def of_queue(runs, twin, *keys):
+    """A queue against a twin, from the same sets as ours if it took part in them."""
+    found = [runs[name].against(twin, *key) for name in ("sets", "queues") if name in runs for key in keys]
+    return next((it for it in found if it), None)
+
+
 def user_cells(runs, row):
     """A row of what users would pick: ours, and each queue, all in times `ar`."""
     label, point, ours, queues = row
@@ -66,9 +82,12 @@ def user_cells(runs, row):
     twin = twin_of(ours) + "-ar"
     cells = [label, number(runs["sets"].ns(workload, ours, size, threads, metric)),
              times(runs["sets"].against(twin, workload, ours, size, threads, metric))]
+    if has_plain(runs["sets"]):
+        plain = ours.replace("ours", "plain")
+        cells.append(times(runs["sets"].against(twin, workload, plain, size, threads, metric)))
     for name, _ in USER_QUEUES:
-        found = [runs["queues"].against(twin, workload, queue, size, threads, metric) for queue in queues.get(name, ())]
-        cells.append(times(next((it for it in found if it), None)))
+        keys = [(workload, queue, size, threads, metric) for queue in queues.get(name, ())]
+        cells.append(times(of_queue(runs, twin, *keys)))
     return cells
 
 
@@ -77,7 +96,8 @@ def users(runs):
     yield ""
     yield from about(runs["queues"], "Queues")
     yield ""
-    yield from table(["times `ar`", "ours, ns", "ours", *(title for _, title in USER_QUEUES)],
+    plain = ["plain bodies"] if has_plain(runs["sets"]) else []
+    yield from table(["times `ar`", "ours, ns", "ours", *plain, *(title for _, title in USER_QUEUES)],
                      [user_cells(runs, row) for row in USER_ROWS])
 
 
@@ -106,7 +126,7 @@ def readme(runs):
         key = (workload, ours, size, threads, metric)
         cells = [label, number(runs["sets"].ns(*key)), times(runs["sets"].against(twin, *key))]
         for queue in queues:
-            cells.append(times(queue and runs["queues"].against(twin, workload, queue, size, threads, metric)))
+            cells.append(times(of_queue(runs, twin, (workload, queue, size, threads, metric))))
         lines.append(cells)
     yield from table(["", "ns", "ours / `ar`", "Rust's queue / `ar`", "Java's queue / `ar`"], lines)
 
@@ -123,7 +143,7 @@ def all_rows(runs):
         yield "## " + title
         yield ""
         yield from table(["", "ours", "`sc`", "ours / `sc`, set by set", "`ar`", "ours / `ar`, set by set"],
-                         [row_cells(runs["sets"], row) for row in rows])
+                         [row_cells(runs["sets"], row) for row in measured(runs["sets"], rows)])
         yield ""
     yield "## From C, through felter.h"
     yield ""
@@ -158,7 +178,7 @@ def ratio_picture(runs):
     sections = []
     for title, rows in SECTIONS:
         drawn = []
-        for label, workload, ours, size, threads, metric in rows:
+        for label, workload, ours, size, threads, metric in measured(runs["sets"], rows):
             key, bars = (workload, ours, size, threads, metric), []
             for twin in ("sc", "ar"):
                 found = runs["sets"].against(f"{twin_of(ours)}-{twin}", *key)

@@ -1,7 +1,8 @@
 """Which figures the page, its pictures and README show."""
 import points
 
-RINGS = (("one owner", "ours-solo"), ("one-to-one", "ours-o2o"), ("many-to-one", "ours-m2o"))
+RINGS = (("one owner", "ours-solo"), ("one-to-one", "ours-o2o"), ("many-to-one", "ours-m2o"),
+         ("one-to-one, plain bodies", "plain-o2o"), ("many-to-one, plain bodies", "plain-m2o"))
 SIZES = (8, 32, 128, 1024)
 COMMAND = points.COMMAND
 
@@ -16,17 +17,17 @@ def of_sizes(rings, workload, sizes):
     return [(f"{name}, {size:,} bytes", workload, ours, size, 1, "ns") for name, ours in rings for size in sizes]
 
 
-# Title, and for each row: label, workload, contender, bytes, threads, metric.
+# Title, and for each row: label, workload, contender, bytes, threads, metric. Rows without a figure are left out.
 SECTIONS = (
     ("One thread, batches of 16 written and read: ns a message", of_sizes(RINGS, "W1", SIZES)),
     ("The same with bodies of which every other word is 0: ns a message", of_sizes(RINGS, "sparse", SIZES[1:])),
     ("One producer thread, one consumer thread: ns a message", of_sizes(RINGS[1:], "W2", SIZES)),
     ("Several producers, one consumer: ns a message",
-     [(f"{threads} producers, {size:,} bytes", "W3", "ours-m2o", size, threads, "ns")
-      for threads in (2, 4) for size in (8, 64)]),
+     [(f"{threads} producers, {size} bytes{said}", "W3", ours, size, threads, "ns")
+      for said, ours in (("", "ours-m2o"), (", plain bodies", "plain-m2o")) for threads in (2, 4) for size in (8, 64)]),
     ("A command to the conductor and its reply back: ns",
      [(f"{name}, {said}", "W4", ours, COMMAND, 1, metric) for name, ours in RINGS[1:]
-      for said, metric in (("mean", "mean"), ("p50", "p50"), ("p99", "p99"), ("p99.9", "p999"))]),
+      for said, metric in (("mean", "mean"), *((f"p{part:g}", metric) for metric, part in points.PERCENTILES))]),
     ("One transmitter, two receivers: ns a transmission",
      [(f"board, {size:,} bytes", "W5", "ours-board", size, 2, "ns") for size in (64, 1024)]),
     ("Counters: ns",
@@ -100,7 +101,8 @@ C_ROWS = (
 
 # Curves: of each picture its panels, (title, what x is, ticks, lines), a line being (name, colour, dash, [(x, key)]).
 PERCENTILES = points.PERCENTILES
-WHO = (("ours", "ours", "ours-m2o"), ("sc", "sc", "m2o-sc"), ("pb", "pb", "m2o-pb"), ("ar", "ar", "m2o-ar"))
+WHO = (("ours", "ours", "ours-m2o"), ("plain", "C", "plain-m2o"), ("sc", "sc", "m2o-sc"), ("pb", "pb", "m2o-pb"),
+       ("ar", "ar", "m2o-ar"))
 STORMS = (("ours", "ours", "ours-storm"), ("sc", "sc", "storm-sc"), ("pb", "pb", "storm-pb"), ("ar", "ar", "storm-ar"))
 
 
