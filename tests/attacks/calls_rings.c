@@ -199,7 +199,7 @@ static void read_one(struct ring *ring) {
     uint8_t *buffer = output(room);
     int32_t wanted = !next ? FELTER_NO_MESSAGE : room < its ? FELTER_SHORT_BUFFER : FELTER_OK;
     int32_t code = CALL(wanted, felter_read(&ring->consumer, &type_id, &len, buffer, room));
-    if (code == FELTER_SHORT_BUFFER) CHECK(len == its);
+    if (code == FELTER_SHORT_BUFFER) CHECK(len == its && type_id == next->type_id);
     if (code == FELTER_NO_MESSAGE) CHECK(len == UNTOUCHED && type_id == UNTOUCHED);
     if (code == FELTER_OK) {
         CHECK(type_id == next->type_id && len == its);
