@@ -1,4 +1,4 @@
-/* Random calls of a conductor, its clients, and receivers of its replies. */
+/* Random calls of a conductor, its clients, receivers of its replies, and readers of its counters' values. */
 #include "calls.h"
 
 #define CLIENTS 3
@@ -8,10 +8,15 @@
 enum command { ALLOCATE = 1, FREE = 2, SET = 3, ALLOCATE_OWNED = 4, CLOSE = 5 };
 
 
+/* What a seat is: a receiver gets all replies and sends nothing, a reader loads values. */
+enum kind { CLIENT, RECEIVER, READER };
+
 struct client {
-    bool is_there, is_receiver; /* which receives all replies, and sends nothing */
+    bool is_there;
+    enum kind kind;
     felter_client client;
     felter_receiver receiver;
+    felter_reader reader;
     struct model_receiver model;
     uint64_t sent; /* the correlation id of its last command */
 };
@@ -50,17 +55,18 @@ static void make(void) {
 }
 
 static void add_client(struct client *client) {
-    bool is_receiver = once_in(3);
+    enum kind kind = (enum kind)ONE_OF(CLIENT, CLIENT, CLIENT, RECEIVER, RECEIVER, READER);
     if (client->is_there) return;
-    if (is_receiver ? CALL(FELTER_OK, felter_conductor_subscribe(&its.conductor, &client->receiver))
-                    : CALL(FELTER_OK, felter_conductor_client(&its.conductor, &client->client)))
+    if (kind == RECEIVER ? CALL(FELTER_OK, felter_conductor_subscribe(&its.conductor, &client->receiver))
+            : kind == READER ? CALL(FELTER_OK, felter_conductor_reader(&its.conductor, &client->reader))
+                             : CALL(FELTER_OK, felter_conductor_client(&its.conductor, &client->client)))
         return;
     client->is_there = true;
-    client->is_receiver = is_receiver;
+    client->kind = kind;
     client->model = (struct model_receiver){its.board.latest, 0};
     client->sent = UINT64_MAX;
-    its.ring_shares += !is_receiver;
-    its.board_shares++;
+    its.ring_shares += kind == CLIENT;
+    its.board_shares += kind != READER;
 }
 
 /* Writes a command into the model's ring, after its id was drawn. */
@@ -250,17 +256,34 @@ static void heartbeat(struct client *client) {
         CHECK(seen == its.ring.heartbeat);
 }
 
+static void load_value(struct client *client) {
+    uint32_t all = its.counters.count, id = (uint32_t)ONE_OF(pick(all), pick(all), all, UINT32_MAX);
+    int64_t value = UNTOUCHED;
+    int32_t code = CALL(id < all ? FELTER_OK : FELTER_BAD_ID, felter_reader_value(&client->reader, id, &value));
+    CHECK(value == (code ? UNTOUCHED : its.counters.of[id].value));
+}
+
 static void join(struct client *client) {
-    if (client->is_receiver ? CALL(FELTER_OK, felter_conductor_join_receiver(&its.conductor, &client->receiver))
-                            : CALL(FELTER_OK, felter_conductor_join(&its.conductor, &client->client)))
+    enum kind kind = client->kind;
+    if (kind == RECEIVER ? CALL(FELTER_OK, felter_conductor_join_receiver(&its.conductor, &client->receiver))
+            : kind == READER ? CALL(FELTER_OK, felter_conductor_join_reader(&its.conductor, &client->reader))
+                             : CALL(FELTER_OK, felter_conductor_join(&its.conductor, &client->client)))
         return;
     client->is_there = false;
-    its.ring_shares -= !client->is_receiver;
-    its.board_shares--;
+    its.ring_shares -= kind == CLIENT;
+    its.board_shares -= kind != READER;
+}
+
+static bool has_reader(void) {
+    for (int k = 0; k < CLIENTS; k++)
+        if (its.clients[k].is_there && its.clients[k].kind == READER) return true;
+    return false;
 }
 
 static void free_client(struct client *client) {
-    felter_handle *handle = client->is_receiver ? &client->receiver.handle : &client->client.handle;
+    felter_handle *handle = client->kind == RECEIVER ? &client->receiver.handle
+        : client->kind == READER                     ? &client->reader.handle
+                                                     : &client->client.handle;
     CALL(FELTER_OK, (felter_free(handle), FELTER_OK));
     CHECK(handle->at == NULL);
     client->is_there = false;
@@ -269,7 +292,10 @@ static void free_client(struct client *client) {
 
 static void finish(void) {
     uint64_t received = UNTOUCHED, left = UNTOUCHED;
-    int32_t wanted = its.ring_shares ? FELTER_PRODUCERS_OUT : its.board_shares ? FELTER_RECEIVERS_OUT : FELTER_OK;
+    int32_t wanted = its.ring_shares ? FELTER_PRODUCERS_OUT
+        : its.board_shares           ? FELTER_RECEIVERS_OUT
+        : has_reader()               ? FELTER_IN_USE
+                                     : FELTER_OK;
     if (CALL(wanted, felter_conductor_finish(&its.conductor, &received, &left))) {
         CHECK(received == UNTOUCHED && left == UNTOUCHED);
         return;
@@ -300,7 +326,8 @@ void conductor_step(void) {
         default: break;
         }
     if (!client->is_there) return;
-    if (client->is_receiver) receive(client);
+    if (client->kind == RECEIVER) receive(client);
+    else if (client->kind == READER) load_value(client);
     else switch (pick(12)) {
         case 0: case 1: case 2: send_allocate(client); break;
         case 3: case 4: case 5: case 6: send_other(client); break;
