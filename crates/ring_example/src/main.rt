@@ -5,17 +5,19 @@ mod client;
 mod service;
 mod shared;
 
-ghost use Rattle.std.specs.Prelude.{◌≡◌};
+ghost use Rattle.std.specs.Prelude.{◌≡◌, IfOk};
+ghost use Rattle.ring_rings.specs.Seats.{IsProducerOf};
 ghost use Rattle.ring_counters.specs.Seats.{IsReaderOf};
 ghost use Rattle.ring_example.specs.Seats.{AreCallersOf, IsConductorAt, IsCallerOf};
 
 use client::Caller;
 use ring_board::Board;
-use ring_conductor::{Client, Conductor, finish};
+use ring_conductor::{Client, Conductor, Finished, finish};
 use ring_counters::{CounterInfo, CountersManager, ValueReader};
-use ring_rings::ManyToOneRing;
+use ring_rings::{ManyToOneRing, Producer};
 use service::{COUNTERS, conduct, watch};
 use shared::Shared;
+use std::alloc::Global;
 use std::io;
 use std::sync::Wait;
 use std::sync::atomic::AtomicBool;
@@ -30,6 +32,52 @@ const BOARD: u32 = 65_536;
 
 /// Two callers.
 type Callers = (Caller, Caller);
+
+/// What is made before a thread starts.
+#[derive(Drop)]
+struct Opened {
+    shared: Shared,
+    conductor: Conductor,
+    producer: Producer,
+}
+
+/// Makes ring, board and counters, and the conductor over them.
+fn open(alloc: Global) -> anyhow::Result<Opened>
+    ensures conductor { IfOk result (λ o. IsConductorAt o.shared o.conductor) }
+    ensures producer { IfOk result (λ o. IsProducerOf o.shared.ring o.producer) }
+{
+    let (values, counters) = CountersManager::new(alloc, COUNTERS, 0)?;
+    let (board, transmitter) = Board::new(alloc, BOARD)?;
+    let (ring, producer, consumer) = ManyToOneRing::new(alloc, RING)?;
+    let stop = AtomicBool::new(false);
+    Ok(Opened {
+        shared: Shared {
+            ring,
+            board,
+            values,
+            stop,
+        },
+        conductor: Conductor::new(consumer, transmitter, counters),
+        producer,
+    })
+}
+
+/// Gives a caller its endpoints: a producer of the ring and a receiver of the broadcast buffer.
+fn seat(
+    alloc: Global,
+    on: &Shared,
+    conductor: &mut Conductor,
+    producer: &mut Producer,
+    label: &'static str,
+) -> anyhow::Result<Caller>
+    requires { IsConductorAt on.now conductor.old × IsProducerOf on.now.ring producer.old }
+    ensures seats { IsConductorAt on.now conductor.new × IsProducerOf on.now.ring producer.new }
+    ensures caller { IfOk result (λ c. IsCallerOf on.now c) }
+{
+    let receiver = conductor.subscribe(alloc, &on.board)?;
+    let writer = on.ring.split(producer)?;
+    Ok(Caller::new(label, Client::new(writer, receiver)))
+}
 
 /// Runs the callers on two threads, and then tells the others to stop.
 fn run_callers<R: Threads + Wait + Sync>(rt: &R, on: &Shared, callers: Callers) -> Callers
@@ -101,6 +149,40 @@ fn run_all<R: Threads + Wait + Sync>(
     )
 }
 
+/// Takes a caller's endpoints back.
+fn take_back(on: &Shared, conductor: &mut Conductor, producer: &mut Producer, caller: Caller)
+    requires seats { IsConductorAt on.now conductor.old × IsProducerOf on.now.ring producer.old }
+    requires caller { IsCallerOf on.now caller }
+    ensures { IsConductorAt on.now conductor.new × IsProducerOf on.now.ring producer.new }
+{
+    let (writer, receiver) = caller.client.into_parts();
+    on.ring.join(producer, writer);
+    conductor.join_receiver(&on.board, receiver);
+}
+
+/// Finishes, after the endpoints of all callers are back.
+fn finish_all(
+    shared: Shared,
+    mut conductor: Conductor,
+    producer: Producer,
+    reader: ValueReader,
+) -> anyhow::Result<Finished>
+    requires seats { IsConductorAt shared conductor × IsProducerOf shared.ring producer }
+    requires reader { IsReaderOf shared.values reader }
+{
+    conductor.join_value_reader(&shared.values, reader);
+    let Shared {
+        ring,
+        board,
+        values,
+        ..
+    } = shared;
+    let finished = finish(ring, board, values, conductor, producer).map_err(
+        |refused| refused.reason,
+    )?;
+    Ok(finished)
+}
+
 /// Prints the client's counter by its label, with its last value.
 fn print_counter(rt: &impl Print, label: &str, counters: &[CounterInfo]) -> io::Result<()> {
     let found = counters
@@ -112,61 +194,65 @@ fn print_counter(rt: &impl Print, label: &str, counters: &[CounterInfo]) -> io::
     }
 }
 
-fn main(rt: HostRuntime) -> anyhow::Result<()> {
-    // All is made, and every seat is split off, before a thread is started: afterwards the conductor is in the hands of
-    // its thread, and nobody else can subscribe.
-    let alloc = rt.alloc();
-    let (ring, mut producer, consumer) = ManyToOneRing::new(alloc, RING)?;
-    let (board, transmitter) = Board::new(alloc, BOARD)?;
-    let (values, counters) = CountersManager::new(alloc, COUNTERS, 0)?;
-    let mut conductor = Conductor::new(consumer, transmitter, counters);
-    let receiver = conductor.subscribe(alloc, &board)?;
-    let requests = Client::new(ring.split(&mut producer)?, receiver);
-    let receiver = conductor.subscribe(alloc, &board)?;
-    let errors = Client::new(ring.split(&mut producer)?, receiver);
-    let callers = (
-        Caller::new("requests", requests),
-        Caller::new("errors", errors),
-    );
-    let reader = conductor.value_reader(&values)?;
+/// How many replies the callers received, and how often they were lapped.
+#[derive(Clone, Copy)]
+struct Totals {
+    replies: u32,
+    laps: u32,
+    saw_fall: bool,
+}
 
-    let stop = AtomicBool::new(false);
-    let shared = Shared {
-        ring,
-        board,
-        values,
-        stop,
-    };
-    let ((one, two), (mut conductor, (reader, saw_fall))) = run_all(
-        &rt, &shared, callers, conductor, reader,
-    );
-
-    // All seats are taken back, and then the conductor can finish.
-    let Shared {
-        ring,
-        board,
-        values,
-        ..
-    } = shared;
-    let replies = one.replies.saturating_add(two.replies);
-    let laps = one.laps.saturating_add(two.laps);
-    let (writer, receiver) = one.client.into_parts();
-    ring.join(&mut producer, writer);
-    conductor.join_receiver(&board, receiver);
-    let (writer, receiver) = two.client.into_parts();
-    ring.join(&mut producer, writer);
-    conductor.join_receiver(&board, receiver);
-    conductor.join_value_reader(&values, reader);
-    let finished = finish(ring, board, values, conductor, producer).map_err(
-        |refused| refused.reason,
-    )?;
-    let live = finished.counters.live(alloc)?;
-    let left = finished.rest.positions().used();
-    print_counter(&rt, one.label, live.as_slice())?;
-    print_counter(&rt, two.label, live.as_slice())?;
+/// Prints what came of it.
+fn print_all<R: AllocGlobal + Print>(
+    rt: &R,
+    finished: Finished,
+    totals: Totals,
+) -> anyhow::Result<()> {
+    let live = finished.counters.live(rt.alloc())?;
+    print_counter(rt, "requests", live.as_slice())?;
+    print_counter(rt, "errors", live.as_slice())?;
+    let Totals {
+        replies,
+        laps,
+        saw_fall,
+    } = totals;
     let received = finished.received;
     println!(rt; "commands {received} replies {replies} laps {laps}")?;
     println!(rt; "values {}", if saw_fall { "fell" } else { "never fell" })?;
+    let left = finished.rest.positions().used();
     println!(rt; "left {left}")?;
     Ok(())
+}
+
+fn main(rt: HostRuntime) -> anyhow::Result<()> {
+    // All is made, and every endpoint is split off, before a thread starts: afterwards the conductor belongs to its
+    // thread, and nobody else can subscribe.
+    let alloc = rt.alloc();
+    let Opened {
+        shared,
+        mut conductor,
+        mut producer,
+    } = open(alloc)?;
+    let one = seat(alloc, &shared, &mut conductor, &mut producer, "requests")?;
+    let two = seat(alloc, &shared, &mut conductor, &mut producer, "errors")?;
+    let reader = conductor.value_reader(&shared.values)?;
+
+    let ((one, two), (mut conductor, (reader, saw_fall))) = run_all(
+        &rt,
+        &shared,
+        (one, two),
+        conductor,
+        reader,
+    );
+
+    // All endpoints are taken back, and then the conductor can finish.
+    let totals = Totals {
+        replies: one.replies.saturating_add(two.replies),
+        laps: one.laps.saturating_add(two.laps),
+        saw_fall,
+    };
+    take_back(&shared, &mut conductor, &mut producer, one);
+    take_back(&shared, &mut conductor, &mut producer, two);
+    let finished = finish_all(shared, conductor, producer, reader)?;
+    print_all(&rt, finished, totals)
 }
