@@ -103,7 +103,7 @@ impl<L: Lane> Batches<L> {
         Ok(())
     }
 
-    /// Reads until so many messages came in all.
+    /// Reads until this many messages came in all.
     fn take(&mut self, count: u64) -> Result<(), Fault>
         requires { L.whole self.old.lane }
         ensures { L.whole self.new.lane }
@@ -128,7 +128,7 @@ impl<L: Lane> Task for Batches<L> {
     }
 }
 
-/// Writes and reads at least so many messages.
+/// Writes and reads at least this many messages.
 fn run_lane<L: Lane + Drop, R: Clock>(
     rt: &R,
     lane: L,
@@ -176,8 +176,8 @@ fn run_solo<R: Clock>(
     run_lane(rt, lane, body, times)
 }
 
-/// Writes and reads at least so many messages. `NO_CONTENDER` if the size is no multiple of 8; `NO_BUFFER` if there is no
-/// ring of that capacity; `REFUSED`, `STUCK` and `WRONG_MESSAGE` if messages are lost.
+/// Writes and reads at least this many messages. `NO_CONTENDER` if the size is no multiple of 8; `NO_BUFFER` if there
+/// is no ring of that capacity; `REFUSED`, `STUCK` and `WRONG_MESSAGE` if messages are lost.
 pub fn run_batches<R: Clock>(
     rt: &R,
     alloc: Global,

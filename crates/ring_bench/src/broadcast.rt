@@ -109,7 +109,7 @@ fn receive_each<R: Threads + Sync + Wait>(
     Ok(copies)
 }
 
-/// Subscribes so many receivers.
+/// Subscribes this many receivers.
 fn subscribe_all(
     alloc: Global,
     board: &Board,
@@ -192,8 +192,8 @@ fn run_all<R: Clock + Threads + Sync + Wait>(
     })
 }
 
-/// Transmits so many messages. `NO_CONTENDER` if the size is no multiple of 8; `NO_BUFFER` if there is no board of that
-/// capacity; `REFUSED` and `WRONG_MESSAGE` if messages are lost.
+/// Transmits this many messages. `NO_CONTENDER` if the size is no multiple of 8; `NO_BUFFER` if there is no board of
+/// that capacity; `REFUSED` and `WRONG_MESSAGE` if messages are lost.
 pub fn run_broadcast<R: Clock + Threads + Sync + Wait>(
     rt: &R,
     alloc: Global,

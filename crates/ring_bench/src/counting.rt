@@ -23,7 +23,7 @@ const TYPE_ID: i32 = 5;
 /// The label of all counters.
 const LABEL: &[u8] = b"messages sent to stream 1001: ";
 
-/// The counter of the step with this number. Neighbours in time lie apart.
+/// The counter of the step with this number. Neighbours in time are apart.
 fn scattered(step: u64) -> u32 {
     ((step.wrapping_mul(2_654_435_761) >> 7) % u64::from(COUNTERS)) as u32
 }
@@ -127,7 +127,7 @@ impl<'a> Task for Gets<'a> {
     }
 }
 
-/// The sum of the values that so many steps read, if each counter has its id.
+/// The sum of the values that this many steps read, if each counter has its id.
 fn sum_of(times: u64) -> u64 {
     let mut sum = 0u64;
     for step in 0..times {
@@ -161,7 +161,7 @@ fn get_often<R: Clock>(rt: &R, mut managed: Managed<'_>, times: u64) -> Result<u
     }
 }
 
-/// Allocates and frees all counters so often.
+/// Allocates and frees all counters this many times.
 fn cycle_often<R: Clock>(rt: &R, managed: Managed<'_>, rounds: u64) -> Result<Sample, Fault>
     requires { IsManagerOf managed.values.now managed.counters }
 {
@@ -186,7 +186,7 @@ fn run_filled<R: Clock + Threads + Sync + Wait>(
     }
 }
 
-/// Does so often, or some more, what the job says. `REFUSED`, `STUCK` and `WRONG_MESSAGE` if values are lost.
+/// Does what the job says this many times, or some more. `REFUSED`, `STUCK` and `WRONG_MESSAGE` if values are lost.
 pub fn run_counters<R: Clock + Threads + Sync + Wait>(
     rt: &R,
     alloc: Global,

@@ -6,7 +6,7 @@ use ring_rings::{MakeFault, NoShares};
 use std::alloc::{AllocError, AllocFailed};
 use std::io;
 
-/// Why a request is answered by `error` and this text.
+/// Why a request gets `error` and this text.
 #[derive(Clone, Copy)]
 pub struct Fault(pub &'static str);
 
@@ -26,7 +26,7 @@ impl Fault {
     pub const NO_SYSTEM: Fault = Fault("clock or output cannot be used");
     /// A message was refused, or found no room if there has to be some.
     pub const REFUSED: Fault = Fault("a message was refused");
-    /// So many tries were made in vain that another thread must have stopped.
+    /// This many tries were made in vain that another thread must have stopped.
     pub const STUCK: Fault = Fault("nothing came for a long time");
     /// A message that came is not the one that was sent.
     pub const WRONG_MESSAGE: Fault = Fault("a message is wrong");

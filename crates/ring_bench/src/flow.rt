@@ -99,7 +99,7 @@ fn produce_all<K: Kind + Sync, R: Threads + Sync + Wait>(
     Ok(())
 }
 
-/// Reads until so many messages have come.
+/// Reads until this many messages have come.
 fn take_all<K>(ring: &Ring<K>, mut consumer: Consumer, messages: u64) -> Tally
     requires { IsConsumerOf ring.now consumer }
 {
@@ -136,7 +136,7 @@ fn consume<K, R: Clock + Wait>(
     Ok(Sample::new(nanos, messages))
 }
 
-/// The producers, each of which sends so many messages, and the consumer.
+/// The producers, each of which sends this many messages, and the consumer.
 fn run_all<K: Kind + Sync, R: Clock + Threads + Sync + Wait>(
     rt: &R,
     ring: &Ring<K>,
@@ -219,8 +219,8 @@ fn run_many_to_one<R: Clock + Threads + Sync + Wait>(
     run_all(rt, &ring, loads, consumer, messages)
 }
 
-/// Sends so many messages, or some more, from the producers to the consumer. `NO_CONTENDER` if no such ring takes part
-/// with so many producers, or the size is no multiple of 8; `NO_BUFFER` if there is no ring of that capacity;
+/// Sends this many messages, or some more, from the producers to the consumer. `NO_CONTENDER` if no such ring takes
+/// part with this many producers, or the size is no multiple of 8; `NO_BUFFER` if there is no ring of that capacity;
 /// `REFUSED`, `STUCK` and `WRONG_MESSAGE` if messages are lost.
 pub fn run_flow<R: Clock + Threads + Sync + Wait>(
     rt: &R,

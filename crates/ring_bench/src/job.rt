@@ -24,7 +24,7 @@ pub enum Job {
 }
 
 impl Job {
-    /// What its time is called in an answer.
+    /// What its time is called in a reply.
     pub fn metric(self) -> &'static str {
         match self {
             Job::Batches | Job::Flow | Job::Broadcast | Job::Storm => "ns",

@@ -1,5 +1,5 @@
-//! Measures the rings, the broadcast buffer, the counters and storms. It answers requests on standard input, one a
-//! line: `list`, `run WORKLOAD CONTENDER SIZE CAPACITY THREADS MILLISECONDS` and `quit`. The last line of each answer
+//! Measures the rings, the broadcast buffer, the counters and storms. It takes requests on standard input, one a
+//! line: `list`, `run WORKLOAD CONTENDER SIZE CAPACITY THREADS MILLISECONDS` and `quit`. The last line of each reply
 //! is `end`.
 #![tactic(auto)]
 

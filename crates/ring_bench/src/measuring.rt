@@ -35,7 +35,7 @@ const TRIES: u32 = 8;
 /// The greatest step from one try to the next.
 const MOST_GROWTH: u64 = 64;
 
-/// Runs a job so many times.
+/// Runs a job this many times.
 fn run<R: Clock + Threads + Sync + Wait>(
     rt: &R,
     alloc: Global,
@@ -108,7 +108,7 @@ impl Measurer {
         Ok(times)
     }
 
-    /// Answers a request, of which these are the words after `run`.
+    /// Serves a request, of which these are the words after `run`.
     pub fn answer<R: Clock + Print + Threads + Sync + Wait>(
         &mut self,
         rt: &R,

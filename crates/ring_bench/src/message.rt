@@ -23,7 +23,7 @@ pub struct Body {
 }
 
 impl Body {
-    /// A body of so many bytes. `NO_CONTENDER` if that is no multiple of 8, or 0.
+    /// A body of this many bytes. `NO_CONTENDER` if that is no multiple of 8, or 0.
     pub fn new(alloc: Global, size: usize) -> Result<Body, Fault> {
         if size < WORD || size % WORD != 0 {
             return Err(Fault::NO_CONTENDER);
@@ -129,7 +129,7 @@ impl Tally {
         }
     }
 
-    /// `WRONG_MESSAGE` if a message came out of turn, or not so many came.
+    /// `WRONG_MESSAGE` if a message came out of turn, or not this many came.
     pub fn check(&self, count: u64) -> Result<(), Fault> {
         if self.count == count && self.stray == 0 {
             Ok(())

@@ -15,7 +15,7 @@ pub trait Task {
         ensures { is_ready self.new };
 }
 
-/// Does a task so many times, and returns the nanoseconds that this took.
+/// Does a task this many times, and returns the nanoseconds that this took.
 pub fn time<R: Clock, T: Task>(rt: &R, task: &mut T, times: u64) -> Result<u64, Fault>
     requires { T.is_ready task.old }
     ensures { T.is_ready task.new }

@@ -37,8 +37,8 @@ impl<'a> Task for CountUp<'a> {
     }
 }
 
-/// Reads the counter until it has the last value. `WRONG_MESSAGE` if a value is less than the one before, `STUCK` if the
-/// last one does not come.
+/// Reads the counter until it has the last value. `WRONG_MESSAGE` if a value is less than the one before, `STUCK` if
+/// the last one does not come.
 fn watch(values: &CounterValues, mut reader: ValueReader, last: i64) -> Result<(), Fault>
     requires { IsReaderOf values.now reader }
 {
@@ -104,8 +104,8 @@ fn readers_of(
     Ok(them)
 }
 
-/// Sets a counter so often while threads watch it, and returns the nanoseconds that this took. The counters are in use,
-/// and were not set yet.
+/// Sets a counter this many times while threads watch it, and returns the nanoseconds that this took. The counters are
+/// in use, and were not set yet.
 pub fn run_watched<R: Clock + Threads + Sync + Wait>(
     rt: &R,
     alloc: Global,

@@ -4,7 +4,7 @@ ghost use Rattle.ring_board.specs.Seats.{IsTransmitterOf, IsBegunOf, begun_len};
 
 use ring_board::{Begun, Board, TransmitFault, Transmitter};
 
-/// Transmits so many bodies of this length, up to 32 bytes. All bytes are 7.
+/// Transmits this many bodies of this length, up to 32 bytes. All bytes are 7.
 pub fn send(board: &Board, transmitter: &mut Transmitter, count: u32, len: usize)
     requires { IsTransmitterOf board.now transmitter.old }
     ensures { IsTransmitterOf board.now transmitter.new }

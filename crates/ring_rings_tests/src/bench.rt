@@ -32,7 +32,7 @@ pub enum Call<'a> {
     MaxMessage,
 }
 
-/// What a call answers.
+/// What a call returns.
 #[derive(Clone, Copy, Debug, PartialEq, Eq)]
 pub enum Said {
     Done,

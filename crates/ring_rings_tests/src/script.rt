@@ -6,7 +6,7 @@ pub const BODY: [u8; 16] = [0, 1, 2, 3, 4, 5, 6, 7, 8, 9, 10, 11, 12, 13, 14, 15
 /// A type id and a body.
 pub type Message<'a> = (i32, &'a [u8]);
 
-/// Compares the messages that it is shown with those that it expects, and answers them by a script. After the script
+/// Compares the messages that it is shown with those that it expects, and replies by a script. After the script
 /// it goes on.
 #[derive(Drop)]
 pub struct Script<'a> {
