@@ -2,6 +2,8 @@
 #![tactic(auto)]
 
 #[cfg(test)]
+mod bench;
+#[cfg(test)]
 mod faults;
 #[cfg(test)]
 mod positions;
@@ -9,8 +11,6 @@ mod positions;
 mod raw;
 #[cfg(test)]
 mod receiving;
-#[cfg(test)]
-mod sending;
 #[cfg(test)]
 mod threads;
 #[cfg(test)]

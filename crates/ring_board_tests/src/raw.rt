@@ -6,39 +6,13 @@ ghost use Rattle.ring_board.specs.declared.shared.view.Taken.{Taken};
 ghost use Rattle.ring_board.specs.declared.board.RawRecord.{RawRecord};
 ghost use Rattle.ring_board.specs.Seats.{IsRawOf, IsAnsweredRecord, raw_view, answered_by, place_of, len_of};
 
-use crate::sending::{begun, send};
-use ring_board::{Board, Lapped, NoShares, RawRecord, Receiver, ReceiversOut, SubscribeFault};
-use std::test::Fail;
-
-/// The next record.
-fn next(board: &Board, receiver: &mut Receiver) -> Result<RawRecord, Fail>
-    requires { IsRawOf board.now receiver.old }
-    ensures board { IsRawOf board.now receiver.new }
-    ensures answered { IfOk result (λ r. IsAnsweredRecord (raw_view receiver.new) r) }
-    ensures kept { (r : RawRecord) → IsAnsweredRecord (raw_view receiver.old) r
-        → IsAnsweredRecord (raw_view receiver.new) r }
-{
-    match receiver.receive_next(board) {
-        Ok(Some(record)) => Ok(record),
-        Ok(None) => Err(Fail::from("no record")),
-        Err(_) => Err(Fail::from("lapped")),
-    }
-}
-
-/// The body of a record, at the front of bytes that are 99.
-fn loaded(board: &Board, receiver: &mut Receiver, raw: &RawRecord) -> [u8; 12]
-    requires board { IsRawOf board.now receiver.old }
-    requires raw { IsAnsweredRecord (raw_view receiver.old) raw.now }
-    ensures board { IsRawOf board.now receiver.new }
-    ensures kept { (r : RawRecord) → IsAnsweredRecord (raw_view receiver.old) r
-        → IsAnsweredRecord (raw_view receiver.new) r }
-{
-    let mut out = [99; 12];
-    if raw.len() <= 12 {
-        receiver.load_body(board, raw, &mut out);
-    }
-    out
-}
+use crate::bench::Answer::{Body, Done, Lapped, Nothing, Number, Record, Valid};
+use crate::bench::Call::{
+    Begin, JoinRaw, LoadBody, PassNext, RawLappedCount, ReceiveNext, Send, Shares, SubscribeRaw,
+    Transmit, Validate,
+};
+use crate::bench::{Answer, Call, plays};
+use ring_board::{Board, NoShares, RawRecord, Receiver, ReceiversOut, SubscribeFault};
 
 /// Loads the body of a record and validates it. With true, the bytes are the body that was transmitted: that of the
 /// record's copy, which `join_raw` says is an entry of the list.
@@ -54,122 +28,114 @@ fn is_loaded_whole(board: &Board, receiver: &mut Receiver, raw: &RawRecord, out:
     receiver.validate(board, raw)
 }
 
-/// Type id, length and place.
-fn facts(record: &RawRecord) -> (i32, usize, u64) {
-    (record.type_id(), record.len(), record.place())
-}
-
-/// Those of the next record.
-fn next_facts(board: &Board, receiver: &mut Receiver) -> Option<(i32, usize, u64)>
-    requires { IsRawOf board.now receiver.old }
-    ensures { IsRawOf board.now receiver.new }
-{
-    match receiver.receive_next(board) {
-        Ok(Some(record)) => Some(facts(&record)),
-        Ok(None) => None,
-        Err(_lapped) => None,
-    }
-}
-
 #[test]
-fn a_record_is_valid_until_the_intent_reaches_it(rt: HostRuntime) -> Result<(), Fail> {
-    let (board, mut transmitter) = Board::new(rt.alloc(), 256)?;
-    let mut receiver = board.subscribe_raw(&mut transmitter)?;
-    send(&board, &mut transmitter, 1, 24);
-    let first = next(&board, &mut receiver)?;
-    assert_eq!(rt; (facts(&first), first.is_empty()), ((1, 24, 0), false));
-    assert!(rt; receiver.validate(&board, &first));
-    send(&board, &mut transmitter, 6, 24);
-    assert!(rt; receiver.validate(&board, &first));
-    let _begun = begun(&board, transmitter)?;
-    assert!(rt; !receiver.validate(&board, &first));
-    let second = next(&board, &mut receiver)?;
-    assert_eq!(rt; (facts(&second), receiver.lapped_count()), ((1, 24, 32), 0));
-    Ok(())
-}
-
-#[test]
-fn bodies_are_loaded_to_the_front(rt: HostRuntime) -> Result<(), Fail> {
-    let (board, mut transmitter) = Board::new(rt.alloc(), 256)?;
-    let mut receiver = board.subscribe_raw(&mut transmitter)?;
-    board.transmit(&mut transmitter, 5, &[1, 2, 3, 4, 5, 6, 7, 8, 9, 10])?;
-    board.transmit(&mut transmitter, 6, &[])?;
-    let first = next(&board, &mut receiver)?;
-    let second = next(&board, &mut receiver)?;
-    assert!(rt; second.is_empty());
-    assert_eq!(rt; (second.type_id(), second.place()), (6, 24));
-    assert_eq!(rt;
-        loaded(&board, &mut receiver, &first),
-        [1, 2, 3, 4, 5, 6, 7, 8, 9, 10, 99, 99]
-    );
-    assert_eq!(rt; loaded(&board, &mut receiver, &second), [99; 12]);
-    assert!(rt; receiver.validate(&board, &first));
-    assert_eq!(rt; receiver.receive_next(&board), Ok(None));
-    board.join_raw(&mut transmitter, receiver);
-    assert_eq!(rt; transmitter.shares(), 65536);
-    Ok(())
-}
-
-#[test]
-fn a_body_is_whole_while_it_is_valid(rt: HostRuntime) -> Result<(), Fail> {
-    let (board, mut transmitter) = Board::new(rt.alloc(), 256)?;
-    let mut receiver = board.subscribe_raw(&mut transmitter)?;
-    send(&board, &mut transmitter, 1, 24);
-    let first = next(&board, &mut receiver)?;
+fn a_body_is_whole_while_it_is_valid(rt: HostRuntime) {
+    let (board, mut transmitter) = Board::new(rt.alloc(), 256).expect(&rt, "a board");
+    let mut receiver = board
+        .subscribe_raw(&mut transmitter)
+        .expect(&rt, "a receiver");
+    assert_eq!(rt; board.transmit(&mut transmitter, 1, &[7; 24]), Ok(()));
+    let Ok(Some(first)) = receiver.receive_next(&board) else {
+        panic!(rt; "no record");
+    };
     let mut out = [0; 24];
-    if first.len() > out.len() {
-        return Err(Fail::from("too long"));
-    }
+    assert!(rt; first.len() <= out.len());
     assert!(rt; is_loaded_whole(&board, &mut receiver, &first, &mut out));
     assert_eq!(rt; out, [7; 24]);
-    Ok(())
+}
+
+/// The transmission that begins reaches the first record, and not the second.
+static REACHED: [(Call<'static>, Answer); 10] = [
+    (SubscribeRaw, Done),
+    (Send(1, 24), Done),
+    (ReceiveNext, Record(0, 1, 24)),
+    (Validate, Valid(true)),
+    (Send(6, 24), Done),
+    (Validate, Valid(true)),
+    (Begin(1, 24), Done),
+    (Validate, Valid(false)),
+    (PassNext, Record(32, 1, 24)),
+    (RawLappedCount, Number(0)),
+];
+
+#[test]
+fn a_record_is_valid_until_the_intent_reaches_it(rt: HostRuntime) {
+    plays(&rt, rt.alloc(), 0, &REACHED);
+}
+
+const TEN: [u8; 10] = [1, 2, 3, 4, 5, 6, 7, 8, 9, 10];
+
+/// The body of the first of two records.
+static FIRST: [(Call<'static>, Answer); 10] = [
+    (SubscribeRaw, Done),
+    (Transmit(5, &TEN), Done),
+    (Transmit(6, &[]), Done),
+    (ReceiveNext, Record(0, 5, 10)),
+    (PassNext, Record(24, 6, 0)),
+    (LoadBody, Body([1, 2, 3, 4, 5, 6, 7, 8, 9, 10, 99, 99])),
+    (Validate, Valid(true)),
+    (PassNext, Nothing),
+    (JoinRaw, Done),
+    (Shares, Number(65536)),
+];
+
+/// The body of the second, which is empty.
+static SECOND: [(Call<'static>, Answer); 6] = [
+    (SubscribeRaw, Done),
+    (Transmit(5, &TEN), Done),
+    (Transmit(6, &[]), Done),
+    (PassNext, Record(0, 5, 10)),
+    (ReceiveNext, Record(24, 6, 0)),
+    (LoadBody, Body([99; 12])),
+];
+
+#[test]
+fn bodies_are_loaded_to_the_front(rt: HostRuntime) {
+    plays(&rt, rt.alloc(), 0, &FIRST);
+    plays(&rt, rt.alloc(), 0, &SECOND);
+}
+
+static PADDED: [(Call<'static>, Answer); 11] = [
+    (SubscribeRaw, Done),
+    (Send(6, 32), Done),
+    (PassNext, Record(0, 1, 32)),
+    (PassNext, Record(40, 1, 32)),
+    (PassNext, Record(80, 1, 32)),
+    (PassNext, Record(120, 1, 32)),
+    (PassNext, Record(160, 1, 32)),
+    (PassNext, Record(200, 1, 32)),
+    (Send(1, 32), Done),
+    (PassNext, Record(256, 1, 32)),
+    (RawLappedCount, Number(0)),
+];
+
+#[test]
+fn raw_receivers_pass_padding(rt: HostRuntime) {
+    plays(&rt, rt.alloc(), 0, &PADDED);
+}
+
+static LAPPED: [(Call<'static>, Answer); 5] = [
+    (SubscribeRaw, Done),
+    (Send(8, 24), Done),
+    (PassNext, Lapped(1, 0, 256)),
+    (RawLappedCount, Number(1)),
+    (PassNext, Record(224, 1, 24)),
+];
+
+#[test]
+fn raw_receivers_are_lapped_too(rt: HostRuntime) {
+    plays(&rt, rt.alloc(), 0, &LAPPED);
 }
 
 #[test]
-fn raw_receivers_pass_padding(rt: HostRuntime) -> Result<(), Fail> {
-    let (board, mut transmitter) = Board::new(rt.alloc(), 256)?;
-    let mut receiver = board.subscribe_raw(&mut transmitter)?;
-    send(&board, &mut transmitter, 6, 32);
-    'records: for place in [0, 40, 80, 120, 160, 200] {
-        assert_eq!(rt; next_facts(&board, &mut receiver), Some((1, 32, place)));
-    }
-    send(&board, &mut transmitter, 1, 32);
-    assert_eq!(rt; next_facts(&board, &mut receiver), Some((1, 32, 256)));
-    assert_eq!(rt; receiver.lapped_count(), 0);
-    Ok(())
-}
-
-#[test]
-fn raw_receivers_are_lapped_too(rt: HostRuntime) -> Result<(), Fail> {
-    let (board, mut transmitter) = Board::new(rt.alloc(), 256)?;
-    let mut receiver = board.subscribe_raw(&mut transmitter)?;
-    send(&board, &mut transmitter, 8, 24);
-    let lapped = Lapped {
-        count: 1,
-        place: 0,
-        intent: 256,
-    };
-    assert_eq!(rt; receiver.receive_next(&board), Err(lapped));
-    assert_eq!(rt; receiver.lapped_count(), 1);
-    let latest = next(&board, &mut receiver)?;
-    assert_eq!(rt; latest.place(), 224);
-    Ok(())
-}
-
-#[test]
-fn all_shares_but_one_go_to_receivers(rt: HostRuntime) -> Result<(), Fail> {
-    let (board, mut transmitter) = Board::new(rt.alloc(), 256)?;
+fn all_shares_but_one_go_to_receivers(rt: HostRuntime) {
+    let (board, mut transmitter) = Board::new(rt.alloc(), 256).expect(&rt, "a board");
     'shares: for _ in 0..65535 {
-        let _receiver = board.subscribe_raw(&mut transmitter)?;
+        assert!(rt; board.subscribe_raw(&mut transmitter).is_ok());
     }
     assert_eq!(rt; board.subscribe_raw(&mut transmitter).err(), Some(NoShares));
-    assert_eq!(rt;
-        board.subscribe(rt.alloc(), &mut transmitter).err(),
-        Some(SubscribeFault::NoShares)
-    );
-    let Err(refused) = board.close(transmitter) else {
-        return Err(Fail::from("closed"));
-    };
+    let copying = board.subscribe(rt.alloc(), &mut transmitter).err();
+    assert_eq!(rt; copying, Some(SubscribeFault::NoShares));
+    let refused = board.close(transmitter).err().expect(&rt, "a refusal");
     assert_eq!(rt; refused.reason, ReceiversOut { receivers: 65535 });
-    Ok(())
 }

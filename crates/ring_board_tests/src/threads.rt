@@ -2,7 +2,6 @@ ghost use Rattle.std.specs.Thread.{IsSync};
 ghost use Rattle.ring_board.specs.Seats.{IsTransmitterOf, IsReceiverOf};
 
 use ring_board::{Board, CopyReceiver, Transmitter};
-use std::test::Fail;
 use std::thread::{Threads, join};
 
 const BODIES: u64 = 10_000;
@@ -130,17 +129,19 @@ fn run<R: Threads + Sync>(
 }
 
 #[test]
-fn copies_are_whole_and_in_order(rt: HostRuntime) -> Result<(), Fail> {
-    let (board, mut transmitter) = Board::new(rt.alloc(), 4096)?;
-    let one = board.subscribe(rt.alloc(), &mut transmitter)?;
-    let two = board.subscribe(rt.alloc(), &mut transmitter)?;
+fn copies_are_whole_and_in_order(rt: HostRuntime) {
+    let (board, mut transmitter) = Board::new(rt.alloc(), 4096).expect(&rt, "a board");
+    let one = board
+        .subscribe(rt.alloc(), &mut transmitter)
+        .expect(&rt, "a receiver");
+    let two = board
+        .subscribe(rt.alloc(), &mut transmitter)
+        .expect(&rt, "a receiver");
     let (mut transmitter, (one, two)) = run(&rt, &board, transmitter, one, two);
     assert!(rt; one.right && two.right);
-    assert_eq!(rt; one.last, Some(BODIES - 1));
-    assert_eq!(rt; two.last, Some(BODIES - 1));
+    assert_eq!(rt; [one.last, two.last], [Some(BODIES - 1); 2]);
     board.join(&mut transmitter, one.receiver);
     board.join(&mut transmitter, two.receiver);
-    let closed = board.close(transmitter).map_err(|refused| refused.reason)?;
+    let closed = board.close(transmitter).ok().expect(&rt, "a closed board");
     assert_eq!(rt; closed.tail(), closed.intent());
-    Ok(())
 }
