@@ -144,7 +144,7 @@ class Interrupts(Case):
                 pass
             producer.write(1, b"body")
 
-        self.assertGreater(self.interrupted(work, 0.5), 100)
+        self.assertGreater(self.interrupted(work, 0.5), 10)
         while consumer.read():
             pass
         producer.write(2, b"after")
@@ -170,7 +170,7 @@ class Interrupts(Case):
 
         hook, sys.unraisablehook = sys.unraisablehook, lambda _: None
         try:
-            self.assertGreater(self.interrupted(whole, 1), 200)
+            self.assertGreater(self.interrupted(whole, 1), 10)
         finally:
             sys.unraisablehook = hook
         producer.write(9, b"after")

@@ -5,8 +5,9 @@
     for message in consumer:
         print(message.type_id, message.body)
 
-Nothing waits: reads return None if nothing is there, and a full ring or a faster producer is an exception (`Full`,
-`Contended`, which are an `Error` whose `is_passing` is then true). Capacities, lengths and positions are bytes; moments
+Reads return None if nothing is there, and a full ring or a faster producer is an exception (`Full`, `Contended`, which
+are an `Error` whose `is_passing` is then true). With a timeout they wait; `is_abandoned` says that the other side is
+gone, and a `Doorbell` wakes event loops. Capacities, lengths and positions are bytes; moments
 are milliseconds by a clock of the caller.
 
 A handle may be used by any thread: a lock in each lets one call at a time work on it. Handles are context managers, and
@@ -22,9 +23,10 @@ from felter.boards import RawReceiver, RawRecord, Receiver, Transmitter
 from felter.claims import Claim
 from felter.conductor import Client, Conductor, Finished, Reply, ReplyKind, Work, WorkStop
 from felter.counters import Counters, Reader
-from felter.errors import Closed, Contended, Error, Full, Lapped, Number
+from felter.errors import Closed, Contended, Disconnected, Error, Full, Lapped, Number
 from felter.message import Message
 from felter.rings import Consumer, Positions, Producer, many_to_one, one_to_one
+from felter.waiting import Doorbell
 
 __version__ = "0.1.0"
 
@@ -36,6 +38,8 @@ __all__ = [
     "Consumer",
     "Contended",
     "Counters",
+    "Disconnected",
+    "Doorbell",
     "Error",
     "Finished",
     "Full",

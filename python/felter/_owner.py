@@ -4,6 +4,7 @@ import itertools
 import os
 import threading
 import typing
+import weakref
 
 from felter._library import Handle, call, library
 from felter.errors import Error, Number
@@ -34,10 +35,25 @@ class Unique:
         self.__copy__()
 
 
-class Owner(Unique):
-    """A handle that owns something, and frees it. `number` tells its ring, board, counters or conductor."""
+class Ends:
+    """The ends of a ring or a board that are there."""
 
-    def __init__(self, number: int) -> None:
+    def __init__(self) -> None:
+        self.writers: "weakref.WeakSet[Owner]" = weakref.WeakSet()
+        self.readers: "weakref.WeakSet[Owner]" = weakref.WeakSet()
+
+
+class Owner(Unique):
+    """A handle that owns something, and frees it. `number` tells its ring, board, counters or conductor. Its ends are
+    those of what it belongs to, of which this one writes or reads."""
+
+    # Whether it was freed, closed, or taken in.
+    _is_gone = False
+
+    def __init__(self, number: int, ends: typing.Optional["Ends"] = None, writes: bool = True) -> None:
+        self._ends = ends or Ends()
+        self._writes = writes
+        (self._ends.writers if writes else self._ends.readers).add(self)
         self._handle = Handle()
         self._lock = threading.RLock()
         self._number = number
@@ -48,6 +64,7 @@ class Owner(Unique):
         self._check()
         with self._lock:
             library.felter_free(self._handle)
+            self._is_gone = True
 
     def __enter__(self: Self) -> Self:
         return self
@@ -60,6 +77,10 @@ class Owner(Unique):
         made = library is not None and getattr(self, "_generation", None) == generation[0]
         if made and getattr(self, "_handle", None) is not None:
             library.felter_free(self._handle)
+
+    def _is_abandoned(self) -> bool:
+        """Whether every end of the other side is gone."""
+        return all(it._is_gone for it in (self._ends.readers if self._writes else self._ends.writers))
 
     def _check(self) -> None:
         """Refuses what would wait for good: a signal handler in a call of the handle, and a forked child."""

@@ -4,9 +4,10 @@ import ctypes
 import typing
 
 from felter._library import call, code_of, octets
-from felter._owner import Owner, numbers
+from felter._owner import Ends, Owner, numbers
 from felter.errors import Error, Lapped, Number, refusal
 from felter.message import Message
+from felter.waiting import wait_for
 
 
 def is_received(name: str, *parameters: typing.Any, lapped: ctypes.c_uint64) -> bool:
@@ -35,13 +36,13 @@ class Transmitter(Owner):
     def subscribe(self) -> "Receiver":
         """Makes a receiver, which starts with the message that was transmitted last. It has one share of 65,536. One
         that is freed takes its share with it, and the board is then never closed: join it where that matters."""
-        receiver = Receiver(self._capacity, self._number)
+        receiver = Receiver(self._capacity, self._number, self._ends)
         self._do("felter_subscribe", receiver._handle)
         return receiver
 
     def subscribe_raw(self) -> "RawReceiver":
         """Makes a raw receiver, which answers each record unread; else as `subscribe`."""
-        receiver = RawReceiver(self._number)
+        receiver = RawReceiver(self._number, self._ends, writes=False)
         self._do("felter_subscribe_raw", receiver._handle)
         return receiver
 
@@ -56,19 +57,30 @@ class Transmitter(Owner):
     def close(self) -> int:
         """Ends a board whose receivers were all taken back, frees the transmitter, and answers the position where the
         last transmission ended. Refused with RECEIVERS_OUT, it goes on as before."""
-        return self._say("felter_board_close", ctypes.c_uint64)
+        tail = self._say("felter_board_close", ctypes.c_uint64)
+        self._is_gone = True
+        return tail
 
 
 class Receiver(Owner):
     """Receives what is transmitted on a board."""
 
-    def __init__(self, capacity: int, number: int) -> None:
-        super().__init__(number)
+    def __init__(self, capacity: int, number: int, ends: Ends) -> None:
+        super().__init__(number, ends, writes=False)
         self._buffer = ctypes.create_string_buffer(capacity // 8)
 
-    def receive(self) -> typing.Optional[Message]:
-        """The next message, or None where nothing is there. Raises Lapped where the transmitter overtook the receiver;
-        the next call goes on with the message that was transmitted last."""
+    def is_abandoned(self) -> bool:
+        """Whether the transmitter was freed or closed, or the conductor: nothing more will come. What was transmitted
+        before is still to be received."""
+        return self._is_abandoned()
+
+    def receive(self, timeout: typing.Optional[float] = 0) -> typing.Optional[Message]:
+        """The next message, or None if nothing came within so many seconds (0: it does not wait, None: it waits for
+        ever). Raises Lapped if the transmitter overtook the receiver; the next call goes on with the message that was
+        transmitted last. Waiting, it raises Disconnected if the transmitter is gone and all was received."""
+        return wait_for(self._receive, timeout, self.is_abandoned)
+
+    def _receive(self) -> typing.Optional[Message]:
         type_id, length, lapped = ctypes.c_int32(), ctypes.c_size_t(), ctypes.c_uint64()
         self._check()
         with self._lock:
@@ -78,7 +90,7 @@ class Receiver(Owner):
 
     def __iter__(self) -> typing.Iterator[Message]:
         """The messages that are there, each taken as it is asked for."""
-        return iter(self.receive, None)
+        return iter(self._receive, None)
 
     def lapped_count(self) -> int:
         """How often it was lapped."""
@@ -94,6 +106,10 @@ class RawRecord(typing.NamedTuple):
 
 class RawReceiver(Owner):
     """Receives what is transmitted on a board, each record unread."""
+
+    def is_abandoned(self) -> bool:
+        """Whether the transmitter was freed or closed: nothing more will come."""
+        return self._is_abandoned()
 
     def receive_next(self) -> typing.Optional[RawRecord]:
         """Goes behind the next record, and says its type id and length; None where nothing is there. Raises Lapped as

@@ -74,14 +74,14 @@ class Conductor(Owner):
     def client(self) -> "Client":
         """Makes a client, with one share of the ring's 65,536 and one of the board's. It starts with the reply that was
         transmitted last."""
-        client = Client(self._number)
+        client = Client(self._number, self._ends, writes=False)
         self._do("felter_conductor_client", client._handle)
         return client
 
     def subscribe(self) -> Receiver:
         """Makes a receiver of the replies as they lie on the board, which starts with the one that was transmitted
         last, with one of the board's shares."""
-        receiver = Receiver(self._replies, self._number)
+        receiver = Receiver(self._replies, self._number, self._ends)
         self._do("felter_conductor_subscribe", receiver._handle)
         return receiver
 
@@ -119,6 +119,7 @@ class Conductor(Owner):
         PRODUCERS_OUT, then RECEIVERS_OUT, and then IN_USE where a reader is out, it goes on as before."""
         received, left = ctypes.c_uint64(), ctypes.c_uint64()
         self._do("felter_conductor_finish", received, left)
+        self._is_gone = True
         return Finished(received.value, left.value)
 
 
@@ -149,6 +150,10 @@ class Client(Owner):
     def close_owner(self, owner: int) -> int:
         """Asks that each counter of an owner is freed."""
         return self._send("felter_send_close_owner", owner)
+
+    def is_abandoned(self) -> bool:
+        """Whether the conductor was freed, or has finished: no further reply will come."""
+        return self._is_abandoned()
 
     def poll(self, correlation: int) -> typing.Optional[Reply]:
         """The reply to the command with this correlation id, or None where it is not there yet. Replies to other

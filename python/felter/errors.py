@@ -4,7 +4,7 @@ import typing
 
 from felter._codes import TEXTS, Number
 
-__all__ = ["Closed", "Contended", "Error", "Full", "Lapped", "Number"]
+__all__ = ["Closed", "Contended", "Disconnected", "Error", "Full", "Lapped", "Number"]
 
 
 class Error(Exception):
@@ -60,6 +60,11 @@ class Lapped(Error):
 
     def _made_of(self) -> typing.Tuple[int, ...]:
         return (self.count,)
+
+
+class Disconnected(Exception):
+    """The other side is gone: every producer, or the consumer, the transmitter or the conductor was freed, and all that
+    it left was taken. Calls that wait raise it."""
 
 
 CAUSES: typing.Dict[int, typing.Type[Error]] = {

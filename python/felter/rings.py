@@ -7,10 +7,11 @@ import struct
 import typing
 
 from felter._library import call, is_there, octets
-from felter._owner import Owner, numbers
+from felter._owner import Ends, Owner, numbers
 from felter.claims import Claim, Trace
-from felter.errors import Error, Number
+from felter.errors import Contended, Error, Full, Number
 from felter.message import Message
+from felter.waiting import wait_for
 
 
 class Positions(typing.NamedTuple):
@@ -23,12 +24,21 @@ class Positions(typing.NamedTuple):
 class Consumer(Owner):
     """Reads a ring, one message after the other, into a buffer that grows with them."""
 
-    def __init__(self, number: int) -> None:
-        super().__init__(number)
+    def __init__(self, number: int, ends: Ends) -> None:
+        super().__init__(number, ends, writes=False)
         self._buffer = ctypes.create_string_buffer(256)
 
-    def read(self) -> typing.Optional[Message]:
-        """The next message, or None if nothing is there."""
+    def is_abandoned(self) -> bool:
+        """Whether every producer was freed, or taken in by `close`: nothing more will be written. What was written
+        before is still to be read."""
+        return self._is_abandoned()
+
+    def read(self, timeout: typing.Optional[float] = 0) -> typing.Optional[Message]:
+        """The next message, or None if nothing came within so many seconds (0: it does not wait, None: it waits for
+        ever). Waiting, it raises Disconnected if every producer is gone and all was read."""
+        return wait_for(self._read, timeout, self.is_abandoned)
+
+    def _read(self) -> typing.Optional[Message]:
         type_id, length = ctypes.c_int32(), ctypes.c_size_t()
         self._check()
         with self._lock:
@@ -43,7 +53,7 @@ class Consumer(Owner):
 
     def __iter__(self) -> typing.Iterator[Message]:
         """The messages that are there, each taken as it is asked for."""
-        return iter(self.read, None)
+        return iter(self._read, None)
 
     def read_batch(self, limit: int, room: int = 65536) -> typing.List[Message]:
         """A list of up to `limit` messages, by one call; of none it is empty. Fewer can come than are there. A message
@@ -71,11 +81,14 @@ class Consumer(Owner):
         if isinstance(producer, Producer):
             producer._settle_dropped()
         self._with("felter_close", producer)
+        producer._is_gone = True
 
     def finish(self) -> int:
         """Ends a ring that was closed, frees the consumer, and returns how many messages were left unread. If the ring
         was not closed it is refused with PRODUCERS_OUT, and goes on as before."""
-        return self._say("felter_finish", ctypes.c_uint64)
+        left = self._say("felter_finish", ctypes.c_uint64)
+        self._is_gone = True
+        return left
 
 
 class Producer(Owner):
@@ -86,7 +99,7 @@ class Producer(Owner):
     _joined: typing.Optional["Producer"] = None
 
     def __init__(self, number: int, first: typing.Optional["Producer"] = None) -> None:
-        super().__init__(number)
+        super().__init__(number, first._ends if first else None)
         # Of all producers of a ring: the claims that were not dropped yet, and those that were.
         self._traces: typing.Dict[int, Trace] = first._traces if first else {}
         self._dropped: typing.Deque[Trace] = first._dropped if first else collections.deque()
@@ -105,10 +118,29 @@ class Producer(Owner):
             self._settle_dropped()
         super()._do(name, *parameters)
 
-    def write(self, type_id: int, body: typing.Any) -> None:
-        """Writes a message, by one try. The body is any object with bytes: bytes, a bytearray, an array."""
+    def is_abandoned(self) -> bool:
+        """Whether the consumer was freed: nothing that is written will be read."""
+        return self._is_abandoned()
+
+    def write(self, type_id: int, body: typing.Any, timeout: typing.Optional[float] = 0) -> None:
+        """Writes a message. The body is any object with bytes: bytes, a bytearray, an array. While the ring is full, or
+        another producer is faster, it tries for so many seconds (0: once, None: for ever), and then raises that. It
+        raises Disconnected if it would wait, and the consumer is gone."""
         body = octets(body)
-        self._do("felter_write", type_id, body, len(body))
+        refused: typing.List[Error] = []
+
+        def attempt() -> typing.Optional[bool]:
+            try:
+                self._do("felter_write", type_id, body, len(body))
+                return True
+            except (Full, Contended) as why:
+                refused[:] = [why]
+                return None
+
+        if timeout == 0:
+            self._do("felter_write", type_id, body, len(body))
+        elif not wait_for(attempt, timeout, self.is_abandoned):
+            raise refused[0]
 
     def claim(self, type_id: int, length: int) -> Claim:
         """Claims room for a message, whose bytes are 0 until they are put. Any number may be open at once."""
@@ -125,7 +157,7 @@ class Producer(Owner):
     def join(self, other: "Producer") -> None:
         """Takes another producer of the same ring in, with its shares and its open claims."""
         self._with("felter_join", other)
-        other._joined = self
+        other._joined, other._is_gone = self, True
 
     def positions(self) -> Positions:
         """Loads the head, and then the tail."""
@@ -148,7 +180,8 @@ class Producer(Owner):
 
 def _ring(name: str, capacity: int, start: int) -> typing.Tuple[Producer, Consumer]:
     number = next(numbers)
-    producer, consumer = Producer(number), Consumer(number)
+    producer = Producer(number)
+    consumer = Consumer(number, producer._ends)
     call(name, number, capacity, start, producer._handle, consumer._handle)
     return producer, consumer
 

@@ -1,4 +1,5 @@
 //! Boards: one transmitter, and receivers that learn when they missed something.
+use crate::ends::End;
 use crate::error::{Error, Refused};
 use crate::handle::{done, Handle, Number};
 use crate::message::{message_of, Message};
@@ -20,6 +21,7 @@ use crate::raw;
 pub struct Transmitter {
     handle: Handle,
     board: Number,
+    end: End,
 }
 
 impl Transmitter {
@@ -37,7 +39,7 @@ impl Transmitter {
         let (board, mut handle) = (Number::next(), Handle::empty());
         // SAFETY: a number that nothing else has, and an empty handle.
         done(unsafe { raw::felter_board_new_at_numbered(board.raw(), capacity, start, handle.raw()) })?;
-        Ok(Transmitter { handle, board })
+        Ok(Transmitter { handle, board, end: End::writer() })
     }
 
     /// Transmits a message.
@@ -57,7 +59,7 @@ impl Transmitter {
         let mut handle = Handle::empty();
         // SAFETY: two handles, the second empty.
         done(unsafe { raw::felter_subscribe(self.handle.raw(), handle.raw()) })?;
-        Ok(Receiver { handle, board: self.board })
+        Ok(Receiver { handle, board: self.board, end: self.end.other(false) })
     }
 
     /// Makes a raw receiver, which answers each record unread; else as [`subscribe`](Transmitter::subscribe).
@@ -78,7 +80,7 @@ impl Transmitter {
         let mut handle = Handle::empty();
         // SAFETY: two handles, the second empty.
         done(unsafe { raw::felter_subscribe_raw(self.handle.raw(), handle.raw()) })?;
-        Ok(RawReceiver { handle, board: self.board })
+        Ok(RawReceiver { handle, board: self.board, end: self.end.other(false) })
     }
 
     /// Takes back a receiver of this board, with its share.
@@ -147,9 +149,25 @@ pub struct Receiver {
     pub(crate) handle: Handle,
     /// That of the board's transmitter, or of the conductor that transmits on it.
     pub(crate) board: Number,
+    pub(crate) end: End,
 }
 
 impl Receiver {
+    /// Whether the transmitter was dropped, or closed, or the conductor that transmits: nothing more will come. What was
+    /// transmitted before is still to be received.
+    ///
+    /// ```
+    /// let mut transmitter = felter::Transmitter::new(256)?;
+    /// let receiver = transmitter.subscribe()?;
+    /// assert!(!receiver.is_abandoned());
+    /// drop(transmitter);
+    /// assert!(receiver.is_abandoned());
+    /// # Ok::<(), felter::Error>(())
+    /// ```
+    pub fn is_abandoned(&self) -> bool {
+        self.end.is_abandoned()
+    }
+
     /// Copies the next message into a buffer; `None` where nothing is there yet.
     ///
     /// Errors: [`Error::Lapped`] where the transmitter overtook the receiver; the next call goes on with the message
@@ -189,9 +207,15 @@ pub struct RawRecord {
 pub struct RawReceiver {
     handle: Handle,
     board: Number,
+    end: End,
 }
 
 impl RawReceiver {
+    /// Whether the transmitter was dropped, or closed.
+    pub fn is_abandoned(&self) -> bool {
+        self.end.is_abandoned()
+    }
+
     /// Goes behind the next record, and says its type id and length; `None` where nothing is there yet.
     ///
     /// Errors: [`Error::Lapped`] where the transmitter overtook the receiver; the next call goes on with the record

@@ -1,4 +1,5 @@
 //! Clients of a conductor.
+use crate::ends::End;
 use crate::error::Error;
 use crate::handle::{done, Handle, Number};
 use crate::raw::{self, Raw};
@@ -15,6 +16,7 @@ use crate::raw::{self, Raw};
 pub struct Client {
     pub(crate) handle: Handle,
     pub(crate) conductor: Number,
+    pub(crate) end: End,
 }
 
 /// The reply to a command.
@@ -64,6 +66,11 @@ pub enum Polled {
 }
 
 impl Client {
+    /// Whether the conductor was dropped, or has finished: no further reply will come.
+    pub fn is_abandoned(&self) -> bool {
+        self.end.is_abandoned()
+    }
+
     /// Asks for a counter of value 0 with a type, a key and a label; its registration id is the correlation id. The
     /// command takes 20 bytes and those of key and label.
     ///

@@ -2,6 +2,7 @@
 use crate::board::Receiver;
 use crate::client::Client;
 use crate::counters::Reader;
+use crate::ends::End;
 use crate::error::{Error, Refused};
 use crate::handle::{done, Handle, Number};
 use crate::raw;
@@ -38,6 +39,7 @@ use crate::raw;
 pub struct Conductor {
     handle: Handle,
     number: Number,
+    end: End,
 }
 
 /// What a conductor did.
@@ -95,7 +97,7 @@ impl Conductor {
         let (own, raw) = (number.raw(), handle.raw());
         // SAFETY: a number that nothing else has, and an empty handle.
         done(unsafe { raw::felter_conductor_new_numbered(own, capacity, replies, counters, reuse_ms, raw) })?;
-        Ok(Conductor { handle, number })
+        Ok(Conductor { handle, number, end: End::writer() })
     }
 
     /// Makes a client, with one share of the ring's 65,536 and one of the board's. It starts with the reply that was
@@ -106,7 +108,7 @@ impl Conductor {
         let mut handle = Handle::empty();
         // SAFETY: two handles, the second empty.
         done(unsafe { raw::felter_conductor_client(self.handle.raw(), handle.raw()) })?;
-        Ok(Client { handle, conductor: self.number })
+        Ok(Client { handle, conductor: self.number, end: self.end.other(false) })
     }
 
     /// Makes a receiver of the replies as they lie on the board, which starts with the one that was transmitted last,
@@ -117,7 +119,7 @@ impl Conductor {
         let mut handle = Handle::empty();
         // SAFETY: two handles, the second empty.
         done(unsafe { raw::felter_conductor_subscribe(self.handle.raw(), handle.raw()) })?;
-        Ok(Receiver { handle, board: self.number })
+        Ok(Receiver { handle, board: self.number, end: self.end.other(false) })
     }
 
     /// Makes a reader of the counters' values, for another thread, with one of the counters' 65,536 shares. One that is

@@ -11,8 +11,10 @@
 //! # Ok::<(), felter::Error>(())
 //! ```
 //!
-//! Nothing waits: a full ring, a faster producer and an empty ring are answers, and the caller tries again in a way of
-//! its own. Capacities, lengths and positions are bytes; moments are milliseconds by a clock of the caller.
+//! The calls of the proved library never wait: a full ring, a faster producer and an empty ring are answers, and the
+//! caller tries again. [`Producer::send`] and [`Consumer::recv`] do so until a deadline, `is_abandoned` says that the
+//! other side is gone, and a [`Doorbell`] wakes event loops. Capacities, lengths and positions are bytes; moments are
+//! milliseconds by a clock of the caller.
 //!
 //! Each handle owns what it stands for together with its ring, board, counters or conductor, so no lifetime ties them,
 //! and they may be dropped in any order. A handle may go to another thread. Each call takes its handle by `&mut`, so one
@@ -36,18 +38,23 @@ mod board;
 mod client;
 mod conductor;
 mod counters;
+mod doorbell;
+mod ends;
 mod error;
 mod handle;
 mod message;
 mod raw;
 mod ring;
+mod wait;
 
 pub use board::{RawReceiver, RawRecord, Receiver, Transmitter};
 pub use client::{Client, Polled, Reply};
 pub use conductor::{Conductor, Finished, Work, WorkStop};
 pub use counters::{Counters, Reader, MAX_KEY};
+pub use doorbell::Doorbell;
 pub use error::{Error, Refused};
 pub use message::{Batch, Message};
 pub use ring::{
     many_to_one, many_to_one_at, one_to_one, one_to_one_at, Claim, Consumer, KeptClaim, Positions, Producer,
 };
+pub use wait::WaitError;

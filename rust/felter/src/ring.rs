@@ -1,4 +1,5 @@
 //! Rings: many-to-one and one-to-one.
+use crate::ends::End;
 use crate::error::{Error, Refused};
 use crate::handle::{done, Handle, Number};
 use crate::message::{message_of, Batch, Message};
@@ -19,7 +20,8 @@ pub fn many_to_one_at(capacity: u32, start: u64) -> Result<(Producer, Consumer),
     let (one, two) = (producer.raw(), consumer.raw());
     // SAFETY: a number that nothing else has, and two empty handles.
     done(unsafe { raw::felter_many_to_one_new_at_numbered(ring.raw(), capacity, start, one, two) })?;
-    Ok((Producer { handle: producer, ring }, Consumer { handle: consumer, ring }))
+    let (writes, reads) = End::pair();
+    Ok((Producer { handle: producer, ring, end: writes }, Consumer { handle: consumer, ring, end: reads }))
 }
 
 /// Makes a ring of one producer, which cannot be split.
@@ -37,7 +39,8 @@ pub fn one_to_one_at(capacity: u32, start: u64) -> Result<(Producer, Consumer), 
     let (one, two) = (producer.raw(), consumer.raw());
     // SAFETY: a number that nothing else has, and two empty handles.
     done(unsafe { raw::felter_one_to_one_new_at_numbered(ring.raw(), capacity, start, one, two) })?;
-    Ok((Producer { handle: producer, ring }, Consumer { handle: consumer, ring }))
+    let (writes, reads) = End::pair();
+    Ok((Producer { handle: producer, ring, end: writes }, Consumer { handle: consumer, ring, end: reads }))
 }
 
 /// Where a ring's head and tail stand, in bytes that only rise.
@@ -57,9 +60,23 @@ pub struct Positions {
 pub struct Producer {
     handle: Handle,
     ring: Number,
+    end: End,
 }
 
 impl Producer {
+    /// Whether the consumer was dropped: nothing that is written will be read.
+    ///
+    /// ```
+    /// let (mut producer, consumer) = felter::many_to_one(128)?;
+    /// assert!(!producer.is_abandoned());
+    /// drop(consumer);
+    /// assert!(producer.is_abandoned() && producer.split()?.is_abandoned());
+    /// # Ok::<(), felter::Error>(())
+    /// ```
+    pub fn is_abandoned(&self) -> bool {
+        self.end.is_abandoned()
+    }
+
     /// Writes a message, by one try.
     ///
     /// Errors: [`Error::BadType`], [`Error::TooLong`], [`Error::PositionLimit`], [`Error::InsufficientCapacity`], and
@@ -109,7 +126,7 @@ impl Producer {
         let mut other = Handle::empty();
         // SAFETY: two handles, the second empty.
         done(unsafe { raw::felter_split(self.handle.raw(), other.raw()) })?;
-        Ok(Producer { handle: other, ring: self.ring })
+        Ok(Producer { handle: other, ring: self.ring, end: self.end.other(true) })
     }
 
     /// Takes another producer of the same ring in, with its shares and the claims of it that are kept.
@@ -270,9 +287,16 @@ impl Drop for Claim<'_> {
 pub struct Consumer {
     handle: Handle,
     ring: Number,
+    end: End,
 }
 
 impl Consumer {
+    /// Whether every producer was dropped, or taken in by [`close`](Consumer::close): nothing more will be written.
+    /// What was written before is still to be read, so look first, and then read until there is `None`.
+    pub fn is_abandoned(&self) -> bool {
+        self.end.is_abandoned()
+    }
+
     /// Reads the next message into a buffer; `None` where nothing is there yet.
     ///
     /// Errors: [`Error::ShortBuffer`]; the message then stays. An eighth of the capacity is always enough.

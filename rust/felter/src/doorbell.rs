@@ -1,0 +1,101 @@
+//! A doorbell for event loops: whoever wrote rings it, and whoever reads waits for it, also by epoll.
+use std::fs::File;
+use std::io::{self, ErrorKind, Read, Write};
+use std::os::fd::{AsFd, AsRawFd, BorrowedFd, FromRawFd, RawFd};
+use std::time::Duration;
+
+/// A number in the kernel (an eventfd), which is above 0 while the bell was rung and not yet cleared.
+///
+/// A ring does not ring it: its users do, after they wrote. Whoever waits clears it and then reads until nothing is
+/// there, so that no message is missed.
+///
+/// ```
+/// let (mut producer, mut consumer) = felter::one_to_one(1024)?;
+/// let bell = felter::Doorbell::new()?;
+/// std::thread::scope(|scope| {
+///     scope.spawn(|| {
+///         producer.write(7, b"hello").expect("there is room");
+///         bell.ring().expect("it is open");
+///     });
+///     assert!(bell.wait(None)?);
+///     bell.clear()?;
+///     let mut room = [0; 128];
+///     assert_eq!(consumer.read(&mut room)?.map(|message| message.type_id), Some(7));
+///     Ok::<(), Box<dyn std::error::Error>>(())
+/// })?;
+/// # Ok::<(), Box<dyn std::error::Error>>(())
+/// ```
+#[derive(Debug)]
+pub struct Doorbell {
+    file: File,
+}
+
+#[repr(C)]
+struct PollFd {
+    fd: i32,
+    events: i16,
+    revents: i16,
+}
+
+extern "C" {
+    fn eventfd(initial: u32, flags: i32) -> i32;
+    fn poll(fds: *mut PollFd, count: u64, timeout: i32) -> i32;
+}
+
+const CLOEXEC_NONBLOCK: i32 = 0o2_000_000 | 0o4_000;
+const POLLIN: i16 = 1;
+
+impl Doorbell {
+    /// Makes one that was not rung.
+    ///
+    /// Errors: those of the system, as that no further file can be opened.
+    pub fn new() -> io::Result<Doorbell> {
+        // SAFETY: two numbers.
+        let fd = unsafe { eventfd(0, CLOEXEC_NONBLOCK) };
+        if fd < 0 {
+            return Err(io::Error::last_os_error());
+        }
+        // SAFETY: a file of ours that was just opened.
+        Ok(Doorbell { file: unsafe { File::from_raw_fd(fd) } })
+    }
+
+    /// Rings it. Any thread may.
+    pub fn ring(&self) -> io::Result<()> {
+        match (&self.file).write(&1u64.to_ne_bytes()) {
+            // (it was rung 2^64 - 2 times already)
+            Err(error) if error.kind() == ErrorKind::WouldBlock => Ok(()),
+            other => other.map(|_| ()),
+        }
+    }
+
+    /// Takes back that it was rung, and says whether it was.
+    pub fn clear(&self) -> io::Result<bool> {
+        match (&self.file).read(&mut [0; 8]) {
+            Err(error) if error.kind() == ErrorKind::WouldBlock => Ok(false),
+            other => other.map(|_| true),
+        }
+    }
+
+    /// Waits until it is rung, or for at most so long, and says whether it was rung. `None`: it waits for ever.
+    pub fn wait(&self, timeout: Option<Duration>) -> io::Result<bool> {
+        let millis = timeout.map_or(-1, |it| it.as_nanos().div_ceil(1_000_000).min(i32::MAX as u128) as i32);
+        let mut it = PollFd { fd: self.file.as_raw_fd(), events: POLLIN, revents: 0 };
+        // SAFETY: one element of ours.
+        match unsafe { poll(&mut it, 1, millis) } {
+            -1 => Err(io::Error::last_os_error()),
+            count => Ok(count > 0),
+        }
+    }
+}
+
+impl AsRawFd for Doorbell {
+    fn as_raw_fd(&self) -> RawFd {
+        self.file.as_raw_fd()
+    }
+}
+
+impl AsFd for Doorbell {
+    fn as_fd(&self) -> BorrowedFd<'_> {
+        self.file.as_fd()
+    }
+}
