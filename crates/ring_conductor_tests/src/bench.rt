@@ -4,24 +4,60 @@ ghost use Rattle.ring_rings.specs.Seats.{all_shares, shares_of, IsConsumerOf, Is
 ghost use Rattle.ring_board.specs.Seats.{IsReceiverOf};
 ghost use Rattle.ring_conductor.specs.Conducting.{IsConductorOf};
 
-use crate::sending::{hears, send};
+use crate::sending::{receives, send};
 use ring_board::{Board, CopyReceiver};
-use ring_conductor::{Command, Conductor, Cycle, FinishFault, Finished, Reply, Work};
+use ring_conductor::{Command, Conductor, Cycle, FinishFault, Finished, Reply, Work, WorkStop};
 use ring_counters::{CounterValues, CountersManager, IdFault};
-use ring_rings::{Kind, Producer, Ring, TryFault};
+use ring_rings::{Kind, Producer, Ring};
 use std::alloc::Global;
-use std::test::Fail;
+use std::process::Abort;
 
-/// A conductor of some counters, with its ring of 1,024 bytes, its board of 256, the ring's sole producer and a
-/// listener.
+/// A call on a conductor, on its ring or on its board.
+#[derive(Clone, Copy)]
+pub enum Call<'a> {
+    /// A client sends these commands.
+    Send(&'a [Command<'a>]),
+    /// A client sends bytes that may be no command.
+    Write(i32, &'a [u8]),
+    /// The conductor works at the moment 0.
+    Work(u32),
+    /// The listener receives these replies, each with its place, and no more.
+    Receive(&'a [(u64, Reply)]),
+    /// A client loads the heartbeat.
+    Heartbeat,
+    SetHeartbeat(u64),
+    Value(u32),
+    State(u32),
+}
+
+/// What a call returns.
+#[derive(Clone, Copy, Debug, PartialEq, Eq)]
+pub enum Answer {
+    Done,
+    Failed,
+    Worked(u64, WorkStop),
+    Heartbeat(u64),
+    Value(Result<i64, IdFault>),
+    State(Result<i32, IdFault>),
+}
+
+fn done(is_done: bool) -> Answer {
+    if is_done {
+        Answer::Done
+    } else {
+        Answer::Failed
+    }
+}
+
+/// A conductor of some counters, with its ring, its board, the ring's sole producer and a listener.
 #[derive(Drop)]
 pub struct Bench<K> {
-    ring: Ring<K>,
-    board: Board,
-    values: CounterValues,
-    conductor: Conductor,
-    producer: Producer,
-    listener: CopyReceiver,
+    pub ring: Ring<K>,
+    pub board: Board,
+    pub values: CounterValues,
+    pub conductor: Conductor,
+    pub producer: Producer,
+    pub listener: CopyReceiver,
     ghost conducts: { IsConductorOf IsConsumerOf ring board values conductor },
     ghost sends: { IsProducerOf ring producer },
     ghost sole: { shares_of producer ≡ all_shares },
@@ -29,35 +65,46 @@ pub struct Bench<K> {
 }
 
 impl<K: Kind> Bench<K> {
-    /// With so many counters, whose ids are given again after 50 ms.
-    pub fn new(alloc: Global, counters: u32) -> Result<Self, Fail> {
-        Self::new_at(alloc, counters, 0)
+    /// With a ring of 1,024 bytes, a board of 256, and this many counters, whose ids are given again after 50 ms.
+    pub fn new(rt: &impl Abort, alloc: Global, counters: u32) -> Self {
+        Self::with_sizes(rt, alloc, (1024, 256), counters, 0)
     }
 
     /// The same, with the board's first record at this position.
-    pub fn new_at(alloc: Global, counters: u32, start: u64) -> Result<Self, Fail> {
-        let (ring, producer, consumer) = Ring::<K>::new(alloc, 1024)?;
-        let (board, transmitter) = Board::new_at(alloc, 256, start)?;
-        let (values, counters) = CountersManager::new(alloc, counters, 50)?;
+    pub fn new_at(rt: &impl Abort, alloc: Global, counters: u32, start: u64) -> Self {
+        Self::with_sizes(rt, alloc, (1024, 256), counters, start)
+    }
+
+    /// The same with these capacities of the ring and of the board.
+    pub fn with_sizes(
+        rt: &impl Abort,
+        alloc: Global,
+        sizes: (u32, u32),
+        counters: u32,
+        start: u64,
+    ) -> Self {
+        let (ring, producer, consumer) = Ring::<K>::new(alloc, sizes.0).expect(rt, "a ring");
+        let (board, transmitter) = Board::new_at(alloc, sizes.1, start).expect(rt, "a board");
+        let (values, counters) = CountersManager::new(alloc, counters, 50).expect(rt, "counters");
         let mut conductor = Conductor::new(consumer, transmitter, counters);
-        let listener = conductor.subscribe(alloc, &board)?;
-        Ok(Bench {
+        let listener = conductor.subscribe(alloc, &board).expect(rt, "a listener");
+        Bench {
             ring,
             board,
             values,
             conductor,
             producer,
             listener,
-        })
+        }
     }
 
-    pub fn send(&mut self, commands: &[Command]) -> Result<(), Fail> {
+    /// Sends commands, and tests whether there was room for all.
+    pub fn send(&mut self, commands: &[Command]) -> bool {
         send(&self.ring, &mut self.producer, commands)
     }
 
-    /// Sends bytes that may be no command.
-    pub fn write(&mut self, type_id: i32, body: &[u8]) -> Result<(), TryFault> {
-        K::write_once(&self.ring, &mut self.producer, type_id, body)
+    fn write(&mut self, type_id: i32, body: &[u8]) -> bool {
+        K::write_once(&self.ring, &mut self.producer, type_id, body).is_ok()
     }
 
     pub fn run(&mut self, cycles: &[Cycle]) -> Work
@@ -67,30 +114,41 @@ impl<K: Kind> Bench<K> {
             .run(&self.ring, &self.board, &self.values, cycles)
     }
 
-    /// Works at the moment 0.
-    pub fn work(&mut self, limit: u32) -> Work {
-        self.conductor
-            .do_work(&self.ring, &self.board, &self.values, 0, limit)
+    fn work(&mut self, limit: u32) -> Answer {
+        let Work { messages, stopped } = self
+            .conductor
+            .do_work(&self.ring, &self.board, &self.values, 0, limit);
+        Answer::Worked(messages, stopped)
     }
 
-    /// Tests whether these are the next replies, with their places, and nothing comes behind them.
-    pub fn hears(&mut self, replies: &[(u64, Reply)]) -> bool {
-        hears(&self.board, &mut self.listener, replies)
+    /// Tests whether these are the next replies, each with its place, and no more follow.
+    pub fn receives(&mut self, replies: &[(u64, Reply)]) -> bool {
+        receives(&self.board, &mut self.listener, replies)
     }
 
-    /// The heartbeat before and after the conductor sets it.
-    pub fn beats(&mut self, value: u64) -> (u64, u64) {
-        let before = self.ring.heartbeat(&mut self.producer);
+    fn set_heartbeat(&mut self, value: u64) -> Answer {
         self.conductor.set_heartbeat(&self.ring, value);
-        (before, self.ring.heartbeat(&mut self.producer))
+        Answer::Done
     }
 
-    pub fn value(&self, id: u32) -> Result<i64, IdFault> {
-        self.conductor.counters().value(id)
+    fn call(&mut self, call: Call<'_>) -> Answer {
+        match call {
+            Call::Send(commands) => done(self.send(commands)),
+            Call::Write(type_id, body) => done(self.write(type_id, body)),
+            Call::Work(limit) => self.work(limit),
+            Call::Receive(replies) => done(self.receives(replies)),
+            Call::Heartbeat => Answer::Heartbeat(self.ring.heartbeat(&mut self.producer)),
+            Call::SetHeartbeat(value) => self.set_heartbeat(value),
+            Call::Value(id) => Answer::Value(self.conductor.counters().value(id)),
+            Call::State(id) => Answer::State(self.conductor.counters().state(id)),
+        }
     }
 
-    pub fn state(&self, id: u32) -> Result<i32, IdFault> {
-        self.conductor.counters().state(id)
+    /// Makes the calls, and tests what each answers.
+    pub fn plays(&mut self, rt: &impl Abort, calls: &[(Call<'_>, Answer)]) {
+        for (at, (call, answer)) in calls.iter().enumerate() {
+            assert_eq!(rt; self.call(*call), *answer, "call {at}");
+        }
     }
 
     pub fn finish(self) -> Result<Finished, (FinishFault, Self)> {
@@ -119,7 +177,7 @@ impl<K: Kind> Bench<K> {
     }
 
     /// Finishes once the listener is back.
-    pub fn finish_alone(self) -> Result<Finished, FinishFault> {
+    pub fn finish_alone(self) -> Option<Finished> {
         let Bench {
             ring,
             board,
@@ -129,9 +187,6 @@ impl<K: Kind> Bench<K> {
             listener,
         } = self;
         conductor.join_receiver(&board, listener);
-        match ring_conductor::finish(ring, board, values, conductor, producer) {
-            Ok(finished) => Ok(finished),
-            Err(back) => Err(back.reason),
-        }
+        ring_conductor::finish(ring, board, values, conductor, producer).ok()
     }
 }

@@ -1,38 +1,92 @@
 //! The conductor at the end of its board.
-use crate::bench::Bench;
-use crate::sending::work;
+use crate::bench::Answer::{Done, Value, Worked};
+use crate::bench::Call::{Send, Work};
+use crate::bench::{Answer, Bench, Call};
 use ring_conductor::{Command, WorkStop};
 use ring_rings::ManyToOne;
-use std::test::Fail;
+use std::alloc::Global;
+use std::process::Abort;
 
-fn free(id: u32) -> Command<'static> {
-    Command::Free { correlation: 0, id }
+/// What a conductor leaves on whose board, which begins at this position, these calls are made: how many commands it
+/// received, the board's tail, and how many commands are left in the ring.
+fn leaves(
+    rt: &impl Abort,
+    alloc: Global,
+    start: u64,
+    calls: &[(Call<'_>, Answer)],
+) -> (u64, u64, u32) {
+    let mut bench = Bench::<ManyToOne>::new_at(rt, alloc, 4, start);
+    bench.plays(rt, calls);
+    let finished = bench.finish_alone().expect(rt, "an end");
+    let mut rest = finished.rest;
+    (finished.received, finished.board.tail(), rest.drain())
 }
 
-#[test]
-fn leaves_a_command_where_the_board_is_at_its_end(rt: HostRuntime) -> Result<(), Fail> {
-    let mut bench = Bench::<ManyToOne>::new_at(rt.alloc(), 4, 4611686018427387904)?;
-    bench.send(&[free(0)])?;
-    assert_eq!(rt; bench.work(20), work(0, WorkStop::BoardEnd));
-    let finished = bench.finish_alone()?;
-    let mut rest = finished.rest;
-    assert_eq!(rt; finished.received, 0);
-    assert_eq!(rt; rest.drain(), 1);
-    Ok(())
-}
+const FREE_NONE: Command<'static> = Command::Free {
+    correlation: 0,
+    id: 0,
+};
+
+static NO_ROOM: [(Call<'static>, Answer); 2] = [
+    (Send(&[FREE_NONE]), Done),
+    (Work(20), Worked(0, WorkStop::BoardEnd)),
+];
 
 #[test]
-fn answers_up_to_the_end_of_the_board(rt: HostRuntime) -> Result<(), Fail> {
-    let mut bench = Bench::<ManyToOne>::new_at(rt.alloc(), 4, 4611686018427387648)?;
-    bench.send(&[free(9); 11])?;
-    assert_eq!(rt; bench.work(20), work(10, WorkStop::BoardEnd));
-    assert_eq!(rt; bench.work(20), work(0, WorkStop::BoardEnd));
-    let finished = bench.finish_alone()?;
-    let mut rest = finished.rest;
-    assert_eq!(rt;
-        (finished.received, finished.board.tail()),
-        (10, 4611686018427387888)
-    );
-    assert_eq!(rt; rest.drain(), 1);
-    Ok(())
+fn leaves_a_command_where_the_board_is_at_its_end(rt: HostRuntime) {
+    let left = leaves(&rt, rt.alloc(), 4611686018427387904, &NO_ROOM);
+    assert_eq!(rt; left, (0, 4611686018427387904, 1));
+}
+
+const FREE: Command<'static> = Command::Free {
+    correlation: 0,
+    id: 9,
+};
+
+static UP_TO_THE_END: [(Call<'static>, Answer); 3] = [
+    (Send(&[FREE; 11]), Done),
+    (Work(20), Worked(10, WorkStop::BoardEnd)),
+    (Work(20), Worked(0, WorkStop::BoardEnd)),
+];
+
+#[test]
+fn answers_up_to_the_end_of_the_board(rt: HostRuntime) {
+    let left = leaves(&rt, rt.alloc(), 4611686018427387648, &UP_TO_THE_END);
+    assert_eq!(rt; left, (10, 4611686018427387888, 1));
+}
+
+/// Nine commands to free, one to allocate and one to set. Ten replies of 12 bytes leave 16 bytes, which one of 8 would
+/// take.
+const COMMANDS: [Command<'static>; 11] = [
+    FREE,
+    FREE,
+    FREE,
+    FREE,
+    FREE,
+    FREE,
+    FREE,
+    FREE,
+    FREE,
+    Command::Allocate {
+        correlation: 0,
+        type_id: 5,
+        key: &[],
+        label: &[],
+    },
+    Command::Set {
+        correlation: 1,
+        id: 0,
+        value: 7,
+    },
+];
+
+static SHORTER: [(Call<'static>, Answer); 3] = [
+    (Send(&COMMANDS), Done),
+    (Work(20), Worked(10, WorkStop::BoardEnd)),
+    (Call::Value(0), Value(Ok(0))),
+];
+
+#[test]
+fn a_command_waits_also_where_its_shorter_reply_would_fit(rt: HostRuntime) {
+    Bench::<ManyToOne>::new_at(&rt, rt.alloc(), 4, 4611686018427387648).plays(&rt, &SHORTER);
 }

@@ -1,16 +1,13 @@
-//! What a client sends, and what it is told.
+//! What a client sends, and what it receives.
 use crate::talk::Call::{Poll, Send, SendAs, Work};
 use crate::talk::Said::{Full, Id, Sent, TooLong};
 use crate::talk::{Call, Said, Talk};
 use ring_board::{Board, Lapped};
 use ring_conductor::Polled::{Another, Answered, Nothing};
 use ring_conductor::{Client, Command, Polled, Reply, Request, WorkStop, encode_command};
-use ring_rings::{Kind, ManyToOne, ManyToOneRing, OneToOne};
-use std::alloc::Global;
-use std::process::Abort;
-use std::test::Fail;
+use ring_rings::{ManyToOne, ManyToOneRing, OneToOne};
 
-const ASKED: [(Call<'static>, Said); 14] = [
+static ASKED: [(Call<'static>, Said); 14] = [
     (Poll(0), Said::Polled(Nothing)),
     (
         Send(Request::Allocate {
@@ -69,17 +66,14 @@ const ASKED: [(Call<'static>, Said); 14] = [
     (Call::Value(0), Said::Value(Ok(-3))),
 ];
 
-fn asks_each<K: Kind>(rt: &impl Abort, alloc: Global) -> Result<(), Fail> {
-    let mut talk = Talk::<K>::new(alloc, 1024, 256)?;
-    talk.goes(rt, &ASKED);
-    assert_eq!(rt; talk.finish()?.received, 5);
-    Ok(())
-}
-
 #[test]
-fn each_request_is_the_command_with_the_drawn_id(rt: HostRuntime) -> Result<(), Fail> {
-    asks_each::<ManyToOne>(&rt, rt.alloc())?;
-    asks_each::<OneToOne>(&rt, rt.alloc())
+fn each_request_is_the_command_with_the_drawn_id(rt: HostRuntime) {
+    let mut many = Talk::<ManyToOne>::new(&rt, rt.alloc(), 1024, 256);
+    many.goes(&rt, &ASKED);
+    let mut one = Talk::<OneToOne>::new(&rt, rt.alloc(), 1024, 256);
+    one.goes(&rt, &ASKED);
+    assert_eq!(rt; many.finish().expect(&rt, "an end").received, 5);
+    assert_eq!(rt; one.finish().expect(&rt, "an end").received, 5);
 }
 
 /// A command to set, whose record takes 32 bytes of the ring.
@@ -88,15 +82,77 @@ const SET: Request<'static> = Request::Set { id: 0, value: 1 };
 const FULL: Said = Full(8, 256, 0);
 
 /// The ring is full at the ninth command.
-const AGAIN: [(Call<'static>, Said); 5] = [
+static AGAIN: [(Call<'static>, Said); 25] = [
+    (Send(SET), Id(0)),
+    (Send(SET), Id(1)),
+    (Send(SET), Id(2)),
+    (Send(SET), Id(3)),
+    (Send(SET), Id(4)),
+    (Send(SET), Id(5)),
+    (Send(SET), Id(6)),
+    (Send(SET), Id(7)),
     (Send(SET), FULL),
     (SendAs(8, SET), FULL),
     (Work(1), Said::Worked(1, WorkStop::Limit)),
     (SendAs(8, SET), Sent),
     (Work(9), Said::Worked(7, WorkStop::Block)),
-];
-
-const LAST: [(Call<'static>, Said); 3] = [
+    (Work(9), Said::Worked(1, WorkStop::Unpublished)),
+    (
+        Poll(8),
+        Said::Polled(Another(Reply::Refused {
+            correlation: 0,
+            code: 21,
+        })),
+    ),
+    (
+        Poll(8),
+        Said::Polled(Another(Reply::Refused {
+            correlation: 1,
+            code: 21,
+        })),
+    ),
+    (
+        Poll(8),
+        Said::Polled(Another(Reply::Refused {
+            correlation: 2,
+            code: 21,
+        })),
+    ),
+    (
+        Poll(8),
+        Said::Polled(Another(Reply::Refused {
+            correlation: 3,
+            code: 21,
+        })),
+    ),
+    (
+        Poll(8),
+        Said::Polled(Another(Reply::Refused {
+            correlation: 4,
+            code: 21,
+        })),
+    ),
+    (
+        Poll(8),
+        Said::Polled(Another(Reply::Refused {
+            correlation: 5,
+            code: 21,
+        })),
+    ),
+    (
+        Poll(8),
+        Said::Polled(Another(Reply::Refused {
+            correlation: 6,
+            code: 21,
+        })),
+    ),
+    (
+        Poll(8),
+        Said::Polled(Another(Reply::Refused {
+            correlation: 7,
+            code: 21,
+        })),
+    ),
     (
         Poll(8),
         Said::Polled(Answered(Reply::Refused {
@@ -108,32 +164,14 @@ const LAST: [(Call<'static>, Said); 3] = [
     (Call::NextId, Id(9)),
 ];
 
-fn sends_again<K: Kind>(rt: &impl Abort, alloc: Global) -> Result<(), Fail> {
-    let mut talk = Talk::<K>::new(alloc, 256, 1024)?;
-    for id in 0..8 {
-        assert_eq!(rt; talk.made(Send(SET)), Id(id));
-    }
-    talk.goes(rt, &AGAIN);
-    assert_eq!(rt; talk.made(Work(9)), Said::Worked(1, WorkStop::Unpublished));
-    for correlation in 0..8 {
-        let refused = Reply::Refused {
-            correlation,
-            code: 21,
-        };
-        assert_eq!(rt; talk.made(Poll(8)), Said::Polled(Another(refused)));
-    }
-    talk.goes(rt, &LAST);
-    Ok(())
-}
-
 #[test]
-fn a_refused_command_can_be_sent_again_with_its_id(rt: HostRuntime) -> Result<(), Fail> {
-    sends_again::<ManyToOne>(&rt, rt.alloc())?;
-    sends_again::<OneToOne>(&rt, rt.alloc())
+fn a_refused_command_can_be_sent_again_with_its_id(rt: HostRuntime) {
+    Talk::<ManyToOne>::new(&rt, rt.alloc(), 256, 1024).goes(&rt, &AGAIN);
+    Talk::<OneToOne>::new(&rt, rt.alloc(), 256, 1024).goes(&rt, &AGAIN);
 }
 
 /// A heartbeat is the last that was stored, and neither a command nor a reply changes it.
-const BEATS: [(Call<'static>, Said); 8] = [
+static BEATS: [(Call<'static>, Said); 8] = [
     (Call::Heartbeat, Said::Heartbeat(0)),
     (Call::Beat(7), Said::Beaten),
     (Call::Heartbeat, Said::Heartbeat(7)),
@@ -145,50 +183,58 @@ const BEATS: [(Call<'static>, Said); 8] = [
 ];
 
 #[test]
-fn a_client_loads_the_last_heartbeat(rt: HostRuntime) -> Result<(), Fail> {
-    let mut talk = Talk::<ManyToOne>::new(rt.alloc(), 256, 256)?;
-    talk.goes(&rt, &BEATS);
-    Ok(())
+fn a_client_loads_the_last_heartbeat(rt: HostRuntime) {
+    Talk::<ManyToOne>::new(&rt, rt.alloc(), 256, 256).goes(&rt, &BEATS);
 }
 
-fn owned<'a>(key: &'a [u8], label: &'a [u8]) -> Request<'a> {
-    Request::AllocateOwned {
-        type_id: 1,
-        owner: 9,
-        key,
-        label,
-    }
-}
+const TOO_LONG: Request<'static> = Request::AllocateOwned {
+    type_id: 1,
+    owner: 9,
+    key: &[1; 112],
+    label: &[b'l'; 381],
+};
+
+const LONGEST: Request<'static> = Request::AllocateOwned {
+    type_id: 1,
+    owner: 9,
+    key: &[1; 112],
+    label: &[b'l'; 380],
+};
+
+static LONG: [(Call<'static>, Said); 5] = [
+    (Send(TOO_LONG), TooLong),
+    (SendAs(7, TOO_LONG), TooLong),
+    (Send(LONGEST), Id(0)),
+    (Work(9), Said::Worked(1, WorkStop::Unpublished)),
+    (
+        Poll(0),
+        Said::Polled(Answered(Reply::Allocated {
+            correlation: 0,
+            id: 0,
+        })),
+    ),
+];
 
 #[test]
-fn no_id_is_drawn_for_a_command_that_is_too_long(rt: HostRuntime) -> Result<(), Fail> {
-    let mut talk = Talk::<ManyToOne>::new(rt.alloc(), 8192, 256)?;
-    let (key, label) = ([1; 112], [b'l'; 381]);
-    let long = owned(&key, &label);
-    let said = [
-        talk.made(Send(long)),
-        talk.made(SendAs(7, long)),
-        talk.made(Send(owned(&key, &label[..380]))),
-        talk.made(Work(9)),
-        talk.made(Poll(0)),
-    ];
-    let made = Reply::Allocated {
-        correlation: 0,
-        id: 0,
-    };
-    let all = [
-        TooLong,
-        TooLong,
-        Id(0),
-        Said::Worked(1, WorkStop::Unpublished),
-        Said::Polled(Answered(made)),
-    ];
-    assert_eq!(rt; said, all);
-    Ok(())
+fn no_id_is_drawn_for_a_command_that_is_too_long(rt: HostRuntime) {
+    Talk::<ManyToOne>::new(&rt, rt.alloc(), 8192, 256).goes(&rt, &LONG);
 }
 
+const FREE: Request<'static> = Request::Free { id: 0 };
+
 /// A refusal takes 24 bytes of the board.
-const LAPPED: [(Call<'static>, Said); 4] = [
+static LAPPED: [(Call<'static>, Said); 15] = [
+    (Send(FREE), Id(0)),
+    (Send(FREE), Id(1)),
+    (Send(FREE), Id(2)),
+    (Send(FREE), Id(3)),
+    (Send(FREE), Id(4)),
+    (Send(FREE), Id(5)),
+    (Send(FREE), Id(6)),
+    (Send(FREE), Id(7)),
+    (Send(FREE), Id(8)),
+    (Send(FREE), Id(9)),
+    (Send(FREE), Id(10)),
     (Work(20), Said::Worked(11, WorkStop::Unpublished)),
     (
         Poll(0),
@@ -209,20 +255,17 @@ const LAPPED: [(Call<'static>, Said); 4] = [
 ];
 
 #[test]
-fn a_client_is_told_that_it_was_lapped(rt: HostRuntime) -> Result<(), Fail> {
-    let mut talk = Talk::<ManyToOne>::new(rt.alloc(), 1024, 256)?;
-    for id in 0..11 {
-        assert_eq!(rt; talk.made(Send(Request::Free { id: 0 })), Id(id));
-    }
-    talk.goes(&rt, &LAPPED);
-    Ok(())
+fn a_client_is_told_that_it_was_lapped(rt: HostRuntime) {
+    Talk::<ManyToOne>::new(&rt, rt.alloc(), 1024, 256).goes(&rt, &LAPPED);
 }
 
 #[test]
-fn what_is_no_reply_is_told_apart(rt: HostRuntime) -> Result<(), Fail> {
-    let (_ring, producer, _consumer) = ManyToOneRing::new(rt.alloc(), 1024)?;
-    let (board, mut transmitter) = Board::new(rt.alloc(), 256)?;
-    let receiver = board.subscribe(rt.alloc(), &mut transmitter)?;
+fn what_is_no_reply_is_told_apart(rt: HostRuntime) {
+    let (_ring, producer, _consumer) = ManyToOneRing::new(rt.alloc(), 1024).expect(&rt, "a ring");
+    let (board, mut transmitter) = Board::new(rt.alloc(), 256).expect(&rt, "a board");
+    let receiver = board
+        .subscribe(rt.alloc(), &mut transmitter)
+        .expect(&rt, "a receiver");
     let mut client = Client::new(producer, receiver);
     let mut body = [0; 16];
     let free = Command::Free {
@@ -230,13 +273,15 @@ fn what_is_no_reply_is_told_apart(rt: HostRuntime) -> Result<(), Fail> {
         id: 1,
     };
     assert_eq!(rt; encode_command(&free, &mut body), Some(12));
-    board.transmit(&mut transmitter, 102, &body[..12])?;
-    board.transmit(&mut transmitter, 102, &body[..8])?;
+    let sent = [
+        board.transmit(&mut transmitter, 102, &body[..12]),
+        board.transmit(&mut transmitter, 102, &body[..8]),
+    ];
+    assert_eq!(rt; sent, [Ok(()), Ok(())]);
 
     assert_eq!(rt; client.poll(&board, 3), Polled::NoReply);
     assert_eq!(rt;
         client.poll(&board, 3),
         Polled::Answered(Reply::Done { correlation: 3 })
     );
-    Ok(())
 }

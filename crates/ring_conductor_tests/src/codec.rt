@@ -6,7 +6,7 @@ use ring_conductor::{
 use std::process::Abort;
 
 /// Commands with their type ids and their bytes, those of a free last.
-const COMMANDS: [(Command<'static>, i32, &'static [u8]); 5] = [
+static COMMANDS: [(Command<'static>, i32, &'static [u8]); 5] = [
     (
         Allocate {
             correlation: 5,
@@ -89,7 +89,7 @@ fn nothing_is_written_where_it_does_not_fit(rt: HostRuntime) {
 }
 
 /// Type ids and bytes that are no command.
-const NO_COMMANDS: [(i32, &'static [u8], Bad); 12] = [
+static NO_COMMANDS: [(i32, &'static [u8], Bad); 12] = [
     // A byte less, or one more.
     (
         2,
@@ -177,7 +177,7 @@ fn other_bytes_are_no_message(rt: HostRuntime) {
 }
 
 /// Replies with their correlation ids, their type ids and their bytes.
-const REPLIES: [(Reply, u64, i32, &'static [u8]); 4] = [
+static REPLIES: [(Reply, u64, i32, &'static [u8]); 4] = [
     (
         Reply::Allocated {
             correlation: 1,

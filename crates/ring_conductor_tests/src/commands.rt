@@ -1,21 +1,12 @@
 //! What the conductor does with commands, on rings of both kinds.
-use crate::bench::Bench;
-use crate::sending::{refused, work};
+use crate::bench::Answer::{Done, State, Worked};
+use crate::bench::Call::{Receive, Send, Work, Write};
+use crate::bench::{Answer, Bench, Call};
+use crate::sending::work;
 use ring_conductor::{Command, Cycle, FinishFault, Reply, WorkStop};
 use ring_rings::{Kind, ManyToOne, OneToOne};
 use std::alloc::Global;
 use std::process::Abort;
-use std::test::Fail;
-
-/// A counter of type 5 with neither key nor label.
-fn allocate(correlation: u64) -> Command<'static> {
-    Command::Allocate {
-        correlation,
-        type_id: 5,
-        key: &[],
-        label: &[],
-    }
-}
 
 /// The moments and limits of three cycles.
 const CYCLES: [Cycle; 3] = [
@@ -25,106 +16,218 @@ const CYCLES: [Cycle; 3] = [
 ];
 
 /// One id, allocated, freed, refused before its deadline and given again at it.
-fn one_id_again<K: Kind>(rt: &impl Abort, alloc: Global) -> Result<Bench<K>, Fail> {
-    let mut bench = Bench::<K>::new(alloc, 1)?;
-    let free = Command::Free {
+static COMMANDS: [Command<'static>; 4] = [
+    Command::Allocate {
+        correlation: 0,
+        type_id: 5,
+        key: &[],
+        label: &[],
+    },
+    Command::Free {
         correlation: 1,
         id: 0,
-    };
-    bench.send(&[allocate(0), free, allocate(2), allocate(3)])?;
+    },
+    Command::Allocate {
+        correlation: 2,
+        type_id: 5,
+        key: &[],
+        label: &[],
+    },
+    Command::Allocate {
+        correlation: 3,
+        type_id: 5,
+        key: &[],
+        label: &[],
+    },
+];
+
+static REPLIES: [(u64, Reply); 4] = [
+    (
+        0,
+        Reply::Allocated {
+            correlation: 0,
+            id: 0,
+        },
+    ),
+    (24, Reply::Done { correlation: 1 }),
+    (
+        40,
+        Reply::Refused {
+            correlation: 2,
+            code: 19,
+        },
+    ),
+    (
+        64,
+        Reply::Allocated {
+            correlation: 3,
+            id: 0,
+        },
+    ),
+];
+
+fn gives_a_freed_id_again<K: Kind>(rt: &impl Abort, alloc: Global) {
+    let mut bench = Bench::<K>::new(rt, alloc, 1);
+    assert!(rt; bench.send(&COMMANDS));
     assert_eq!(rt; bench.run(&[]), work(0, WorkStop::Limit));
     assert_eq!(rt; bench.run(&CYCLES), work(4, WorkStop::Limit));
-    Ok(bench)
-}
-
-fn gives_a_freed_id_again<K: Kind>(rt: &impl Abort, alloc: Global) -> Result<(), Fail> {
-    let mut bench = one_id_again::<K>(rt, alloc)?;
-    let first = Reply::Allocated {
-        correlation: 0,
-        id: 0,
-    };
-    let again = Reply::Allocated {
-        correlation: 3,
-        id: 0,
-    };
-    let replies = [
-        (0, first),
-        (24, Reply::Done { correlation: 1 }),
-        (40, refused(2, 19)),
-        (64, again),
-    ];
-    assert!(rt; bench.hears(&replies));
-    let Err((reason, bench)) = bench.finish() else {
-        return Err(Fail::from("finished with a receiver out"));
-    };
+    assert!(rt; bench.receives(&REPLIES));
+    let (reason, bench) = bench.finish().err().expect(rt, "a refusal");
     assert_eq!(rt; reason, FinishFault::ReceiversOut { receivers: 1 });
-    let finished = bench.finish_alone()?;
+    let finished = bench.finish_alone().expect(rt, "an end");
     assert_eq!(rt; (finished.received, finished.board.latest()), (4, 64));
-    Ok(())
 }
 
 #[test]
-fn gives_a_freed_id_again_once_it_is_due(rt: HostRuntime) -> Result<(), Fail> {
-    gives_a_freed_id_again::<OneToOne>(&rt, rt.alloc())?;
-    gives_a_freed_id_again::<ManyToOne>(&rt, rt.alloc())
+fn gives_a_freed_id_again_once_it_is_due(rt: HostRuntime) {
+    gives_a_freed_id_again::<OneToOne>(&rt, rt.alloc());
+    gives_a_freed_id_again::<ManyToOne>(&rt, rt.alloc());
 }
 
-#[test]
-fn refuses_what_it_cannot_read_and_changes_nothing(rt: HostRuntime) -> Result<(), Fail> {
-    let mut bench = Bench::<ManyToOne>::new(rt.alloc(), 4)?;
-    let long_key = [5, 0, 0, 0, 0, 0, 0, 0, 1, 0, 0, 0, 255, 255, 255, 255];
-    let one_more = [
-        6, 0, 0, 0, 0, 0, 0, 0, 1, 0, 0, 0, 0, 0, 0, 0, 0, 0, 0, 0, 0,
-    ];
-    let set = [7, 0, 0, 0, 0, 0, 0, 0, 0, 0, 0, 0, 0, 0, 0, 0, 0, 0, 0];
-    for (type_id, body) in [
-        (1, &long_key[..]),
-        (1, &one_more[..]),
-        (1, &one_more[..19]),
-        (2, &[][..]),
-        (3, &set[..]),
-        (6, &set[..]),
-    ] {
-        bench.write(type_id, body)?;
-    }
-    assert_eq!(rt; bench.work(9), work(6, WorkStop::Unpublished));
-    let replies = [
-        (0, refused(5, 22)),
-        (24, refused(6, 22)),
-        (48, refused(6, 22)),
-        (72, refused(u64::MAX, 22)),
-        (96, refused(7, 22)),
-        (120, refused(7, 23)),
-    ];
-    assert!(rt; bench.hears(&replies));
-    assert_eq!(rt; bench.state(0), Ok(0));
-    Ok(())
-}
+static UNREAD: [(Call<'static>, Answer); 9] = [
+    // A key that passes the end.
+    (
+        Write(1, &[5, 0, 0, 0, 0, 0, 0, 0, 1, 0, 0, 0, 255, 255, 255, 255]),
+        Done,
+    ),
+    // A byte more, or one less.
+    (
+        Write(
+            1,
+            &[
+                6, 0, 0, 0, 0, 0, 0, 0, 1, 0, 0, 0, 0, 0, 0, 0, 0, 0, 0, 0, 0,
+            ],
+        ),
+        Done,
+    ),
+    (
+        Write(
+            1,
+            &[6, 0, 0, 0, 0, 0, 0, 0, 1, 0, 0, 0, 0, 0, 0, 0, 0, 0, 0],
+        ),
+        Done,
+    ),
+    (Write(2, &[]), Done),
+    (
+        Write(
+            3,
+            &[7, 0, 0, 0, 0, 0, 0, 0, 0, 0, 0, 0, 0, 0, 0, 0, 0, 0, 0],
+        ),
+        Done,
+    ),
+    (
+        Write(
+            6,
+            &[7, 0, 0, 0, 0, 0, 0, 0, 0, 0, 0, 0, 0, 0, 0, 0, 0, 0, 0],
+        ),
+        Done,
+    ),
+    (Work(9), Worked(6, WorkStop::Unpublished)),
+    (
+        Receive(&[
+            (
+                0,
+                Reply::Refused {
+                    correlation: 5,
+                    code: 22,
+                },
+            ),
+            (
+                24,
+                Reply::Refused {
+                    correlation: 6,
+                    code: 22,
+                },
+            ),
+            (
+                48,
+                Reply::Refused {
+                    correlation: 6,
+                    code: 22,
+                },
+            ),
+            (
+                72,
+                Reply::Refused {
+                    correlation: u64::MAX,
+                    code: 22,
+                },
+            ),
+            (
+                96,
+                Reply::Refused {
+                    correlation: 7,
+                    code: 22,
+                },
+            ),
+            (
+                120,
+                Reply::Refused {
+                    correlation: 7,
+                    code: 23,
+                },
+            ),
+        ]),
+        Done,
+    ),
+    (Call::State(0), State(Ok(0))),
+];
 
 #[test]
-fn refuses_what_the_counters_refuse(rt: HostRuntime) -> Result<(), Fail> {
-    let mut bench = Bench::<OneToOne>::new(rt.alloc(), 4)?;
-    let free = Command::Free {
-        correlation: 1,
-        id: 0,
-    };
-    let set = Command::Set {
-        correlation: 2,
-        id: 4,
-        value: 1,
-    };
-    let close = Command::Close {
-        correlation: 3,
-        owner: 0,
-    };
-    bench.send(&[free, set, close])?;
-    assert_eq!(rt; bench.work(9), work(3, WorkStop::Unpublished));
-    let replies = [
-        (0, refused(1, 21)),
-        (24, refused(2, 20)),
-        (48, refused(3, 28)),
-    ];
-    assert!(rt; bench.hears(&replies));
-    assert_eq!(rt; bench.state(0), Ok(0));
-    Ok(())
+fn refuses_what_it_cannot_read_and_changes_nothing(rt: HostRuntime) {
+    Bench::<ManyToOne>::new(&rt, rt.alloc(), 4).plays(&rt, &UNREAD);
+}
+
+static REFUSED: [(Call<'static>, Answer); 4] = [
+    (
+        Send(&[
+            Command::Free {
+                correlation: 1,
+                id: 0,
+            },
+            Command::Set {
+                correlation: 2,
+                id: 4,
+                value: 1,
+            },
+            Command::Close {
+                correlation: 3,
+                owner: 0,
+            },
+        ]),
+        Done,
+    ),
+    (Work(9), Worked(3, WorkStop::Unpublished)),
+    (
+        Receive(&[
+            (
+                0,
+                Reply::Refused {
+                    correlation: 1,
+                    code: 21,
+                },
+            ),
+            (
+                24,
+                Reply::Refused {
+                    correlation: 2,
+                    code: 20,
+                },
+            ),
+            (
+                48,
+                Reply::Refused {
+                    correlation: 3,
+                    code: 28,
+                },
+            ),
+        ]),
+        Done,
+    ),
+    (Call::State(0), State(Ok(0))),
+];
+
+#[test]
+fn refuses_what_the_counters_refuse(rt: HostRuntime) {
+    Bench::<OneToOne>::new(&rt, rt.alloc(), 4).plays(&rt, &REFUSED);
 }

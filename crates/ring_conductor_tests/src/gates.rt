@@ -1,13 +1,13 @@
-//! When a storm's clients ask their gate, and when they tell it that they were answered; and threads that do not start.
-use ring_conductor::{Gate, OpenGate, StormFault, StormPlan, storm};
+//! When a storm's clients ask their gate, and when they report an answer to it; and threads that do not start.
+use crate::storms::run;
+use ring_conductor::{Gate, OpenGate, StormFault, StormPlan};
 use std::sync::atomic::Ordering::SeqCst;
 use std::sync::atomic::{AtomicBool, AtomicU32};
-use std::test::Fail;
 use std::thread::sleep;
 use std::time::Duration;
 
-/// Notes whether each client asks and tells in order: it asks for its next command once the last one was answered,
-/// and tells of an answer once it was let send that command.
+/// Notes whether each client asks and reports in order: it asks for its next command after the last one was answered,
+/// and reports an answer after it was allowed to send that command.
 #[derive(Drop)]
 struct Strict {
     let_send: [AtomicU32; 2],
@@ -35,7 +35,7 @@ impl Gate for Strict {
 }
 
 #[test]
-fn each_answer_is_told_before_the_next_command(rt: HostRuntime) -> Result<(), Fail> {
+fn each_answer_is_told_before_the_next_command(rt: HostRuntime) {
     let gate = Strict {
         let_send: [AtomicU32::new(0), AtomicU32::new(0)],
         answered: [AtomicU32::new(0), AtomicU32::new(0)],
@@ -47,13 +47,12 @@ fn each_answer_is_told_before_the_next_command(rt: HostRuntime) -> Result<(), Fa
         ring: 256,
         turns: 50_000_000,
     };
-    let report = storm(&rt, rt.alloc(), &plan, &gate)?;
+    let report = run(&rt, rt.alloc(), &plan, &gate).expect(&rt, "a report");
     assert_eq!(rt; report.seen, 600);
     assert_eq!(rt; report.sum, 600);
     assert!(rt; !gate.broken.load(SeqCst));
     assert_eq!(rt; gate.answered[0].load(SeqCst), 300);
     assert_eq!(rt; gate.answered[1].load(SeqCst), 300);
-    Ok(())
 }
 
 /// Lets no thread start with this number.
@@ -83,13 +82,13 @@ fn a_thread_that_cannot_be_started_is_told_as_memory(rt: HostRuntime) {
         turns: 50_000_000,
     };
     for thread in 0..5 {
-        let report = storm(&rt, rt.alloc(), &plan, &Without { thread });
+        let report = run(&rt, rt.alloc(), &plan, &Without { thread });
         assert_eq!(rt; report, Err(StormFault::OutOfMemory));
     }
 }
 
-/// Lets no conductor start behind 64 clients. It keeps each client for a while, lets it send then, and notes whether
-/// it was asked and whether an answer was told.
+/// Lets no conductor start after 64 clients. It keeps each client for a while, lets it send then, and notes whether
+/// it was asked and whether an answer was reported.
 #[derive(Drop)]
 struct NoConductor {
     asked: AtomicBool,
@@ -128,14 +127,14 @@ fn no_answer_is_told_where_no_conductor_works(rt: HostRuntime) {
         ring: 4096,
         turns: 50_000_000,
     };
-    let report = storm(&rt, rt.alloc(), &plan, &gate);
+    let report = run(&rt, rt.alloc(), &plan, &gate);
     assert_eq!(rt; report, Err(StormFault::OutOfMemory));
     assert!(rt; gate.asked.load(SeqCst));
     assert!(rt; !gate.told.load(SeqCst));
 }
 
 /// Keeps the conductor back until both clients were let send and had time to do so, and notes how many answers were
-/// told by then.
+/// reported by then.
 #[derive(Drop)]
 struct LateConductor<'a> {
     rt: &'a HostRuntime,
@@ -177,7 +176,7 @@ impl Gate for LateConductor<'_> {
 }
 
 #[test]
-fn no_answer_is_told_before_the_conductor_works(rt: HostRuntime) -> Result<(), Fail> {
+fn no_answer_is_told_before_the_conductor_works(rt: HostRuntime) {
     let gate = LateConductor {
         rt: &rt,
         let_send: AtomicU32::new(0),
@@ -191,9 +190,8 @@ fn no_answer_is_told_before_the_conductor_works(rt: HostRuntime) -> Result<(), F
         ring: 256,
         turns: 50_000_000,
     };
-    let report = storm(&rt, rt.alloc(), &plan, &gate)?;
+    let report = run(&rt, rt.alloc(), &plan, &gate).expect(&rt, "a report");
     assert_eq!(rt; report.seen, 2);
     assert_eq!(rt; gate.told_before.load(SeqCst), 0);
     assert_eq!(rt; gate.told.load(SeqCst), 2);
-    Ok(())
 }

@@ -1,23 +1,22 @@
 //! The conductor's heartbeat, as clients load it.
-use crate::bench::Bench;
-use crate::sending::work;
+use crate::bench::Answer::{Done, Heartbeat, Worked};
+use crate::bench::{Answer, Bench, Call};
 use ring_conductor::WorkStop;
-use ring_rings::{Kind, ManyToOne, OneToOne};
-use std::alloc::Global;
-use std::process::Abort;
-use std::test::Fail;
+use ring_rings::{ManyToOne, OneToOne};
 
-fn tells_its_last_heartbeat<K: Kind>(rt: &impl Abort, alloc: Global) -> Result<(), Fail> {
-    let mut bench = Bench::<K>::new(alloc, 4)?;
-    assert_eq!(rt; bench.beats(700), (0, 700));
-    assert_eq!(rt; bench.work(9), work(0, WorkStop::Unpublished));
-    assert_eq!(rt; bench.beats(u64::MAX), (700, u64::MAX));
-    assert!(rt; bench.hears(&[]));
-    Ok(())
-}
+static BEATS: [(Call<'static>, Answer); 8] = [
+    (Call::Heartbeat, Heartbeat(0)),
+    (Call::SetHeartbeat(700), Done),
+    (Call::Heartbeat, Heartbeat(700)),
+    (Call::Work(9), Worked(0, WorkStop::Unpublished)),
+    (Call::Heartbeat, Heartbeat(700)),
+    (Call::SetHeartbeat(u64::MAX), Done),
+    (Call::Heartbeat, Heartbeat(u64::MAX)),
+    (Call::Receive(&[]), Done),
+];
 
 #[test]
-fn clients_load_the_conductors_last_heartbeat(rt: HostRuntime) -> Result<(), Fail> {
-    tells_its_last_heartbeat::<OneToOne>(&rt, rt.alloc())?;
-    tells_its_last_heartbeat::<ManyToOne>(&rt, rt.alloc())
+fn clients_load_the_conductors_last_heartbeat(rt: HostRuntime) {
+    Bench::<OneToOne>::new(&rt, rt.alloc(), 4).plays(&rt, &BEATS);
+    Bench::<ManyToOne>::new(&rt, rt.alloc(), 4).plays(&rt, &BEATS);
 }

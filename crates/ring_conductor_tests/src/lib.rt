@@ -4,8 +4,6 @@
 #[cfg(test)]
 mod bench;
 #[cfg(test)]
-mod board_ends;
-#[cfg(test)]
 mod boards;
 #[cfg(test)]
 mod clients;

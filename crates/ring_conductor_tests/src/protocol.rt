@@ -28,7 +28,7 @@ fn commands_and_replies_have_these_type_ids(rt: HostRuntime) {
 }
 
 /// Commands with their correlation ids, and how many bytes spell them.
-const COMMANDS: [(Command<'static>, u64, usize); 5] = [
+static COMMANDS: [(Command<'static>, u64, usize); 5] = [
     (
         Command::Allocate {
             correlation: 11,

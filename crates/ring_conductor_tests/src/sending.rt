@@ -1,4 +1,4 @@
-//! Commands as a client sends them, and replies as a listener hears them.
+//! Commands as a client sends them, and replies as a listener receives them.
 ghost use Rattle.std.specs.Prelude.{◌≡◌};
 ghost use Rattle.ring_rings.specs.Seats.{all_shares, shares_of, IsProducerOf};
 ghost use Rattle.ring_board.specs.Seats.{IsReceiverOf};
@@ -6,26 +6,32 @@ ghost use Rattle.ring_board.specs.Seats.{IsReceiverOf};
 use ring_board::{Board, Copied, CopyReceiver, Lapped};
 use ring_conductor::{Command, Reply, Work, WorkStop, decode_reply, encode_command};
 use ring_rings::{Kind, Producer, Ring};
-use std::test::Fail;
 
-/// Sends the commands, one after another.
-pub fn send<K: Kind>(
-    ring: &Ring<K>,
-    producer: &mut Producer,
-    commands: &[Command],
-) -> Result<(), Fail>
+/// Sends a command, and tests whether there was room for it.
+fn send_one<K: Kind>(ring: &Ring<K>, producer: &mut Producer, command: &Command<'_>) -> bool
     requires producer { IsProducerOf ring.now producer.old }
     requires sole { shares_of producer.old ≡ all_shares }
     ensures producer { IsProducerOf ring.now producer.new }
     ensures sole { shares_of producer.new ≡ all_shares }
 {
     let mut bytes = [0; 64];
+    let len = encode_command(command, &mut bytes).unwrap_or(0);
+    let body = bytes.get(..len).unwrap_or(&[]);
+    K::write_once(ring, producer, command.type_id(), body).is_ok()
+}
+
+/// Sends commands, and tests whether there was room for all.
+pub fn send<K: Kind>(ring: &Ring<K>, producer: &mut Producer, commands: &[Command]) -> bool
+    requires producer { IsProducerOf ring.now producer.old }
+    requires sole { shares_of producer.old ≡ all_shares }
+    ensures producer { IsProducerOf ring.now producer.new }
+    ensures sole { shares_of producer.new ≡ all_shares }
+{
+    let mut all = true;
     for command in commands {
-        let len = encode_command(command, &mut bytes).ok_or("no room for a command")?;
-        let body = bytes.get(..len).ok_or("no such bytes")?;
-        K::write_once(ring, producer, command.type_id(), body)?;
+        all = send_one(ring, producer, command) && all;
     }
-    Ok(())
+    all
 }
 
 /// What was copied, read as a reply with its place.
@@ -41,31 +47,26 @@ fn reply_of(copied: Result<Option<Copied>, Lapped>) -> Option<(u64, Reply)> {
 }
 
 /// The next reply, with its place.
-pub fn heard(board: &Board, receiver: &mut CopyReceiver) -> Option<(u64, Reply)>
+fn next_reply(board: &Board, receiver: &mut CopyReceiver) -> Option<(u64, Reply)>
     requires { IsReceiverOf board.now receiver.old }
     ensures { IsReceiverOf board.now receiver.new }
 {
     reply_of(receiver.receive(board))
 }
 
-/// Tests whether these are the next replies, with their places, and nothing comes behind them.
-pub fn hears(board: &Board, receiver: &mut CopyReceiver, replies: &[(u64, Reply)]) -> bool
+/// Tests whether these are the next replies, with their places, and no more follow.
+pub fn receives(board: &Board, receiver: &mut CopyReceiver, replies: &[(u64, Reply)]) -> bool
     requires { IsReceiverOf board.now receiver.old }
     ensures { IsReceiverOf board.now receiver.new }
 {
     let mut all = true;
     for (place, reply) in replies {
-        all = heard(board, receiver) == Some((*place, *reply)) && all;
+        all = next_reply(board, receiver) == Some((*place, *reply)) && all;
     }
-    all && heard(board, receiver).is_none()
+    all && next_reply(board, receiver).is_none()
 }
 
 /// How work ends.
 pub fn work(messages: u64, stopped: WorkStop) -> Work {
     Work { messages, stopped }
-}
-
-/// A refusal as a reply.
-pub fn refused(correlation: u64, code: i32) -> Reply {
-    Reply::Refused { correlation, code }
 }

@@ -1,8 +1,8 @@
 use ring_conductor::{Gate, OpenGate, StormFault, StormPlan, StormReport, storm};
+use std::alloc::Global;
 use std::sync::Wait;
 use std::sync::atomic::AtomicBool;
 use std::sync::atomic::Ordering::SeqCst;
-use std::test::Fail;
 use std::thread::Threads;
 
 /// The turns of a storm that is to end well.
@@ -10,6 +10,16 @@ const TURNS: u64 = 50_000_000;
 
 /// The tries of a gate that waits inside itself.
 const TRIES: u32 = 100_000_000;
+
+/// Runs a storm. It promises nothing, so that the tests are proved without what a storm promises.
+pub fn run<R: Threads + Wait, G: Gate + Sync>(
+    rt: &R,
+    alloc: Global,
+    plan: &StormPlan,
+    gate: &G,
+) -> Result<StormReport, StormFault> {
+    storm(rt, alloc, plan, gate)
+}
 
 fn plan(clients: u32, commands: u32) -> StormPlan {
     StormPlan {
@@ -41,9 +51,9 @@ fn two_clients_report() -> StormReport {
 }
 
 #[test]
-fn clients_send_a_hundred_commands_each(rt: HostRuntime) -> Result<(), Fail> {
+fn clients_send_a_hundred_commands_each(rt: HostRuntime) {
     for (clients, all, sum) in [(4, 400, 400), (64, 6_400, 6_400)] {
-        let report = storm(&rt, rt.alloc(), &plan(clients, 100), &OpenGate)?;
+        let report = run(&rt, rt.alloc(), &plan(clients, 100), &OpenGate);
         let wanted = StormReport {
             received: all,
             left: 0,
@@ -51,9 +61,8 @@ fn clients_send_a_hundred_commands_each(rt: HostRuntime) -> Result<(), Fail> {
             live: clients,
             sum,
         };
-        assert_eq!(rt; report, wanted);
+        assert_eq!(rt; report, Ok(wanted));
     }
-    Ok(())
 }
 
 #[test]
@@ -92,7 +101,7 @@ fn plans_out_of_their_limits_are_refused(rt: HostRuntime) {
         StormPlan { turns: 0, ..lawful },
     ];
     for plan in bad.iter() {
-        let refused = storm(&rt, rt.alloc(), plan, &OpenGate);
+        let refused = run(&rt, rt.alloc(), plan, &OpenGate);
         assert_eq!(rt; refused, Err(StormFault::BadPlan));
     }
 }
@@ -123,16 +132,15 @@ impl Gate for InTurn {
 }
 
 #[test]
-fn clients_send_as_the_gate_lets_them(rt: HostRuntime) -> Result<(), Fail> {
+fn clients_send_as_the_gate_lets_them(rt: HostRuntime) {
     let gate = InTurn {
         answered: [AtomicBool::new(false), AtomicBool::new(false)],
     };
-    let report = storm(&rt, rt.alloc(), &two_clients(10_000_000), &gate)?;
-    assert_eq!(rt; report, two_clients_report());
-    Ok(())
+    let report = run(&rt, rt.alloc(), &two_clients(10_000_000), &gate);
+    assert_eq!(rt; report, Ok(two_clients_report()));
 }
 
-/// Lets nobody send.
+/// Lets no client send.
 #[derive(Drop)]
 struct Shut;
 
@@ -146,7 +154,7 @@ impl Gate for Shut {
 
 #[test]
 fn turns_are_spent_at_a_gate_that_never_opens(rt: HostRuntime) {
-    let report = storm(&rt, rt.alloc(), &two_clients(1_000), &Shut);
+    let report = run(&rt, rt.alloc(), &two_clients(1_000), &Shut);
     assert_eq!(rt; report, Err(StormFault::TurnsSpent));
 }
 
@@ -184,15 +192,14 @@ impl Gate for Meeting {
 }
 
 #[test]
-fn clients_meet_inside_the_gate(rt: HostRuntime) -> Result<(), Fail> {
+fn clients_meet_inside_the_gate(rt: HostRuntime) {
     let gate = Meeting {
         inside: [AtomicBool::new(false), AtomicBool::new(false)],
         met: AtomicBool::new(false),
     };
-    let report = storm(&rt, rt.alloc(), &two_clients(1_000_000_000), &gate)?;
-    assert_eq!(rt; report, two_clients_report());
+    let report = run(&rt, rt.alloc(), &two_clients(1_000_000_000), &gate);
+    assert_eq!(rt; report, Ok(two_clients_report()));
     assert!(rt; gate.met.load(SeqCst));
-    Ok(())
 }
 
 /// Keeps one client inside until the other's first command was answered.
@@ -225,16 +232,15 @@ impl Gate for Waiting {
 }
 
 #[test]
-fn one_client_is_answered_while_the_other_waits(rt: HostRuntime) -> Result<(), Fail> {
+fn one_client_is_answered_while_the_other_waits(rt: HostRuntime) {
     for client in 0..2 {
         let gate = Waiting {
             client,
             answered: AtomicBool::new(false),
             noted: AtomicBool::new(false),
         };
-        let report = storm(&rt, rt.alloc(), &two_clients(1_000_000_000), &gate)?;
-        assert_eq!(rt; report, two_clients_report());
+        let report = run(&rt, rt.alloc(), &two_clients(1_000_000_000), &gate);
+        assert_eq!(rt; report, Ok(two_clients_report()));
         assert!(rt; gate.noted.load(SeqCst));
     }
-    Ok(())
 }

@@ -4,15 +4,15 @@ ghost use Rattle.ring_board.specs.Seats.{IsReceiverOf};
 ghost use Rattle.ring_conductor.specs.Asking.{producer_of, receiver_of};
 ghost use Rattle.ring_conductor.specs.Conducting.{IsConductorOf};
 
+use crate::bench::Bench;
 use ring_board::Board;
 use ring_conductor::{
-    Client, Conductor, FinishFault, Finished, Polled, Request, SendFault, Work, WorkStop, finish,
+    Client, Conductor, Finished, Polled, Request, SendFault, Work, WorkStop, finish,
 };
-use ring_counters::{CounterValues, CountersManager, IdFault};
+use ring_counters::{CounterValues, IdFault};
 use ring_rings::{ClaimFault, Kind, Ring, TryFault};
 use std::alloc::Global;
 use std::process::Abort;
-use std::test::Fail;
 
 /// A call of a client, or of its conductor.
 #[derive(Clone, Copy)]
@@ -28,7 +28,7 @@ pub enum Call<'a> {
     Value(u32),
 }
 
-/// What a call answers.
+/// What a call returns.
 #[derive(Clone, Copy, Debug, PartialEq, Eq)]
 pub enum Said {
     Id(u64),
@@ -71,19 +71,22 @@ pub struct Talk<K: Kind> {
 
 impl<K: Kind> Talk<K> {
     /// With a ring and a board of these capacities.
-    pub fn new(alloc: Global, ring: u32, board: u32) -> Result<Self, Fail> {
-        let (ring, producer, consumer) = Ring::new(alloc, ring)?;
-        let (board, transmitter) = Board::new(alloc, board)?;
-        let (values, counters) = CountersManager::new(alloc, 4, 50)?;
-        let mut conductor = Conductor::new(consumer, transmitter, counters);
-        let receiver = conductor.subscribe(alloc, &board)?;
-        Ok(Talk {
+    pub fn new(rt: &impl Abort, alloc: Global, ring: u32, board: u32) -> Self {
+        let Bench {
             ring,
             board,
             values,
             conductor,
-            client: Client::new(producer, receiver),
-        })
+            producer,
+            listener,
+        } = Bench::<K>::with_sizes(rt, alloc, (ring, board), 4, 0);
+        Talk {
+            ring,
+            board,
+            values,
+            conductor,
+            client: Client::new(producer, listener),
+        }
     }
 
     fn send(&mut self, request: Request<'_>) -> Said {
@@ -114,7 +117,7 @@ impl<K: Kind> Talk<K> {
     }
 
     /// Makes a call.
-    pub fn made(&mut self, call: Call<'_>) -> Said {
+    fn made(&mut self, call: Call<'_>) -> Said {
         match call {
             Call::Send(request) => self.send(request),
             Call::SendAs(correlation, request) => self.send_as(correlation, request),
@@ -135,7 +138,7 @@ impl<K: Kind> Talk<K> {
     }
 
     /// Finishes once the client is back.
-    pub fn finish(self) -> Result<Finished, FinishFault> {
+    pub fn finish(self) -> Option<Finished> {
         let Talk {
             ring,
             board,
@@ -145,9 +148,6 @@ impl<K: Kind> Talk<K> {
         } = self;
         let (producer, receiver) = client.into_parts();
         conductor.join_receiver(&board, receiver);
-        match finish(ring, board, values, conductor, producer) {
-            Ok(finished) => Ok(finished),
-            Err(back) => Err(back.reason),
-        }
+        finish(ring, board, values, conductor, producer).ok()
     }
 }
