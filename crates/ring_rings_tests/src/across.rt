@@ -1,4 +1,4 @@
-//! Reads near the end of the buffer: on behind it, and up to a message at which the handler breaks off.
+//! Reads near the end of the buffer: on after it, and up to a message at which the handler breaks off.
 use crate::bench::Call::{ControlledRead, Positions, Read, ReadAcross, Write};
 use crate::bench::Said::{self, At, Done};
 use crate::bench::{Call, opened};
@@ -8,8 +8,8 @@ use ring_rings::{Action, ManyToOne, Standing, Stop};
 
 const WRITE: (Call<'static>, Said) = (Write(1, &[0; 16]), Done);
 
-/// Padding of 16 bytes, and a record of 24 behind it.
-const PADDED: Play<'static> = Play {
+/// Padding of 16 bytes, and a record of 24 after it.
+static PADDED: Play<'static> = Play {
     calls: &[
         WRITE,
         WRITE,
@@ -34,8 +34,8 @@ const PADDED: Play<'static> = Play {
     ..PLAY
 };
 
-/// One up to the end of the buffer, and two of the three behind it.
-const LIMITED: Play<'static> = Play {
+/// One up to the end of the buffer, and two of the three after it.
+static LIMITED: Play<'static> = Play {
     calls: &[
         WRITE,
         WRITE,
@@ -67,10 +67,10 @@ const LIMITED: Play<'static> = Play {
 
 #[test]
 fn reads_on_behind_the_end_of_the_buffer(rt: HostRuntime) {
-    plays(&rt, rt.alloc(), &[PADDED, LIMITED]);
+    plays(&rt, rt.alloc(), &[&PADDED, &LIMITED]);
 }
 
-const BROKEN: Play<'static> = Play {
+static BROKEN: Play<'static> = Play {
     actions: &[
         Action::Continue,
         Action::Continue,
@@ -106,7 +106,7 @@ const BROKEN: Play<'static> = Play {
 
 #[test]
 fn break_leaves_the_padding_behind_the_message(rt: HostRuntime) {
-    plays(&rt, rt.alloc(), &[BROKEN]);
+    plays(&rt, rt.alloc(), &[&BROKEN]);
 }
 
 #[test]

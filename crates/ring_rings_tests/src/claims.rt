@@ -13,7 +13,7 @@ use std::process;
 /// Bytes over others, across words.
 const OVER: [Fill<'static>; 2] = [(0, &BODY, true), (5, &[0xF5, 0xF6, 0xF7, 0xF8, 0xF9], true)];
 
-/// Bytes behind a claim of 8 bytes, and none at its end.
+/// Bytes after a claim of 8 bytes, and none at its end.
 const OUTSIDE: [Fill<'static>; 3] = [
     (7, &[0xAA, 0xBB], false),
     (usize::MAX, &[0xAA], false),
@@ -88,7 +88,7 @@ fn passes_an_aborted_claim(rt: HostRuntime) {
     assert!(rt; script.is_done());
 }
 
-const INSIDE: Play<'static> = Play {
+static INSIDE: Play<'static> = Play {
     calls: &[
         (Commit(3, 8, &[(3, &[0xAA, 0xBB], true)]), Made(8)),
         (Read(9), Said::Read(1, 16, Stop::Unpublished)),
@@ -98,7 +98,7 @@ const INSIDE: Play<'static> = Play {
     ..PLAY
 };
 
-const ACROSS_WORDS: Play<'static> = Play {
+static ACROSS_WORDS: Play<'static> = Play {
     calls: &[
         (Commit(1, 16, &OVER), Made(8)),
         (Read(9), Said::Read(1, 24, Stop::Unpublished)),
@@ -113,7 +113,7 @@ const ACROSS_WORDS: Play<'static> = Play {
     ..PLAY
 };
 
-const BEHIND: Play<'static> = Play {
+static BEHIND: Play<'static> = Play {
     calls: &[
         (Write(1, &[0, 1, 2, 3, 4, 5, 6, 7]), Done),
         (Commit(3, 8, &OUTSIDE), Made(24)),
@@ -128,7 +128,7 @@ const BEHIND: Play<'static> = Play {
 
 #[test]
 fn puts_bytes_into_a_claim(rt: HostRuntime) {
-    plays(&rt, rt.alloc(), &[INSIDE, ACROSS_WORDS, BEHIND]);
+    plays(&rt, rt.alloc(), &[&INSIDE, &ACROSS_WORDS, &BEHIND]);
 }
 
 /// What other calls answer while a claim is open, and what reads find before it is filled, before it is committed, and

@@ -85,7 +85,7 @@ const THREE_FOUR: [u8; 16] = [3, 0, 0, 0, 0, 0, 0, 0, 4, 0, 0, 0, 0, 0, 0, 0];
 
 const ZERO_SEVEN: [u8; 16] = [0, 0, 0, 0, 0, 0, 0, 0, 7, 0, 0, 0, 0, 0, 0, 0];
 
-const CACHED: Play<'static> = Play {
+static CACHED: Play<'static> = Play {
     calls: &[
         (Write(1, &NINE_0), Said::Done),
         (Write(1, &NINE_1), Said::Done),
@@ -116,7 +116,7 @@ const CACHED: Play<'static> = Play {
 };
 
 /// The second message stays in the ring, with the head before it.
-const LEFT: Play<'static> = Play {
+static LEFT: Play<'static> = Play {
     actions: &[Action::Continue, Action::Abort, Action::Abort],
     calls: &[
         (Write(1, &ONE_TWO), Said::Done),
@@ -140,7 +140,7 @@ const LEFT: Play<'static> = Play {
 };
 
 /// Of the words that a read passes, one is 0 before it.
-const ZERO_WORD: Play<'static> = Play {
+static ZERO_WORD: Play<'static> = Play {
     calls: &[
         (Write(1, &ZERO_SEVEN), Said::Done),
         (Read(9), Said::Read(1, 24, Stop::Unpublished)),
@@ -157,7 +157,7 @@ const ZERO_WORD: Play<'static> = Play {
     ..PLAY
 };
 
-const ABORTED: Play<'static> = Play {
+static ABORTED: Play<'static> = Play {
     calls: &[
         (Abort(1, 16), Said::Made(8)),
         (Read(9), Said::Read(0, 24, Stop::Unpublished)),
@@ -169,17 +169,24 @@ const ABORTED: Play<'static> = Play {
 
 #[test]
 fn leaves_these_words(rt: HostRuntime) {
-    plays(&rt, rt.alloc(), &[CACHED, LEFT, ZERO_WORD, ABORTED]);
+    plays(&rt, rt.alloc(), &[&CACHED, &LEFT, &ZERO_WORD, &ABORTED]);
+}
+
+/// Shares are counted by producers.
+#[test]
+fn a_producer_of_one_share_does_not_split(rt: HostRuntime) {
+    let (ring, mut first, _consumer) = opened::<ManyToOne>(&rt, rt.alloc(), 0);
+    assert_eq!(rt; first.shares(), 65536);
+    let mut second = ring.split(&mut first).expect(&rt, "a producer");
+    assert_eq!(rt; (first.shares(), second.shares()), (65535, 1));
+    assert_eq!(rt; ring.split(&mut second).err(), Some(NoShares));
 }
 
 /// Claims are tested before shares.
 #[test]
 fn closes_when_all_shares_are_back(rt: HostRuntime) {
     let (ring, mut first, consumer) = opened::<ManyToOne>(&rt, rt.alloc(), 0);
-    let whole = first.shares();
-    let mut second = ring.split(&mut first).expect(&rt, "a producer");
-    assert_eq!(rt; [whole, first.shares(), second.shares()], [65536, 65535, 1]);
-    assert_eq!(rt; ring.split(&mut second).err(), Some(NoShares));
+    let second = ring.split(&mut first).expect(&rt, "a producer");
     let claim = claimed(&rt, &ring, &mut first, 1, 0);
     let open = CloseFault::ClaimsOpen { claims: 1 };
     let mut back = refused(&rt, ring, first, consumer, open);
@@ -203,19 +210,16 @@ fn splits_until_one_share_is_left(rt: HostRuntime) {
     refused(&rt, ring, first, consumer, out);
 }
 
-/// Writes empty messages.
-pub fn write_often(
-    ring: &ManyToOneRing,
-    producer: &mut Producer,
-    times: u32,
-) -> Result<(), TryFault>
+/// Writes empty messages until the ring is full, which holds this many, and tests that no more are written.
+pub fn fill_up(rt: &impl process::Abort, ring: &ManyToOneRing, producer: &mut Producer, count: u32)
     requires { IsProducerOf ring.now producer.old }
     ensures { IsProducerOf ring.now producer.new }
 {
-    for _ in 0..times {
-        ring.write_once(producer, 1, &[])?;
+    for _ in 0..count {
+        assert!(rt; ring.write_once(producer, 1, &[]).is_ok());
     }
-    Ok(())
+    let full = TryFault::Refused(ClaimFault::InsufficientCapacity { tail: 128, head: 0 });
+    assert_eq!(rt; ring.write_once(producer, 1, &[]), Err(full));
 }
 
 #[test]
@@ -223,9 +227,7 @@ fn a_lost_producer_keeps_the_ring_open(rt: HostRuntime) {
     let (ring, mut first, mut consumer) = opened::<ManyToOne>(&rt, rt.alloc(), 0);
     let mut second = ring.split(&mut first).expect(&rt, "a producer");
     let _kept_aside = claimed(&rt, &ring, &mut second, 1, 0);
-    assert_eq!(rt; write_often(&ring, &mut first, 15), Ok(()));
-    let full = TryFault::Refused(ClaimFault::InsufficientCapacity { tail: 128, head: 0 });
-    assert_eq!(rt; write_often(&ring, &mut first, 1), Err(full));
+    fill_up(&rt, &ring, &mut first, 15);
     let read = ring.read(&mut consumer, 9, &mut Script::new(&[], &[]));
     assert_eq!(rt; read, end(0, 0, Stop::Unpublished));
     let out = CloseFault::ProducersOut { shares: 1 };

@@ -50,7 +50,7 @@ fn plays_on<K: Kind>(rt: &impl Abort, alloc: Global, play: &Play<'_>) {
 }
 
 /// Makes each play on a ring of each kind.
-pub fn plays(rt: &impl Abort, alloc: Global, all: &[Play<'_>]) {
+pub fn plays(rt: &impl Abort, alloc: Global, all: &[&Play<'_>]) {
     for play in all {
         plays_on::<OneToOne>(rt, alloc, play);
         plays_on::<ManyToOne>(rt, alloc, play);

@@ -2,16 +2,16 @@
 use crate::bench::Call::{Abort, Commit, ControlledRead, Positions, Read, Write};
 use crate::bench::Said::{At, Done, Made};
 use crate::bench::{Call, Said, opened};
-use crate::closing::write_often;
+use crate::closing::fill_up;
 use crate::play::{PLAY, Play, plays};
 use crate::script::{BODY, end};
-use ring_rings::{Action, ClaimFault, Handler, ManyToOne, ManyToOneRing, Producer, Stop, TryFault};
+use ring_rings::{Action, Handler, ManyToOne, ManyToOneRing, Producer, Stop};
 
 const WRITE: (Call<'static>, Said) = (Write(1, &BODY), Done);
 
 const EIGHT: [u8; 8] = [0, 1, 2, 3, 4, 5, 6, 7];
 
-const COMMITTED: Play<'static> = Play {
+static COMMITTED: Play<'static> = Play {
     calls: &[
         (Commit(7, 5, &[]), Made(8)),
         (Commit(9, 0, &[]), Made(24)),
@@ -24,7 +24,7 @@ const COMMITTED: Play<'static> = Play {
 };
 
 /// A body of three bytes, which nothing was put into.
-const SHORT: Play<'static> = Play {
+static SHORT: Play<'static> = Play {
     calls: &[
         (Commit(4, 3, &[]), Made(8)),
         (Read(9), Said::Read(1, 16, Stop::Unpublished)),
@@ -36,10 +36,10 @@ const SHORT: Play<'static> = Play {
 
 #[test]
 fn reads_what_was_committed(rt: HostRuntime) {
-    plays(&rt, rt.alloc(), &[COMMITTED, SHORT]);
+    plays(&rt, rt.alloc(), &[&COMMITTED, &SHORT]);
 }
 
-const LIMITED: Play<'static> = Play {
+static LIMITED: Play<'static> = Play {
     calls: &[
         (Write(1, &[]), Done),
         (Write(2, &[]), Done),
@@ -55,10 +55,10 @@ const LIMITED: Play<'static> = Play {
 
 #[test]
 fn stops_at_the_limit(rt: HostRuntime) {
-    plays(&rt, rt.alloc(), &[LIMITED]);
+    plays(&rt, rt.alloc(), &[&LIMITED]);
 }
 
-const AROUND: Play<'static> = Play {
+static AROUND: Play<'static> = Play {
     calls: &[
         WRITE,
         WRITE,
@@ -85,10 +85,10 @@ const AROUND: Play<'static> = Play {
 /// Up to the padding, up to the end of the buffer, and on from its beginning.
 #[test]
 fn reads_up_to_the_end_and_then_on(rt: HostRuntime) {
-    plays(&rt, rt.alloc(), &[AROUND]);
+    plays(&rt, rt.alloc(), &[&AROUND]);
 }
 
-const LEFT_FIRST: Play<'static> = Play {
+static LEFT_FIRST: Play<'static> = Play {
     actions: &[Action::Abort, Action::Continue, Action::Abort],
     calls: &[
         (Abort(1, 0), Made(8)),
@@ -103,7 +103,7 @@ const LEFT_FIRST: Play<'static> = Play {
     ..PLAY
 };
 
-const LEFT_LAST: Play<'static> = Play {
+static LEFT_LAST: Play<'static> = Play {
     actions: &[Action::Continue, Action::Commit, Action::Abort],
     calls: &[
         (Write(1, &[]), Done),
@@ -118,7 +118,7 @@ const LEFT_LAST: Play<'static> = Play {
     ..PLAY
 };
 
-const LEFT_BEHIND: Play<'static> = Play {
+static LEFT_BEHIND: Play<'static> = Play {
     actions: &[Action::Abort],
     calls: &[
         (Abort(1, 0), Made(8)),
@@ -136,10 +136,10 @@ const LEFT_BEHIND: Play<'static> = Play {
 
 #[test]
 fn leaves_a_message_at_abort(rt: HostRuntime) {
-    plays(&rt, rt.alloc(), &[LEFT_FIRST, LEFT_LAST, LEFT_BEHIND]);
+    plays(&rt, rt.alloc(), &[&LEFT_FIRST, &LEFT_LAST, &LEFT_BEHIND]);
 }
 
-const BROKEN: Play<'static> = Play {
+static BROKEN: Play<'static> = Play {
     actions: &[Action::Break],
     calls: &[
         (Write(1, &[]), Done),
@@ -152,7 +152,7 @@ const BROKEN: Play<'static> = Play {
     ..PLAY
 };
 
-const BROKEN_AFTER_COMMIT: Play<'static> = Play {
+static BROKEN_AFTER_COMMIT: Play<'static> = Play {
     actions: &[Action::Commit, Action::Abort, Action::Break],
     calls: &[
         (Write(1, &[]), Done),
@@ -170,10 +170,10 @@ const BROKEN_AFTER_COMMIT: Play<'static> = Play {
 
 #[test]
 fn takes_a_message_at_break(rt: HostRuntime) {
-    plays(&rt, rt.alloc(), &[BROKEN, BROKEN_AFTER_COMMIT]);
+    plays(&rt, rt.alloc(), &[&BROKEN, &BROKEN_AFTER_COMMIT]);
 }
 
-const ALL_ACTIONS: Play<'static> = Play {
+static ALL_ACTIONS: Play<'static> = Play {
     actions: &[Action::Abort, Action::Break, Action::Commit],
     calls: &[
         (Write(1, &[]), Done),
@@ -188,7 +188,7 @@ const ALL_ACTIONS: Play<'static> = Play {
 
 #[test]
 fn read_takes_each_action_as_continue(rt: HostRuntime) {
-    plays(&rt, rt.alloc(), &[ALL_ACTIONS]);
+    plays(&rt, rt.alloc(), &[&ALL_ACTIONS]);
 }
 
 /// Answers `Commit`, and at the second message tries to write.
@@ -219,9 +219,7 @@ impl Handler for Sender<'_> {
 #[test]
 fn commit_gives_room_at_once(rt: HostRuntime) {
     let (ring, mut producer, mut consumer) = opened::<ManyToOne>(&rt, rt.alloc(), 0);
-    assert_eq!(rt; write_often(&ring, &mut producer, 16), Ok(()));
-    let full = TryFault::Refused(ClaimFault::InsufficientCapacity { tail: 128, head: 0 });
-    assert_eq!(rt; write_often(&ring, &mut producer, 1), Err(full));
+    fill_up(&rt, &ring, &mut producer, 16);
     let mut sender = Sender {
         ring: &ring,
         producer,

@@ -8,7 +8,7 @@ use ring_rings::{Action, Handler, Kind, ManyToOne, OneToOne, Producer, ReadEnd, 
 use std::alloc::Global;
 use std::process::Abort;
 
-const SERVED: Play<'static> = Play {
+static SERVED: Play<'static> = Play {
     calls: &[
         (CorrelationId, Number(0)),
         (CorrelationId, Number(1)),
@@ -30,7 +30,7 @@ const SERVED: Play<'static> = Play {
 
 #[test]
 fn draws_ids_and_beats(rt: HostRuntime) {
-    plays(&rt, rt.alloc(), &[SERVED]);
+    plays(&rt, rt.alloc(), &[&SERVED]);
 }
 
 /// Answers always the same, and notes the head at each message.

@@ -23,7 +23,7 @@ const LIMIT: Said = Refused(PositionLimit {
     tail: 4611686018427387904,
 });
 
-const RECORD: Play<'static> = Play {
+static RECORD: Play<'static> = Play {
     calls: &[(Write(7, &[1, 2, 3, 4, 5]), Done), (Positions, At(0, 16))],
     ends: (0, 16),
     words: &[
@@ -34,7 +34,7 @@ const RECORD: Play<'static> = Play {
     ..PLAY
 };
 
-const HEADER: Play<'static> = Play {
+static HEADER: Play<'static> = Play {
     calls: &[WRITE_EMPTY],
     ends: (0, 8),
     words: &[(0, Some(0x0000_0001_0000_0008)), (1, Some(0))],
@@ -43,10 +43,10 @@ const HEADER: Play<'static> = Play {
 
 #[test]
 fn stores_records_little_endian(rt: HostRuntime) {
-    plays(&rt, rt.alloc(), &[RECORD, HEADER]);
+    plays(&rt, rt.alloc(), &[&RECORD, &HEADER]);
 }
 
-const PADDED: Play<'static> = Play {
+static PADDED: Play<'static> = Play {
     calls: &[
         WRITE,
         WRITE,
@@ -76,17 +76,17 @@ const PADDED: Play<'static> = Play {
 
 #[test]
 fn pads_up_to_the_end(rt: HostRuntime) {
-    plays(&rt, rt.alloc(), &[PADDED]);
+    plays(&rt, rt.alloc(), &[&PADDED]);
 }
 
-const FILLED: Play<'static> = Play {
+static FILLED: Play<'static> = Play {
     calls: &[WRITE, WRITE, WRITE, WRITE, WRITE_EMPTY, WRITE],
     ends: (0, 128),
     words: &[(13, Some(0x0000_0001_0000_0018))],
     ..PLAY
 };
 
-const OVERFILLED: Play<'static> = Play {
+static OVERFILLED: Play<'static> = Play {
     calls: &[
         WRITE,
         WRITE,
@@ -105,10 +105,10 @@ const OVERFILLED: Play<'static> = Play {
 /// A full ring has no room, and one that is full up to the end is not padded.
 #[test]
 fn refuses_what_does_not_fit(rt: HostRuntime) {
-    plays(&rt, rt.alloc(), &[FILLED, OVERFILLED]);
+    plays(&rt, rt.alloc(), &[&FILLED, &OVERFILLED]);
 }
 
-const TYPE_FIRST: Play<'static> = Play {
+static TYPE_FIRST: Play<'static> = Play {
     calls: &[
         (MaxMessage, Number(16)),
         (Write(1, &[0; 17]), LONG),
@@ -122,10 +122,10 @@ const TYPE_FIRST: Play<'static> = Play {
 
 #[test]
 fn refuses_type_before_length(rt: HostRuntime) {
-    plays(&rt, rt.alloc(), &[TYPE_FIRST]);
+    plays(&rt, rt.alloc(), &[&TYPE_FIRST]);
 }
 
-const LAST_POSITION: Play<'static> = Play {
+static LAST_POSITION: Play<'static> = Play {
     start: 4611686018427387776,
     calls: &[
         WRITE,
@@ -152,7 +152,7 @@ const LAST_POSITION: Play<'static> = Play {
 
 #[test]
 fn ends_at_the_last_position(rt: HostRuntime) {
-    plays(&rt, rt.alloc(), &[LAST_POSITION]);
+    plays(&rt, rt.alloc(), &[&LAST_POSITION]);
 }
 
 #[test]
