@@ -1,7 +1,7 @@
 //! The report of a board.
 use crate::picture::Mark;
-use crate::records::{Listed, Shown, Tally};
-use crate::report::Report;
+use crate::records::{Listed, Shown, Tally, Whole};
+use crate::report::{Report, fields};
 use crate::view::View;
 use ring_layout::byte_index;
 use ring_snapshot::{BoardRecord, BoardSnapshot};
@@ -59,6 +59,19 @@ fn summary(alloc: Global, board: &BoardSnapshot<'_>, tally: Tally) -> Result<Str
     Ok(text)
 }
 
+fn whole(alloc: Global, board: &BoardSnapshot<'_>, tally: Tally) -> Result<Whole, AllocError> {
+    let counts = [
+        ("valid", u64::from(tally.committed)),
+        ("lapped", u64::from(tally.lapped)),
+        ("padding", u64::from(tally.passed)),
+    ];
+    Ok(Whole {
+        counts: fields(alloc, &counts)?,
+        details: Vec::new(alloc),
+        summary: summary(alloc, board, tally)?,
+    })
+}
+
 /// The numbers of the whole, with their names.
 fn numbers(board: &BoardSnapshot<'_>) -> [(&'static str, u64); 4] {
     [
@@ -81,7 +94,7 @@ fn signs(board: &BoardSnapshot<'_>) -> [(char, u64); 3] {
 
 /// The records of the running lap, or those from a position on.
 fn list(alloc: Global, board: &BoardSnapshot<'_>, view: View) -> Result<Listed, AllocError> {
-    let mut listed = Listed::new(alloc, board.capacity(), view.bodies)?;
+    let mut listed = Listed::new(alloc, board.capacity(), view)?;
     let begun = match view.from {
         Some(position) => board.records_from(position),
         None => board.records(),
@@ -104,7 +117,7 @@ impl Report {
             }
         };
         let listed = list(alloc, &board, view)?;
-        let summary = summary(alloc, &board, listed.tally())?;
-        listed.report(alloc, "board", &numbers(&board), &signs(&board), summary)
+        let whole = whole(alloc, &board, listed.tally())?;
+        listed.report(alloc, "board", &numbers(&board), &signs(&board), whole)
     }
 }

@@ -78,6 +78,7 @@ struct Gathered {
     findings: Vec<String>,
     in_use: u32,
     freed: u32,
+    unlisted: u64,
 }
 
 impl Gathered {
@@ -90,14 +91,13 @@ impl Gathered {
     }
 
     /// Adds a counter.
-    fn add(
-        &mut self,
-        alloc: Global,
-        bodies: Bodies,
-        counter: Counter<'_>,
-    ) -> Result<(), AllocError> {
+    fn add(&mut self, alloc: Global, view: View, counter: Counter<'_>) -> Result<(), AllocError> {
         self.count(counter.state);
-        let row = row(alloc, bodies, counter)?;
+        if self.rows.len() as u64 >= view.limit.unwrap_or(u64::MAX) {
+            self.unlisted = self.unlisted.saturating_add(1);
+            return Ok(());
+        }
+        let row = row(alloc, view.bodies, counter)?;
         self.rows.push(row)?;
         Ok(())
     }
@@ -120,11 +120,12 @@ fn gather(
         findings: Vec::new(alloc),
         in_use: 0,
         freed: 0,
+        unlisted: 0,
     };
     let first = u32::try_from(view.from.unwrap_or(0)).unwrap_or(u32::MAX);
     for entry in counters.counters_from(first) {
         match entry {
-            Ok(counter) => gathered.add(alloc, view.bodies, counter)?,
+            Ok(counter) => gathered.add(alloc, view, counter)?,
             Err(finding) => gathered.find(alloc, finding)?,
         }
     }
@@ -149,6 +150,7 @@ impl Report {
         let ids = counters.count();
         let gathered = gather(alloc, &counters, view)?;
         let (in_use, freed) = (gathered.in_use, gathered.freed);
+        let counts = [("in_use", u64::from(in_use)), ("freed", u64::from(freed))];
         Ok(Report {
             kind: "counters",
             fields: fields(alloc, &[("ids", u64::from(ids))])?,
@@ -156,6 +158,9 @@ impl Report {
             list: "counters",
             columns: columns(alloc, COLUMNS.as_slice(), view.bodies, "key")?,
             rows: gathered.rows,
+            unlisted: gathered.unlisted,
+            counts: fields(alloc, &counts)?,
+            details: Vec::new(alloc),
             summary: format!(in alloc; "{in_use} in use, {freed} freed, of {ids} ids")?,
             findings: gathered.findings,
         })

@@ -1,15 +1,17 @@
 //! A section of a file, as words.
-use crate::input_fault::InputFault;
+ghost use Rattle.std.specs.Prelude.{◌≤◌, IfOk};
+
+use crate::input_fault::{Cause, InputFault};
 use ring_layout::first_word;
-use std::alloc::Global;
+use std::alloc::{AllocError, AllocFailed, Global};
 use std::fs;
-use std::io::{ErrorKind, Read};
+use std::io::{ErrorKind, Input, Read, Seek, SeekFrom};
 use std::rt::Files;
 
 /// A section of a file, in bytes. Without a length it goes to the file's end.
-#[derive(Clone, Copy, Debug)]
+#[derive(Clone, Copy)]
 pub struct Section<'a> {
-    /// The file's name.
+    /// The file's name; `-` is standard input.
     pub file: &'a str,
     /// Where it begins.
     pub at: u64,
@@ -18,72 +20,93 @@ pub struct Section<'a> {
 }
 
 /// The most bytes of a section: those of the largest ring.
-const MAX_SECTION: usize = (1 << 24) + 768;
+const MAX_SECTION: u64 = (1 << 24) + 768;
 
-/// The most bytes that are passed before a section.
-const MAX_SKIP: u64 = 1 << 40;
+/// The most bytes that are read at once.
+const CHUNK: usize = 4096;
 
-/// Passes the bytes before a section.
-fn skip<R: Read>(reader: &mut R, bytes: u64) -> Result<(), InputFault> {
+impl From<AllocError> for Cause {
+    fn from(_error: AllocError) -> Cause {
+        Cause::OutOfMemory
+    }
+}
+
+impl<T: Drop> From<AllocFailed<T>> for Cause {
+    fn from(_error: AllocFailed<T>) -> Cause {
+        Cause::OutOfMemory
+    }
+}
+
+/// Reads up to so many bytes, and tries again after an interrupt. 0 at the end of the file.
+fn read_some<R: Read>(reader: &mut R, chunk: &mut [u8; CHUNK], most: u64) -> Result<usize, Cause>
+    ensures { IfOk result (λ n. n ≤ 4096) }
+{
+    let most = most.min(CHUNK as u64) as usize;
+    for _ in 0..u64::MAX {
+        match reader.read(&mut chunk[..most]) {
+            Ok(n) => return Ok(n),
+            Err(error) if error.kind() == ErrorKind::Interrupted => {}
+            Err(error) => return Err(Cause::Unread(error.kind())),
+        }
+    }
+    Err(Cause::Unread(ErrorKind::Interrupted))
+}
+
+/// Passes the bytes before a section of a file that cannot seek.
+fn skip<R: Read>(reader: &mut R, bytes: u64) -> Result<(), Cause> {
     let mut left = bytes;
-    let mut chunk = [0u8; 4096];
+    let mut chunk = [0u8; CHUNK];
     for _ in 0..u64::MAX {
         if left == 0 {
             return Ok(());
         }
-        let most = left.min(4096) as usize;
-        match reader.read(&mut chunk[..most]) {
-            Ok(0) => return Err(InputFault::TooShort),
-            Ok(n) => left -= n as u64,
-            Err(error) => {
-                if error.kind() != ErrorKind::Interrupted {
-                    return Err(InputFault::Unread);
-                }
-            }
+        let n = read_some(reader, &mut chunk, left)?;
+        if n == 0 {
+            return Err(Cause::TooShort);
         }
+        left = left.saturating_sub(n as u64);
     }
-    Err(InputFault::Unread)
+    Err(Cause::TooShort)
 }
 
 /// Reads so many bytes, or to the end.
-fn read_section<R: Read>(
+fn read_bytes<R: Read>(
     alloc: Global,
     reader: &mut R,
     length: Option<u64>,
-) -> Result<Vec<u8>, InputFault> {
-    let wanted = length.unwrap_or(u64::MAX);
-    if length.is_some() && wanted > MAX_SECTION as u64 {
-        return Err(InputFault::TooLarge);
+) -> Result<Vec<u8>, Cause> {
+    // (one byte more shows that the section is too large)
+    let wanted = length.unwrap_or(MAX_SECTION + 1);
+    if length.is_some() && wanted > MAX_SECTION {
+        return Err(Cause::TooLarge);
     }
     let mut bytes = Vec::new(alloc);
-    let mut chunk = [0u8; 4096];
+    let mut chunk = [0u8; CHUNK];
     for _ in 0..u64::MAX {
-        let most = wanted.saturating_sub(bytes.len() as u64).min(4096) as usize;
-        match reader.read(&mut chunk[..most]) {
-            Ok(0) => break,
-            Ok(n) => {
-                if n > MAX_SECTION.saturating_sub(bytes.len()) {
-                    return Err(InputFault::TooLarge);
-                }
-                bytes.extend_from_slice(&chunk[..n])?;
-            }
-            Err(error) => {
-                if error.kind() != ErrorKind::Interrupted {
-                    return Err(InputFault::Unread);
-                }
-            }
+        let n = read_some(
+            reader,
+            &mut chunk,
+            wanted.saturating_sub(bytes.len() as u64),
+        )?;
+        if n == 0 {
+            break;
         }
+        bytes.extend_from_slice(&chunk[..n])?;
     }
-    if length.is_some() && (bytes.len() as u64) < wanted {
-        return Err(InputFault::TooShort);
+    let read = bytes.len() as u64;
+    if read > MAX_SECTION {
+        Err(Cause::TooLarge)
+    } else if length.is_some() && read < wanted {
+        Err(Cause::TooShort)
+    } else {
+        Ok(bytes)
     }
-    Ok(bytes)
 }
 
-/// The words of these bytes, little-endian. `NotWords` where the last one is not whole.
-pub fn words_of_bytes(alloc: Global, bytes: &[u8]) -> Result<Vec<u64>, InputFault> {
+/// The words of these bytes, little-endian. `NotWords` if the last one is not whole.
+pub fn words_of_bytes(alloc: Global, bytes: &[u8]) -> Result<Vec<u64>, Cause> {
     if bytes.len() % 8 != 0 {
-        return Err(InputFault::NotWords);
+        return Err(Cause::NotWords);
     }
     let mut words = Vec::new(alloc);
     for k in 0..bytes.len() / 8 {
@@ -92,19 +115,60 @@ pub fn words_of_bytes(alloc: Global, bytes: &[u8]) -> Result<Vec<u64>, InputFaul
     Ok(words)
 }
 
-/// The words of a section of a file, little-endian.
-///
-/// `Unread` comes where the file cannot be opened or a read fails, `TooLarge` where the section has more than
-/// 16,777,984 bytes, `TooShort` where the file ends before it does, and `NotWords` as for `words_of_bytes`.
-pub fn section_words<R: AllocGlobal + Files>(
+/// Goes to the place at which a section begins: at once in a file that can seek, else by reading.
+fn go_to<R: Read + Seek>(reader: &mut R, at: u64) -> Result<(), Cause> {
+    if at == 0 {
+        return Ok(());
+    }
+    match reader.seek(SeekFrom::Start(at)) {
+        Ok(_) => Ok(()),
+        Err(error) if error.kind() == ErrorKind::NotSeekable => skip(reader, at),
+        Err(error) => Err(Cause::Unread(error.kind())),
+    }
+}
+
+fn bytes_of_file<R: AllocGlobal + Files>(rt: &R, section: Section<'_>) -> Result<Vec<u8>, Cause> {
+    let mut file = match fs::open(rt, section.file) {
+        Ok(file) => file,
+        Err(error) => return Err(Cause::Unopened(error.kind())),
+    };
+    go_to(&mut file, section.at)?;
+    read_bytes(rt.alloc(), &mut file, section.length)
+}
+
+fn bytes_of_input<R: AllocGlobal + Input>(rt: &R, section: Section<'_>) -> Result<Vec<u8>, Cause> {
+    let mut reader = rt.reader();
+    skip(&mut reader, section.at)?;
+    read_bytes(rt.alloc(), &mut reader, section.length)
+}
+
+fn words_of<R: AllocGlobal + Files + Input>(
     rt: &R,
     section: Section<'_>,
-) -> Result<Vec<u64>, InputFault> {
-    if section.at > MAX_SKIP {
-        return Err(InputFault::TooShort);
-    }
-    let mut reader = fs::open(rt, section.file).map_err(|_| InputFault::Unread)?;
-    skip(&mut reader, section.at)?;
-    let bytes = read_section(rt.alloc(), &mut reader, section.length)?;
+) -> Result<Vec<u64>, Cause> {
+    let bytes = if section.file == "-" {
+        bytes_of_input(rt, section)?
+    } else {
+        bytes_of_file(rt, section)?
+    };
     words_of_bytes(rt.alloc(), bytes.as_slice())
+}
+
+/// The words of a section of a file or of standard input, little-endian. A file that can seek is read from the
+/// section's begin on, so that `/proc/PID/mem` can be read.
+///
+/// The fault names the file and the cause: `Unopened` if it cannot be opened, `Unread` if a read fails, `TooLarge` if
+/// the section has more than 16,777,984 bytes, `TooShort` if the file ends before it does, `NotWords` if the last word
+/// is not whole, and `OutOfMemory`.
+pub fn section_words<'a, R: AllocGlobal + Files + Input>(
+    rt: &R,
+    section: Section<'a>,
+) -> Result<Vec<u64>, InputFault<'a>> {
+    match words_of(rt, section) {
+        Ok(words) => Ok(words),
+        Err(cause) => Err(InputFault {
+            file: section.file,
+            cause,
+        }),
+    }
 }

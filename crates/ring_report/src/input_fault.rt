@@ -1,35 +1,53 @@
 //! Why no words were read.
-use std::alloc::{AllocError, AllocFailed};
-use thiserror::Error;
+use std::fmt;
+use std::io::ErrorKind;
 
-/// Why no words were read.
-#[derive(Clone, Copy, Debug, PartialEq, Eq, Error)]
-pub enum InputFault {
-    /// A file is not there, or a read failed.
-    #[error("a file cannot be read")]
-    Unread,
+/// Why no words of a file were read.
+#[derive(Clone, Copy, Debug, PartialEq, Eq)]
+pub enum Cause {
+    /// The file cannot be opened.
+    Unopened(ErrorKind),
+    /// A read failed, or the file cannot go to the place at which the section begins.
+    Unread(ErrorKind),
     /// The section has more bytes than the largest ring.
-    #[error("the section is too large: at most 16777984 bytes are read")]
     TooLarge,
     /// The section lies beyond the end of the file.
-    #[error("the file ends before the section does")]
     TooShort,
     /// The section is not made of words of 8 bytes.
-    #[error("the section is not made of words of 8 bytes")]
     NotWords,
-    /// Memory is wanting.
-    #[error("out of memory")]
+    /// Memory ran out.
     OutOfMemory,
 }
 
-impl From<AllocError> for InputFault {
-    fn from(_error: AllocError) -> InputFault {
-        InputFault::OutOfMemory
+/// Why no words were read, and of which file: `-` is standard input.
+#[derive(Clone, Copy, Debug, PartialEq, Eq)]
+pub struct InputFault<'a> {
+    pub file: &'a str,
+    pub cause: Cause,
+}
+
+/// What the system said, as people say it.
+fn reason(kind: ErrorKind) -> &'static str {
+    match kind {
+        ErrorKind::NotFound => "no such file",
+        ErrorKind::PermissionDenied => "permission denied",
+        ErrorKind::IsADirectory => "it is a folder",
+        ErrorKind::NotADirectory => "a part of its path is no folder",
+        _ => "the system cannot read there",
     }
 }
 
-impl<T: Drop> From<AllocFailed<T>> for InputFault {
-    fn from(_error: AllocFailed<T>) -> InputFault {
-        InputFault::OutOfMemory
+impl<'a> fmt::Display for InputFault<'a> {
+    fn fmt<W: fmt::Write>(&self, f: &mut fmt::Formatter<W>) -> fmt::Result {
+        let file = self.file;
+        let text = match self.cause {
+            Cause::Unopened(kind) => return write!(f, "cannot open {file}: {}", reason(kind)),
+            Cause::Unread(kind) => return write!(f, "cannot read {file}: {}", reason(kind)),
+            Cause::TooLarge => "the section is too large: at most 16777984 bytes are read",
+            Cause::TooShort => "the file ends before the section does",
+            Cause::NotWords => "the section is not made of words of 8 bytes",
+            Cause::OutOfMemory => "out of memory",
+        };
+        write!(f, "{file}: {text}")
     }
 }

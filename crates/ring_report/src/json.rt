@@ -36,27 +36,36 @@ fn texts_value(alloc: Global, texts: &[String]) -> Result<Value, AllocError> {
     Ok(Value::from(values))
 }
 
+fn add_fields(
+    object: &mut Map<String, Value>,
+    alloc: Global,
+    fields: &[Field],
+) -> Result<(), AllocError> {
+    for field in fields {
+        put(object, alloc, field.name, value_of(alloc, &field.value)?)?;
+    }
+    Ok(())
+}
+
 /// An object with the fields.
 fn object_of(alloc: Global, fields: &[Field]) -> Result<Map<String, Value>, AllocError> {
     let mut object = Map::new(alloc);
-    for field in fields {
-        put(
-            &mut object,
-            alloc,
-            field.name,
-            value_of(alloc, &field.value)?,
-        )?;
-    }
+    add_fields(&mut object, alloc, fields)?;
     Ok(object)
 }
 
 impl Report {
-    /// The report as an object of JSON, on lines of its own: what it is, its fields, the list and the findings.
+    /// The report as an object of JSON, on lines of its own: what it is, its fields and details, how many of each kind
+    /// there are, the list, how many rows were left out, and the findings.
     pub fn to_json(&self, alloc: Global) -> Result<String, AllocError> {
         let kind = Value::try_from_str(alloc, self.kind)?;
         let rows = rows_value(alloc, self.columns.as_slice(), self.rows.as_slice())?;
         let findings = texts_value(alloc, self.findings.as_slice())?;
+        let counts = object_of(alloc, self.counts.as_slice())?;
         let mut object = object_of(alloc, self.fields.as_slice())?;
+        add_fields(&mut object, alloc, self.details.as_slice())?;
+        put(&mut object, alloc, "counts", Value::from(counts))?;
+        put(&mut object, alloc, "unlisted", Value::from(self.unlisted))?;
         put(&mut object, alloc, "kind", kind)?;
         put(&mut object, alloc, self.list, rows)?;
         put(&mut object, alloc, "findings", findings)?;

@@ -1,8 +1,8 @@
 //! What lies in a ring, a board or counters, as a report: from a copy of their memory, read
-//! from a file or given as words, to a table that a person reads, or JSON.
+//! from a file or given as words, to a table that a person reads, JSON, or Prometheus' text.
 //!
 //! - `ring`, `board`, `counters`: the report of each. `records`: the lists that the first two have in common.
-//! - `report`: what is shown. `table` and `json` print it; `picture` and `bodies` are parts of it.
+//! - `report`: what is shown. `table`, `json` and `prometheus` print it; `picture` and `bodies` are parts of it.
 //! - `input`, `input_fault`: a section of a file, as words. `view`: what is wanted of a report.
 #![tactic(auto)]
 
@@ -13,6 +13,7 @@ mod input;
 mod input_fault;
 mod json;
 mod picture;
+mod prometheus;
 mod records;
 mod report;
 mod ring;
@@ -20,6 +21,6 @@ mod table;
 mod view;
 
 pub use input::{Section, section_words, words_of_bytes};
-pub use input_fault::InputFault;
+pub use input_fault::{Cause, InputFault};
 pub use report::{Cell, Column, Field, Report};
 pub use view::{Bodies, View};

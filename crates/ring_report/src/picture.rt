@@ -5,7 +5,7 @@ use std::alloc::{AllocError, Global};
 const MAX_WIDTH: u32 = 64;
 
 /// What a piece of the buffer is shown as, the weakest first: of two the stronger one is shown.
-#[derive(Clone, Copy, Debug, PartialEq, Eq, PartialOrd, Ord)]
+#[derive(Clone, Copy, PartialEq, Eq, PartialOrd, Ord)]
 pub enum Mark {
     Free,
     AbortedOrPadding,
@@ -31,7 +31,7 @@ impl Mark {
 }
 
 /// A buffer in equal pieces.
-#[derive(Debug, Drop)]
+#[derive(Drop)]
 pub struct Picture {
     capacity: u32,
     width: u32,

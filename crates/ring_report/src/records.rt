@@ -3,8 +3,8 @@ ghost use Rattle.std.specs.Iterator.{IsFinite};
 
 use crate::bodies;
 use crate::picture::{Mark, Picture};
-use crate::report::{Cell, Report, columns, fields};
-use crate::view::Bodies;
+use crate::report::{Cell, Field, Report, columns, fields};
+use crate::view::{Bodies, View};
 use ring_layout::align8;
 use ring_snapshot::Body;
 use std::alloc::{AllocError, Global};
@@ -59,7 +59,7 @@ impl<'a> Shown<'a> {
 }
 
 /// How many records there are of each mark.
-#[derive(Clone, Copy, Debug, Default)]
+#[derive(Clone, Copy, Default)]
 pub struct Tally {
     pub committed: u32,
     pub lapped: u32,
@@ -95,21 +95,37 @@ impl Tally {
 pub struct Listed {
     capacity: u32,
     bodies: Bodies,
+    /// How many rows are listed at most.
+    limit: u64,
     picture: Picture,
     tally: Tally,
     rows: Vec<Vec<Cell>>,
+    unlisted: u64,
     findings: Vec<String>,
+}
+
+/// What the records say of the whole.
+#[derive(Drop)]
+pub struct Whole {
+    /// How many of each kind there are.
+    pub counts: Vec<Field>,
+    /// Further numbers.
+    pub details: Vec<Field>,
+    /// All of it in one line.
+    pub summary: String,
 }
 
 impl Listed {
     /// Nothing yet of a buffer.
-    pub fn new(alloc: Global, capacity: u32, bodies: Bodies) -> Result<Listed, AllocError> {
+    pub fn new(alloc: Global, capacity: u32, view: View) -> Result<Listed, AllocError> {
         Ok(Listed {
             capacity,
-            bodies,
+            bodies: view.bodies,
+            limit: view.limit.unwrap_or(u64::MAX),
             picture: Picture::new(alloc, capacity)?,
             tally: Tally::default(),
             rows: Vec::new(alloc),
+            unlisted: 0,
             findings: Vec::new(alloc),
         })
     }
@@ -128,6 +144,10 @@ impl Listed {
     fn add(&mut self, alloc: Global, shown: Shown<'_>) -> Result<(), AllocError> {
         self.mark(shown.index, shown.length, shown.mark);
         self.tally.add(shown.mark, shown.place);
+        if self.rows.len() as u64 >= self.limit {
+            self.unlisted = self.unlisted.saturating_add(1);
+            return Ok(());
+        }
         let row = shown.row(alloc, self.bodies)?;
         self.rows.push(row)?;
         Ok(())
@@ -170,8 +190,13 @@ impl Listed {
         kind: &'static str,
         named: &[(&'static str, u64)],
         signs: &[(char, u64)],
-        summary: String,
+        whole: Whole,
     ) -> Result<Report, AllocError> {
+        let Whole {
+            counts,
+            details,
+            summary,
+        } = whole;
         Ok(Report {
             kind,
             fields: fields(alloc, named)?,
@@ -179,6 +204,9 @@ impl Listed {
             list: "records",
             columns: columns(alloc, COLUMNS.as_slice(), self.bodies, "body")?,
             rows: self.rows,
+            unlisted: self.unlisted,
+            counts,
+            details,
             summary,
             findings: self.findings,
         })

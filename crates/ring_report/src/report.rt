@@ -49,6 +49,12 @@ pub struct Report {
     pub columns: Vec<Column>,
     /// The list's rows, each with a cell for each column.
     pub rows: Vec<Vec<Cell>>,
+    /// How many rows were left out, since no more were to be listed.
+    pub unlisted: u64,
+    /// How many of each kind there are.
+    pub counts: Vec<Field>,
+    /// What the records say of the whole.
+    pub details: Vec<Field>,
     /// How many of each kind there are, in one line.
     pub summary: String,
     /// What is wrong with the memory, one text each.
@@ -73,6 +79,9 @@ impl Report {
             list,
             columns: Vec::new(alloc),
             rows: Vec::new(alloc),
+            unlisted: 0,
+            counts: Vec::new(alloc),
+            details: Vec::new(alloc),
             summary: String::from_str(alloc, summary)?,
             findings,
         })
@@ -86,6 +95,24 @@ pub fn fields(alloc: Global, named: &[(&'static str, u64)]) -> Result<Vec<Field>
         fields.push(Field {
             name: *name,
             value: Cell::Unsigned(*value),
+        })?;
+    }
+    Ok(fields)
+}
+
+/// Numbers that there may be, each with its name.
+pub fn details(
+    alloc: Global,
+    named: &[(&'static str, Option<u64>)],
+) -> Result<Vec<Field>, AllocError> {
+    let mut fields = Vec::new(alloc);
+    for (name, value) in named {
+        fields.push(Field {
+            name: *name,
+            value: match value {
+                Some(value) => Cell::Unsigned(*value),
+                None => Cell::Nothing,
+            },
         })?;
     }
     Ok(fields)

@@ -1,7 +1,7 @@
 //! The report of a ring.
 use crate::picture::Mark;
-use crate::records::{Listed, Shown, Tally};
-use crate::report::Report;
+use crate::records::{Listed, Shown, Tally, Whole};
+use crate::report::{Report, details, fields};
 use crate::view::View;
 use ring_layout::byte_index;
 use ring_snapshot::{Record, RecordState, RingSnapshot};
@@ -42,6 +42,12 @@ impl<'a> From<Record<'a>> for Shown<'a> {
     }
 }
 
+/// How many bytes are free: `None` if head and tail make no sense.
+fn free(ring: &RingSnapshot<'_>) -> Option<u64> {
+    let used = ring.tail().checked_sub(ring.head())?;
+    u64::from(ring.capacity()).checked_sub(used)
+}
+
 fn summary(alloc: Global, ring: &RingSnapshot<'_>, tally: Tally) -> Result<String, AllocError> {
     let Tally {
         committed,
@@ -57,14 +63,29 @@ fn summary(alloc: Global, ring: &RingSnapshot<'_>, tally: Tally) -> Result<Strin
     if unstored {
         text.push_str(", then headers not yet stored")?;
     }
-    let used = ring.tail().checked_sub(ring.head());
-    if let Some(free) = used.and_then(|used| u64::from(ring.capacity()).checked_sub(used)) {
+    if let Some(free) = free(ring) {
         text.push_str(format!(in alloc; "; {free} of {} bytes free", ring.capacity())?.as_str())?;
     }
     if let Some(place) = blocked {
         text.push_str(format!(in alloc; "; blocked at {place}")?.as_str())?;
     }
     Ok(text)
+}
+
+fn whole(alloc: Global, ring: &RingSnapshot<'_>, tally: Tally) -> Result<Whole, AllocError> {
+    let counts = [
+        ("committed", u64::from(tally.committed)),
+        ("open", u64::from(tally.open)),
+        ("aborted_or_padding", u64::from(tally.passed)),
+    ];
+    Ok(Whole {
+        counts: fields(alloc, &counts)?,
+        details: details(
+            alloc,
+            &[("blocked_at", tally.blocked), ("free", free(ring))],
+        )?,
+        summary: summary(alloc, ring, tally)?,
+    })
 }
 
 /// The numbers of the whole, with their names.
@@ -90,7 +111,7 @@ fn signs(ring: &RingSnapshot<'_>) -> [(char, u64); 2] {
 
 /// The records from the head on, or from a position on.
 fn list(alloc: Global, ring: &RingSnapshot<'_>, view: View) -> Result<Listed, AllocError> {
-    let mut listed = Listed::new(alloc, ring.capacity(), view.bodies)?;
+    let mut listed = Listed::new(alloc, ring.capacity(), view)?;
     match ring.records_from(view.from.unwrap_or(ring.head())) {
         Ok(records) => listed.gather(alloc, records)?,
         Err(finding) => listed.find(alloc, finding)?,
@@ -107,7 +128,7 @@ impl Report {
             Err(finding) => return Report::refused(alloc, "ring", "records", "not a ring", finding),
         };
         let listed = list(alloc, &ring, view)?;
-        let summary = summary(alloc, &ring, listed.tally())?;
-        listed.report(alloc, "ring", &numbers(&ring), &signs(&ring), summary)
+        let whole = whole(alloc, &ring, listed.tally())?;
+        listed.report(alloc, "ring", &numbers(&ring), &signs(&ring), whole)
     }
 }

@@ -121,7 +121,7 @@ fn push_list(alloc: Global, text: &mut String, report: &Report) -> Result<(), Al
 
 impl Report {
     /// The report as a table: a line of what holds of the whole, the picture of a buffer, the list with the names of
-    /// its columns, and the summary. The findings are not in it.
+    /// its columns, how many rows were left out, and the summary. The findings are not in it.
     pub fn to_table(&self, alloc: Global) -> Result<String, AllocError> {
         let mut text = String::new(alloc);
         push_fields(alloc, &mut text, self)?;
@@ -131,6 +131,9 @@ impl Report {
         }
         if !self.rows.is_empty() {
             push_list(alloc, &mut text, self)?;
+        }
+        if self.unlisted > 0 {
+            writeln!(text, "({} more)", self.unlisted)?;
         }
         text.push_str(self.summary.as_str())?;
         text.push('\n')?;

@@ -19,4 +19,6 @@ pub struct View {
     pub from: Option<u64>,
     /// How bytes are shown. Labels are shown as text all the same.
     pub bodies: Bodies,
+    /// How many records or counters are listed at most. All are counted.
+    pub limit: Option<u64>,
 }

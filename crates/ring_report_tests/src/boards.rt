@@ -15,6 +15,7 @@ fn report_of(alloc: Global, intent: u64, from: Option<u64>) -> Result<Report, Fa
     let view = View {
         from,
         bodies: Bodies::Text,
+        limit: None,
     };
     Ok(Report::of_board(alloc, words.as_slice(), view)?)
 }
@@ -95,12 +96,37 @@ fn sums_up_a_transmission_that_runs(rt: HostRuntime) -> Result<(), Fail> {
 }
 
 #[test]
+fn shows_metrics(rt: HostRuntime) -> Result<(), Fail> {
+    let text = report_of(rt.alloc(), 360, None)?.to_prometheus(rt.alloc())?;
+    assert_eq!(rt;
+        text.as_str(),
+        "\
+# HELP felter_broadcast_capacity_bytes The bytes of the broadcast buffer.
+# TYPE felter_broadcast_capacity_bytes gauge
+felter_broadcast_capacity_bytes 256
+# HELP felter_broadcast_position_bytes The bytes that were transmitted in all: the tail.
+# TYPE felter_broadcast_position_bytes counter
+felter_broadcast_position_bytes 360
+# HELP felter_findings How many findings the memory has.
+# TYPE felter_findings gauge
+felter_findings 0
+"
+    );
+    Ok(())
+}
+
+#[test]
 fn shows_json(rt: HostRuntime) -> Result<(), Fail> {
     let text = report_of(rt.alloc(), 360, Some(336))?.to_json(rt.alloc())?;
     assert_eq!(rt;
         text.as_str(),
         r#"{
   "capacity": 256,
+  "counts": {
+    "lapped": 0,
+    "padding": 0,
+    "valid": 1
+  },
   "findings": [],
   "kind": "board",
   "latest": 336,
@@ -115,7 +141,8 @@ fn shows_json(rt: HostRuntime) -> Result<(), Fail> {
     }
   ],
   "tail": 360,
-  "tail_intent": 360
+  "tail_intent": 360,
+  "unlisted": 0
 }
 "#
     );

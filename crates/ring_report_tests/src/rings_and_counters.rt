@@ -10,6 +10,7 @@ use std::test::Fail;
 static WHOLE: View = View {
     from: None,
     bodies: Bodies::Text,
+    limit: None,
 };
 
 /// The words of a ring with one record and a tail of 32: behind the record stands a length of 5.
@@ -35,11 +36,18 @@ fn shows_a_ring(rt: HostRuntime) -> Result<(), Fail> {
     assert_eq!(rt;
         text.as_str(),
         r#"{
+  "blocked_at": null,
   "capacity": 128,
   "correlation": 0,
+  "counts": {
+    "aborted_or_padding": 0,
+    "committed": 1,
+    "open": 0
+  },
   "findings": [
     "BadLength at 16: length 5"
   ],
+  "free": 96,
   "head": 0,
   "head_cache": 0,
   "heartbeat": 0,
@@ -54,9 +62,31 @@ fn shows_a_ring(rt: HostRuntime) -> Result<(), Fail> {
       "type": 7
     }
   ],
-  "tail": 32
+  "tail": 32,
+  "unlisted": 0
 }
 "#
+    );
+    Ok(())
+}
+
+#[test]
+fn lists_no_more_than_the_limit(rt: HostRuntime) -> Result<(), Fail> {
+    let words = wrong_words(rt.alloc())?;
+    let view = View {
+        from: None,
+        bodies: Bodies::Text,
+        limit: Some(0),
+    };
+    let text = Report::of_ring(rt.alloc(), words.as_slice(), view)?.to_table(rt.alloc())?;
+    assert_eq!(rt;
+        text.as_str(),
+        "\
+ring  capacity 128  head 0  tail 32  head_cache 0  correlation 0  heartbeat 0
+[H==..T............]
+(1 more)
+1 committed, 0 open, 0 aborted or padding; 96 of 128 bytes free
+"
     );
     Ok(())
 }
@@ -73,6 +103,23 @@ fn counters_report(alloc: Global) -> Result<Report, Fail> {
     let numbers = bytes_of(alloc, &CounterValueWords(&manager))?;
     let numbers = words_of_bytes(alloc, numbers.as_slice())?;
     Ok(Report::of_counters(alloc, metadata.as_slice(), numbers.as_slice(), WHOLE)?)
+}
+
+#[test]
+fn shows_metrics_of_counters(rt: HostRuntime) -> Result<(), Fail> {
+    let text = counters_report(rt.alloc())?.to_prometheus(rt.alloc())?;
+    assert_eq!(rt;
+        text.as_str(),
+        "\
+# HELP felter_counter The value of a counter in use.
+# TYPE felter_counter gauge
+felter_counter{id=\"0\",type=\"5\",label=\"errors\",owner=\"0\"} -2
+# HELP felter_findings How many findings the memory has.
+# TYPE felter_findings gauge
+felter_findings 0
+"
+    );
+    Ok(())
 }
 
 #[test]
@@ -94,9 +141,14 @@ fn shows_counters(rt: HostRuntime) -> Result<(), Fail> {
       "value": -2
     }
   ],
+  "counts": {
+    "freed": 0,
+    "in_use": 1
+  },
   "findings": [],
   "ids": 2,
-  "kind": "counters"
+  "kind": "counters",
+  "unlisted": 0
 }
 "#
     );

@@ -4,33 +4,39 @@ use std::alloc::{AllocError, AllocFailed};
 use thiserror::Error;
 
 /// Why nothing was shown.
-#[derive(Clone, Copy, Debug, PartialEq, Eq, Error)]
-pub enum ShowFault {
+#[derive(Clone, Copy, Debug, Error)]
+pub enum ShowFault<'a> {
     /// No words were read.
     #[error("{0}")]
-    Input(InputFault),
+    Input(InputFault<'a>),
+    /// The value of an option is not a number of bytes.
+    #[error("--{option} {value}: a number of bytes is decimal, or hexadecimal after 0x")]
+    NotBytes { option: &'a str, value: &'a str },
+    /// An argument cannot be read.
+    #[error("an argument is not UTF-8")]
+    NotUtf8,
     /// A write failed.
     #[error("output cannot be written")]
     OutputUnwritten,
-    /// Memory is wanting.
+    /// Memory ran out.
     #[error("out of memory")]
     OutOfMemory,
 }
 
-impl From<InputFault> for ShowFault {
-    fn from(fault: InputFault) -> ShowFault {
+impl<'a> From<InputFault<'a>> for ShowFault<'a> {
+    fn from(fault: InputFault<'a>) -> ShowFault<'a> {
         ShowFault::Input(fault)
     }
 }
 
-impl From<AllocError> for ShowFault {
-    fn from(_error: AllocError) -> ShowFault {
+impl<'a> From<AllocError> for ShowFault<'a> {
+    fn from(_error: AllocError) -> ShowFault<'a> {
         ShowFault::OutOfMemory
     }
 }
 
-impl<T: Drop> From<AllocFailed<T>> for ShowFault {
-    fn from(_error: AllocFailed<T>) -> ShowFault {
+impl<'a, T: Drop> From<AllocFailed<T>> for ShowFault<'a> {
+    fn from(_error: AllocFailed<T>) -> ShowFault<'a> {
         ShowFault::OutOfMemory
     }
 }

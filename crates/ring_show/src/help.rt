@@ -1,7 +1,7 @@
 //! The texts of the help.
 
 pub const ABOUT: &str =
-    "Shows what lies in a ring, a board or counters, from a copy of their memory in a file.";
+    "Shows what lies in a ring, a board or counters, from a copy of their memory or from a running program.";
 
 pub const RING: &str = "Lists the records of a ring between its head and its tail";
 
@@ -18,9 +18,9 @@ pub const VALUES_AT: &str = "Where the copy of the values begins in its file [de
 
 pub const FROM_ID: &str = "List from this id on";
 
-pub const FILE: &str = "The file with the copy";
+pub const FILE: &str = "The file with the copy; - is standard input";
 
-pub const AT: &str = "Where the copy begins in the file [default: 0]";
+pub const AT: &str = "Where the copy begins in the file, in bytes, decimal or 0x.. [default: 0]";
 
 pub const LENGTH: &str = "How many bytes it has [default: up to the end of the file]";
 
@@ -28,7 +28,9 @@ pub const FROM: &str = "List from this position on, the begin of a record";
 
 pub const BODIES: &str = "How bytes are shown";
 
-pub const FORMAT: &str = "A table, or JSON";
+pub const LIMIT: &str = "List so many at most; all are counted";
+
+pub const FORMAT: &str = "A table, JSON, or the text format of Prometheus";
 
 pub const AFTER: &str = "\
 The copy is words of 64 bits, little-endian, in the layout of Agrona's buffers.
@@ -37,6 +39,9 @@ The line below the positions is a picture of the buffer, from its first byte to 
   a ring:  H head   T tail   = committed   O open   x aborted   - aborted, or padding   ? header not yet stored   . free
   a board: L latest   T tail   I tail intent   = valid   ~ lapped   - padding   . not listed
 
+A file may be /proc/PID/mem, with the address as --at: what a running program has is then shown as it was while it was
+read.
+
 What is wrong with the memory stands on standard error, one finding a line.
 
-Status: 0, 1 where the memory has a finding, 2 where the command line was refused or nothing could be read.";
+Status: 0, 1 if the memory has a finding, 2 if the command line was refused or nothing could be read.";

@@ -1,5 +1,5 @@
-//! Shows what lies in a ring, a board or counters: reads a copy of their memory from files,
-//! and prints a table that a person reads, or JSON.
+//! Shows what lies in a ring, a board or counters: reads a copy of their memory, or that of a running program, and
+//! prints a table that a person reads, JSON, or the text format of Prometheus.
 #![tactic(auto)]
 
 mod fault;
@@ -10,55 +10,64 @@ use fault::ShowFault;
 use options::{Format, Options, Subject};
 use ring_report::{Report, section_words};
 use std::env::Env;
-use std::io::Write;
+use std::io::{ErrorKind, Input, Write};
 use std::process::ExitCode;
 use std::rt::Files;
 use std::{env, io};
 
-/// The status where the memory has a finding.
+/// The status if the memory has a finding.
 const FINDING: u8 = 1;
 
-/// The status where nothing was shown.
+/// The status if nothing was shown.
 const FAULT: u8 = 2;
 
 fn main(rt: HostRuntime) -> ExitCode {
-    match run(&rt) {
+    let words = match words_of(&rt) {
+        Ok(words) => words,
+        Err(fault) => return failed(&rt, fault),
+    };
+    match run(&rt, words.as_slice()) {
         Ok(code) => code,
-        Err(fault) => {
-            let _ = eprintln!(rt; "ring-show: {fault}");
-            ExitCode::from(FAULT)
-        }
+        Err(fault) => failed(&rt, fault),
+    }
+}
+
+/// Prints why nothing was shown.
+fn failed(rt: &impl Eprint, fault: ShowFault<'_>) -> ExitCode {
+    let _ = eprintln!(rt; "ring-show: {fault}");
+    ExitCode::from(FAULT)
+}
+
+/// The words of the command line.
+fn words_of<R: AllocGlobal + Env>(rt: &R) -> Result<Vec<String>, ShowFault<'static>> {
+    match env::args(rt) {
+        Ok(arguments) => Ok(arguments.collect(rt.alloc())?),
+        Err(error) if error.kind() == ErrorKind::InvalidData => Err(ShowFault::NotUtf8),
+        Err(_out_of_memory) => Err(ShowFault::OutOfMemory),
     }
 }
 
 /// Parses the arguments, and shows what they name.
-fn run<R: AllocGlobal + Env + Files + Print + Eprint>(rt: &R) -> Result<ExitCode, ShowFault> {
-    let alloc = rt.alloc();
-    let arguments = env::args(rt).map_err(|_| ShowFault::OutOfMemory)?;
-    let words: Vec<String> = arguments.collect(alloc)?;
-    let options = match options::parse(alloc, words.as_slice()) {
-        Ok(options) => options,
-        Err(error) => {
-            let _ = error.print(rt);
-            return Ok(ExitCode::from(error.exit_code() as u8));
-        }
-    };
-    show(rt, &options)
+fn run<'a, R: AllocGlobal + Files + Input + Print + Eprint>(
+    rt: &R,
+    words: &'a [String],
+) -> Result<ExitCode, ShowFault<'a>> {
+    match options::parse(rt.alloc(), words) {
+        Ok((name, matches)) => show(rt, options::options_of(name, &matches)?),
+        Err(error) => match error.print(rt) {
+            Ok(()) => Ok(ExitCode::from(error.exit_code() as u8)),
+            Err(_) => Err(ShowFault::OutputUnwritten),
+        },
+    }
 }
 
 /// Prints what lies in the files, and then what is wrong with it.
-fn show<R: AllocGlobal + Files + Print + Eprint>(
+fn show<'a, R: AllocGlobal + Files + Input + Print + Eprint>(
     rt: &R,
-    options: &Options<'_>,
-) -> Result<ExitCode, ShowFault> {
+    options: Options<'a>,
+) -> Result<ExitCode, ShowFault<'a>> {
     let report = report_of(rt, options)?;
-    let text = match options.format {
-        Format::Table => report.to_table(rt.alloc())?,
-        Format::Json => report.to_json(rt.alloc())?,
-    };
-    let mut output = io::writer(rt);
-    let written = output.write_all(text.as_bytes());
-    written.map_err(|_| ShowFault::OutputUnwritten)?;
+    print_report(rt, &report, options.format)?;
     for finding in report.findings.iter() {
         let _ = eprintln!(rt; "{finding}");
     }
@@ -69,22 +78,41 @@ fn show<R: AllocGlobal + Files + Print + Eprint>(
     })
 }
 
+fn print_report<R: AllocGlobal + Print>(
+    rt: &R,
+    report: &Report,
+    format: Format,
+) -> Result<(), ShowFault<'static>> {
+    let text = match format {
+        Format::Table => report.to_table(rt.alloc())?,
+        Format::Json => report.to_json(rt.alloc())?,
+        Format::Prometheus => report.to_prometheus(rt.alloc())?,
+    };
+    let mut output = io::writer(rt);
+    output
+        .write_all(text.as_bytes())
+        .or(Err(ShowFault::OutputUnwritten))
+}
+
 /// Reads the files, and says what lies in them.
-fn report_of<R: AllocGlobal + Files>(rt: &R, options: &Options<'_>) -> Result<Report, ShowFault> {
+fn report_of<'a, R: AllocGlobal + Files + Input>(
+    rt: &R,
+    options: Options<'a>,
+) -> Result<Report, ShowFault<'a>> {
     let (alloc, view) = (rt.alloc(), options.view);
-    Ok(match options.subject {
+    match options.subject {
         Subject::Ring(section) => {
             let words = section_words(rt, section)?;
-            Report::of_ring(alloc, words.as_slice(), view)?
+            Ok(Report::of_ring(alloc, words.as_slice(), view)?)
         }
         Subject::Board(section) => {
             let words = section_words(rt, section)?;
-            Report::of_board(alloc, words.as_slice(), view)?
+            Ok(Report::of_board(alloc, words.as_slice(), view)?)
         }
         Subject::Counters { metadata, values } => {
             let metadata = section_words(rt, metadata)?;
             let values = section_words(rt, values)?;
-            Report::of_counters(alloc, metadata.as_slice(), values.as_slice(), view)?
+            Ok(Report::of_counters(alloc, metadata.as_slice(), values.as_slice(), view)?)
         }
-    })
+    }
 }

@@ -1,11 +1,12 @@
 //! The command line.
+use crate::fault::ShowFault;
 use crate::help;
 use clap::{Arg, ArgAction, ArgMatches, Command, Error, value_parser};
 use ring_report::{Bodies, Section, View};
 use std::alloc::Global;
 
 /// What is shown, and where its memory lies.
-#[derive(Clone, Copy, Debug)]
+#[derive(Clone, Copy)]
 pub enum Subject<'a> {
     Ring(Section<'a>),
     Board(Section<'a>),
@@ -16,14 +17,15 @@ pub enum Subject<'a> {
 }
 
 /// What is printed.
-#[derive(Clone, Copy, Debug, PartialEq, Eq)]
+#[derive(Clone, Copy)]
 pub enum Format {
     Table,
     Json,
+    Prometheus,
 }
 
 /// A command line that was taken.
-#[derive(Clone, Copy, Debug)]
+#[derive(Clone, Copy)]
 pub struct Options<'a> {
     pub subject: Subject<'a>,
     pub view: View,
@@ -32,15 +34,18 @@ pub struct Options<'a> {
 
 static BODIES: [&str; 3] = ["hex", "text", "none"];
 
-static FORMATS: [&str; 2] = ["table", "json"];
+static FORMATS: [&str; 3] = ["table", "json", "prometheus"];
 
-fn number<'a>(alloc: Global, name: &'a str, value: &'a str, text: &'a str) -> Arg<'a> {
+fn option<'a>(alloc: Global, name: &'a str, value: &'a str, text: &'a str) -> Arg<'a> {
     Arg::new(alloc, name)
         .long(name)
         .value_name(value)
         .action(ArgAction::Set)
-        .value_parser(value_parser!(u64))
         .help(text)
+}
+
+fn number<'a>(alloc: Global, name: &'a str, value: &'a str, text: &'a str) -> Arg<'a> {
+    option(alloc, name, value, text).value_parser(value_parser!(u64))
 }
 
 fn choice<'a>(alloc: Global, name: &'a str, choices: &'a [&'a str], text: &'a str) -> Arg<'a> {
@@ -62,8 +67,9 @@ fn file<'a>(alloc: Global, name: &'a str, text: &'a str) -> Arg<'a> {
 fn shown<'a>(alloc: Global, name: &'a str, about: &'a str) -> Result<Command<'a>, Error> {
     let command = Command::new(alloc, name)
         .about(about)
-        .arg(number(alloc, "at", "BYTES", help::AT))?
-        .arg(number(alloc, "length", "BYTES", help::LENGTH))?
+        .arg(option(alloc, "at", "BYTES", help::AT))?
+        .arg(option(alloc, "length", "BYTES", help::LENGTH))?
+        .arg(number(alloc, "limit", "N", help::LIMIT))?
         .arg(choice(alloc, "bodies", BODIES.as_slice(), help::BODIES).default_value("hex"))?
         .arg(choice(alloc, "format", FORMATS.as_slice(), help::FORMAT).default_value("table"))?;
     Ok(command)
@@ -77,54 +83,90 @@ fn listed<'a>(alloc: Global, name: &'a str, about: &'a str) -> Result<Command<'a
     Ok(command)
 }
 
-fn command<'a>(alloc: Global) -> Result<Command<'a>, Error> {
-    let ring = listed(alloc, "ring", help::RING)?;
-    let board = listed(alloc, "board", help::BOARD)?;
-    let counters = shown(alloc, "counters", help::COUNTERS)?
+/// The subcommand that lists counters.
+fn counted<'a>(alloc: Global) -> Result<Command<'a>, Error> {
+    let command = shown(alloc, "counters", help::COUNTERS)?
         .arg(file(alloc, "METADATA", help::METADATA))?
         .arg(file(alloc, "VALUES", help::VALUES))?
-        .arg(number(alloc, "values-at", "BYTES", help::VALUES_AT))?
-        .arg(number(alloc, "values-length", "BYTES", help::LENGTH))?
+        .arg(option(alloc, "values-at", "BYTES", help::VALUES_AT))?
+        .arg(option(alloc, "values-length", "BYTES", help::LENGTH))?
         .arg(number(alloc, "from", "ID", help::FROM_ID))?;
+    Ok(command)
+}
+
+fn command<'a>(alloc: Global) -> Result<Command<'a>, Error> {
     let command = Command::new(alloc, "ring-show")
         .bin_name("ring-show")?
         .about(help::ABOUT)
         .after_help(help::AFTER)
         .subcommand_required(true)
-        .subcommand(ring)?
-        .subcommand(board)?
-        .subcommand(counters)?;
+        .subcommand(listed(alloc, "ring", help::RING)?)?
+        .subcommand(listed(alloc, "board", help::BOARD)?)?
+        .subcommand(counted(alloc)?)?;
     Ok(command)
 }
 
-/// Parses the words of a command line, the program's name first.
-pub fn parse<'a>(alloc: Global, words: &'a [String]) -> Result<Options<'a>, Error> {
+/// The name of the subcommand, and its arguments, from the words of a command line, the program's name first.
+pub fn parse<'a>(alloc: Global, words: &'a [String]) -> Result<(&'a str, ArgMatches<'a>), Error> {
     let mut matches = command(alloc)?.try_get_matches_from(words)?;
     match matches.remove_subcommand() {
-        Some((name, inner)) => Ok(options_of(name, &inner)),
-        None => Ok(options_of("", &matches)),
+        Some((name, inner)) => Ok((name, inner)),
+        None => Ok(("", matches)),
+    }
+}
+
+/// The number that a text spells, decimal or hexadecimal after `0x`.
+fn bytes_of(text: &str) -> Option<u64> {
+    let parsed = match text.strip_prefix("0x") {
+        Some(digits) => u64::from_str_radix(digits, 16),
+        None => text.parse(),
+    };
+    parsed.ok()
+}
+
+/// The number of bytes that an option has, if it is there.
+fn bytes<'a>(matches: &ArgMatches<'a>, name: &'static str) -> Result<Option<u64>, ShowFault<'a>> {
+    let Some(text) = matches.get_str(name) else {
+        return Ok(None);
+    };
+    match bytes_of(text) {
+        Some(number) => Ok(Some(number)),
+        None => Err(ShowFault::NotBytes {
+            option: name,
+            value: text,
+        }),
     }
 }
 
 /// The section that these three arguments name.
-fn named_section<'a>(matches: &ArgMatches<'a>, file: &str, at: &str, length: &str) -> Section<'a> {
-    Section {
+fn section<'a>(
+    matches: &ArgMatches<'a>,
+    file: &str,
+    at: &'static str,
+    length: &'static str,
+) -> Result<Section<'a>, ShowFault<'a>> {
+    Ok(Section {
         file: matches.get_str(file).unwrap_or(""),
-        at: matches.get_one(at).unwrap_or(0),
-        length: matches.get_one(length),
-    }
+        at: bytes(matches, at)?.unwrap_or(0),
+        length: bytes(matches, length)?,
+    })
 }
 
-fn options_of<'a>(name: &str, matches: &ArgMatches<'a>) -> Options<'a> {
-    Options {
-        subject: match name {
-            "board" => Subject::Board(named_section(matches, "FILE", "at", "length")),
-            "counters" => Subject::Counters {
-                metadata: named_section(matches, "METADATA", "at", "length"),
-                values: named_section(matches, "VALUES", "values-at", "values-length"),
-            },
-            _ => Subject::Ring(named_section(matches, "FILE", "at", "length")),
+fn subject_of<'a>(name: &str, matches: &ArgMatches<'a>) -> Result<Subject<'a>, ShowFault<'a>> {
+    Ok(match name {
+        "board" => Subject::Board(section(matches, "FILE", "at", "length")?),
+        "counters" => Subject::Counters {
+            metadata: section(matches, "METADATA", "at", "length")?,
+            values: section(matches, "VALUES", "values-at", "values-length")?,
         },
+        _ => Subject::Ring(section(matches, "FILE", "at", "length")?),
+    })
+}
+
+/// What a subcommand's arguments ask for. `NotBytes` if an offset or a length is no number.
+pub fn options_of<'a>(name: &str, matches: &ArgMatches<'a>) -> Result<Options<'a>, ShowFault<'a>> {
+    Ok(Options {
+        subject: subject_of(name, matches)?,
         view: View {
             from: matches.get_one("from"),
             bodies: match matches.get_str("bodies") {
@@ -132,10 +174,12 @@ fn options_of<'a>(name: &str, matches: &ArgMatches<'a>) -> Options<'a> {
                 Some("none") => Bodies::None,
                 _ => Bodies::Hex,
             },
+            limit: matches.get_one("limit"),
         },
         format: match matches.get_str("format") {
             Some("json") => Format::Json,
+            Some("prometheus") => Format::Prometheus,
             _ => Format::Table,
         },
-    }
+    })
 }
