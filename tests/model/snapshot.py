@@ -51,7 +51,8 @@ def list_ring(data):
         span = (abs(length) + 7) // 8 * 8
         state = "open" if length < 0 else "committed"
         if type_id == -1:
-            state = "aborted or padding" if index + span == capacity else "aborted"
+            # (padding has exactly the bytes to the end of the buffer)
+            state = "aborted or padding" if index + length == capacity else "aborted"
         records.append((place, index, state, type_id, abs(length)))
         place += span
     return records, set()
