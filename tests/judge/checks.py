@@ -86,6 +86,7 @@ class Run:
         self.wait_for_memory()
         try:
             with tempfile.TemporaryDirectory(prefix="wrong-bodies-") as room:
+                total = "" if edits else source_sum(crate)
                 own = self.copy(crate, edits, room)
                 began = time.time()
                 log, seconds = self.ran(crate, words, own, f"{self.logs or room}/{crate}-{label}.log")
@@ -94,7 +95,7 @@ class Run:
                     log, more = self.ran(crate, words, own, f"{self.logs or room}/{crate}-{label}-again.log")
                     seconds += more
                 if not edits and log.status == 0:
-                    keep(crate, own, began)
+                    keep(crate, own, total)
         finally:
             self.running -= 1
         self.seconds[crate] += seconds
@@ -151,16 +152,21 @@ class Run:
         return [undecided] if 0 < len(undecided) < len(edits) else [[it] for it in undecided]
 
 
-def keep(crate, own, began):
-    """Moves what a build made into the repository's out/."""
+def source_sum(crate):
+    """Returns the checksum by which ./build knows that a crate is built from its sources."""
+    return subprocess.run([f"{TOP}/build", "--sum", crate], stdout=subprocess.PIPE, check=True, text=True).stdout
+
+
+def keep(crate, own, total):
+    """Moves what a build made of sources with this checksum into the repository's out/."""
     for it in ("incremental", "rlib", f"lib{crate}.a"):
         made, to = f"{own}/out/{it}", f"{TOP}/crates/{crate}/out/{it}"
         if os.path.exists(made):
-            # (./build --stands compares times: a source that was changed meanwhile is newer)
-            os.utime(f"{made}/stamp" if it == "rlib" else made, (began, began))
             os.makedirs(os.path.dirname(to), exist_ok=True)
             shutil.rmtree(to, ignore_errors=True)
             shutil.move(made, to)
+    with open(f"{TOP}/crates/{crate}/out/built_from", "w", encoding="utf-8") as it:
+        it.write(total)
 
 
 def builds(run, crates):
