@@ -40,6 +40,32 @@ def changed(dice, data):
     return bytes(data)
 
 
+def at_edges(dice, data, kind):
+    """A copy with a number at or next to its limit."""
+    data = bytearray(data)
+    if kind == "ring":
+        capacity = len(data) - snapshot.TRAILER
+        head, = struct.unpack_from("<Q", data, capacity + snapshot.HEAD)
+        if dice.random() < 0.5:
+            tail = head + dice.choice((-8, 0, 8, capacity - 8, capacity, capacity + 8))
+            struct.pack_into("<Q", data, capacity + snapshot.TAIL, tail % 2**64)
+        else:
+            header = dice.choice(((-16, -1), (-8, -1), (8 + capacity // 8, 1), (9 + capacity // 8, 1), (8, 0), (7, 1)))
+            struct.pack_into("<ii", data, head % capacity // 8 * 8, *header)
+    elif kind == "board":
+        capacity = len(data) - snapshot.BOARD_TRAILER
+        intent, tail, latest = struct.unpack_from("<QQQ", data, capacity)
+        at, number = dice.choice(((0, tail + 8 * dice.randint(0, capacity // 8 + 1)), (0, latest + capacity),
+                                  (0, latest + capacity + 8), (8, latest - latest % capacity + capacity), (8, latest),
+                                  (8, intent + 8), (16, tail), (16, tail + 8)))
+        struct.pack_into("<Q", data, capacity + at, number % 2**64)
+    else:
+        number = dice.randrange(max(1, len(data) // 512))
+        at, value = dice.choice(((128, 380), (128, 381), (128, -1), (0, 2), (0, -2), (0, 0), (0, -1), (0, 1)))
+        struct.pack_into("<i", data, 512 * number + at, value)
+    return bytes(data)
+
+
 def random_ring(dice):
     """A ring of its own: records that the model places, in random states."""
     capacity = dice.choice((128, 256, 1024))
@@ -56,6 +82,10 @@ def random_ring(dice):
     struct.pack_into("<Q", data, capacity + snapshot.HEAD, head)
     struct.pack_into("<Q", data, capacity + snapshot.TAIL, place)
     return bytes(data)
+
+
+def mutated(dice, data, kind):
+    return at_edges(dice, data, kind) if dice.random() < 0.5 else changed(dice, data)
 
 
 def show(path, *words):
@@ -139,13 +169,13 @@ def run(seconds, seed):
     with tempfile.TemporaryDirectory(prefix="attack") as folder:
         one, two = os.path.join(folder, "one"), os.path.join(folder, "two")
         while clock.runs():
-            data = changed(dice, dice.choice(rings + [random_ring(dice)] * 3))
+            data = mutated(dice, dice.choice(rings + [random_ring(dice)] * 3), "ring")
             write(one, data)
             compare_ring(path, one, data)
-            data = changed(dice, dice.choice(boards))
+            data = mutated(dice, dice.choice(boards), "board")
             write(one, data)
             compare_board(path, one, data)
-            copies = [changed(dice, data) for data in counters]
+            copies = mutated(dice, counters[0], "counters"), changed(dice, counters[1])
             write(one, copies[0])
             write(two, copies[1])
             compare_counters(path, [one, two], copies)
