@@ -208,6 +208,12 @@ typedef struct felter_record {
 int32_t felter_read_batch(felter_consumer *consumer, uint32_t limit, uint32_t *count, size_t *used, void *buffer,
                           size_t room);
 
+/* Writes the messages of a batch, laid as felter_read_batch leaves them, one after another by felter_write. It stops
+ * at the first refusal, which it answers, and says how many were written, also then. FELTER_PUT_RANGE if a record does
+ * not lie inside the bytes. It is a loop of this header. */
+static inline int32_t felter_write_batch(felter_producer *producer, const void *records, size_t bytes,
+                                         uint32_t *written);
+
 /* Takes the producer of the consumer's ring, of either kind, which holds all 65,536 shares and has no open claim, into
  * the consumer, and empties the producer's handle. Nothing can be written any more. What lies in the ring stays, and
  * the consumer reads on as before. FELTER_OTHER_RING, also where the consumer took a producer in before; then

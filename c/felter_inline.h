@@ -776,6 +776,28 @@ FELTER_GUARD int32_t felter_conductor_new(uint32_t capacity, uint32_t replies, u
                                                  conductor);
 }
 
+FELTER_GUARD int32_t felter_write_batch(felter_producer *producer, const void *records, size_t bytes,
+                                        uint32_t *written) {
+    const uint8_t *at = (const uint8_t *)records;
+    if (!written || (!records && bytes)) return felter_refuse("felter_write_batch", FELTER_NULL_POINTER);
+    *written = 0;
+    while (bytes > 0) {
+        felter_record record;
+        int32_t code;
+        if (bytes < sizeof record) return FELTER_PUT_RANGE;
+        __builtin_memcpy(&record, at, sizeof record);
+        if (record.len > bytes - sizeof record) return FELTER_PUT_RANGE;
+        if (record.type_id != (int32_t)record.type_id) return FELTER_BAD_TYPE;
+        code = felter_guarded_write(producer, (int32_t)record.type_id, at + sizeof record, (size_t)record.len);
+        if (code != FELTER_OK) return code;
+        *written += 1;
+        if (FELTER_SPAN(record.len) >= bytes) break;
+        bytes -= FELTER_SPAN(record.len);
+        at += FELTER_SPAN(record.len);
+    }
+    return FELTER_OK;
+}
+
 #define felter_free felter_guarded_free
 #define felter_many_to_one_new_numbered felter_guarded_many_to_one_new_numbered
 #define felter_many_to_one_new_at_numbered felter_guarded_many_to_one_new_at_numbered

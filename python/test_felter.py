@@ -68,6 +68,16 @@ class Rings(Case):
         self.assertEqual(read, wanted)
         self.assertEqual(consumer.read_batch(100), [])
 
+    def test_batches_are_written_up_to_the_first_refusal(self):
+        producer, consumer = felter.one_to_one(128)
+        messages = [Message(1 + number, bytes(16)) for number in range(8)]
+        self.assertEqual(producer.write_all(messages[:2]), 2)
+        # A record takes 24 bytes of the 128.
+        self.assertEqual(producer.write_all(messages[2:]), 3)
+        self.assertEqual(list(consumer), messages[:5])
+        self.refuses(Number.BAD_TYPE, producer.write_all, [(1, b"a"), (0, b"")])
+        self.assertEqual(list(consumer), [Message(1, b"a")])
+
     def test_two_threads_write_and_a_third_reads(self):
         count = 1500
         first, consumer = felter.many_to_one(1024)

@@ -8,6 +8,7 @@ int main(void) {
     int32_t type_id = -7;
     uint64_t number = 77;
     size_t len = 7;
+    uint32_t written = 7;
     felter_free(NULL);
     EXPECT(FELTER_NO_HANDLE, felter_many_to_one_new(128, NULL, &consumer));
     EXPECT(FELTER_NO_HANDLE, felter_many_to_one_new(128, &producer, NULL));
@@ -20,12 +21,14 @@ int main(void) {
     EXPECT(FELTER_NULL_POINTER, felter_positions(&producer, &number, NULL));
     EXPECT(FELTER_NO_HANDLE, felter_join(&producer, NULL));
     EXPECT(FELTER_NO_HANDLE, felter_split(NULL, &producer));
+    EXPECT(FELTER_NULL_POINTER, felter_write_batch(&producer, NULL, 1, &written));
+    EXPECT(FELTER_NULL_POINTER, felter_write_batch(&producer, buffer, 0, NULL));
     EXPECT(FELTER_OK, felter_write(&producer, 1, NULL, 0));
     EXPECT(FELTER_OK, felter_write(&producer, 2, "hello", 5));
     EXPECT(FELTER_NULL_POINTER, felter_read(&consumer, NULL, &len, buffer, sizeof buffer));
     EXPECT(FELTER_NULL_POINTER, felter_read(&consumer, &type_id, NULL, buffer, sizeof buffer));
     EXPECT(FELTER_NULL_POINTER, felter_read(&consumer, &type_id, &len, NULL, 1));
-    CHECK(type_id == -7 && len == 7 && buffer[0] == 5 && number == 77);
+    CHECK(type_id == -7 && len == 7 && buffer[0] == 5 && number == 77 && written == 7);
     EXPECT(FELTER_OK, felter_read(&consumer, &type_id, &len, NULL, 0));
     CHECK(type_id == 1 && len == 0);
     /* The answer of a function by its pointer, and what a buffer that is too short puts out. */

@@ -98,6 +98,47 @@ static void batches(int many) {
     EXPECT(FELTER_NO_HANDLE, felter_read_batch(&consumer, 9, &count, &used, small, sizeof small));
 }
 
+/* Batches that are written: what a batch read left, and bytes that are no batch. */
+static void written_batches(void) {
+    felter_producer producer = FELTER_EMPTY, second = FELTER_EMPTY;
+    felter_consumer consumer = FELTER_EMPTY, sink = FELTER_EMPTY;
+    uint64_t words[64];
+    uint32_t count, written = 9;
+    size_t used;
+    EXPECT(FELTER_OK, felter_many_to_one_new(1024, &producer, &consumer));
+    EXPECT(FELTER_OK, felter_one_to_one_new(128, &second, &sink));
+    write_turn(&producer);
+    EXPECT(FELTER_OK, felter_read_batch(&consumer, EACH, &count, &used, words, sizeof words));
+    CHECK(count == EACH);
+    EXPECT(FELTER_OK, felter_write_batch(&producer, words, used, &written));
+    CHECK(written == EACH);
+    expect_singly(&consumer, 0, EACH);
+    expect_none(&consumer);
+    /* The last record's padding may be missing, and not its bytes. */
+    EXPECT(FELTER_OK, felter_write_batch(&producer, words, used - 7, &written));
+    CHECK(written == EACH);
+    expect_singly(&consumer, 0, EACH);
+    EXPECT(FELTER_PUT_RANGE, felter_write_batch(&producer, words, used - 8, &written));
+    CHECK(written == EACH - 1);
+    expect_singly(&consumer, 0, EACH - 1);
+    EXPECT(FELTER_PUT_RANGE, felter_write_batch(&producer, words, 15, &written));
+    CHECK(written == 0);
+    EXPECT(FELTER_OK, felter_write_batch(&producer, NULL, 0, &written));
+    CHECK(written == 0);
+    words[1] = (uint64_t)1 << 40;
+    EXPECT(FELTER_BAD_TYPE, felter_write_batch(&producer, words, used, &written));
+    words[1] = 10;
+    /* They take 16, 8, 24, 16 and 16 bytes. */
+    EXPECT(FELTER_OK, felter_write_batch(&second, words, used, &written));
+    EXPECT(FELTER_INSUFFICIENT_CAPACITY, felter_write_batch(&second, words, used, &written));
+    CHECK(written == 3);
+    felter_free(&producer.handle);
+    felter_free(&consumer.handle);
+    felter_free(&second.handle);
+    felter_free(&sink.handle);
+    EXPECT(FELTER_NO_HANDLE, felter_write_batch(&producer, words, used, &written));
+}
+
 static void makes(void) {
     felter_producer producer = FELTER_EMPTY;
     felter_consumer consumer = FELTER_EMPTY;
@@ -459,6 +500,7 @@ int main(void) {
         claims(many);
         open_claims(many);
         batches(many);
+        if (many) written_batches();
     }
     ends();
     joined_claims();

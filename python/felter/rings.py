@@ -142,6 +142,16 @@ class Producer(Owner):
         elif not wait_for(attempt, timeout, self.is_abandoned):
             raise refused[0]
 
+    def write_all(self, messages: typing.Iterable[typing.Tuple[int, typing.Any]]) -> int:
+        """Writes messages, each a type id and a body, one after another, and returns how many were written: it stops
+        if the ring is full or another producer is faster. Another refusal is raised."""
+        written = 0
+        with contextlib.suppress(Full, Contended):
+            for type_id, body in messages:
+                self.write(type_id, body)
+                written += 1
+        return written
+
     def claim(self, type_id: int, length: int) -> Claim:
         """Claims room for a message, whose bytes are 0 until they are put. Any number may be open at once."""
         claim = Claim(self)

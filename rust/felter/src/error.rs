@@ -136,6 +136,27 @@ impl fmt::Display for Error {
 
 impl std::error::Error for Error {}
 
+/// A message of a batch was refused, and those after it were not tried.
+#[derive(Clone, Copy, Debug, PartialEq, Eq)]
+pub struct BatchRefused {
+    /// How many were written before it.
+    pub written: usize,
+    /// Why it was refused.
+    pub reason: Error,
+}
+
+impl fmt::Display for BatchRefused {
+    fn fmt(&self, f: &mut fmt::Formatter<'_>) -> fmt::Result {
+        write!(f, "{} after {} messages", self.reason, self.written)
+    }
+}
+
+impl std::error::Error for BatchRefused {
+    fn source(&self) -> Option<&(dyn std::error::Error + 'static)> {
+        Some(&self.reason)
+    }
+}
+
 /// A call that took handles was refused, and gives them back as they were.
 #[derive(Debug)]
 pub struct Refused<T> {

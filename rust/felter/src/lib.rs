@@ -52,7 +52,7 @@ pub use client::{Client, Polled, Reply};
 pub use conductor::{Conductor, Finished, Work, WorkStop};
 pub use counters::{Counters, Reader, MAX_KEY};
 pub use doorbell::Doorbell;
-pub use error::{Error, Refused};
+pub use error::{BatchRefused, Error, Refused};
 pub use message::{Batch, Message};
 pub use ring::{
     many_to_one, many_to_one_at, one_to_one, one_to_one_at, Claim, Consumer, KeptClaim, Positions, Producer,

@@ -1,6 +1,6 @@
 //! Rings: many-to-one and one-to-one.
 use crate::ends::End;
-use crate::error::{Error, Refused};
+use crate::error::{BatchRefused, Error, Refused};
 use crate::handle::{done, Handle, Number};
 use crate::message::{message_of, Batch, Message};
 use crate::raw;
@@ -84,6 +84,29 @@ impl Producer {
     pub fn write(&mut self, type_id: i32, body: &[u8]) -> Result<(), Error> {
         // SAFETY: our handle, and a slice's pointer and length.
         done(unsafe { raw::felter_write(self.handle.raw(), type_id, body.as_ptr(), body.len()) })
+    }
+
+    /// Writes messages one after another, up to the first that is refused, and says how many were written.
+    ///
+    /// Errors: those of [`write`](Producer::write), with how many were written before.
+    ///
+    /// ```
+    /// let (mut producer, _consumer) = felter::one_to_one(128)?;
+    /// assert_eq!(producer.write_batch([(1, &b"one"[..]), (2, b"two")]), Ok(2));
+    /// let refused = producer.write_batch([(3, &b"three"[..]), (0, b"bad"), (4, b"never")]).unwrap_err();
+    /// assert_eq!((refused.written, refused.reason), (1, felter::Error::BadType));
+    /// # Ok::<(), felter::Error>(())
+    /// ```
+    pub fn write_batch<'a>(
+        &mut self,
+        messages: impl IntoIterator<Item = (i32, &'a [u8])>,
+    ) -> Result<usize, BatchRefused> {
+        let mut written = 0;
+        for (type_id, body) in messages {
+            self.write(type_id, body).map_err(|reason| BatchRefused { written, reason })?;
+            written += 1;
+        }
+        Ok(written)
     }
 
     /// Claims room for a message of `len` bytes, which are 0 until they are put. The consumer passes no open claim.
