@@ -1,4 +1,4 @@
-//! The report of a board.
+//! The report of a broadcast buffer.
 use crate::picture::Mark;
 use crate::records::{Listed, Shown, Tally, Whole};
 use crate::report::{Report, fields};
@@ -82,7 +82,7 @@ fn numbers(board: &BoardSnapshot<'_>) -> [(&'static str, u64); 4] {
     ]
 }
 
-/// Letters, and the byte indexes before which they stand.
+/// Letters, and the byte indexes before which they are.
 fn signs(board: &BoardSnapshot<'_>) -> [(char, u64); 3] {
     let capacity = board.capacity();
     [
@@ -92,7 +92,7 @@ fn signs(board: &BoardSnapshot<'_>) -> [(char, u64); 3] {
     ]
 }
 
-/// The records of the running lap, or those from a position on.
+/// The records of the current lap, or those from a position on.
 fn list(alloc: Global, board: &BoardSnapshot<'_>, view: View) -> Result<Listed, AllocError> {
     let mut listed = Listed::new(alloc, board.capacity(), view)?;
     let begun = match view.from {
@@ -107,8 +107,8 @@ fn list(alloc: Global, board: &BoardSnapshot<'_>, view: View) -> Result<Listed, 
 }
 
 impl Report {
-    /// What lies in the words of a board: the running lap, or what is listed from the position that is asked for. Its
-    /// findings are as those of `of_ring`.
+    /// What is in the words of a broadcast buffer: the current lap, or what is listed from the position that is asked
+    /// for. Its findings are as those of `of_ring`.
     pub fn of_board(alloc: Global, words: &[u64], view: View) -> Result<Report, AllocError> {
         let board = match BoardSnapshot::new(words) {
             Ok(board) => board,

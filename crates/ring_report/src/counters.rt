@@ -25,7 +25,7 @@ fn state_name(state: CounterState) -> &'static str {
     }
 }
 
-/// A key without the zeros at its end: memory does not tell how long it is.
+/// A key without the zeros at its end: memory does not say how long it is.
 fn key_cell(alloc: Global, bodies: Bodies, key: Body<'_>) -> Result<Cell, AllocError> {
     let bytes: Vec<u8> = key.collect(alloc)?;
     let mut len = 0;
@@ -133,7 +133,7 @@ fn gather(
 }
 
 impl Report {
-    /// What lies in the words of counters, their metadata and their values, from the first id on, or from the one that
+    /// What is in the words of counters, their metadata and their values, from the first id on, or from the one that
     /// is asked for. Words that are not those of counters, and ids with a record that no counter has, are its findings.
     pub fn of_counters(
         alloc: Global,

@@ -13,9 +13,9 @@ use std::rt::Files;
 pub struct Section<'a> {
     /// The file's name; `-` is standard input.
     pub file: &'a str,
-    /// Where it begins.
+    /// The byte at which it begins.
     pub at: u64,
-    /// How many bytes it has.
+    /// The number of its bytes.
     pub length: Option<u64>,
 }
 
@@ -37,7 +37,7 @@ impl<T: Drop> From<AllocFailed<T>> for Cause {
     }
 }
 
-/// Reads up to so many bytes, and tries again after an interrupt. 0 at the end of the file.
+/// Reads up to this many bytes, and tries again after an interrupt. 0 at the end of the file.
 fn read_some<R: Read>(reader: &mut R, chunk: &mut [u8; CHUNK], most: u64) -> Result<usize, Cause>
     ensures { IfOk result (λ n. n ≤ 4096) }
 {
@@ -69,7 +69,7 @@ fn skip<R: Read>(reader: &mut R, bytes: u64) -> Result<(), Cause> {
     Err(Cause::TooShort)
 }
 
-/// Reads so many bytes, or to the end.
+/// Reads this many bytes, or to the end.
 fn read_bytes<R: Read>(
     alloc: Global,
     reader: &mut R,
@@ -115,7 +115,7 @@ pub fn words_of_bytes(alloc: Global, bytes: &[u8]) -> Result<Vec<u64>, Cause> {
     Ok(words)
 }
 
-/// Goes to the place at which a section begins: at once in a file that can seek, else by reading.
+/// Goes to the place at which a section begins: at once in a file that can seek, otherwise by reading.
 fn go_to<R: Read + Seek>(reader: &mut R, at: u64) -> Result<(), Cause> {
     if at == 0 {
         return Ok(());

@@ -11,7 +11,7 @@ pub enum Cause {
     Unread(ErrorKind),
     /// The section has more bytes than the largest ring.
     TooLarge,
-    /// The section lies beyond the end of the file.
+    /// The section is beyond the end of the file.
     TooShort,
     /// The section is not made of words of 8 bytes.
     NotWords,

@@ -1,4 +1,4 @@
-//! What lies in a ring, a board or counters, as a report: from a copy of their memory, read
+//! What is in a ring, a board or counters, as a report: from a copy of their memory, read
 //! from a file or given as words, to a table that a person reads, JSON, or Prometheus' text.
 //!
 //! - `ring`, `board`, `counters`: the report of each. `records`: the lists that the first two have in common.

@@ -1,4 +1,4 @@
-//! A list of records: what rings and boards have in common.
+//! A list of records: what rings and broadcast buffers have in common.
 ghost use Rattle.std.specs.Iterator.{IsFinite};
 
 use crate::bodies;
@@ -28,7 +28,7 @@ pub struct Shown<'a> {
     pub mark: Mark,
     pub type_id: i32,
     pub length: u32,
-    /// Its message, where it has one.
+    /// Its message, if it has one.
     pub body: Option<Body<'a>>,
 }
 
@@ -58,7 +58,7 @@ impl<'a> Shown<'a> {
     }
 }
 
-/// How many records there are of each mark.
+/// The number of records of each mark.
 #[derive(Clone, Copy, Default)]
 pub struct Tally {
     pub committed: u32,
@@ -130,7 +130,7 @@ impl Listed {
         })
     }
 
-    /// Marks the bytes of a record. Where headers are not yet stored they may go on at the buffer's start.
+    /// Marks the bytes of a record. If headers are not yet stored they may go on at the buffer's start.
     fn mark(&mut self, index: u32, length: u32, mark: Mark) {
         let span = align8(u64::from(length));
         let room = u64::from(self.capacity.saturating_sub(index));
@@ -178,7 +178,7 @@ impl Listed {
         Ok(())
     }
 
-    /// How many records were added.
+    /// The number of records that were added.
     pub fn tally(&self) -> Tally {
         self.tally
     }

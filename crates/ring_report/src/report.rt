@@ -30,18 +30,18 @@ pub struct Field {
 pub struct Column {
     /// Its name, which is that of its cells in JSON.
     pub name: &'static str,
-    /// Whether it has numbers, which stand at its right.
+    /// Whether it has numbers, which are at its right.
     pub is_number: bool,
 }
 
-/// What lies in a copy of memory.
+/// What is in a copy of memory.
 #[derive(Debug, Drop)]
 pub struct Report {
     /// What it is: `ring`, `board` or `counters`.
     pub kind: &'static str,
     /// What holds of the whole.
     pub fields: Vec<Field>,
-    /// The buffer as one line, empty where there is none.
+    /// The buffer as one line, empty if there is none.
     pub picture: String,
     /// The list's name: `records` or `counters`.
     pub list: &'static str,
@@ -55,7 +55,7 @@ pub struct Report {
     pub counts: Vec<Field>,
     /// What the records say of the whole.
     pub details: Vec<Field>,
-    /// How many of each kind there are, in one line.
+    /// The number of each kind, in one line.
     pub summary: String,
     /// What is wrong with the memory, one text each.
     pub findings: Vec<String>,
@@ -118,7 +118,7 @@ pub fn details(
     Ok(fields)
 }
 
-/// The columns of these names, each with whether it has numbers; and a last one for bytes, where these are shown.
+/// The columns of these names, each with whether it has numbers; and a last one for bytes, if these are shown.
 pub fn columns(
     alloc: Global,
     named: &[(&'static str, bool)],

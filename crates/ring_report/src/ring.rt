@@ -100,7 +100,7 @@ fn numbers(ring: &RingSnapshot<'_>) -> [(&'static str, u64); 6] {
     ]
 }
 
-/// Letters, and the byte indexes before which they stand.
+/// Letters, and the byte indexes before which they are.
 fn signs(ring: &RingSnapshot<'_>) -> [(char, u64); 2] {
     let capacity = ring.capacity();
     [
@@ -120,7 +120,7 @@ fn list(alloc: Global, ring: &RingSnapshot<'_>, view: View) -> Result<Listed, Al
 }
 
 impl Report {
-    /// What lies in the words of a ring, from its head on, or from the position that is asked for. Words that are not
+    /// What is in the words of a ring, from its head on, or from the position that is asked for. Words that are not
     /// those of a ring, positions that make no sense, and what is wrong with the records are its findings.
     pub fn of_ring(alloc: Global, words: &[u64], view: View) -> Result<Report, AllocError> {
         let ring = match RingSnapshot::new(words) {

@@ -79,7 +79,7 @@ fn widths(alloc: Global, lines: &[Vec<String>], columns: usize) -> Result<Vec<us
     Ok(widths)
 }
 
-/// Pushes a word, with spaces up to the width of its column and two behind it.
+/// Pushes a word, with spaces up to the width of its column and two after it.
 fn push_word(
     line: &mut String,
     is_number: bool,

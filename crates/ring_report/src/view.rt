@@ -1,4 +1,4 @@
-//! What is wanted of a report.
+//! The options of a report.
 
 /// How the bytes of messages, keys and labels are shown.
 #[derive(Clone, Copy, Debug, PartialEq, Eq)]
@@ -11,11 +11,11 @@ pub enum Bodies {
     None,
 }
 
-/// What is wanted of a report.
+/// The options of a report.
 #[derive(Clone, Copy, Debug)]
 pub struct View {
-    /// The position, or of counters the id, from which on it lists. Without one a ring is listed from its head, a board
-    /// from its running lap, and counters from the first.
+    /// The position, or for counters the id, from which on it lists. Without one a ring is listed from its head, a
+    /// broadcast buffer from its current lap, and counters from the first.
     pub from: Option<u64>,
     /// How bytes are shown. Labels are shown as text all the same.
     pub bodies: Bodies,

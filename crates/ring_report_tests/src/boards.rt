@@ -8,7 +8,7 @@ use std::test::Fail;
 fn report_of(alloc: Global, intent: u64, from: Option<u64>) -> Result<Report, Fail> {
     let bytes = bytes_of(alloc, &lapped(alloc)?)?;
     let mut words = words_of_bytes(alloc, bytes.as_slice())?;
-    // The intent stands behind the 32 words of the buffer.
+    // The intent is after the 32 words of the buffer.
     if let Some(word) = words.as_mut_slice().get_mut(32) {
         *word = intent;
     }

@@ -13,7 +13,7 @@ static WHOLE: View = View {
     limit: None,
 };
 
-/// The words of a ring with one record and a tail of 32: behind the record stands a length of 5.
+/// The words of a ring with one record and a tail of 32: after the record is a length of 5.
 fn wrong_words(alloc: Global) -> Result<Vec<u64>, Fail> {
     let mut ring = SoloRing::new(alloc, 128)?;
     ring.write(7, b"hello")?;

@@ -1,4 +1,4 @@
-//! Shows what lies in a ring, a board or counters: reads a copy of their memory, or that of a running program, and
+//! Shows what is in a ring, a board or counters: reads a copy of their memory, or that of a running program, and
 //! prints a table that a person reads, JSON, or the text format of Prometheus.
 #![tactic(auto)]
 
@@ -61,7 +61,7 @@ fn run<'a, R: AllocGlobal + Files + Input + Print + Eprint>(
     }
 }
 
-/// Prints what lies in the files, and then what is wrong with it.
+/// Prints what is in the files, and then what is wrong with it.
 fn show<'a, R: AllocGlobal + Files + Input + Print + Eprint>(
     rt: &R,
     options: Options<'a>,
@@ -94,7 +94,7 @@ fn print_report<R: AllocGlobal + Print>(
         .or(Err(ShowFault::OutputUnwritten))
 }
 
-/// Reads the files, and says what lies in them.
+/// Reads the files, and says what is in them.
 fn report_of<'a, R: AllocGlobal + Files + Input>(
     rt: &R,
     options: Options<'a>,

@@ -5,7 +5,7 @@ use clap::{Arg, ArgAction, ArgMatches, Command, Error, value_parser};
 use ring_report::{Bodies, Section, View};
 use std::alloc::Global;
 
-/// What is shown, and where its memory lies.
+/// What is shown, and the source of its memory.
 #[derive(Clone, Copy)]
 pub enum Subject<'a> {
     Ring(Section<'a>),
