@@ -1,11 +1,11 @@
 //! The texts of the help.
 
 pub const ABOUT: &str =
-    "Shows what lies in a ring, a board or counters, from a copy of their memory or from a running program.";
+    "Shows what is in a ring, a broadcast buffer or counters, from a copy of their memory or from a running program.";
 
 pub const RING: &str = "Lists the records of a ring between its head and its tail";
 
-pub const BOARD: &str = "Lists the records of a broadcast buffer's running lap";
+pub const BOARD: &str = "Lists the records of a broadcast buffer's current lap";
 
 pub const COUNTERS: &str = "Lists the counters in use and those that were freed, by rising id";
 
@@ -22,13 +22,13 @@ pub const FILE: &str = "The file with the copy; - is standard input";
 
 pub const AT: &str = "Where the copy begins in the file, in bytes, decimal or 0x.. [default: 0]";
 
-pub const LENGTH: &str = "How many bytes it has [default: up to the end of the file]";
+pub const LENGTH: &str = "The number of its bytes [default: up to the end of the file]";
 
-pub const FROM: &str = "List from this position on, the begin of a record";
+pub const FROM: &str = "List from this position on, the start of a record";
 
 pub const BODIES: &str = "How bytes are shown";
 
-pub const LIMIT: &str = "List so many at most; all are counted";
+pub const LIMIT: &str = "List at most this many; all are counted";
 
 pub const FORMAT: &str = "A table, JSON, or the text format of Prometheus";
 
@@ -42,6 +42,6 @@ The line below the positions is a picture of the buffer, from its first byte to 
 A file may be /proc/PID/mem, with the address as --at: what a running program has is then shown as it was while it was
 read.
 
-What is wrong with the memory stands on standard error, one finding a line.
+What is wrong with the memory is printed on standard error, one finding a line.
 
 Status: 0, 1 if the memory has a finding, 2 if the command line was refused or nothing could be read.";
