@@ -27,11 +27,13 @@ impl fmt::Display for Decimal {
 #[derive(Clone, Copy)]
 pub enum Detail {
     Nothing,
-    /// The nanoseconds within which so many thousandths of the round trips ended.
+    /// The nanoseconds within which 50, 90, 99, 99.9 and 99.99 % of the round trips ended.
     Trips {
         p50: u32,
+        p90: u32,
         p99: u32,
         p999: u32,
+        p9999: u32,
     },
     /// What receivers of a broadcast came to.
     Received {
@@ -70,10 +72,15 @@ impl Sample {
         println!(rt; "{name} {each}")?;
         match &self.detail {
             Detail::Nothing => Ok(()),
-            Detail::Trips { p50, p99, p999 } => {
-                println!(rt; "p50 {p50}")?;
-                println!(rt; "p99 {p99}")?;
-                println!(rt; "p999 {p999}")
+            Detail::Trips {
+                p50,
+                p90,
+                p99,
+                p999,
+                p9999,
+            } => {
+                println!(rt; "p50 {p50}\np90 {p90}\np99 {p99}")?;
+                println!(rt; "p999 {p999}\np9999 {p9999}")
             }
             Detail::Received { all, copies, laps } => {
                 let copied = Decimal(*copies, *all);

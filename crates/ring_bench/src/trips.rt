@@ -166,9 +166,9 @@ fn conduct<K>(
     conductor
 }
 
-/// The one among sorted numbers that so many thousandths of them lie below.
-fn part_of(sorted: &[u32], thousandths: usize) -> u32 {
-    let place = sorted.len().saturating_mul(thousandths) / 1000;
+/// The one among sorted numbers that is above this many ten-thousandths of them.
+fn part_of(sorted: &[u32], parts: usize) -> u32 {
+    let place = sorted.len().saturating_mul(parts) / 10_000;
     if place < sorted.len() {
         sorted[place]
     } else {
@@ -184,9 +184,11 @@ fn sample_of(nanos: u64, mut trips: Vec<u32>) -> Result<Sample, Fault> {
         nanos,
         times: sorted.len() as u64,
         detail: Detail::Trips {
-            p50: part_of(sorted, 500),
-            p99: part_of(sorted, 990),
-            p999: part_of(sorted, 999),
+            p50: part_of(sorted, 5000),
+            p90: part_of(sorted, 9000),
+            p99: part_of(sorted, 9900),
+            p999: part_of(sorted, 9990),
+            p9999: part_of(sorted, 9999),
         },
     })
 }
