@@ -1,8 +1,10 @@
-//! Tests of the ring of one owner.
+//! Tests of the ring of one owner, and of what lies in a ring.
 #![tactic(auto)]
 
 #[cfg(test)]
 mod faults;
+#[cfg(test)]
+mod layout;
 #[cfg(test)]
 mod script;
 #[cfg(test)]

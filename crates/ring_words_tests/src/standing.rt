@@ -1,6 +1,7 @@
 //! Reads across the end of the buffer, and what a read without messages shows.
 use ring_words::{Action, Handler, Positions, ReadEnd, SoloRing, Standing, Stop};
-use std::test::Fail;
+use std::alloc::Global;
+use std::process::Abort;
 
 /// Counts the messages that it is shown, and their bytes.
 #[derive(Drop)]
@@ -28,31 +29,28 @@ fn end(messages: u32, bytes: u64, stopped: Stop) -> ReadEnd {
 }
 
 /// A ring of 128 bytes whose head and tail are at 112.
-fn near_the_end(
-    rt: &impl std::process::Abort,
-    alloc: std::alloc::Global,
-) -> Result<SoloRing, Fail> {
-    let mut ring = SoloRing::new(alloc, 128)?;
+fn near_the_end(rt: &impl Abort, alloc: Global) -> SoloRing {
+    let mut ring = SoloRing::new(alloc, 128).expect(rt, "a ring");
     let mut count = Count {
         messages: 0,
         bytes: 0,
     };
     for _ in 0..7 {
-        ring.write(1, &[0; 8])?;
+        assert_eq!(rt; ring.write(1, &[0; 8]), Ok(()));
     }
     assert_eq!(rt; ring.read(9, &mut count), end(7, 112, Stop::Unpublished));
-    Ok(ring)
+    ring
 }
 
 #[test]
-fn reads_on_behind_the_end_of_the_buffer(rt: HostRuntime) -> Result<(), Fail> {
-    let mut ring = near_the_end(&rt, rt.alloc())?;
+fn reads_on_behind_the_end_of_the_buffer(rt: HostRuntime) {
+    let mut ring = near_the_end(&rt, rt.alloc());
     let mut count = Count {
         messages: 0,
         bytes: 0,
     };
     // Padding of 16 bytes, and a record of 24 after it.
-    ring.write(2, &[7; 16])?;
+    assert_eq!(rt; ring.write(2, &[7; 16]), Ok(()));
     assert_eq!(rt;
         ring.positions(),
         Positions {
@@ -67,29 +65,27 @@ fn reads_on_behind_the_end_of_the_buffer(rt: HostRuntime) -> Result<(), Fail> {
     );
     assert_eq!(rt; (count.messages, count.bytes), (1, 16));
     assert_eq!(rt; ring.positions().used(), 0);
-    Ok(())
 }
 
 #[test]
-fn counts_the_messages_of_both_reads(rt: HostRuntime) -> Result<(), Fail> {
-    let mut ring = near_the_end(&rt, rt.alloc())?;
+fn counts_the_messages_of_both_reads(rt: HostRuntime) {
+    let mut ring = near_the_end(&rt, rt.alloc());
     let mut count = Count {
         messages: 0,
         bytes: 0,
     };
     for _ in 0..4 {
-        ring.write(3, &[1; 8])?;
+        assert_eq!(rt; ring.write(3, &[1; 8]), Ok(()));
     }
     // One up to the end of the buffer, and two of the three after it.
     assert_eq!(rt; ring.read_across(3, &mut count), end(3, 48, Stop::Limit));
     assert_eq!(rt; count.messages, 3);
     assert_eq!(rt; ring.read(9, &mut count), end(1, 16, Stop::Unpublished));
-    Ok(())
 }
 
 #[test]
-fn a_read_tells_empty_from_blocked(rt: HostRuntime) -> Result<(), Fail> {
-    let mut ring = SoloRing::new(rt.alloc(), 128)?;
+fn a_read_tells_empty_from_blocked(rt: HostRuntime) {
+    let mut ring = SoloRing::new(rt.alloc(), 128).expect(&rt, "a ring");
     let mut count = Count {
         messages: 0,
         bytes: 0,
@@ -98,12 +94,11 @@ fn a_read_tells_empty_from_blocked(rt: HostRuntime) -> Result<(), Fail> {
     let before = ring.positions();
     let read = ring.read(9, &mut count);
     assert_eq!(rt; read.standing(before, ring.positions()), Standing::Empty);
-    let _claim = ring.claim(1, 4)?;
+    assert!(rt; ring.claim(1, 4).is_ok());
     let before = ring.positions();
     let read = ring.read(9, &mut count);
     let blocked = Standing::Blocked { head: 0 };
     assert_eq!(rt; read.standing(before, ring.positions()), blocked);
-    Ok(())
 }
 
 #[test]

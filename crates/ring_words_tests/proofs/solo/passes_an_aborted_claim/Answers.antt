@@ -3,5 +3,5 @@ use Rattle.ring_words_tests.proofs.solo.passes_an_aborted_claim.Goals as goal
 
 pub commit-requires : goal.commit-requires
 commit-requires g c =
-    c.abort.ensures.others c.in_ok-second.second c.in_ok-second.ensures.is_open
-    (λ e. c.in_ok-second.ensures.apart c.in_ok-first.first c.in_ok-first.ensures.is_open (sym e))
+    c.abort.ensures.others c.claimed-second.result c.claimed-second.ensures.is_open
+    (λ e. c.claimed-second.ensures.apart c.claimed-first.result c.claimed-first.ensures.is_open (sym e))

@@ -1,7 +1,9 @@
+//! What lies in a ring: headers, places, words and bytes.
 use ring_layout::{
-    aborted_header, align8, byte_index, committed_header, first_word, fits, get_byte_word,
-    is_capacity, max_message, open_header, pack_header, pad_and_span, padding_header,
-    put_bytes_word, put_part, put_word, unpack_header, word_depends_on_one_claim, word_index,
+    Admission, aborted_header, align8, byte_index, committed_header, first_word, fits,
+    get_byte_word, has_room, is_capacity, is_length, is_position, is_type_id, max_message,
+    open_header, pack_header, pad_and_span, padding_header, place_record, put_bytes_word, put_part,
+    put_word, span, unpack_header, word_depends_on_one_claim, word_index,
 };
 
 #[test]
@@ -74,4 +76,53 @@ fn writes_words_over_bytes(rt: HostRuntime) {
     assert_eq!(rt; bytes, [9, 1, 2, 0, 0, 0, 0, 0, 0, 0, 0]);
     assert_eq!(rt; first_word(&bytes), 0x0002_0109);
     assert_eq!(rt; first_word(&bytes[..2]), 0x0109);
+}
+
+#[test]
+fn places_a_record_behind_padding(rt: HostRuntime) {
+    let capacity = 128;
+    assert!(rt; is_capacity(capacity));
+    let padded = Admission {
+        tail: 112,
+        place: 128,
+        end: 152,
+    };
+    assert_eq!(rt; place_record(capacity, 112, 16), padded);
+    let fitting = Admission {
+        tail: 104,
+        place: 104,
+        end: 128,
+    };
+    assert_eq!(rt; place_record(capacity, 104, 16), fitting);
+}
+
+#[test]
+fn tests_a_request(rt: HostRuntime) {
+    assert_eq!(rt;
+        [is_type_id(0), is_type_id(1), is_type_id(-1)],
+        [false, true, false]
+    );
+    assert_eq!(rt; [is_length(128, 16), is_length(128, 17)], [true, false]);
+}
+
+#[test]
+fn tests_where_a_record_ends(rt: HostRuntime) {
+    assert_eq!(rt;
+        [is_position(1 << 62), is_position((1 << 62) + 8)],
+        [true, false]
+    );
+    assert_eq!(rt;
+        [has_room(128, 152, 24), has_room(128, 152, 16)],
+        [true, false]
+    );
+}
+
+#[test]
+fn a_span_has_the_header_and_whole_words(rt: HostRuntime) {
+    assert_eq!(rt; span(0), 8);
+    assert_eq!(rt; span(1), 16);
+    assert_eq!(rt; span(8), 16);
+    assert_eq!(rt; span(9), 24);
+    // The longest command.
+    assert_eq!(rt; span(520), 528);
 }
