@@ -11,7 +11,7 @@ use std::test::*;
 type Row = (Call<'static>, Said);
 
 /// An id is given again from its deadline on.
-const AGAIN: [Row; 7] = [
+static AGAIN: [Row; 7] = [
     (Allocate(0), Id(0)),
     (Set(0, 7), Done),
     (Value(0), Signed(7)),
@@ -22,14 +22,14 @@ const AGAIN: [Row; 7] = [
 ];
 
 /// The only id is freed, and not due yet.
-const NONE_DUE: [Row; 3] = [
+static NONE_DUE: [Row; 3] = [
     (Allocate(0), Id(0)),
     (Free(100, 0), Done),
     (Allocate(149), Refused(AllocateRefused::NoFreeCounter)),
 ];
 
 /// The id that was freed later is due earlier.
-const DUE_EARLIER: [Row; 6] = [
+static DUE_EARLIER: [Row; 6] = [
     (Allocate(0), Id(0)),
     (Allocate(0), Id(1)),
     (Free(100, 0), Done),
@@ -39,7 +39,7 @@ const DUE_EARLIER: [Row; 6] = [
 ];
 
 /// Ids that are due are given in order of freeing.
-const IN_ORDER: [Row; 8] = [
+static IN_ORDER: [Row; 8] = [
     (Allocate(0), Id(0)),
     (Allocate(0), Id(1)),
     (Allocate(0), Id(2)),
@@ -51,19 +51,20 @@ const IN_ORDER: [Row; 8] = [
 ];
 
 #[test]
-fn gives_ids_again_once_they_are_due(rt: HostRuntime) -> Result<(), Fail> {
+fn gives_ids_again_once_they_are_due(rt: HostRuntime) {
     for (count, reuse_ms, rows) in [
         (4, 50, AGAIN.as_slice()),
         (1, 50, NONE_DUE.as_slice()),
         (4, 50, DUE_EARLIER.as_slice()),
         (4, 0, IN_ORDER.as_slice()),
     ] {
-        Desk::new(rt.alloc(), count, reuse_ms)?.goes(&rt, rows);
+        Desk::new(rt.alloc(), count, reuse_ms)
+            .expect(&rt, "a manager")
+            .goes(&rt, rows);
     }
-    Ok(())
 }
 
-const REFUSALS: [Row; 7] = [
+static REFUSALS: [Row; 7] = [
     (
         AllocateWith(&[0; 113], &[0; 381]),
         Refused(AllocateRefused::KeyTooLong),
@@ -83,16 +84,17 @@ const REFUSALS: [Row; 7] = [
 ];
 
 #[test]
-fn refuses_counts_texts_and_ids(rt: HostRuntime) -> Result<(), Fail> {
+fn refuses_counts_texts_and_ids(rt: HostRuntime) {
     for count in [0, 4097] {
         let refused = Desk::new(rt.alloc(), count, 50).err();
         assert_eq!(rt; refused, Some(MakeFault::BadCount));
     }
-    Desk::new(rt.alloc(), 4, 50)?.goes(&rt, &REFUSALS);
-    Ok(())
+    Desk::new(rt.alloc(), 4, 50)
+        .expect(&rt, "a manager")
+        .goes(&rt, &REFUSALS);
 }
 
-const WORDS: [Row; 8] = [
+static WORDS: [Row; 8] = [
     (AllocateWith(&[1, 2], &[b'a', b'b']), Id(0)),
     (Words(0, 0, 1), Said::Words(0x0000_0005_0000_0001, 9)),
     (Words(0, 1, 1), Said::Words(0x7FFF_FFFF_FFFF_FFFF, 9)),
@@ -103,7 +105,7 @@ const WORDS: [Row; 8] = [
     (Words(0, 1, 1), Said::Words(150, 9)),
 ];
 
-const OWNERS: [Row; 15] = [
+static OWNERS: [Row; 15] = [
     (AllocateOwned(9), Id(0)),
     (AllocateOwned(8), Id(1)),
     (AllocateOwned(9), Id(2)),
@@ -122,7 +124,7 @@ const OWNERS: [Row; 15] = [
 ];
 
 /// What readers load, which go back with their shares.
-const READS: [Row; 9] = [
+static READS: [Row; 9] = [
     (Read(0), Signed(0)),
     (Read(4), Bad(IdFault::BadId)),
     (Allocate(0), Id(0)),
@@ -135,19 +137,18 @@ const READS: [Row; 9] = [
 ];
 
 #[test]
-fn lays_out_words_closes_owners_and_is_read(rt: HostRuntime) -> Result<(), Fail> {
+fn lays_out_words_closes_owners_and_is_read(rt: HostRuntime) {
     for rows in [WORDS.as_slice(), OWNERS.as_slice(), READS.as_slice()] {
-        let mut desk = Desk::new(rt.alloc(), 4, 50)?;
+        let mut desk = Desk::new(rt.alloc(), 4, 50).expect(&rt, "a manager");
         desk.goes(&rt, rows);
         assert_eq!(rt; desk.counters.value_shares(), 65536);
     }
-    Ok(())
 }
 
 #[test]
-fn copies_key_and_label(rt: HostRuntime) -> Result<(), Fail> {
-    let mut desk = Desk::new(rt.alloc(), 4, 50)?;
-    desk.allocate_with(&[1, 2], b"ab")?;
+fn copies_key_and_label(rt: HostRuntime) {
+    let mut desk = Desk::new(rt.alloc(), 4, 50).expect(&rt, "a manager");
+    assert_eq!(rt; desk.allocate_with(&[1, 2], b"ab"), Ok(0));
     let (mut key, mut label) = ([9; 112], [9; 380]);
     let copied = (
         desk.counters.key_into(0, &mut key),
@@ -158,13 +159,12 @@ fn copies_key_and_label(rt: HostRuntime) -> Result<(), Fail> {
     (all_label[0], all_label[1]) = (b'a', b'b');
     assert_eq!(rt; copied, (Ok(()), Ok(2)));
     assert!(rt; key == all_key && label == all_label);
-    Ok(())
 }
 
 /// No call of these looks at all the counters.
 #[test]
-fn reuses_all_counters(rt: HostRuntime) -> Result<(), Fail> {
-    let mut desk = Desk::new(rt.alloc(), 4096, 1_000_000)?;
+fn reuses_all_counters(rt: HostRuntime) {
+    let mut desk = Desk::new(rt.alloc(), 4096, 1_000_000).expect(&rt, "a manager");
     for id in 0..4096u32 {
         assert_eq!(rt; desk.allocate(0), Ok(id));
     }
@@ -178,7 +178,6 @@ fn reuses_all_counters(rt: HostRuntime) -> Result<(), Fail> {
     for id in 0..4096u32 {
         assert_eq!(rt; desk.allocate(1_004_095), Ok(id));
     }
-    Ok(())
 }
 
 /// The last digit of a number.
@@ -198,20 +197,19 @@ fn value_of(id: u32) -> i64 {
 
 /// But a freed one.
 #[test]
-fn lists_all_counters(rt: HostRuntime) -> Result<(), Fail> {
-    let mut desk = Desk::new(rt.alloc(), 4096, 0)?;
+fn lists_all_counters(rt: HostRuntime) {
+    let mut desk = Desk::new(rt.alloc(), 4096, 0).expect(&rt, "a manager");
     for id in 0..4096u32 {
         assert_eq!(rt; desk.allocate_with(&[7], &label_of(id)), Ok(id));
-        desk.set(id, value_of(id))?;
+        assert_eq!(rt; desk.set(id, value_of(id)), Ok(()));
     }
-    assert_eq!(rt; desk.live(rt.alloc())?.len(), 4096);
-    desk.free(100, 0)?;
-    let live = desk.live(rt.alloc())?;
+    assert_eq!(rt; desk.live(rt.alloc()).expect(&rt, "a list").len(), 4096);
+    assert_eq!(rt; desk.free(100, 0), Ok(()));
+    let live = desk.live(rt.alloc()).expect(&rt, "a list");
     assert_eq!(rt; live.len(), 4095);
     for (id, info) in (1..4096u32).zip(live.iter()) {
         assert_eq!(rt; (info.id, info.value, info.key[0]), (id, value_of(id), 7));
         assert_eq!(rt; (info.type_id, info.registration, info.owner), (5, 9, 0));
         assert_eq!(rt; info.label.as_slice(), label_of(id).as_slice());
     }
-    Ok(())
 }

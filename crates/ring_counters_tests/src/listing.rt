@@ -9,7 +9,7 @@ use std::test::*;
 
 /// Five ids, of which 0, 2 and 3 are in use: all of type 5, with the registration ids 9, 9 and 0 and the owners 0, 0
 /// and 7.
-const FIVE_IDS: [(Call<'static>, Said); 7] = [
+static FIVE_IDS: [(Call<'static>, Said); 7] = [
     (AllocateWith(&[7], b"first"), Id(0)),
     (Allocate(0), Id(1)),
     (AllocateWith(&[7, 8], b"second"), Id(2)),
@@ -35,8 +35,8 @@ fn has_label(counter: &LiveCounter<'_>, label: &[u8]) -> bool {
 }
 
 #[test]
-fn goes_over_counters_in_use(rt: HostRuntime) -> Result<(), Fail> {
-    let mut desk = Desk::new(rt.alloc(), 5, 50)?;
+fn goes_over_counters_in_use(rt: HostRuntime) {
+    let mut desk = Desk::new(rt.alloc(), 5, 50).expect(&rt, "a manager");
     desk.goes(&rt, &FIVE_IDS);
     let mut counters = desk.counters.iter();
     for (id, value, registration, owner, key, label) in [
@@ -44,9 +44,7 @@ fn goes_over_counters_in_use(rt: HostRuntime) -> Result<(), Fail> {
         (2, -42, 9, 0, b"\x07\x08".as_slice(), b"second".as_slice()),
         (3, 0, 0, 7, b"".as_slice(), b"".as_slice()),
     ] {
-        let Some(counter) = counters.next() else {
-            return Err(Fail::from("a counter is missing"));
-        };
+        let counter = counters.next().expect(&rt, "a counter");
         let numbers = (counter.id(), counter.type_id(), counter.value());
         assert_eq!(rt; numbers, (id, 5, value));
         assert_eq!(rt;
@@ -57,10 +55,9 @@ fn goes_over_counters_in_use(rt: HostRuntime) -> Result<(), Fail> {
     }
     assert!(rt; counters.next().is_none());
     assert!(rt; counters.next().is_none());
-    Ok(())
 }
 
-const LOOKS: [(Call<'static>, Said); 13] = [
+static LOOKS: [(Call<'static>, Said); 13] = [
     (Count, Number(5)),
     (TypeId(2), Signed(5)),
     (Registration(2), Number(9)),
@@ -77,9 +74,8 @@ const LOOKS: [(Call<'static>, Said); 13] = [
 ];
 
 #[test]
-fn tells_facts_and_finds_lowest_id(rt: HostRuntime) -> Result<(), Fail> {
-    let mut desk = Desk::new(rt.alloc(), 5, 50)?;
+fn tells_facts_and_finds_lowest_id(rt: HostRuntime) {
+    let mut desk = Desk::new(rt.alloc(), 5, 50).expect(&rt, "a manager");
     desk.goes(&rt, &FIVE_IDS);
     desk.goes(&rt, &LOOKS);
-    Ok(())
 }

@@ -4,7 +4,8 @@ ghost use Rattle.ring_counters.specs.Seats.{IsReaderOf};
 ghost use Rattle.ring_counters.specs.Manager.{IsManagerOf};
 
 use crate::desk::Desk;
-use ring_counters::{CounterValues, CountersManager, NoShares, ValueReader};
+use ring_counters::{CounterValues, CountersManager, ValueReader};
+use std::process::Abort;
 use std::test::*;
 use std::thread::{Threads, join};
 
@@ -39,16 +40,16 @@ fn watch(values: &CounterValues, mut reader: ValueReader, last: i64) -> (ValueRe
 }
 
 /// One thread counts up while two others watch.
-fn counts_and_watches<R: Threads + Sync>(
+fn counts_and_watches<R: Abort + Threads + Sync>(
     rt: &R,
     values: &CounterValues,
     mut counters: CountersManager,
     last: i64,
-) -> Result<bool, NoShares>
+) -> bool
     requires { IsManagerOf values.now counters }
 {
-    let one = counters.reader(values)?;
-    let two = counters.reader(values)?;
+    let one = counters.reader(values).expect(rt, "a reader");
+    let two = counters.reader(values).expect(rt, "a reader");
     let (mut counters, (one, two)) = join(
         rt,
         move || -> CountersManager
@@ -76,16 +77,15 @@ fn counts_and_watches<R: Threads + Sync>(
     let (two, second) = two;
     counters.join_reader(values, one);
     counters.join_reader(values, two);
-    Ok(first && second)
+    first && second
 }
 
 #[test]
-fn readers_never_see_values_fall(rt: HostRuntime) -> Result<(), Fail> {
+fn readers_never_see_values_fall(rt: HostRuntime) {
     for _round in 0..100u32 {
-        let mut desk = Desk::new(rt.alloc(), 1, 0)?;
+        let mut desk = Desk::new(rt.alloc(), 1, 0).expect(&rt, "a manager");
         assert_eq!(rt; desk.allocate(0), Ok(0));
         let Desk { values, counters } = desk;
-        assert_eq!(rt; counts_and_watches(&rt, &values, counters, 1000), Ok(true));
+        assert!(rt; counts_and_watches(&rt, &values, counters, 1000));
     }
-    Ok(())
 }

@@ -6,7 +6,7 @@ use ring_counters::IdFault;
 use std::test::*;
 
 #[test]
-fn adds_and_gives_value_before(rt: HostRuntime) -> Result<(), Fail> {
+fn adds_and_gives_value_before(rt: HostRuntime) {
     for (before, delta, after) in [
         (0, 5, 5),
         (5, -7, -2),
@@ -24,13 +24,14 @@ fn adds_and_gives_value_before(rt: HostRuntime) -> Result<(), Fail> {
             (Add(1, 1), Bad(IdFault::NotAllocated)),
             (Add(2, 1), Bad(IdFault::BadId)),
         ];
-        Desk::new(rt.alloc(), 2, 50)?.goes(&rt, &rows);
+        Desk::new(rt.alloc(), 2, 50)
+            .expect(&rt, "a manager")
+            .goes(&rt, &rows);
     }
-    Ok(())
 }
 
 #[test]
-fn raises_smaller_value_alone(rt: HostRuntime) -> Result<(), Fail> {
+fn raises_smaller_value_alone(rt: HostRuntime) {
     for (before, proposed, raised, after) in [
         (0, 1, true, 1),
         (4, 4, false, 4),
@@ -47,7 +48,8 @@ fn raises_smaller_value_alone(rt: HostRuntime) -> Result<(), Fail> {
             (ProposeMax(1, 1), Bad(IdFault::NotAllocated)),
             (ProposeMax(2, 1), Bad(IdFault::BadId)),
         ];
-        Desk::new(rt.alloc(), 2, 50)?.goes(&rt, &rows);
+        Desk::new(rt.alloc(), 2, 50)
+            .expect(&rt, "a manager")
+            .goes(&rt, &rows);
     }
-    Ok(())
 }
