@@ -4,19 +4,19 @@ use crate::words::words_of;
 use ring_board::{Board, ClosedBoard};
 use ring_snapshot::{BoardFinding, BoardRecord, BoardSnapshot};
 use std::alloc::Global;
-use std::test::Fail;
+use std::process::Abort;
 
 /// A closed board of 256 bytes, on which this many messages of lengths that look random were transmitted: message k has
 /// the type id k and bytes k - 1 modulo 256.
-fn transmitted(alloc: Global, numbers: &mut Numbers, sent: i32) -> Result<ClosedBoard, Fail> {
-    let (board, mut transmitter) = Board::new(alloc, 256)?;
+fn transmitted(rt: &impl Abort, alloc: Global, numbers: &mut Numbers, sent: i32) -> ClosedBoard {
+    let (board, mut transmitter) = Board::new(alloc, 256).expect(rt, "a board");
     'sends: for type_id in 0..sent {
         let len = (numbers.next() % 33) as usize;
         let body = [type_id.to_le_bytes()[0]; 32];
-        board.transmit(&mut transmitter, type_id + 1, &body[..len])?;
+        let is_sent = board.transmit(&mut transmitter, type_id + 1, &body[..len]);
+        assert_eq!(rt; is_sent, Ok(()));
     }
-    let closed = board.close(transmitter).map_err(|refused| refused.reason)?;
-    Ok(closed)
+    board.close(transmitter).ok().expect(rt, "a closed board")
 }
 
 /// What a listing has come to.
@@ -48,32 +48,27 @@ impl Lap {
 }
 
 /// How many records are listed, which have to be the last messages.
-fn listed_of(alloc: Global, closed: &ClosedBoard, sent: i32) -> Result<u64, Fail> {
-    let words = words_of(alloc, closed)?;
-    let board = BoardSnapshot::new(words.as_slice())?;
+fn listed_of(rt: &impl Abort, alloc: Global, closed: &ClosedBoard, sent: i32) -> u64 {
+    let words = words_of(rt, alloc, closed);
+    let board = BoardSnapshot::new(words.as_slice()).expect(rt, "a board");
     let mut lap = Lap::default();
     lap.place = closed.latest() & !255;
-    for entry in board.records()? {
-        if !lap.goes_on(entry?) {
-            return Err(Fail::from("another record"));
-        }
+    for entry in board.records().expect(rt, "records") {
+        assert!(rt; lap.goes_on(entry.expect(rt, "a record")), "another record");
     }
-    if (lap.place, lap.last) != (closed.tail(), sent) {
-        return Err(Fail::from("it does not end with the last message"));
-    }
-    Ok(lap.listed)
+    assert_eq!(rt; (lap.place, lap.last), (closed.tail(), sent));
+    lap.listed
 }
 
 #[test]
-fn lists_the_running_lap(rt: HostRuntime) -> Result<(), Fail> {
+fn lists_the_running_lap(rt: HostRuntime) {
     let mut numbers = Numbers(0x2545_f491_4f6c_dd1d);
     let mut listed = 0u64;
     for sent in 0..100 {
-        let closed = transmitted(rt.alloc(), &mut numbers, sent)?;
-        listed = listed.wrapping_add(listed_of(rt.alloc(), &closed, sent)?);
+        let closed = transmitted(&rt, rt.alloc(), &mut numbers, sent);
+        listed = listed.wrapping_add(listed_of(&rt, rt.alloc(), &closed, sent));
     }
     assert!(rt; listed > 200);
-    Ok(())
 }
 
 /// The words of a board of 256 bytes with these positions: words 0, 1 and 2 of the trailer.
@@ -108,12 +103,12 @@ fn names_what_is_wrong(rt: HostRuntime) {
 }
 
 #[test]
-fn nothing_comes_behind_a_finding(rt: HostRuntime) -> Result<(), Fail> {
+fn nothing_comes_behind_a_finding(rt: HostRuntime) {
     let words = words_with(24, 24, 0);
-    let board = BoardSnapshot::new(&words)?;
-    let mut records = board.records()?;
+    let board = BoardSnapshot::new(&words).expect(&rt, "a board");
+    let mut records = board.records().expect(&rt, "records");
     let Some(Err(found)) = records.next() else {
-        return Err(Fail::from("nothing is found"));
+        panic!(rt; "nothing is found");
     };
     let finding = BoardFinding::BadLength {
         index: 0,
@@ -123,7 +118,6 @@ fn nothing_comes_behind_a_finding(rt: HostRuntime) -> Result<(), Fail> {
     assert!(rt; records.next().is_none());
     let outside = BoardFinding::OutsideOfRecords { position: 8 };
     assert_eq!(rt; board.records_from(8).err(), Some(outside));
-    Ok(())
 }
 
 /// What came of words.

@@ -9,7 +9,7 @@ use ring_snapshot::{
     Counter, CounterMetadata, CounterState, CounterValueWords, CountersFinding, CountersSnapshot,
 };
 use std::alloc::Global;
-use std::test::Fail;
+use std::process::Abort;
 
 /// A manager with its values.
 #[derive(Drop)]
@@ -85,45 +85,45 @@ fn is_told(manager: &CountersManager, counter: Counter<'_>) -> Result<bool, IdFa
     }
 }
 
-/// How many counters are listed, which have to be those that the manager says of.
-fn listed_of(alloc: Global, manager: &CountersManager) -> Result<u32, Fail> {
-    let metadata = words_of(alloc, &CounterMetadata(manager))?;
-    let values = words_of(alloc, &CounterValueWords(manager))?;
-    let snapshot = CountersSnapshot::new(metadata.as_slice(), values.as_slice())?;
+/// How many counters are listed, which have to be those that the manager has.
+fn listed_of(rt: &impl Abort, alloc: Global, manager: &CountersManager) -> u32 {
+    let metadata = words_of(rt, alloc, &CounterMetadata(manager));
+    let values = words_of(rt, alloc, &CounterValueWords(manager));
+    let snapshot = CountersSnapshot::new(metadata.as_slice(), values.as_slice()).expect(
+        rt, "counters",
+    );
     let mut listed = snapshot.counters();
     let mut count = 0u32;
     for id in 0..manager.count() {
-        if manager.state(id)? == 0 {
+        if manager.state(id) == Ok(0) {
             continue;
         }
         let Some(Ok(counter)) = listed.next() else {
-            return Err(Fail::from("a counter is missing"));
+            panic!(rt; "a counter is missing");
         };
-        if counter.id != id || !is_told(manager, counter)? {
-            return Err(Fail::from("another counter"));
-        }
+        assert!(rt;
+            counter.id == id && is_told(manager, counter) == Ok(true),
+            "counter {id}"
+        );
         count = count.wrapping_add(1);
     }
-    match listed.next() {
-        None => Ok(count),
-        Some(_) => Err(Fail::from("a counter too many")),
-    }
+    assert!(rt; listed.next().is_none());
+    count
 }
 
 #[test]
-fn lists_what_the_manager_answers(rt: HostRuntime) -> Result<(), Fail> {
-    let (values, counters) = CountersManager::new(rt.alloc(), 8, 3)?;
+fn lists_what_the_manager_answers(rt: HostRuntime) {
+    let (values, counters) = CountersManager::new(rt.alloc(), 8, 3).expect(&rt, "counters");
     let mut desk = Desk { values, counters };
     let mut numbers = Numbers(0x1234_5678_9abc_def1);
     let mut listed = 0u32;
     for now in 0..1000 {
         desk.step(&mut numbers, now);
         if now % 5 == 0 {
-            listed = listed.wrapping_add(listed_of(rt.alloc(), &desk.counters)?);
+            listed = listed.wrapping_add(listed_of(&rt, rt.alloc(), &desk.counters));
         }
     }
     assert!(rt; listed > 500);
-    Ok(())
 }
 
 #[test]
@@ -151,9 +151,9 @@ fn wrong_metadata() -> [u64; 192] {
 }
 
 #[test]
-fn names_what_is_wrong(rt: HostRuntime) -> Result<(), Fail> {
+fn names_what_is_wrong(rt: HostRuntime) {
     let (metadata, values) = (wrong_metadata(), [0u64; 48]);
-    let snapshot = CountersSnapshot::new(&metadata, &values)?;
+    let snapshot = CountersSnapshot::new(&metadata, &values).expect(&rt, "counters");
     assert_eq!(rt; snapshot.count(), 3);
     let mut listed = snapshot.counters();
     for finding in [
@@ -161,29 +161,27 @@ fn names_what_is_wrong(rt: HostRuntime) -> Result<(), Fail> {
         CountersFinding::BadLabelLength { id: 1, length: 381 },
     ] {
         let Some(Err(found)) = listed.next() else {
-            return Err(Fail::from("nothing is found"));
+            panic!(rt; "nothing is found");
         };
         assert_eq!(rt; found, finding);
     }
     let Some(Ok(third)) = listed.next() else {
-        return Err(Fail::from("a counter is missing"));
+        panic!(rt; "a counter is missing");
     };
     assert_eq!(rt; (third.id, third.type_id), (2, 7));
     assert!(rt; third.label.is_empty());
     assert!(rt; listed.next().is_none());
-    Ok(())
 }
 
 #[test]
-fn lists_from_an_id_on(rt: HostRuntime) -> Result<(), Fail> {
+fn lists_from_an_id_on(rt: HostRuntime) {
     let (metadata, values) = (wrong_metadata(), [0u64; 48]);
-    let snapshot = CountersSnapshot::new(&metadata, &values)?;
+    let snapshot = CountersSnapshot::new(&metadata, &values).expect(&rt, "counters");
     let Some(Ok(first)) = snapshot.counters_from(2).next() else {
-        return Err(Fail::from("a counter is missing"));
+        panic!(rt; "a counter is missing");
     };
     assert_eq!(rt; first.id, 2);
     assert!(rt; snapshot.counters_from(3).next().is_none());
-    Ok(())
 }
 
 /// What came of words.

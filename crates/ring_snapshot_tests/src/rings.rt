@@ -4,30 +4,30 @@ use crate::words::{has_bytes, words_of};
 use ring_snapshot::{RecordState, RingFinding, RingSnapshot};
 use ring_words::{Action, Handler, SoloRing};
 use std::alloc::Global;
-use std::test::Fail;
+use std::process::Abort;
 
 /// The words of a ring with a committed record, an open one, and one without a message.
-fn claimed_words(alloc: Global) -> Result<Vec<u64>, Fail> {
-    let mut ring = SoloRing::new(alloc, 128)?;
-    ring.write(7, b"hello")?;
-    let _claim = ring.claim(8, 3)?;
-    ring.write(9, b"")?;
-    Ok(words_of(alloc, &ring)?)
+fn claimed_words(rt: &impl Abort, alloc: Global) -> Vec<u64> {
+    let mut ring = SoloRing::new(alloc, 128).expect(rt, "a ring");
+    assert_eq!(rt; ring.write(7, b"hello"), Ok(()));
+    assert!(rt; ring.claim(8, 3).is_ok());
+    assert_eq!(rt; ring.write(9, b""), Ok(()));
+    words_of(rt, alloc, &ring)
 }
 
 #[test]
-fn lists_what_is_claimed(rt: HostRuntime) -> Result<(), Fail> {
-    let words = claimed_words(rt.alloc())?;
-    let ring = RingSnapshot::new(words.as_slice())?;
+fn lists_what_is_claimed(rt: HostRuntime) {
+    let words = claimed_words(&rt, rt.alloc());
+    let ring = RingSnapshot::new(words.as_slice()).expect(&rt, "a ring");
     assert_eq!(rt; (ring.capacity(), ring.head(), ring.tail()), (128, 0, 40));
-    let mut records = ring.records()?;
+    let mut records = ring.records().expect(&rt, "records");
     for (place, index, state, type_id, length, body) in [
         (0, 0, RecordState::Committed, 7, 13, b"hello".as_slice()),
         (16, 16, RecordState::Open, 8, 11, b"\0\0\0".as_slice()),
         (32, 32, RecordState::Committed, 9, 8, b"".as_slice()),
     ] {
         let Some(Ok(record)) = records.next() else {
-            return Err(Fail::from("a record is missing"));
+            panic!(rt; "a record is missing");
         };
         assert_eq!(rt; (record.place, record.index), (place, index));
         assert_eq!(rt; record.state, state);
@@ -35,7 +35,6 @@ fn lists_what_is_claimed(rt: HostRuntime) -> Result<(), Fail> {
         assert!(rt; has_bytes(record.body, body));
     }
     assert!(rt; records.next().is_none());
-    Ok(())
 }
 
 /// The words of a ring of 128 bytes with these positions. The tail is word 16 of the trailer, the head word 48.
@@ -65,13 +64,13 @@ fn names_what_is_wrong(rt: HostRuntime) {
 }
 
 #[test]
-fn nothing_comes_behind_a_finding(rt: HostRuntime) -> Result<(), Fail> {
+fn nothing_comes_behind_a_finding(rt: HostRuntime) {
     let mut words = words_between(8, 24);
     words[1] = 0x0000_0007_0000_0019;
-    let ring = RingSnapshot::new(&words)?;
-    let mut records = ring.records()?;
+    let ring = RingSnapshot::new(&words).expect(&rt, "a ring");
+    let mut records = ring.records().expect(&rt, "records");
     let Some(Err(found)) = records.next() else {
-        return Err(Fail::from("nothing is found"));
+        panic!(rt; "nothing is found");
     };
     let finding = RingFinding::BadLength {
         index: 8,
@@ -81,7 +80,6 @@ fn nothing_comes_behind_a_finding(rt: HostRuntime) -> Result<(), Fail> {
     assert!(rt; records.next().is_none());
     let outside = RingFinding::OutsideOfRecords { position: 20 };
     assert_eq!(rt; ring.records_from(20).err(), Some(outside));
-    Ok(())
 }
 
 /// What came of words.
@@ -184,19 +182,18 @@ fn write_or_abort(ring: &mut SoloRing, numbers: &mut Numbers, type_id: i32) {
 }
 
 #[test]
-fn shows_what_a_read_gives_next(rt: HostRuntime) -> Result<(), Fail> {
+fn shows_what_a_read_gives_next(rt: HostRuntime) {
     let mut numbers = Numbers(0x2545_f491_4f6c_dd1d);
-    let mut ring = SoloRing::new(rt.alloc(), 128)?;
+    let mut ring = SoloRing::new(rt.alloc(), 128).expect(&rt, "a ring");
     let mut compared = 0u64;
     for type_id in 1..2000 {
         write_or_abort(&mut ring, &mut numbers, type_id);
         if numbers.next() % 2 == 0 {
-            let words = words_of(rt.alloc(), &ring)?;
+            let words = words_of(&rt, rt.alloc(), &ring);
             let next = first_committed(words.as_slice());
             assert_eq!(rt; next_read(&mut ring), next);
             compared = compared.wrapping_add(1);
         }
     }
     assert!(rt; compared > 500);
-    Ok(())
 }

@@ -4,7 +4,7 @@ use ring_snapshot::{CounterMetadata, CounterValueWords, Words, write_words};
 use ring_words::SoloRing;
 use std::alloc::Global;
 use std::io::{self, ErrorKind, Write};
-use std::test::Fail;
+use std::process::Abort;
 
 /// Keeps what it is given: at most this many bytes at a time, and none beyond a limit.
 #[derive(Drop)]
@@ -43,14 +43,14 @@ fn is_written<S: Words>(alloc: Global, source: &S, most: usize, limit: usize) ->
 }
 
 /// What is written, this many bytes at a time.
-fn written<S: Words>(alloc: Global, source: &S, most: usize) -> Result<Vec<u8>, Fail> {
+fn written<S: Words>(rt: &impl Abort, alloc: Global, source: &S, most: usize) -> Vec<u8> {
     let mut out = Slow {
         bytes: Vec::new(alloc),
         most,
         limit: usize::MAX,
     };
-    write_words(source, &mut out)?;
-    Ok(out.bytes)
+    assert!(rt; write_words(source, &mut out).is_ok());
+    out.bytes
 }
 
 /// Tests whether these bytes are at an index.
@@ -59,57 +59,51 @@ fn stand(bytes: &[u8], at: usize, wanted: &[u8]) -> bool {
 }
 
 /// A ring with one record.
-fn small_ring(alloc: Global) -> Result<SoloRing, Fail> {
-    let mut ring = SoloRing::new(alloc, 128)?;
-    ring.write(7, b"hello")?;
-    Ok(ring)
+fn small_ring(rt: &impl Abort, alloc: Global) -> SoloRing {
+    let mut ring = SoloRing::new(alloc, 128).expect(rt, "a ring");
+    assert_eq!(rt; ring.write(7, b"hello"), Ok(()));
+    ring
 }
 
 #[test]
-fn writes_words_little_endian(rt: HostRuntime) -> Result<(), Fail> {
-    let ring = small_ring(rt.alloc())?;
-    let bytes = written(rt.alloc(), &ring, 3)?;
+fn writes_words_little_endian(rt: HostRuntime) {
+    let ring = small_ring(&rt, rt.alloc());
+    let bytes = written(&rt, rt.alloc(), &ring, 3);
     assert_eq!(rt; bytes.len(), 128 + 768);
     let record = [13u8, 0, 0, 0, 7, 0, 0, 0, 104, 101, 108, 108, 111, 0, 0, 0];
     assert!(rt; stand(bytes.as_slice(), 0, &record));
     // The tail, 128 bytes after the buffer.
     assert!(rt; stand(bytes.as_slice(), 256, &[16, 0, 0, 0, 0, 0, 0, 0]));
-    Ok(())
 }
 
 #[test]
-fn a_failed_write_is_an_error(rt: HostRuntime) -> Result<(), Fail> {
-    let ring = SoloRing::new(rt.alloc(), 128)?;
+fn a_failed_write_is_an_error(rt: HostRuntime) {
+    let ring = SoloRing::new(rt.alloc(), 128).expect(&rt, "a ring");
     for limit in [1, 8, 100, 895] {
         assert_eq!(rt; is_written(rt.alloc(), &ring, 1, limit), (false, limit));
     }
     assert_eq!(rt; is_written(rt.alloc(), &ring, 1, 896), (true, 896));
-    Ok(())
 }
 
 /// Counters of which the second has the value -2.
-fn two_counters(alloc: Global) -> Result<CountersManager, Fail> {
-    let (values, mut manager) = CountersManager::new(alloc, 2, 0)?;
-    let first = manager.allocate(&values, 0, 5, b"", b"one", 0)?;
-    let second = manager.allocate(&values, 0, 6, b"k", b"two", 0)?;
-    if (first, second) != (0, 1) {
-        return Err(Fail::from("other ids"));
-    }
-    manager.set(&values, 1, -2)?;
-    Ok(manager)
+fn two_counters(rt: &impl Abort, alloc: Global) -> CountersManager {
+    let (values, mut manager) = CountersManager::new(alloc, 2, 0).expect(rt, "counters");
+    assert_eq!(rt; manager.allocate(&values, 0, 5, b"", b"one", 0), Ok(0));
+    assert_eq!(rt; manager.allocate(&values, 0, 6, b"k", b"two", 0), Ok(1));
+    assert_eq!(rt; manager.set(&values, 1, -2), Ok(()));
+    manager
 }
 
 #[test]
-fn writes_the_records_of_counters(rt: HostRuntime) -> Result<(), Fail> {
-    let manager = two_counters(rt.alloc())?;
-    let metadata = written(rt.alloc(), &CounterMetadata(&manager), 100)?;
+fn writes_the_records_of_counters(rt: HostRuntime) {
+    let manager = two_counters(&rt, rt.alloc());
+    let metadata = written(&rt, rt.alloc(), &CounterMetadata(&manager), 100);
     assert_eq!(rt; metadata.len(), 1024);
     let label = [3u8, 0, 0, 0, 116, 119, 111];
     assert!(rt; stand(metadata.as_slice(), 512, &[1, 0, 0, 0, 6, 0, 0, 0]));
     assert!(rt; stand(metadata.as_slice(), 512 + 128, &label));
-    let values = written(rt.alloc(), &CounterValueWords(&manager), 100)?;
+    let values = written(&rt, rt.alloc(), &CounterValueWords(&manager), 100);
     assert_eq!(rt; values.len(), 256);
     let value = [254u8, 255, 255, 255, 255, 255, 255, 255];
     assert!(rt; stand(values.as_slice(), 128, &value));
-    Ok(())
 }
