@@ -58,14 +58,16 @@ fn check(plan: &StormPlan, report: &StormReport) -> Result<(), Fault> {
     let all = all_commands(plan);
     // The first command of a client sets nothing.
     let sum = if plan.commands == 1 { 0 } else { all };
-    let wanted = StormReport {
-        received: all,
-        left: 0,
-        seen: all,
-        live: plan.clients,
-        sum: sum.cast_signed(),
-    };
-    if *report == wanted {
+    let wanted = (all, 0, all, plan.clients, sum.cast_signed());
+    let StormReport {
+        received,
+        left,
+        seen,
+        live,
+        sum,
+        ..
+    } = report;
+    if (*received, *left, *seen, *live, *sum) == wanted {
         Ok(())
     } else {
         Err(Fault::WRONG_MESSAGE)

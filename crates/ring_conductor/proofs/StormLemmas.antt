@@ -45,7 +45,7 @@ use Rattle.ring_conductor.specs.Account.{IsFoldOf, messages_in}
 use Rattle.ring_conductor.specs.Conducting.{Works}
 use Rattle.ring_conductor.specs.Finishing.{IsWhole}
 use Rattle.ring_conductor.specs.Turns.{AreAllTurns, drawn_in}
-use Rattle.ring_conductor.specs.Storming.{IsBoardFor, IsPlan, IsReportOf, all_commands, counters_after, storm_counters, sum_of}
+use Rattle.ring_conductor.specs.Storming.{IsBoardFor, IsPlan, IsReportBy, all_commands, counters_after, storm_counters, sum_of}
 use Rattle.ring_conductor.specs.Fold.{Ledger, fold_of, at_moment, served}
 use Rattle.ring_protocol.specs.Reading.{command_of}
 use Rattle.ring_conductor.proofs.FinishLemmas.{drained, messages_of-append}
@@ -214,7 +214,8 @@ module _ (p : StormPlan) (v w : View) (rest : Ring) (counters : Registry) (sent 
 
   report_of : (r : StormReport) → r.received ≡ length w.consumer.taken → r.seen ≡ all_commands p
       → ((h : List Claim) → Has rest h → AllSettled h → r.left ≡ length (committed_of h))
-      → r.live ≡ length (live_of counters) → r.sum ≡ sum_of (live_of counters) → IsReportOf p r
+      → r.live ≡ length (live_of counters) → r.sum ≡ sum_of (live_of counters)
+      → IsReportBy p r v.producer.claims (messages_of w.consumer.taken) sent heard services counters ended.writes
   report_of r received seen left live sum =
       let all = drained p.ring 0 v w rest ended.out (none_open v.producer.claims ended.settled).0 r.left left in
       let few = few_committed v.producer.claims in
@@ -232,24 +233,19 @@ module _ (p : StormPlan) (v w : View) (rest : Ring) (counters : Registry) (sent 
         received = omega arith;
         left = omega arith;
         seen = seen;
-        claims = v.producer.claims;
         ordered = ended.out.ordered;
-        receivers = heard;
-        services = services;
         turns = ended.turns;
         once = λ x. ended.once x ∙ ap (once_below x) draws;
-        messages = messages;
         taken = lengths w.consumer.taken ∙ sym received;
         whole = all_taken;
-        replies = sent;
         runs = ended.runs;
-        writes = ended.writes;
-        folded = folded;
-        live = live ∙ ap (λ c. length (live_of c)) ended.counters_are;
+        folded = ended.folded;
+        counters = ended.counters_are;
+        live = live;
         clients = live ∙ (ap (λ c. length (live_of c)) ended.counters_are
             ∙ (ap (λ ms. length (live_of (storm_counters p ms))) all_taken
             ∙ storm_live p v.producer.claims heard services lawful.commands.0 lawful.clients.1 ended.turns));
-        sum = sum ∙ ap (λ c. sum_of (live_of c)) ended.counters_are;
+        sum = sum;
         own = storm_own p.clients p.commands v.producer.claims heard services sent lawful.clients.1 lawful.commands.0
             lawful.commands.1 ended.turns ended.runs ended.drawn ended.once (storm_counters p messages) ended.writes
             (storm_count p messages) claimed;
@@ -263,7 +259,8 @@ module _ (p : StormPlan) (v w : View) (rest : Ring) (counters : Registry) (sent 
   pub reported : (r : StormReport) (n m : ℕ) → n ≡ length w.consumer.taken → m ≡ all_commands p
       → (r.received ≡ n) × (r.seen ≡ m)
       → ((h : List Claim) → Has rest h → AllSettled h → r.left ≡ length (committed_of h))
-      → r.live ≡ length (live_of counters) → r.sum ≡ sum_of (live_of counters) → IsReportOf p r
+      → r.live ≡ length (live_of counters) → r.sum ≡ sum_of (live_of counters)
+      → IsReportBy p r v.producer.claims (messages_of w.consumer.taken) sent heard services counters ended.writes
   reported r n m n_is m_is counts left live sum = report_of r (counts.0 ∙ n_is) (counts.1 ∙ m_is) left live sum
 
 -- what is handed out, at the capacity and the start that are known

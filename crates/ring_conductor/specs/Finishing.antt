@@ -6,6 +6,7 @@ use Rattle.ring_layout.specs.Refusals.{all_shares}
 use Rattle.ring_words.specs.Ring.{Ring, Has}
 use Rattle.ring_table.specs.declared.claim.PlacedMessage.{PlacedMessage}
 use Rattle.ring_table.specs.declared.claim.StagedClaim.{StagedClaim}
+use Rattle.ring_table.specs.declared.view.Service.{Service}
 use Rattle.ring_table.specs.Passing.{placed_committed_of}
 use Rattle.ring_rings.specs.declared.ring.Consumer.{Consumer}
 use Rattle.ring_rings.specs.declared.ring.Producer.{Producer}
@@ -28,6 +29,7 @@ use Rattle.ring_conductor.specs.declared.finishing.fault.FinishFault.{FinishFaul
 use Rattle.ring_conductor.specs.declared.finishing.fault.FinishFault.TheVariants.{ClaimsOpen, ProducersOut, ReceiversOut}
 use Rattle.ring_conductor.specs.declared.finishing.fault.FinishRefused.{FinishRefused}
 use Rattle.ring_conductor.specs.Account.{IsFoldOf, messages_in}
+use Rattle.ring_conductor.specs.Asking.{services_of}
 use Rattle.ring_conductor.specs.Conducting.{IsConductorOf, manager_in, received_of, ring_view, transmitter_of}
 
 -- why a conductor does not finish, with so many open claims of the producer, and so many shares of producer and
@@ -73,6 +75,24 @@ replies_of c = transmitted (transmitter_of c)
 abbrev pub joined_by : Conductor → List Joined
 joined_by c = heard_by (transmitter_of c)
 
+-- What a finished conductor names: the claims of all producers, the messages that it received, the replies that it
+-- transmitted, and the receivers that it took back
+abbrev pub claims_in : Finished → List StagedClaim
+claims_in f = claims_of f.producer.value
+
+abbrev pub received_in : Finished → List PlacedMessage
+received_in f = received_of f.conductor.value
+
+abbrev pub replies_in : Finished → List Record
+replies_in f = replies_of f.conductor.value
+
+abbrev pub joined_in : Finished → List Joined
+joined_in f = joined_by f.conductor.value
+
+-- what the producers drew and read that were joined
+abbrev pub services_in : Finished → List Service
+services_in f = services_of f.producer.value
+
 -- the counters, their value writes and the replies are the fold of the commands received, each at a moment
 abbrev pub IsFoldOfReceived : Conductor → CountersManager → Type 0
 IsFoldOfReceived c counters =
@@ -105,8 +125,8 @@ pub record Headline (C start : ℕ) (p : Producer) (c : Conductor) (f : Finished
   -- The counters and the transmitted replies are the fold of the commands received, each applied at a moment.
   pub folded : ∥ IsFoldOfReceived c f.counters ∥₁
 
--- What is handed on: the counters, the board with all replies, how many commands were received, the values, and in the
--- rest the words of ids and heartbeat, which are those that were drawn and stored
+-- What is handed on: the counters, the board with all replies, how many commands were received, the values, in the rest
+-- the words of ids and heartbeat, which are those that were drawn and stored, and producer and conductor by name
 pub record HandsOn (C : ℕ) (board : Board) (v : CounterValues) (p : Producer) (c : Conductor) (f : Finished)
     : Type 0 where
   pub counters : f.counters ≡ manager_in c
@@ -114,3 +134,5 @@ pub record HandsOn (C : ℕ) (board : Board) (v : CounterValues) (p : Producer) 
   pub received : f.received ≡ length (received_of c)
   pub values : f.values ≡ v
   pub services : Serves C (view_of p) (ring_view c) f.rest
+  pub producer : f.producer.value ≡ p
+  pub conductor : f.conductor.value ≡ c

@@ -1,5 +1,5 @@
 -- What clauses say of a storm.
-use Rattle.std.specs.Prelude.{◌≡◌, ◌⊎◌, ℕ, ◌+◌, ◌*◌, ◌/◌, ◌<◌, ◌≤◌, ◌^◌, ℤ, pos, ◌+ℤ◌, IsTrue, List, [], ◌∷◌, ◌++◌, fold, length, None}
+use Rattle.std.specs.Prelude.{◌≡◌, ◌⊎◌, ℕ, ◌+◌, ◌*◌, ◌/◌, ◌<◌, ◌≤◌, ◌^◌, ℤ, pos, ◌+ℤ◌, IsTrue, List, [], ◌∷◌, ◌++◌, fold, length, nat_lt, if◌then◌else◌, Option, None, Some, unwrap_or}
 use Rattle.std.specs.Int.{is_power_of_two, IsPowerOfTwo, saturate_signed, w64}
 use Rattle.ring_layout.specs.declared.message.Message.{Message}
 use Rattle.ring_layout.specs.Refusals.{all_shares}
@@ -18,15 +18,19 @@ use Rattle.ring_rings.specs.Seats.{capacity_of, claims_of, open_claims_of, seen_
 use Rattle.ring_board.specs.declared.board.Board.{Board}
 use Rattle.ring_board.specs.declared.shared.view.Joined.{Joined}
 use Rattle.ring_board.specs.declared.shared.view.Record.{Record}
+use Rattle.ring_board.specs.Closing.{closed_capacity}
 use Rattle.ring_board.specs.Runs.{AreAllRuns}
 use Rattle.ring_board.specs.Seats.{IsReceiverOf, receiver_view, shares_of as board_shares}
 use Rattle.ring_board.specs.Views.{as_joined}
 use Rattle.ring_counters.specs.declared.values.view.ValueWrite.{ValueWrite}
 use Rattle.ring_counters.specs.declared.values.seats.CounterValues.{CounterValues}
 use Rattle.ring_counters.specs.Counter.{Counter}
-use Rattle.ring_counters.specs.Manager.{registry_of}
+use Rattle.ring_counters.specs.Manager.{registry_of, writes_of}
 use Rattle.ring_counters.specs.Registry.{Registry, counter_at, fresh_registry, is_allocated, live_of, status_at, value_at}
 use Rattle.ring_conductor.specs.declared.conductor.Conductor.{Conductor}
+use Rattle.ring_conductor.specs.declared.finishing.Finished.{Finished}
+use Rattle.ring_conductor.specs.declared.storming.seats.Failure.{Failure}
+use Rattle.ring_conductor.specs.declared.storming.seats.Failure.TheVariants as fails
 use Rattle.ring_conductor.specs.declared.storming.conductor.ConductorEnd.{ConductorEnd}
 use Rattle.ring_conductor.specs.declared.storming.plan.StormFault.{StormFault}
 use Rattle.ring_conductor.specs.declared.storming.plan.StormFault.TheVariants.{BadPlan, OutOfMemory, TurnsSpent}
@@ -40,7 +44,7 @@ use Rattle.ring_conductor.specs.declared.storming.shared.Shared.{Shared}
 use Rattle.ring_conductor.specs.Applied.{applied}
 use Rattle.ring_conductor.specs.Asking.{draws_of, producer_of, receiver_of, service_of, services_of}
 use Rattle.ring_conductor.specs.Conducting.{IsConductorOf, manager_in, received_of, transmitter_of, value_shares_of}
-use Rattle.ring_conductor.specs.Finishing.{HandsOn, Headline, joined_by}
+use Rattle.ring_conductor.specs.Finishing.{HandsOn, Headline, claims_in, joined_by, joined_in, received_in, replies_in, services_in}
 use Rattle.ring_conductor.specs.Account.{IsFoldOf, messages_in}
 use Rattle.ring_conductor.specs.Turns.{AreAllTurns, AreAnswered, Deeds, claims_by, copies_by, drawn_in, draws_by, label_of, last_set}
 
@@ -58,6 +62,16 @@ abbrev pub storm_code : StormFault → ℤ
 storm_code BadPlan = pos 26
 storm_code OutOfMemory = pos 3
 storm_code TurnsSpent = pos 27
+
+-- why a storm gives no report that did not go on
+abbrev pub fault_of : Failure → StormFault
+fault_of fails.OutOfMemory = OutOfMemory
+fault_of fails.TurnsSpent = TurnsSpent
+
+-- a client that has not all its replies has spent its turns, unless something failed before
+abbrev pub failure_after : ℕ → ℕ → Option Failure → Option Failure
+failure_after replies commands failure =
+    if nat_lt replies commands then Some (unwrap_or failure fails.TurnsSpent) else failure
 
 -- how many commands all clients send
 abbrev pub all_commands : StormPlan → ℕ
@@ -269,25 +283,33 @@ pub record HasFinished {K : Type 0} (p : StormPlan) (ring : Ring K) (board : Boa
 -- commands' correlation ids are the numbers below that of all commands, each once. The live counters, and the sum of
 -- their values, are those that the messages make of fresh counters: one for each client, which has its label and the
 -- last number that it set, which the plan determines
-pub record IsReportOf (p : StormPlan) (r : StormReport) : Type 0 where
+pub record IsReportBy (p : StormPlan) (r : StormReport) (claims : List StagedClaim) (messages : List Message)
+    (replies : List Record) (receivers : List Joined) (services : List Service) (registry : Registry)
+    (writes : List ValueWrite) : Type 0 where
   pub received : r.received ≡ all_commands p
   pub left : r.left ≡ 0
   pub seen : r.seen ≡ all_commands p
-  pub claims : List StagedClaim
   pub ordered : AreOrdered p.ring 0 claims
-  pub receivers : List Joined
-  pub services : List Service
   pub turns : AreAllTurns p.commands p.clients claims receivers services
   pub once : (x : ℕ) → drawn_in x services ≡ once_below x (all_commands p)
-  pub messages : List Message
   pub taken : length messages ≡ r.received
   pub whole : messages ≡ messages_of (placed_committed_of claims)
-  pub replies : List Record
   pub runs : AreAllRuns replies receivers
-  pub writes : List ValueWrite
-  pub folded : ∥ IsFoldOf messages (storm_counters p messages) writes (messages_in replies) ∥₁
-  pub live : r.live ≡ length (live_of (storm_counters p messages))
+  pub folded : ∥ IsFoldOf messages registry writes (messages_in replies) ∥₁
+  pub counters : registry ≡ storm_counters p messages
+  pub live : r.live ≡ length (live_of registry)
   pub clients : r.live ≡ p.clients
-  pub sum : r.sum ≡ sum_of (live_of (storm_counters p messages))
+  pub sum : r.sum ≡ sum_of (live_of registry)
   pub own : (c : ℕ) → c < p.clients → ∥ HasOwnCounter c (last_set p.commands) (storm_counters p messages) ∥₁
   pub total : r.sum ≡ pos (p.clients * last_set p.commands)
+
+-- the same of the claims, messages, replies, receivers, services and counters of what the storm finished with
+abbrev pub IsReportFrom : StormPlan → StormReport → Finished → Type 0
+IsReportFrom p r f =
+    IsReportBy p r (claims_in f) (messages_of (received_in f)) (replies_in f) (joined_in f) (services_in f)
+    (registry_of f.counters) (writes_of f.counters)
+
+-- the report is that of what the storm finished with, whose broadcast buffer has the capacity that the plan asks for
+abbrev pub IsReportOf : StormPlan → StormReport → Type 0
+IsReportOf p r =
+    IsReportFrom p r r.finished.value × IsBoardFor p (closed_capacity r.finished.value.board)

@@ -1,38 +1,77 @@
 -- The headline about what one run hands out.
-use Rattle.std.specs.Prelude.{◌≡◌, ℕ, List, ◌++◌, length}
-use Rattle.ring_layout.specs.declared.message.Claim.{Claim}
+use Rattle.std.specs.Prelude.{◌≡◌, ℕ, pos, List, [], ◌∷◌, ◌++◌, codes, length, map, take}
+use Rattle.ring_layout.specs.declared.message.ClaimState.TheVariants.{Committed}
 use Rattle.ring_layout.specs.declared.message.Message.{Message}
-use Rattle.ring_layout.specs.History.{committed_of}
-use Rattle.ring_words.specs.Ring.{Has}
 use Rattle.ring_table.specs.declared.claim.StagedClaim.{StagedClaim}
-use Rattle.ring_table.specs.Passing.{placed_committed_of}
+use Rattle.ring_table.specs.declared.claim.Stage.{Stage}
+use Rattle.ring_table.specs.declared.claim.Stage.TheVariants.{Stored}
 use Rattle.ring_rings.specs.Closing.{AreOrdered}
 use Rattle.ring_rings.specs.Reading.{messages_of}
 use Rattle.ring_board.specs.declared.shared.view.Joined.{Joined}
-use Rattle.ring_board.specs.declared.shared.view.Record.{Record}
+use Rattle.ring_board.specs.declared.shared.view.Taken.{Taken}
 use Rattle.ring_board.specs.Closing.{closed_words, IsClosed}
+use Rattle.ring_board.specs.Records.{last_of}
 use Rattle.ring_board.specs.Runs.{AreAllRuns}
+use Rattle.ring_board.specs.Views.{Sat}
 use Rattle.ring_counters.specs.Manager.{registry_of, writes_of}
-use Rattle.ring_conductor.specs.declared.finishing.Finished.{Finished}
+use Rattle.ring_protocol.specs.Command.{Instruction, Allocate, Set, spelling_of, type_id_of}
+use Rattle.ring_conductor.specs.declared.client.Polled.{Polled}
+use Rattle.ring_conductor.specs.declared.whole.WholeRun.{WholeRun}
 use Rattle.ring_conductor.specs.Account.{account_of, fresh_account, messages_in}
+use Rattle.ring_conductor.specs.Asking.{IsHeard}
+use Rattle.ring_conductor.specs.Finishing.{IsWhole, claims_in, joined_in, received_in, replies_in}
 use Rattle.ring_conductor.specs.Fold.{at_moment}
 
--- Claims lie one behind the other from the ring's start on. What was received, some messages at the moment `early` and
--- others at the moment `late`, followed by what still lies in the ring, is their committed messages, each whole and
--- once. What was received makes of four fresh counters these counters, all value writes, and the replies, which the
--- closed board has. What each of the two listeners copied are runs of all replies
-pub record Concludes (early late : ℕ) (f : Finished) : Type 0 where
-  pub claims : List StagedClaim
-  pub ordered : AreOrdered 1024 0 claims
+-- the claim's message, and how far it has come
+abbrev pub settled_message : StagedClaim → Message × Stage
+settled_message c = (c.message, c.stage)
+
+-- the message that spells a command, committed
+abbrev pub committed : Instruction → Message × Stage
+committed c = (record { type_id = type_id_of c; body = spelling_of c }, Stored Committed)
+
+-- The two commands of the run, with their correlation ids. The first asks for a counter of type 1 with an empty key and
+-- the label `requests`, and the second sets the counter 0 to 7
+abbrev pub first_command : Instruction
+first_command = Allocate 0 (pos 1) [] (codes "requests")
+
+abbrev pub second_command : Instruction
+second_command = Set 1 0 (pos 7)
+
+-- the first poll for the reply to the command with this correlation id returned this, and left these copies
+pub record IsFirstPoll (correlation : ℕ) (polled : Polled) (copies : List Taken) : Type 0 where
+  pub before : Sat
+  pub after : Sat
+  pub heard : IsHeard correlation before after polled
+  pub none : before.0.copies ≡ []
+  pub left : after.0.copies ≡ copies
+
+-- The claims are the two commands and nothing else, one after another from the ring's start. Some messages were received
+-- at the moment `early` and others at the moment `late`; these, followed by what still lies in the ring, are the
+-- committed messages, each whole and once. What was received makes of four fresh counters these counters, all value
+-- writes, and the replies, which the closed broadcast buffer has. Two receivers were joined: the client's, which
+-- subscribed before any reply and polled once, and a listener, which subscribed after the replies to the first messages
+-- and received nothing. What they copied are runs of all replies
+pub record Concludes (early late : ℕ) (w : WholeRun) : Type 0 where
+  pub claims : map settled_message (claims_in w.finished) ≡ committed first_command ∷ committed second_command ∷ []
+  pub ordered : AreOrdered 1024 0 (claims_in w.finished)
   pub first : List Message
   pub others : List Message
-  pub received : f.received ≡ length (first ++ others)
-  pub whole : (h : List Claim) → Has f.rest h
-      → (first ++ others) ++ committed_of h ≡ messages_of (placed_committed_of claims)
-  pub sent : List Record
+  pub received : messages_of (received_in w.finished) ≡ first ++ others
+  pub counted : w.finished.received ≡ length (received_in w.finished)
+  pub whole : IsWhole (claims_in w.finished) (received_in w.finished) w.finished.rest
   pub folded : account_of (fresh_account 4 50) (at_moment early first ++ at_moment late others)
-      ≡ record { registry = registry_of f.counters; writes = writes_of f.counters; replies = messages_in sent }
-  pub board : IsClosed 256 0 sent (closed_words f.board)
-  pub listeners : List Joined
-  pub both : length listeners ≡ 2
-  pub runs : AreAllRuns sent listeners
+      ≡ record {
+        registry = registry_of w.finished.counters;
+        writes = writes_of w.finished.counters;
+        replies = messages_in (replies_in w.finished);
+      }
+  pub board : IsClosed 256 0 (replies_in w.finished) (closed_words w.finished.board)
+  pub client : Joined
+  pub listener : Joined
+  pub joined : joined_in w.finished ≡ client ∷ listener ∷ []
+  pub client_from : client.from ≡ 0
+  pub client_polled : IsFirstPoll 0 w.polled client.copies
+  pub listener_from : listener.from ≡ last_of 0 (take (length first) (replies_in w.finished))
+  pub listener_none : listener.copies ≡ []
+  pub runs : AreAllRuns (replies_in w.finished) (joined_in w.finished)

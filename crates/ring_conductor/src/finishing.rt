@@ -16,6 +16,7 @@ use ring_counters::{CounterValues, CountersManager};
 use ring_layout::ALL_SHARES;
 use ring_rings::{CommandSource, Producer};
 use ring_words::SoloRing;
+use std::snapshot::Snapshot;
 
 /// What a conductor hands out.
 #[derive(Drop)]
@@ -29,6 +30,11 @@ pub struct Finished {
     pub counters: CountersManager,
     /// How many commands were taken in all.
     pub received: u64,
+    /// The producer that was given, for contracts: it has no bytes. They read the claims of all producers in it.
+    pub producer: Snapshot<Producer>,
+    /// The conductor that was given, for contracts: it has no bytes. They read the messages that it received, its
+    /// replies and the receivers that were joined in it.
+    pub conductor: Snapshot<Conductor>,
 }
 
 /// Tests whether a conductor may finish with this producer.
@@ -95,6 +101,7 @@ pub fn finish<R: CommandSource>(
             producer,
         });
     }
+    let named = (Snapshot::of(&producer), Snapshot::of(&conductor));
     let Conductor {
         consumer,
         transmitter,
@@ -116,5 +123,7 @@ pub fn finish<R: CommandSource>(
         values,
         counters,
         received,
+        producer: named.0,
+        conductor: named.1,
     })
 }

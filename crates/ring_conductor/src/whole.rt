@@ -3,38 +3,60 @@
 ghost use Rattle.std.specs.Prelude.{◌^◌, ◌≤◌, IfOk};
 ghost use Rattle.ring_conductor.specs.Whole.{Concludes};
 
-use crate::client::Client;
 use crate::client::request::Request;
+use crate::client::{Client, Polled, SendFault};
 use crate::conductor::Conductor;
 use crate::finishing::{Finished, finish};
 use ring_board::Board;
 use ring_counters::CountersManager;
 use ring_rings::ManyToOneRing;
-use std::alloc::{AllocError, Global};
+use std::alloc::Global;
+use thiserror::Error;
 
-/// One run of the whole. A client asks for a counter, and the conductor works at the moment `early`; a listener
-/// subscribes; the client sets the counter to 7, and the conductor works at the moment `late`; the client asks for
-/// its reply; client and listener are joined, and the conductor finishes. Moments are in milliseconds and at most
+/// What `whole_run` returns.
+#[derive(Drop)]
+pub struct WholeRun {
+    pub finished: Finished,
+    /// What the client's poll for the reply to its first command returned.
+    pub polled: Polled,
+}
+
+/// Why `whole_run` did not come to its end.
+#[derive(Clone, Copy, Debug, PartialEq, Eq, Error)]
+pub enum WholeFault {
+    /// Out of memory.
+    #[error("out of memory")]
+    OutOfMemory,
+    /// The ring refused one of the two commands.
+    #[error("{0}")]
+    NotSent(#[from] SendFault),
+}
+
+/// Runs the whole once. A client asks for a counter, and the conductor works at the moment `early`; a listener
+/// subscribes; the client sets the counter to 7, and the conductor works at the moment `late`; the client polls for the
+/// first reply; client and listener are joined, and the conductor finishes. Moments are in milliseconds and at most
 /// 2^62.
 ///
-/// It is there to be read: its contract says of what comes out what `finish` says to each caller, with the moments of
-/// this one. `AllocError` comes where memory is wanting.
-pub fn whole_run(alloc: Global, early: u64, late: u64) -> Result<Finished, AllocError>
+/// It is there to be read. Its contract states for this one run what `finish` states to each caller, and names what
+/// happened: which commands were sent, at which moments they were applied, and which receivers were joined.
+///
+/// Returns `OutOfMemory` if memory runs out, and `NotSent` if the ring refuses a command.
+pub fn whole_run(alloc: Global, early: u64, late: u64) -> Result<WholeRun, WholeFault>
     requires moments { (early ≤ 2 ^ 62) × (late ≤ 2 ^ 62) }
     ensures { IfOk result (Concludes early late) }
 {
     let Ok((ring, producer, consumer)) = ManyToOneRing::new(alloc, 1024) else {
-        return Err(AllocError);
+        return Err(WholeFault::OutOfMemory);
     };
     let Ok((board, transmitter)) = Board::new(alloc, 256) else {
-        return Err(AllocError);
+        return Err(WholeFault::OutOfMemory);
     };
     let Ok((values, counters)) = CountersManager::new(alloc, 4, 50) else {
-        return Err(AllocError);
+        return Err(WholeFault::OutOfMemory);
     };
     let mut conductor = Conductor::new(consumer, transmitter, counters);
     let Ok(receiver) = conductor.subscribe(alloc, &board) else {
-        return Err(AllocError);
+        return Err(WholeFault::OutOfMemory);
     };
     let mut client = Client::new(producer, receiver);
     let allocate = Request::Allocate {
@@ -42,22 +64,21 @@ pub fn whole_run(alloc: Global, early: u64, late: u64) -> Result<Finished, Alloc
         key: &[],
         label: b"requests",
     };
-    // A command that the ring refuses is not sent. What comes out is the same sum of what was.
-    let asked = client.send(&ring, allocate);
+    let asked = client.send(&ring, allocate)?;
     conductor.do_work(&ring, &board, &values, early, u32::MAX);
 
     let Ok(listener) = conductor.subscribe(alloc, &board) else {
-        return Err(AllocError);
+        return Err(WholeFault::OutOfMemory);
     };
-    let _set = client.send(&ring, Request::Set { id: 0, value: 7 });
+    client.send(&ring, Request::Set { id: 0, value: 7 })?;
     conductor.do_work(&ring, &board, &values, late, u32::MAX);
 
-    let _told = client.poll(&board, asked.unwrap_or(0));
+    let polled = client.poll(&board, asked);
     let (producer, receiver) = client.into_parts();
     conductor.join_receiver(&board, receiver);
     conductor.join_receiver(&board, listener);
     match finish(ring, board, values, conductor, producer) {
-        Ok(finished) => Ok(finished),
+        Ok(finished) => Ok(WholeRun { finished, polled }),
         Err(_refused) => unreachable!(),
     }
 }

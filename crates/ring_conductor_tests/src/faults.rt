@@ -1,5 +1,5 @@
 //! The text of each refusal: number and name.
-use ring_conductor::{Bad, FinishFault, StormFault};
+use ring_conductor::{Bad, FinishFault, SendFault, StormFault, WholeFault};
 use std::alloc::{AllocError, Global};
 use std::fmt;
 use std::test::Fail;
@@ -44,5 +44,14 @@ fn tells_why_a_storm_gives_no_report(rt: HostRuntime) -> Result<(), Fail> {
     ] {
         assert!(rt; tells(rt.alloc(), fault, text)?, "{text}");
     }
+    Ok(())
+}
+
+#[test]
+fn tells_why_a_command_is_not_sent(rt: HostRuntime) -> Result<(), Fail> {
+    let text = "the command takes more than 520 bytes";
+    assert!(rt; tells(rt.alloc(), SendFault::TooLong, text)?);
+    assert!(rt; tells(rt.alloc(), WholeFault::NotSent(SendFault::TooLong), text)?);
+    assert!(rt; tells(rt.alloc(), WholeFault::OutOfMemory, "out of memory")?);
     Ok(())
 }

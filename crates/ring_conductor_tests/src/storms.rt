@@ -1,4 +1,4 @@
-use ring_conductor::{Gate, OpenGate, StormFault, StormPlan, StormReport, storm};
+use ring_conductor::{Gate, OpenGate, StormFault, StormPlan, storm};
 use std::alloc::Global;
 use std::sync::Wait;
 use std::sync::atomic::AtomicBool;
@@ -11,14 +11,31 @@ const TURNS: u64 = 50_000_000;
 /// The tries of a gate that waits inside itself.
 const TRIES: u32 = 100_000_000;
 
+/// The numbers of a storm's report.
+#[derive(Clone, Copy, Debug, PartialEq, Eq)]
+pub struct Numbers {
+    pub received: u64,
+    pub left: u64,
+    pub seen: u64,
+    pub live: u32,
+    pub sum: i64,
+}
+
 /// Runs a storm. It promises nothing, so that the tests are proved without what a storm promises.
 pub fn run<R: Threads + Wait, G: Gate + Sync>(
     rt: &R,
     alloc: Global,
     plan: &StormPlan,
     gate: &G,
-) -> Result<StormReport, StormFault> {
-    storm(rt, alloc, plan, gate)
+) -> Result<Numbers, StormFault> {
+    let report = storm(rt, alloc, plan, gate)?;
+    Ok(Numbers {
+        received: report.received,
+        left: report.left,
+        seen: report.seen,
+        live: report.live,
+        sum: report.sum,
+    })
 }
 
 fn plan(clients: u32, commands: u32) -> StormPlan {
@@ -40,8 +57,8 @@ fn two_clients(turns: u64) -> StormPlan {
     }
 }
 
-fn two_clients_report() -> StormReport {
-    StormReport {
+fn two_clients_report() -> Numbers {
+    Numbers {
         received: 4,
         left: 0,
         seen: 4,
@@ -54,7 +71,7 @@ fn two_clients_report() -> StormReport {
 fn clients_send_a_hundred_commands_each(rt: HostRuntime) {
     for (clients, all, sum) in [(4, 400, 400), (64, 6_400, 6_400)] {
         let report = run(&rt, rt.alloc(), &plan(clients, 100), &OpenGate);
-        let wanted = StormReport {
+        let wanted = Numbers {
             received: all,
             left: 0,
             seen: all,

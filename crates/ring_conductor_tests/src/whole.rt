@@ -1,10 +1,15 @@
 //! One run of the whole, as a user sees what comes out.
-use ring_conductor::whole_run;
+use ring_conductor::{Polled, Reply, WholeRun, whole_run};
 use std::test::Fail;
 
 #[test]
 fn one_run_takes_all_and_leaves_its_counter(rt: HostRuntime) -> Result<(), Fail> {
-    let finished = whole_run(rt.alloc(), 100, 200)?;
+    let WholeRun { finished, polled } = whole_run(rt.alloc(), 100, 200)?;
+    let reply = Reply::Allocated {
+        correlation: 0,
+        id: 0,
+    };
+    assert_eq!(rt; polled, Polled::Answered(reply));
     let mut rest = finished.rest;
     assert_eq!(rt; finished.received, 2);
     assert_eq!(rt; rest.drain(), 0);

@@ -6,7 +6,7 @@ ghost use Rattle.ring_conductor.specs.Conducting.{IsConductorOf};
 ghost use Rattle.ring_conductor.specs.Finishing.{joined_by};
 ghost use Rattle.ring_conductor.specs.Storming.{HasConducted, HasCounters, HasSeatsBack, HasWorked, IsClientAt};
 ghost use Rattle.ring_conductor.specs.Storming.{IsClientOf, IsEndAt, IsFreshAt, IsNew, IsPlan, TakesSeats};
-ghost use Rattle.ring_conductor.specs.Storming.{all_commands, board_shares_of, taken_by};
+ghost use Rattle.ring_conductor.specs.Storming.{all_commands, board_shares_of, failure_after, taken_by};
 
 use crate::storming::conductor::ConductorEnd;
 use crate::storming::gate::Gate;
@@ -203,6 +203,7 @@ fn gather<G>(shared: Shared<'_, G>, index: u32, end: LevelEnd, client: StormClie
     requires worked { HasWorked shared.plan.commands index client }
     ensures end { IsEndAt shared.entry (index + 1) result }
     ensures seats { TakesSeats client end.hub result.hub }
+    ensures failure { result.failure ≡ failure_after client.seen shared.entry.plan.commands end.failure }
 {
     let LevelEnd {
         mut hub,

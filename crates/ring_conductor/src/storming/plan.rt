@@ -2,7 +2,9 @@
 ghost use Rattle.std.specs.Prelude.{◌≡◌, ◌*◌, ◌↔◌, IsTrue};
 ghost use Rattle.ring_conductor.specs.Storming.{IsBoardFor, IsPlan, storm_code};
 
+use crate::finishing::Finished;
 use ring_layout::refusal_codes::{BAD_PLAN, OUT_OF_MEMORY, TURNS_SPENT};
+use std::snapshot::Snapshot;
 use thiserror::Error;
 
 /// What a storm does.
@@ -19,7 +21,7 @@ pub struct StormPlan {
 }
 
 /// What a storm did.
-#[derive(Clone, Copy, Debug, PartialEq, Eq)]
+#[derive(Drop)]
 pub struct StormReport {
     /// The number of commands that the conductor took.
     pub received: u64,
@@ -31,6 +33,8 @@ pub struct StormReport {
     pub live: u32,
     /// The sum of their values: for each client the last number that it set, 0 if it sent one command.
     pub sum: i64,
+    /// What the storm finished with, for contracts: it has no bytes.
+    pub finished: Snapshot<Finished>,
 }
 
 /// Why a storm gives no report.

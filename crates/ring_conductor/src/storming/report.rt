@@ -11,6 +11,7 @@ ghost use Rattle.ring_conductor.specs.Storming.{sum_of};
 use crate::finishing::Finished;
 use crate::storming::plan::StormReport;
 use ring_counters::CountersManager;
+use std::snapshot::Snapshot;
 
 /// How many counters are in use, and the sum of their values.
 fn count_live(counters: &CountersManager) -> (u32, i64)
@@ -34,13 +35,16 @@ pub(crate) fn report(finished: Finished, seen: u64) -> StormReport
     ensures left { (h : List Claim) → Has finished.rest h → AllSettled h → result.left ≡ length (committed_of h) }
     ensures live { result.live ≡ length (live_of (registry_of finished.counters)) }
     ensures sum { result.sum ≡ sum_of (live_of (registry_of finished.counters)) }
+    ensures finished { result.finished.value ≡ finished }
 {
+    let named = Snapshot::of(&finished);
     let Finished {
         mut rest,
         board: _,
         values: _,
         counters,
         received,
+        ..
     } = finished;
     let (live, sum) = count_live(&counters);
     StormReport {
@@ -49,5 +53,6 @@ pub(crate) fn report(finished: Finished, seen: u64) -> StormReport
         seen,
         live,
         sum,
+        finished: named,
     }
 }

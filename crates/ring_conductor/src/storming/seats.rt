@@ -1,6 +1,7 @@
 //! The clients and the conductor of a storm, with their seats.
-ghost use Rattle.std.specs.Prelude.{◌≢◌};
+ghost use Rattle.std.specs.Prelude.{◌≡◌, ◌≢◌};
 ghost use Rattle.ring_conductor.specs.declared.storming.plan.StormFault.TheVariants.{BadPlan};
+ghost use Rattle.ring_conductor.specs.Storming.{fault_of};
 
 use crate::client::Client;
 use crate::conductor::Conductor;
@@ -37,7 +38,7 @@ pub(crate) enum Failure {
 }
 
 impl From<Failure> for StormFault {
-    ghost from_gives = { λ failure fault. fault ≢ BadPlan };
+    ghost from_gives = { λ failure fault. (fault ≡ fault_of failure) × (fault ≢ BadPlan) };
 
     fn from(failure: Failure) -> Self {
         match failure {
