@@ -123,11 +123,13 @@ impl LooseBoard {
         )
     }
 
-    /// Asks the receiver of this number for the next message. Returns `None` if there is no such receiver.
+    /// Asks the receiver of this number for the next message. Returns `None` if there is no such receiver; nothing has
+    /// changed then.
     pub fn receive(&mut self, alloc: Global, number: usize) -> Option<Result<Received, AllocError>>
         ensures told { IfSome result (λ answer. IfOk answer (λ told.
             ReceivesAt told self.old.receivers number self.new.receivers)) }
         ensures free { IfNone result (IsFree (held_in self.old.receivers) number) }
+        ensures same { IfNone result (held_in self.new.receivers ≡ held_in self.old.receivers) }
         ensures rest { (self.new.board ≡ self.old.board) × (self.new.transmitter ≡ self.old.transmitter) }
     {
         receive_at(alloc, &self.board, &mut self.receivers, number)

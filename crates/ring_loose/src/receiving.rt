@@ -20,6 +20,7 @@ pub fn receive_at(
     ensures told { IfSome result (λ answer. IfOk answer (λ told.
         ReceivesAt told receivers.old number receivers.new)) }
     ensures free { IfNone result (IsFree (held_in receivers.old) number) }
+    ensures same { IfNone result (held_in receivers.new ≡ held_in receivers.old) }
     ensures count { held_count (held_in receivers.new) ≡ held_count (held_in receivers.old) }
 {
     let mut receiver = receivers.take(number)?;

@@ -79,11 +79,13 @@ impl CommandService {
         make_listener(alloc, &self.board, &mut self.conductor, &mut self.listeners)
     }
 
-    /// Asks the listener of this number for the next reply. Returns `None` if there is no such listener.
+    /// Asks the listener of this number for the next reply. Returns `None` if there is no such listener; nothing has
+    /// changed then.
     pub fn hear(&mut self, alloc: Global, number: usize) -> Option<Result<Received, AllocError>>
         ensures told { IfSome result (λ answer. IfOk answer (λ told.
             ReceivesAt told self.old.listeners number self.new.listeners)) }
         ensures free { IfNone result (IsFree (held_in self.old.listeners) number) }
+        ensures same { IfNone result (held_in self.new.listeners ≡ held_in self.old.listeners) }
         ensures ring { (self.new.ring ≡ self.old.ring) × (self.new.producer ≡ self.old.producer) }
         ensures conductor { (self.new.board ≡ self.old.board) × (self.new.conductor ≡ self.old.conductor) }
         ensures values { (self.new.values ≡ self.old.values) × (self.new.watchers ≡ self.old.watchers) }
