@@ -1,6 +1,9 @@
 pub mod Closing
+pub mod Executing
 pub mod Faults
 pub mod Instructions
+pub mod Making
 pub mod Serving
 pub mod Sizes
+pub mod Texts
 pub mod Watchers

@@ -1,9 +1,10 @@
 //! What a run holds, and what its calls print.
-ghost use Rattle.std.specs.Prelude.{◌≡◌, ◌+◌, ◌↔◌, None, IfSome, IsOkUnless, IsSome, IsTrue, length};
+ghost use Rattle.std.specs.Prelude.{◌≡◌, ◌+◌, ◌↔◌, ℕ, None, IfOk, IfSome, IsOkUnless, IsSome, IsTrue, codes, length, string_bytes};
 ghost use Rattle.ring_table.specs.Passing.{placed_committed_of};
 ghost use Rattle.ring_loose.specs.Loose.{aborted_view};
 ghost use Rattle.ring_scenario.specs.Closing.{read_count, TookAndLeft};
 ghost use Rattle.ring_scenario.specs.Sizes.{size_fault_of};
+ghost use Rattle.ring_scenario.specs.Texts.{number_text, ok_text, positions_text, stop_text};
 
 mod serving;
 mod storming;
@@ -47,10 +48,17 @@ pub struct Ended {
 }
 
 impl Runner {
+    ghost use Rattle.ring_words.specs.declared.positions.Positions.{Positions};
+    ghost use Rattle.ring_rings.specs.Joining.{LoadsPositions};
+    ghost use Rattle.ring_table.specs.ServiceSteps.{DrawsId, LoadsHeartbeat};
+    ghost use Rattle.ring_scenario.specs.Executing.{Executes};
+    ghost use Rattle.ring_scenario.specs.Making.{RunsBy};
+
     /// Makes the parts that the options describe.
     pub fn new(alloc: Global, options: &Options) -> Result<Self, RunFault>
         requires { size_fault_of options.now ≡ None }
-        ensures { IsOkUnless result RunFault.OutOfMemory }
+        ensures made { IsOkUnless result RunFault.OutOfMemory }
+        ensures options { IfOk result (RunsBy options.now) }
     {
         let loose = LooseRing::new(alloc, options.ring).map_err(from_make)?;
         let board = LooseBoard::new(alloc, options.board).map_err(from_make)?;
@@ -67,7 +75,9 @@ impl Runner {
     }
 
     /// Executes a call, and gives the lines that it prints.
-    pub fn execute<R: Threads + Wait>(&mut self, rt: &R, call: Call) -> Result<String, LineFault> {
+    pub fn execute<R: Threads + Wait>(&mut self, rt: &R, call: Call) -> Result<String, LineFault>
+        ensures { IfOk result (λ text. Executes call self.old self.new (string_bytes text)) }
+    {
         let text = match call {
             Call::Write { type_id, body } => self.write(rt, type_id, body.as_slice())?,
             Call::Claim { type_id, len } => self.claim(rt, type_id, len)?,
@@ -106,7 +116,9 @@ impl Runner {
         Ok(text)
     }
 
-    fn ok(&self) -> Result<String, AllocError> {
+    fn ok(&self) -> Result<String, AllocError>
+        ensures { IfOk result (λ text. string_bytes text ≡ ok_text) }
+    {
         String::from_str(self.alloc, "ok\n")
     }
 
@@ -163,17 +175,28 @@ impl Runner {
         Ok(text)
     }
 
-    fn positions(&mut self) -> Result<String, AllocError> {
+    fn positions(&mut self) -> Result<String, AllocError>
+        ensures { IfOk result (λ text. (p : Positions) × LoadsPositions self.old.loose.capacity
+            self.old.loose.holder.view p.head p.tail self.new.loose.holder.view
+            × (string_bytes text ≡ positions_text p)) }
+    {
         let Positions { head, tail } = self.loose.positions();
         format!(in self.alloc; "head {head} tail {tail}\n")
     }
 
-    fn correlation(&mut self) -> Result<String, AllocError> {
+    fn correlation(&mut self) -> Result<String, AllocError>
+        ensures { IfOk result (λ text. (id : ℕ) × DrawsId self.old.loose.holder.view id self.new.loose.holder.view
+            × (string_bytes text ≡ number_text (codes "correlation") id)) }
+    {
         let id = self.loose.next_correlation_id();
         format!(in self.alloc; "correlation {id}\n")
     }
 
-    fn heartbeat(&mut self) -> Result<String, AllocError> {
+    fn heartbeat(&mut self) -> Result<String, AllocError>
+        ensures { IfOk result (λ text. (value : ℕ) × LoadsHeartbeat self.old.loose.capacity
+            self.old.loose.holder.view value self.new.loose.holder.view
+            × (string_bytes text ≡ number_text (codes "heartbeat") value)) }
+    {
         let value = self.loose.heartbeat();
         format!(in self.alloc; "heartbeat {value}\n")
     }
@@ -252,7 +275,9 @@ fn from_make(fault: MakeFault) -> RunFault
     }
 }
 
-fn stop_name(stop: Stop) -> &'static str {
+fn stop_name(stop: Stop) -> &'static str
+    ensures { result.now ≡ stop_text stop }
+{
     match stop {
         Stop::Limit => "limit",
         Stop::Block => "block",

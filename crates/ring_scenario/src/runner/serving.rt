@@ -1,4 +1,7 @@
 //! What the calls of the conductor's side print.
+ghost use Rattle.std.specs.Prelude.{◌≡◌};
+ghost use Rattle.ring_scenario.specs.Texts.{work_stop_text, work_text};
+
 use super::Runner;
 use crate::printer::hex_word;
 use ring_conductor::{Work, WorkStop};
@@ -8,12 +11,15 @@ use std::alloc::{AllocError, Global};
 use std::sync::Wait;
 
 impl Runner {
+    ghost use Rattle.std.specs.Prelude.{◌≡◌, IfOk, string_bytes};
+    ghost use Rattle.ring_conductor.specs.declared.conductor.Work.{Work};
+    ghost use Rattle.ring_conductor.specs.Conducting.{Works, ledger_of, ring_view};
+    ghost use Rattle.ring_scenario.specs.Executing.{Serves};
+
     /// Executes a call of the conductor's side, and gives the lines that it prints.
-    pub(super) fn serve<R: Wait>(
-        &mut self,
-        rt: &R,
-        call: ServiceCall,
-    ) -> Result<String, LineFault> {
+    pub(super) fn serve<R: Wait>(&mut self, rt: &R, call: ServiceCall) -> Result<String, LineFault>
+        ensures { IfOk result (λ text. Serves call self.old self.new (string_bytes text)) }
+    {
         self.serves = true;
         let text = match call {
             ServiceCall::Send { type_id, body } => self.send(rt, type_id, body.as_slice())?,
@@ -47,7 +53,12 @@ impl Runner {
         }
     }
 
-    fn work(&mut self, now: Moment, limit: u32) -> Result<String, AllocError> {
+    fn work(&mut self, now: Moment, limit: u32) -> Result<String, AllocError>
+        ensures { IfOk result (λ text. (done : Work) × Works now.ms limit
+            (ring_view self.old.service.conductor) (ring_view self.new.service.conductor)
+            (ledger_of self.old.service.conductor) (ledger_of self.new.service.conductor) done
+            × (string_bytes text ≡ work_text done)) }
+    {
         let Work { messages, stopped } = self.service.work(now, limit);
         let stop = work_stop_name(stopped);
         format!(in self.alloc; "work {messages} stopped {stop}\n")
@@ -97,7 +108,9 @@ impl Runner {
     }
 }
 
-fn work_stop_name(stop: WorkStop) -> &'static str {
+fn work_stop_name(stop: WorkStop) -> &'static str
+    ensures { result.now ≡ work_stop_text stop }
+{
     match stop {
         WorkStop::Limit => "limit",
         WorkStop::Block => "block",

@@ -1,0 +1,24 @@
+-- How a run is made.
+use Rattle.std.specs.Prelude.{◌≡◌}
+use Rattle.ring_rings.specs.Seats.{capacity_of}
+use Rattle.ring_board.specs.Seats.{capacity_of as board_capacity_of}
+use Rattle.ring_counters.specs.Manager.{registry_of}
+use Rattle.ring_counters.specs.Registry.{fresh_registry}
+use Rattle.ring_conductor.specs.Conducting.{manager_in}
+use Rattle.ring_loose.specs.Loose.{fresh_loose}
+use Rattle.ring_scenario.specs.declared.options.Options.{Options}
+use Rattle.ring_scenario.specs.declared.runner.Runner.{Runner}
+use Rattle.ring_scenario.specs.declared.service.CommandService.{CommandService}
+
+-- the command ring, the broadcast buffer of its replies and the counters are those that the options describe
+pub record ServesBy (options : Options) (s : CommandService) : Type 0 where
+  pub ring : capacity_of s.ring ≡ options.commands
+  pub board : board_capacity_of s.board ≡ options.replies
+  pub counters : registry_of (manager_in s.conductor) ≡ fresh_registry options.counters options.reuse_ms
+
+-- each part is the one that the options describe
+pub record RunsBy (options : Options) (r : Runner) : Type 0 where
+  pub ring : r.loose ≡ fresh_loose options.ring
+  pub board : board_capacity_of r.board.board ≡ options.board
+  pub commands : r.commands ≡ options.commands
+  pub service : ServesBy options r.service
