@@ -4,9 +4,16 @@ import random
 import signal
 import subprocess
 import sys
+import tempfile
 import time
 
 from .shared import ATTACKS, TOP, Clock, Finding, NotRun, library
+
+
+def said(errors):
+    """The end of what went to standard error."""
+    errors.seek(0)
+    return errors.read().decode(errors="replace")[-700:].strip()
 
 
 def run(seconds, seed):
@@ -15,9 +22,11 @@ def run(seconds, seed):
         raise NotRun(f"there is no libfelter.so in {folder}")
     environment = dict(os.environ, FELTER_DIR=folder, PYTHONPATH=os.path.join(TOP, "python"))
     words = [sys.executable, "-B", os.path.join(ATTACKS, "interrupted.py"), str(max(0.5, seconds - 1))]
-    with subprocess.Popen(words, stdout=subprocess.PIPE, stderr=subprocess.PIPE, env=environment) as child:
+    # (what Python says of a Ctrl-C in a destructor would fill a pipe)
+    with tempfile.TemporaryFile() as errors, \
+            subprocess.Popen(words, stdout=subprocess.PIPE, stderr=errors, env=environment) as child:
         if child.stdout.readline() != b"ready\n":
-            raise Finding(f"the program did not start: {child.stderr.read().decode()[-500:]}")
+            raise Finding(f"the program did not start: {said(errors)}")
         clock = Clock(seconds + 60)
         while child.poll() is None and clock.runs():
             time.sleep(dice.choice((0.0001, 0.0003, 0.001, 0.003)))
@@ -26,7 +35,7 @@ def run(seconds, seed):
         if child.poll() is None:
             child.kill()
             raise Finding("the program did not end")
-        out, err = child.stdout.read().decode().strip(), child.stderr.read().decode().strip()
-    if child.returncode:
-        raise Finding(f"status {child.returncode}: {err[-700:]}")
+        out = child.stdout.read().decode().strip()
+        if child.returncode:
+            raise Finding(f"status {child.returncode}: {said(errors)}")
     return out
