@@ -235,6 +235,33 @@ static void read_batch(struct ring *ring) {
     look_at_positions(ring);
 }
 
+/* Writes a batch, of which the last record may reach beyond its bytes. */
+static void write_batch(struct ring *ring, int at) {
+    static uint8_t records[1 << 14];
+    size_t bytes = 0;
+    uint32_t wanted_count = 0, written = UNTOUCHED;
+    int32_t wanted = FELTER_OK;
+    bool is_cut = false;
+    for (uint64_t left = pick(5); left && !is_cut; left--) {
+        struct record *record = NULL;
+        felter_record head = {some_len(ring), some_type()};
+        const uint8_t *body = input(head.len);
+        memcpy(records + bytes, &head, sizeof head);
+        if (head.len) memcpy(records + bytes + sizeof head, body, head.len);
+        is_cut = once_in(10);
+        bytes += is_cut ? sizeof head - 1 : FELTER_SPAN(head.len);
+        if (is_cut && !wanted) wanted = FELTER_PUT_RANGE;
+        if (wanted) continue;
+        wanted = model_claim(&ring->model, (int32_t)head.type_id, head.len, &record);
+        if (wanted) continue;
+        if (head.len) memcpy(model_body(&ring->model.records, record), body, head.len);
+        record->state = COMMITTED;
+        wanted_count++;
+    }
+    CALL(wanted, felter_write_batch(&ring->producers[at], records, bytes, &written));
+    CHECK(written == wanted_count);
+}
+
 static bool has_open(struct ring *ring, int at) {
     for (uint32_t k = 0; k < ring->model.records.count; k++) {
         struct record *record = model_at(&ring->model.records, k);
@@ -293,6 +320,9 @@ static void misuse(struct ring *ring) {
     int32_t type_id = UNTOUCHED;
     CALL(FELTER_NO_HANDLE, felter_write(&none, 1, NULL, 0));
     CALL(FELTER_NO_HANDLE, felter_claim(&none, 1, 0, &number));
+    CALL(FELTER_NO_HANDLE, felter_write(NULL, 1, NULL, 0));
+    CALL(FELTER_NULL_POINTER, felter_write(&none, 1, NULL, 1));
+    CALL(FELTER_NULL_POINTER, felter_claim(&none, 1, 0, NULL));
     CALL(FELTER_NO_HANDLE, felter_read(&nobody, &type_id, &len, NULL, 0));
     felter_free(&none.handle);
     if (ring->has_consumer) {
@@ -323,6 +353,7 @@ void ring_step(void) {
         case 18: look_at_positions(ring); break;
         case 19: misuse(ring); break;
         case 20: if (once_in(4)) free_producer(ring, at); break;
+        case 21: write_batch(ring, at); break;
         default: break;
         }
     if (ring->has_consumer) switch (pick(14)) {
