@@ -143,7 +143,7 @@ pub two_joined : {A : Type 0} (l m n : List A) (a b : A) → l ≡ [] → m ≡ 
     → n ≡ a ∷ b ∷ []
 two_joined l m n a b none one two = two ∙ ap (λ x. x ++ b ∷ []) (one ∙ ap (λ x. x ++ a ∷ []) none)
 
--- a conductor finishes where no claim is open and all shares are back
+-- a conductor finishes if no claim is open and all shares are back
 pub never_refused : {T E : Type 0} (error : FinishFault → E) (open_claims producing transmitting : ℕ)
     (result : Result T E) (e : E) → open_claims ≡ 0 → producing ≡ all_shares → transmitting ≡ all_shares
     → IsRefusedAs error (finish_refusal_of open_claims producing transmitting) result → result ≡ Err e → ⊥

@@ -46,8 +46,8 @@ pub record IsFirstPoll (correlation : ℕ) (polled : Polled) (copies : List Take
   pub none : before.0.copies ≡ []
   pub left : after.0.copies ≡ copies
 
--- The claims are the two commands and nothing else, one after another from the ring's start. Some messages were received
--- at the moment `early` and others at the moment `late`; these, followed by what still lies in the ring, are the
+-- The claims are the two commands and nothing else, one after another from the ring's start. Some messages were
+-- received at the moment `early` and others at the moment `late`; these, followed by what still is in the ring, are the
 -- committed messages, each whole and once. What was received makes of four fresh counters these counters, all value
 -- writes, and the replies, which the closed broadcast buffer has. Two receivers were joined: the client's, which
 -- subscribed before any reply and polled once, and a listener, which subscribed after the replies to the first messages

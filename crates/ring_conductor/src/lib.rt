@@ -1,9 +1,9 @@
 //! The conductor: it takes commands from a ring, applies them to counters, and transmits one reply to each.
 //!
-//! - `Command`, `Reply`, `RefusalCode`: the protocol, and how it is spelled as bytes and read again.
-//! - `Client`, `Request`: the client's side, which sends commands and hears replies.
-//! - `Conductor`: takes a ring's consumer, a board's transmitter and counters, and works.
-//! - `finish`: closes ring and board, and hands out all that is left. Its contract is the headline.
+//! - `Command`, `Reply`, `RefusalCode`: the protocol, and its bytes.
+//! - `Client`, `Request`: the client's side, which sends commands and receives replies.
+//! - `Conductor`: takes a ring's consumer, a broadcast buffer's transmitter and counters, and works.
+//! - `finish`: closes ring and broadcast buffer, and returns all that is left. Its contract is the headline.
 //! - `whole_run`: one run of all of that, to be read.
 //! - `storm`: clients on threads of their own, against one conductor.
 //! - the laws: what holds of the protocol and of the fold of commands.
