@@ -27,14 +27,14 @@
  * apart only if their numbers differ: this header counts from 1 on, the Rust crate from 2^62, the Python module from
  * 2^63.
  *
- * Answers. Each call but felter_free answers a code of enum felter_code; FELTER_OK is 0, and felter_text(code) says
- * it in words. A call that refuses leaves every handle as it was. Out numbers are written on FELTER_OK alone, unless a
- * call says otherwise. Nothing waits: FELTER_INSUFFICIENT_CAPACITY, FELTER_CONTENDED and FELTER_NO_MESSAGE are for the
- * caller to try again, with a pause of its own. Every call of a handle can answer FELTER_WRONG_HANDLE, and
- * FELTER_NO_HANDLE, also if it is a NULL pointer. Another pointer that is NULL is answered by FELTER_NULL_POINTER; a
- * buffer may be NULL if its length is 0. These answers to NULL are given by felter_inline.h, which this header
- * includes: a program that calls the library without the header has to see to it itself. Compilers warn if an answer
- * is not looked at.
+ * Answers. Each call but felter_free and felter_version answers a code of enum felter_code; FELTER_OK is 0, and
+ * felter_text(code) says it in words. A call that refuses leaves every handle as it was. Out numbers are written on
+ * FELTER_OK alone, unless a call says otherwise. Nothing waits: FELTER_INSUFFICIENT_CAPACITY, FELTER_CONTENDED and
+ * FELTER_NO_MESSAGE are for the caller to try again, with a pause of its own. Every call of a handle can answer
+ * FELTER_WRONG_HANDLE, and FELTER_NO_HANDLE, also if it is a NULL pointer. Another pointer that is NULL is answered by
+ * FELTER_NULL_POINTER; a buffer may be NULL if its length is 0. These answers to NULL are given by felter_inline.h,
+ * which this header includes: a program that calls the library without the header has to see to it itself. Compilers
+ * warn if an answer is not looked at.
  *
  * Units. Capacities, lengths, offsets and positions are bytes; positions count from the ring's start and never wrap.
  * Moments are milliseconds, at most 2^62, by a clock of the caller.
@@ -52,7 +52,7 @@
 #include <stddef.h>
 #include <stdint.h>
 
-/* The version of this header, and what felter_version says of a library that fits it. */
+/* The version of this header. The library that fits it says the same by felter_version. */
 #define FELTER_VERSION_MAJOR 0
 #define FELTER_VERSION_MINOR 1
 #define FELTER_VERSION_PATCH 0
@@ -126,6 +126,14 @@ typedef struct felter_client { felter_handle handle; } felter_client;
  * of that ring answers FELTER_PRODUCERS_OUT for good, and after 65,535 producers that were split off and freed without
  * felter_join, felter_split answers FELTER_NO_SHARES. */
 void felter_free(felter_handle *handle);
+
+/* The version of the library that the program runs with: 10,000 times the major number, 100 times the minor one, and
+ * the patch. It is no code. */
+int32_t felter_version(void);
+
+/* Puts out the capacity of the ring or board of a handle, and how many bytes its longest message has, an eighth of it:
+ * felter_capacity(&producer.handle, ..), and likewise of a consumer, a transmitter and a receiver of either kind. */
+int32_t felter_capacity(felter_handle *handle, uint32_t *capacity, uint32_t *longest);
 
 /* Each call that makes something has two forms: a function of the library that ends in _numbered and takes a number,
  * and one without it, which draws it: 1, 2, 3, .. by any threads. The number may be any that no other ring, board, set
@@ -249,6 +257,13 @@ int32_t felter_receive(felter_receiver *receiver, int32_t *type_id, size_t *len,
 /* How often the receiver was lapped. */
 int32_t felter_lapped_count(felter_receiver *receiver, uint64_t *count);
 
+/* The position, in bytes, at which the next call looks for a message. */
+int32_t felter_receiver_place(felter_receiver *receiver, uint64_t *place);
+/* Where the receiver was when it was lapped last, and the intent that showed it: the position up to which the
+ * transmitter had begun to write. Right after the lap, felter_receiver_place less this place is the number of bytes
+ * that it missed. FELTER_NO_MESSAGE if it was never lapped. */
+int32_t felter_receiver_lap(felter_receiver *receiver, uint64_t *place, uint64_t *intent);
+
 /* Makes a raw receiver, which answers each record unread; else as felter_subscribe. */
 int32_t felter_subscribe_raw(felter_transmitter *transmitter, felter_raw_receiver *receiver);
 /* Goes behind the next record, and says its type id and the bytes of its body, of which none was copied.
@@ -263,6 +278,10 @@ int32_t felter_load_body(felter_raw_receiver *receiver, void *buffer, size_t roo
 int32_t felter_validate(felter_raw_receiver *receiver);
 /* How often felter_receive_next answered FELTER_LAPPED. */
 int32_t felter_raw_lapped_count(felter_raw_receiver *receiver, uint64_t *count);
+
+/* As felter_receiver_place and felter_receiver_lap. */
+int32_t felter_raw_receiver_place(felter_raw_receiver *receiver, uint64_t *place);
+int32_t felter_raw_receiver_lap(felter_raw_receiver *receiver, uint64_t *place, uint64_t *intent);
 
 /* Take back a receiver, or a raw one, of this board, with its share, and empty its handle. FELTER_OTHER_RING, also of
  * each receiver that felter_conductor_subscribe made. */
@@ -297,6 +316,13 @@ int32_t felter_counter_value(felter_counters *counters, uint32_t id, int64_t *va
 int32_t felter_counter_type_id(felter_counters *counters, uint32_t id, int32_t *type_id);
 int32_t felter_counter_registration(felter_counters *counters, uint32_t id, uint64_t *registration);
 int32_t felter_counter_owner(felter_counters *counters, uint32_t id, uint64_t *owner);
+/* Raises the value to this one if it is below it: *raised is then 1, and otherwise 0. */
+int32_t felter_counter_propose_max(felter_counters *counters, uint32_t id, int64_t value, uint32_t *raised);
+/* The state of a record: 0 if it was never used, 1 if the counter is in use, -1 if it was freed. And the moment from
+ * which its id may be allocated again: 0 if it was never used, 2^63 - 1 if the counter is in use. Both refuse with
+ * FELTER_BAD_ID alone. */
+int32_t felter_counter_state(felter_counters *counters, uint32_t id, int32_t *state);
+int32_t felter_counter_deadline(felter_counters *counters, uint32_t id, uint64_t *deadline);
 /* Copies the label, of at most 380 bytes and without an end, and says its length: also with FELTER_SHORT_BUFFER, where
  * the room is less. */
 int32_t felter_counter_label(felter_counters *counters, uint32_t id, size_t *len, void *buffer, size_t room);
@@ -352,6 +378,19 @@ int32_t felter_conductor_work(felter_conductor *conductor, uint64_t now, uint32_
 /* Stores the heartbeat that clients load: any number, 0 before the first. */
 int32_t felter_conductor_set_heartbeat(felter_conductor *conductor, uint64_t value);
 int32_t felter_client_heartbeat(felter_client *client, uint64_t *value);
+
+/* What the conductor's counters are asked, by the thread that uses the conductor: each as the call of felter_counters
+ * whose name ends so. */
+int32_t felter_conductor_find(felter_conductor *conductor, int32_t type_id, uint64_t registration, uint32_t *id);
+int32_t felter_conductor_count(felter_conductor *conductor, uint32_t *count);
+int32_t felter_conductor_value(felter_conductor *conductor, uint32_t id, int64_t *value);
+int32_t felter_conductor_type_id(felter_conductor *conductor, uint32_t id, int32_t *type_id);
+int32_t felter_conductor_registration(felter_conductor *conductor, uint32_t id, uint64_t *registration);
+int32_t felter_conductor_owner(felter_conductor *conductor, uint32_t id, uint64_t *owner);
+int32_t felter_conductor_state(felter_conductor *conductor, uint32_t id, int32_t *state);
+int32_t felter_conductor_deadline(felter_conductor *conductor, uint32_t id, uint64_t *deadline);
+int32_t felter_conductor_label(felter_conductor *conductor, uint32_t id, size_t *len, void *buffer, size_t room);
+int32_t felter_conductor_key(felter_conductor *conductor, uint32_t id, void *buffer, size_t room);
 
 /* Makes a receiver of the replies, for felter_receive and felter_lapped_count; else as felter_subscribe. */
 int32_t felter_conductor_subscribe(felter_conductor *conductor, felter_receiver *receiver);

@@ -14,6 +14,17 @@
 
 namespace felter {
 
+// The bytes of a buffer, and those of the longest message.
+struct sizes {
+    std::uint32_t capacity, longest;
+};
+
+namespace detail {
+inline result<sizes> sizes_of(felter_handle &handle) {
+    return out<sizes>([&](sizes *it) { return felter_capacity(&handle, &it->capacity, &it->longest); });
+}
+} // namespace detail
+
 struct positions {
     std::uint64_t head, tail;
 };
@@ -47,6 +58,7 @@ private:
 
 class producer : public owner<felter_producer> {
 public:
+    result<felter::sizes> sizes() { return detail::sizes_of(raw()->handle); }
     code write(std::int32_t type_id, bytes body) { return felter_write(raw(), type_id, body.data(), body.size()); }
     result<felter::claim> claim(std::int32_t type_id, std::size_t len) {
         std::uint64_t number = 0;
@@ -75,6 +87,7 @@ public:
 
 class consumer : public owner<felter_consumer> {
 public:
+    result<felter::sizes> sizes() { return detail::sizes_of(raw()->handle); }
     // Reads the next message into a buffer.
     result<message> read(buffer into) {
         message found{};
@@ -123,8 +136,22 @@ inline result<ring> one_to_one(std::uint32_t capacity, std::uint64_t start = 0) 
     return detail::answer(why, std::move(made));
 }
 
+// Where a receiver was when it was lapped, and the intent that showed it.
+struct lap {
+    std::uint64_t place, intent;
+};
+
 class receiver : public owner<felter_receiver> {
 public:
+    result<felter::sizes> sizes() { return detail::sizes_of(raw()->handle); }
+    result<std::uint64_t> place() {
+        return detail::out<std::uint64_t>([&](std::uint64_t *it) { return felter_receiver_place(raw(), it); });
+    }
+    // How it was lapped last.
+    result<felter::lap> lap() {
+        return detail::out<felter::lap>(
+            [&](felter::lap *it) { return felter_receiver_lap(raw(), &it->place, &it->intent); });
+    }
     // Copies the next message into a buffer of an eighth of the capacity. FELTER_LAPPED: lapped_count says how often.
     result<message> receive(buffer into) {
         message found{};
@@ -147,6 +174,14 @@ struct raw_record {
 
 class raw_receiver : public owner<felter_raw_receiver> {
 public:
+    result<felter::sizes> sizes() { return detail::sizes_of(raw()->handle); }
+    result<std::uint64_t> place() {
+        return detail::out<std::uint64_t>([&](std::uint64_t *it) { return felter_raw_receiver_place(raw(), it); });
+    }
+    result<felter::lap> lap() {
+        return detail::out<felter::lap>(
+            [&](felter::lap *it) { return felter_raw_receiver_lap(raw(), &it->place, &it->intent); });
+    }
     result<raw_record> receive_next() {
         std::uint64_t lapped = 0;
         return detail::out<raw_record>(
@@ -165,6 +200,7 @@ public:
         return detail::made<transmitter>(
             [&](felter_transmitter *it) { return felter_board_new_at(capacity, start, it); });
     }
+    result<felter::sizes> sizes() { return detail::sizes_of(raw()->handle); }
     code transmit(std::int32_t type_id, bytes body) {
         return felter_transmit(raw(), type_id, body.data(), body.size());
     }
@@ -211,6 +247,26 @@ public:
     result<std::uint32_t> find(std::int32_t type_id, std::uint64_t registration) {
         return detail::out<std::uint32_t>(
             [&](std::uint32_t *it) { return felter_counter_find(raw(), type_id, registration, it); });
+    }
+    result<std::uint32_t> propose_max(std::uint32_t id, std::int64_t value) {
+        return detail::out<std::uint32_t>(
+            [&](std::uint32_t *it) { return felter_counter_propose_max(raw(), id, value, it); });
+    }
+    result<std::int32_t> type_id(std::uint32_t id) {
+        return detail::out<std::int32_t>([&](std::int32_t *it) { return felter_counter_type_id(raw(), id, it); });
+    }
+    result<std::uint64_t> registration(std::uint32_t id) {
+        return detail::out<std::uint64_t>(
+            [&](std::uint64_t *it) { return felter_counter_registration(raw(), id, it); });
+    }
+    result<std::uint64_t> owner(std::uint32_t id) {
+        return detail::out<std::uint64_t>([&](std::uint64_t *it) { return felter_counter_owner(raw(), id, it); });
+    }
+    result<std::int32_t> state(std::uint32_t id) {
+        return detail::out<std::int32_t>([&](std::int32_t *it) { return felter_counter_state(raw(), id, it); });
+    }
+    result<std::uint64_t> deadline(std::uint32_t id) {
+        return detail::out<std::uint64_t>([&](std::uint64_t *it) { return felter_counter_deadline(raw(), id, it); });
     }
     result<std::uint32_t> close_owner(std::uint64_t now, std::uint64_t owner) {
         return detail::out<std::uint32_t>(
@@ -280,6 +336,29 @@ public:
             [&](felter::work *it) { return felter_conductor_work(raw(), now, limit, &it->messages, &it->stopped); });
     }
     code set_heartbeat(std::uint64_t value) { return felter_conductor_set_heartbeat(raw(), value); }
+    result<std::int64_t> value(std::uint32_t id) {
+        return detail::out<std::int64_t>([&](std::int64_t *it) { return felter_conductor_value(raw(), id, it); });
+    }
+    result<std::uint32_t> find(std::int32_t type_id, std::uint64_t registration) {
+        return detail::out<std::uint32_t>(
+            [&](std::uint32_t *it) { return felter_conductor_find(raw(), type_id, registration, it); });
+    }
+    result<std::int32_t> type_id(std::uint32_t id) {
+        return detail::out<std::int32_t>([&](std::int32_t *it) { return felter_conductor_type_id(raw(), id, it); });
+    }
+    result<std::uint64_t> registration(std::uint32_t id) {
+        return detail::out<std::uint64_t>(
+            [&](std::uint64_t *it) { return felter_conductor_registration(raw(), id, it); });
+    }
+    result<std::uint64_t> owner(std::uint32_t id) {
+        return detail::out<std::uint64_t>([&](std::uint64_t *it) { return felter_conductor_owner(raw(), id, it); });
+    }
+    result<std::int32_t> state(std::uint32_t id) {
+        return detail::out<std::int32_t>([&](std::int32_t *it) { return felter_conductor_state(raw(), id, it); });
+    }
+    result<std::uint64_t> deadline(std::uint32_t id) {
+        return detail::out<std::uint64_t>([&](std::uint64_t *it) { return felter_conductor_deadline(raw(), id, it); });
+    }
     result<receiver> subscribe() {
         return detail::made<receiver>([&](felter_receiver *it) { return felter_conductor_subscribe(raw(), it); });
     }

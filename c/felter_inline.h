@@ -76,6 +76,21 @@ static inline void felter_guarded_free(felter_handle *handle) {
     FELTER_LEAVE1();
 }
 
+FELTER_GUARD int32_t felter_guarded_version(void) {
+    int32_t code = felter_version();
+    return code;
+}
+
+FELTER_GUARD int32_t felter_guarded_capacity(felter_handle *handle, uint32_t *capacity, uint32_t *longest) {
+    if (!handle) return felter_refuse("felter_capacity", FELTER_NO_HANDLE);
+    if (!capacity) return felter_refuse("felter_capacity", FELTER_NULL_POINTER);
+    if (!longest) return felter_refuse("felter_capacity", FELTER_NULL_POINTER);
+    FELTER_ENTER1("felter_capacity", handle);
+    int32_t code = felter_capacity(handle, capacity, longest);
+    FELTER_LEAVE1();
+    return code;
+}
+
 FELTER_GUARD int32_t felter_guarded_many_to_one_new_numbered(uint64_t number, uint32_t capacity,
                                                              felter_producer *producer, felter_consumer *consumer) {
     if (!producer) return felter_refuse("felter_many_to_one_new_numbered", FELTER_NO_HANDLE);
@@ -324,6 +339,25 @@ FELTER_GUARD int32_t felter_guarded_lapped_count(felter_receiver *receiver, uint
     return code;
 }
 
+FELTER_GUARD int32_t felter_guarded_receiver_place(felter_receiver *receiver, uint64_t *place) {
+    if (!receiver) return felter_refuse("felter_receiver_place", FELTER_NO_HANDLE);
+    if (!place) return felter_refuse("felter_receiver_place", FELTER_NULL_POINTER);
+    FELTER_ENTER1("felter_receiver_place", &receiver->handle);
+    int32_t code = felter_receiver_place(receiver, place);
+    FELTER_LEAVE1();
+    return code;
+}
+
+FELTER_GUARD int32_t felter_guarded_receiver_lap(felter_receiver *receiver, uint64_t *place, uint64_t *intent) {
+    if (!receiver) return felter_refuse("felter_receiver_lap", FELTER_NO_HANDLE);
+    if (!place) return felter_refuse("felter_receiver_lap", FELTER_NULL_POINTER);
+    if (!intent) return felter_refuse("felter_receiver_lap", FELTER_NULL_POINTER);
+    FELTER_ENTER1("felter_receiver_lap", &receiver->handle);
+    int32_t code = felter_receiver_lap(receiver, place, intent);
+    FELTER_LEAVE1();
+    return code;
+}
+
 FELTER_GUARD int32_t felter_guarded_subscribe_raw(felter_transmitter *transmitter, felter_raw_receiver *receiver) {
     if (!transmitter) return felter_refuse("felter_subscribe_raw", FELTER_NO_HANDLE);
     if (!receiver) return felter_refuse("felter_subscribe_raw", FELTER_NO_HANDLE);
@@ -367,6 +401,25 @@ FELTER_GUARD int32_t felter_guarded_raw_lapped_count(felter_raw_receiver *receiv
     if (!count) return felter_refuse("felter_raw_lapped_count", FELTER_NULL_POINTER);
     FELTER_ENTER1("felter_raw_lapped_count", &receiver->handle);
     int32_t code = felter_raw_lapped_count(receiver, count);
+    FELTER_LEAVE1();
+    return code;
+}
+
+FELTER_GUARD int32_t felter_guarded_raw_receiver_place(felter_raw_receiver *receiver, uint64_t *place) {
+    if (!receiver) return felter_refuse("felter_raw_receiver_place", FELTER_NO_HANDLE);
+    if (!place) return felter_refuse("felter_raw_receiver_place", FELTER_NULL_POINTER);
+    FELTER_ENTER1("felter_raw_receiver_place", &receiver->handle);
+    int32_t code = felter_raw_receiver_place(receiver, place);
+    FELTER_LEAVE1();
+    return code;
+}
+
+FELTER_GUARD int32_t felter_guarded_raw_receiver_lap(felter_raw_receiver *receiver, uint64_t *place, uint64_t *intent) {
+    if (!receiver) return felter_refuse("felter_raw_receiver_lap", FELTER_NO_HANDLE);
+    if (!place) return felter_refuse("felter_raw_receiver_lap", FELTER_NULL_POINTER);
+    if (!intent) return felter_refuse("felter_raw_receiver_lap", FELTER_NULL_POINTER);
+    FELTER_ENTER1("felter_raw_receiver_lap", &receiver->handle);
+    int32_t code = felter_raw_receiver_lap(receiver, place, intent);
     FELTER_LEAVE1();
     return code;
 }
@@ -498,6 +551,34 @@ FELTER_GUARD int32_t felter_guarded_counter_owner(felter_counters *counters, uin
     return code;
 }
 
+FELTER_GUARD int32_t felter_guarded_counter_propose_max(felter_counters *counters, uint32_t id, int64_t value,
+                                                        uint32_t *raised) {
+    if (!counters) return felter_refuse("felter_counter_propose_max", FELTER_NO_HANDLE);
+    if (!raised) return felter_refuse("felter_counter_propose_max", FELTER_NULL_POINTER);
+    FELTER_ENTER1("felter_counter_propose_max", &counters->handle);
+    int32_t code = felter_counter_propose_max(counters, id, value, raised);
+    FELTER_LEAVE1();
+    return code;
+}
+
+FELTER_GUARD int32_t felter_guarded_counter_state(felter_counters *counters, uint32_t id, int32_t *state) {
+    if (!counters) return felter_refuse("felter_counter_state", FELTER_NO_HANDLE);
+    if (!state) return felter_refuse("felter_counter_state", FELTER_NULL_POINTER);
+    FELTER_ENTER1("felter_counter_state", &counters->handle);
+    int32_t code = felter_counter_state(counters, id, state);
+    FELTER_LEAVE1();
+    return code;
+}
+
+FELTER_GUARD int32_t felter_guarded_counter_deadline(felter_counters *counters, uint32_t id, uint64_t *deadline) {
+    if (!counters) return felter_refuse("felter_counter_deadline", FELTER_NO_HANDLE);
+    if (!deadline) return felter_refuse("felter_counter_deadline", FELTER_NULL_POINTER);
+    FELTER_ENTER1("felter_counter_deadline", &counters->handle);
+    int32_t code = felter_counter_deadline(counters, id, deadline);
+    FELTER_LEAVE1();
+    return code;
+}
+
 FELTER_GUARD int32_t felter_guarded_counter_label(felter_counters *counters, uint32_t id, size_t *len, void *buffer,
                                                   size_t room) {
     if (!counters) return felter_refuse("felter_counter_label", FELTER_NO_HANDLE);
@@ -617,6 +698,100 @@ FELTER_GUARD int32_t felter_guarded_client_heartbeat(felter_client *client, uint
     if (!value) return felter_refuse("felter_client_heartbeat", FELTER_NULL_POINTER);
     FELTER_ENTER1("felter_client_heartbeat", &client->handle);
     int32_t code = felter_client_heartbeat(client, value);
+    FELTER_LEAVE1();
+    return code;
+}
+
+FELTER_GUARD int32_t felter_guarded_conductor_find(felter_conductor *conductor, int32_t type_id, uint64_t registration,
+                                                   uint32_t *id) {
+    if (!conductor) return felter_refuse("felter_conductor_find", FELTER_NO_HANDLE);
+    if (!id) return felter_refuse("felter_conductor_find", FELTER_NULL_POINTER);
+    FELTER_ENTER1("felter_conductor_find", &conductor->handle);
+    int32_t code = felter_conductor_find(conductor, type_id, registration, id);
+    FELTER_LEAVE1();
+    return code;
+}
+
+FELTER_GUARD int32_t felter_guarded_conductor_count(felter_conductor *conductor, uint32_t *count) {
+    if (!conductor) return felter_refuse("felter_conductor_count", FELTER_NO_HANDLE);
+    if (!count) return felter_refuse("felter_conductor_count", FELTER_NULL_POINTER);
+    FELTER_ENTER1("felter_conductor_count", &conductor->handle);
+    int32_t code = felter_conductor_count(conductor, count);
+    FELTER_LEAVE1();
+    return code;
+}
+
+FELTER_GUARD int32_t felter_guarded_conductor_value(felter_conductor *conductor, uint32_t id, int64_t *value) {
+    if (!conductor) return felter_refuse("felter_conductor_value", FELTER_NO_HANDLE);
+    if (!value) return felter_refuse("felter_conductor_value", FELTER_NULL_POINTER);
+    FELTER_ENTER1("felter_conductor_value", &conductor->handle);
+    int32_t code = felter_conductor_value(conductor, id, value);
+    FELTER_LEAVE1();
+    return code;
+}
+
+FELTER_GUARD int32_t felter_guarded_conductor_type_id(felter_conductor *conductor, uint32_t id, int32_t *type_id) {
+    if (!conductor) return felter_refuse("felter_conductor_type_id", FELTER_NO_HANDLE);
+    if (!type_id) return felter_refuse("felter_conductor_type_id", FELTER_NULL_POINTER);
+    FELTER_ENTER1("felter_conductor_type_id", &conductor->handle);
+    int32_t code = felter_conductor_type_id(conductor, id, type_id);
+    FELTER_LEAVE1();
+    return code;
+}
+
+FELTER_GUARD int32_t felter_guarded_conductor_registration(felter_conductor *conductor, uint32_t id,
+                                                           uint64_t *registration) {
+    if (!conductor) return felter_refuse("felter_conductor_registration", FELTER_NO_HANDLE);
+    if (!registration) return felter_refuse("felter_conductor_registration", FELTER_NULL_POINTER);
+    FELTER_ENTER1("felter_conductor_registration", &conductor->handle);
+    int32_t code = felter_conductor_registration(conductor, id, registration);
+    FELTER_LEAVE1();
+    return code;
+}
+
+FELTER_GUARD int32_t felter_guarded_conductor_owner(felter_conductor *conductor, uint32_t id, uint64_t *owner) {
+    if (!conductor) return felter_refuse("felter_conductor_owner", FELTER_NO_HANDLE);
+    if (!owner) return felter_refuse("felter_conductor_owner", FELTER_NULL_POINTER);
+    FELTER_ENTER1("felter_conductor_owner", &conductor->handle);
+    int32_t code = felter_conductor_owner(conductor, id, owner);
+    FELTER_LEAVE1();
+    return code;
+}
+
+FELTER_GUARD int32_t felter_guarded_conductor_state(felter_conductor *conductor, uint32_t id, int32_t *state) {
+    if (!conductor) return felter_refuse("felter_conductor_state", FELTER_NO_HANDLE);
+    if (!state) return felter_refuse("felter_conductor_state", FELTER_NULL_POINTER);
+    FELTER_ENTER1("felter_conductor_state", &conductor->handle);
+    int32_t code = felter_conductor_state(conductor, id, state);
+    FELTER_LEAVE1();
+    return code;
+}
+
+FELTER_GUARD int32_t felter_guarded_conductor_deadline(felter_conductor *conductor, uint32_t id, uint64_t *deadline) {
+    if (!conductor) return felter_refuse("felter_conductor_deadline", FELTER_NO_HANDLE);
+    if (!deadline) return felter_refuse("felter_conductor_deadline", FELTER_NULL_POINTER);
+    FELTER_ENTER1("felter_conductor_deadline", &conductor->handle);
+    int32_t code = felter_conductor_deadline(conductor, id, deadline);
+    FELTER_LEAVE1();
+    return code;
+}
+
+FELTER_GUARD int32_t felter_guarded_conductor_label(felter_conductor *conductor, uint32_t id, size_t *len, void *buffer,
+                                                    size_t room) {
+    if (!conductor) return felter_refuse("felter_conductor_label", FELTER_NO_HANDLE);
+    if (!len) return felter_refuse("felter_conductor_label", FELTER_NULL_POINTER);
+    if (!buffer && room) return felter_refuse("felter_conductor_label", FELTER_NULL_POINTER);
+    FELTER_ENTER1("felter_conductor_label", &conductor->handle);
+    int32_t code = felter_conductor_label(conductor, id, len, buffer, room);
+    FELTER_LEAVE1();
+    return code;
+}
+
+FELTER_GUARD int32_t felter_guarded_conductor_key(felter_conductor *conductor, uint32_t id, void *buffer, size_t room) {
+    if (!conductor) return felter_refuse("felter_conductor_key", FELTER_NO_HANDLE);
+    if (!buffer && room) return felter_refuse("felter_conductor_key", FELTER_NULL_POINTER);
+    FELTER_ENTER1("felter_conductor_key", &conductor->handle);
+    int32_t code = felter_conductor_key(conductor, id, buffer, room);
     FELTER_LEAVE1();
     return code;
 }
@@ -799,6 +974,8 @@ FELTER_GUARD int32_t felter_write_batch(felter_producer *producer, const void *r
 }
 
 #define felter_free felter_guarded_free
+#define felter_version felter_guarded_version
+#define felter_capacity felter_guarded_capacity
 #define felter_many_to_one_new_numbered felter_guarded_many_to_one_new_numbered
 #define felter_many_to_one_new_at_numbered felter_guarded_many_to_one_new_at_numbered
 #define felter_one_to_one_new_numbered felter_guarded_one_to_one_new_numbered
@@ -825,11 +1002,15 @@ FELTER_GUARD int32_t felter_write_batch(felter_producer *producer, const void *r
 #define felter_subscribe felter_guarded_subscribe
 #define felter_receive felter_guarded_receive
 #define felter_lapped_count felter_guarded_lapped_count
+#define felter_receiver_place felter_guarded_receiver_place
+#define felter_receiver_lap felter_guarded_receiver_lap
 #define felter_subscribe_raw felter_guarded_subscribe_raw
 #define felter_receive_next felter_guarded_receive_next
 #define felter_load_body felter_guarded_load_body
 #define felter_validate felter_guarded_validate
 #define felter_raw_lapped_count felter_guarded_raw_lapped_count
+#define felter_raw_receiver_place felter_guarded_raw_receiver_place
+#define felter_raw_receiver_lap felter_guarded_raw_receiver_lap
 #define felter_board_join felter_guarded_board_join
 #define felter_board_join_raw felter_guarded_board_join_raw
 #define felter_board_close felter_guarded_board_close
@@ -843,6 +1024,9 @@ FELTER_GUARD int32_t felter_write_batch(felter_producer *producer, const void *r
 #define felter_counter_type_id felter_guarded_counter_type_id
 #define felter_counter_registration felter_guarded_counter_registration
 #define felter_counter_owner felter_guarded_counter_owner
+#define felter_counter_propose_max felter_guarded_counter_propose_max
+#define felter_counter_state felter_guarded_counter_state
+#define felter_counter_deadline felter_guarded_counter_deadline
 #define felter_counter_label felter_guarded_counter_label
 #define felter_counter_key felter_guarded_counter_key
 #define felter_counter_find felter_guarded_counter_find
@@ -856,6 +1040,16 @@ FELTER_GUARD int32_t felter_write_batch(felter_producer *producer, const void *r
 #define felter_conductor_work felter_guarded_conductor_work
 #define felter_conductor_set_heartbeat felter_guarded_conductor_set_heartbeat
 #define felter_client_heartbeat felter_guarded_client_heartbeat
+#define felter_conductor_find felter_guarded_conductor_find
+#define felter_conductor_count felter_guarded_conductor_count
+#define felter_conductor_value felter_guarded_conductor_value
+#define felter_conductor_type_id felter_guarded_conductor_type_id
+#define felter_conductor_registration felter_guarded_conductor_registration
+#define felter_conductor_owner felter_guarded_conductor_owner
+#define felter_conductor_state felter_guarded_conductor_state
+#define felter_conductor_deadline felter_guarded_conductor_deadline
+#define felter_conductor_label felter_guarded_conductor_label
+#define felter_conductor_key felter_guarded_conductor_key
 #define felter_conductor_subscribe felter_guarded_conductor_subscribe
 #define felter_conductor_reader felter_guarded_conductor_reader
 #define felter_conductor_join felter_guarded_conductor_join

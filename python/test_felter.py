@@ -140,6 +140,7 @@ class Rings(Case):
         with self.assertRaises(felter.Lapped) as lapped:
             receiver.receive_next()
         self.assertEqual((lapped.exception.count, receiver.lapped_count()), (1, 1))
+        self.assertEqual(lapped.exception.missed_bytes, receiver.place() - receiver.lap().place)
         self.assertEqual(receiver.receive_next(), felter.RawRecord(4, 11))
 
     def test_claims_are_open_at_once(self):
@@ -189,6 +190,49 @@ class Rings(Case):
             self.assertEqual(list(consumer), [Message(3, b"kept")])
         self.refuses(Number.NO_HANDLE, consumer.read)
         self.assertEqual(producer.shares(), 65535)
+
+
+class Asking(Case):
+    def test_sizes_and_places(self):
+        producer, consumer = felter.one_to_one(512)
+        transmitter = felter.Transmitter(4096, 8192)
+        receiver, raw = transmitter.subscribe(), transmitter.subscribe_raw()
+        self.assertEqual([producer.sizes(), consumer.sizes()], [(512, 64)] * 2)
+        self.assertEqual([transmitter.sizes(), receiver.sizes(), raw.sizes()], [(4096, 512)] * 3)
+        self.assertEqual((receiver.place(), raw.place(), receiver.lap(), raw.lap()), (8192, 8192, None, None))
+
+    def test_a_lap_says_what_was_missed(self):
+        transmitter = felter.Transmitter(256, 1024)
+        receiver = transmitter.subscribe()
+        # 21 records of 16 bytes: it goes on with the last one.
+        for _ in range(21):
+            transmitter.transmit(1, bytes(8))
+        lapped = self.refuses(Number.LAPPED, receiver.receive)
+        self.assertEqual((lapped.count, lapped.missed_bytes), (1, 20 * 16))
+        self.assertEqual(receiver.lap(), felter.Lap(1024, 1024 + 21 * 16))
+        self.assertEqual((receiver.place(), len(list(receiver)), receiver.place()), (1024 + 320, 1, 1024 + 336))
+
+    def test_records_and_a_conductors_counters(self):
+        counters = felter.Counters(2, 50)
+        self.refuses(Number.NOT_ALLOCATED, counters.propose_max, 0, 5)
+        self.assertEqual((counters.state(0), counters.deadline(0)), (0, 0))
+        one = counters.allocate(3, 1)
+        self.assertEqual([counters.propose_max(one, it) for it in (5, 5, -5, 6)], [True, False, False, True])
+        self.assertEqual((counters.value(one), counters.state(one), counters.deadline(one)), (6, 1, 2**63 - 1))
+        counters.release(7, one)
+        self.assertEqual((counters.state(one), counters.deadline(one)), (-1, 57))
+        conductor = felter.Conductor(1024, 1024, 3)
+        client = conductor.client()
+        client.allocate(1)
+        asked = client.allocate(6, b"key", b"label", 77)
+        client.set(1, -4)
+        conductor.work(0)
+        self.assertEqual((conductor.count(), conductor.find(6, asked), conductor.find(6, asked + 1)), (3, 1, None))
+        self.assertEqual((conductor.value(1), conductor.type_id(1), conductor.owner(1)), (-4, 6, 77))
+        self.assertEqual((conductor.registration(1), conductor.label(1)), (asked, b"label"))
+        self.assertEqual((conductor.key(1), conductor.state(1)), (b"key" + bytes(109), 1))
+        self.refuses(Number.NOT_ALLOCATED, conductor.value, 2)
+        self.assertEqual(conductor.deadline(2), 0)
 
 
 class Boards(Case):

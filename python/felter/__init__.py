@@ -19,7 +19,8 @@ The library is libfelter.so in this package, or in the folder that FELTER_DIR na
 c/build puts it. This module is tested and not proved.
 """
 
-from felter.boards import RawReceiver, RawRecord, Receiver, Transmitter
+from felter._owner import Sizes
+from felter.boards import Lap, RawReceiver, RawRecord, Receiver, Transmitter
 from felter.claims import Claim
 from felter.conductor import Client, Conductor, Finished, Reply, ReplyKind, Work, WorkStop
 from felter.counters import Counters, Reader
@@ -43,6 +44,7 @@ __all__ = [
     "Error",
     "Finished",
     "Full",
+    "Lap",
     "Lapped",
     "Message",
     "Number",
@@ -54,6 +56,7 @@ __all__ = [
     "Receiver",
     "Reply",
     "ReplyKind",
+    "Sizes",
     "Transmitter",
     "Work",
     "WorkStop",

@@ -3,6 +3,8 @@
 # Written by c/bindings from felter.h: change that, and run it again.
 CALLS = """
 felter_free *handle
+felter_version
+felter_capacity *handle *u32 *u32
 felter_many_to_one_new_numbered u64 u32 *producer *consumer
 felter_many_to_one_new_at_numbered u64 u32 u64 *producer *consumer
 felter_one_to_one_new_numbered u64 u32 *producer *consumer
@@ -29,11 +31,15 @@ felter_transmit *transmitter i32 bytes usize
 felter_subscribe *transmitter *receiver
 felter_receive *receiver *i32 *usize *u64 *u8 usize
 felter_lapped_count *receiver *u64
+felter_receiver_place *receiver *u64
+felter_receiver_lap *receiver *u64 *u64
 felter_subscribe_raw *transmitter *raw_receiver
 felter_receive_next *raw_receiver *i32 *usize *u64
 felter_load_body *raw_receiver *u8 usize
 felter_validate *raw_receiver
 felter_raw_lapped_count *raw_receiver *u64
+felter_raw_receiver_place *raw_receiver *u64
+felter_raw_receiver_lap *raw_receiver *u64 *u64
 felter_board_join *transmitter *receiver
 felter_board_join_raw *transmitter *raw_receiver
 felter_board_close *transmitter *u64
@@ -47,6 +53,9 @@ felter_counter_value *counters u32 *i64
 felter_counter_type_id *counters u32 *i32
 felter_counter_registration *counters u32 *u64
 felter_counter_owner *counters u32 *u64
+felter_counter_propose_max *counters u32 i64 *u32
+felter_counter_state *counters u32 *i32
+felter_counter_deadline *counters u32 *u64
 felter_counter_label *counters u32 *usize *u8 usize
 felter_counter_key *counters u32 *u8 usize
 felter_counter_find *counters i32 u64 *u32
@@ -60,6 +69,16 @@ felter_conductor_client *conductor *client
 felter_conductor_work *conductor u64 u32 *u64 *i32
 felter_conductor_set_heartbeat *conductor u64
 felter_client_heartbeat *client *u64
+felter_conductor_find *conductor i32 u64 *u32
+felter_conductor_count *conductor *u32
+felter_conductor_value *conductor u32 *i64
+felter_conductor_type_id *conductor u32 *i32
+felter_conductor_registration *conductor u32 *u64
+felter_conductor_owner *conductor u32 *u64
+felter_conductor_state *conductor u32 *i32
+felter_conductor_deadline *conductor u32 *u64
+felter_conductor_label *conductor u32 *usize *u8 usize
+felter_conductor_key *conductor u32 *u8 usize
 felter_conductor_subscribe *conductor *receiver
 felter_conductor_reader *conductor *reader
 felter_conductor_join *conductor *client

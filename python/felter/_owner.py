@@ -1,5 +1,6 @@
 """A handle, and what is done with it."""
 
+import ctypes
 import itertools
 import os
 import threading
@@ -20,6 +21,20 @@ generation = [0]
 os.register_at_fork(after_in_child=lambda: generation.__setitem__(0, next(forks)))
 
 Self = typing.TypeVar("Self", bound="Unique")
+
+
+class Sizes(typing.NamedTuple):
+    """The bytes of a ring's or a board's buffer, and how many its longest message has."""
+
+    capacity: int
+    max_message: int
+
+
+def sizes_of(handle: Handle) -> Sizes:
+    """The sizes of the ring or board of a handle."""
+    capacity, longest = ctypes.c_uint32(), ctypes.c_uint32()
+    call("felter_capacity", handle, capacity, longest)
+    return Sizes(capacity.value, longest.value)
 
 
 class Unique:
@@ -81,6 +96,11 @@ class Owner(Unique):
     def _is_abandoned(self) -> bool:
         """Whether every end of the other side is gone."""
         return all(it._is_gone for it in (self._ends.readers if self._writes else self._ends.writers))
+
+    def _sizes(self) -> Sizes:
+        self._check()
+        with self._lock:
+            return sizes_of(self._handle)
 
     def _check(self) -> None:
         """Refuses what would wait for good: a signal handler in a call of the handle, and a forked child."""

@@ -3,18 +3,40 @@
 import ctypes
 import typing
 
-from felter._library import call, code_of, octets
-from felter._owner import Ends, Owner, numbers
+from felter._library import Handle, call, code_of, is_there, octets
+from felter._owner import Ends, Owner, Sizes, numbers
 from felter.errors import Error, Lapped, Number, refusal
 from felter.message import Message
 from felter.waiting import wait_for
 
 
-def is_received(name: str, *parameters: typing.Any, lapped: ctypes.c_uint64) -> bool:
-    """Calls, and says whether there was a message. `lapped` is among the parameters."""
+class Lap(typing.NamedTuple):
+    """Where a receiver was when it was lapped, and the intent that showed it: the position up to which the transmitter
+    had begun to write."""
+
+    place: int
+    intent: int
+
+
+def lap_of(name: str, handle: Handle) -> typing.Optional[Lap]:
+    """The last lap of a receiver, or None."""
+    place, intent = ctypes.c_uint64(), ctypes.c_uint64()
+    return Lap(place.value, intent.value) if is_there(name + "_lap", handle, place, intent) else None
+
+
+def missed(name: str, handle: Handle) -> int:
+    """How many bytes a receiver passed over that was lapped just now."""
+    place, lap = ctypes.c_uint64(), lap_of(name, handle)
+    call(name + "_place", handle, place)
+    return place.value - lap.place if lap else 0
+
+
+def is_received(name: str, *parameters: typing.Any, lapped: ctypes.c_uint64, kind: str = "") -> bool:
+    """Calls, and says whether there was a message. `lapped` is among the parameters, and the handle is the first. What
+    a receiver of this kind missed is looked up."""
     code = code_of(name, *parameters)
     if code == Number.LAPPED:
-        raise Lapped(lapped.value)
+        raise Lapped(lapped.value, missed(kind, parameters[0]) if kind else 0)
     if code and code != Number.NO_MESSAGE:
         raise refusal(code)
     return not code
@@ -27,6 +49,10 @@ class Transmitter(Owner):
         super().__init__(next(numbers))
         self._capacity = capacity
         call("felter_board_new_at_numbered", self._number, capacity, start, self._handle)
+
+    def sizes(self) -> Sizes:
+        """The capacity, and how many bytes the longest message has."""
+        return self._sizes()
 
     def transmit(self, type_id: int, body: typing.Any) -> None:
         """Transmits a message. The body is any object with bytes."""
@@ -69,6 +95,20 @@ class Receiver(Owner):
         super().__init__(number, ends, writes=False)
         self._buffer = ctypes.create_string_buffer(capacity // 8)
 
+    def sizes(self) -> Sizes:
+        """The capacity, and how many bytes the longest message has."""
+        return self._sizes()
+
+    def place(self) -> int:
+        """The position, in bytes, at which the next call looks for a message."""
+        return self._say("felter_receiver_place", ctypes.c_uint64)
+
+    def lap(self) -> typing.Optional[Lap]:
+        """How it was lapped last, or None."""
+        self._check()
+        with self._lock:
+            return lap_of("felter_receiver", self._handle)
+
     def is_abandoned(self) -> bool:
         """Whether the transmitter was freed or closed, or the conductor: nothing more will come. What was transmitted
         before is still to be received."""
@@ -85,7 +125,7 @@ class Receiver(Owner):
         self._check()
         with self._lock:
             outs = type_id, length, lapped, self._buffer, len(self._buffer)
-            took = is_received("felter_receive", self._handle, *outs, lapped=lapped)
+            took = is_received("felter_receive", self._handle, *outs, lapped=lapped, kind="felter_receiver")
             return Message(type_id.value, self._buffer[: length.value]) if took else None
 
     def __iter__(self) -> typing.Iterator[Message]:
@@ -107,6 +147,20 @@ class RawRecord(typing.NamedTuple):
 class RawReceiver(Owner):
     """Receives what is transmitted on a board, each record unread."""
 
+    def sizes(self) -> Sizes:
+        """The capacity, and how many bytes the longest message has."""
+        return self._sizes()
+
+    def place(self) -> int:
+        """The position, in bytes, at which the next call looks for a message."""
+        return self._say("felter_raw_receiver_place", ctypes.c_uint64)
+
+    def lap(self) -> typing.Optional[Lap]:
+        """How it was lapped last, or None."""
+        self._check()
+        with self._lock:
+            return lap_of("felter_raw_receiver", self._handle)
+
     def is_abandoned(self) -> bool:
         """Whether the transmitter was freed or closed: nothing more will come."""
         return self._is_abandoned()
@@ -117,7 +171,8 @@ class RawReceiver(Owner):
         type_id, length, lapped = ctypes.c_int32(), ctypes.c_size_t(), ctypes.c_uint64()
         self._check()
         with self._lock:
-            took = is_received("felter_receive_next", self._handle, type_id, length, lapped, lapped=lapped)
+            outs = type_id, length, lapped
+            took = is_received("felter_receive_next", self._handle, *outs, lapped=lapped, kind="felter_raw_receiver")
             return RawRecord(type_id.value, length.value) if took else None
 
     def load_body(self, length: int) -> bytes:

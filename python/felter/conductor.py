@@ -98,6 +98,55 @@ class Conductor(Owner):
         self._do("felter_conductor_work", now, limit, messages, stopped)
         return Work(messages.value, WorkStop(stopped.value))
 
+    def find(self, type_id: int, registration: int) -> typing.Optional[int]:
+        """The lowest id in use of a type and registration id, or None."""
+        try:
+            return self._say("felter_conductor_find", ctypes.c_uint32, type_id, registration)
+        except Error as refused:
+            if refused.number != Number.NOT_ALLOCATED:
+                raise
+            return None
+
+    def count(self) -> int:
+        """The number of ids, in use or not."""
+        return self._say("felter_conductor_count", ctypes.c_uint32)
+
+    def value(self, counter: int) -> int:
+        """A counter's value."""
+        return self._say("felter_conductor_value", ctypes.c_int64, counter)
+
+    def type_id(self, counter: int) -> int:
+        """A counter's type id."""
+        return self._say("felter_conductor_type_id", ctypes.c_int32, counter)
+
+    def registration(self, counter: int) -> int:
+        """A counter's registration id."""
+        return self._say("felter_conductor_registration", ctypes.c_uint64, counter)
+
+    def owner(self, counter: int) -> int:
+        """A counter's owner, 0 if it has none."""
+        return self._say("felter_conductor_owner", ctypes.c_uint64, counter)
+
+    def state(self, counter: int) -> int:
+        """The state of a record: 0 if it was never used, 1 if the counter is in use, -1 if it was freed."""
+        return self._say("felter_conductor_state", ctypes.c_int32, counter)
+
+    def deadline(self, counter: int) -> int:
+        """The moment from which an id may be allocated again: 0 if it was never used, 2^63 - 1 if it is in use."""
+        return self._say("felter_conductor_deadline", ctypes.c_uint64, counter)
+
+    def label(self, counter: int) -> bytes:
+        """A counter's label."""
+        label, length = ctypes.create_string_buffer(380), ctypes.c_size_t()
+        self._do("felter_conductor_label", counter, length, label, len(label))
+        return label[: length.value]
+
+    def key(self, counter: int) -> bytes:
+        """A counter's key of 112 bytes, with zeros after a shorter one."""
+        key = ctypes.create_string_buffer(112)
+        self._do("felter_conductor_key", counter, key, len(key))
+        return key[:]
+
     def set_heartbeat(self, value: int) -> None:
         """Stores the heartbeat that clients load."""
         self._do("felter_conductor_set_heartbeat", value)

@@ -70,6 +70,18 @@ class Counters(Owner):
         self._do("felter_counter_key", counter, key, len(key))
         return key[:]
 
+    def propose_max(self, counter: int, value: int) -> bool:
+        """Raises a counter's value to this one if it is below it, and returns whether it was."""
+        return self._say("felter_counter_propose_max", ctypes.c_uint32, counter, value) == 1
+
+    def state(self, counter: int) -> int:
+        """The state of a record: 0 if it was never used, 1 if the counter is in use, -1 if it was freed."""
+        return self._say("felter_counter_state", ctypes.c_int32, counter)
+
+    def deadline(self, counter: int) -> int:
+        """The moment from which an id may be allocated again: 0 if it was never used, 2^63 - 1 if it is in use."""
+        return self._say("felter_counter_deadline", ctypes.c_uint64, counter)
+
     def find(self, type_id: int, registration: int) -> typing.Optional[int]:
         """The lowest id in use of a type and registration id, or None."""
         try:

@@ -50,16 +50,19 @@ class Closed(Error):
 
 
 class Lapped(Error):
-    """The transmitter overtook the receiver: `count` says how often by now."""
+    """The transmitter overtook the receiver: `count` says how often by now, and `missed_bytes` how much of the board it
+    passed over, 0 if that is not known (as of a client)."""
 
     count: int
+    missed_bytes: int
 
-    def __init__(self, count: int) -> None:
+    def __init__(self, count: int, missed_bytes: int = 0) -> None:
         super().__init__(Number.LAPPED)
         self.count = count
+        self.missed_bytes = missed_bytes
 
     def _made_of(self) -> typing.Tuple[int, ...]:
-        return (self.count,)
+        return self.count, self.missed_bytes
 
 
 class Disconnected(Exception):

@@ -7,7 +7,7 @@ import struct
 import typing
 
 from felter._library import call, is_there, octets
-from felter._owner import Ends, Owner, numbers
+from felter._owner import Ends, Owner, Sizes, numbers
 from felter.claims import Claim, Trace
 from felter.errors import Contended, Error, Full, Number
 from felter.message import Message
@@ -27,6 +27,10 @@ class Consumer(Owner):
     def __init__(self, number: int, ends: Ends) -> None:
         super().__init__(number, ends, writes=False)
         self._buffer = ctypes.create_string_buffer(256)
+
+    def sizes(self) -> Sizes:
+        """The capacity, and how many bytes the longest message has."""
+        return self._sizes()
 
     def is_abandoned(self) -> bool:
         """Whether every producer was freed, or taken in by `close`: nothing more will be written. What was written
@@ -117,6 +121,10 @@ class Producer(Owner):
         if self._dropped:
             self._settle_dropped()
         super()._do(name, *parameters)
+
+    def sizes(self) -> Sizes:
+        """The capacity, and how many bytes the longest message has."""
+        return self._sizes()
 
     def is_abandoned(self) -> bool:
         """Whether the consumer was freed: nothing that is written will be read."""

@@ -1,12 +1,12 @@
 -- What the return value of an export says of the handles before and after it.
-use Rattle.std.specs.Prelude.{◌≡◌, ◌≢◌, ◌⊎◌, ℕ, ℤ, pos, MatchOption, Bool}
+use Rattle.std.specs.Prelude.{◌≡◌, ◌≢◌, ◌⊎◌, ◌/◌, ℕ, ℤ, pos, MatchOption, Bool}
 use Rattle.std.specs.declared.option.Option.{Option}
 use Rattle.std.specs.declared.option.Option.TheVariants.{None, Some}
 use Rattle.ring_handles.specs.declared.held.Held.{Held}
 use Rattle.ring_handles.specs.declared.lending.Shared.{Shared}
 use Rattle.ring_handles.specs.Closing.{TellsEnd, WhyNotFinished}
 use Rattle.ring_handles.specs.Conducting.{IsConductorCode}
-use Rattle.ring_handles.specs.Kinds.{a_conductor, a_producer, HoldsOne}
+use Rattle.ring_handles.specs.Kinds.{a_conductor, a_producer, capacity_held, HoldsOne}
 use Rattle.ring_handles.specs.Opening.{HoldFresh, HoldFreshCounters, HoldNewBoard, HoldNewConductor}
 use Rattle.ring_handles.specs.Opening.{IsBoardCode, IsCountersCode, IsMakeCode}
 use Rattle.ring_handles.specs.Producing.{closing}
@@ -131,3 +131,20 @@ counts received left = record { received = received; left = left }
 -- a conductor's handle is emptied once the conductor ended, or it stays as it is
 abbrev pub Ends : Counts → Counts → Option Held → Option Held → ℤ → Type 0
 Ends = EndsAs a_conductor (λ c ended. TellsEnd c ended.received ended.left) WhyNotFinished
+
+-- Sizes --------------------------------------------------------------------------
+
+-- what a look at sizes puts out: the bytes of the buffer, and those of the longest message
+pub record Sizes : Type 0 where
+  pub capacity : ℕ
+  pub longest : ℕ
+
+abbrev pub sizes : ℕ → ℕ → Sizes
+sizes capacity longest = record { capacity = capacity; longest = longest }
+
+-- the handle stays as it is, and if it holds an end of a ring or a board, its sizes are put out
+abbrev pub SaysSizes : Sizes → Sizes → Option Held → Option Held → ℤ → Type 0
+SaysSizes old new before after code = (after ≡ before)
+    × MatchOption before ((code ≡ pos 100) × (new ≡ old))
+    (λ h. MatchOption (capacity_held h) ((code ≡ pos 101) × (new ≡ old))
+    (λ C. (code ≡ pos 0) × (new ≡ sizes C (C / 8))))

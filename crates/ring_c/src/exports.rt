@@ -1,4 +1,5 @@
 //! What C calls.
+pub(crate) mod asking;
 pub(crate) mod boards;
 pub(crate) mod calling;
 pub(crate) mod concluding;
@@ -10,7 +11,9 @@ pub(crate) mod ending;
 pub(crate) mod joining;
 pub(crate) mod lending;
 pub(crate) mod opening;
+pub(crate) mod places;
 pub(crate) mod producing;
 pub(crate) mod raw;
 pub(crate) mod reading;
+pub(crate) mod records;
 pub(crate) mod sharing;

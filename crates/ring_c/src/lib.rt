@@ -7,6 +7,11 @@
 mod exports;
 mod work_on;
 
+pub use exports::asking::{
+    felter_conductor_count, felter_conductor_deadline, felter_conductor_find, felter_conductor_key,
+    felter_conductor_label, felter_conductor_owner, felter_conductor_registration,
+    felter_conductor_state, felter_conductor_type_id, felter_conductor_value,
+};
 pub use exports::boards::{
     felter_board_new_at_numbered, felter_board_new_numbered, felter_lapped_count, felter_receive,
     felter_subscribe, felter_transmit,
@@ -41,6 +46,10 @@ pub use exports::opening::{
     felter_many_to_one_new_at_numbered, felter_many_to_one_new_numbered,
     felter_one_to_one_new_at_numbered, felter_one_to_one_new_numbered,
 };
+pub use exports::places::{
+    felter_capacity, felter_raw_receiver_lap, felter_raw_receiver_place, felter_receiver_lap,
+    felter_receiver_place, felter_version,
+};
 pub use exports::producing::{
     felter_abort, felter_claim, felter_commit, felter_heartbeat, felter_next_id, felter_positions,
     felter_put, felter_shares, felter_write,
@@ -50,4 +59,7 @@ pub use exports::raw::{
     felter_validate,
 };
 pub use exports::reading::{felter_counters_reader, felter_reader_value};
+pub use exports::records::{
+    felter_counter_deadline, felter_counter_propose_max, felter_counter_state,
+};
 pub use exports::sharing::{felter_free, felter_split};

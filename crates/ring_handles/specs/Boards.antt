@@ -59,6 +59,8 @@ pub record Listening : Type 0 where
   pub lender : Option Shared
   -- what the receiver knows, with the slots of its seat, which has none
   pub seat : Sat
+  -- how it was lapped last
+  pub lap : Option Lapped
 
 -- the receiver with this seat
 abbrev pub seated : Sat → Listening → Listening
@@ -74,6 +76,7 @@ pub record Subscribes (p q : Sending) (r : Listening) : Type 0 where
     capacity = p.capacity;
     lender = None;
     seat = r.seat;
+    lap = None;
   }
   pub knows : r.seat.0 ≡ newcomer p.view
 
@@ -102,23 +105,46 @@ pub record Copies (before after : Heard) (m m' : Sat) : Type 0 where
   pub outs : after ≡ heard_out type_id (length body) before.lapped
       (overwritten 0 (take (length before.buffer) body) before.buffer)
 
--- the receiver was lapped, and how often is put out
-pub record Laps (before after : Heard) (m m' : Sat) : Type 0 where
+-- the receiver was lapped, which is kept, and how often is put out
+pub record Laps (before after : Heard) (kept : Option Lapped) (m m' : Sat) : Type 0 where
   pub lapped : Lapped
+  pub lap : kept ≡ Some lapped
   pub got : GotLapped lapped m m'
   pub outs : after ≡ record before { lapped = lapped.count }
 
-abbrev pub TellsHeard : Heard → Heard → Sat → Sat → ℤ → Type 0
-TellsHeard before after m m' code = ((code ≡ pos 0) × Copies before after m m')
-    ⊎ (((code ≡ pos 105) × GotNothing m m' × (after ≡ before)) ⊎ ((code ≡ pos 13) × Laps before after m m'))
+abbrev pub TellsHeard : Heard → Heard → Option Lapped → Option Lapped → Sat → Sat → ℤ → Type 0
+TellsHeard before after lap lap' m m' code = ((code ≡ pos 0) × Copies before after m m' × (lap' ≡ lap))
+    ⊎ (((code ≡ pos 105) × GotNothing m m' × (after ≡ before) × (lap' ≡ lap))
+    ⊎ ((code ≡ pos 13) × Laps before after lap' m m'))
 
 -- a buffer that has no room for the longest message is refused, and that length is put out; otherwise the receiver
 -- receives
 abbrev pub Received : Heard → Heard → Listening → Listening → ℤ → Type 0
 Received before after r s code = ((length before.buffer < r.capacity / 8) × (code ≡ pos 106) × (s ≡ r)
     × (after ≡ record before { len = r.capacity / 8 }))
-    ⊎ ((r.capacity / 8 ≤ length before.buffer) × (s ≡ seated s.seat r) × TellsHeard before after r.seat s.seat code)
+    ⊎ ((r.capacity / 8 ≤ length before.buffer) × (s ≡ record r { seat = s.seat; lap = s.lap })
+    × TellsHeard before after r.lap s.lap r.seat s.seat code)
 
 -- how often the receiver was lapped so far is put out
 abbrev pub SaysLapped : ℕ → Listening → Listening → ℤ → Type 0
 SaysLapped count r s code = (code ≡ pos 0) × (s ≡ r) × (count ≡ r.seat.0.count)
+
+-- the position at which the next call looks for a record is put out
+abbrev pub SaysPlace : ℕ → Listening → Listening → ℤ → Type 0
+SaysPlace place r s code = (code ≡ pos 0) × (s ≡ r) × (place ≡ r.seat.0.at)
+
+-- what a look at the last lap puts out: where the receiver looked for a record, and the intent that showed the lap
+pub record LapOut : Type 0 where
+  pub place : ℕ
+  pub intent : ℕ
+
+abbrev pub lap_out : ℕ → ℕ → LapOut
+lap_out place intent = record { place = place; intent = intent }
+
+-- the last lap is put out; 105 if there was none
+abbrev pub TellsLap : LapOut → LapOut → Option Lapped → ℤ → Type 0
+TellsLap before after lap code = MatchOption lap ((code ≡ pos 105) × (after ≡ before))
+    (λ l. (code ≡ pos 0) × (after ≡ lap_out l.place l.intent))
+
+abbrev pub SaysLap : LapOut → LapOut → Listening → Listening → ℤ → Type 0
+SaysLap before after r s code = (s ≡ r) × TellsLap before after r.lap code

@@ -12,6 +12,7 @@ use Rattle.ring_board.specs.Refusals.{subscribe_refusal_of}
 use Rattle.ring_board.specs.Rule.{opening_view}
 use Rattle.ring_board.specs.Seats.{capacity_of as board_capacity_of, start_of as board_start_of}
 use Rattle.ring_board.specs.Views.{fewer, newcomer}
+use Rattle.ring_counters.specs.declared.manager.CountersManager.{CountersManager}
 use Rattle.ring_counters.specs.Codes.{make_code}
 use Rattle.ring_counters.specs.Manager.{registry_of, writes_of}
 use Rattle.ring_counters.specs.Registry.{fresh_registry, make_refusal_of}
@@ -118,3 +119,10 @@ pub record Beats (value : ℕ) (c d : ConductorSide) : Type 0 where
 
 abbrev pub ConductorBeat : ℕ → ConductorSide → ConductorSide → ℤ → Type 0
 ConductorBeat value c d code = (code ≡ pos 0) × Beats value c d
+
+-- Counters -----------------------------------------------------------------------
+
+-- P tells what its counters answered, and nothing of the conductor changed
+abbrev pub AsksIts : {T : Type 0} → (CountersManager → T → T → ℤ → Type 0) → T → T → ConductorSide → ConductorSide → ℤ
+    → Type 0
+AsksIts P before after c d code = (d ≡ c) × P (manager_in c.conductor) before after code

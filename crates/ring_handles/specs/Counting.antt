@@ -1,12 +1,13 @@
 -- What calls of counters do: c are the counters before, d after, and the code is what is returned.
-use Rattle.std.specs.Prelude.{◌≡◌, ◌≢◌, ◌⊎◌, ◌<◌, ◌≤◌, ◌^◌, ℕ, ℤ, pos, List, [], ◌∷◌, ◌++◌, length, Some, None, Ok, Err}
+use Rattle.std.specs.Prelude.{◌≡◌, ◌≢◌, ◌⊎◌, ◌<◌, ◌≤◌, ◌^◌, ℕ, ℤ, pos, Bool, true, false, List, [], ◌∷◌, ◌++◌, length, Option, Some, None, Ok, Err}
 use Rattle.std.specs.Arc.{arc_value}
 use Rattle.ring_layout.specs.History.{overwritten}
 use Rattle.ring_counters.specs.declared.fault.AllocateRefused.{AllocateRefused}
 use Rattle.ring_counters.specs.declared.fault.IdFault.{IdFault}
+use Rattle.ring_counters.specs.declared.manager.CountersManager.{CountersManager}
 use Rattle.ring_counters.specs.Codes.{allocate_code, id_code}
 use Rattle.ring_counters.specs.Manager.{registry_of, shares_of, writes_of}
-use Rattle.ring_counters.specs.Registry.{Registry, allocated_in, allocation_of, answer, closed_in, counter_at, count_of, id_refusal_of, new_counter, owned_ids, reclaimed_in, registered_id, value_at, value_plus, with_value}
+use Rattle.ring_counters.specs.Registry.{Registry, allocated_in, allocation_of, answer, closed_in, counter_at, count_of, id_refusal_of, is_raised_by, new_counter, owned_ids, range_refusal_of, reclaimed_in, registered_id, value_at, value_plus, with_value}
 use Rattle.ring_counters.specs.Views.{value_write}
 use Rattle.ring_handles.specs.declared.counters.CountersSide.{CountersSide}
 
@@ -17,11 +18,32 @@ pub record IdRefused {T : Type 0} (asked : T) (id : ℕ) (c d : CountersSide) (c
   pub code_is : code ≡ id_code fault
   pub same : d ≡ c
 
+-- what was asked is put out, or it is refused, and what is out stays
+pub record AskRefused {T : Type 0} (refusal : Option IdFault) (asked : T) (code : ℤ) : Type 0 where
+  pub fault : IdFault
+  pub is : answer refusal asked ≡ Err fault
+  pub code_is : code ≡ id_code fault
+
+abbrev pub Answers : {T : Type 0} → Option IdFault → T → T → T → ℤ → Type 0
+Answers refusal asked before after code = ((code ≡ pos 0) × (answer refusal asked ≡ Ok after))
+    ⊎ (AskRefused refusal asked code × (after ≡ before))
+
+-- a counter in use was asked for
+abbrev pub TellsOf : {T : Type 0} → (Registry → T) → ℕ → CountersManager → T → T → ℤ → Type 0
+TellsOf ask id m = Answers (id_refusal_of (registry_of m) id) (ask (registry_of m))
+
+-- the record with this id was asked for, whether the counter is in use or not
+abbrev pub TellsOfRecord : {T : Type 0} → (Registry → T) → ℕ → CountersManager → T → T → ℤ → Type 0
+TellsOfRecord ask id m = Answers (range_refusal_of (registry_of m) id) (ask (registry_of m))
+
+-- P tells what the counters answered, and they did not change
+abbrev pub Asks : {T : Type 0} → (CountersManager → T → T → ℤ → Type 0) → T → T → CountersSide → CountersSide → ℤ
+    → Type 0
+Asks P before after c d code = (d ≡ c) × P c.manager before after code
+
 -- the counters were asked of this id, and did not change
 abbrev pub Asked : {T : Type 0} → (Registry → T) → ℕ → T → T → CountersSide → CountersSide → ℤ → Type 0
-Asked ask id before after c d code = ((code ≡ pos 0)
-    × (answer (id_refusal_of (registry_of c.manager) id) (ask (registry_of c.manager)) ≡ Ok after) × (d ≡ c))
-    ⊎ (IdRefused (ask (registry_of c.manager)) id c d code × (after ≡ before))
+Asked ask id = Asks (TellsOf ask id)
 
 -- they are of the same values and number, and no share was given or taken
 pub record KeepsShares (c d : CountersSide) : Type 0 where
@@ -44,6 +66,16 @@ WasAdded id delta before after c d code =
     ((code ≡ pos 0) × (after ≡ value_at (registry_of c.manager) id)
     × StoresValue id (value_plus (registry_of c.manager) id delta) c d)
     ⊎ (IdRefused (value_at (registry_of c.manager) id) id c d code × (after ≡ before))
+
+-- the value was raised to this one, and 1 is put out; or it was not below it, and 0 is put out
+abbrev pub Proposes : ℕ → ℤ → ℕ → CountersSide → CountersSide → Type 0
+Proposes id value after c d =
+    ((is_raised_by (registry_of c.manager) id value ≡ true) × (after ≡ 1) × StoresValue id value c d)
+    ⊎ ((is_raised_by (registry_of c.manager) id value ≡ false) × (after ≡ 0) × (d ≡ c))
+
+abbrev pub WasProposed : ℕ → ℤ → ℕ → ℕ → CountersSide → CountersSide → ℤ → Type 0
+WasProposed id value before after c d code = ((code ≡ pos 0) × Proposes id value after c d)
+    ⊎ (IdRefused (is_raised_by (registry_of c.manager) id value) id c d code × (after ≡ before))
 
 -- the moment is above 2^62, and nothing changed, as Same says; otherwise P holds
 abbrev pub AtMoment : ℕ → Type 0 → Type 0 → ℤ → Type 0
@@ -90,13 +122,17 @@ WasAllocated now type_id key label registration owner before id c d code =
     ⊎ (NotAllocates now key label c d code × (id ≡ before))
 
 -- the lowest id in use of a type and a registration id
-abbrev pub WasFound : ℤ → ℕ → ℕ → ℕ → CountersSide → CountersSide → ℤ → Type 0
-WasFound type_id registration before id c d code = (d ≡ c)
-    × (((code ≡ pos 0) × (registered_id (registry_of c.manager) type_id registration ≡ Some id))
-    ⊎ ((code ≡ pos 21) × (registered_id (registry_of c.manager) type_id registration ≡ None) × (id ≡ before)))
+abbrev pub TellsFound : ℤ → ℕ → CountersManager → ℕ → ℕ → ℤ → Type 0
+TellsFound type_id registration m before id code =
+    ((code ≡ pos 0) × (registered_id (registry_of m) type_id registration ≡ Some id))
+    ⊎ ((code ≡ pos 21) × (registered_id (registry_of m) type_id registration ≡ None) × (id ≡ before))
 
-abbrev pub WasCounted : ℕ → CountersSide → CountersSide → ℤ → Type 0
-WasCounted count c d code = (d ≡ c) × (code ≡ pos 0) × (count ≡ count_of (registry_of c.manager))
+abbrev pub WasFound : ℤ → ℕ → ℕ → ℕ → CountersSide → CountersSide → ℤ → Type 0
+WasFound type_id registration = Asks (TellsFound type_id registration)
+
+-- the number of ids
+abbrev pub TellsCount : CountersManager → ℕ → ℕ → ℤ → Type 0
+TellsCount m before count code = (code ≡ pos 0) × (count ≡ count_of (registry_of m))
 
 -- these bytes are at the front of the buffer, or it is too short for them, and stays
 abbrev pub FillsBuffer : List ℕ → List ℕ → List ℕ → ℤ → Type 0
@@ -104,8 +140,8 @@ FillsBuffer bytes before after code =
     ((code ≡ pos 0) × (length bytes ≤ length before) × (after ≡ overwritten 0 bytes before))
     ⊎ ((code ≡ pos 106) × (length before < length bytes) × (after ≡ before))
 
-abbrev pub label_at : CountersSide → ℕ → List ℕ
-label_at c id = (counter_at (registry_of c.manager) id).metadata.label
+abbrev pub label_in : CountersManager → ℕ → List ℕ
+label_in m id = (counter_at (registry_of m) id).metadata.label
 
 -- what a look at a label puts out: its length, and the buffer
 pub record LabelOut : Type 0 where
@@ -116,15 +152,15 @@ abbrev pub label_out : ℕ → List ℕ → LabelOut
 label_out len buffer = record { len = len; buffer = buffer }
 
 -- the label's length is put out, and the label if there is room for it
-abbrev pub SaysLabel : ℕ → LabelOut → LabelOut → CountersSide → CountersSide → ℤ → Type 0
-SaysLabel id before after c d code =
-    ((answer (id_refusal_of (registry_of c.manager) id) (length (label_at c id)) ≡ Ok after.len) × (d ≡ c)
-    × FillsBuffer (label_at c id) before.buffer after.buffer code)
-    ⊎ (IdRefused (length (label_at c id)) id c d code × (after ≡ before))
+abbrev pub TellsLabel : ℕ → CountersManager → LabelOut → LabelOut → ℤ → Type 0
+TellsLabel id m before after code =
+    ((answer (id_refusal_of (registry_of m) id) (length (label_in m id)) ≡ Ok after.len)
+    × FillsBuffer (label_in m id) before.buffer after.buffer code)
+    ⊎ (AskRefused (id_refusal_of (registry_of m) id) (length (label_in m id)) code × (after ≡ before))
 
 -- the key of 112 bytes is put out, if there is room for it
-abbrev pub SaysKey : ℕ → List ℕ → List ℕ → CountersSide → CountersSide → ℤ → Type 0
-SaysKey id before after c d code =
-    ((answer {T = Unit {0}} (id_refusal_of (registry_of c.manager) id) tt ≡ Ok tt) × (d ≡ c)
-    × FillsBuffer (counter_at (registry_of c.manager) id).metadata.key before after code)
-    ⊎ (IdRefused {T = Unit {0}} tt id c d code × (after ≡ before))
+abbrev pub TellsKey : ℕ → CountersManager → List ℕ → List ℕ → ℤ → Type 0
+TellsKey id m before after code =
+    ((answer {T = Unit {0}} (id_refusal_of (registry_of m) id) tt ≡ Ok tt)
+    × FillsBuffer (counter_at (registry_of m) id).metadata.key before after code)
+    ⊎ (AskRefused {T = Unit {0}} (id_refusal_of (registry_of m) id) tt code × (after ≡ before))

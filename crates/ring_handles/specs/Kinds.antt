@@ -1,5 +1,5 @@
 -- What a handle holds, if it is of one kind.
-use Rattle.std.specs.Prelude.{MatchOption}
+use Rattle.std.specs.Prelude.{ℕ, MatchOption}
 use Rattle.std.specs.declared.option.Option.{Option}
 use Rattle.std.specs.declared.option.Option.TheVariants.{None, Some}
 use Rattle.ring_handles.specs.declared.client.ClientSide.{ClientSide}
@@ -51,3 +51,12 @@ a_client _ = None
 -- the handle holds one of this kind, of which P holds
 abbrev pub HoldsOne : {S : Type 0} → (Held → Option S) → (S → Type 0) → Option Held → Type 0
 HoldsOne kind P held = MatchOption held ⊥ (λ h. MatchOption (kind h) ⊥ P)
+
+-- the bytes of the ring's or the board's buffer
+abbrev pub capacity_held : Held → Option ℕ
+capacity_held (Producer p) = Some p.capacity
+capacity_held (Consumer c) = Some c.capacity
+capacity_held (Transmitter t) = Some t.capacity
+capacity_held (Receiver r) = Some r.capacity
+capacity_held (RawReceiver r) = Some r.capacity
+capacity_held _ = None

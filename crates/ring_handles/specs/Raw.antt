@@ -8,7 +8,7 @@ use Rattle.ring_board.specs.Bodies.{GaveBody, IsRight, Validated}
 use Rattle.ring_board.specs.Receiving.{GotLapped, GotNothing, GotRecord}
 use Rattle.ring_board.specs.Seats.{len_of, place_of, type_id_of}
 use Rattle.ring_board.specs.Views.{Sat, fewer, newcomer}
-use Rattle.ring_handles.specs.Boards.{Sending, knowing}
+use Rattle.ring_handles.specs.Boards.{LapOut, Sending, TellsLap, knowing}
 use Rattle.ring_handles.specs.declared.identity.Identity.{Identity}
 
 pub record Watching : Type 0 where
@@ -22,6 +22,8 @@ pub record Watching : Type 0 where
   pub seat : Sat
   -- the record that it returned last
   pub latest : Option RawRecord
+  -- how it was lapped last
+  pub lap : Option Lapped
 
 -- the receiver with this seat
 abbrev pub reseated : Sat → Watching → Watching
@@ -39,6 +41,7 @@ pub record SubscribesRaw (p q : Sending) (r : Watching) : Type 0 where
     capacity = p.capacity;
     seat = r.seat;
     latest = None;
+    lap = None;
   }
   pub knows : r.seat.0 ≡ newcomer p.view
 
@@ -64,21 +67,24 @@ pub record Answers (before after : Seen) (latest : Option RawRecord) (m m' : Sat
   pub latest_is : latest ≡ Some raw
   pub outs : after ≡ seen (type_id_of raw) (len_of raw) before.lapped
 
--- the receiver was lapped, and how often is put out
-pub record LapsRaw (before after : Seen) (m m' : Sat) : Type 0 where
+-- the receiver was lapped, which is kept, and how often is put out
+pub record LapsRaw (before after : Seen) (kept : Option Lapped) (m m' : Sat) : Type 0 where
   pub lapped : Lapped
+  pub lap : kept ≡ Some lapped
   pub got : GotLapped lapped m m'
   pub outs : after ≡ record before { lapped = lapped.count }
 
 -- a record was returned, or there was none, or the receiver was lapped
-abbrev pub TellsSeen : Seen → Seen → Option RawRecord → Option RawRecord → Sat → Sat → ℤ → Type 0
-TellsSeen before after latest latest' m m' code = ((code ≡ pos 0) × Answers before after latest' m m')
-    ⊎ (((code ≡ pos 105) × GotNothing m m' × (latest' ≡ latest) × (after ≡ before))
-    ⊎ ((code ≡ pos 13) × LapsRaw before after m m' × (latest' ≡ latest)))
+abbrev pub TellsSeen : Seen → Seen → Option RawRecord → Option RawRecord → Option Lapped → Option Lapped → Sat → Sat
+    → ℤ → Type 0
+TellsSeen before after latest latest' lap lap' m m' code =
+    ((code ≡ pos 0) × Answers before after latest' m m' × (lap' ≡ lap))
+    ⊎ (((code ≡ pos 105) × GotNothing m m' × (latest' ≡ latest) × (after ≡ before) × (lap' ≡ lap))
+    ⊎ ((code ≡ pos 13) × LapsRaw before after lap' m m' × (latest' ≡ latest)))
 
 abbrev pub NextSeen : Seen → Seen → Watching → Watching → ℤ → Type 0
-NextSeen before after r s code = (s ≡ record r { seat = s.seat; latest = s.latest })
-    × TellsSeen before after r.latest s.latest r.seat s.seat code
+NextSeen before after r s code = (s ≡ record r { seat = s.seat; latest = s.latest; lap = s.lap })
+    × TellsSeen before after r.latest s.latest r.lap s.lap r.seat s.seat code
 
 -- Bodies -------------------------------------------------------------------------
 
@@ -115,3 +121,11 @@ Tested r s code = (s ≡ reseated s.seat r) × TestsLatest r.latest r.seat s.sea
 -- how often the receiver was lapped so far is put out
 abbrev pub SaysLaps : ℕ → Watching → Watching → ℤ → Type 0
 SaysLaps count r s code = (code ≡ pos 0) × (s ≡ r) × (count ≡ r.seat.0.count)
+
+-- the position at which the next call looks for a record is put out
+abbrev pub SaysRawPlace : ℕ → Watching → Watching → ℤ → Type 0
+SaysRawPlace place r s code = (code ≡ pos 0) × (s ≡ r) × (place ≡ r.seat.0.at)
+
+-- the last lap is put out; 105 if there was none
+abbrev pub SaysRawLap : LapOut → LapOut → Watching → Watching → ℤ → Type 0
+SaysRawLap before after r s code = (s ≡ r) × TellsLap before after r.lap code

@@ -1,6 +1,6 @@
 -- Seats that a conductor gives and takes back: c is the conductor before, d after, k is a client, r a receiver or a
 -- reader, and the code is what is returned.
-use Rattle.std.specs.Prelude.{◌≡◌, ◌⊎◌, ◌≤◌, ◌+◌, ℤ, pos, [], IfSome, Option, Some}
+use Rattle.std.specs.Prelude.{◌≡◌, ◌⊎◌, ◌≤◌, ◌+◌, ℤ, pos, [], IfSome, Option, None, Some}
 use Rattle.std.specs.Arc.{arc_value}
 use Rattle.ring_rings.specs.Joining.{Joins}
 use Rattle.ring_rings.specs.Seats.{capacity_of as ring_bytes, view_of}
@@ -41,6 +41,7 @@ pub record LendsReceiver (c d : ConductorSide) (r : Listening) : Type 0 where
         capacity = capacity_of s.board;
         lender = Some s;
         seat = r.seat;
+        lap = None;
       }
 
 -- why a receiver is not made: the conductor needs its last share, or memory runs out

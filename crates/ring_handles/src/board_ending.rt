@@ -28,6 +28,7 @@ impl TransmitterSide {
             board: _,
             identity: _,
             receiver,
+            lap: _,
         } = receiver;
         self.board.join(&mut self.transmitter, receiver);
         Ok(())
@@ -48,6 +49,7 @@ impl TransmitterSide {
             identity: _,
             receiver,
             latest: _,
+            lap: _,
         } = raw;
         self.board.join_raw(&mut self.transmitter, receiver);
         Ok(())

@@ -2,13 +2,13 @@
 ghost use Rattle.std.specs.Prelude.{◌≡◌, length, take, IfErr, IfOk};
 ghost use Rattle.ring_layout.specs.History.{overwritten};
 ghost use Rattle.ring_board.specs.Seats.{receiver_seat, IsReceiverOf};
-ghost use Rattle.ring_handles.specs.Boards.{heard_out, TellsHeard, IsUnheard, Received, SaysLapped, Subscribes, Transmitted};
+ghost use Rattle.ring_handles.specs.Boards.{heard_out, lap_out, IsUnheard, Received, SaysLap, SaysLapped, SaysPlace, Subscribes, TellsHeard, TellsLap, Transmitted};
 
 use crate::code::{DONE, LAPPED, NO_MESSAGE, OUT_OF_MEMORY, SHORT_BUFFER};
 use crate::copying::copy_at;
 use crate::identity::Identity;
 use crate::lending::Lender;
-use ring_board::{Board, CopyReceiver, Transmitter};
+use ring_board::{Board, CopyReceiver, Lapped, Transmitter};
 use std::alloc::Global;
 use std::marker::Model;
 use std::sync::Arc;
@@ -47,6 +47,8 @@ pub struct ReceiverSide {
     /// The number of the broadcast buffer, or of its conductor.
     pub(crate) identity: Identity,
     pub(crate) receiver: CopyReceiver,
+    /// How it was lapped last.
+    pub(crate) lap: Option<Lapped>,
 }
 
 impl Model for ReceiverSide {
@@ -61,14 +63,22 @@ impl Model for ReceiverSide {
       identity = a.identity;
       capacity = capacity_of (board_in a.board);
       lender = conductor_of a.board;
-      seat =
-          receiver_seat a.receiver;
+      seat = receiver_seat a.receiver;
+      lap =
+          a.lap;
     } };
 
     ghost invariant = { λ a. IsReceiverOf (board_in a.board) a.receiver };
 }
 
 impl TransmitterSide {
+    /// The bytes of the board's buffer.
+    pub(crate) fn capacity(&self) -> u32
+        ensures { result ≡ self.now.capacity }
+    {
+        self.board.capacity()
+    }
+
     /// Transmits a message.
     pub fn transmit(&mut self, type_id: i32, body: &[u8]) -> i32
         ensures { Transmitted type_id body.now self.old self.new result }
@@ -92,6 +102,7 @@ impl TransmitterSide {
                 board: Lender::Own(board),
                 identity: self.identity,
                 receiver,
+                lap: None,
             }),
             Err(fault) => Err(fault.code()),
         }
@@ -106,10 +117,25 @@ fn copy_front(buffer: &mut [u8], body: &[u8])
     copy_at(buffer, 0, &body[..room]);
 }
 
+/// Puts out where a receiver was when it was lapped last, and the intent that showed it.
+pub(crate) fn tell_lap(lap: Option<Lapped>, place: &mut u64, intent: &mut u64) -> i32
+    ensures { TellsLap (lap_out place.old intent.old) (lap_out place.new intent.new) lap result }
+{
+    match lap {
+        Some(missed) => {
+            *place = missed.place;
+            *intent = missed.intent;
+            DONE
+        }
+        None => NO_MESSAGE,
+    }
+}
+
 /// Receives the next message into a buffer.
 fn hear(
     board: &Board,
     receiver: &mut CopyReceiver,
+    lap: &mut Option<Lapped>,
     type_id: &mut i32,
     len: &mut usize,
     lapped: &mut u64,
@@ -118,8 +144,8 @@ fn hear(
     requires { IsReceiverOf board.now receiver.old }
     ensures receiver { IsReceiverOf board.now receiver.new }
     ensures heard { TellsHeard (heard_out type_id.old len.old lapped.old buffer.old)
-        (heard_out type_id.new len.new lapped.new buffer.new) (receiver_seat receiver.old) (receiver_seat receiver.new)
-        result }
+        (heard_out type_id.new len.new lapped.new buffer.new) lap.old lap.new (receiver_seat receiver.old)
+        (receiver_seat receiver.new) result }
 {
     match receiver.receive(board) {
         Ok(None) => NO_MESSAGE,
@@ -131,12 +157,35 @@ fn hear(
         }
         Err(missed) => {
             *lapped = missed.count;
+            *lap = Some(missed);
             LAPPED
         }
     }
 }
 
 impl ReceiverSide {
+    /// The bytes of the board's buffer.
+    pub(crate) fn capacity(&self) -> u32
+        ensures { result ≡ self.now.capacity }
+    {
+        self.board.board().capacity()
+    }
+
+    /// Puts out the position, in bytes, at which the next call looks for a record.
+    pub fn place(&mut self, place: &mut u64) -> i32
+        ensures { SaysPlace place.new self.old self.new result }
+    {
+        *place = self.receiver.place();
+        DONE
+    }
+
+    /// Puts out where the receiver was when it was lapped last, and the intent that showed it.
+    pub fn lap(&mut self, place: &mut u64, intent: &mut u64) -> i32
+        ensures { SaysLap (lap_out place.old intent.old) (lap_out place.new intent.new) self.old self.new result }
+    {
+        tell_lap(self.lap, place, intent)
+    }
+
     /// Receives the next message into a buffer that has room for the longest one.
     pub fn receive(
         &mut self,
@@ -156,6 +205,7 @@ impl ReceiverSide {
         hear(
             self.board.board(),
             &mut self.receiver,
+            &mut self.lap,
             type_id,
             len,
             lapped,

@@ -1,4 +1,5 @@
 //! A conductor in a handle.
+pub(crate) mod asking;
 pub(crate) mod calls;
 pub(crate) mod joining;
 pub(crate) mod lending;

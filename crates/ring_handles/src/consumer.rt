@@ -82,6 +82,13 @@ fn read_into<K>(
 }
 
 impl ConsumerSide {
+    /// The bytes of the ring's buffer.
+    pub(crate) fn capacity(&self) -> u32
+        ensures { result ≡ self.now.capacity }
+    {
+        on_ring!(self.ring, ring => ring.capacity())
+    }
+
     /// Reads up to one message, as far as the end of the ring's buffer.
     fn try_read(&mut self, type_id: &mut i32, len: &mut usize, buffer: &mut [u8]) -> (i32, Stop)
         ensures { ReadsOne (RanOut 1 result.1) (out type_id.old len.old buffer.old)

@@ -1,11 +1,13 @@
 //! What a handle's counters do.
 ghost use Rattle.std.specs.Prelude.{◌≡◌};
 ghost use Rattle.ring_counters.specs.Registry.{counter_at};
-ghost use Rattle.ring_handles.specs.Counting.{label_out, Asked, OwnerClosed, SaysKey, SaysLabel, WasAdded, WasAllocated, WasCounted, WasFound, WasFreed, WasSet};
+ghost use Rattle.ring_counters.specs.Counter.{deadline_of, state_of};
+ghost use Rattle.ring_handles.specs.Counting.{label_out, Asked, Asks, OwnerClosed, TellsCount, TellsFound, TellsKey, TellsLabel, TellsOfRecord, WasAdded, WasAllocated, WasFound, WasFreed, WasProposed, WasSet};
 
 use crate::code::{BAD_MOMENT, BAD_OWNER, DONE, NOT_ALLOCATED, SHORT_BUFFER};
 use crate::copying::copy_at;
 use crate::counters::CountersSide;
+use ring_counters::CountersManager;
 use ring_layout::counter_descriptor::{MAX_KEY_LENGTH, MAX_LABEL_LENGTH};
 
 /// The greatest moment, in milliseconds.
@@ -22,17 +24,77 @@ pub struct Wanted<'a> {
     pub owner: u64,
 }
 
-/// Puts out what a call returns, and gives the code: 0, or the number of the refusal, with what is out as it was.
+/// Puts out what a call returns, and returns the code: 0, or the number of the refusal, with what is out as it was.
 macro_rules! tell {
     ($out:ident, $answer:expr) => {
         match $answer {
             Ok(answer) => {
                 *$out = answer;
-                DONE
+                $crate::code::DONE
             }
             Err(fault) => fault.code(),
         }
     };
+}
+
+pub(crate) use tell;
+
+/// Finds the lowest id in use of a type and a registration id.
+pub(crate) fn find_in(
+    manager: &CountersManager,
+    type_id: i32,
+    registration: u64,
+    id: &mut u32,
+) -> i32
+    ensures { TellsFound type_id registration manager.now id.old id.new result }
+{
+    match manager.find(type_id, registration) {
+        Some(found) => {
+            *id = found;
+            DONE
+        }
+        None => NOT_ALLOCATED,
+    }
+}
+
+/// Copies a counter's label to the front of a buffer, and puts its length out.
+pub(crate) fn label_of(
+    manager: &CountersManager,
+    id: u32,
+    len: &mut usize,
+    buffer: &mut [u8],
+) -> i32
+    ensures { TellsLabel id manager.now (label_out len.old buffer.old) (label_out len.new buffer.new) result }
+{
+    let mut label = [0; MAX_LABEL_LENGTH];
+    match manager.label_into(id, &mut label) {
+        Ok(found) => {
+            *len = found;
+            if buffer.len() < found {
+                return SHORT_BUFFER;
+            }
+            copy_at(buffer, 0, &label[..found]);
+            DONE
+        }
+        Err(fault) => fault.code(),
+    }
+}
+
+/// Copies a counter's key to the front of a buffer.
+pub(crate) fn key_of(manager: &CountersManager, id: u32, buffer: &mut [u8]) -> i32
+    ensures { TellsKey id manager.now buffer.old buffer.new result }
+{
+    let mut key = [0; MAX_KEY_LENGTH];
+    match manager.key_into(id, &mut key) {
+        Ok(()) => {
+            if buffer.len() < key.len() {
+                return SHORT_BUFFER;
+            }
+            copy_at(buffer, 0, &key);
+            DONE
+        }
+        Err(fault) => fault.code(),
+    }
 }
 
 impl CountersSide {
@@ -103,18 +165,12 @@ impl CountersSide {
     pub fn find(&mut self, type_id: i32, registration: u64, id: &mut u32) -> i32
         ensures { WasFound type_id registration id.old id.new self.old self.new result }
     {
-        match self.manager.find(type_id, registration) {
-            Some(found) => {
-                *id = found;
-                DONE
-            }
-            None => NOT_ALLOCATED,
-        }
+        find_in(&self.manager, type_id, registration, id)
     }
 
     /// Says how many ids there are.
     pub fn count(&mut self, count: &mut u32) -> i32
-        ensures { WasCounted count.new self.old self.new result }
+        ensures { Asks TellsCount count.old count.new self.old self.new result }
     {
         *count = self.manager.count();
         DONE
@@ -144,38 +200,17 @@ impl CountersSide {
 
     /// Says a counter's label.
     pub fn label(&mut self, id: u32, len: &mut usize, buffer: &mut [u8]) -> i32
-        ensures { SaysLabel id (label_out len.old buffer.old) (label_out len.new buffer.new) self.old self.new
+        ensures { Asks (TellsLabel id) (label_out len.old buffer.old) (label_out len.new buffer.new) self.old self.new
             result }
     {
-        let mut label = [0; MAX_LABEL_LENGTH];
-        match self.manager.label_into(id, &mut label) {
-            Ok(found) => {
-                *len = found;
-                if buffer.len() < found {
-                    return SHORT_BUFFER;
-                }
-                copy_at(buffer, 0, &label[..found]);
-                DONE
-            }
-            Err(fault) => fault.code(),
-        }
+        label_of(&self.manager, id, len, buffer)
     }
 
     /// Says a counter's key.
     pub fn key(&mut self, id: u32, buffer: &mut [u8]) -> i32
-        ensures { SaysKey id buffer.old buffer.new self.old self.new result }
+        ensures { Asks (TellsKey id) buffer.old buffer.new self.old self.new result }
     {
-        let mut key = [0; MAX_KEY_LENGTH];
-        match self.manager.key_into(id, &mut key) {
-            Ok(()) => {
-                if buffer.len() < key.len() {
-                    return SHORT_BUFFER;
-                }
-                copy_at(buffer, 0, &key);
-                DONE
-            }
-            Err(fault) => fault.code(),
-        }
+        key_of(&self.manager, id, buffer)
     }
 
     /// Says a counter's owner, 0 for none.
@@ -183,5 +218,38 @@ impl CountersSide {
         ensures { Asked (λ r. (counter_at r id).values.owner) id owner.old owner.new self.old self.new result }
     {
         tell!(owner, self.manager.owner(id))
+    }
+
+    /// Raises a counter's value to this one if it is below it, and puts out 1, or else 0.
+    pub fn propose_max(&mut self, id: u32, value: i64, raised: &mut u32) -> i32
+        ensures { WasProposed id value raised.old raised.new self.old self.new result }
+    {
+        match self.manager.propose_max(&self.values, id, value) {
+            Ok(true) => {
+                *raised = 1;
+                DONE
+            }
+            Ok(false) => {
+                *raised = 0;
+                DONE
+            }
+            Err(fault) => fault.code(),
+        }
+    }
+
+    /// Puts out the state of a record: 0 if it was never used, 1 if the counter is in use, -1 if it was freed.
+    pub fn state(&mut self, id: u32, state: &mut i32) -> i32
+        ensures { Asks (TellsOfRecord (λ r. state_of (counter_at r id).metadata.status) id) state.old state.new
+            self.old self.new result }
+    {
+        tell!(state, self.manager.state(id))
+    }
+
+    /// Puts out the moment from which an id may be allocated again.
+    pub fn deadline(&mut self, id: u32, deadline: &mut u64) -> i32
+        ensures { Asks (TellsOfRecord (λ r. deadline_of (counter_at r id).metadata.status) id)
+            deadline.old deadline.new self.old self.new result }
+    {
+        tell!(deadline, self.manager.deadline(id))
     }
 }

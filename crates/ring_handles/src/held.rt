@@ -1,4 +1,7 @@
 //! What a handle can be for.
+ghost use Rattle.std.specs.Prelude.{◌≡◌};
+ghost use Rattle.ring_handles.specs.Kinds.{capacity_held};
+
 use crate::boards::{ReceiverSide, TransmitterSide};
 use crate::client::ClientSide;
 use crate::conductor::ConductorSide;
@@ -21,4 +24,20 @@ pub enum Held {
     Reader(ReaderSide),
     Conductor(ConductorSide),
     Client(ClientSide),
+}
+
+impl Held {
+    /// The bytes of the ring's or the board's buffer, if this is a producer, a consumer, a transmitter or a receiver.
+    pub fn capacity(&self) -> Option<u32>
+        ensures { result ≡ capacity_held self.now }
+    {
+        match self {
+            Held::Producer(side) => Some(side.capacity()),
+            Held::Consumer(side) => Some(side.capacity()),
+            Held::Transmitter(side) => Some(side.capacity()),
+            Held::Receiver(side) => Some(side.capacity()),
+            Held::RawReceiver(side) => Some(side.capacity()),
+            _ => None,
+        }
+    }
 }

@@ -56,6 +56,13 @@ fn write_in<K: Kind>(ring: &Ring<K>, producer: &mut Producer, type_id: i32, body
 }
 
 impl ProducerSide {
+    /// The bytes of the ring's buffer.
+    pub(crate) fn capacity(&self) -> u32
+        ensures { result ≡ self.now.capacity }
+    {
+        on_ring!(self.ring, ring => ring.capacity())
+    }
+
     /// Writes a message, by one try.
     pub fn write(&mut self, type_id: i32, body: &[u8]) -> i32
         ensures { Wrote type_id body.now self.old self.new result }

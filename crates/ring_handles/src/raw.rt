@@ -1,12 +1,13 @@
 //! What a broadcast buffer's raw receivers do.
 ghost use Rattle.std.specs.Prelude.{◌≡◌, IfErr, IfOk, IfSome};
 ghost use Rattle.ring_board.specs.Seats.{raw_seat, raw_view, IsAnsweredRecord, IsRawOf};
-ghost use Rattle.ring_handles.specs.Raw.{seen, BodyLoaded, IsUnwatched, LoadsAnswered, NextSeen, SaysLaps, TellsSeen, SubscribesRaw, Tested, TestsLatest};
+ghost use Rattle.ring_handles.specs.Boards.{lap_out};
+ghost use Rattle.ring_handles.specs.Raw.{seen, BodyLoaded, IsUnwatched, LoadsAnswered, NextSeen, SaysLaps, SaysRawLap, SaysRawPlace, TellsSeen, SubscribesRaw, Tested, TestsLatest};
 
-use crate::boards::TransmitterSide;
+use crate::boards::{TransmitterSide, tell_lap};
 use crate::code::{DONE, LAPPED, NO_MESSAGE, NO_SHARES, OUT_OF_MEMORY, SHORT_BUFFER};
 use crate::identity::Identity;
-use ring_board::{Board, RawRecord, Receiver};
+use ring_board::{Board, Lapped, RawRecord, Receiver};
 use std::marker::Model;
 use std::sync::Arc;
 
@@ -19,6 +20,8 @@ pub struct RawReceiverSide {
     pub(crate) receiver: Receiver,
     /// The record that it returned last.
     pub(crate) latest: Option<RawRecord>,
+    /// How it was lapped last.
+    pub(crate) lap: Option<Lapped>,
 }
 
 impl Model for RawReceiverSide {
@@ -35,8 +38,9 @@ impl Model for RawReceiverSide {
       identity = a.identity;
       capacity = capacity_of (arc_value a.board);
       seat = raw_seat a.receiver;
-      latest =
-          a.latest;
+      latest = a.latest;
+      lap =
+          a.lap;
     } };
 
     ghost invariant = { λ a. IsRawOf (arc_value a.board) a.receiver
@@ -58,6 +62,7 @@ impl TransmitterSide {
                 identity: self.identity,
                 receiver,
                 latest: None,
+                lap: None,
             }),
             Err(_) => Err(NO_SHARES),
         }
@@ -69,6 +74,7 @@ fn look(
     board: &Board,
     receiver: &mut Receiver,
     latest: &mut Option<RawRecord>,
+    lap: &mut Option<Lapped>,
     type_id: &mut i32,
     len: &mut usize,
     lapped: &mut u64,
@@ -78,7 +84,7 @@ fn look(
     ensures receiver { IsRawOf board.now receiver.new }
     ensures latest { IfSome latest.new (IsAnsweredRecord (raw_view receiver.new)) }
     ensures sees { TellsSeen (seen type_id.old len.old lapped.old) (seen type_id.new len.new lapped.new) latest.old
-        latest.new (raw_seat receiver.old) (raw_seat receiver.new) result }
+        latest.new lap.old lap.new (raw_seat receiver.old) (raw_seat receiver.new) result }
 {
     match receiver.receive_next(board) {
         Ok(None) => NO_MESSAGE,
@@ -90,6 +96,7 @@ fn look(
         }
         Err(missed) => {
             *lapped = missed.count;
+            *lap = Some(missed);
             LAPPED
         }
     }
@@ -141,6 +148,29 @@ fn test_latest(board: &Board, receiver: &mut Receiver, latest: Option<RawRecord>
 }
 
 impl RawReceiverSide {
+    /// The bytes of the board's buffer.
+    pub(crate) fn capacity(&self) -> u32
+        ensures { result ≡ self.now.capacity }
+    {
+        self.board.capacity()
+    }
+
+    /// Puts out the position, in bytes, at which the next call looks for a record.
+    pub fn place(&mut self, place: &mut u64) -> i32
+        ensures { SaysRawPlace place.new self.old self.new result }
+    {
+        *place = self.receiver.place();
+        DONE
+    }
+
+    /// Puts out where the receiver was when it was lapped last, and the intent that showed it.
+    pub fn lap(&mut self, place: &mut u64, intent: &mut u64) -> i32
+        ensures { SaysRawLap (lap_out place.old intent.old) (lap_out place.new intent.new) self.old self.new
+            result }
+    {
+        tell_lap(self.lap, place, intent)
+    }
+
     /// Returns the next record unread, and goes past it.
     pub fn receive_next(&mut self, type_id: &mut i32, len: &mut usize, lapped: &mut u64) -> i32
         ensures { NextSeen (seen type_id.old len.old lapped.old) (seen type_id.new len.new lapped.new)
@@ -150,6 +180,7 @@ impl RawReceiverSide {
             &self.board,
             &mut self.receiver,
             &mut self.latest,
+            &mut self.lap,
             type_id,
             len,
             lapped,

@@ -1,7 +1,7 @@
 //! Boards: one transmitter, and receivers that learn when they missed something.
 use crate::ends::End;
 use crate::error::{Error, Refused};
-use crate::handle::{done, Handle, Number};
+use crate::handle::{done, Handle, Number, Sizes};
 use crate::message::{message_of, Message};
 use crate::raw;
 
@@ -40,6 +40,11 @@ impl Transmitter {
         // SAFETY: a number that nothing else has, and an empty handle.
         done(unsafe { raw::felter_board_new_at_numbered(board.raw(), capacity, start, handle.raw()) })?;
         Ok(Transmitter { handle, board, end: End::writer() })
+    }
+
+    /// The capacity, and how many bytes the longest message has.
+    pub fn sizes(&mut self) -> Result<Sizes, Error> {
+        self.handle.sizes()
     }
 
     /// Transmits a message.
@@ -143,6 +148,15 @@ impl Transmitter {
     }
 }
 
+/// Where a receiver was when it was lapped.
+#[derive(Clone, Copy, Debug, PartialEq, Eq)]
+pub struct Lap {
+    /// The position, in bytes, at which it looked for a message.
+    pub place: u64,
+    /// The intent that showed the lap: the position up to which the transmitter had begun to write.
+    pub intent: u64,
+}
+
 /// Receives what is transmitted on a board.
 #[derive(Debug)]
 pub struct Receiver {
@@ -153,6 +167,39 @@ pub struct Receiver {
 }
 
 impl Receiver {
+    /// The capacity, and how many bytes the longest message has.
+    pub fn sizes(&mut self) -> Result<Sizes, Error> {
+        self.handle.sizes()
+    }
+
+    /// The position, in bytes, at which the next call looks for a message.
+    pub fn place(&mut self) -> Result<u64, Error> {
+        let mut place = 0;
+        // SAFETY: our handle, and a number of ours.
+        done(unsafe { raw::felter_receiver_place(self.handle.raw(), &mut place) })?;
+        Ok(place)
+    }
+
+    /// How it was lapped last, if it was.
+    pub fn lap(&mut self) -> Result<Option<Lap>, Error> {
+        let (mut place, mut intent) = (0, 0);
+        // SAFETY: our handle, and two numbers of ours.
+        match done(unsafe { raw::felter_receiver_lap(self.handle.raw(), &mut place, &mut intent) }) {
+            Ok(()) => Ok(Some(Lap { place, intent })),
+            Err(Error::NoMessage) => Ok(None),
+            Err(other) => Err(other),
+        }
+    }
+
+    /// The error of a lap that was just now.
+    fn lapped(&mut self, count: u64) -> Error {
+        let missed_bytes = match (self.lap(), self.place()) {
+            (Ok(Some(lap)), Ok(place)) => place - lap.place,
+            _ => 0,
+        };
+        Error::Lapped { count, missed_bytes }
+    }
+
     /// Whether the transmitter was dropped, or closed, or the conductor that transmits: nothing more will come. What was
     /// transmitted before is still to be received.
     ///
@@ -179,7 +226,7 @@ impl Receiver {
         // SAFETY: our handle, three numbers of ours, and a slice's pointer and length.
         let code = unsafe { raw::felter_receive(self.handle.raw(), &mut type_id, &mut len, &mut lapped, at, room) };
         match message_of(code, type_id, len, buffer) {
-            Err(Error::Lapped { .. }) => Err(Error::Lapped { count: lapped }),
+            Err(Error::Lapped { .. }) => Err(self.lapped(lapped)),
             answer => answer,
         }
     }
@@ -211,6 +258,39 @@ pub struct RawReceiver {
 }
 
 impl RawReceiver {
+    /// The capacity, and how many bytes the longest message has.
+    pub fn sizes(&mut self) -> Result<Sizes, Error> {
+        self.handle.sizes()
+    }
+
+    /// The position, in bytes, at which the next call looks for a message.
+    pub fn place(&mut self) -> Result<u64, Error> {
+        let mut place = 0;
+        // SAFETY: our handle, and a number of ours.
+        done(unsafe { raw::felter_raw_receiver_place(self.handle.raw(), &mut place) })?;
+        Ok(place)
+    }
+
+    /// How it was lapped last, if it was.
+    pub fn lap(&mut self) -> Result<Option<Lap>, Error> {
+        let (mut place, mut intent) = (0, 0);
+        // SAFETY: our handle, and two numbers of ours.
+        match done(unsafe { raw::felter_raw_receiver_lap(self.handle.raw(), &mut place, &mut intent) }) {
+            Ok(()) => Ok(Some(Lap { place, intent })),
+            Err(Error::NoMessage) => Ok(None),
+            Err(other) => Err(other),
+        }
+    }
+
+    /// The error of a lap that was just now.
+    fn lapped(&mut self, count: u64) -> Error {
+        let missed_bytes = match (self.lap(), self.place()) {
+            (Ok(Some(lap)), Ok(place)) => place - lap.place,
+            _ => 0,
+        };
+        Error::Lapped { count, missed_bytes }
+    }
+
     /// Whether the transmitter was dropped, or closed.
     pub fn is_abandoned(&self) -> bool {
         self.end.is_abandoned()
@@ -227,7 +307,7 @@ impl RawReceiver {
         match done(code) {
             Ok(()) => Ok(Some(RawRecord { type_id, len })),
             Err(Error::NoMessage) => Ok(None),
-            Err(Error::Lapped { .. }) => Err(Error::Lapped { count: lapped }),
+            Err(Error::Lapped { .. }) => Err(self.lapped(lapped)),
             Err(other) => Err(other),
         }
     }

@@ -135,7 +135,7 @@ impl Client {
             Ok(()) => Ok(Polled::Answered(Reply::of(kind, number)?)),
             Err(Error::OtherReply) => Ok(Polled::Another),
             Err(Error::NoMessage) => Ok(Polled::Nothing),
-            Err(Error::Lapped { .. }) => Err(Error::Lapped { count: lapped }),
+            Err(Error::Lapped { .. }) => Err(Error::Lapped { count: lapped, missed_bytes: 0 }),
             Err(other) => Err(other),
         }
     }

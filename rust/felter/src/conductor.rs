@@ -37,7 +37,7 @@ use crate::raw;
 /// ```
 #[derive(Debug)]
 pub struct Conductor {
-    handle: Handle,
+    pub(crate) handle: Handle,
     number: Number,
     end: End,
 }

@@ -4,7 +4,7 @@ use crate::handle::{done, Handle, Number};
 use crate::raw::{self, Raw};
 
 /// The most bytes of a label.
-const MAX_LABEL: usize = 380;
+pub(crate) const MAX_LABEL: usize = 380;
 
 /// The bytes of a key.
 pub const MAX_KEY: usize = 112;
@@ -105,6 +105,30 @@ impl Counters {
         // SAFETY: our handle, and a number of ours.
         done(unsafe { raw::felter_counter_add(self.handle.raw(), id, delta, &mut before) })?;
         Ok(before)
+    }
+
+    /// Raises a counter's value to this one if it is below it, and returns whether it was.
+    ///
+    /// Errors: [`Error::BadId`], [`Error::NotAllocated`].
+    pub fn propose_max(&mut self, id: u32, value: i64) -> Result<bool, Error> {
+        let mut raised = 0;
+        // SAFETY: our handle, and a number of ours.
+        done(unsafe { raw::felter_counter_propose_max(self.handle.raw(), id, value, &mut raised) })?;
+        Ok(raised == 1)
+    }
+
+    /// The state of a record: 0 if it was never used, 1 if the counter is in use, -1 if it was freed.
+    ///
+    /// Errors: [`Error::BadId`].
+    pub fn state(&mut self, id: u32) -> Result<i32, Error> {
+        self.number(id, raw::felter_counter_state)
+    }
+
+    /// The moment from which an id may be allocated again: 0 if it was never used, 2^63 - 1 if the counter is in use.
+    ///
+    /// Errors: [`Error::BadId`].
+    pub fn deadline(&mut self, id: u32) -> Result<u64, Error> {
+        self.number(id, raw::felter_counter_deadline)
     }
 
     /// A number of a counter in use, by the call that says it.

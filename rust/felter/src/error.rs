@@ -3,12 +3,12 @@ use std::fmt;
 
 /// Defines the errors: each with its number, and for one that carries something what it carries.
 macro_rules! errors {
-    ($($(#[$doc:meta])* $name:ident $({ $(#[$note:meta])* $field:ident: $kind:ty })? = $number:literal,)*) => {
+    ($($(#[$doc:meta])* $name:ident $({ $($(#[$note:meta])* $field:ident: $kind:ty),* })? = $number:literal,)*) => {
         /// Why a call was refused. Each has the number that C gets, and the same name.
         #[derive(Clone, Copy, Debug, PartialEq, Eq, Hash)]
         #[non_exhaustive]
         pub enum Error {
-            $($(#[$doc])* $name $({ $(#[$note])* $field: $kind })?,)*
+            $($(#[$doc])* $name $({ $($(#[$note])* $field: $kind),* })?,)*
             /// A number that this crate does not know.
             Unknown(i32),
         }
@@ -17,7 +17,7 @@ macro_rules! errors {
             /// The number that C gets.
             pub fn number(self) -> i32 {
                 match self {
-                    $(Error::$name $({ $field: _ })? => $number,)*
+                    $(Error::$name $({ $($field: _),* })? => $number,)*
                     Error::Unknown(number) => number,
                 }
             }
@@ -25,7 +25,7 @@ macro_rules! errors {
             /// The error of a number that is not 0. What it carries is 0.
             pub(crate) fn of(number: i32) -> Error {
                 match number {
-                    $($number => Error::$name $({ $field: 0 })?,)*
+                    $($number => Error::$name $({ $($field: 0),* })?,)*
                     other => Error::Unknown(other),
                 }
             }
@@ -61,7 +61,9 @@ errors! {
     /// The transmitter overtook the receiver.
     Lapped {
         /// How often by now.
-        count: u64
+        count: u64,
+        /// How many bytes it passed over. Of a client it is 0, since that does not know.
+        missed_bytes: u64
     } = 13,
     /// A receiver was not taken back: it is out, or was dropped, and then for good.
     ReceiversOut = 14,
@@ -126,7 +128,7 @@ impl Error {
 impl fmt::Display for Error {
     fn fmt(&self, f: &mut fmt::Formatter<'_>) -> fmt::Result {
         match self {
-            Error::Lapped { count } => write!(f, "13 Lapped {count}"),
+            Error::Lapped { count, missed_bytes } => write!(f, "13 Lapped {count} missed_bytes {missed_bytes}"),
             Error::ShortBuffer { wanted } => write!(f, "106 ShortBuffer wanted {wanted}"),
             Error::Unknown(number) => write!(f, "{number} Unknown"),
             other => write!(f, "{} {other:?}", other.number()),

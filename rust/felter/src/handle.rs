@@ -4,6 +4,15 @@ use crate::raw::{self, Raw};
 use std::fmt;
 use std::sync::atomic::{AtomicU64, Ordering};
 
+/// How large a ring or a board is.
+#[derive(Clone, Copy, Debug, PartialEq, Eq)]
+pub struct Sizes {
+    /// The bytes of its buffer.
+    pub capacity: u32,
+    /// The most bytes of a message: an eighth of the capacity.
+    pub max_message: u32,
+}
+
 /// A handle.
 pub(crate) struct Handle {
     raw: Raw,
@@ -20,6 +29,14 @@ impl Handle {
     /// An empty one.
     pub(crate) const fn empty() -> Handle {
         Handle { raw: Raw::EMPTY }
+    }
+
+    /// The sizes of the ring or board that the handle is an end of.
+    pub(crate) fn sizes(&mut self) -> Result<Sizes, Error> {
+        let (mut capacity, mut max_message) = (0, 0);
+        // SAFETY: our handle, and two numbers of ours.
+        done(unsafe { raw::felter_capacity(&mut self.raw, &mut capacity, &mut max_message) })?;
+        Ok(Sizes { capacity, max_message })
     }
 
     /// For a call. The pointer is used in that call alone.

@@ -37,6 +37,7 @@
 mod board;
 mod client;
 mod conductor;
+mod conductor_counters;
 mod counters;
 mod doorbell;
 mod ends;
@@ -47,12 +48,13 @@ mod raw;
 mod ring;
 mod wait;
 
-pub use board::{RawReceiver, RawRecord, Receiver, Transmitter};
+pub use board::{Lap, RawReceiver, RawRecord, Receiver, Transmitter};
 pub use client::{Client, Polled, Reply};
 pub use conductor::{Conductor, Finished, Work, WorkStop};
 pub use counters::{Counters, Reader, MAX_KEY};
 pub use doorbell::Doorbell;
 pub use error::{BatchRefused, Error, Refused};
+pub use handle::Sizes;
 pub use message::{Batch, Message};
 pub use ring::{
     many_to_one, many_to_one_at, one_to_one, one_to_one_at, Claim, Consumer, KeptClaim, Positions, Producer,

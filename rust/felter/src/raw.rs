@@ -17,6 +17,8 @@ pub(crate) const OK: i32 = 0;
 
 extern "C" {
     pub(crate) fn felter_free(handle: *mut Raw);
+    pub(crate) fn felter_version() -> i32;
+    pub(crate) fn felter_capacity(handle: *mut Raw, capacity: *mut u32, longest: *mut u32) -> i32;
     pub(crate) fn felter_many_to_one_new_numbered(
         number: u64,
         capacity: u32,
@@ -85,11 +87,15 @@ extern "C" {
         room: usize,
     ) -> i32;
     pub(crate) fn felter_lapped_count(receiver: *mut Raw, count: *mut u64) -> i32;
+    pub(crate) fn felter_receiver_place(receiver: *mut Raw, place: *mut u64) -> i32;
+    pub(crate) fn felter_receiver_lap(receiver: *mut Raw, place: *mut u64, intent: *mut u64) -> i32;
     pub(crate) fn felter_subscribe_raw(transmitter: *mut Raw, receiver: *mut Raw) -> i32;
     pub(crate) fn felter_receive_next(receiver: *mut Raw, type_id: *mut i32, len: *mut usize, lapped: *mut u64) -> i32;
     pub(crate) fn felter_load_body(receiver: *mut Raw, buffer: *mut u8, room: usize) -> i32;
     pub(crate) fn felter_validate(receiver: *mut Raw) -> i32;
     pub(crate) fn felter_raw_lapped_count(receiver: *mut Raw, count: *mut u64) -> i32;
+    pub(crate) fn felter_raw_receiver_place(receiver: *mut Raw, place: *mut u64) -> i32;
+    pub(crate) fn felter_raw_receiver_lap(receiver: *mut Raw, place: *mut u64, intent: *mut u64) -> i32;
     pub(crate) fn felter_board_join(transmitter: *mut Raw, receiver: *mut Raw) -> i32;
     pub(crate) fn felter_board_join_raw(transmitter: *mut Raw, receiver: *mut Raw) -> i32;
     pub(crate) fn felter_board_close(transmitter: *mut Raw, tail: *mut u64) -> i32;
@@ -124,6 +130,9 @@ extern "C" {
     pub(crate) fn felter_counter_type_id(counters: *mut Raw, id: u32, type_id: *mut i32) -> i32;
     pub(crate) fn felter_counter_registration(counters: *mut Raw, id: u32, registration: *mut u64) -> i32;
     pub(crate) fn felter_counter_owner(counters: *mut Raw, id: u32, owner: *mut u64) -> i32;
+    pub(crate) fn felter_counter_propose_max(counters: *mut Raw, id: u32, value: i64, raised: *mut u32) -> i32;
+    pub(crate) fn felter_counter_state(counters: *mut Raw, id: u32, state: *mut i32) -> i32;
+    pub(crate) fn felter_counter_deadline(counters: *mut Raw, id: u32, deadline: *mut u64) -> i32;
     pub(crate) fn felter_counter_label(
         counters: *mut Raw,
         id: u32,
@@ -156,6 +165,22 @@ extern "C" {
     ) -> i32;
     pub(crate) fn felter_conductor_set_heartbeat(conductor: *mut Raw, value: u64) -> i32;
     pub(crate) fn felter_client_heartbeat(client: *mut Raw, value: *mut u64) -> i32;
+    pub(crate) fn felter_conductor_find(conductor: *mut Raw, type_id: i32, registration: u64, id: *mut u32) -> i32;
+    pub(crate) fn felter_conductor_count(conductor: *mut Raw, count: *mut u32) -> i32;
+    pub(crate) fn felter_conductor_value(conductor: *mut Raw, id: u32, value: *mut i64) -> i32;
+    pub(crate) fn felter_conductor_type_id(conductor: *mut Raw, id: u32, type_id: *mut i32) -> i32;
+    pub(crate) fn felter_conductor_registration(conductor: *mut Raw, id: u32, registration: *mut u64) -> i32;
+    pub(crate) fn felter_conductor_owner(conductor: *mut Raw, id: u32, owner: *mut u64) -> i32;
+    pub(crate) fn felter_conductor_state(conductor: *mut Raw, id: u32, state: *mut i32) -> i32;
+    pub(crate) fn felter_conductor_deadline(conductor: *mut Raw, id: u32, deadline: *mut u64) -> i32;
+    pub(crate) fn felter_conductor_label(
+        conductor: *mut Raw,
+        id: u32,
+        len: *mut usize,
+        buffer: *mut u8,
+        room: usize,
+    ) -> i32;
+    pub(crate) fn felter_conductor_key(conductor: *mut Raw, id: u32, buffer: *mut u8, room: usize) -> i32;
     pub(crate) fn felter_conductor_subscribe(conductor: *mut Raw, receiver: *mut Raw) -> i32;
     pub(crate) fn felter_conductor_reader(conductor: *mut Raw, reader: *mut Raw) -> i32;
     pub(crate) fn felter_conductor_join(conductor: *mut Raw, client: *mut Raw) -> i32;

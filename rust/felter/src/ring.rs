@@ -1,7 +1,7 @@
 //! Rings: many-to-one and one-to-one.
 use crate::ends::End;
 use crate::error::{BatchRefused, Error, Refused};
-use crate::handle::{done, Handle, Number};
+use crate::handle::{done, Handle, Number, Sizes};
 use crate::message::{message_of, Batch, Message};
 use crate::raw;
 
@@ -64,6 +64,11 @@ pub struct Producer {
 }
 
 impl Producer {
+    /// The capacity, and how many bytes the longest message has.
+    pub fn sizes(&mut self) -> Result<Sizes, Error> {
+        self.handle.sizes()
+    }
+
     /// Whether the consumer was dropped: nothing that is written will be read.
     ///
     /// ```
@@ -314,6 +319,11 @@ pub struct Consumer {
 }
 
 impl Consumer {
+    /// The capacity, and how many bytes the longest message has.
+    pub fn sizes(&mut self) -> Result<Sizes, Error> {
+        self.handle.sizes()
+    }
+
     /// Whether every producer was dropped, or taken in by [`close`](Consumer::close): nothing more will be written.
     /// What was written before is still to be read, so look first, and then read until there is `None`.
     pub fn is_abandoned(&self) -> bool {

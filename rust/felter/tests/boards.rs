@@ -28,7 +28,8 @@ fn listen(mut receiver: Receiver) -> u64 {
                 got += 1;
             }
             Ok(None) => thread::yield_now(),
-            Err(Error::Lapped { count }) => {
+            Err(Error::Lapped { count, missed_bytes }) => {
+                assert!(missed_bytes > 0 && missed_bytes % 8 == 0);
                 assert_eq!(count, laps + 1);
                 (laps, is_lapped) = (count, true);
             }
@@ -73,8 +74,11 @@ fn refusals_have_their_numbers_and_change_nothing() {
         transmitter.transmit(10 + i, &[i as u8; 26]).unwrap();
     }
     let lapped = receiver.receive(&mut room).unwrap_err();
-    assert_eq!(lapped, Error::Lapped { count: 1 });
-    assert_eq!((lapped.number(), lapped.to_string().as_str()), (13, "13 Lapped 1"));
+    // It looked for the record at 552, and goes on with the one at 808: those of 40 bytes before it, and padding.
+    assert_eq!(lapped, Error::Lapped { count: 1, missed_bytes: 256 });
+    assert_eq!((lapped.number(), lapped.to_string().as_str()), (13, "13 Lapped 1 missed_bytes 256"));
+    assert_eq!(receiver.lap().map(|lap| lap.map(|it| it.place)), Ok(Some(552)));
+    assert_eq!(receiver.place(), Ok(808));
     assert_eq!(receiver.receive(&mut room), Ok(Some(Message { type_id: 16, body: &[6; 26] })));
     assert_eq!(receiver.receive(&mut room), Ok(None));
 }
@@ -96,7 +100,7 @@ fn a_raw_receiver_loads_and_validates_until_it_is_lapped() {
         transmitter.transmit(4, b"sixteen bytes...").unwrap();
     }
     assert_eq!(receiver.validate(), Ok(false));
-    assert_eq!(receiver.receive_next(), Err(Error::Lapped { count: 1 }));
+    assert_eq!(receiver.receive_next(), Err(Error::Lapped { count: 1, missed_bytes: 360 }));
     assert_eq!(receiver.lapped_count(), Ok(1));
     assert_eq!(receiver.receive_next(), Ok(Some(RawRecord { type_id: 4, len: 16 })));
 }

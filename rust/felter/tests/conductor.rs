@@ -194,7 +194,7 @@ fn refusals_have_their_numbers_and_change_nothing() {
     }
     conductor.work(0, 9).unwrap();
     conductor.work(0, 9).unwrap();
-    assert_eq!(client.poll(7), Err(Error::Lapped { count: 1 }));
+    assert_eq!(client.poll(7), Err(Error::Lapped { count: 1, missed_bytes: 0 }));
     assert_eq!(client.poll(19), Ok(Polled::Answered(Reply::Refused { reason })));
     assert_eq!((client.heartbeat(), conductor.set_heartbeat(u64::MAX)), (Ok(0), Ok(())));
     assert_eq!(client.heartbeat(), Ok(u64::MAX));

@@ -1,6 +1,6 @@
 //! What a handle of counters does.
 ghost use Rattle.ring_counters.specs.Registry.{counter_at};
-ghost use Rattle.ring_handles.specs.Counting.{label_out, Asked, OwnerClosed, SaysKey, SaysLabel, WasAdded, WasAllocated, WasCounted, WasFound, WasFreed, WasSet};
+ghost use Rattle.ring_handles.specs.Counting.{label_out, Asked, Asks, OwnerClosed, TellsCount, TellsKey, TellsLabel, WasAdded, WasAllocated, WasFound, WasFreed, WasSet};
 ghost use Rattle.ring_handles.specs.Kinds.{some_counters};
 ghost use Rattle.ring_c.specs.Told.{Uses, Yields};
 
@@ -139,7 +139,7 @@ pub extern "C" fn felter_counters_count(
     counters: &mut Handle,
     count: &mut u32,
 ) -> i32
-    ensures { Yields some_counters (λ _ told. WasCounted told) count.old count.new counters.old.held
+    ensures { Yields some_counters (Asks TellsCount) count.old count.new counters.old.held
         counters.new.held result }
 {
     work_on!(counters, alloc, Counters(side) => side.count(count))
@@ -210,7 +210,7 @@ pub extern "C" fn felter_counter_label(
     len: &mut usize,
     buffer: &mut [u8],
 ) -> i32
-    ensures { Yields some_counters (SaysLabel id) (label_out len.old buffer.old) (label_out len.new buffer.new)
+    ensures { Yields some_counters (Asks (TellsLabel id)) (label_out len.old buffer.old) (label_out len.new buffer.new)
         counters.old.held counters.new.held result }
 {
     work_on!(counters, alloc, Counters(side) => side.label(id, len, buffer))
@@ -224,7 +224,7 @@ pub extern "C" fn felter_counter_key(
     id: u32,
     buffer: &mut [u8],
 ) -> i32
-    ensures { Yields some_counters (SaysKey id) buffer.old buffer.new counters.old.held counters.new.held result }
+    ensures { Yields some_counters (Asks (TellsKey id)) buffer.old buffer.new counters.old.held counters.new.held result }
 {
     work_on!(counters, alloc, Counters(side) => side.key(id, buffer))
 }

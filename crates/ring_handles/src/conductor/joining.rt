@@ -44,6 +44,7 @@ impl ConductorSide {
             board: _,
             identity: _,
             receiver,
+            lap: _,
         } = receiver;
         let shared: &Shared = &self.shared;
         self.conductor.join_receiver(&shared.board, receiver);

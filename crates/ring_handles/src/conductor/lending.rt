@@ -48,6 +48,7 @@ impl ConductorSide {
             identity: shared.identity,
             board: Lender::Lent(shared),
             receiver,
+            lap: None,
         })
     }
 

@@ -1,0 +1,152 @@
+//! What a conductor's counters are asked.
+ghost use Rattle.ring_counters.specs.Counter.{deadline_of, state_of};
+ghost use Rattle.ring_counters.specs.Registry.{counter_at};
+ghost use Rattle.ring_handles.specs.Conducting.{AsksIts};
+ghost use Rattle.ring_handles.specs.Counting.{label_out, TellsCount, TellsFound, TellsKey, TellsLabel, TellsOf, TellsOfRecord};
+ghost use Rattle.ring_handles.specs.Kinds.{a_conductor};
+ghost use Rattle.ring_c.specs.Told.{Yields};
+
+use crate::work_on::work_on;
+use ring_handles::Handle;
+use std::alloc::Global;
+
+/// Finds the lowest id in use of a type and a registration id.
+#[unsafe(no_mangle)]
+pub extern "C" fn felter_conductor_find(
+    alloc: Global,
+    conductor: &mut Handle,
+    type_id: i32,
+    registration: u64,
+    id: &mut u32,
+) -> i32
+    ensures { Yields a_conductor (AsksIts (TellsFound type_id registration)) id.old id.new conductor.old.held
+        conductor.new.held result }
+{
+    work_on!(conductor, alloc, Conductor(side) => side.find(type_id, registration, id))
+}
+
+/// Puts out how many ids there are, in use or not.
+#[unsafe(no_mangle)]
+pub extern "C" fn felter_conductor_count(
+    alloc: Global,
+    conductor: &mut Handle,
+    count: &mut u32,
+) -> i32
+    ensures { Yields a_conductor (AsksIts TellsCount) count.old count.new conductor.old.held conductor.new.held
+        result }
+{
+    work_on!(conductor, alloc, Conductor(side) => side.count(count))
+}
+
+/// Copies a counter's label to the front of a buffer, and puts its length out.
+#[unsafe(no_mangle)]
+pub extern "C" fn felter_conductor_label(
+    alloc: Global,
+    conductor: &mut Handle,
+    id: u32,
+    len: &mut usize,
+    buffer: &mut [u8],
+) -> i32
+    ensures { Yields a_conductor (AsksIts (TellsLabel id)) (label_out len.old buffer.old) (label_out len.new buffer.new)
+        conductor.old.held conductor.new.held result }
+{
+    work_on!(conductor, alloc, Conductor(side) => side.label(id, len, buffer))
+}
+
+/// Copies a counter's key of 112 bytes, with zeros after a short one, to the front of a buffer.
+#[unsafe(no_mangle)]
+pub extern "C" fn felter_conductor_key(
+    alloc: Global,
+    conductor: &mut Handle,
+    id: u32,
+    buffer: &mut [u8],
+) -> i32
+    ensures { Yields a_conductor (AsksIts (TellsKey id)) buffer.old buffer.new conductor.old.held conductor.new.held
+        result }
+{
+    work_on!(conductor, alloc, Conductor(side) => side.key(id, buffer))
+}
+
+/// Puts out a counter's value.
+#[unsafe(no_mangle)]
+pub extern "C" fn felter_conductor_value(
+    alloc: Global,
+    conductor: &mut Handle,
+    id: u32,
+    value: &mut i64,
+) -> i32
+    ensures { Yields a_conductor (AsksIts (TellsOf (λ r. (counter_at r id).values.value) id)) value.old value.new
+        conductor.old.held conductor.new.held result }
+{
+    work_on!(conductor, alloc, Conductor(side) => side.value(id, value))
+}
+
+/// Puts out a counter's type.
+#[unsafe(no_mangle)]
+pub extern "C" fn felter_conductor_type_id(
+    alloc: Global,
+    conductor: &mut Handle,
+    id: u32,
+    type_id: &mut i32,
+) -> i32
+    ensures { Yields a_conductor (AsksIts (TellsOf (λ r. (counter_at r id).metadata.type_id) id)) type_id.old type_id.new
+        conductor.old.held conductor.new.held result }
+{
+    work_on!(conductor, alloc, Conductor(side) => side.type_id(id, type_id))
+}
+
+/// Puts out a counter's registration id.
+#[unsafe(no_mangle)]
+pub extern "C" fn felter_conductor_registration(
+    alloc: Global,
+    conductor: &mut Handle,
+    id: u32,
+    registration: &mut u64,
+) -> i32
+    ensures { Yields a_conductor (AsksIts (TellsOf (λ r. (counter_at r id).values.registration) id)) registration.old registration.new
+        conductor.old.held conductor.new.held result }
+{
+    work_on!(conductor, alloc, Conductor(side) => side.registration(id, registration))
+}
+
+/// Puts out a counter's owner, 0 for none.
+#[unsafe(no_mangle)]
+pub extern "C" fn felter_conductor_owner(
+    alloc: Global,
+    conductor: &mut Handle,
+    id: u32,
+    owner: &mut u64,
+) -> i32
+    ensures { Yields a_conductor (AsksIts (TellsOf (λ r. (counter_at r id).values.owner) id)) owner.old owner.new
+        conductor.old.held conductor.new.held result }
+{
+    work_on!(conductor, alloc, Conductor(side) => side.owner(id, owner))
+}
+
+/// Puts out the state of a record: 0 if it was never used, 1 if the counter is in use, -1 if it was freed.
+#[unsafe(no_mangle)]
+pub extern "C" fn felter_conductor_state(
+    alloc: Global,
+    conductor: &mut Handle,
+    id: u32,
+    state: &mut i32,
+) -> i32
+    ensures { Yields a_conductor (AsksIts (TellsOfRecord (λ r. state_of (counter_at r id).metadata.status) id)) state.old state.new
+        conductor.old.held conductor.new.held result }
+{
+    work_on!(conductor, alloc, Conductor(side) => side.state(id, state))
+}
+
+/// Puts out the moment from which an id may be allocated again.
+#[unsafe(no_mangle)]
+pub extern "C" fn felter_conductor_deadline(
+    alloc: Global,
+    conductor: &mut Handle,
+    id: u32,
+    deadline: &mut u64,
+) -> i32
+    ensures { Yields a_conductor (AsksIts (TellsOfRecord (λ r. deadline_of (counter_at r id).metadata.status) id)) deadline.old deadline.new
+        conductor.old.held conductor.new.held result }
+{
+    work_on!(conductor, alloc, Conductor(side) => side.deadline(id, deadline))
+}
