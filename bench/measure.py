@@ -209,7 +209,11 @@ def arguments():
                      help="wait for a quiet machine, S seconds in all, and keep the quietest of three times the rounds")
     ask.add_argument("--seed", type=int, default=1, help="of the order within a round")
     ask.add_argument("--worker", action="append", default=[], metavar="NAME=COMMAND", help="one more worker")
+    ask.add_argument("--parse", action="store_true", help=argparse.SUPPRESS)  # (bench/run, before it builds anything)
     options = ask.parse_args()
+    for name in filter(None, options.only.split(",")):
+        if name not in listed.WORKLOADS:
+            ask.error(f"there is no workload {name}")
     options.reps = options.reps or (5 if options.quick else 15)
     return options
 
@@ -230,6 +234,8 @@ def measure_all(options, workers):
 
 def main():
     options = arguments()
+    if options.parse:
+        return
     random.seed(options.seed)
     if options.fifo:
         try:
