@@ -73,7 +73,7 @@ abbrev pub failure_after : ℕ → ℕ → Option Failure → Option Failure
 failure_after replies commands failure =
     if nat_lt replies commands then Some (unwrap_or failure fails.TurnsSpent) else failure
 
--- the number of commands of all clients
+-- how many commands all clients send
 abbrev pub all_commands : StormPlan → ℕ
 all_commands p = p.clients * p.commands
 
@@ -128,7 +128,7 @@ abbrev pub IsClientSeat : {K : Type 0} → Ring K → Producer → Type 0
 IsClientSeat ring p =
     IsProducerOf ring p × (shares_of p ≡ 1) × (open_claims_of p ≡ 0) × HasRisen p × (services_of p ≡ [])
 
--- the number of claims that a producer has made
+-- how many claims a producer has made
 abbrev pub sent_by : Producer → ℕ
 sent_by p = length (claims_of p)
 
@@ -146,32 +146,32 @@ deeds_of c = record {
   counter = c.counter;
 }
 
--- it has sent no command, had no reply, drew no number and knows no counter
+-- it has sent no command, was answered none, drew no number and knows no counter
 abbrev pub IsNew : StormClient → Type 0
 IsNew c = (sent_by (producer_of c.client) ≡ 0) × (c.seen ≡ 0) × (draws_by c.client ≡ []) × (c.counter ≡ 0)
 
--- it has sent at most this many commands, and drew at most as many numbers
+-- it has sent so many commands at the most, and drew as many numbers at the most
 abbrev pub SentAtMost : ℕ → StormClient → Type 0
 SentAtMost n c = (sent_by (producer_of c.client) ≤ n) × (length (draws_by c.client) ≤ n)
 
--- the client with this number has sent this many commands at the most, and each one that it counts had its reply
+-- the client with this number has sent so many commands at the most, and each one that it counts was answered
 pub record HasWorked (commands client : ℕ) (c : StormClient) : Type 0 where
   pub sent : SentAtMost commands c
   pub seen : c.seen ≤ commands
   pub index : c.index ≡ client
   pub answered : AreAnswered c.index c.seen (deeds_of c)
 
--- the number of commands that the conductor took
+-- how many commands the conductor took
 abbrev pub taken_by : Conductor → ℕ
 taken_by c = length (received_of c)
 
--- the counters are what the messages that the conductor took make of fresh ones, and no other thread reads their values
+-- the counters are what the messages that the conductor took make of fresh ones, and nobody else reads their values
 abbrev pub HasCounters : StormPlan → Conductor → Type 0
 HasCounters p c = (registry_of (manager_in c) ≡ storm_counters p (messages_of (received_of c)))
     × (value_shares_of c ≡ all_shares)
 
--- producer and conductor belong to this ring, this broadcast buffer and these values, the counters are those of the
--- messages taken, no other thread reads their values, and the producer drew no number
+-- producer and conductor belong to this ring, this board and these values, the counters are those of the messages
+-- taken, nobody else reads their values, and the producer drew no number
 abbrev pub IsHubOf : {K : Type 0} → StormPlan → Ring K → Board → CounterValues → Hub → Type 0
 IsHubOf p ring board values hub = IsProducerOf ring hub.producer
     × IsConductorOf IsConsumerOf ring board values hub.conductor × HasCounters p hub.conductor
@@ -187,14 +187,14 @@ IsConductorAt s c = IsConductorOf IsConsumerOf s.ring.now s.board.now s.values.n
 abbrev pub IsHubAt : {G : Type 0} → Shared G → Hub → Type 0
 IsHubAt s hub = IsHubOf s.plan s.ring.now s.board.now s.values.now hub
 
--- all commands were taken, and this many clients had all their replies: this many were seen, each in its turn
+-- all commands were taken, and so many clients had all their replies: so many were seen, each in its turn
 abbrev pub IsDone : StormPlan → ℕ → LevelEnd → Type 0
 IsDone p clients end = (all_commands p ≤ taken_by end.hub.conductor) × (end.seen ≡ clients * p.commands)
     × AreAllTurns p.commands clients (claims_of end.hub.producer) (joined_by end.hub.conductor)
     (services_of end.hub.producer)
 
--- what the conductor's thread returns: the conductor with the counters of the messages taken; it has joined no
--- receiver, and if it is done it took all commands
+-- what the conductor's thread gives back: the conductor with the counters of the messages taken; it has joined no
+-- receiver, and where it is done it took all commands
 pub record HasConducted {K : Type 0} (p : StormPlan) (ring : Ring K) (board : Board) (values : CounterValues)
     (end : ConductorEnd) : Type 0 where
   pub conductor : IsConductorOf IsConsumerOf ring board values end.conductor
@@ -202,11 +202,11 @@ pub record HasConducted {K : Type 0} (p : StormPlan) (ring : Ring K) (board : Bo
   pub none_joined : joined_by end.conductor ≡ []
   pub done : IsTrue end.is_done → all_commands p ≤ taken_by end.conductor
 
--- no thread has sent a command, and no receiver and no producer was joined
+-- nobody has sent a command, and neither a receiver nor a producer was joined
 abbrev pub IsUnused : Hub → Type 0
 IsUnused hub = (claims_of hub.producer ≡ []) × (joined_by hub.conductor ≡ []) × (services_of hub.producer ≡ [])
 
--- hub as it is before the first client: of this ring, this broadcast buffer and these values, and unused
+-- hub as it is before the first client: of this ring, this board and these values, and unused
 pub record IsFreshOf {K : Type 0} (p : StormPlan) (ring : Ring K) (board : Board) (values : CounterValues)
     (hub : Hub) : Type 0 where
   pub of : IsHubOf p ring board values hub
@@ -215,19 +215,19 @@ pub record IsFreshOf {K : Type 0} (p : StormPlan) (ring : Ring K) (board : Board
 abbrev pub IsFreshAt : {G : Type 0} → Shared G → Hub → Type 0
 IsFreshAt s hub = IsFreshOf s.plan s.ring.now s.board.now s.values.now hub
 
--- no share of ring or broadcast buffer is away, and no claim is open
+-- no share of ring or board is away, and no claim is open
 pub record HasAll (hub : Hub) : Type 0 where
   pub producers : shares_of hub.producer ≡ all_shares
   pub receivers : board_shares_of hub.conductor ≡ all_shares
   pub settled : open_claims_of hub.producer ≡ 0
 
--- the same shares of ring and broadcast buffer as before, and the same number of open claims
+-- as many shares of ring and board as before, and as many open claims
 pub record HasSeatsBack (old new : Hub) : Type 0 where
   pub producers : shares_of new.producer ≡ shares_of old.producer
   pub receivers : board_shares_of new.conductor ≡ board_shares_of old.conductor
   pub open_claims : open_claims_of new.producer ≡ open_claims_of old.producer
 
--- one share of the ring and one of the broadcast buffer are lent, and everything else that is counted is the same
+-- one share of the ring and one of the board are lent, and nothing else that is counted is another
 pub record LendsSeats (old new : Hub) : Type 0 where
   pub producers : shares_of new.producer + 1 ≡ shares_of old.producer
   pub receivers : board_shares_of new.conductor + 1 ≡ board_shares_of old.conductor
@@ -237,8 +237,8 @@ pub record LendsSeats (old new : Hub) : Type 0 where
   pub services : services_of new.producer ≡ services_of old.producer
   pub taken : taken_by new.conductor ≡ taken_by old.conductor
 
--- a client's seats are joined: one share of the ring and one of the broadcast buffer more, its claims put among the
--- others, and its receiver and its service after the others
+-- a client's seats are joined: one share of the ring and one of the board more, its claims put among the others, and
+-- its receiver and its service behind the others
 pub record TakesSeats (c : StormClient) (old new : Hub) : Type 0 where
   pub producers : shares_of new.producer ≡ shares_of old.producer + 1
   pub receivers : board_shares_of new.conductor ≡ board_shares_of old.conductor + 1
@@ -250,8 +250,8 @@ pub record TakesSeats (c : StormClient) (old new : Hub) : Type 0 where
   pub services : services_of new.producer ≡ services_of old.producer ++ service_of (producer_of c.client) ∷ []
   pub taken : taken_by new.conductor ≡ taken_by old.conductor
 
--- The end of a level: hub with the seats of this many clients, which sent no more commands and saw no more replies than
--- the plan has for them; all of these, each in its turn, if nothing failed
+-- The end of a level: hub with the seats of so many clients, which sent no more commands and saw no more replies than
+-- the plan has for them; all of these, each in its turn, where nothing failed
 pub record IsEndOf {K : Type 0} (p : StormPlan) (ring : Ring K) (board : Board) (values : CounterValues)
     (clients : ℕ) (end : LevelEnd) : Type 0 where
   pub hub : IsHubOf p ring board values end.hub
@@ -264,9 +264,9 @@ IsEndAt s clients end = IsEndOf s.plan s.ring.now s.board.now s.values.now clien
 
 -- The end ----------------------------------------------------------------------
 
--- What is left of a storm, whether all is done or some gave up. Hub has all seats of this ring, this broadcast buffer
--- and these values, with no more claims than all commands, and with it the conductor finished: the headline holds of
--- it, and all that it returns is returned
+-- What is left of a storm, whether all is done or some gave up. Hub has all seats of this ring, this board and these
+-- values, with no more claims than all commands, and with it the conductor finished: the headline holds of it, and all
+-- that it hands on is handed on
 pub record HasFinished {K : Type 0} (p : StormPlan) (ring : Ring K) (board : Board) (values : CounterValues)
     (e : StormEnd) : Type 0 where
   pub hub : Hub

@@ -21,14 +21,14 @@ use std::snapshot::Snapshot;
 /// What a conductor hands out.
 #[derive(Drop)]
 pub struct Finished {
-    /// What is in the ring yet.
+    /// What lies in the ring yet.
     pub rest: SoloRing,
-    /// The broadcast buffer with all replies.
+    /// The board with all replies.
     pub board: ClosedBoard,
     /// The counters' values, for readers that are still out.
     pub values: CounterValues,
     pub counters: CountersManager,
-    /// The number of commands taken in all.
+    /// How many commands were taken in all.
     pub received: u64,
     /// The producer that was given, for contracts: it has no bytes. They read the claims of all producers in it.
     pub producer: Snapshot<Producer>,
@@ -62,13 +62,11 @@ fn test_finish(conductor: &Conductor, producer: &Producer) -> Result<(), FinishF
     Ok(())
 }
 
-/// Closes ring and broadcast buffer, once all producers and all receivers are back and no claim is open, and returns
-/// what is in the ring, the broadcast buffer with all replies, and the counters. Readers of the values may still be
-/// out.
+/// Closes ring and board, once all producers and all receivers are back and no claim is open, and hands out what lies
+/// in the ring, the board with all replies, and the counters. Readers of the values may be out still.
 ///
-/// Returns, in this order, before anything is closed: `ClaimsOpen` if claims of the producer are open; `ProducersOut`
-/// if shares of the ring are away; `ReceiversOut` if shares of the broadcast buffer are. All five arguments then come
-/// back unchanged, and the call can be made again.
+/// It refuses with `ClaimsOpen`, then with `ProducersOut`, and then with `ReceiversOut`, before anything is closed;
+/// all five come back then as they were, and the call can be made again.
 pub fn finish<R: CommandSource>(
     ring: R,
     board: Board,
@@ -79,12 +77,12 @@ pub fn finish<R: CommandSource>(
     requires conductor { IsConductorOf R.is_consumer ring board values conductor }
     requires producer { R.is_producer ring producer }
 
-    // Once the producers have returned. Otherwise all comes back as it was.
+    // Once the producers have returned. Else all comes back as it was.
     ensures refused { IsRefusedAs (handed_back ring board values conductor producer)
         (refusal_to conductor producer) result }
     ensures back { IfErr result (ComesBack R.is_consumer R.is_producer ring board values conductor producer) }
 
-    // What was received, followed by what still is in the ring, is the committed records in tail-exchange order, each
+    // What was received, followed by what still lies in the ring, is the committed records in tail-exchange order, each
     // whole and once; each receiver's copies are runs of the replies; and counters and replies are the fold of what was
     // received.
     ensures headline { IfOk result (Headline (R.bytes ring) (R.start ring) producer conductor) }

@@ -15,23 +15,23 @@ use Rattle.ring_table.specs.declared.claim.Stage.TheVariants.{Stored}
 abbrev pub put_at : ℕ → List ℕ → StagedClaim → StagedClaim
 put_at offset bytes c = with_body (overwritten offset bytes c.message.body) c
 
--- an open claim with room for this many bytes
+-- an open claim with room for so many bytes
 pub record HasRoom (len : ℕ) (c : StagedClaim) : Type 0 where
   pub stage : c.stage ≡ Stored Open
   pub room : len ≤ length c.message.body
 
--- an open claim of this many bytes, which are 0
+-- an open claim of so many bytes, which are 0
 pub record HasZeroBody (len : ℕ) (c : StagedClaim) : Type 0 where
   pub stage : c.stage ≡ Stored Open
   pub zeros : c.message.body ≡ replicate len 0
 
--- c is the last claim of the view and is at the place, and the others end before it
+-- c is the last claim of the view and lies at the place, and the others end before it
 pub record IsLast (place : ℕ) (cs : List StagedClaim) (c : StagedClaim) (v : View) : Type 0 where
   pub claims : v.producer.claims ≡ cs ++ c ∷ []
   pub behind : EndBelow place cs
   pub place_is : c.place ≡ place
 
--- and it is open, with this many bytes that are 0
+-- and it is open, with so many bytes that are 0
 pub record IsFreshClaim (place len : ℕ) (cs : List StagedClaim) (c : StagedClaim) (v : View) : Type 0 where
   pub last : IsLast place cs c v
   pub blank : HasZeroBody len c

@@ -27,7 +27,7 @@ fn stack_of<G: Gate>(gate: &G, thread: u32) -> Stack {
     }
 }
 
-/// A level that goes no deeper, since memory ran out or a thread could not be started.
+/// A level that goes no deeper, since memory or a thread is wanting.
 fn give_up(hub: Hub) -> LevelEnd
     ensures hub { result.hub ≡ hub }
     ensures seen { result.seen ≡ 0 }
@@ -112,7 +112,7 @@ fn conduct<'s, E, R: Threads, G: Gate + Sync>(
             }
         }
         Err(closure) => {
-            // The closure sees at once that it must end, and returns the conductor.
+            // The closure sees at once that it is to end, and gives the conductor back.
             shared.stop();
             let ConductorEnd { conductor, .. } = (closure.value)();
             give_up(Hub {
@@ -186,7 +186,7 @@ pub(crate) fn level<'s, E, R: Threads, G: Gate + Sync>(
             (end, child.join(rt))
         }
         Err(closure) => {
-            // The closure sees at once that it must end, and returns the endpoints.
+            // The closure sees at once that it is to end, and gives the seats back.
             shared.stop();
             let client = (closure.value)();
             (give_up(hub), client)
@@ -195,7 +195,7 @@ pub(crate) fn level<'s, E, R: Threads, G: Gate + Sync>(
     gather(shared, index, end, client)
 }
 
-/// Takes a client's endpoints back. It has spent its turns if a reply is missing.
+/// Takes a client's seats back. It has spent its turns if a reply is wanting.
 fn gather<G>(shared: Shared<'_, G>, index: u32, end: LevelEnd, client: StormClient) -> LevelEnd
     requires plan { IsPlan shared.plan × (index < 64) }
     requires end { IsEndAt shared index end }

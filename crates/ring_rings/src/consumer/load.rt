@@ -11,7 +11,7 @@ use ring_layout::record_descriptor::HEADER_LENGTH;
 use ring_layout::{put_word, word_index};
 use ring_table::{RingSeat, SharedRing, load_body_word, load_first_header, load_next_header};
 
-/// Loads the header at `scan`, to which a read has come.
+/// Loads the header at `scan`, where a read has come to.
 pub(super) fn load_header(
     ring: &SharedRing,
     seat: &mut RingSeat,
@@ -76,7 +76,7 @@ pub(super) fn load_body(
     ensures copies { (m : PlacedMessage) → HasGotLast m seat.old.me.0 → m.place ≡ place → length m.message.body ≡ len
         → CopiesBody capacity m seat.old.me.0 scratch.new seat.new.me.0 }
 {
-    // A record does not cross the end of the buffer, so its words are side by side.
+    // A record does not cross the end of the buffer, so its words lie side by side.
     let first = word_index(capacity, place) + 1;
     let count = len.div_ceil(8);
     // Four in a turn, since the compiler keeps a turn for each.

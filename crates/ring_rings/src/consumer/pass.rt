@@ -42,7 +42,7 @@ fn clear_up(ring: &SharedRing, seat: &mut RingSeat, capacity: u32, head: u64, to
     ensures seat { IsSameSeat seat.old seat.new }
     ensures view { seat.new.me.0 ≡ with_consumer (cleared_to to seat.old.me.0.consumer) seat.old.me.0 }
 {
-    // A read does not cross the end of the buffer, so the words are side by side.
+    // A read does not cross the end of the buffer, so the words lie side by side.
     let first = word_index(capacity, head);
     let count = (to - head) / 8;
     // Four in a turn, since the compiler keeps a turn for each.
@@ -59,7 +59,8 @@ fn clear_up(ring: &SharedRing, seat: &mut RingSeat, capacity: u32, head: u64, to
 }
 
 impl<K> Ring<K> {
-    /// Clears all that the read has passed, up to `scan`, and stores the head there. Does nothing if the head is there.
+    /// Clears all that the read has passed, up to `scan`, and stores the head there. Where the head stands there, does
+    /// nothing.
     #[inline(always)]
     pub(super) fn move_head(&self, consumer: &mut Consumer, scan: u64)
         requires consumer { IsConsumerOf self.now consumer.old }

@@ -17,9 +17,9 @@ use ring_words::{Action, Handler};
 pub(crate) enum Turn {
     /// There was no settled record.
     Blocked,
-    /// Padding, or an aborted record, of this many bytes was passed.
+    /// Padding, or an aborted record, of so many bytes was passed.
     Passed(u64),
-    /// A message was shown, whose record has this many bytes, and the read goes by this action.
+    /// A message was shown, whose record has so many bytes, and the read goes by this action.
     Shown(u64, Action),
 }
 

@@ -9,7 +9,7 @@ use Rattle.ring_rings.proofs.ring.Ring.run.Given.{Over}
 use Rattle.ring_rings.proofs.ring.Ring.run.Goals.{After-is_block_end}
 use Rattle.ring_rings.proofs.ring.Ring.run.Goals as goal
 
--- if neither limit nor end of the buffer is reached, the read goes on
+-- where neither limit nor end of the buffer is reached, the read goes on
 goes : (g : Over) (c : After-is_block_end g) → c.is_block_end.result ≡ false
     → GoesTo (heeded c.args.heeds g.H.Handler.step) c.args.limit
     c.args.self.now.capacity c.args.consumer.now.head (seat_view c.args.consumer.now) (seat_view c.turns.consumer)
