@@ -1,8 +1,6 @@
-/* A transmitter at full speed and two receivers, each on a thread. */
+/* A transmitter at full speed and receivers, each on a thread. */
 #include "board.h"
 #include "worker.h"
-
-#define RECEIVERS 2
 
 struct listener {
     struct receiver receiver;
@@ -49,22 +47,23 @@ static uint64_t transmit_all(struct board *board, uint32_t size, uint64_t times)
 
 uint64_t run_broadcast(const struct request *request, uint64_t times, struct received *received) {
     struct board board;
-    struct listener listeners[RECEIVERS];
+    static struct listener listeners[MAX_THREADS];
+    uint32_t receivers = request->threads;
     atomic_bool is_over = false;
     atomic_uint ready = 0;
     board_open(&board, request->capacity, 0);
-    for (int k = 0; k < RECEIVERS; k++) {
+    for (uint32_t k = 0; k < receivers; k++) {
         memset(&listeners[k], 0, sizeof listeners[k]);
         listeners[k].is_over = &is_over;
         listeners[k].ready = &ready;
         receiver_open(&listeners[k].receiver, &board);
         start_thread(&listeners[k].thread, listen_to_all, &listeners[k]);
     }
-    while (atomic_load(&ready) < RECEIVERS) sched_yield();
+    while (atomic_load(&ready) < receivers) sched_yield();
     uint64_t took = transmit_all(&board, request->size, times);
     atomic_store(&is_over, true);
     *received = (struct received){0, 0};
-    for (int k = 0; k < RECEIVERS; k++) {
+    for (uint32_t k = 0; k < receivers; k++) {
         pthread_join(listeners[k].thread, NULL);
         if (listeners[k].last != times - 1) wrong("the last message was not copied");
         received->copies += listeners[k].copies;

@@ -140,9 +140,10 @@ static void measure(const char *line, enum job job, const struct request *reques
     printf("%s %.3f\n", jobs[job].metric, (double)run_job(job, request, times, &found) / (double)all);
     if (job == TRIPS) print_trips(found.trips, times);
     if (job == STORM) printf("whole %.3f\n", (double)found.whole / (double)all);
+    double wanted = (double)times * request->threads;
     if (job == BROADCAST)
-        printf("copied %.4f\nlaps_per_million %.1f\n", (double)found.received.copies / 2 / (double)times,
-               (double)found.received.laps / 2 / (double)times * 1e6);
+        printf("copied %.4f\nlaps_per_million %.1f\n", (double)found.received.copies / wanted,
+               (double)found.received.laps / wanted * 1e6);
     free(found.trips);
 }
 
