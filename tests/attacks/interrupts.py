@@ -26,6 +26,9 @@ def run(seconds, seed):
     with tempfile.TemporaryFile() as errors, \
             subprocess.Popen(words, stdout=subprocess.PIPE, stderr=errors, env=environment) as child:
         if child.stdout.readline() != b"ready\n":
+            child.wait()
+            if "of another version" in said(errors):
+                raise NotRun(f"the library in {folder} is not that of these sources")
             raise Finding(f"the program did not start: {said(errors)}")
         clock = Clock(seconds + 60)
         while child.poll() is None and clock.runs():
