@@ -1,4 +1,5 @@
 pub mod NewestLemmas
+pub mod MoveLemmas
 pub mod LookLemmas
 pub mod RefusalLemmas
 pub mod CountLemmas

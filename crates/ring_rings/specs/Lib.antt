@@ -1,3 +1,4 @@
+pub mod Steps
 pub mod Matching
 pub mod Seats
 pub mod Claiming
@@ -8,3 +9,4 @@ pub mod Closing
 pub mod Bodies
 pub mod Reading
 pub mod ReadingSteps
+pub mod Words

@@ -9,13 +9,14 @@ ghost use Rattle.ring_rings.specs.Seats.{IsNewClaimOf, IsProducerOf, KeepsBoth, 
 
 use crate::claim::Claim;
 use crate::fault::TryFault;
-use crate::producer::body::store_message;
-use crate::producer::claim::try_claim;
+use crate::producer::claim::{try_claim, try_move};
+use crate::producer::headers::store_whole;
 use crate::ring::{ManyToOne, Producer, Ring};
+use crate::steps::Steps;
 use ring_layout::{NoShares, has_spare_share};
-use ring_table::{Wanted, join_producer, load_tail, split_producer};
+use ring_table::Wanted;
 
-impl Ring<ManyToOne> {
+impl<B: Steps> Ring<ManyToOne, B> {
     /// Makes one try to claim room for a message of `len` bytes, which are 0 until they are `put`. Several claims may
     /// be open at once.
     ///
@@ -26,7 +27,7 @@ impl Ring<ManyToOne> {
     /// head, which it loaded after the tail. It never waits.
     pub fn claim_once(
         &self,
-        producer: &mut Producer,
+        producer: &mut Producer<B>,
         type_id: i32,
         len: usize,
     ) -> Result<Claim, TryFault>
@@ -40,12 +41,7 @@ impl Ring<ManyToOne> {
         ensures claims { KeepsClaims self.now producer.old producer.new }
     {
         let wanted = Wanted { type_id, len };
-        let admission = try_claim(
-            &self.table.shared,
-            &mut producer.seat,
-            self.capacity,
-            wanted,
-        )?;
+        let admission = try_claim(&self.table, &mut producer.seat, self.capacity, wanted)?;
         producer.own_tail = admission.end;
         producer.open_claims += 1;
         Ok(Claim::new(self.capacity, admission.place, wanted))
@@ -55,7 +51,7 @@ impl Ring<ManyToOne> {
     #[inline(always)]
     pub fn write_once(
         &self,
-        producer: &mut Producer,
+        producer: &mut Producer<B>,
         type_id: i32,
         body: &[u8],
     ) -> Result<(), TryFault>
@@ -72,23 +68,16 @@ impl Ring<ManyToOne> {
             type_id,
             len: body.len(),
         };
-        let words = &self.table.shared;
-        let admission = try_claim(words, &mut producer.seat, self.capacity, wanted)?;
-        store_message(
-            words,
-            &mut producer.seat,
-            self.capacity,
-            admission.place,
-            wanted,
-            body,
-        );
+        let (table, seat) = (&self.table, &mut producer.seat);
+        let admission = try_move(table, seat, self.capacity, wanted)?;
+        store_whole(table, seat, self.capacity, admission, wanted, body);
         producer.own_tail = admission.end;
         Ok(())
     }
 
     /// Makes another producer with one share of this one's, without claims, draws or heartbeats read. `NoShares` where
     /// this one holds a single share, and then it is as before.
-    pub fn split(&self, producer: &mut Producer) -> Result<Producer, NoShares>
+    pub fn split(&self, producer: &mut Producer<B>) -> Result<Producer<B>, NoShares>
         requires { IsProducerOf self.now producer.old }
         ensures producer { IsProducerOf self.now producer.new }
         ensures refused { IsTrue (is_err result) ↔ (shares_of producer.old ≡ 1) }
@@ -101,7 +90,7 @@ impl Ring<ManyToOne> {
         if !has_spare_share(producer.shares) {
             return Err(NoShares);
         }
-        let seat = split_producer(&self.table.shared, &mut producer.seat);
+        let seat = self.table.split_producer(&mut producer.seat, self.capacity);
         producer.shares -= 1;
         Ok(Producer {
             seat,
@@ -114,7 +103,7 @@ impl Ring<ManyToOne> {
     /// Takes another producer in, with its shares and its claims. Afterwards the tail is loaded.
     ///
     /// Claims that are open stay so, those of either; this producer settles them all from then on.
-    pub fn join(&self, producer: &mut Producer, other: Producer)
+    pub fn join(&self, producer: &mut Producer<B>, other: Producer<B>)
         requires producer { IsProducerOf self.now producer.old }
         requires other { IsProducerOf self.now other }
         ensures producer { IsProducerOf self.now producer.new }
@@ -128,8 +117,9 @@ impl Ring<ManyToOne> {
             open_claims,
             own_tail: _,
         } = other;
-        join_producer(&self.table.shared, &mut producer.seat, seat);
-        producer.own_tail = load_tail(&self.table.shared, &mut producer.seat, self.capacity);
+        self.table
+            .join_producer(&mut producer.seat, self.capacity, seat);
+        producer.own_tail = self.table.load_tail(&mut producer.seat, self.capacity);
         producer.shares += shares;
         producer.open_claims += open_claims;
     }
