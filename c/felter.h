@@ -2,13 +2,13 @@
  *
  * The library behind this header is proved; this header, and what a caller keeps, is not.
  *
- * Handles. A handle owns a seat (a producer, a consumer, ..) together with its ring, which lives as long as one of
+ * Handles. A handle owns an endpoint (a producer, a consumer, ..) together with its ring, which lives as long as one of
  * its handles does. The order in which handles are freed is free.
  *   1. Begin each handle as FELTER_EMPTY. Never copy one and use both, and never read or write what is in it: two
- *      copies would free one object twice. Free it by felter_free when done. An empty or freed handle answers
+ *      copies would free one object twice. Free it by felter_free when done. An empty or freed handle returns
  *      FELTER_NO_HANDLE.
  *   2. One call at a time uses a handle. It may go to another thread if its last call is ordered before that thread's
- *      first one: by a thread's start or join, a lock, or a seq_cst atomic. Else two calls race for what it owns.
+ *      first one: by a thread's start or join, a lock, or a seq_cst atomic. Otherwise two calls race for what it owns.
  *      Different handles may be used at the same time, also of one ring.
  *   3. The handles of one call are different ones, and its buffers, numbers and handles do not overlap. A buffer that
  *      is read is readable for its length, and one that is written is writable for its room (at most 2^63 - 1 bytes),
@@ -21,20 +21,19 @@
  *      or has two of these counts (below), sees to it itself.
  *
  * Two handles of one call are of one ring, board, conductor or set of counters. A call that takes a handle in
- * (felter_join, felter_close) or back (the others with `join` in their names) answers FELTER_OTHER_RING else, and where
- * a conductor is behind one of the two handles alone. It compares numbers: each ring, board, conductor and set of
- * counters is given one when it is made. Handles that were made through several languages in one process are told
- * apart only if their numbers differ: this header counts from 1 on, the Rust crate from 2^62, the Python module from
- * 2^63.
+ * (felter_join, felter_close) or back (the others with `join` in their names) returns FELTER_OTHER_RING otherwise, and
+ * if only one of the two handles is a conductor's. It compares numbers: each ring, board, conductor and set of counters
+ * is given one when it is made. Handles that were made through several languages in one process are distinguished only
+ * if their numbers differ: this header counts from 1 on, the Rust crate from 2^62, the Python module from 2^63.
  *
- * Answers. Each call but felter_free and felter_version answers a code of enum felter_code; FELTER_OK is 0, and
+ * Results. Each call but felter_free and felter_version returns a code of enum felter_code; FELTER_OK is 0, and
  * felter_text(code) says it in words. A call that refuses leaves every handle as it was. Out numbers are written on
  * FELTER_OK alone, unless a call says otherwise. Nothing waits: FELTER_INSUFFICIENT_CAPACITY, FELTER_CONTENDED and
- * FELTER_NO_MESSAGE are for the caller to try again, with a pause of its own. Every call of a handle can answer
- * FELTER_WRONG_HANDLE, and FELTER_NO_HANDLE, also if it is a NULL pointer. Another pointer that is NULL is answered by
- * FELTER_NULL_POINTER; a buffer may be NULL if its length is 0. These answers to NULL are given by felter_inline.h,
- * which this header includes: a program that calls the library without the header has to see to it itself. Compilers
- * warn if an answer is not looked at.
+ * FELTER_NO_MESSAGE are for the caller to try again, with a pause of its own. Every call of a handle can return
+ * FELTER_WRONG_HANDLE, and FELTER_NO_HANDLE, also if it is a NULL pointer. Another pointer that is NULL gives
+ * FELTER_NULL_POINTER; a buffer may be NULL if its length is 0. These codes for NULL come from felter_inline.h, which
+ * this header includes: a program that calls the library without the header must test for NULL itself. Compilers warn
+ * if a result is not used.
  *
  * Units. Capacities, lengths, offsets and positions are bytes; positions count from the ring's start and never wrap.
  * Moments are milliseconds, at most 2^62, by a clock of the caller.
@@ -121,10 +120,10 @@ typedef struct felter_client { felter_handle handle; } felter_client;
 /* The first value of a handle of any kind. */
 #define FELTER_EMPTY {{0}}
 
-/* Lets go of what a handle owns, and empties it: felter_free(&producer.handle). An empty one stays empty. The open
- * claims of a producer are aborted, so that the consumer passes them. Its shares of the ring are lost, so felter_close
- * of that ring answers FELTER_PRODUCERS_OUT for good, and after 65,535 producers that were split off and freed without
- * felter_join, felter_split answers FELTER_NO_SHARES. */
+/* Frees what a handle owns, and empties it: felter_free(&producer.handle). An empty one stays empty. The open claims
+ * of a producer are aborted, so that the consumer passes them. Its shares of the ring are lost, so felter_close of
+ * that ring returns FELTER_PRODUCERS_OUT for good, and after 65,535 producers that were split off and freed without
+ * felter_join, felter_split returns FELTER_NO_SHARES. */
 void felter_free(felter_handle *handle);
 
 /* The version of the library that the program runs with: 10,000 times the major number, 100 times the minor one, and
@@ -143,7 +142,7 @@ int32_t felter_capacity(felter_handle *handle, uint32_t *capacity, uint32_t *lon
 /* Rings ---------------------------------------------------------------------------------------------------------- */
 
 /* Makes a ring of a capacity, with a producer that holds all 65,536 shares and the consumer. The handles are empty
- * before; else FELTER_HANDLE_IN_USE. FELTER_BAD_CAPACITY, FELTER_BAD_START, FELTER_OUT_OF_MEMORY. */
+ * before; otherwise FELTER_HANDLE_IN_USE. FELTER_BAD_CAPACITY, FELTER_BAD_START, FELTER_OUT_OF_MEMORY. */
 int32_t felter_many_to_one_new_numbered(uint64_t number, uint32_t capacity, felter_producer *producer,
                                         felter_consumer *consumer);
 int32_t felter_many_to_one_new_at_numbered(uint64_t number, uint32_t capacity, uint64_t start,
@@ -164,10 +163,10 @@ static inline int32_t felter_one_to_one_new_at(uint32_t capacity, uint64_t start
  * FELTER_CONTENDED (many-to-one alone). */
 int32_t felter_write(felter_producer *producer, int32_t type_id, const void *body, size_t len);
 
-/* Claims room for a message of len bytes, which are 0 until they are put, and says the claim's number: its place, which
- * is given once in a ring. Any number of claims may be open at once, and they may be settled in any order; the consumer
- * passes no open claim, so settle each. It refuses as felter_write, and with FELTER_OUT_OF_MEMORY, before anything is
- * tried, where there is no memory to keep one claim more. */
+/* Claims room for a message of len bytes, which are 0 until they are put, and says the claim's number: its place,
+ * which is given once in a ring. Any number of claims may be open at once, and they may be settled in any order; the
+ * consumer passes no open claim, so settle each. It refuses as felter_write, and with FELTER_OUT_OF_MEMORY, before
+ * anything is tried, if there is no memory to keep one claim more. */
 int32_t felter_claim(felter_producer *producer, int32_t type_id, size_t len, uint64_t *claim);
 /* Puts bytes into an open claim of the producer from a byte on. FELTER_NO_CLAIM, FELTER_PUT_RANGE. */
 int32_t felter_put(felter_producer *producer, uint64_t claim, size_t offset, const void *bytes, size_t len);
@@ -198,38 +197,38 @@ int32_t felter_shares(felter_producer *producer, uint32_t *shares);
  * buffer: *len is then its length and *type_id its type id. An eighth of the capacity is always enough. */
 int32_t felter_read(felter_consumer *consumer, int32_t *type_id, size_t *len, void *buffer, size_t room);
 
-/* What stands before the bytes of a message in a batch. It may be read in place where the buffer is aligned to 8 bytes;
- * else memcpy it out. */
+/* What comes before the bytes of a message in a batch. It may be read in place if the buffer is aligned to 8 bytes;
+ * otherwise memcpy it out. */
 typedef struct felter_record {
     uint64_t len;    /* how many bytes follow */
     int64_t type_id;
 } felter_record;
 
-/* Where the message behind one of so many bytes begins in a batch, from where that one begins. */
+/* Where the message after one of this many bytes begins in a batch, from where that one begins. */
 #define FELTER_SPAN(len) (sizeof(felter_record) + ((size_t)(len) + 7) / 8 * 8)
 
-/* Reads up to `limit` messages into a buffer, one behind another: each is a felter_record and its bytes, and begins at
- * a multiple of 8 bytes, FELTER_SPAN behind the one before. Says how many messages came, and the bytes that they take.
- * It stops where the buffer is full, and the message that has no room stays; fewer messages can come than are there.
- * FELTER_NO_MESSAGE, also where the limit is 0; FELTER_SHORT_BUFFER where the first one has no room (for which
+/* Reads up to `limit` messages into a buffer, one after another: each is a felter_record and its bytes, and begins
+ * at a multiple of 8 bytes, FELTER_SPAN after the one before. Says how many messages came, and the bytes that they
+ * take. It stops when the buffer is full, and the message that has no room stays; fewer messages can come than are
+ * there. FELTER_NO_MESSAGE, also if the limit is 0; FELTER_SHORT_BUFFER if the first one has no room (for which
  * felter_read says its length): FELTER_SPAN(capacity / 8) bytes are always enough for one. */
 int32_t felter_read_batch(felter_consumer *consumer, uint32_t limit, uint32_t *count, size_t *used, void *buffer,
                           size_t room);
 
 /* Writes the messages of a batch, laid as felter_read_batch leaves them, one after another by felter_write. It stops
- * at the first refusal, which it answers, and says how many were written, also then. FELTER_PUT_RANGE if a record does
- * not lie inside the bytes. It is a loop of this header. */
+ * at the first refusal, which it returns, and says how many were written, also then. FELTER_PUT_RANGE if a record is
+ * not inside the bytes. It is a loop of this header. */
 static inline int32_t felter_write_batch(felter_producer *producer, const void *records, size_t bytes,
                                          uint32_t *written);
 
-/* Takes the producer of the consumer's ring, of either kind, which holds all 65,536 shares and has no open claim, into
- * the consumer, and empties the producer's handle. Nothing can be written any more. What lies in the ring stays, and
- * the consumer reads on as before. FELTER_OTHER_RING, also where the consumer took a producer in before; then
- * FELTER_CLAIMS_OPEN, and then FELTER_PRODUCERS_OUT where one that was split off was not taken in by felter_join. */
+/* Takes the producer of the consumer's ring, of either kind, which holds all 65,536 shares and has no open claim,
+ * into the consumer, and empties the producer's handle. Nothing can be written any more. What is in the ring stays,
+ * and the consumer reads on as before. FELTER_OTHER_RING, also if the consumer took a producer in before; then
+ * FELTER_CLAIMS_OPEN, and then FELTER_PRODUCERS_OUT if one that was split off was not taken in by felter_join. */
 int32_t felter_close(felter_consumer *consumer, felter_producer *producer);
-/* Ends the ring of a consumer that took its producer in, and empties the consumer's handle. Says how many messages were
- * left unread, which are lost. FELTER_PRODUCERS_OUT where no felter_close took the producer in; FELTER_IN_USE where
- * another handle of the ring is there, which is not so where rule 1 was kept. */
+/* Ends the ring of a consumer that took its producer in, and empties the consumer's handle. Says how many messages
+ * were left unread, which are lost. FELTER_PRODUCERS_OUT if no felter_close took the producer in; FELTER_IN_USE if
+ * another handle of the ring is there, which does not occur if rule 1 was kept. */
 int32_t felter_finish(felter_consumer *consumer, uint64_t *left);
 
 /* Boards --------------------------------------------------------------------------------------------------------- */
@@ -244,13 +243,13 @@ static inline int32_t felter_board_new(uint32_t capacity, felter_transmitter *tr
 static inline int32_t felter_board_new_at(uint32_t capacity, uint64_t start, felter_transmitter *transmitter);
 /* Transmits a message. FELTER_BAD_TYPE, FELTER_TOO_LONG, FELTER_POSITION_LIMIT. */
 int32_t felter_transmit(felter_transmitter *transmitter, int32_t type_id, const void *body, size_t len);
-/* Makes a receiver, which starts with the message that was transmitted last, with one share of the transmitter's. The
- * share is lost when the receiver is freed without felter_board_join: after 65,535 of them the answer is
+/* Makes a receiver, which starts with the message that was transmitted last, with one share of the transmitter's.
+ * The share is lost when the receiver is freed without felter_board_join: after 65,535 of them the result is
  * FELTER_NO_SHARES, and after one the board cannot be closed. FELTER_OUT_OF_MEMORY, FELTER_HANDLE_IN_USE. */
 int32_t felter_subscribe(felter_transmitter *transmitter, felter_receiver *receiver);
-/* Copies the next message into a buffer. FELTER_NO_MESSAGE. FELTER_LAPPED where the transmitter overtook the receiver:
+/* Copies the next message into a buffer. FELTER_NO_MESSAGE. FELTER_LAPPED if the transmitter overtook the receiver:
  * *lapped says how often by now, and the next call goes on with the message that was transmitted last.
- * FELTER_SHORT_BUFFER where the room is less than an eighth of the capacity, whatever the message: *len says that
+ * FELTER_SHORT_BUFFER if the room is less than an eighth of the capacity, whatever the message: *len says that
  * eighth, and nothing is taken. */
 int32_t felter_receive(felter_receiver *receiver, int32_t *type_id, size_t *len, uint64_t *lapped, void *buffer,
                        size_t room);
@@ -264,19 +263,19 @@ int32_t felter_receiver_place(felter_receiver *receiver, uint64_t *place);
  * that it missed. FELTER_NO_MESSAGE if it was never lapped. */
 int32_t felter_receiver_lap(felter_receiver *receiver, uint64_t *place, uint64_t *intent);
 
-/* Makes a raw receiver, which answers each record unread; else as felter_subscribe. */
+/* Makes a raw receiver, which returns each record unread; otherwise as felter_subscribe. */
 int32_t felter_subscribe_raw(felter_transmitter *transmitter, felter_raw_receiver *receiver);
-/* Goes behind the next record, and says its type id and the bytes of its body, of which none was copied.
+/* Goes past the next record, and says its type id and the bytes of its body, of which none was copied.
  * FELTER_NO_MESSAGE; FELTER_LAPPED as of felter_receive. */
 int32_t felter_receive_next(felter_raw_receiver *receiver, int32_t *type_id, size_t *len, uint64_t *lapped);
-/* Copies the body of the record that felter_receive_next answered last to the front of a buffer. The bytes may be those
- * of another record, unless felter_validate then answers FELTER_OK. FELTER_NO_MESSAGE where none was answered yet,
- * FELTER_SHORT_BUFFER where the body is longer than the room. */
+/* Copies the body of the record that felter_receive_next returned last to the front of a buffer. The bytes may be
+ * those of another record, unless felter_validate then returns FELTER_OK. FELTER_NO_MESSAGE if none was returned
+ * yet, FELTER_SHORT_BUFFER if the body is longer than the room. */
 int32_t felter_load_body(felter_raw_receiver *receiver, void *buffer, size_t room);
 /* Tests whether that record was not yet overwritten: then each body of it that was copied before is the one that was
- * transmitted. FELTER_LAPPED where it was; FELTER_NO_MESSAGE where none was answered yet. */
+ * transmitted. FELTER_LAPPED if it was; FELTER_NO_MESSAGE if none was returned yet. */
 int32_t felter_validate(felter_raw_receiver *receiver);
-/* How often felter_receive_next answered FELTER_LAPPED. */
+/* The number of times that felter_receive_next returned FELTER_LAPPED. */
 int32_t felter_raw_lapped_count(felter_raw_receiver *receiver, uint64_t *count);
 
 /* As felter_receiver_place and felter_receiver_lap. */
@@ -287,9 +286,9 @@ int32_t felter_raw_receiver_lap(felter_raw_receiver *receiver, uint64_t *place, 
  * each receiver that felter_conductor_subscribe made. */
 int32_t felter_board_join(felter_transmitter *transmitter, felter_receiver *receiver);
 int32_t felter_board_join_raw(felter_transmitter *transmitter, felter_raw_receiver *receiver);
-/* Ends a board whose receivers of both kinds were all taken back, and empties the transmitter's handle. Says the tail:
- * the position where the last transmission ended, in bytes. FELTER_RECEIVERS_OUT where a receiver was not taken back;
- * FELTER_IN_USE where another handle of the board is there, which is not so where rule 1 was kept. */
+/* Ends a board whose receivers of both kinds were all taken back, and empties the transmitter's handle. Says the
+ * tail: the position where the last transmission ended, in bytes. FELTER_RECEIVERS_OUT if a receiver was not taken
+ * back; FELTER_IN_USE if another handle of the board is there, which does not occur if rule 1 was kept. */
 int32_t felter_board_close(felter_transmitter *transmitter, uint64_t *tail);
 
 /* Counters ------------------------------------------------------------------------------------------------------- */
@@ -303,11 +302,11 @@ static inline int32_t felter_counters_new(uint32_t count, uint32_t reuse_ms, fel
 int32_t felter_counter_allocate(felter_counters *counters, uint64_t now, int32_t type_id, const void *key,
                                 size_t key_len, const void *label, size_t label_len, uint64_t registration,
                                 uint32_t *id);
-/* The same with an owner; 0 stands for none. */
+/* The same with an owner; 0 means none. */
 int32_t felter_counter_allocate_owned(felter_counters *counters, uint64_t now, int32_t type_id, const void *key,
                                       size_t key_len, const void *label, size_t label_len, uint64_t registration,
                                       uint64_t owner, uint32_t *id);
-/* Each call with an id can answer FELTER_BAD_ID and FELTER_NOT_ALLOCATED. */
+/* Each call with an id can return FELTER_BAD_ID and FELTER_NOT_ALLOCATED. */
 int32_t felter_counter_free(felter_counters *counters, uint64_t now, uint32_t id); /* FELTER_BAD_MOMENT */
 int32_t felter_counter_set(felter_counters *counters, uint32_t id, int64_t value);
 /* Adds to the value, which wraps, and says the value before. */
@@ -323,12 +322,12 @@ int32_t felter_counter_propose_max(felter_counters *counters, uint32_t id, int64
  * FELTER_BAD_ID alone. */
 int32_t felter_counter_state(felter_counters *counters, uint32_t id, int32_t *state);
 int32_t felter_counter_deadline(felter_counters *counters, uint32_t id, uint64_t *deadline);
-/* Copies the label, of at most 380 bytes and without an end, and says its length: also with FELTER_SHORT_BUFFER, where
+/* Copies the label, of at most 380 bytes and without an end, and says its length: also with FELTER_SHORT_BUFFER if
  * the room is less. */
 int32_t felter_counter_label(felter_counters *counters, uint32_t id, size_t *len, void *buffer, size_t room);
-/* Copies the key, of 112 bytes with zeros after a shorter one. FELTER_SHORT_BUFFER where the room is less. */
+/* Copies the key, of 112 bytes with zeros after a shorter one. FELTER_SHORT_BUFFER if the room is less. */
 int32_t felter_counter_key(felter_counters *counters, uint32_t id, void *buffer, size_t room);
-/* Finds the lowest id in use of a type and registration id; else FELTER_NOT_ALLOCATED. */
+/* Finds the lowest id in use of a type and registration id; otherwise FELTER_NOT_ALLOCATED. */
 int32_t felter_counter_find(felter_counters *counters, int32_t type_id, uint64_t registration, uint32_t *id);
 /* The number of ids, in use or not. To list the counters in use, ask for each id's type: FELTER_NOT_ALLOCATED says that
  * it is not in use. */
@@ -342,17 +341,17 @@ int32_t felter_counters_reader(felter_counters *counters, felter_reader *reader)
 /* Loads a value: of an id that was never used 0, of a freed one its last. No value that the reader has seen comes back
  * once a later one was loaded. FELTER_BAD_ID. */
 int32_t felter_reader_value(felter_reader *reader, uint32_t id, int64_t *value);
-/* Takes back a reader of these counters, with its share, and empties its handle. FELTER_OTHER_RING, also where
+/* Takes back a reader of these counters, with its share, and empties its handle. FELTER_OTHER_RING, also if
  * felter_conductor_reader made it. */
 int32_t felter_counters_join(felter_counters *counters, felter_reader *reader);
 
 /* Conductors ----------------------------------------------------------------------------------------------------- */
 
-/* A conductor owns counters. Clients, on threads of their own, send it commands through a many-to-one ring; it applies
- * each to the counters and answers it by one reply on a board, which carries the command's correlation id.
+/* A conductor owns counters. Clients, on threads of their own, send it commands through a many-to-one ring; it
+ * applies each to the counters and sends one reply to it on a board, which carries the command's correlation id.
  *
- * Makes one with a ring of `capacity` bytes for the commands, a board of `replies` bytes for the replies, and counters
- * with the ids below `counters`, of which a freed one rests for `reuse_ms`. FELTER_HANDLE_IN_USE;
+ * Makes one with a ring of `capacity` bytes for the commands, a board of `replies` bytes for the replies, and
+ * counters with the ids below `counters`, of which a freed one rests for `reuse_ms`. FELTER_HANDLE_IN_USE;
  * FELTER_BAD_CAPACITY of the ring, then of the board, FELTER_BAD_COUNT, and then FELTER_OUT_OF_MEMORY. */
 int32_t felter_conductor_new_numbered(uint64_t number, uint32_t capacity, uint32_t replies, uint32_t counters,
                                       uint32_t reuse_ms, felter_conductor *conductor);
@@ -371,8 +370,8 @@ enum felter_stop {
     FELTER_STOP_BOARD_END = 3    /* a reply might end above 2^62 on the board: the command stays, not applied */
 };
 
-/* Takes up to `limit` commands, applies each at the moment `now`, and transmits its reply. Says how many it took, which
- * may be 0, and why it stopped (enum felter_stop). FELTER_BAD_MOMENT, where nothing is taken. */
+/* Takes up to `limit` commands, applies each at the moment `now`, and transmits its reply. Says how many it took,
+ * which may be 0, and why it stopped (enum felter_stop). FELTER_BAD_MOMENT: nothing is taken then. */
 int32_t felter_conductor_work(felter_conductor *conductor, uint64_t now, uint32_t limit, uint64_t *messages,
                               int32_t *stopped);
 /* Stores the heartbeat that clients load: any number, 0 before the first. */
@@ -392,35 +391,35 @@ int32_t felter_conductor_deadline(felter_conductor *conductor, uint32_t id, uint
 int32_t felter_conductor_label(felter_conductor *conductor, uint32_t id, size_t *len, void *buffer, size_t room);
 int32_t felter_conductor_key(felter_conductor *conductor, uint32_t id, void *buffer, size_t room);
 
-/* Makes a receiver of the replies, for felter_receive and felter_lapped_count; else as felter_subscribe. */
+/* Makes a receiver of the replies, for felter_receive and felter_lapped_count; otherwise as felter_subscribe. */
 int32_t felter_conductor_subscribe(felter_conductor *conductor, felter_receiver *receiver);
-/* Makes a reader of the counters' values, for felter_reader_value; else as felter_counters_reader. */
+/* Makes a reader of the counters' values, for felter_reader_value; otherwise as felter_counters_reader. */
 int32_t felter_conductor_reader(felter_conductor *conductor, felter_reader *reader);
 
-/* Take back a client, a receiver or a reader of this conductor's with its shares, and empty its handle. What a client
- * did not hear by then it does not hear. FELTER_OTHER_RING where another conductor made it, or none (felter_subscribe,
- * felter_counters_reader). */
+/* Take back a client, a receiver or a reader of this conductor's with its shares, and empty its handle. What a
+ * client did not receive by then it never receives. FELTER_OTHER_RING if another conductor made it, or none
+ * (felter_subscribe, felter_counters_reader). */
 int32_t felter_conductor_join(felter_conductor *conductor, felter_client *client);
 int32_t felter_conductor_join_receiver(felter_conductor *conductor, felter_receiver *receiver);
 int32_t felter_conductor_join_reader(felter_conductor *conductor, felter_reader *reader);
 
-/* Ends a conductor whose clients and receivers were all taken back, and empties its handle. Says how many commands it
- * received in all, and how many still lay in the ring, which get no reply. Where it refuses, the handle stays, and the
- * call can be made again: FELTER_PRODUCERS_OUT where a client was not taken back, then FELTER_RECEIVERS_OUT where a
- * receiver was not, and then FELTER_IN_USE where another handle holds what the conductor shares, such as a reader that
- * was neither taken back nor freed. */
+/* Ends a conductor whose clients and receivers were all taken back, and empties its handle. Says how many commands
+ * it received in all, and how many were still in it, which get no reply. If it refuses, the handle stays,
+ * and the call can be made again: FELTER_PRODUCERS_OUT if a client was not taken back, then FELTER_RECEIVERS_OUT if
+ * a receiver was not, and then FELTER_IN_USE if another handle holds what the conductor shares, such as a reader
+ * that was neither taken back nor freed. */
 int32_t felter_conductor_finish(felter_conductor *conductor, uint64_t *received, uint64_t *left);
 
-/* Each of these sends one command, by one try, and says the correlation id that was drawn for it. FELTER_TOO_LONG where
+/* Each of these sends one command, by one try, and says the correlation id that was drawn for it. FELTER_TOO_LONG if
  * the command takes more than 520 bytes, for which no id is drawn, or more than an eighth of the ring's capacity;
- * FELTER_POSITION_LIMIT, FELTER_INSUFFICIENT_CAPACITY, FELTER_CONTENDED: the id that was drawn is given to no command
- * then. Whether the conductor obeys or refuses the command, its reply tells.
+ * FELTER_POSITION_LIMIT, FELTER_INSUFFICIENT_CAPACITY, FELTER_CONTENDED: the id that was drawn is given to no
+ * command then. The reply says whether the conductor applied or refused the command.
  *
- * Allocates a counter of value 0, whose registration id is the correlation id. The command takes 20 bytes and those of
- * key and label. */
+ * Allocates a counter of value 0, whose registration id is the correlation id. The command takes 20 bytes and those
+ * of key and label. */
 int32_t felter_send_allocate(felter_client *client, int32_t type_id, const void *key, size_t key_len,
                              const void *label, size_t label_len, uint64_t *id);
-/* The same with an owner; 0 stands for none. The command takes 8 bytes more. */
+/* The same with an owner; 0 means none. The command takes 8 bytes more. */
 int32_t felter_send_allocate_owned(felter_client *client, int32_t type_id, uint64_t owner, const void *key,
                                    size_t key_len, const void *label, size_t label_len, uint64_t *id);
 /* Frees a counter. */
@@ -439,10 +438,10 @@ enum felter_reply {
     FELTER_REPLY_CLOSED = 104     /* the owner's counters were freed; the number is how many */
 };
 
-/* Takes the next message of the board, for one who waits for the reply to the command with this correlation id.
- * FELTER_OK where it is that reply: its kind (enum felter_reply) and its number. FELTER_NO_MESSAGE where none is there
- * yet. FELTER_OTHER_REPLY where it is the reply to another command, or no reply: it is passed over, so poll again.
- * FELTER_LAPPED where the conductor overtook the client: *lapped says how often by now, the next call goes on with the
+/* Takes the next message of the board, for a caller that waits for the reply to the command with this correlation
+ * id. FELTER_OK if it is that reply: its kind (enum felter_reply) and its number. FELTER_NO_MESSAGE if none is there
+ * yet. FELTER_OTHER_REPLY if it is the reply to another command, or no reply: it is passed over, so poll again.
+ * FELTER_LAPPED if the conductor overtook the client: *lapped says how often by now, the next call goes on with the
  * reply that was transmitted last, and what became of the commands that were on their way is not known. */
 int32_t felter_poll(felter_client *client, uint64_t correlation, int32_t *kind, int64_t *number, uint64_t *lapped);
 
