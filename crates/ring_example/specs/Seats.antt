@@ -7,7 +7,7 @@ use Rattle.ring_conductor.specs.Conducting.{IsConductorOf}
 use Rattle.ring_example.specs.declared.client.Caller.{Caller}
 use Rattle.ring_example.specs.declared.shared.Shared.{Shared}
 
--- its producer is one of this ring, and its receiver one of this board
+-- its producer is one of this ring, and its receiver one of this broadcast buffer
 abbrev pub IsCallerOf : Shared → Caller → Type 0
 IsCallerOf s c = IsProducerOf s.ring (producer_of c.client) × IsReceiverOf s.board (receiver_of c.client)
 
@@ -15,6 +15,6 @@ IsCallerOf s c = IsProducerOf s.ring (producer_of c.client) × IsReceiverOf s.bo
 abbrev pub AreCallersOf : Shared → Caller × Caller → Type 0
 AreCallersOf s callers = IsCallerOf s callers.0 × IsCallerOf s callers.1
 
--- it is a conductor of this ring, this board and these values
+-- it is a conductor of this ring, this broadcast buffer and these values
 abbrev pub IsConductorAt : Shared → Conductor → Type 0
 IsConductorAt s c = IsConductorOf s.ring s.board s.values c
