@@ -74,10 +74,11 @@ fn read_bytes<R: Read>(
     alloc: Global,
     reader: &mut R,
     length: Option<u64>,
+    limit: u64,
 ) -> Result<Vec<u8>, Cause> {
     // (one byte more shows that the section is too large)
-    let wanted = length.unwrap_or(MAX_SECTION + 1);
-    if length.is_some() && wanted > MAX_SECTION {
+    let wanted = length.unwrap_or(limit.saturating_add(1));
+    if length.is_some() && wanted > limit {
         return Err(Cause::TooLarge);
     }
     let mut bytes = Vec::new(alloc);
@@ -94,7 +95,7 @@ fn read_bytes<R: Read>(
         bytes.extend_from_slice(&chunk[..n])?;
     }
     let read = bytes.len() as u64;
-    if read > MAX_SECTION {
+    if read > limit {
         Err(Cause::TooLarge)
     } else if length.is_some() && read < wanted {
         Err(Cause::TooShort)
@@ -127,29 +128,39 @@ fn go_to<R: Read + Seek>(reader: &mut R, at: u64) -> Result<(), Cause> {
     }
 }
 
-fn bytes_of_file<R: AllocGlobal + Files>(rt: &R, section: Section<'_>) -> Result<Vec<u8>, Cause> {
+fn bytes_of_file<R: AllocGlobal + Files>(
+    rt: &R,
+    section: Section<'_>,
+    limit: u64,
+) -> Result<Vec<u8>, Cause> {
     let mut file = match fs::open(rt, section.file) {
         Ok(file) => file,
         Err(error) => return Err(Cause::Unopened(error.kind())),
     };
     go_to(&mut file, section.at)?;
-    read_bytes(rt.alloc(), &mut file, section.length)
+    read_bytes(rt.alloc(), &mut file, section.length, limit)
 }
 
-fn bytes_of_input<R: AllocGlobal + Input>(rt: &R, section: Section<'_>) -> Result<Vec<u8>, Cause> {
-    let mut reader = rt.reader();
-    skip(&mut reader, section.at)?;
-    read_bytes(rt.alloc(), &mut reader, section.length)
-}
-
-fn words_of<R: AllocGlobal + Files + Input>(
+fn bytes_of_input<R: AllocGlobal + Input>(
     rt: &R,
     section: Section<'_>,
+    limit: u64,
+) -> Result<Vec<u8>, Cause> {
+    let mut reader = rt.reader();
+    skip(&mut reader, section.at)?;
+    read_bytes(rt.alloc(), &mut reader, section.length, limit)
+}
+
+/// The words of a section that has at most `limit` bytes, as those of `section_words`.
+pub fn words_of<R: AllocGlobal + Files + Input>(
+    rt: &R,
+    section: Section<'_>,
+    limit: u64,
 ) -> Result<Vec<u64>, Cause> {
     let bytes = if section.file == "-" {
-        bytes_of_input(rt, section)?
+        bytes_of_input(rt, section, limit)?
     } else {
-        bytes_of_file(rt, section)?
+        bytes_of_file(rt, section, limit)?
     };
     words_of_bytes(rt.alloc(), bytes.as_slice())
 }
@@ -164,7 +175,7 @@ pub fn section_words<'a, R: AllocGlobal + Files + Input>(
     rt: &R,
     section: Section<'a>,
 ) -> Result<Vec<u64>, InputFault<'a>> {
-    match words_of(rt, section) {
+    match words_of(rt, section, MAX_SECTION) {
         Ok(words) => Ok(words),
         Err(cause) => Err(InputFault {
             file: section.file,

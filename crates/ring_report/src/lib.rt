@@ -2,7 +2,7 @@
 //! from a file or given as words, to a table that a person reads, JSON, or Prometheus' text.
 //!
 //! - `ring`, `board`, `counters`: the report of each. `records`: the lists that the first two have in common.
-//! - `report`: what is shown. `table`, `json` and `prometheus` print it; `picture` and `bodies` are parts of it.
+//! - `report`: what is shown. `table`, `json`, `prometheus` and `rates` print it; `picture` and `bodies` are its parts.
 //! - `input`, `input_fault`: a section of a file, as words. `view`: what is wanted of a report.
 #![tactic(auto)]
 
@@ -14,13 +14,14 @@ mod input_fault;
 mod json;
 mod picture;
 mod prometheus;
+mod rates;
 mod records;
 mod report;
 mod ring;
 mod table;
 mod view;
 
-pub use input::{Section, section_words, words_of_bytes};
+pub use input::{Section, section_words, words_of, words_of_bytes};
 pub use input_fault::{Cause, InputFault};
 pub use report::{Cell, Column, Field, Report};
 pub use view::{Bodies, View};

@@ -1,5 +1,5 @@
 //! A report in the text format of Prometheus.
-use crate::report::{Cell, Field, Report};
+use crate::report::{Cell, Report, number};
 use std::alloc::{AllocError, Global};
 use std::fmt::Write;
 
@@ -69,18 +69,6 @@ fn push_head(text: &mut String, metric: Metric) -> Result<(), AllocError> {
 fn push_metric(text: &mut String, metric: Metric, value: u64) -> Result<(), AllocError> {
     push_head(text, metric)?;
     writeln!(text, "felter_{} {value}", metric.name)
-}
-
-/// The number with this name, if there is one.
-fn number(fields: &[Field], name: &str) -> Option<u64> {
-    for field in fields {
-        if field.name == name {
-            if let Cell::Unsigned(value) = &field.value {
-                return Some(*value);
-            }
-        }
-    }
-    None
 }
 
 /// The metrics of a ring. A ring whose positions make no sense has no `used`.

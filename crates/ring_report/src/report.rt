@@ -62,6 +62,11 @@ pub struct Report {
 }
 
 impl Report {
+    /// The number of the whole with this name, if there is one.
+    pub fn number(&self, name: &str) -> Option<u64> {
+        number(self.fields.as_slice(), name)
+    }
+
     /// The report of memory that is not what it is said to be.
     pub(crate) fn refused<F: Display + Drop>(
         alloc: Global,
@@ -86,6 +91,18 @@ impl Report {
             findings,
         })
     }
+}
+
+/// The number with this name, if there is one.
+pub(crate) fn number(fields: &[Field], name: &str) -> Option<u64> {
+    for field in fields {
+        if field.name == name {
+            if let Cell::Unsigned(value) = &field.value {
+                return Some(*value);
+            }
+        }
+    }
+    None
 }
 
 /// Numbers, each with its name.

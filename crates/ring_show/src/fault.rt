@@ -12,6 +12,15 @@ pub enum ShowFault<'a> {
     /// The value of an option is not a number of bytes.
     #[error("--{option} {value}: a number of bytes is decimal, or hexadecimal after 0x")]
     NotBytes { option: &'a str, value: &'a str },
+    /// There is no such process, or its memory may not be read.
+    #[error("{pid}: no such process, or its memory may not be read")]
+    NoProcess { pid: &'a str },
+    /// The file has another version, or is shorter than its header says.
+    #[error("no command-and-control file of version 0.1.0 or 0.2.0, or too short")]
+    NotCnc,
+    /// The clock cannot be read.
+    #[error("the clock cannot be read")]
+    NoClock,
     /// An argument cannot be read.
     #[error("an argument is not UTF-8")]
     NotUtf8,

@@ -9,6 +9,20 @@ pub const BOARD: &str = "Lists the records of a broadcast buffer's current lap";
 
 pub const COUNTERS: &str = "Lists the counters in use and those that were freed, by rising id";
 
+pub const FIND: &str =
+    "Looks for rings in the memory of a process, in a core file or in a copy of memory";
+
+pub const MEMORY: &str = "The number of a process, or a file";
+
+pub const CNC: &str =
+    "Shows the ring, the broadcast buffer and the counters of Aeron's command-and-control file";
+
+pub const CNC_FILE: &str = "The file";
+
+pub const EVERY: &str = "Look again every MS milliseconds, and show rates";
+
+pub const TIMES: &str = "End after N looks [default: with --every until it is interrupted]";
+
 pub const METADATA: &str =
     "The file with the copy of the metadata, to which --at and --length belong";
 

@@ -1,22 +1,27 @@
-//! Shows what is in a ring, a board or counters: reads a copy of their memory, or that of a running program, and
-//! prints a table that a person reads, JSON, or the text format of Prometheus.
+//! Shows what is in a ring, a broadcast buffer or counters: reads a copy of their memory, or that of a running program,
+//! and prints a table that a person reads, JSON, or the text format of Prometheus.
 #![tactic(auto)]
 
+mod cnc;
 mod fault;
+mod find;
 mod help;
+mod memory;
 mod options;
+mod show;
+mod watch;
 
+use cnc::show_cnc;
 use fault::ShowFault;
-use options::{Format, Options, Subject};
-use ring_report::{Report, section_words};
+use find::find_rings;
+use memory::memory_of;
+use options::Task;
+use std::env;
 use std::env::Env;
-use std::io::{ErrorKind, Input, Write};
+use std::io::{ErrorKind, Input, IsTerminal};
 use std::process::ExitCode;
-use std::rt::Files;
-use std::{env, io};
-
-/// The status if the memory has a finding.
-const FINDING: u8 = 1;
+use std::rt::{Clock, Files};
+use watch::show_often;
 
 /// The status if nothing was shown.
 const FAULT: u8 = 2;
@@ -26,7 +31,8 @@ fn main(rt: HostRuntime) -> ExitCode {
         Ok(words) => words,
         Err(fault) => return failed(&rt, fault),
     };
-    match run(&rt, words.as_slice()) {
+    let is_terminal = rt.stdout().is_terminal();
+    match run(&rt, words.as_slice(), is_terminal) {
         Ok(code) => code,
         Err(fault) => failed(&rt, fault),
     }
@@ -47,13 +53,14 @@ fn words_of<R: AllocGlobal + Env>(rt: &R) -> Result<Vec<String>, ShowFault<'stat
     }
 }
 
-/// Parses the arguments, and shows what they name.
-fn run<'a, R: AllocGlobal + Files + Input + Print + Eprint>(
+/// Parses the arguments, and does what they ask for.
+fn run<'a, R: AllocGlobal + Clock + Files + Input + Print + Eprint>(
     rt: &R,
     words: &'a [String],
+    is_terminal: bool,
 ) -> Result<ExitCode, ShowFault<'a>> {
     match options::parse(rt.alloc(), words) {
-        Ok((name, matches)) => show(rt, options::options_of(name, &matches)?),
+        Ok((name, matches)) => do_task(rt, options::task_of(name, &matches)?, is_terminal),
         Err(error) => match error.print(rt) {
             Ok(()) => Ok(ExitCode::from(error.exit_code() as u8)),
             Err(_) => Err(ShowFault::OutputUnwritten),
@@ -61,58 +68,17 @@ fn run<'a, R: AllocGlobal + Files + Input + Print + Eprint>(
     }
 }
 
-/// Prints what is in the files, and then what is wrong with it.
-fn show<'a, R: AllocGlobal + Files + Input + Print + Eprint>(
+fn do_task<'a, R: AllocGlobal + Clock + Files + Input + Print + Eprint>(
     rt: &R,
-    options: Options<'a>,
+    task: Task<'a>,
+    is_terminal: bool,
 ) -> Result<ExitCode, ShowFault<'a>> {
-    let report = report_of(rt, options)?;
-    print_report(rt, &report, options.format)?;
-    for finding in report.findings.iter() {
-        let _ = eprintln!(rt; "{finding}");
-    }
-    Ok(if report.findings.is_empty() {
-        ExitCode::SUCCESS
-    } else {
-        ExitCode::from(FINDING)
-    })
-}
-
-fn print_report<R: AllocGlobal + Print>(
-    rt: &R,
-    report: &Report,
-    format: Format,
-) -> Result<(), ShowFault<'static>> {
-    let text = match format {
-        Format::Table => report.to_table(rt.alloc())?,
-        Format::Json => report.to_json(rt.alloc())?,
-        Format::Prometheus => report.to_prometheus(rt.alloc())?,
-    };
-    let mut output = io::writer(rt);
-    output
-        .write_all(text.as_bytes())
-        .or(Err(ShowFault::OutputUnwritten))
-}
-
-/// Reads the files, and says what is in them.
-fn report_of<'a, R: AllocGlobal + Files + Input>(
-    rt: &R,
-    options: Options<'a>,
-) -> Result<Report, ShowFault<'a>> {
-    let (alloc, view) = (rt.alloc(), options.view);
-    match options.subject {
-        Subject::Ring(section) => {
-            let words = section_words(rt, section)?;
-            Ok(Report::of_ring(alloc, words.as_slice(), view)?)
+    match task {
+        Task::Show(options) => show_often(rt, options, is_terminal),
+        Task::Find(name) => {
+            let memory = memory_of(rt, name)?;
+            find_rings(rt, &memory)
         }
-        Subject::Board(section) => {
-            let words = section_words(rt, section)?;
-            Ok(Report::of_board(alloc, words.as_slice(), view)?)
-        }
-        Subject::Counters { metadata, values } => {
-            let metadata = section_words(rt, metadata)?;
-            let values = section_words(rt, values)?;
-            Ok(Report::of_counters(alloc, metadata.as_slice(), values.as_slice(), view)?)
-        }
+        Task::Cnc { file, view, format } => show_cnc(rt, file, view, format),
     }
 }

@@ -16,6 +16,21 @@ pub enum Subject<'a> {
     },
 }
 
+/// What a command line asks for.
+#[derive(Clone, Copy)]
+pub enum Task<'a> {
+    /// To show what has a known place.
+    Show(Options<'a>),
+    /// To look for rings in the memory of a process or in a file.
+    Find(&'a str),
+    /// To show a command-and-control file.
+    Cnc {
+        file: &'a str,
+        view: View,
+        format: Format,
+    },
+}
+
 /// What is printed.
 #[derive(Clone, Copy)]
 pub enum Format {
@@ -30,6 +45,10 @@ pub struct Options<'a> {
     pub subject: Subject<'a>,
     pub view: View,
     pub format: Format,
+    /// How many milliseconds pass between two looks, if there is to be more than one.
+    pub every: Option<u64>,
+    /// How many looks there are at most.
+    pub times: u64,
 }
 
 static BODIES: [&str; 3] = ["hex", "text", "none"];
@@ -63,15 +82,23 @@ fn file<'a>(alloc: Global, name: &'a str, text: &'a str) -> Arg<'a> {
         .help(text)
 }
 
-/// A subcommand with the options that all have.
-fn shown<'a>(alloc: Global, name: &'a str, about: &'a str) -> Result<Command<'a>, Error> {
+/// A subcommand with the options on what is printed.
+fn printed<'a>(alloc: Global, name: &'a str, about: &'a str) -> Result<Command<'a>, Error> {
     let command = Command::new(alloc, name)
         .about(about)
-        .arg(option(alloc, "at", "BYTES", help::AT))?
-        .arg(option(alloc, "length", "BYTES", help::LENGTH))?
         .arg(number(alloc, "limit", "N", help::LIMIT))?
         .arg(choice(alloc, "bodies", BODIES.as_slice(), help::BODIES).default_value("hex"))?
         .arg(choice(alloc, "format", FORMATS.as_slice(), help::FORMAT).default_value("table"))?;
+    Ok(command)
+}
+
+/// A subcommand with the options that all have which show a known place.
+fn shown<'a>(alloc: Global, name: &'a str, about: &'a str) -> Result<Command<'a>, Error> {
+    let command = printed(alloc, name, about)?
+        .arg(option(alloc, "at", "BYTES", help::AT))?
+        .arg(option(alloc, "length", "BYTES", help::LENGTH))?
+        .arg(number(alloc, "every", "MS", help::EVERY))?
+        .arg(number(alloc, "times", "N", help::TIMES))?;
     Ok(command)
 }
 
@@ -94,6 +121,20 @@ fn counted<'a>(alloc: Global) -> Result<Command<'a>, Error> {
     Ok(command)
 }
 
+/// The subcommand that looks for rings.
+fn found<'a>(alloc: Global) -> Result<Command<'a>, Error> {
+    let command = Command::new(alloc, "find")
+        .about(help::FIND)
+        .arg(file(alloc, "MEMORY", help::MEMORY))?;
+    Ok(command)
+}
+
+/// The subcommand that shows a command-and-control file.
+fn filed<'a>(alloc: Global) -> Result<Command<'a>, Error> {
+    let command = printed(alloc, "cnc", help::CNC)?.arg(file(alloc, "FILE", help::CNC_FILE))?;
+    Ok(command)
+}
+
 fn command<'a>(alloc: Global) -> Result<Command<'a>, Error> {
     let command = Command::new(alloc, "ring-show")
         .bin_name("ring-show")?
@@ -102,7 +143,9 @@ fn command<'a>(alloc: Global) -> Result<Command<'a>, Error> {
         .subcommand_required(true)
         .subcommand(listed(alloc, "ring", help::RING)?)?
         .subcommand(listed(alloc, "board", help::BOARD)?)?
-        .subcommand(counted(alloc)?)?;
+        .subcommand(counted(alloc)?)?
+        .subcommand(found(alloc)?)?
+        .subcommand(filed(alloc)?)?;
     Ok(command)
 }
 
@@ -163,23 +206,50 @@ fn subject_of<'a>(name: &str, matches: &ArgMatches<'a>) -> Result<Subject<'a>, S
     })
 }
 
-/// What a subcommand's arguments ask for. `NotBytes` if an offset or a length is no number.
-pub fn options_of<'a>(name: &str, matches: &ArgMatches<'a>) -> Result<Options<'a>, ShowFault<'a>> {
+/// How it is to be shown.
+fn view_of(matches: &ArgMatches<'_>) -> View {
+    View {
+        from: matches.get_one("from"),
+        bodies: match matches.get_str("bodies") {
+            Some("text") => Bodies::Text,
+            Some("none") => Bodies::None,
+            _ => Bodies::Hex,
+        },
+        limit: matches.get_one("limit"),
+    }
+}
+
+fn format_of(matches: &ArgMatches<'_>) -> Format {
+    match matches.get_str("format") {
+        Some("json") => Format::Json,
+        Some("prometheus") => Format::Prometheus,
+        _ => Format::Table,
+    }
+}
+
+/// What the arguments of a subcommand that shows a known place ask for. `NotBytes` if an offset or a length is no
+/// number.
+fn options_of<'a>(name: &str, matches: &ArgMatches<'a>) -> Result<Options<'a>, ShowFault<'a>> {
+    let every: Option<u64> = matches.get_one("every");
+    let looks = if every.is_some() { u64::MAX } else { 1 };
     Ok(Options {
         subject: subject_of(name, matches)?,
-        view: View {
-            from: matches.get_one("from"),
-            bodies: match matches.get_str("bodies") {
-                Some("text") => Bodies::Text,
-                Some("none") => Bodies::None,
-                _ => Bodies::Hex,
-            },
-            limit: matches.get_one("limit"),
-        },
-        format: match matches.get_str("format") {
-            Some("json") => Format::Json,
-            Some("prometheus") => Format::Prometheus,
-            _ => Format::Table,
-        },
+        view: view_of(matches),
+        format: format_of(matches),
+        every,
+        times: matches.get_one("times").unwrap_or(looks),
     })
+}
+
+/// What a subcommand's arguments ask for. `NotBytes` if an offset or a length is no number.
+pub fn task_of<'a>(name: &str, matches: &ArgMatches<'a>) -> Result<Task<'a>, ShowFault<'a>> {
+    match name {
+        "find" => Ok(Task::Find(matches.get_str("MEMORY").unwrap_or(""))),
+        "cnc" => Ok(Task::Cnc {
+            file: matches.get_str("FILE").unwrap_or(""),
+            view: view_of(matches),
+            format: format_of(matches),
+        }),
+        _ => Ok(Task::Show(options_of(name, matches)?)),
+    }
 }

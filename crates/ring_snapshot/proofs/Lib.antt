@@ -1,4 +1,5 @@
 pub mod EntryLemmas
+pub mod SearchLemmas
 pub mod StepLemmas
 pub mod ListingLemmas
 pub mod CounterLemmas

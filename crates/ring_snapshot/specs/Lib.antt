@@ -4,3 +4,4 @@ pub mod CounterWords
 pub mod CounterRecords
 pub mod BoardRecords
 pub mod WordLists
+pub mod Search

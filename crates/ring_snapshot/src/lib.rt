@@ -28,6 +28,7 @@ pub use counter::{Counter, CounterState};
 pub use counters::{Counters, CountersSnapshot};
 pub use counters_finding::CountersFinding;
 pub use record::{Record, RecordState};
+pub use ring::search::next_ring;
 pub use ring::{Records, RingSnapshot};
 pub use ring_finding::RingFinding;
 pub use write::{CounterMetadata, CounterValueWords, Words, write_words};

@@ -3,6 +3,8 @@ ghost use Rattle.std.specs.Prelude.{◌≡◌, ◌+◌, ◌%◌, ◌≤◌, leng
 ghost use Rattle.ring_layout.specs.Places.{IsCapacity};
 ghost use Rattle.ring_layout.specs.Layout.{ring_words};
 
+pub(crate) mod search;
+
 use crate::body::Body;
 use crate::listing::lies_inside;
 use crate::record::{Record, RecordState};

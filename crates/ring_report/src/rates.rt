@@ -1,0 +1,114 @@
+//! How fast a ring, a broadcast buffer or counters change between two reports.
+use crate::report::{Cell, Report};
+use std::alloc::{AllocError, Global};
+use std::fmt::Write;
+
+/// The change of a number in a second, if it changed so much in some milliseconds. A number that fell does not count.
+fn per_second(before: Option<u64>, after: Option<u64>, millis: u64) -> u64 {
+    let (before, after) = (before.unwrap_or(0), after.unwrap_or(0));
+    after.saturating_sub(before).saturating_mul(1000) / millis.max(1)
+}
+
+/// The id and the value of a counter.
+fn value_of(row: &[Cell]) -> Option<(u64, i64)> {
+    match row {
+        [Cell::Unsigned(id), _, _, Cell::Signed(value), ..] => Some((*id, *value)),
+        _ => None,
+    }
+}
+
+/// The value that a counter had.
+fn value_in(report: &Report, wanted: u64) -> Option<i64> {
+    for row in report.rows.iter() {
+        if let Some((id, value)) = value_of(row.as_slice()) {
+            if id == wanted {
+                return Some(value);
+            }
+        }
+    }
+    None
+}
+
+/// Adds the change of each counter that is listed in both reports and changed.
+fn push_changes(
+    text: &mut String,
+    before: &Report,
+    after: &Report,
+    millis: u64,
+) -> Result<(), AllocError> {
+    for row in after.rows.iter() {
+        let Some((id, value)) = value_of(row.as_slice()) else {
+            continue;
+        };
+        let Some(earlier) = value_in(before, id) else {
+            continue;
+        };
+        let change = value.saturating_sub(earlier).saturating_mul(1000);
+        if change != 0 {
+            let millis = i64::try_from(millis.max(1)).unwrap_or(i64::MAX);
+            write!(text, "  id {id} {}", change / millis)?;
+        }
+    }
+    Ok(())
+}
+
+/// Adds how fast a number of the whole grew.
+fn push_rate(
+    text: &mut String,
+    what: &str,
+    before: Option<u64>,
+    after: Option<u64>,
+    millis: u64,
+) -> Result<(), AllocError> {
+    let rate = per_second(before, after, millis);
+    write!(text, "  {what} {rate}")
+}
+
+/// Adds how fast a ring was written and read.
+fn push_ring(
+    text: &mut String,
+    before: &Report,
+    after: &Report,
+    millis: u64,
+) -> Result<(), AllocError> {
+    push_rate(
+        text,
+        "bytes written",
+        before.number("tail"),
+        after.number("tail"),
+        millis,
+    )?;
+    push_rate(
+        text,
+        "bytes read",
+        before.number("head"),
+        after.number("head"),
+        millis,
+    )?;
+    let (drawn, now) = (before.number("correlation"), after.number("correlation"));
+    push_rate(text, "correlation ids", drawn, now, millis)
+}
+
+impl Report {
+    /// How fast it changed since an earlier report of the same memory, some milliseconds before, in one line: the bytes
+    /// that were written and read in a second and the correlation ids that were drawn, the bytes that were transmitted,
+    /// or the change of each counter.
+    pub fn rates_since(
+        &self,
+        alloc: Global,
+        before: &Report,
+        millis: u64,
+    ) -> Result<String, AllocError> {
+        let mut text = String::from_str(alloc, "per second")?;
+        match self.kind {
+            "ring" => push_ring(&mut text, before, self, millis)?,
+            "board" => {
+                let (then, now) = (before.number("tail"), self.number("tail"));
+                push_rate(&mut text, "bytes transmitted", then, now, millis)?;
+            }
+            _ => push_changes(&mut text, before, self, millis)?,
+        }
+        text.push('\n')?;
+        Ok(text)
+    }
+}
