@@ -53,7 +53,7 @@ fn all_commands(plan: &StormPlan) -> u64 {
     u64::from(plan.clients).wrapping_mul(u64::from(plan.commands))
 }
 
-/// `WRONG_MESSAGE` unless each command came and was answered, and each counter has its client's last value.
+/// `WRONG_MESSAGE` unless each command came and had its reply, and each counter has its client's last value.
 fn check(plan: &StormPlan, report: &StormReport) -> Result<(), Fault> {
     let all = all_commands(plan);
     // The first command of a client sets nothing.
@@ -75,7 +75,7 @@ fn check(plan: &StormPlan, report: &StormReport) -> Result<(), Fault> {
 }
 
 impl<R: Clock> Timed<'_, R> {
-    /// The sample of a storm that took so many nanoseconds from its call to its return.
+    /// The sample of a storm that took this many nanoseconds from its call to its return.
     fn sample(&self, whole: u64) -> Result<Sample, Fault> {
         let began = self.began.load(Ordering::SeqCst);
         let ended = self.ended.load(Ordering::SeqCst);
@@ -90,10 +90,10 @@ impl<R: Clock> Timed<'_, R> {
     }
 }
 
-/// Runs a storm in which each client sends so many commands. Its time runs from the start of the first thread until the
-/// last reply has come, as that of the twins nearly does; the time of the whole call, in which all is made, joined and
-/// taken apart, is its detail. `NO_STORM` if its numbers are not allowed, memory or a thread is missing, or nothing came
-/// for a long time; `WRONG_MESSAGE` if commands or replies are lost; `NO_SYSTEM` if the clock cannot be read.
+/// Runs a storm in which each client sends this many commands. Its time runs from the start of the first thread until
+/// the last reply has come, as that of the twins nearly does; the time of the whole call, in which all is made, joined
+/// and taken apart, is its detail. `NO_STORM` if its numbers are not allowed, memory or a thread is missing, or nothing
+/// came for a long time; `WRONG_MESSAGE` if commands or replies are lost; `NO_SYSTEM` if the clock cannot be read.
 pub fn run_storm<R: Clock + Threads + Sync + Wait>(
     rt: &R,
     alloc: Global,

@@ -141,7 +141,7 @@ impl<K: Kind> Service<K> {
     }
 }
 
-/// Works until it is told to stop.
+/// Works until it is stopped.
 fn conduct<K>(
     ring: &Ring<K>,
     board: &Board,
@@ -175,7 +175,7 @@ fn part_of(sorted: &[u32], parts: usize) -> u32 {
     }
 }
 
-/// The sample of round trips that took so many nanoseconds.
+/// The sample of round trips that took this many nanoseconds.
 fn sample_of(nanos: u64, mut trips: Vec<u32>) -> Result<Sample, Fault> {
     trips.sort()?;
     let sorted = trips.as_slice();
@@ -192,7 +192,7 @@ fn sample_of(nanos: u64, mut trips: Vec<u32>) -> Result<Sample, Fault> {
     })
 }
 
-/// Sends all commands, and then tells the conductor to stop.
+/// Sends all commands, and then says the conductor to stop.
 fn call_all<R: Clock, K: Kind>(
     rt: &R,
     mut caller: Caller<'_, K, R>,
@@ -206,7 +206,7 @@ fn call_all<R: Clock, K: Kind>(
     sample_of(nanos?, caller.trips)
 }
 
-/// `WRONG_MESSAGE` unless the counter 0 has the last one of so many values.
+/// `WRONG_MESSAGE` unless the counter 0 has the last one of this many values.
 fn check_last(conductor: &Conductor, times: u64) -> Result<(), Fault> {
     match conductor.counters().value(0) {
         Ok(value) if value == times.wrapping_sub(1).cast_signed() => Ok(()),
@@ -266,8 +266,9 @@ fn run_kind<R: Clock + Threads + Sync, K: Kind + Sync>(
     run_service(rt, service, trips, times)
 }
 
-/// Sends so many commands, one after another, and waits for each reply. `NO_CONTENDER` if no such ring takes part,
-/// `NO_BUFFER` if there is none of that capacity; `REFUSED`, `STUCK` and `WRONG_MESSAGE` if commands or replies are lost.
+/// Sends this many commands, one after another, and waits for each reply. `NO_CONTENDER` if no such ring takes part,
+/// `NO_BUFFER` if there is none of that capacity; `REFUSED`, `STUCK` and `WRONG_MESSAGE` if commands or replies are
+/// lost.
 pub fn run_trips<R: Clock + Threads + Sync>(
     rt: &R,
     alloc: Global,

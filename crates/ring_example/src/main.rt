@@ -27,7 +27,7 @@ use std::thread::{Threads, join};
 /// The bytes of the command ring. It takes messages of up to 32 bytes.
 const RING: u32 = 256;
 
-/// The bytes of the board. A reply takes 24, so all 2,002 fit and no client is lapped.
+/// The bytes of the broadcast buffer. A reply takes 24, so all 2,002 fit and no client is lapped.
 const BOARD: u32 = 65_536;
 
 /// Two callers.
@@ -79,7 +79,7 @@ fn seat(
     Ok(Caller::new(label, Client::new(writer, receiver)))
 }
 
-/// Runs the callers on two threads, and then tells the others to stop.
+/// Runs the callers on two threads, and then stops the others.
 fn run_callers<R: Threads + Wait + Sync>(rt: &R, on: &Shared, callers: Callers) -> Callers
     requires { AreCallersOf on.now callers }
     ensures { AreCallersOf on.now result }
@@ -87,7 +87,7 @@ fn run_callers<R: Threads + Wait + Sync>(rt: &R, on: &Shared, callers: Callers) 
     let (one, two) = callers;
     let callers = join(
         rt,
-        // What goes into a thread belongs to ring and board, and so does what comes back.
+        // What goes into a thread belongs to ring and broadcast buffer, and so does what comes back.
         move || -> Caller
             requires { IsCallerOf on.now one }
             ensures { IsCallerOf on.entry.now result }
@@ -101,7 +101,7 @@ fn run_callers<R: Threads + Wait + Sync>(rt: &R, on: &Shared, callers: Callers) 
     callers
 }
 
-/// Runs the conductor and the monitor on two threads, until they are told to stop.
+/// Runs the conductor and the monitor on two threads, until they are stopped.
 fn run_service<R: Threads + Wait + Sync>(
     rt: &R,
     on: &Shared,
@@ -226,7 +226,7 @@ fn print_all<R: AllocGlobal + Print>(
 
 fn main(rt: HostRuntime) -> anyhow::Result<()> {
     // All is made, and every endpoint is split off, before a thread starts: afterwards the conductor belongs to its
-    // thread, and nobody else can subscribe.
+    // thread, and no other thread can subscribe.
     let alloc = rt.alloc();
     let Opened {
         shared,
