@@ -1,6 +1,6 @@
 -- The steps of the tests whether words look like a ring's.
-use Rattle.std.specs.Prelude.{Bool, true, false, ◌&&◌, ◌==◌, Ok, Err}
-use Rattle.std.proofs.Common.{◌≡◌, ◌≢◌, ℕ, zero, suc, ◌+◌, ◌-◌, ◌<◌, ◌≤◌, List, slice_index, refl, ap, sym, ◌∙◌, arith, eq-eqb}
+use Rattle.std.specs.Prelude.{Bool, true, false, ◌&&◌, Ok, Err}
+use Rattle.std.proofs.Common.{◌≡◌, ◌≢◌, ℕ, zero, suc, ◌+◌, ◌<◌, ◌≤◌, List, slice_index, ap, sym, ◌∙◌, arith, eq-eqb}
 use Rattle.std.proofs.lemmas.Bool.{ne_eqb}
 use Rattle.ring_layout.specs.Places.{index}
 use Rattle.ring_snapshot.specs.declared.record.Record.{Record}
