@@ -50,8 +50,8 @@ abbrev pub messages_in : List Record → List Message
 messages_in [] = []
 messages_in (r ∷ rs) = r.message ∷ messages_in rs
 
--- there are moments, one for each message, such that the messages make these of the same number of fresh counters, with
--- this reuse timeout
+-- there are moments, one for each message, such that the messages make these of as many fresh counters, with this reuse
+-- timeout
 pub record IsFoldOf (messages : List Message) (registry : Registry) (writes : List ValueWrite)
     (replies : List Message) : Type 0 where
   pub timed : List (ℕ × Message)

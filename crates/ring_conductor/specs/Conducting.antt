@@ -30,7 +30,7 @@ use Rattle.ring_conductor.specs.Serving.{HaveRoom, IsAtEnd}
 abbrev pub ring_view : Conductor → View
 ring_view c = consumer_view c.consumer
 
--- what it knows of its broadcast buffer
+-- what it knows of its board
 abbrev pub board_view : Conductor → BoardView
 board_view c = view_of c.transmitter
 
@@ -41,7 +41,7 @@ received_of c = (ring_view c).consumer.taken
 abbrev pub ledger_of : Conductor → Ledger
 ledger_of c = record { registry = registry_of c.counters; writes = writes_of c.counters; board = view_of c.transmitter }
 
--- the number of shares of the values that are not with readers
+-- how many shares of the values are not with readers
 abbrev pub value_shares_of : Conductor → ℕ
 value_shares_of c = shares_of c.counters
 
@@ -74,12 +74,12 @@ pub record KeepsSeats (old new : Conductor) : Type 0 where
   pub consumer : consumer_of new ≡ consumer_of old
   pub transmitter : transmitter_of new ≡ transmitter_of old
 
--- only the shares of these values that are out, and what their readers loaded, may be others
+-- only how many shares of these values are out, and what their readers loaded, may be another
 pub record KeepsAllCounters (values : CounterValues) (old new : Conductor) : Type 0 where
   pub counters : KeepsCounters values (manager_in old) (manager_in new)
   pub seats : KeepsSeats old new
 
--- a receiver is joined: the transmitter has its share back, and the receiver is after those joined before
+-- a receiver is joined: the transmitter has its share back, and the receiver stands behind those joined before
 pub record JoinsReceiver (r : CopyReceiver) (old new : Conductor) : Type 0 where
   pub view : board_view new ≡ joined (board_view old) (receiver_view r)
   pub shares : board_shares_of (transmitter_of new) ≡ board_shares_of (transmitter_of old) + 1
@@ -90,7 +90,7 @@ abbrev pub AreUnused : CountersManager → Type 0
 AreUnused counters =
     ((count : ℕ) × (reuse_ms : ℕ) × (registry_of counters ≡ fresh_registry count reuse_ms)) × (writes_of counters ≡ [])
 
--- the stop of a read as one of work
+-- how the stop of a read is told
 abbrev pub work_stop : Stop → WorkStop
 work_stop Limit = work.Limit
 work_stop Block = work.Block
@@ -103,7 +103,7 @@ pub record IsReadOut (limit : ℕ) (v w : View) (done : Work) : Type 0 where
   pub moved : v.consumer.head + bytes ≡ w.consumer.head
   pub stopped : done.stopped ≡ work_stop (stop_of w.capacity limit done.messages w.consumer.head bytes)
 
--- a command was left, since the broadcast buffer has no room for its reply
+-- a command was left, since the board has no room for its reply
 pub record IsCutOff (limit : ℕ) (v w : View) (board : BoardView) (done : Work) : Type 0 where
   pub stopped : done.stopped ≡ work.BoardEnd
   pub command : Message
@@ -113,7 +113,7 @@ pub record IsCutOff (limit : ℕ) (v w : View) (board : BoardView) (done : Work)
   pub full : IsAtEnd board
 
 -- messages were taken at a moment, and counters, value writes and replies are their fold: v and l are what the
--- conductor knew of the ring, and its ledger, w and k the same afterwards. Each was taken when a reply of 12 bytes had
+-- conductor knew of the ring, and its ledger, w and k the same afterwards. Each was taken where a reply of 12 bytes had
 -- room
 pub record Works (now limit : ℕ) (v w : View) (l k : Ledger) (done : Work) : Type 0 where
   pub messages : List PlacedMessage

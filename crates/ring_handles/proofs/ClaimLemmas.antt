@@ -106,7 +106,7 @@ module _ (R : ClaimAt → Type 0) (number : ℕ) where
       (λ off. subst (All R) (sym (numbered_by false number u us off).1)
       (All-cons R u (without number us) (All-head R u us all) (all_without us (All-tail R u us all))))
 
--- the claims of two lists that are at different places
+-- the claims of two lists that lie at different places
 apart_both : (P Q : ClaimAt → Type 0) (ts us : List ClaimAt) → All P ts → All Q us
     → ((t u : ClaimAt) → P t → Q u → t.place ≢ u.place) → AreApart ts → AreApart us → AreApart (ts ++ us)
 apart_both P Q [] us all others off ts_apart us_apart = us_apart

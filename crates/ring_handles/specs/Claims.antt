@@ -21,7 +21,7 @@ abbrev pub without : ℕ → List ClaimAt → List ClaimAt
 without number [] = []
 without number (t ∷ ts) = if t.place == number then ts else t ∷ without number ts
 
--- the claim of this number is at this index
+-- the claim of this number stands at this index
 pub record HasIndex (number : ℕ) (claims : List ClaimAt) (index : ℕ) : Type 0 where
   pub inside : index < length claims
   pub claim : (d : ClaimAt) → claim_numbered number claims ≡ Some (slice_index_or claims index d)
@@ -39,12 +39,12 @@ pub record Takes (number : ℕ) (t : ClaimAt) (old new : List ClaimAt) : Type 0 
 
 -- Claims that are open -----------------------------------------------------------
 
--- they are at different places
+-- they lie at different places
 abbrev pub AreApart : List ClaimAt → Type 0
 AreApart [] = Unit {0}
 AreApart (t ∷ ts) = All (λ u. t.place ≢ u.place) ts × AreApart ts
 
--- each is an open one of the producer's, and they are at different places
+-- each is an open one of the producer's, and they lie at different places
 pub record AreOpen {K : Type 0} (ring : WordRing K) (p : WordProducer) (claims : List ClaimAt) : Type 0 where
   pub each : All (IsOpenClaimOf ring p) claims
   pub apart : AreApart claims

@@ -32,7 +32,7 @@ abbrev pub capacity_in : AnyRing → ℕ
 capacity_in (Many ring) = capacity_of (arc_value ring)
 capacity_in (One ring) = capacity_of (arc_value ring)
 
--- a producer of it, which holds all shares if it is the only one
+-- a producer of it, which holds all shares where it is the only one
 abbrev pub IsProducerIn : AnyRing → WordProducer → Type 0
 IsProducerIn (Many ring) p = IsProducerOf (arc_value ring) p
 IsProducerIn (One ring) p = IsProducerOf (arc_value ring) p × (shares_of p ≡ all_shares)
@@ -98,7 +98,7 @@ pub record IsSide (ring : AnyRing) (producer : WordProducer) (claims : List Clai
 abbrev pub knowing : View → Side → Side
 knowing v s = record s { view = v }
 
--- if their numbers are the same, both are producers of one ring
+-- where their numbers are the same, both are producers of one ring
 abbrev pub AreOfOneRing : Side → Side → Type 0
 AreOfOneRing p other = p.identity ≡ other.identity → (p.table ≡ other.table) × (p.capacity ≡ other.capacity)
 
@@ -120,13 +120,13 @@ pub record Reading : Type 0 where
   pub capacity : ℕ
   -- what the consumer knows
   pub view : View
-  -- what the ring's producer knows, if it was taken in and nothing is written any more
+  -- what the ring's producer knows, where it was taken in and nothing is written any more
   pub last : Option View
 
 -- the consumer that knows this
 abbrev pub having_read : View → Reading → Reading
 having_read v r = record r { view = v }
 
--- if their numbers are the same, the producer is of the consumer's ring
+-- where their numbers are the same, the producer is of the consumer's ring
 abbrev pub IsOfThisRing : Reading → Side → Type 0
 IsOfThisRing r p = r.identity ≡ p.identity → (r.table ≡ p.table) × (r.capacity ≡ p.capacity)

@@ -29,7 +29,7 @@ use Rattle.ring_rings.proofs.CountLemmas.{open_count-more, open_few, stored_more
 use Rattle.ring_rings.proofs.NewestLemmas.{has_last, rising_few}
 use Rattle.ring_rings.proofs.RisingLemmas.{rising_more}
 
--- a claim stays if others come after it
+-- a claim stays where others come behind it
 has_more : (v w : View) (c : StagedClaim) (place : ℕ) (P : StagedClaim → Type 0)
     → w.producer.claims ≡ v.producer.claims ++ c ∷ [] → HasClaimAt v place P → HasClaimAt w place P
 has_more v w c place P more h = record {
@@ -40,7 +40,7 @@ has_more v w c place P more h = record {
   holds = h.holds;
 }
 
--- an open claim is still one, if it is as before
+-- an open claim is still one, where it stands as before
 pub still_open : {K B S : Type 0} {G : Ghosts B S} {ring : Ring K B} {p q : Producer B S G} {t : ClaimAt} → IsOpenClaimOf ring p t
     → HasClaimAt (G.knows q.seat) t.place (IsStagedOpen t.type_id t.len) → IsOpenClaimOf ring q t
 still_open h claim = record { index = h.index; message = h.message; limit = h.limit; claim = claim }
@@ -65,7 +65,7 @@ module _ {C tail : ℕ} {type_id : ℤ} {len : ℕ} {front : List (ℕ × ℕ)} 
       (sym made.admitted.place) (IsStagedOpen type_id len)
       (record { stage = refl; type_is = refl; len_is = length-replicate len 0 })
 
-  -- what the producer keeps if one more claim comes after its own, and this many are open then
+  -- what the producer keeps where one more claim comes behind its own, and so many are open then
   matches_more : {shares open_claims own_tail : ℕ} (u : View) (c : StagedClaim) (open_then : ℕ)
       → u.producer.shares ≡ v.producer.shares → u.producer.claims ≡ v.producer.claims ++ c ∷ []
       → u.producer.seen_tail ≡ a.end → tail ≤ c.place → IsStored c.stage
@@ -106,7 +106,7 @@ module _ {C tail : ℕ} {type_id : ℤ} {len : ℕ} {front : List (ℕ × ℕ)} 
         (ap (λ (u : View). u.producer.seen_tail) made.view ∙ sym made.admitted.end) (next_le C tail (span len)) tt refl
         known
 
-  -- after all claims that the producer had
+  -- behind all claims that the producer had
   pub made_apart : (place : ℕ) (P : StagedClaim → Type 0) → HasClaimAt v place P → place ≢ a.place
   made_apart place P h same =
       let ends = made.behind h.nth h.claim h.there in
@@ -166,7 +166,7 @@ module _ {C tail : ℕ} {type_id : ℤ} {len : ℕ} {front : List (ℕ × ℕ)} 
             ∙ ap staged_span (sym is.is);
       })
 
-  -- once its header and its body are stored, it is the record after the tail
+  -- once its header and its body are stored, it is the record behind the tail
   pub moved_recorded : (body : List ℕ) → length body ≡ len → (u : View)
       → u ≡ with_claims (v.producer.claims ++ recorded type_id body m.claim ∷ []) w
       → u ≡ with_claims (v.producer.claims ++ record_behind C tail type_id body ∷ []) w

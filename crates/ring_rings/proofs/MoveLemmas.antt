@@ -13,7 +13,7 @@ use Rattle.ring_rings.specs.Claiming.{looked, tail_refusal_of, SeesRoom}
 use Rattle.ring_rings.specs.Making.{FindsRoom, GoesBehind, Moves}
 use Rattle.ring_rings.proofs.NewestLemmas.{same_span}
 
--- room was found, and then the tail was moved past the claim
+-- room was found, and then the tail was moved behind the claim
 pub moves_alone : (C tail : ℕ) (type_id : ℤ) (len : ℕ) (a : Admission) (v u w : View)
     → tail_refusal_of C tail type_id len ≡ None → GoesBehind C tail type_id len a → a.end % 8 ≡ 0
     → v.producer.seen_tail ≡ tail → FindsRoom C a.tail a.end v u → MovesOwnTail C a.end u w

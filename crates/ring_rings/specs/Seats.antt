@@ -1,4 +1,4 @@
--- What clauses say of rings, producers and consumers.
+-- What clauses say of rings and of those who work on them.
 use Rattle.std.specs.Prelude.{◌≡◌, ◌≢◌, ℕ, ◌+◌, ◌%◌, ◌≤◌, List}
 use Rattle.ring_layout.specs.History.{IsMessage}
 use Rattle.ring_layout.specs.Places.{max_position}
@@ -43,7 +43,7 @@ claims_of {B} {S} {G} p = (G.knows p.seat).producer.claims
 abbrev pub shares_of : {B S : Type 0} {G : Ghosts B S} → Producer B S G → ℕ
 shares_of {B} {S} {G} p = (G.knows p.seat).producer.shares
 
--- the number of its claims that are open
+-- how many of its claims are open
 abbrev pub open_claims_of : {B S : Type 0} {G : Ghosts B S} → Producer B S G → ℕ
 open_claims_of {B} {S} {G} p = open_count (G.knows p.seat).producer.claims
 
@@ -54,7 +54,7 @@ seen_tail_of {B} {S} {G} p = (G.knows p.seat).producer.seen_tail
 abbrev pub IsProducerOf : {K B S : Type 0} {G : Ghosts B S} → Ring K B → Producer B S G → Type 0
 IsProducerOf {K} {B} {S} {G} ring p = HasSeat G ring p.seat
 
--- if the ring is for one producer, this one holds all shares
+-- where the ring is for one producer, this one holds all shares
 abbrev pub MayClaim : {B S : Type 0} {G : Ghosts B S} → Type 0 → Producer B S G → Type 0
 MayClaim is_for_one p = is_for_one → shares_of p ≡ all_shares
 
@@ -101,16 +101,16 @@ pub record OpensNone {K B S : Type 0} {G : Ghosts B S} (ring : Ring K B) (old ne
   pub holdings : KeepsHoldings ring old new
   pub open_claims : open_claims_of new ≡ open_claims_of old
 
--- claims are at different places, and what was open stays open, but at this place
+-- claims lie at different places, and what was open stays open, but at this place
 pub record KeepsOthers {K B S : Type 0} {G : Ghosts B S} (ring : Ring K B) (place : ℕ) (old new : Producer B S G) : Type 0 where
   pub rising : AreRising (claims_of old)
   pub claims : (t : ClaimAt) → IsOpenClaimOf ring old t → t.place ≢ place → IsOpenClaimOf ring new t
 
--- a claim is at a place without an open one of the producer
+-- a claim lies where no open one of the producer lies
 abbrev pub LiesApart : {K B S : Type 0} {G : Ghosts B S} → Ring K B → Producer B S G → ClaimAt → Type 0
 LiesApart ring p new = (t : ClaimAt) → IsOpenClaimOf ring p t → t.place ≢ new.place
 
--- a claim that was opened is apart from those that were open before
+-- a claim that was opened lies apart from those that were open before
 pub record IsNewClaimOf {K B S : Type 0} {G : Ghosts B S} (ring : Ring K B) (old new : Producer B S G) (t : ClaimAt) : Type 0 where
   pub is_open : IsOpenClaimOf ring new t
   pub apart : LiesApart ring old t

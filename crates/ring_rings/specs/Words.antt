@@ -1,4 +1,4 @@
--- Rings whose bodies are in words, for definitions that speak of these alone.
+-- Rings whose bodies lie in words, for definitions that speak of these alone.
 use Rattle.std.specs.declared.alloc.Global.{Global}
 use Rattle.atomic_table.specs.declared.owned.Table.{Table}
 use Rattle.atomic_table.specs.declared.shared.Seat.{Seat}

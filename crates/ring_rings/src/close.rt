@@ -31,9 +31,9 @@ fn test_close<B: Steps>(producer: &Producer<B>) -> Result<(), CloseFault>
 }
 
 impl<K, B: Steps> Ring<K, B> {
-    /// Takes the ring apart and returns what is in it as a ring of one owner: what was committed and not read, and the
-    /// trailer's words. Returns, in this order: `ClaimsOpen` if claims of this producer are open; `ProducersOut` if
-    /// shares are with other producers. After an error everything comes back unchanged.
+    /// Takes the ring apart and hands out what lies in it as a ring of one owner: what was committed and not read, and
+    /// the trailer's words. It refuses with `ClaimsOpen` where claims of this producer are open, and then with
+    /// `ProducersOut` where shares are with other producers; all comes back then.
     pub fn close(
         self,
         producer: Producer<B>,

@@ -12,7 +12,7 @@ use crate::steps::Steps;
 
 /// A kind of ring: `OneToOne` or `ManyToOne`. What its calls do, `claims`, `writes` and `refuses` say for each kind.
 pub trait Kind: Sized {
-    /// Its rings have one producer, which holds all shares when it claims.
+    /// Its rings have one producer, who holds all shares when it claims.
     ghost is_for_one: { Type 0 };
 
     /// What a claim does to a producer's view.

@@ -4,7 +4,7 @@
 //! - `producer`: `one_to_one` and `many_to_one` have the calls, `wait` those that try again. A claim is made of
 //!   `admission`, `room`, `claim` (one try), `headers`, `body` and `settle`. `service`: ids, heartbeats and positions.
 //! - `consumer`: `read` has the calls, `turn` one turn of a read, made of `find`, `load` and `pass`. `heartbeat`.
-//! - `steps`: the steps of a ring as a trait, so that bodies may be in words (`words`) or elsewhere.
+//! - `steps`: the steps of a ring as a trait, so that bodies may lie in words (`words`) or elsewhere.
 //! - `kind`: how the kinds claim, one as the other.
 //! - `claim`, `fault`: an open claim, and why calls refuse.
 #![tactic(auto)]

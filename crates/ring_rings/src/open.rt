@@ -41,7 +41,7 @@ impl<K, B: Steps> Ring<K, B> {
         Self::make(alloc, capacity, start).map_err(|_| MakeFault::OutOfMemory)
     }
 
-    /// Makes a ring of a valid capacity at a valid start.
+    /// Makes a ring of a lawful capacity at a lawful start.
     fn make(
         alloc: Global,
         capacity: u32,

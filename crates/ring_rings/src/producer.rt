@@ -16,14 +16,14 @@ use crate::ring::Producer;
 use crate::steps::Steps;
 
 impl<B: Steps> Producer<B> {
-    /// Returns the number of shares of the ring that it holds.
+    /// How many shares of the ring it holds.
     pub fn shares(&self) -> u32
         ensures { result ≡ shares_of self.now }
     {
         self.shares
     }
 
-    /// Returns the number of its claims that are open.
+    /// How many of its claims are open.
     pub fn open_claims(&self) -> u64
         ensures { result ≡ open_claims_of self.now }
     {

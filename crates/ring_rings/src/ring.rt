@@ -1,4 +1,4 @@
-//! A ring, its producers and its consumer.
+//! A ring, and those who work on it.
 ghost use Rattle.std.specs.Prelude.{◌≡◌, ℕ, ◌%◌, ◌/◌, ◌^◌, ◌<◌, ◌≤◌, vec_len, true, false};
 ghost use Rattle.ring_layout.specs.Places.{IsCapacity, max_position};
 ghost use Rattle.ring_layout.specs.Layout.{ring_words};
@@ -16,7 +16,7 @@ pub struct OneToOne;
 pub struct ManyToOne;
 
 /// A ring of messages between threads, shared by reference. It has one consumer, and producers as its kind says. `B` is
-/// its table, which says what the bodies of messages are in: atomic words in a `RingTable`.
+/// its table, which says what the bodies of messages lie in: atomic words in a `RingTable`.
 #[derive(Drop)]
 pub struct Ring<K, B = RingTable> {
     pub(crate) table: B,
@@ -36,23 +36,23 @@ pub type OneToOneRing = Ring<OneToOne>;
 /// A ring with any number of producers, which move the tail by a compare-exchange.
 pub type ManyToOneRing = Ring<ManyToOne>;
 
-/// Writes into a ring. It is used by one thread at a time, and may move between threads.
+/// One who writes into a ring. It is used by one thread at a time, and may move between threads.
 ///
 /// The first producer holds 65,536 shares, and `ManyToOneRing::split` moves one of them to a new producer; `close`
-/// needs all of them back. So a dropped producer keeps its ring from ever being closed.
+/// wants all of them back. So a producer that is let go keeps its ring from closing for good.
 #[derive(Drop)]
 pub struct Producer<B: Steps = RingTable> {
     pub(crate) seat: B::Seat,
     pub(crate) shares: u32,
     pub(crate) open_claims: u64,
-    // The ring's tail, if it holds all shares.
+    // The ring's tail, where it holds all shares.
     pub(crate) own_tail: u64,
     ghost known: { Matches (B.knows seat) shares open_claims own_tail } by { matches_prop _ _ _ _ _ _ },
     ghost produces: { (B.knows seat).consumes ≡ false },
 }
 
-/// Reads a ring. It is used by one thread at a time, and may move between threads. If it is dropped, the ring fills up
-/// and can never be closed.
+/// The one who reads a ring. It is used by one thread at a time, and may move between threads. Where it is let go, the
+/// ring fills up and can never be closed.
 #[derive(Drop)]
 pub struct Consumer<B: Steps = RingTable> {
     pub(crate) seat: B::Seat,

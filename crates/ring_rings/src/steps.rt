@@ -87,7 +87,7 @@ pub trait Steps: Sized {
         ensures view { knows seat.new ≡ with_consumer_of (knows seat.old) (knows consumer) };
 
     /// Joins another producer into this one: its claims are put among this one's by rising place, its shares are added,
-    /// and its draws and heartbeats are beside this one's.
+    /// and its draws and heartbeats stand beside this one's.
     fn join_producer(&self, seat: &mut Self::Seat, capacity: u32, other: Self::Seat)
         requires seat { IsSeat (belongs self.now capacity seat.old) capacity (knows seat.old) }
         requires other { IsSeat (belongs self.now capacity other) capacity (knows other) }
@@ -142,7 +142,7 @@ pub trait Steps: Sized {
         ensures seat { IsSeat (belongs self.now capacity seat.new) capacity (knows seat.new) }
         ensures view { knows seat.new ≡ with_beat value (knows seat.old) };
 
-    /// Moves the tail from `old` to `new` if it is still `old`, which makes a claim of `wanted`. Returns the tail
+    /// Moves the tail from `old` to `new` where it is still `old`, which makes a claim of `wanted`. Returns the tail
     /// found.
     fn move_tail(
         &self,
@@ -167,7 +167,7 @@ pub trait Steps: Sized {
         ensures seat { IsSeat (belongs self.now capacity seat.new) capacity (knows seat.new) }
         ensures told { MovesOwnTail capacity new (knows seat.old) (knows seat.new) };
 
-    /// Stores the header of the padding that is from `from` up to the claim's place, both in bytes.
+    /// Stores the header of the padding that lies from `from` up to the claim's place, both in bytes.
     fn store_padding_header(&self, seat: &mut Self::Seat, capacity: u32, from: u64, place: u64)
         requires seat { IsSeat (belongs self.now capacity seat.old) capacity (knows seat.old) }
         requires near { place ≤ from + capacity }
@@ -286,7 +286,7 @@ pub trait Steps: Sized {
         ensures seat { IsSeat (belongs self.now capacity seat.new) capacity (knows seat.new) }
         ensures view { knows seat.new ≡ with_consumer (cleared_to to (knows seat.old).consumer) (knows seat.old) };
 
-    /// Stores the head after all that the read has passed, which is cleared.
+    /// Stores the head behind all that the read has passed, which is cleared.
     fn store_head(&self, seat: &mut Self::Seat, capacity: u32, head: u64)
         requires seat { IsSeat (belongs self.now capacity seat.old) capacity (knows seat.old) }
         requires consumes { (knows seat.old).consumes ≡ true }

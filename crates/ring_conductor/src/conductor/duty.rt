@@ -45,8 +45,7 @@ fn take<K>(ring: &Ring<K>, consumer: &mut Consumer, limit: u32, serving: &mut Se
 }
 
 impl Conductor {
-    /// Makes a conductor of a ring's consumer, a broadcast buffer's transmitter, and counters, none of which was used
-    /// yet.
+    /// Makes a conductor of a ring's consumer, a board's transmitter, and counters, of which none was used yet.
     pub fn new(consumer: Consumer, transmitter: Transmitter, counters: CountersManager) -> Conductor
         requires consumer { taken_of consumer ≡ [] }
         requires transmitter { transmitted transmitter ≡ [] }
@@ -71,12 +70,13 @@ impl Conductor {
     }
 
     /// Takes at most `limit` commands from the ring. Each is applied to the counters at the moment `now`, in
-    /// milliseconds and at most 2^62, and gets exactly one reply, which carries its correlation id. No memory is taken.
+    /// milliseconds and at most 2^62, and gets exactly one reply, which carries its correlation id. No memory is
+    /// taken.
     ///
-    /// It stops as a controlled read of the ring does, or with `BoardEnd` if a reply of 12 bytes would end above 2^62
-    /// on the broadcast buffer. The command then stays in the ring, not applied, even if its own reply would be shorter
-    /// and would fit. `Block` with no message does not say that the ring is empty: the next call goes on past the end
-    /// of the buffer.
+    /// It stops as a controlled read of the ring does, or with `BoardEnd` where a reply of 12 bytes would end above
+    /// 2^62 on the board. The command stays in the ring then, not applied, also where its own reply would be shorter
+    /// and would fit. `Block` with no message does not say that the ring is empty: the next call goes on behind the
+    /// end of the buffer.
     pub fn do_work<K>(
         &mut self,
         ring: &Ring<K>,

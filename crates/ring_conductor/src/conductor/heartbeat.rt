@@ -9,11 +9,12 @@ use crate::conductor::Conductor;
 use ring_rings::Ring;
 
 impl Conductor {
-    /// Stores the ring's heartbeat, by one step. Clients load it with `Ring::heartbeat`, on threads of their own; it is
-    /// 0 until the first is stored.
+    /// Stores the ring's heartbeat, by one step. Clients load it with `Ring::heartbeat`, on threads of their own; it
+    /// is 0 until the first is stored.
     ///
-    /// The value is the user's own, such as a time in milliseconds: nothing here reads it. The thread that has the
-    /// conductor may call it at any time between calls of `do_work`. Everything else is unchanged.
+    /// The value is the user's own, such as a time in milliseconds: nothing here reads it. It may be called at any
+    /// time between calls of `do_work`, by the thread that has the conductor. All else stays: the counters, the
+    /// board, the receivers that were joined, and what was received.
     pub fn set_heartbeat<K>(&mut self, ring: &Ring<K>, value: u64)
         requires consumer { IsConsumerOf ring.now (consumer_of self.old) }
         ensures consumer { IsConsumerOf ring.now (consumer_of self.new) }

@@ -14,8 +14,8 @@ use ring_counters::CounterValues;
 use ring_rings::Ring;
 
 impl Conductor {
-    /// Calls `do_work` for each cycle, up to one that comes to the end of the broadcast buffer. Returns the sum of the
-    /// messages and the last stop; without a cycle 0 and `Limit`.
+    /// Calls `do_work` for each cycle, up to one that comes to the board's end. It gives the sum of the messages and
+    /// the last stop; without a cycle 0 and `Limit`.
     pub fn run<K>(
         &mut self,
         ring: &Ring<K>,

@@ -7,7 +7,7 @@ ghost use Rattle.ring_rings.specs.Steps.{IsSeat};
 
 use crate::steps::Steps;
 
-/// Loads the header at `scan`, to which a read has come.
+/// Loads the header at `scan`, where a read has come to.
 pub(super) fn load_header<B: Steps>(
     table: &B,
     seat: &mut B::Seat,

@@ -9,7 +9,8 @@ use crate::ring::{Consumer, Ring};
 use crate::steps::Steps;
 
 impl<K, B: Steps> Ring<K, B> {
-    /// Clears all that the read has passed, up to `scan`, and stores the head there. Does nothing if the head is there.
+    /// Clears all that the read has passed, up to `scan`, and stores the head there. Where the head stands there, does
+    /// nothing.
     #[inline(always)]
     pub(super) fn move_head(&self, consumer: &mut Consumer<B>, scan: u64)
         requires consumer { IsConsumerOf self.now consumer.old }

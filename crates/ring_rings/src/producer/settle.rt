@@ -44,7 +44,7 @@ fn store_settled_header<B: Steps>(
 }
 
 impl<K, B: Steps> Ring<K, B> {
-    /// Puts bytes into an open claim, from the byte `offset` of its body on. It refuses bytes that are not inside
+    /// Puts bytes into an open claim, from the byte `offset` of its body on. It refuses bytes that do not lie inside
     /// the body, and then nothing is changed.
     pub fn put(
         &self,

@@ -1,4 +1,4 @@
-//! Bytes put into the body of an open claim, a word at a time, where bodies are in words.
+//! Bytes put into the body of an open claim, a word at a time, where bodies lie in words.
 ghost use Rattle.std.specs.Prelude.{◌≡◌, ℕ, ◌+◌, ◌%◌, ◌<◌, ◌≤◌, List, [], ◌∷◌, ◌++◌, length};
 ghost use Rattle.ring_layout.specs.Places.{index, max_position};
 ghost use Rattle.ring_table.specs.declared.claim.StagedClaim.{StagedClaim};

@@ -42,7 +42,7 @@ pub(super) fn clear_up_words(
     ensures seat { IsSameSeat seat.old seat.new }
     ensures view { seat.new.me.0 ≡ with_consumer (cleared_to to seat.old.me.0.consumer) seat.old.me.0 }
 {
-    // A read does not cross the end of the buffer, so the words are side by side.
+    // A read does not cross the end of the buffer, so the words lie side by side.
     let first = word_index(capacity, head);
     let count = (to - head) / 8;
     // Four in a turn, since the compiler keeps a turn for each.

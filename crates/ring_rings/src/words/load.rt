@@ -52,7 +52,7 @@ pub(super) fn load_body_words(
     ensures copies { (m : PlacedMessage) → HasGotLast m seat.old.me.0 → m.place ≡ place → length m.message.body ≡ len
         → CopiesBody capacity m seat.old.me.0 scratch.new seat.new.me.0 }
 {
-    // A record does not cross the end of the buffer, so its words are side by side.
+    // A record does not cross the end of the buffer, so its words lie side by side.
     let first = word_index(capacity, place) + 1;
     let count = len.div_ceil(8);
     // Four in a turn, since the compiler keeps a turn for each.
