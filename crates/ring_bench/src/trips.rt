@@ -1,5 +1,6 @@
 //! Commands to the conductor, and its replies.
 ghost use Rattle.std.specs.Prelude.{◌≡◌, IfOk};
+ghost use Rattle.ring_rings.specs.Seats.{IsConsumerOf};
 ghost use Rattle.ring_board.specs.Seats.{IsReceiverOf};
 ghost use Rattle.ring_conductor.specs.Asking.{producer_of, receiver_of, IsSeatedAt};
 ghost use Rattle.ring_conductor.specs.Conducting.{IsConductorOf};
@@ -100,7 +101,7 @@ struct Service<K> {
 impl<K: Kind> Service<K> {
     /// A ring and a board of this capacity, with a conductor and a client.
     fn open(alloc: Global, capacity: u32) -> Result<Service<K>, Fault>
-        ensures conductor { IfOk result (λ s. IsConductorOf s.ring s.board s.values s.conductor) }
+        ensures conductor { IfOk result (λ s. IsConductorOf IsConsumerOf s.ring s.board s.values s.conductor) }
         ensures client { IfOk result (λ s. IsSeatedAt K.is_for_one s.ring s.board s.client) }
     {
         let (ring, producer, consumer) = Ring::<K>::new(alloc, capacity)?;
@@ -119,10 +120,10 @@ impl<K: Kind> Service<K> {
 
     /// Allocates the counter 0.
     fn allocate(&mut self) -> Result<(), Fault>
-        requires conductor { IsConductorOf self.old.ring self.old.board self.old.values
+        requires conductor { IsConductorOf IsConsumerOf self.old.ring self.old.board self.old.values
             self.old.conductor }
         requires client { IsSeatedAt K.is_for_one self.old.ring self.old.board self.old.client }
-        ensures conductor { IsConductorOf self.new.ring self.new.board self.new.values
+        ensures conductor { IsConductorOf IsConsumerOf self.new.ring self.new.board self.new.values
             self.new.conductor }
         ensures client { IsSeatedAt K.is_for_one self.new.ring self.new.board self.new.client }
     {
@@ -149,7 +150,7 @@ fn conduct<K>(
     mut conductor: Conductor,
     stop: &AtomicBool,
 ) -> Conductor
-    requires { IsConductorOf ring.now board.now values.now conductor }
+    requires { IsConductorOf IsConsumerOf ring.now board.now values.now conductor }
 {
     let mut rest = Rest::new();
     for _ in 0..TRIES {
@@ -221,7 +222,7 @@ fn run_service<R: Clock + Threads + Sync, K: Kind + Sync>(
     trips: Vec<u32>,
     times: u64,
 ) -> Result<Sample, Fault>
-    requires conductor { IsConductorOf service.ring service.board service.values service.conductor }
+    requires conductor { IsConductorOf IsConsumerOf service.ring service.board service.values service.conductor }
     requires client { IsSeatedAt K.is_for_one service.ring service.board service.client }
 {
     let Service {
@@ -248,7 +249,7 @@ fn run_service<R: Clock + Threads + Sync, K: Kind + Sync>(
             requires { IsSeatedAt K.is_for_one caller.ring.now caller.board.now caller.client }
         { call_all(rt, caller, stop, times) },
         move || -> Conductor
-            requires { IsConductorOf ring.now board.now values.now conductor }
+            requires { IsConductorOf IsConsumerOf ring.now board.now values.now conductor }
         { conduct(ring, board, values, conductor, stop) },
     );
     check_last(&conductor, times).and(sample)

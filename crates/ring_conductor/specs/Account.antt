@@ -1,7 +1,7 @@
 -- What all messages together make of fresh counters, over plain lists.
 use Rattle.std.specs.Prelude.{◌≡◌, ℕ, ◌≤◌, ◌^◌, List, [], ◌∷◌, ◌++◌, All}
 use Rattle.ring_layout.specs.declared.message.Message.{Message}
-use Rattle.ring_rings.specs.Words.{WordConsumer}
+use Rattle.ring_rings.specs.declared.ring.Consumer.{Consumer}
 use Rattle.ring_rings.specs.Reading.{messages_of}
 use Rattle.ring_rings.specs.Seats.{taken_of}
 use Rattle.ring_board.specs.declared.shared.view.Record.{Record}
@@ -61,6 +61,6 @@ pub record IsFoldOf (messages : List Message) (registry : Registry) (writes : Li
       ≡ record { registry = registry; writes = writes; replies = replies }
 
 -- what was taken makes of fresh counters these counters, and the transmitted list
-abbrev pub HasFold : WordConsumer → CountersManager → Transmitter → Type 0
+abbrev pub HasFold : Consumer → CountersManager → Transmitter → Type 0
 HasFold consumer counters transmitter = IsFoldOf (messages_of (taken_of consumer)) (registry_of counters)
     (writes_of counters) (messages_in (transmitted transmitter))

@@ -3,9 +3,10 @@ use Rattle.std.specs.Prelude.{◌≡◌, ◌≢◌, ℕ, ◌≤◌, ℤ, List, l
 use Rattle.ring_table.specs.declared.view.Service.{Service}
 use Rattle.ring_table.specs.declared.view.View.{View}
 use Rattle.ring_table.specs.ServiceSteps.{DrawsId}
-use Rattle.ring_rings.specs.Words.{WordProducer, WordRing}
 use Rattle.ring_rings.specs.declared.fault.TryFault.{TryFault}
+use Rattle.ring_rings.specs.declared.ring.Producer.{Producer}
 use Rattle.ring_rings.specs.Claiming.{Refusing, Writing}
+use Rattle.ring_rings.specs.declared.ring.Ring.{Ring}
 use Rattle.ring_rings.specs.Seats.{view_of, IsProducerOf, MayClaim}
 use Rattle.ring_board.specs.declared.board.Board.{Board}
 use Rattle.ring_board.specs.declared.board.CopyReceiver.{CopyReceiver}
@@ -23,20 +24,20 @@ use Rattle.ring_conductor.specs.declared.client.SendFault.TheVariants.{TooLong, 
 use Rattle.ring_protocol.specs.Command.{Instruction, Allocate, Free, Set, AllocateOwned, Close, HasTextLengths, spelling_of, type_id_of}
 use Rattle.ring_protocol.specs.Reply as reply
 
-abbrev pub producer_of : Client → WordProducer
+abbrev pub producer_of : Client → Producer
 producer_of c = c.producer
 
 abbrev pub receiver_of : Client → CopyReceiver
 receiver_of c = c.receiver
 
 -- what a producer drew and read, the numbers that it drew, and the services of those that were joined into it
-abbrev pub service_of : WordProducer → Service
+abbrev pub service_of : Producer → Service
 service_of p = (view_of p).producer.service
 
-abbrev pub draws_of : WordProducer → List ℕ
+abbrev pub draws_of : Producer → List ℕ
 draws_of p = (service_of p).draws
 
-abbrev pub services_of : WordProducer → List Service
+abbrev pub services_of : Producer → List Service
 services_of p = (view_of p).producer.joined
 
 -- what a client's producer knows of the ring
@@ -48,7 +49,7 @@ abbrev pub client_seat : Client → Sat
 client_seat c = receiver_seat c.receiver
 
 -- its producer may claim in this ring, whose kind is for one producer or is not, and its receiver hears this board
-abbrev pub IsSeatedAt : {K : Type 0} → Type 0 → WordRing K → Board → Client → Type 0
+abbrev pub IsSeatedAt : {K : Type 0} → Type 0 → Ring K → Board → Client → Type 0
 IsSeatedAt is_for_one ring board c =
     IsProducerOf ring (producer_of c) × MayClaim is_for_one (producer_of c) × IsReceiverOf board (receiver_of c)
 

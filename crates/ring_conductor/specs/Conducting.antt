@@ -6,9 +6,9 @@ use Rattle.ring_words.specs.Read.{stop_of}
 use Rattle.ring_layout.specs.declared.message.Message.{Message}
 use Rattle.ring_table.specs.declared.claim.PlacedMessage.{PlacedMessage}
 use Rattle.ring_table.specs.declared.view.View.{View}
-use Rattle.ring_rings.specs.Words.{WordConsumer, WordRing}
+use Rattle.ring_rings.specs.declared.ring.Consumer.{Consumer}
 use Rattle.ring_rings.specs.Reading.{messages_of, MovesHead, IsTight, FoundUnsettled, IsNext}
-use Rattle.ring_rings.specs.Seats.{consumer_view, IsConsumerOf}
+use Rattle.ring_rings.specs.Seats.{consumer_view}
 use Rattle.ring_board.specs.declared.board.Board.{Board}
 use Rattle.ring_board.specs.declared.board.CopyReceiver.{CopyReceiver}
 use Rattle.ring_board.specs.declared.board.Transmitter.{Transmitter}
@@ -45,12 +45,13 @@ ledger_of c = record { registry = registry_of c.counters; writes = writes_of c.c
 abbrev pub value_shares_of : Conductor → ℕ
 value_shares_of c = shares_of c.counters
 
--- the conductor reads this ring, transmits on this board and writes these values
-abbrev pub IsConductorOf : {K : Type 0} → WordRing K → Board → CounterValues → Conductor → Type 0
-IsConductorOf ring board values c =
-    IsConsumerOf ring c.consumer × IsTransmitterOf board c.transmitter × IsManagerOf values c.counters
+-- the conductor reads this ring, whose consumer is known by `is_consumer`, transmits on this board and writes these
+-- values
+abbrev pub IsConductorOf : {R : Type 0} → (R → Consumer → Type 0) → R → Board → CounterValues → Conductor → Type 0
+IsConductorOf is_consumer ring board values c =
+    is_consumer ring c.consumer × IsTransmitterOf board c.transmitter × IsManagerOf values c.counters
 
-abbrev pub consumer_of : Conductor → WordConsumer
+abbrev pub consumer_of : Conductor → Consumer
 consumer_of c = c.consumer
 
 abbrev pub transmitter_of : Conductor → Transmitter

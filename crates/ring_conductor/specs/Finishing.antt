@@ -8,10 +8,11 @@ use Rattle.ring_table.specs.declared.claim.PlacedMessage.{PlacedMessage}
 use Rattle.ring_table.specs.declared.claim.StagedClaim.{StagedClaim}
 use Rattle.ring_table.specs.declared.view.Service.{Service}
 use Rattle.ring_table.specs.Passing.{placed_committed_of}
-use Rattle.ring_rings.specs.Words.{WordProducer, WordRing}
+use Rattle.ring_rings.specs.declared.ring.Consumer.{Consumer}
+use Rattle.ring_rings.specs.declared.ring.Producer.{Producer}
 use Rattle.ring_rings.specs.Closing.{AreOrdered, HandsOut, Serves}
 use Rattle.ring_rings.specs.Reading.{messages_of}
-use Rattle.ring_rings.specs.Seats.{claims_of, open_claims_of, shares_of, view_of, IsProducerOf}
+use Rattle.ring_rings.specs.Seats.{claims_of, open_claims_of, shares_of, view_of}
 use Rattle.ring_board.specs.declared.board.Board.{Board}
 use Rattle.ring_board.specs.declared.board.ClosedBoard.{ClosedBoard}
 use Rattle.ring_board.specs.declared.shared.view.Joined.{Joined}
@@ -47,16 +48,16 @@ finish_code (ProducersOut _) = pos 11
 finish_code (ReceiversOut _) = pos 14
 
 -- why this conductor does not finish with this producer
-abbrev pub refusal_to : Conductor → WordProducer → Option FinishFault
+abbrev pub refusal_to : Conductor → Producer → Option FinishFault
 refusal_to c p = finish_refusal_of (open_claims_of p) (shares_of p) (board_shares_of (transmitter_of c))
 
 -- all five come back with the reason
-abbrev pub handed_back : {R : Type 0} → R → Board → CounterValues → Conductor → WordProducer → FinishFault → FinishRefused R
+abbrev pub handed_back : {R : Type 0} → R → Board → CounterValues → Conductor → Producer → FinishFault → FinishRefused R
 handed_back ring board values conductor producer reason =
     record { reason = reason; ring = ring; board = board; values = values; conductor = conductor; producer = producer }
 
 -- all five are as they were
-abbrev pub HasBack : {R : Type 0} → R → Board → CounterValues → Conductor → WordProducer → FinishRefused R → Type 0
+abbrev pub HasBack : {R : Type 0} → R → Board → CounterValues → Conductor → Producer → FinishRefused R → Type 0
 HasBack ring board values conductor producer r =
     (r.ring ≡ ring) × (r.board ≡ board) × (r.values ≡ values) × (r.conductor ≡ conductor) × (r.producer ≡ producer)
 
@@ -104,14 +105,15 @@ HasAllReplies board replies closed =
     × IsClosed (capacity_of board) (start_of board) replies (closed_words closed)
 
 -- Where a conductor does not finish, all five come back as they were, so that the call can be made again
-pub record ComesBack {K : Type 0} (ring : WordRing K) (board : Board) (values : CounterValues) (c : Conductor) (p : WordProducer) (r : FinishRefused (WordRing K)) : Type 0 where
+pub record ComesBack {R : Type 0} (is_consumer : R → Consumer → Type 0) (is_producer : R → Producer → Type 0) (ring : R)
+    (board : Board) (values : CounterValues) (c : Conductor) (p : Producer) (r : FinishRefused R) : Type 0 where
   pub same : HasBack ring board values c p r
-  pub conductor : IsConductorOf r.ring r.board r.values r.conductor
-  pub producer : IsProducerOf r.ring r.producer
+  pub conductor : IsConductorOf is_consumer r.ring r.board r.values r.conductor
+  pub producer : is_producer r.ring r.producer
 
 -- What the headline says of what one run hands out, in the order of its words. C and start are the ring's; the producer
 -- p and the conductor c are those that were given
-pub record Headline (C start : ℕ) (p : WordProducer) (c : Conductor) (f : Finished) : Type 0 where
+pub record Headline (C start : ℕ) (p : Producer) (c : Conductor) (f : Finished) : Type 0 where
   -- The claims, in tail-exchange order: one behind the other from the ring's start on, so that none occurs twice.
   pub ordered : AreOrdered C start (claims_of p)
   -- What was received, followed by what still lies in the ring, is the committed records, each whole and once.
@@ -125,7 +127,7 @@ pub record Headline (C start : ℕ) (p : WordProducer) (c : Conductor) (f : Fini
 
 -- What is handed on: the counters, the board with all replies, how many commands were received, the values, in the rest
 -- the words of ids and heartbeat, which are those that were drawn and stored, and producer and conductor by name
-pub record HandsOn (C : ℕ) (board : Board) (v : CounterValues) (p : WordProducer) (c : Conductor) (f : Finished)
+pub record HandsOn (C : ℕ) (board : Board) (v : CounterValues) (p : Producer) (c : Conductor) (f : Finished)
     : Type 0 where
   pub counters : f.counters ≡ manager_in c
   pub replies : HasAllReplies board (replies_of c) f.board

@@ -4,7 +4,7 @@ pub(crate) mod fault;
 ghost use Rattle.std.specs.Prelude.{◌≡◌, IfErr, IfOk, OnOk};
 ghost use Rattle.ring_layout.specs.Refusals.{all_shares};
 ghost use Rattle.ring_rings.specs.Closing.{IsRefusedAs};
-ghost use Rattle.ring_rings.specs.Seats.{capacity_of, open_claims_of, shares_of, start_of, IsProducerOf};
+ghost use Rattle.ring_rings.specs.Seats.{open_claims_of, shares_of};
 ghost use Rattle.ring_board.specs.Seats.{shares_of as board_shares_of};
 ghost use Rattle.ring_conductor.specs.Conducting.{IsConductorOf, transmitter_of};
 ghost use Rattle.ring_conductor.specs.Finishing.{ComesBack, HandsOn, Headline, handed_back, refusal_to};
@@ -14,7 +14,7 @@ use crate::finishing::fault::{FinishFault, FinishRefused};
 use ring_board::{Board, ClosedBoard};
 use ring_counters::{CounterValues, CountersManager};
 use ring_layout::ALL_SHARES;
-use ring_rings::{Producer, Ring};
+use ring_rings::{CommandSource, Producer};
 use ring_words::SoloRing;
 use std::snapshot::Snapshot;
 
@@ -67,29 +67,29 @@ fn test_finish(conductor: &Conductor, producer: &Producer) -> Result<(), FinishF
 ///
 /// It refuses with `ClaimsOpen`, then with `ProducersOut`, and then with `ReceiversOut`, before anything is closed;
 /// all five come back then as they were, and the call can be made again.
-pub fn finish<K>(
-    ring: Ring<K>,
+pub fn finish<R: CommandSource>(
+    ring: R,
     board: Board,
     values: CounterValues,
     conductor: Conductor,
     producer: Producer,
-) -> Result<Finished, FinishRefused<Ring<K>>>
-    requires conductor { IsConductorOf ring board values conductor }
-    requires producer { IsProducerOf ring producer }
+) -> Result<Finished, FinishRefused<R>>
+    requires conductor { IsConductorOf R.is_consumer ring board values conductor }
+    requires producer { R.is_producer ring producer }
 
     // Once the producers have returned. Else all comes back as it was.
     ensures refused { IsRefusedAs (handed_back ring board values conductor producer)
         (refusal_to conductor producer) result }
-    ensures back { IfErr result (ComesBack ring board values conductor producer) }
+    ensures back { IfErr result (ComesBack R.is_consumer R.is_producer ring board values conductor producer) }
 
     // What was received, followed by what still lies in the ring, is the committed records in tail-exchange order, each
     // whole and once; each receiver's copies are runs of the replies; and counters and replies are the fold of what was
     // received.
-    ensures headline { IfOk result (Headline (capacity_of ring) (start_of ring) producer conductor) }
+    ensures headline { IfOk result (Headline (R.bytes ring) (R.start ring) producer conductor) }
 
     // Counters, replies and values are handed on, and the words of ids and heartbeat are those that were drawn and
     // stored.
-    ensures hands_on { IfOk result (HandsOn (capacity_of ring) board values producer conductor) }
+    ensures hands_on { IfOk result (HandsOn (R.bytes ring) board values producer conductor) }
 {
     if let Err(reason) = test_finish(&conductor, &producer) {
         return Err(FinishRefused {

@@ -1,6 +1,6 @@
 //! A conductor at work, with all that it needs.
 ghost use Rattle.std.specs.Prelude.{◌≡◌, ◌≤◌, ◌^◌, All};
-ghost use Rattle.ring_rings.specs.Seats.{all_shares, shares_of, IsProducerOf};
+ghost use Rattle.ring_rings.specs.Seats.{all_shares, shares_of, IsConsumerOf, IsProducerOf};
 ghost use Rattle.ring_board.specs.Seats.{IsReceiverOf};
 ghost use Rattle.ring_conductor.specs.Conducting.{IsConductorOf};
 
@@ -58,7 +58,7 @@ pub struct Bench<K> {
     pub conductor: Conductor,
     pub producer: Producer,
     pub listener: CopyReceiver,
-    ghost conducts: { IsConductorOf ring board values conductor },
+    ghost conducts: { IsConductorOf IsConsumerOf ring board values conductor },
     ghost sends: { IsProducerOf ring producer },
     ghost sole: { shares_of producer ≡ all_shares },
     ghost listens: { IsReceiverOf board listener },

@@ -1,6 +1,6 @@
 //! When a conductor finishes, and what it hands out.
 ghost use Rattle.std.specs.Prelude.{◌≡◌};
-ghost use Rattle.ring_rings.specs.Seats.{IsProducerOf};
+ghost use Rattle.ring_rings.specs.Seats.{IsConsumerOf, IsProducerOf};
 ghost use Rattle.ring_conductor.specs.Conducting.{IsConductorOf};
 
 use crate::bench::Bench;
@@ -21,10 +21,10 @@ fn refused(
     producer: Producer,
     reason: FinishFault,
 ) -> FinishRefused<ManyToOneRing>
-    requires conductor { IsConductorOf ring board values conductor }
+    requires conductor { IsConductorOf IsConsumerOf ring board values conductor }
     requires producer { IsProducerOf ring producer }
     ensures ring { result.ring ≡ ring }
-    ensures conductor { IsConductorOf result.ring result.board result.values result.conductor }
+    ensures conductor { IsConductorOf IsConsumerOf result.ring result.board result.values result.conductor }
     ensures producer { result.producer ≡ producer }
 {
     let back = finish(ring, board, values, conductor, producer)

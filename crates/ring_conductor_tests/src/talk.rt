@@ -1,5 +1,5 @@
 //! A client that talks to a conductor, with all that both need.
-ghost use Rattle.ring_rings.specs.Seats.{IsProducerOf, MayClaim};
+ghost use Rattle.ring_rings.specs.Seats.{IsConsumerOf, IsProducerOf, MayClaim};
 ghost use Rattle.ring_board.specs.Seats.{IsReceiverOf};
 ghost use Rattle.ring_conductor.specs.Asking.{producer_of, receiver_of};
 ghost use Rattle.ring_conductor.specs.Conducting.{IsConductorOf};
@@ -63,7 +63,7 @@ pub struct Talk<K: Kind> {
     values: CounterValues,
     conductor: Conductor,
     client: Client,
-    ghost conducts: { IsConductorOf ring board values conductor },
+    ghost conducts: { IsConductorOf IsConsumerOf ring board values conductor },
     ghost sends: { IsProducerOf ring (producer_of client) },
     ghost sole: { MayClaim K.is_for_one (producer_of client) },
     ghost listens: { IsReceiverOf board (receiver_of client) },

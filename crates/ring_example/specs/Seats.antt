@@ -1,5 +1,5 @@
 -- Whose seats the threads hold.
-use Rattle.ring_rings.specs.Seats.{IsProducerOf}
+use Rattle.ring_rings.specs.Seats.{IsConsumerOf, IsProducerOf}
 use Rattle.ring_board.specs.Seats.{IsReceiverOf}
 use Rattle.ring_conductor.specs.declared.conductor.Conductor.{Conductor}
 use Rattle.ring_conductor.specs.Asking.{producer_of, receiver_of}
@@ -17,4 +17,4 @@ AreCallersOf s callers = IsCallerOf s callers.0 × IsCallerOf s callers.1
 
 -- it is a conductor of this ring, this broadcast buffer and these values
 abbrev pub IsConductorAt : Shared → Conductor → Type 0
-IsConductorAt s c = IsConductorOf s.ring s.board s.values c
+IsConductorAt s c = IsConductorOf IsConsumerOf s.ring s.board s.values c

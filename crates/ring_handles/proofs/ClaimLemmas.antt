@@ -10,7 +10,8 @@ use Rattle.ring_table.specs.declared.claim.StagedClaim.{StagedClaim}
 use Rattle.ring_table.specs.declared.claim.Stage.TheVariants.{Stored}
 use Rattle.ring_table.specs.Changes.{blank, changed, staged}
 use Rattle.ring_table.specs.ProducerSteps.{with_changed}
-use Rattle.ring_rings.specs.Words.{WordProducer, WordRing}
+use Rattle.ring_rings.specs.declared.ring.Ring.{Ring}
+use Rattle.ring_rings.specs.declared.ring.Producer.{Producer}
 use Rattle.ring_rings.specs.Seats.{view_of, IsOpenClaimOf, KeepsBoth, KeepsClaims, KeepsOthers, LiesApart}
 use Rattle.ring_handles.specs.Claims.{aborted, claim_numbered, without, AreApart, AreOpen, IsNoNumber, HasIndex, Takes}
 use Rattle.ring_handles.specs.Producing.{holding, settling, Declined, Settled}
@@ -165,13 +166,13 @@ module _ (P Q : ClaimAt → Type 0) (t : ClaimAt) (keeps : (u : ClaimAt) → P u
 
 -- Claims that are open -----------------------------------------------------------
 
-module _ {K : Type 0} (ring : WordRing K) where
-  pub still_open : (p q : WordProducer) (claims : List ClaimAt) → KeepsClaims ring p q → AreOpen ring p claims
+module _ {K : Type 0} (ring : Ring K) where
+  pub still_open : (p q : Producer) (claims : List ClaimAt) → KeepsClaims ring p q → AreOpen ring p claims
       → AreOpen ring q claims
   still_open p q claims keeps are =
       record { each = λ k d lt. keeps (slice_index_or claims k d) (are.each k d lt); apart = are.apart }
 
-  pub one_more_open : (p q : WordProducer) (claims : List ClaimAt) (t : ClaimAt) → KeepsClaims ring p q
+  pub one_more_open : (p q : Producer) (claims : List ClaimAt) (t : ClaimAt) → KeepsClaims ring p q
       → IsOpenClaimOf ring q t → LiesApart ring p t → AreOpen ring p claims → AreOpen ring q (claims ++ t ∷ [])
   one_more_open p q claims t keeps is_open off are = record {
     each = All-push (IsOpenClaimOf ring q) claims t (still_open p q claims keeps are).each is_open;
@@ -181,7 +182,7 @@ module _ {K : Type 0} (ring : WordRing K) where
         (All-nil (λ u. t.place ≢ u.place), tt);
   }
 
-  pub both_open : (p other q : WordProducer) (claims more : List ClaimAt) → KeepsBoth ring p other q
+  pub both_open : (p other q : Producer) (claims more : List ClaimAt) → KeepsBoth ring p other q
       → AreOpen ring p claims → AreOpen ring other more → AreOpen ring q (claims ++ more)
   both_open p other q claims more keeps are also = record {
     each = All-append (IsOpenClaimOf ring q) claims more (still_open p q claims keeps.first are).each
@@ -190,11 +191,11 @@ module _ {K : Type 0} (ring : WordRing K) where
         are.apart also.apart;
   }
 
-  pub numbered_open : (p : WordProducer) (claims : List ClaimAt) (number : ℕ) (t : ClaimAt)
+  pub numbered_open : (p : Producer) (claims : List ClaimAt) (number : ℕ) (t : ClaimAt)
       → claim_numbered number claims ≡ Some t → AreOpen ring p claims → IsOpenClaimOf ring p t
   numbered_open p claims number t is are = holds_of (IsOpenClaimOf ring p) number claims t is are.each
 
-  pub one_less_open : (p q : WordProducer) (claims : List ClaimAt) (number : ℕ) (t : ClaimAt)
+  pub one_less_open : (p q : Producer) (claims : List ClaimAt) (number : ℕ) (t : ClaimAt)
       → claim_numbered number claims ≡ Some t → KeepsOthers ring t.place p q → AreOpen ring p claims
       → AreOpen ring q (without number claims)
   one_less_open p q claims number t is keeps are =
@@ -202,7 +203,7 @@ module _ {K : Type 0} (ring : WordRing K) where
       are.each are.apart in
       record { each = less.0; apart = less.1 }
 
-  pub one_changed_open : (p q : WordProducer) (claims : List ClaimAt) (number : ℕ) (t : ClaimAt)
+  pub one_changed_open : (p q : Producer) (claims : List ClaimAt) (number : ℕ) (t : ClaimAt)
       → claim_numbered number claims ≡ Some t → KeepsOthers ring t.place p q → IsOpenClaimOf ring q t
       → AreOpen ring p claims → AreOpen ring q claims
   one_changed_open p q claims number t is keeps here are = record {
@@ -211,12 +212,12 @@ module _ {K : Type 0} (ring : WordRing K) where
     apart = are.apart;
   }
 
-  pub last_open : (p : WordProducer) (claims : List ClaimAt) (t : ClaimAt) → AreOpen ring p (claims ++ t ∷ [])
+  pub last_open : (p : Producer) (claims : List ClaimAt) (t : ClaimAt) → AreOpen ring p (claims ++ t ∷ [])
       → IsOpenClaimOf ring p t
   last_open p claims t are =
       (All-pop (IsOpenClaimOf ring p) (claims ++ t ∷ []) claims (Some t) refl are.each).1
 
-  pub front_open : (p q : WordProducer) (claims : List ClaimAt) (t : ClaimAt) → AreOpen ring p (claims ++ t ∷ [])
+  pub front_open : (p q : Producer) (claims : List ClaimAt) (t : ClaimAt) → AreOpen ring p (claims ++ t ∷ [])
       → KeepsOthers ring t.place p q → AreOpen ring q claims
   front_open p q claims t are keeps =
       let all = All-pop (IsOpenClaimOf ring p) (claims ++ t ∷ []) claims (Some t) refl are.each in
@@ -227,7 +228,7 @@ module _ {K : Type 0} (ring : WordRing K) where
       }
 
   -- of a ring, what is open goes by the capacity alone
-  pub open_in : (same : WordRing K) (p : WordProducer) (claims : List ClaimAt) → ring.capacity ≡ same.capacity
+  pub open_in : (same : Ring K) (p : Producer) (claims : List ClaimAt) → ring.capacity ≡ same.capacity
       → AreOpen ring p claims → AreOpen same p claims
   open_in same p claims cap are = record {
     each = All-weaker (IsOpenClaimOf ring p) (IsOpenClaimOf same p) (λ t is. record {
@@ -240,7 +241,7 @@ module _ {K : Type 0} (ring : WordRing K) where
   }
 
   -- the claim of a number was taken out and settled
-  pub settled_one : (state did : ClaimState) (number : ℕ) (p q : WordProducer) (claims left : List ClaimAt) (t : ClaimAt)
+  pub settled_one : (state did : ClaimState) (number : ℕ) (p q : Producer) (claims left : List ClaimAt) (t : ClaimAt)
       (many : Bool) (identity : Identity) → Takes number t claims left → state ≡ did
       → view_of q ≡ with_changed t.place (staged (Stored did)) (view_of p)
       → Settled state number (side many identity ring p claims) (side many identity ring q left) (pos 0)

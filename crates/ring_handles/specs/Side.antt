@@ -6,9 +6,11 @@ use Rattle.ring_layout.specs.Refusals.{all_shares}
 use Rattle.ring_table.specs.OpenClaims.{open_count}
 use Rattle.ring_table.specs.declared.view.View.{View}
 use Rattle.ring_words.specs.Open.{ClaimAt}
-use Rattle.ring_rings.specs.Words.{WordConsumer, WordProducer, WordRing}
 use Rattle.ring_rings.specs.Closing.{close_refusal_of}
 use Rattle.ring_rings.specs.declared.fault.CloseFault.{CloseFault}
+use Rattle.ring_rings.specs.declared.ring.Ring.{Ring}
+use Rattle.ring_rings.specs.declared.ring.Producer.{Producer}
+use Rattle.ring_rings.specs.declared.ring.Consumer.{Consumer}
 use Rattle.ring_rings.specs.Seats.{capacity_of, shares_of, view_of, IsConsumerOf, IsProducerOf}
 use Rattle.ring_handles.specs.Claims.{AreOpen}
 use Rattle.ring_handles.specs.declared.identity.Identity.{Identity}
@@ -33,16 +35,16 @@ capacity_in (Many ring) = capacity_of (arc_value ring)
 capacity_in (One ring) = capacity_of (arc_value ring)
 
 -- a producer of it, which holds all shares where it is the only one
-abbrev pub IsProducerIn : AnyRing → WordProducer → Type 0
+abbrev pub IsProducerIn : AnyRing → Producer → Type 0
 IsProducerIn (Many ring) p = IsProducerOf (arc_value ring) p
 IsProducerIn (One ring) p = IsProducerOf (arc_value ring) p × (shares_of p ≡ all_shares)
 
 -- these are open claims of its producer
-abbrev pub AreClaimsIn : AnyRing → WordProducer → List ClaimAt → Type 0
+abbrev pub AreClaimsIn : AnyRing → Producer → List ClaimAt → Type 0
 AreClaimsIn (Many ring) p claims = AreOpen (arc_value ring) p claims
 AreClaimsIn (One ring) p claims = AreOpen (arc_value ring) p claims
 
-abbrev pub IsConsumerIn : AnyRing → WordConsumer → Type 0
+abbrev pub IsConsumerIn : AnyRing → Consumer → Type 0
 IsConsumerIn (Many ring) c = IsConsumerOf (arc_value ring) c
 IsConsumerIn (One ring) c = IsConsumerOf (arc_value ring) c
 
@@ -68,7 +70,7 @@ pub record Side : Type 0 where
   pub claims : List ClaimAt
 
 -- the producer of a ring of this kind and number, with these open claims
-abbrev pub side : {K : Type 0} → Bool → Identity → WordRing K → WordProducer → List ClaimAt → Side
+abbrev pub side : {K : Type 0} → Bool → Identity → Ring K → Producer → List ClaimAt → Side
 side many identity ring p claims = record {
   many = many;
   table = ring.table.shared.table_id;
@@ -79,7 +81,7 @@ side many identity ring p claims = record {
 }
 
 -- the same, of a ring of either kind
-abbrev pub side_in : AnyRing → Identity → WordProducer → List ClaimAt → Side
+abbrev pub side_in : AnyRing → Identity → Producer → List ClaimAt → Side
 side_in ring identity p claims = record {
   many = is_many ring;
   table = table_in ring;
@@ -90,7 +92,7 @@ side_in ring identity p claims = record {
 }
 
 -- the producer and the claims are the ring's
-pub record IsSide (ring : AnyRing) (producer : WordProducer) (claims : List ClaimAt) : Type 0 where
+pub record IsSide (ring : AnyRing) (producer : Producer) (claims : List ClaimAt) : Type 0 where
   pub of : IsProducerIn ring producer
   pub claimed : AreClaimsIn ring producer claims
 
@@ -109,7 +111,7 @@ abbrev pub close_refusal : View → Option CloseFault
 close_refusal v = close_refusal_of (open_count v.producer.claims) v.producer.shares
 
 -- a producer that was taken in is the ring's, with all shares and no open claim
-abbrev pub IsLastIn : AnyRing → Option WordProducer → Type 0
+abbrev pub IsLastIn : AnyRing → Option Producer → Type 0
 IsLastIn ring None = Unit {0}
 IsLastIn ring (Some p) = IsProducerIn ring p × (close_refusal (view_of p) ≡ None)
 

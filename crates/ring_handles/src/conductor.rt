@@ -24,7 +24,7 @@ pub struct ConductorSide {
     pub(crate) producer: Producer,
     /// How many shares of the board are not with receivers.
     pub(crate) shares: u32,
-    ghost conducts: { IsConductorOf (arc_value shared).ring (arc_value shared).board
+    ghost conducts: { IsConductorOf IsConsumerOf (arc_value shared).ring (arc_value shared).board
         (arc_value shared).values conductor },
     ghost produces: { IsProducerOf (arc_value shared).ring producer },
     ghost settled: { open_claims_of producer ≡ 0 },

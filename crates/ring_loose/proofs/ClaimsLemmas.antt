@@ -15,7 +15,8 @@ use Rattle.ring_table.specs.Changes.{changed, changed_at, staged}
 use Rattle.ring_table.specs.OpenClaims.{one_if_open, open_count}
 use Rattle.ring_table.specs.Staged.{stage_state}
 use Rattle.ring_table.proofs.HistoryLemmas.{changed_at_place, changed_at_other}
-use Rattle.ring_rings.specs.Words.{WordProducer, WordRing}
+use Rattle.ring_rings.specs.declared.ring.Ring.{Ring}
+use Rattle.ring_rings.specs.declared.ring.Producer.{Producer}
 use Rattle.ring_rings.specs.Bodies.{put_at, PutsBytes}
 use Rattle.ring_rings.specs.Seats.{claims_of, view_of, IsNewClaimOf, IsOpenClaimOf}
 use Rattle.ring_loose.specs.Claims.{HoldsNothing, HoldsPlace, IsHeldIfOpen, AreHeld, AreOpen}
@@ -110,9 +111,9 @@ none_counted (c ∷ cs) claims none all =
 
 -- Claims that are open -----------------------------------------------------------
 
-module _ {K : Type 0} (ring : WordRing K) where
+module _ {K : Type 0} (ring : Ring K) where
   -- a producer that has the same claims
-  pub open_kept : (old new : WordProducer) → claims_of new ≡ claims_of old → (t : ClaimAt) → IsOpenClaimOf ring old t
+  pub open_kept : (old new : Producer) → claims_of new ≡ claims_of old → (t : ClaimAt) → IsOpenClaimOf ring old t
       → IsOpenClaimOf ring new t
   open_kept old new same t is_open =
       let claim = is_open.claim in
@@ -131,7 +132,7 @@ module _ {K : Type 0} (ring : WordRing K) where
       }
 
   -- a producer without claims
-  pub none_open : (p : WordProducer) → claims_of p ≡ [] → AreOpen ring p []
+  pub none_open : (p : Producer) → claims_of p ≡ [] → AreOpen ring p []
   none_open p none = record {
     open_of = λ i t has. let clash : None ≡ Some t = sym (get_or_past [] i None (omega arith)) ∙ has in absurd cc;
     apart =
@@ -140,20 +141,20 @@ module _ {K : Type 0} (ring : WordRing K) where
   }
 
   -- a step after which the claims are still open
-  pub still_open : (old new : WordProducer) (claims : List (Option ClaimAt)) → AreOpen ring old claims
+  pub still_open : (old new : Producer) (claims : List (Option ClaimAt)) → AreOpen ring old claims
       → ((t : ClaimAt) → IsOpenClaimOf ring old t → IsOpenClaimOf ring new t) → AreHeld (claims_of new) claims
       → AreOpen ring new claims
   still_open old new claims are keeps all =
       record { open_of = λ i t has. keeps t (are.open_of i t has); apart = are.apart; all = all }
 
   -- a step that leaves the claims as they are
-  pub same_open : (old new : WordProducer) (claims : List (Option ClaimAt)) → claims_of new ≡ claims_of old
+  pub same_open : (old new : Producer) (claims : List (Option ClaimAt)) → claims_of new ≡ claims_of old
       → AreOpen ring old claims → AreOpen ring new claims
   same_open old new claims same are =
       still_open old new claims are (open_kept old new same) (subst (λ cs. AreHeld cs claims) (sym same) are.all)
 
   -- one more claim
-  pub one_more_open : (old new : WordProducer) (claims : List (Option ClaimAt)) (t : ClaimAt) (c : StagedClaim)
+  pub one_more_open : (old new : Producer) (claims : List (Option ClaimAt)) (t : ClaimAt) (c : StagedClaim)
       → AreOpen ring old claims → ((s : ClaimAt) → IsOpenClaimOf ring old s → IsOpenClaimOf ring new s)
       → IsNewClaimOf ring old new t → t.place ≡ c.place
       → claims_of new ≡ claims_of old ++ c ∷ [] → AreOpen ring new (claims ++ Some t ∷ [])
@@ -191,7 +192,7 @@ module _ {K : Type 0} (ring : WordRing K) where
           ]
 
   -- a claim is settled and taken from the list
-  pub one_less_open : (old new : WordProducer) (claims : List (Option ClaimAt)) (k : ℕ) (t : ClaimAt) (s : ClaimState)
+  pub one_less_open : (old new : Producer) (claims : List (Option ClaimAt)) (k : ℕ) (t : ClaimAt) (s : ClaimState)
       → s ≢ Open → AreOpen ring old claims → HasAt claims k t
       → ((u : ClaimAt) → IsOpenClaimOf ring old u → u.place ≢ t.place → IsOpenClaimOf ring new u)
       → claims_of new ≡ changed t.place (staged (Stored s)) (claims_of old) → AreOpen ring new (set claims k None)
@@ -210,7 +211,7 @@ module _ {K : Type 0} (ring : WordRing K) where
           [ inl put ↦ absurd cc | inr other ↦ other ]
 
   -- bytes are put into a claim
-  pub one_put_open : (old new : WordProducer) (claims : List (Option ClaimAt)) (k : ℕ) (t : ClaimAt) (offset : ℕ)
+  pub one_put_open : (old new : Producer) (claims : List (Option ClaimAt)) (k : ℕ) (t : ClaimAt) (offset : ℕ)
       (bytes : List ℕ) → AreOpen ring old claims → HasAt claims k t → IsOpenClaimOf ring new t
       → ((s : ClaimAt) → IsOpenClaimOf ring old s → s.place ≢ t.place → IsOpenClaimOf ring new s)
       → claims_of new ≡ changed t.place (put_at offset bytes) (claims_of old) → AreOpen ring new claims
@@ -232,7 +233,7 @@ module _ {K : Type 0} (ring : WordRing K) where
           (λ off. others s (are.open_of i s has) (are.apart i k s t off has had))
 
   -- bytes are put into a claim, or refused
-  pub put_open : {T E : Type 0} (r : Result T E) (old new : WordProducer) (claims : List (Option ClaimAt)) (k : ℕ)
+  pub put_open : {T E : Type 0} (r : Result T E) (old new : Producer) (claims : List (Option ClaimAt)) (k : ℕ)
       (t : ClaimAt) (offset : ℕ) (bytes : List ℕ)
       → OnOk r (PutsBytes t.place offset bytes (view_of old) (view_of new)) × OnErr r (new ≡ old)
       → AreOpen ring old claims → HasAt claims k t → IsOpenClaimOf ring new t

@@ -4,8 +4,8 @@ use Rattle.ring_words.specs.Open.{ClaimAt}
 use Rattle.ring_words.specs.declared.fault.ClaimFault.{ClaimFault}
 use Rattle.ring_table.specs.declared.claim.StagedClaim.{StagedClaim}
 use Rattle.ring_table.specs.declared.view.View.{View}
-use Rattle.ring_rings.specs.Words.{WordProducer}
 use Rattle.ring_rings.specs.Claiming.{AfterTries, AreContended, Claims, Refuses, Writes, claim_behind, record_behind}
+use Rattle.ring_rings.specs.declared.ring.Producer.{Producer}
 use Rattle.ring_rings.proofs.LeavingLemmas.{Keeps, Gains, keeps_as, keeps_looked, keeps_refused, gains_looked}
 use Rattle.ring_rings.specs.Bodies.{PutsBytes}
 use Rattle.ring_rings.specs.Seats.{view_of}
@@ -92,7 +92,7 @@ declines (Ok x) C type_id len old new same refused = refused
 declines (Err fault) C type_id len old new same refused = record { refused = refused; same = same }
 
 -- bytes were put into a claim that is held, or refused
-pub put_came : (r : Result (Unit {0}) PutRange) (number offset : ℕ) (bytes : List ℕ) (t : ClaimAt) (p q : WordProducer)
+pub put_came : (r : Result (Unit {0}) PutRange) (number offset : ℕ) (bytes : List ℕ) (t : ClaimAt) (p q : Producer)
     (cs ds : List (Option ClaimAt)) → IsHeld cs number t → ds ≡ cs → (IsTrue (is_err r) → t.len < offset + length bytes)
     → OnErr r (q ≡ p) → OnOk r (PutsBytes t.place offset bytes (view_of p) (view_of q))
     → Puts number offset bytes (holder (view_of p) cs) r (holder (view_of q) ds)

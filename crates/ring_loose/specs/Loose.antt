@@ -8,7 +8,9 @@ use Rattle.ring_table.specs.declared.claim.Stage.TheVariants.{Stored}
 use Rattle.ring_table.specs.declared.view.View.{View}
 use Rattle.ring_table.specs.Changes.{changed, staged}
 use Rattle.ring_table.specs.Views.{beaten, with_claims, with_consumer}
-use Rattle.ring_rings.specs.Words.{WordConsumer, WordProducer, WordRing}
+use Rattle.ring_rings.specs.declared.ring.Ring.{Ring}
+use Rattle.ring_rings.specs.declared.ring.Producer.{Producer}
+use Rattle.ring_rings.specs.declared.ring.Consumer.{Consumer}
 use Rattle.ring_rings.specs.Opening.{first_consumer, first_producer}
 use Rattle.ring_rings.specs.Seats.{shares_of, start_of, IsConsumerOf}
 use Rattle.ring_loose.specs.Claims.{Holder, IsHolderOf, holder}
@@ -21,7 +23,7 @@ pub record Loose : Type 0 where
 
 -- the ring began at 0, the producer and the consumer are its own, the claims are the producer's open ones, and no other
 -- producer has a share
-pub record AreSeats {K : Type 0} (ring : WordRing K) (p : WordProducer) (c : WordConsumer)
+pub record AreSeats {K : Type 0} (ring : Ring K) (p : Producer) (c : Consumer)
     (claims : List (Option ClaimAt)) : Type 0 where
   pub start : start_of ring ≡ 0
   pub holder : IsHolderOf ring p claims

@@ -123,24 +123,25 @@ module _ (C start : ℕ) (words : List ℕ) (v : View) (closed : IsClosed C star
           unnamed = closed.service.unnamed;
         }
 
--- v is the view of a producer p that the consumer r was joined into
-module _ (v p r : View) (both : v ≡ with_consumer_of p r) where
-  pub none_open_too : open_count p.producer.claims ≡ 0 → open_count v.producer.claims ≡ 0
-  none_open_too none = ap (λ (u : View). open_count u.producer.claims) both ∙ none
+-- v is the view of a producer p that the consumer r was joined into, and the items are a copy of the closed table's
+-- words
+module _ (K C start : ℕ) (same : K ≡ C) (words items : List ℕ) (copied : items ≡ words) (v p r : View)
+    (both : v ≡ with_consumer_of p r) (closed : IsClosed K start words v)
+    (leaves : open_count v.producer.claims ≡ 0 → v.consumer.cleared ≡ v.consumer.head → LeavesRest K words v)
+    (none_open : open_count p.producer.claims ≡ 0) (none_cleared : r.consumer.cleared ≡ r.consumer.head) where
+  left : LeavesRest K words v
+  left = leaves (ap (λ (u : View). open_count u.producer.claims) both ∙ none_open)
+      (ap (λ (u : View). u.consumer.cleared) both ∙ none_cleared ∙ sym (ap (λ (u : View). u.consumer.head) both))
 
-  pub none_cleared_too : r.consumer.cleared ≡ r.consumer.head → v.consumer.cleared ≡ v.consumer.head
-  none_cleared_too none =
-      ap (λ (u : View). u.consumer.cleared) both ∙ none ∙ sym (ap (λ (u : View). u.consumer.head) both)
+  carried : (P : ℕ → List ℕ → Type 0) → P K words → P C items
+  carried P t = subst (λ (k : ℕ). P k items) same (subst (P K) (sym copied) t)
 
-  -- and the items are the words of a ring that began at the start
-  module _ (C first start : ℕ) (begins : first ≡ start) (items : List ℕ) (closed : IsClosed C first items v)
-      (left : LeavesRest C items v) where
-    pub closes_to_ring : IsRing (ring C items)
-    closes_to_ring = rest_is_ring C first items v closed left
+  pub closes_to_ring : IsRing (ring C items)
+  closes_to_ring = carried (λ k l. IsRing (ring k l)) (rest_is_ring K start words v closed left)
 
-    pub closes_with_rest : HandsOut C start p (at_rest r) (ring C items)
-    closes_with_rest = subst (λ (n : ℕ). HandsOut C n p (at_rest r) (ring C items)) begins
-        (hands_out C first items v closed left p r both)
+  pub closes_with_rest : HandsOut C start p (at_rest r) (ring C items)
+  closes_with_rest =
+      carried (λ k l. HandsOut k start p (at_rest r) (ring k l)) (hands_out K start words v closed left p r both)
 
-    pub closes_with_service : Serves C p (at_rest r) (ring C items)
-    closes_with_service = serves C first items v closed left p r both
+  pub closes_with_service : Serves C p (at_rest r) (ring C items)
+  closes_with_service = carried (λ k l. Serves k p (at_rest r) (ring k l)) (serves K start words v closed left p r both)

@@ -1,5 +1,4 @@
 pub mod NewestLemmas
-pub mod MoveLemmas
 pub mod LookLemmas
 pub mod RefusalLemmas
 pub mod CountLemmas

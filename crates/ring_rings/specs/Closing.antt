@@ -16,6 +16,8 @@ use Rattle.ring_table.specs.Services.{times_drawn, once_below, AreServed}
 use Rattle.ring_rings.specs.declared.fault.CloseFault.{CloseFault}
 use Rattle.ring_rings.specs.declared.fault.CloseFault.TheVariants.{ClaimsOpen, ProducersOut}
 use Rattle.ring_rings.specs.declared.ring.CloseRefused.{CloseRefused}
+use Rattle.ring_rings.specs.declared.ring.Producer.{Producer}
+use Rattle.ring_rings.specs.declared.ring.Consumer.{Consumer}
 
 -- why a producer with so many open claims and shares does not close a ring, in the order of the tests
 abbrev pub close_refusal_of : ℕ → ℕ → Option CloseFault
@@ -30,7 +32,7 @@ close_code (ClaimsOpen _) = pos 10
 close_code (ProducersOut _) = pos 11
 
 -- ring, producer and consumer come back with the reason
-abbrev pub kept_open : {R P C : Type 0} → R → P → C → CloseFault → CloseRefused R P C
+abbrev pub kept_open : {R : Type 0} → R → Producer → Consumer → CloseFault → CloseRefused R
 kept_open ring producer consumer reason =
     record { reason = reason; ring = ring; producer = producer; consumer = consumer }
 

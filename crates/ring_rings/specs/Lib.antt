@@ -1,4 +1,3 @@
-pub mod Steps
 pub mod Matching
 pub mod Seats
 pub mod Claiming
@@ -9,4 +8,3 @@ pub mod Closing
 pub mod Bodies
 pub mod Reading
 pub mod ReadingSteps
-pub mod Words

@@ -1,5 +1,6 @@
 //! How a ring is closed.
-ghost use Rattle.std.specs.Prelude.{◌≡◌, IfOk, OnOk};
+ghost use Rattle.std.specs.Prelude.{◌≡◌, IfOk, OnOk, vec_len};
+ghost use Rattle.std.specs.Slots.{slots_items, slots_len, IsFull};
 ghost use Rattle.ring_layout.specs.Refusals.{all_shares};
 ghost use Rattle.ring_rings.specs.Closing.{close_refusal_of, kept_open, HandsOut, IsRefusedAs, Serves};
 ghost use Rattle.ring_rings.specs.Seats.{capacity_of, consumer_view, open_claims_of, shares_of, start_of, view_of};
@@ -7,12 +8,24 @@ ghost use Rattle.ring_rings.specs.Seats.{IsConsumerOf, IsProducerOf};
 
 use crate::fault::CloseFault;
 use crate::ring::{CloseRefused, Consumer, Producer, Ring};
-use crate::steps::Steps;
+use atomic_table::Closed;
 use ring_layout::ALL_SHARES;
+use ring_table::{Wanted, close, join_consumer};
 use ring_words::SoloRing;
+use std::alloc::Global;
+
+/// Copies the words of a table that was closed.
+fn copy_words(closed: &Closed<Wanted, Global>, words: &mut Vec<u64>)
+    requires { IsFull closed.now.words × (slots_len closed.now.words ≡ vec_len words.old) }
+    ensures { words.new.items ≡ slots_items closed.now.words }
+{
+    for i in 0..words.len() {
+        words[i] = closed.word(i);
+    }
+}
 
 /// Tests whether a ring may be closed by this producer.
-fn test_close<B: Steps>(producer: &Producer<B>) -> Result<(), CloseFault>
+fn test_close(producer: &Producer) -> Result<(), CloseFault>
     ensures refused { IsRefusedAs (λ fault. fault)
         (close_refusal_of (open_claims_of producer.now) (shares_of producer.now)) result }
     ensures ok { OnOk result ((open_claims_of producer.now ≡ 0) × (shares_of producer.now ≡ all_shares)) }
@@ -30,15 +43,15 @@ fn test_close<B: Steps>(producer: &Producer<B>) -> Result<(), CloseFault>
     Ok(())
 }
 
-impl<K, B: Steps> Ring<K, B> {
+impl<K> Ring<K> {
     /// Takes the ring apart and hands out what lies in it as a ring of one owner: what was committed and not read, and
     /// the trailer's words. It refuses with `ClaimsOpen` where claims of this producer are open, and then with
     /// `ProducersOut` where shares are with other producers; all comes back then.
     pub fn close(
         self,
-        producer: Producer<B>,
-        consumer: Consumer<B>,
-    ) -> Result<SoloRing, CloseRefused<Self, Producer<B>, Consumer<B>>>
+        producer: Producer,
+        consumer: Consumer,
+    ) -> Result<SoloRing, CloseRefused<Self>>
         requires producer { IsProducerOf self producer }
         requires consumer { IsConsumerOf self consumer }
         ensures refused { IsRefusedAs (kept_open self producer consumer)
@@ -71,13 +84,14 @@ impl<K, B: Steps> Ring<K, B> {
         } = consumer;
         let Ring {
             table,
-            room,
+            room: mut words,
             capacity,
-            start: _,
             kind: _,
         } = self;
-        table.join_consumer(&mut seat, capacity, reader);
-        let words = table.close(seat, capacity, room);
+        join_consumer(&table.shared, &mut seat, reader);
+        let closed = close(table, seat);
+        copy_words(&closed, &mut words);
+        closed.free();
         Ok(SoloRing::from_words(capacity, words, scratch))
     }
 }

@@ -8,7 +8,6 @@ ghost use Rattle.ring_rings.specs.Seats.{MayClaim, OpensNone};
 use crate::claim::Claim;
 use crate::fault::TryFault;
 use crate::ring::{ManyToOne, OneToOne, Producer, Ring};
-use crate::steps::Steps;
 
 /// A kind of ring: `OneToOne` or `ManyToOne`. What its calls do, `claims`, `writes` and `refuses` say for each kind.
 pub trait Kind: Sized {
@@ -25,9 +24,9 @@ pub trait Kind: Sized {
     ghost refuses: { Refusing };
 
     /// Makes one try to claim, as `OneToOneRing::claim` or `ManyToOneRing::claim_once` does. It never waits.
-    fn claim_once<B: Steps>(
-        ring: &Ring<Self, B>,
-        producer: &mut Producer<B>,
+    fn claim_once(
+        ring: &Ring<Self>,
+        producer: &mut Producer,
         type_id: i32,
         len: usize,
     ) -> Result<Claim, TryFault>
@@ -42,9 +41,9 @@ pub trait Kind: Sized {
         ensures holdings { KeepsHoldings ring.now producer.old producer.new };
 
     /// Makes one try to write, as `OneToOneRing::write` or `ManyToOneRing::write_once` does. It never waits.
-    fn write_once<B: Steps>(
-        ring: &Ring<Self, B>,
-        producer: &mut Producer<B>,
+    fn write_once(
+        ring: &Ring<Self>,
+        producer: &mut Producer,
         type_id: i32,
         body: &[u8],
     ) -> Result<(), TryFault>
@@ -68,9 +67,9 @@ impl Kind for OneToOne {
 
     ghost refuses = { RefusesTryAlone };
 
-    fn claim_once<B: Steps>(
-        ring: &Ring<Self, B>,
-        producer: &mut Producer<B>,
+    fn claim_once(
+        ring: &Ring<Self>,
+        producer: &mut Producer,
         type_id: i32,
         len: usize,
     ) -> Result<Claim, TryFault> {
@@ -81,9 +80,9 @@ impl Kind for OneToOne {
     }
 
     #[inline(always)]
-    fn write_once<B: Steps>(
-        ring: &Ring<Self, B>,
-        producer: &mut Producer<B>,
+    fn write_once(
+        ring: &Ring<Self>,
+        producer: &mut Producer,
         type_id: i32,
         body: &[u8],
     ) -> Result<(), TryFault> {
@@ -103,9 +102,9 @@ impl Kind for ManyToOne {
 
     ghost refuses = { RefusesTry };
 
-    fn claim_once<B: Steps>(
-        ring: &Ring<Self, B>,
-        producer: &mut Producer<B>,
+    fn claim_once(
+        ring: &Ring<Self>,
+        producer: &mut Producer,
         type_id: i32,
         len: usize,
     ) -> Result<Claim, TryFault> {
@@ -113,9 +112,9 @@ impl Kind for ManyToOne {
     }
 
     #[inline(always)]
-    fn write_once<B: Steps>(
-        ring: &Ring<Self, B>,
-        producer: &mut Producer<B>,
+    fn write_once(
+        ring: &Ring<Self>,
+        producer: &mut Producer,
         type_id: i32,
         body: &[u8],
     ) -> Result<(), TryFault> {

@@ -4,8 +4,7 @@
 //! - `producer`: `one_to_one` and `many_to_one` have the calls, `wait` those that try again. A claim is made of
 //!   `admission`, `room`, `claim` (one try), `headers`, `body` and `settle`. `service`: ids, heartbeats and positions.
 //! - `consumer`: `read` has the calls, `turn` one turn of a read, made of `find`, `load` and `pass`. `heartbeat`.
-//! - `steps`: the steps of a ring as a trait, so that bodies may lie in words (`words`) or elsewhere.
-//! - `kind`: how the kinds claim, one as the other.
+//! - `kind`: how the kinds claim, one as the other. `source`: what a conductor needs of a ring.
 //! - `claim`, `fault`: an open claim, and why calls refuse.
 #![tactic(auto)]
 
@@ -17,8 +16,7 @@ mod kind;
 mod open;
 mod producer;
 mod ring;
-mod steps;
-mod words;
+mod source;
 
 pub use claim::Claim;
 pub use fault::{CloseFault, TryFault};
@@ -27,6 +25,5 @@ pub use ring::{
     CloseRefused, Consumer, ManyToOne, ManyToOneRing, OneToOne, OneToOneRing, Producer, Ring,
 };
 pub use ring_layout::{MakeFault, NoShares};
-pub use ring_table::{RingTable, Wanted};
 pub use ring_words::{Action, ClaimFault, Handler, Positions, PutRange, ReadEnd, Standing, Stop};
-pub use steps::Steps;
+pub use source::CommandSource;

@@ -6,16 +6,16 @@ ghost use Rattle.ring_rings.specs.Seats.{capacity_of, start_of};
 ghost use Rattle.ring_rings.specs.Opening.{IsFirstConsumer, IsFirstProducer};
 
 use crate::ring::{Consumer, Producer, Ring};
-use crate::steps::Steps;
 use ring_layout::ring_buffer_descriptor::TRAILER_WORDS;
 use ring_layout::{ALL_SHARES, MakeFault, check_ring, max_message};
+use ring_table::{Key, open, split_consumer};
 use std::alloc::{AllocError, Global};
 use std::marker::PhantomData;
 
-impl<K, B: Steps> Ring<K, B> {
+impl<K> Ring<K> {
     /// Makes an empty ring that starts at position 0, with a producer that holds all shares. The refusals are those of
     /// `new_at`.
-    pub fn new(alloc: Global, capacity: u32) -> Result<(Self, Producer<B>, Consumer<B>), MakeFault>
+    pub fn new(alloc: Global, capacity: u32) -> Result<(Self, Producer, Consumer), MakeFault>
         ensures refused { IsMadeUnless (make_refusal_of (is_capacity capacity) capacity 0) result }
         ensures ring { IfOk result (λ made. (capacity_of made.0 ≡ capacity) × (start_of made.0 ≡ 0)) }
         ensures producer { IfOk result (λ made. IsFirstProducer made.0 capacity 0 made.1) }
@@ -31,7 +31,7 @@ impl<K, B: Steps> Ring<K, B> {
         alloc: Global,
         capacity: u32,
         start: u64,
-    ) -> Result<(Self, Producer<B>, Consumer<B>), MakeFault>
+    ) -> Result<(Self, Producer, Consumer), MakeFault>
         ensures refused { IsMadeUnless (make_refusal_of (is_capacity capacity) capacity start) result }
         ensures ring { IfOk result (λ made. (capacity_of made.0 ≡ capacity) × (start_of made.0 ≡ start)) }
         ensures producer { IfOk result (λ made. IsFirstProducer made.0 capacity start made.1) }
@@ -46,7 +46,7 @@ impl<K, B: Steps> Ring<K, B> {
         alloc: Global,
         capacity: u32,
         start: u64,
-    ) -> Result<(Self, Producer<B>, Consumer<B>), AllocError>
+    ) -> Result<(Self, Producer, Consumer), AllocError>
         requires capacity { IsCapacity capacity }
         requires start { (start % capacity ≡ 0) × (start ≤ max_position) }
         ensures ring { IfOk result (λ made. (capacity_of made.0 ≡ capacity) × (start_of made.0 ≡ start)) }
@@ -56,9 +56,13 @@ impl<K, B: Steps> Ring<K, B> {
         let records = capacity as usize / 8;
         let room = vec![in alloc; 0u64; records + TRAILER_WORDS]?;
         let scratch = vec![in alloc; 0u8; records]?;
-        let (table, mut seat) = B::open(alloc, capacity, start)?;
+        let key = Key {
+            capacity: u64::from(capacity),
+            start,
+        };
+        let (table, mut seat) = open(alloc, key)?;
         let consumer = Consumer {
-            seat: table.split_consumer(&mut seat, capacity),
+            seat: split_consumer(&table.shared, &mut seat),
             head: start,
             scratch,
         };
@@ -72,7 +76,6 @@ impl<K, B: Steps> Ring<K, B> {
             table,
             room,
             capacity,
-            start,
             kind: PhantomData,
         };
         Ok((ring, producer, consumer))

@@ -1,5 +1,6 @@
 //! What producers say of themselves, and how they are cut in two and put together.
 pub(crate) mod admission;
+pub(crate) mod body;
 pub(crate) mod claim;
 pub(crate) mod headers;
 pub(crate) mod many_to_one;
@@ -13,9 +14,8 @@ ghost use Rattle.std.specs.Prelude.{◌≡◌, IfOk, OnErr};
 ghost use Rattle.ring_rings.specs.Seats.{open_claims_of, shares_of};
 
 use crate::ring::Producer;
-use crate::steps::Steps;
 
-impl<B: Steps> Producer<B> {
+impl Producer {
     /// How many shares of the ring it holds.
     pub fn shares(&self) -> u32
         ensures { result ≡ shares_of self.now }

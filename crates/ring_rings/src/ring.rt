@@ -1,12 +1,11 @@
 //! A ring, and those who work on it.
-ghost use Rattle.std.specs.Prelude.{◌≡◌, ℕ, ◌%◌, ◌/◌, ◌^◌, ◌<◌, ◌≤◌, vec_len, true, false};
+ghost use Rattle.std.specs.Prelude.{◌≡◌, ℕ, ◌%◌, ◌/◌, ◌^◌, ◌<◌, ◌≤◌, [], vec_len, true, false};
 ghost use Rattle.ring_layout.specs.Places.{IsCapacity, max_position};
 ghost use Rattle.ring_layout.specs.Layout.{ring_words};
 ghost use Rattle.ring_rings.specs.Matching.{Matches, matches_prop};
 
 use crate::fault::CloseFault;
-use crate::steps::Steps;
-use ring_table::RingTable;
+use ring_table::{RingSeat, RingTable};
 use std::marker::PhantomData;
 
 /// The kind of a ring that one producer writes.
@@ -15,18 +14,17 @@ pub struct OneToOne;
 /// The kind of a ring that any number of producers write.
 pub struct ManyToOne;
 
-/// A ring of messages between threads, shared by reference. It has one consumer, and producers as its kind says. `B` is
-/// its table, which says what the bodies of messages lie in: atomic words in a `RingTable`.
+/// A ring of messages between threads, shared by reference. It has one consumer, and producers as its kind says.
 #[derive(Drop)]
-pub struct Ring<K, B = RingTable> {
-    pub(crate) table: B,
+pub struct Ring<K> {
+    pub(crate) table: RingTable,
     // Room for the words that `close` hands on.
     pub(crate) room: Vec<u64>,
     pub(crate) capacity: u32,
-    // The position of the first claim.
-    pub(crate) start: u64,
     pub(crate) kind: PhantomData<K>,
-    ghost wide: { vec_len room ≡ ring_words capacity },
+    ghost key: { table.shared.key.capacity ≡ capacity },
+    ghost wide: { (table.shared.table_id.words ≡ ring_words capacity) × (table.shared.table_id.slots ≡ 0)
+        × (vec_len room ≡ ring_words capacity) },
     ghost lawful: { IsCapacity capacity },
 }
 
@@ -41,34 +39,34 @@ pub type ManyToOneRing = Ring<ManyToOne>;
 /// The first producer holds 65,536 shares, and `ManyToOneRing::split` moves one of them to a new producer; `close`
 /// wants all of them back. So a producer that is let go keeps its ring from closing for good.
 #[derive(Drop)]
-pub struct Producer<B: Steps = RingTable> {
-    pub(crate) seat: B::Seat,
+pub struct Producer {
+    pub(crate) seat: RingSeat,
     pub(crate) shares: u32,
     pub(crate) open_claims: u64,
     // The ring's tail, where it holds all shares.
     pub(crate) own_tail: u64,
-    ghost known: { Matches (B.knows seat) shares open_claims own_tail } by { matches_prop _ _ _ _ _ _ },
-    ghost produces: { (B.knows seat).consumes ≡ false },
+    ghost known: { Matches seat.me.0 shares open_claims own_tail } by { matches_prop _ _ _ _ _ _ },
+    ghost produces: { (seat.me.0.consumes ≡ false) × (seat.me.1 ≡ []) },
 }
 
 /// The one who reads a ring. It is used by one thread at a time, and may move between threads. Where it is let go, the
 /// ring fills up and can never be closed.
 #[derive(Drop)]
-pub struct Consumer<B: Steps = RingTable> {
-    pub(crate) seat: B::Seat,
+pub struct Consumer {
+    pub(crate) seat: RingSeat,
     pub(crate) head: u64,
     pub(crate) scratch: Vec<u8>,
-    ghost consumes: { ((B.knows seat).consumes ≡ true) × ((B.knows seat).producer.shares ≡ 0) },
-    ghost stands: { ((B.knows seat).consumer.head ≡ head) × ((B.knows seat).consumer.cleared ≡ head) },
+    ghost consumes: { (seat.me.0.consumes ≡ true) × (seat.me.1 ≡ []) × (seat.me.0.producer.shares ≡ 0) },
+    ghost stands: { (seat.me.0.consumer.head ≡ head) × (seat.me.0.consumer.cleared ≡ head) },
     ghost whole: { (head % 8 ≡ 0) × (head ≤ max_position) },
-    ghost room: { vec_len scratch ≡ (B.knows seat).capacity / 8 },
+    ghost room: { vec_len scratch ≡ seat.me.0.capacity / 8 },
 }
 
 /// A ring was not closed, and all comes back as it was.
 #[derive(Drop)]
-pub struct CloseRefused<R, P = Producer, C = Consumer> {
+pub struct CloseRefused<R> {
     pub reason: CloseFault,
     pub ring: R,
-    pub producer: P,
-    pub consumer: C,
+    pub producer: Producer,
+    pub consumer: Consumer,
 }

@@ -1,7 +1,7 @@
 //! The conductor at work.
 
 ghost use Rattle.std.specs.Prelude.{◌≡◌, ◌^◌, ◌≤◌, []};
-ghost use Rattle.ring_rings.specs.Seats.{consumer_view, taken_of, IsConsumerOf};
+ghost use Rattle.ring_rings.specs.Seats.{consumer_view, taken_of};
 ghost use Rattle.ring_board.specs.Seats.{heard_by, transmitted};
 ghost use Rattle.ring_layout.specs.Lists.{Begins};
 ghost use Rattle.ring_conductor.specs.Conducting.{AreUnused, IsConductorOf, Works, work_stop};
@@ -13,7 +13,7 @@ use crate::conductor::serve::Serving;
 use crate::conductor::{Conductor, Work, WorkStop};
 use ring_board::{Board, Transmitter};
 use ring_counters::{CounterValues, CountersManager};
-use ring_rings::{Consumer, Ring};
+use ring_rings::{CommandSource, Consumer};
 use ring_words::Stop;
 
 fn work_stop(stopped: Stop) -> WorkStop
@@ -28,10 +28,15 @@ fn work_stop(stopped: Stop) -> WorkStop
 }
 
 // Has the commands of one read served.
-fn take<K>(ring: &Ring<K>, consumer: &mut Consumer, limit: u32, serving: &mut Serving) -> Work
-    requires consumer { IsConsumerOf ring.now consumer.old }
+fn take<R: CommandSource>(
+    ring: &R,
+    consumer: &mut Consumer,
+    limit: u32,
+    serving: &mut Serving,
+) -> Work
+    requires consumer { R.is_consumer ring.now consumer.old }
     requires ready { IsReady serving.old }
-    ensures consumer { IsConsumerOf ring.now consumer.new }
+    ensures consumer { R.is_consumer ring.now consumer.new }
     ensures ready { IsReady serving.new }
     ensures same { IsSameHandler serving.old serving.new }
     ensures works { Works serving.old.now limit (consumer_view consumer.old) (consumer_view consumer.new)
@@ -77,17 +82,17 @@ impl Conductor {
     /// 2^62 on the board. The command stays in the ring then, not applied, also where its own reply would be shorter
     /// and would fit. `Block` with no message does not say that the ring is empty: the next call goes on behind the
     /// end of the buffer.
-    pub fn do_work<K>(
+    pub fn do_work<R: CommandSource>(
         &mut self,
-        ring: &Ring<K>,
+        ring: &R,
         board: &Board,
         values: &CounterValues,
         now: u64,
         limit: u32,
     ) -> Work
-        requires conductor { IsConductorOf ring.now board.now values.now self.old }
+        requires conductor { IsConductorOf R.is_consumer ring.now board.now values.now self.old }
         requires now { now ≤ 2 ^ 62 }
-        ensures conductor { IsConductorOf ring.now board.now values.now self.new }
+        ensures conductor { IsConductorOf R.is_consumer ring.now board.now values.now self.new }
         ensures works { Works now limit (ring_view self.old) (ring_view self.new)
             (ledger_of self.old) (ledger_of self.new) result }
         ensures grows { Begins (transmitted (transmitter_of self.old)) (transmitted (transmitter_of self.new)) }

@@ -1,12 +1,11 @@
 //! The conductor's sign of life.
 
 ghost use Rattle.std.specs.Prelude.{◌≡◌};
-ghost use Rattle.ring_rings.specs.Seats.{IsConsumerOf};
 ghost use Rattle.ring_table.specs.Views.{beaten, with_consumer};
 ghost use Rattle.ring_conductor.specs.Conducting.{KeepsWhatItServes, consumer_of, ring_view};
 
 use crate::conductor::Conductor;
-use ring_rings::Ring;
+use ring_rings::CommandSource;
 
 impl Conductor {
     /// Stores the ring's heartbeat, by one step. Clients load it with `Ring::heartbeat`, on threads of their own; it
@@ -15,9 +14,9 @@ impl Conductor {
     /// The value is the user's own, such as a time in milliseconds: nothing here reads it. It may be called at any
     /// time between calls of `do_work`, by the thread that has the conductor. All else stays: the counters, the
     /// board, the receivers that were joined, and what was received.
-    pub fn set_heartbeat<K>(&mut self, ring: &Ring<K>, value: u64)
-        requires consumer { IsConsumerOf ring.now (consumer_of self.old) }
-        ensures consumer { IsConsumerOf ring.now (consumer_of self.new) }
+    pub fn set_heartbeat<R: CommandSource>(&mut self, ring: &R, value: u64)
+        requires consumer { R.is_consumer ring.now (consumer_of self.old) }
+        ensures consumer { R.is_consumer ring.now (consumer_of self.new) }
         ensures stored { ring_view self.new
             ≡ with_consumer (beaten value (ring_view self.old).consumer) (ring_view self.old) }
         ensures others { KeepsWhatItServes self.old self.new }

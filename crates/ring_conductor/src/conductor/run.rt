@@ -11,21 +11,21 @@ ghost use Rattle.ring_conductor.specs.Running.{Runs};
 use crate::conductor::{Conductor, Cycle, Work, WorkStop};
 use ring_board::Board;
 use ring_counters::CounterValues;
-use ring_rings::Ring;
+use ring_rings::CommandSource;
 
 impl Conductor {
     /// Calls `do_work` for each cycle, up to one that comes to the board's end. It gives the sum of the messages and
     /// the last stop; without a cycle 0 and `Limit`.
-    pub fn run<K>(
+    pub fn run<R: CommandSource>(
         &mut self,
-        ring: &Ring<K>,
+        ring: &R,
         board: &Board,
         values: &CounterValues,
         cycles: &[Cycle],
     ) -> Work
-        requires conductor { IsConductorOf ring.now board.now values.now self.old }
+        requires conductor { IsConductorOf R.is_consumer ring.now board.now values.now self.old }
         requires moments { All (λ cycle. cycle.now ≤ 2 ^ 62) cycles.now }
-        ensures conductor { IsConductorOf ring.now board.now values.now self.new }
+        ensures conductor { IsConductorOf R.is_consumer ring.now board.now values.now self.new }
         ensures runs { Runs cycles.now Limit (ring_view self.old) (ring_view self.new)
             (ledger_of self.old) (ledger_of self.new) result }
         ensures grows { Begins (transmitted (transmitter_of self.old)) (transmitted (transmitter_of self.new)) }

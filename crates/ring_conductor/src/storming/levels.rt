@@ -79,7 +79,7 @@ fn conduct<'s, E, R: Threads, G: Gate + Sync>(
             plan,
         },
         move || -> ConductorEnd
-            requires { IsPlan plan × IsConductorOf ring.now board.now values.now conductor
+            requires { IsPlan plan × IsConductorOf IsConsumerOf ring.now board.now values.now conductor
                 × HasCounters plan conductor × (joined_by conductor ≡ []) }
             ensures conducted { HasConducted plan ring.entry.now board.entry.now values.entry.now result }
             ensures shares { board_shares_of result.conductor ≡ board_shares_of conductor }

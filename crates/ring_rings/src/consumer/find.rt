@@ -1,13 +1,13 @@
 //! What a running read finds where it has come to.
 ghost use Rattle.std.specs.Prelude.{◌≡◌, ℕ, ◌+◌, ◌<◌, List, true};
 ghost use Rattle.ring_table.specs.declared.claim.PlacedMessage.{PlacedMessage};
-ghost use Rattle.ring_rings.specs.ReadingSteps.{Finds, HasCome, IsAt, OnlyScans};
-ghost use Rattle.ring_rings.specs.Steps.{IsSeat};
+ghost use Rattle.ring_table.specs.Seats.{IsSameSeat};
+ghost use Rattle.ring_rings.specs.ReadingSteps.{Finds, HasCome, IsAt, IsReaderSeatOf, OnlyScans};
 
 use super::load::load_header;
-use crate::steps::Steps;
 use ring_layout::record_descriptor::{HEADER_LENGTH, PADDING_MSG_TYPE_ID};
 use ring_layout::unpack_header;
+use ring_table::{RingSeat, SharedRing};
 
 /// The record or padding that a header tells of.
 #[derive(Clone, Copy)]
@@ -21,24 +21,23 @@ pub(crate) enum Found {
 }
 
 /// Loads the header at `scan`, where a read has come to, and comes behind its record, if that is settled.
-pub(super) fn find<B: Steps>(
-    table: &B,
-    seat: &mut B::Seat,
+pub(super) fn find(
+    ring: &SharedRing,
+    seat: &mut RingSeat,
     capacity: u32,
     head: u64,
     scan: u64,
 ) -> Found
-    requires seat { IsSeat (B.belongs table.now capacity seat.old) capacity (B.knows seat.old) }
-    requires consumes { (B.knows seat.old).consumes ≡ true }
-    requires stands { ((B.knows seat.old).consumer.head ≡ head) × ((B.knows seat.old).consumer.cleared ≡ head) }
-    requires at { HasCome scan (B.knows seat.old) }
+    requires seat { IsReaderSeatOf ring.now.table_id ring.now.key capacity seat.old }
+    requires stands { (seat.old.me.0.consumer.head ≡ head) × (seat.old.me.0.consumer.cleared ≡ head) }
+    requires at { HasCome scan seat.old.me.0 }
     requires near { scan < head + capacity }
-    ensures seat { IsSeat (B.belongs table.now capacity seat.new) capacity (B.knows seat.new) }
-    ensures scans { OnlyScans (B.knows seat.old) (B.knows seat.new) }
-    ensures finds { (got : List PlacedMessage) → IsAt scan got (B.knows seat.old)
-        → Finds capacity scan got result (B.knows seat.old) (B.knows seat.new) }
+    ensures seat { IsSameSeat seat.old seat.new }
+    ensures scans { OnlyScans seat.old.me.0 seat.new.me.0 }
+    ensures finds { (got : List PlacedMessage) → IsAt scan got seat.old.me.0
+        → Finds capacity scan got result seat.old.me.0 seat.new.me.0 }
 {
-    let header = load_header(table, seat, capacity, head, scan);
+    let header = load_header(ring, seat, capacity, head, scan);
     let (len, type_id) = unpack_header(header);
     if len <= 0 {
         return Found::Nothing;

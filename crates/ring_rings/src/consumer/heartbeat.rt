@@ -1,19 +1,20 @@
 //! The heartbeat of a consumer.
 ghost use Rattle.std.specs.Prelude.{◌≡◌};
+ghost use Rattle.ring_table.specs.Seats.{IsSameSeat};
 ghost use Rattle.ring_table.specs.Views.{with_beat};
 ghost use Rattle.ring_rings.specs.Seats.{IsConsumerOf, consumer_view};
 
 use crate::ring::{Consumer, Ring};
-use crate::steps::Steps;
+use ring_table::store_heartbeat;
 
-impl<K, B: Steps> Ring<K, B> {
+impl<K> Ring<K> {
     /// Stores the consumer's heartbeat, which producers load. It is 0 until the first is stored.
-    pub fn set_heartbeat(&self, consumer: &mut Consumer<B>, value: u64)
+    pub fn set_heartbeat(&self, consumer: &mut Consumer, value: u64)
         requires { IsConsumerOf self.now consumer.old }
         ensures consumer { IsConsumerOf self.now consumer.new }
+        ensures seat { IsSameSeat consumer.old.seat consumer.new.seat }
         ensures view { consumer_view consumer.new ≡ with_beat value (consumer_view consumer.old) }
     {
-        self.table
-            .store_heartbeat(&mut consumer.seat, self.capacity, value);
+        store_heartbeat(&self.table.shared, &mut consumer.seat, self.capacity, value);
     }
 }

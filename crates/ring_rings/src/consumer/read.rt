@@ -1,6 +1,7 @@
 //! Reads of a shared ring.
 
 ghost use Rattle.std.specs.Prelude.{◌≡◌, ◌≢◌, ℕ, ◌+◌, ◌%◌, ◌<◌, ◌≤◌, ◌&&◌, ◌==◌, nat_lt};
+ghost use Rattle.ring_table.specs.Seats.{IsSameSeat};
 ghost use Rattle.ring_rings.specs.Seats.{IsConsumerOf, capacity_of, consumer_view, head_of, seat_view};
 ghost use Rattle.ring_words.specs.Across.{ReadsAcross};
 ghost use Rattle.ring_words.specs.Controlled.{heeded};
@@ -9,11 +10,10 @@ ghost use Rattle.ring_rings.specs.ReadingSteps.{Ended, HasCome, MayMoveTo, Settl
 
 use crate::consumer::turn::Turn;
 use crate::ring::{Consumer, Ring};
-use crate::steps::Steps;
 use ring_layout::byte_index;
 use ring_words::{Action, Handler, ReadEnd, Stop};
 
-impl<K, B: Steps> Ring<K, B> {
+impl<K> Ring<K> {
     /// Tests whether a read came from `start` to the end of the buffer.
     fn is_block_end(&self, start: u64, scan: u64) -> bool
         ensures { result ≡ (nat_lt start scan && scan % capacity_of self.now == 0) }
@@ -25,7 +25,7 @@ impl<K, B: Steps> Ring<K, B> {
     #[inline(always)]
     fn finish(
         &self,
-        consumer: &mut Consumer<B>,
+        consumer: &mut Consumer,
         start: u64,
         scan: u64,
         messages: u32,
@@ -36,6 +36,7 @@ impl<K, B: Steps> Ring<K, B> {
         requires to { HasCome scan (seat_view consumer.old)
             × MayMoveTo (capacity_of self.now) (head_of consumer.old) scan }
         ensures consumer { IsConsumerOf self.now consumer.new }
+        ensures seat { IsSameSeat consumer.old.seat consumer.new.seat }
         ensures settles { SettlesAll scan (seat_view consumer.old) (seat_view consumer.new) }
         ensures ended { Ended start scan messages stopped result }
     {
@@ -50,7 +51,7 @@ impl<K, B: Steps> Ring<K, B> {
     /// Reads at most `limit` messages. It heeds the handler's actions, or takes each as `Continue`.
     fn run<H: Handler>(
         &self,
-        consumer: &mut Consumer<B>,
+        consumer: &mut Consumer,
         limit: u32,
         heeds: bool,
         handler: &mut H,
@@ -59,6 +60,7 @@ impl<K, B: Steps> Ring<K, B> {
         requires ready { H.ready handler.old }
         ensures consumer { IsConsumerOf self.now consumer.new }
         ensures ready { H.ready handler.new }
+        ensures seat { IsSameSeat consumer.old.seat consumer.new.seat }
         ensures controls { Controls (heeded heeds H.step) limit
             (consumer_view consumer.old) (consumer_view consumer.new) handler.old handler.new result }
         ensures ends { EndsAt limit (consumer_view consumer.old) (consumer_view consumer.new) result }
@@ -108,16 +110,12 @@ impl<K, B: Steps> Ring<K, B> {
     /// It stops with `Limit` where `limit` messages were read, else with `Block` where it came to the end of the
     /// buffer, else with `Unpublished` where no settled record lay at the head. What it passes is set to 0, and then
     /// the head moves.
-    pub fn read<H: Handler>(
-        &self,
-        consumer: &mut Consumer<B>,
-        limit: u32,
-        handler: &mut H,
-    ) -> ReadEnd
+    pub fn read<H: Handler>(&self, consumer: &mut Consumer, limit: u32, handler: &mut H) -> ReadEnd
         requires consumer { IsConsumerOf self.now consumer.old }
         requires ready { H.ready handler.old }
         ensures consumer { IsConsumerOf self.now consumer.new }
         ensures ready { H.ready handler.new }
+        ensures seat { IsSameSeat consumer.old.seat consumer.new.seat }
         ensures reads { ReadsTo H.step limit (consumer_view consumer.old) (consumer_view consumer.new)
             handler.old handler.new result }
         ensures ends { EndsAt limit (consumer_view consumer.old) (consumer_view consumer.new) result }
@@ -130,7 +128,7 @@ impl<K, B: Steps> Ring<K, B> {
     /// with `Block` only where it went from one end of the buffer to the next.
     pub fn read_across<H: Handler>(
         &self,
-        consumer: &mut Consumer<B>,
+        consumer: &mut Consumer,
         limit: u32,
         handler: &mut H,
     ) -> ReadEnd
@@ -138,6 +136,7 @@ impl<K, B: Steps> Ring<K, B> {
         requires ready { H.ready handler.old }
         ensures consumer { IsConsumerOf self.now consumer.new }
         ensures ready { H.ready handler.new }
+        ensures seat { IsSameSeat consumer.old.seat consumer.new.seat }
         ensures reads { ReadsAcross (ReadsTo H.step) limit (consumer_view consumer.old) (consumer_view consumer.new)
             handler.old handler.new result }
         ensures ends { EndsAt limit (consumer_view consumer.old) (consumer_view consumer.new) result }
@@ -159,7 +158,7 @@ impl<K, B: Steps> Ring<K, B> {
     /// `Continue` goes on. Padding and aborted records that were passed before a message is left stay passed.
     pub fn controlled_read<H: Handler>(
         &self,
-        consumer: &mut Consumer<B>,
+        consumer: &mut Consumer,
         limit: u32,
         handler: &mut H,
     ) -> ReadEnd
@@ -167,6 +166,7 @@ impl<K, B: Steps> Ring<K, B> {
         requires ready { H.ready handler.old }
         ensures consumer { IsConsumerOf self.now consumer.new }
         ensures ready { H.ready handler.new }
+        ensures seat { IsSameSeat consumer.old.seat consumer.new.seat }
         ensures controls { Controls H.step limit (consumer_view consumer.old) (consumer_view consumer.new)
             handler.old handler.new result }
         ensures ends { EndsAt limit (consumer_view consumer.old) (consumer_view consumer.new) result }

@@ -9,14 +9,13 @@ ghost use Rattle.ring_rings.specs.Seats.{IsNewClaimOf, IsProducerOf, KeepsBoth, 
 
 use crate::claim::Claim;
 use crate::fault::TryFault;
-use crate::producer::claim::{try_claim, try_move};
-use crate::producer::headers::store_whole;
+use crate::producer::body::store_message;
+use crate::producer::claim::try_claim;
 use crate::ring::{ManyToOne, Producer, Ring};
-use crate::steps::Steps;
 use ring_layout::{NoShares, has_spare_share};
-use ring_table::Wanted;
+use ring_table::{Wanted, join_producer, load_tail, split_producer};
 
-impl<B: Steps> Ring<ManyToOne, B> {
+impl Ring<ManyToOne> {
     /// Makes one try to claim room for a message of `len` bytes, which are 0 until they are `put`. Several claims may
     /// be open at once.
     ///
@@ -27,7 +26,7 @@ impl<B: Steps> Ring<ManyToOne, B> {
     /// head, which it loaded after the tail. It never waits.
     pub fn claim_once(
         &self,
-        producer: &mut Producer<B>,
+        producer: &mut Producer,
         type_id: i32,
         len: usize,
     ) -> Result<Claim, TryFault>
@@ -41,7 +40,12 @@ impl<B: Steps> Ring<ManyToOne, B> {
         ensures claims { KeepsClaims self.now producer.old producer.new }
     {
         let wanted = Wanted { type_id, len };
-        let admission = try_claim(&self.table, &mut producer.seat, self.capacity, wanted)?;
+        let admission = try_claim(
+            &self.table.shared,
+            &mut producer.seat,
+            self.capacity,
+            wanted,
+        )?;
         producer.own_tail = admission.end;
         producer.open_claims += 1;
         Ok(Claim::new(self.capacity, admission.place, wanted))
@@ -51,7 +55,7 @@ impl<B: Steps> Ring<ManyToOne, B> {
     #[inline(always)]
     pub fn write_once(
         &self,
-        producer: &mut Producer<B>,
+        producer: &mut Producer,
         type_id: i32,
         body: &[u8],
     ) -> Result<(), TryFault>
@@ -68,16 +72,23 @@ impl<B: Steps> Ring<ManyToOne, B> {
             type_id,
             len: body.len(),
         };
-        let (table, seat) = (&self.table, &mut producer.seat);
-        let admission = try_move(table, seat, self.capacity, wanted)?;
-        store_whole(table, seat, self.capacity, admission, wanted, body);
+        let words = &self.table.shared;
+        let admission = try_claim(words, &mut producer.seat, self.capacity, wanted)?;
+        store_message(
+            words,
+            &mut producer.seat,
+            self.capacity,
+            admission.place,
+            wanted,
+            body,
+        );
         producer.own_tail = admission.end;
         Ok(())
     }
 
     /// Makes another producer with one share of this one's, without claims, draws or heartbeats read. `NoShares` where
     /// this one holds a single share, and then it is as before.
-    pub fn split(&self, producer: &mut Producer<B>) -> Result<Producer<B>, NoShares>
+    pub fn split(&self, producer: &mut Producer) -> Result<Producer, NoShares>
         requires { IsProducerOf self.now producer.old }
         ensures producer { IsProducerOf self.now producer.new }
         ensures refused { IsTrue (is_err result) ↔ (shares_of producer.old ≡ 1) }
@@ -90,7 +101,7 @@ impl<B: Steps> Ring<ManyToOne, B> {
         if !has_spare_share(producer.shares) {
             return Err(NoShares);
         }
-        let seat = self.table.split_producer(&mut producer.seat, self.capacity);
+        let seat = split_producer(&self.table.shared, &mut producer.seat);
         producer.shares -= 1;
         Ok(Producer {
             seat,
@@ -103,7 +114,7 @@ impl<B: Steps> Ring<ManyToOne, B> {
     /// Takes another producer in, with its shares and its claims. Afterwards the tail is loaded.
     ///
     /// Claims that are open stay so, those of either; this producer settles them all from then on.
-    pub fn join(&self, producer: &mut Producer<B>, other: Producer<B>)
+    pub fn join(&self, producer: &mut Producer, other: Producer)
         requires producer { IsProducerOf self.now producer.old }
         requires other { IsProducerOf self.now other }
         ensures producer { IsProducerOf self.now producer.new }
@@ -117,9 +128,8 @@ impl<B: Steps> Ring<ManyToOne, B> {
             open_claims,
             own_tail: _,
         } = other;
-        self.table
-            .join_producer(&mut producer.seat, self.capacity, seat);
-        producer.own_tail = self.table.load_tail(&mut producer.seat, self.capacity);
+        join_producer(&self.table.shared, &mut producer.seat, seat);
+        producer.own_tail = load_tail(&self.table.shared, &mut producer.seat, self.capacity);
         producer.shares += shares;
         producer.open_claims += open_claims;
     }

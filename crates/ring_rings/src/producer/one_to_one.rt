@@ -6,14 +6,13 @@ ghost use Rattle.ring_rings.specs.Seats.{capacity_of, shares_of, view_of};
 ghost use Rattle.ring_rings.specs.Seats.{IsNewClaimOf, IsProducerOf, KeepsClaims};
 
 use crate::claim::Claim;
-use crate::producer::claim::{claim_alone, move_alone};
-use crate::producer::headers::store_whole;
+use crate::producer::body::store_message;
+use crate::producer::claim::claim_alone;
 use crate::ring::{OneToOne, Producer, Ring};
-use crate::steps::Steps;
 use ring_table::Wanted;
 use ring_words::ClaimFault;
 
-impl<B: Steps> Ring<OneToOne, B> {
+impl Ring<OneToOne> {
     /// Claims room for a message of `len` bytes, which are 0 until they are `put`. Several claims may be open at once.
     ///
     /// It refuses, in this order, with `BadType` a type id below 1, with `TooLong` a body of more than an eighth of the
@@ -21,7 +20,7 @@ impl<B: Steps> Ring<OneToOne, B> {
     /// not fit behind the head, which was then loaded in this call. It never waits.
     pub fn claim(
         &self,
-        producer: &mut Producer<B>,
+        producer: &mut Producer,
         type_id: i32,
         len: usize,
     ) -> Result<Claim, ClaimFault>
@@ -37,7 +36,13 @@ impl<B: Steps> Ring<OneToOne, B> {
     {
         let wanted = Wanted { type_id, len };
         let tail = producer.own_tail;
-        let admission = claim_alone(&self.table, &mut producer.seat, self.capacity, tail, wanted)?;
+        let admission = claim_alone(
+            &self.table.shared,
+            &mut producer.seat,
+            self.capacity,
+            tail,
+            wanted,
+        )?;
         producer.own_tail = admission.end;
         producer.open_claims += 1;
         Ok(Claim::new(self.capacity, admission.place, wanted))
@@ -47,7 +52,7 @@ impl<B: Steps> Ring<OneToOne, B> {
     #[inline(always)]
     pub fn write(
         &self,
-        producer: &mut Producer<B>,
+        producer: &mut Producer,
         type_id: i32,
         body: &[u8],
     ) -> Result<(), ClaimFault>
@@ -65,10 +70,16 @@ impl<B: Steps> Ring<OneToOne, B> {
             type_id,
             len: body.len(),
         };
-        let (table, tail) = (&self.table, producer.own_tail);
-        let seat = &mut producer.seat;
-        let admission = move_alone(table, seat, self.capacity, tail, wanted)?;
-        store_whole(table, seat, self.capacity, admission, wanted, body);
+        let (words, tail) = (&self.table.shared, producer.own_tail);
+        let admission = claim_alone(words, &mut producer.seat, self.capacity, tail, wanted)?;
+        store_message(
+            words,
+            &mut producer.seat,
+            self.capacity,
+            admission.place,
+            wanted,
+            body,
+        );
         producer.own_tail = admission.end;
         Ok(())
     }

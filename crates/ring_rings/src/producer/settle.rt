@@ -5,50 +5,50 @@ ghost use Rattle.ring_layout.specs.History.{IsMessage};
 ghost use Rattle.ring_table.specs.declared.claim.Stage.TheVariants.{Stored};
 ghost use Rattle.ring_table.specs.Changes.{blank, staged};
 ghost use Rattle.ring_table.specs.ProducerSteps.{with_changed, HasClaimAt, IsStagedOpen};
+ghost use Rattle.ring_table.specs.Seats.{IsSameSeat, IsSeatOf};
 ghost use Rattle.ring_table.specs.Staged.{AreRising};
 ghost use Rattle.ring_rings.specs.Bodies.{PutsBytes};
 ghost use Rattle.ring_rings.specs.Seats.{view_of, IsOpenClaimOf, IsProducerOf, KeepsOthers};
-ghost use Rattle.ring_rings.specs.Steps.{IsSeat};
 
 use crate::claim::Claim;
+use crate::producer::body::put_bytes;
 use crate::ring::{Producer, Ring};
-use crate::steps::Steps;
 use ring_layout::ClaimState;
-use ring_table::Wanted;
+use ring_table::{RingSeat, SharedRing, Wanted, store_aborted_header, store_committed_header};
 use ring_words::PutRange;
 
 /// Stores the header of an open claim, which is committed or aborted from then on.
 #[inline]
-fn store_settled_header<B: Steps>(
-    table: &B,
-    seat: &mut B::Seat,
+fn store_settled_header(
+    words: &SharedRing,
+    seat: &mut RingSeat,
     capacity: u32,
     place: u64,
     wanted: Wanted,
     state: ClaimState,
 )
-    requires seat { IsSeat (B.belongs table.now capacity seat.old) capacity (B.knows seat.old) }
+    requires seat { IsSeatOf words.now.table_id words.now.key capacity seat.old }
     requires message { IsMessage capacity (blank wanted.type_id wanted.len) }
-    requires claim { HasClaimAt (B.knows seat.old) place (IsStagedOpen wanted.type_id wanted.len) }
+    requires claim { HasClaimAt seat.old.me.0 place (IsStagedOpen wanted.type_id wanted.len) }
     requires settled { state ≢ Open }
-    ensures seat { IsSeat (B.belongs table.now capacity seat.new) capacity (B.knows seat.new) }
-    ensures view { B.knows seat.new ≡ with_changed place (staged (Stored state)) (B.knows seat.old) }
-    ensures rising { AreRising (B.knows seat.old).producer.claims }
+    ensures seat { IsSameSeat seat.old seat.new }
+    ensures view { seat.new.me.0 ≡ with_changed place (staged (Stored state)) seat.old.me.0 }
+    ensures rising { AreRising seat.old.me.0.producer.claims }
 {
     match state {
-        ClaimState::Aborted => table.store_aborted_header(seat, capacity, place, wanted),
+        ClaimState::Aborted => store_aborted_header(words, seat, capacity, place, wanted),
         ClaimState::Committed | ClaimState::Open => {
-            table.store_committed_header(seat, capacity, place, wanted);
+            store_committed_header(words, seat, capacity, place, wanted);
         }
     }
 }
 
-impl<K, B: Steps> Ring<K, B> {
+impl<K> Ring<K> {
     /// Puts bytes into an open claim, from the byte `offset` of its body on. It refuses bytes that do not lie inside
     /// the body, and then nothing is changed.
     pub fn put(
         &self,
-        producer: &mut Producer<B>,
+        producer: &mut Producer,
         claim: &mut Claim,
         offset: usize,
         bytes: &[u8],
@@ -67,7 +67,8 @@ impl<K, B: Steps> Ring<K, B> {
         if offset > len || bytes.len() > len - offset {
             return Err(PutRange);
         }
-        self.table.put_bytes(
+        put_bytes(
+            &self.table.shared,
             &mut producer.seat,
             self.capacity,
             claim.place(),
@@ -79,7 +80,7 @@ impl<K, B: Steps> Ring<K, B> {
 
     /// Settles an open claim, as committed or as aborted.
     #[inline]
-    fn settle(&self, producer: &mut Producer<B>, claim: Claim, state: ClaimState)
+    fn settle(&self, producer: &mut Producer, claim: Claim, state: ClaimState)
         requires producer { IsProducerOf self.now producer.old }
         requires claim { IsOpenClaimOf self.now producer.old claim }
         requires settled { state ≢ Open }
@@ -93,7 +94,7 @@ impl<K, B: Steps> Ring<K, B> {
             len: claim.len(),
         };
         store_settled_header(
-            &self.table,
+            &self.table.shared,
             &mut producer.seat,
             self.capacity,
             claim.place(),
@@ -104,7 +105,7 @@ impl<K, B: Steps> Ring<K, B> {
     }
 
     /// Settles an open claim: the consumer is shown its message.
-    pub fn commit(&self, producer: &mut Producer<B>, claim: Claim)
+    pub fn commit(&self, producer: &mut Producer, claim: Claim)
         requires producer { IsProducerOf self.now producer.old }
         requires claim { IsOpenClaimOf self.now producer.old claim }
         ensures producer { IsProducerOf self.now producer.new }
@@ -116,7 +117,7 @@ impl<K, B: Steps> Ring<K, B> {
     }
 
     /// Settles an open claim: the consumer passes it.
-    pub fn abort(&self, producer: &mut Producer<B>, claim: Claim)
+    pub fn abort(&self, producer: &mut Producer, claim: Claim)
         requires producer { IsProducerOf self.now producer.old }
         requires claim { IsOpenClaimOf self.now producer.old claim }
         ensures producer { IsProducerOf self.now producer.new }

@@ -6,17 +6,16 @@ ghost use Rattle.ring_rings.specs.Seats.{capacity_of, view_of, IsNewClaimOf, IsP
 use crate::claim::Claim;
 use crate::fault::TryFault;
 use crate::ring::{ManyToOne, Producer, Ring};
-use crate::steps::Steps;
 use crossbeam_utils::Backoff;
 use ring_words::ClaimFault;
 use std::sync::Wait;
 
-impl<B: Steps> Ring<ManyToOne, B> {
+impl Ring<ManyToOne> {
     /// Claims as `claim_once` does, and tries again while that is `Contended`. So it may wait.
     pub fn claim<R: Wait>(
         &self,
         rt: &R,
-        producer: &mut Producer<B>,
+        producer: &mut Producer,
         type_id: i32,
         len: usize,
     ) -> Result<Claim, ClaimFault>
@@ -44,7 +43,7 @@ impl<B: Steps> Ring<ManyToOne, B> {
     pub fn write<R: Wait>(
         &self,
         rt: &R,
-        producer: &mut Producer<B>,
+        producer: &mut Producer,
         type_id: i32,
         body: &[u8],
     ) -> Result<(), ClaimFault>

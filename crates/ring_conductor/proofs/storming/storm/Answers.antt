@@ -9,10 +9,11 @@ use Rattle.ring_conductor.specs.declared.finishing.Finished.{Finished}
 use Rattle.ring_conductor.specs.Asking.{services_of}
 use Rattle.ring_conductor.specs.Finishing.{claims_in, joined_by, replies_of, services_in}
 use Rattle.ring_conductor.specs.Storming.{HasFinished, IsBoardFor, IsReportBy, IsReportFrom, storm_counters}
+use Rattle.ring_rings.specs.declared.ring.Ring.{Ring}
 use Rattle.ring_board.specs.declared.board.Board.{Board}
 use Rattle.ring_counters.specs.declared.values.seats.CounterValues.{CounterValues}
-use Rattle.ring_rings.specs.Words.{WordProducer, WordRing}
 use Rattle.ring_rings.specs.Reading.{messages_of}
+use Rattle.ring_rings.specs.declared.ring.Producer.{Producer}
 use Rattle.ring_rings.specs.Seats.{claims_of, view_of}
 use Rattle.ring_board.specs.Closing.{closed_capacity}
 use Rattle.ring_conductor.specs.Conducting.{received_of, ring_view}
@@ -21,7 +22,7 @@ use Rattle.ring_conductor.proofs.StormLemmas.{handed_at, reported, storm_count}
 use Rattle.ring_conductor.proofs.storming.storm.Goals as goal
 
 -- the counters are what the messages taken make of fresh ones
-counted : {K : Type 0} {p : StormPlan} {ring : WordRing K} {board : Board} {values : CounterValues} {end : StormEnd}
+counted : {K : Type 0} {p : StormPlan} {ring : Ring K} {board : Board} {values : CounterValues} {end : StormEnd}
     (e : HasFinished p ring board values end)
     → registry_of end.finished.counters ≡ storm_counters p (messages_of (received_of e.hub.conductor))
 counted e = ap (λ (m : CountersManager). registry_of m) e.hands_on.counters ∙ e.end.hub.2.0
@@ -60,7 +61,7 @@ returns-in-None-clause-report g c =
       writes = writes_of finished.counters;
       folded = e.headline.folded;
     } c.report.result _ _ e.hands_on.received done.1 said.received said.left said.live said.sum in
-    let same_producer = subst (λ (x : WordProducer). IsReportBy c.args.plan.now c.report.result (claims_of x) taken
+    let same_producer = subst (λ (x : Producer). IsReportBy c.args.plan.now c.report.result (claims_of x) taken
     (replies_of e.hub.conductor) (joined_by e.hub.conductor) (services_of x) (registry_of finished.counters)
     (writes_of finished.counters)) (sym e.hands_on.producer) by in
     let same_conductor = subst (λ (x : Conductor). IsReportBy c.args.plan.now c.report.result (claims_in finished)

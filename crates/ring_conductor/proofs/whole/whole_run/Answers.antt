@@ -2,7 +2,8 @@ use Rattle.std.proofs.Common.{◌≡◌, ◌∙◌, ◌++◌, length, map, refl,
 use Rattle.ring_table.specs.declared.view.View.{View}
 use Rattle.ring_table.specs.OpenClaims.{open_count}
 use Rattle.ring_table.specs.Services.{times_drawn}
-use Rattle.ring_rings.specs.Words.{WordConsumer, WordProducer}
+use Rattle.ring_rings.specs.declared.ring.Consumer.{Consumer}
+use Rattle.ring_rings.specs.declared.ring.Producer.{Producer}
 use Rattle.ring_rings.specs.Closing.{AreOrdered}
 use Rattle.ring_rings.specs.Reading.{messages_of}
 use Rattle.ring_rings.specs.Seats.{capacity_of, claims_of, open_claims_of, shares_of, taken_of, view_of}
@@ -30,13 +31,13 @@ use Rattle.ring_conductor.proofs.whole.whole_run.Goals as goal
 pub unreachable-requires : goal.unreachable-requires
 unreachable-requires c =
     let is = c.into_parts-producer.ensures.producer ∙ c.poll-polled.ensures.producer in
-    let shares = ap (λ (p : WordProducer). shares_of p) is
+    let shares = ap (λ (p : Producer). shares_of p) is
     ∙ (c.send-2.ensures.holdings.holdings.shares ∙ (c.send.ensures.holdings.holdings.shares
-    ∙ (ap (λ (p : WordProducer). shares_of p) c.new-client.ensures.producer
+    ∙ (ap (λ (p : Producer). shares_of p) c.new-client.ensures.producer
     ∙ ap (λ (v : View). v.producer.shares) c.in-Ok.ensures.producer.1))) in
-    let settled = ap (λ (p : WordProducer). open_claims_of p) is
+    let settled = ap (λ (p : Producer). open_claims_of p) is
     ∙ (c.send-2.ensures.holdings.open_claims ∙ (c.send.ensures.holdings.open_claims
-    ∙ (ap (λ (p : WordProducer). open_claims_of p) c.new-client.ensures.producer
+    ∙ (ap (λ (p : Producer). open_claims_of p) c.new-client.ensures.producer
     ∙ ap (λ (v : View). open_count v.producer.claims) c.in-Ok.ensures.producer.1))) in
     let made = ap (λ (t : Transmitter). board_shares_of t) c.new-conductor.ensures.transmitter
     ∙ ap (λ (v : BoardView). v.shares) c.in-Ok-new.ensures.transmitter.1 in
@@ -59,11 +60,11 @@ returns c =
     let sent = transmitted (transmitter_of end) in
     let early = c.do_work.ensures.works in
     let late = c.do_work-2.ensures.works in
-    let none = ap (λ (x : WordConsumer). taken_of x)
+    let none = ap (λ (x : Consumer). taken_of x)
     (c.in-Ok-subscribe.ensures.others.consumer ∙ c.new-conductor.ensures.consumer)
     ∙ ap (λ (v : View). v.consumer.taken) c.in-Ok.ensures.consumer.1 in
-    let kept = ap (λ (x : WordConsumer). taken_of x) c.in-Ok-subscribe-2.ensures.others.consumer in
-    let left = ap (λ (x : WordConsumer). taken_of x)
+    let kept = ap (λ (x : Consumer). taken_of x) c.in-Ok-subscribe-2.ensures.others.consumer in
+    let left = ap (λ (x : Consumer). taken_of x)
     (c.join_receiver-2.ensures.others.consumer ∙ c.join_receiver.ensures.others.consumer) in
     let taken =
     ap messages_of left ∙ two_reads _ _ _ _ early.messages late.messages none early.received kept late.received in
@@ -95,8 +96,8 @@ returns c =
     ∙ ap (λ (v : BoardView). v.heard) c.in-Ok-new.ensures.transmitter.1) in
     let heard = c.do_work-2.ensures.heard ∙ (ap (λ (v : BoardView). v.heard) c.in-Ok-subscribe-2.ensures.fewer
     ∙ (c.do_work.ensures.heard ∙ heard_made)) in
-    let is = ap (λ (x : WordProducer). view_of x) (c.into_parts-producer.ensures.producer ∙ c.poll-polled.ensures.producer) in
-    let made = ap (λ (x : WordProducer). view_of x) c.new-client.ensures.producer ∙ c.in-Ok.ensures.producer.1 in
+    let is = ap (λ (x : Producer). view_of x) (c.into_parts-producer.ensures.producer ∙ c.poll-polled.ensures.producer) in
+    let made = ap (λ (x : Producer). view_of x) c.new-client.ensures.producer ∙ c.in-Ok.ensures.producer.1 in
     let two = two_sent (capacity_of ring) e.hands_on.services.drawn _ _ (client_view c.new-client.result)
     (client_view c.send.new.self) (client_view c.send-2.new.self) c.in_ok-asked.asked c.in_ok-send.field-0
     (ap (λ (v : View). v.producer.claims) made) (ap (λ (v : View). v.producer.service.draws) made)
@@ -120,16 +121,16 @@ returns c =
     let starts = c.do_work.ensures.conductor.1.1.1 ∙ c.in-Ok-new.ensures.board.1 in
     let newest = c.in-Ok-subscribe-2.ensures.receiver.1 in
     record {
-      claims = ap (λ (x : WordProducer). map settled_message (claims_of x)) named_p
+      claims = ap (λ (x : Producer). map settled_message (claims_of x)) named_p
           ∙ (ap (λ (v : View). map settled_message v.producer.claims) is ∙ two.1);
-      ordered = subst (λ (x : WordProducer). AreOrdered 1024 0 (claims_of x)) (sym named_p)
+      ordered = subst (λ (x : Producer). AreOrdered 1024 0 (claims_of x)) (sym named_p)
           (subst (λ n. AreOrdered n 0 cs) c.in-Ok.ensures.ring.0
           (subst (λ n. AreOrdered (capacity_of ring) n cs) c.in-Ok.ensures.ring.1 e.headline.ordered));
       first = messages_of early.messages;
       others = messages_of late.messages;
       received = ap messages_of received_now ∙ taken;
       counted = e.hands_on.received ∙ sym (ap length received_now);
-      whole = subst (λ (x : WordProducer). IsWhole (claims_of x) (received_of f.conductor.value) f.rest) (sym named_p)
+      whole = subst (λ (x : Producer). IsWhole (claims_of x) (received_of f.conductor.value) f.rest) (sym named_p)
           (subst (λ (x : Conductor). IsWhole cs (received_of x) f.rest) (sym named_c) e.headline.whole);
       folded = two_folds (ledger_of c.subscribe.new.self) (ledger_of c.do_work.new.self)
           (ledger_of c.subscribe-2.new.self) (ledger_of c.do_work-2.new.self)

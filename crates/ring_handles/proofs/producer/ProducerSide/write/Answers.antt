@@ -1,8 +1,8 @@
-use Rattle.ring_rings.specs.Words.{WordProducer}
 use Rattle.std.proofs.Common.{false, rules, sym, subst, true, ◌≡◌, List}
 use Rattle.std.specs.Int.{w32}
 use Rattle.std.proofs.lemmas.Int.{to_z-of_z}
 use Rattle.ring_words.specs.Open.{ClaimAt}
+use Rattle.ring_rings.specs.declared.ring.Producer.{Producer}
 use Rattle.ring_handles.specs.Side.{side_in, Side}
 use Rattle.ring_handles.specs.declared.identity.Identity.{Identity}
 use Rattle.ring_handles.specs.declared.ring.AnyRing.{AnyRing}
@@ -11,7 +11,7 @@ use Rattle.ring_handles.specs.Producing.{Wrote}
 use Rattle.ring_handles.proofs.producer.ProducerSide.write.Goals as goal
 
 -- what holds of a ring's producer holds of that of the handle, whose ring it is
-of_the_handle : (R : Side → Side → Type 0) (any ring : AnyRing) (identity : Identity) (p q : WordProducer)
+of_the_handle : (R : Side → Side → Type 0) (any ring : AnyRing) (identity : Identity) (p q : Producer)
     (claims : List ClaimAt) (s : Side) → any ≡ ring → side_in any identity p claims ≡ s
     → R (side_in ring identity p claims) (side_in ring identity q claims) → R s (side_in any identity q claims)
 of_the_handle R any ring identity p q claims s is view holds =

@@ -1,5 +1,6 @@
-use Rattle.std.proofs.Common.{refl, ap, arith}
+use Rattle.std.proofs.Common.{refl, ap, ◌∙◌, arith}
 use Rattle.ring_table.specs.declared.view.View.{View}
+use Rattle.ring_table.specs.ProducerSteps.{Mine}
 use Rattle.ring_table.proofs.StagedPlaces.{start_aligned}
 use Rattle.ring_rings.proofs.ring.Ring.make.Goals as goal
 
@@ -21,5 +22,5 @@ invariant_of-producer g c =
             start_aligned c.args.capacity c.args.start (record { capacity = c.requires.capacity; start_is = start.0 });
         limit = start.1;
       });
-      produces = ap (λ (v : View). v.consumes) e.left;
+      produces = (ap (λ (v : View). v.consumes) e.left, e.seat.slots ∙ ap (λ (m : Mine). m.1) view);
     }

@@ -26,24 +26,24 @@ invariant_of-producer g c =
         shares_are = ap (λ (v : View). v.producer.shares) put.view ∙ p.known.shares_are;
         some = p.known.some;
         most = p.known.most;
-        counted = ap open_count claims ∙ count_kept f c.place.result (λ d. refl) (g.B.Steps.knows p.seat).producer.claims
+        counted = ap open_count claims ∙ count_kept f c.place.result (λ d. refl) p.seat.me.0.producer.claims
             ∙ p.known.counted;
         rising = subst AreRising (sym claims) (rising_kept f c.place.result
-            (λ d. refl) (g.B.Steps.knows p.seat).producer.claims p.known.rising);
+            (λ d. refl) p.seat.me.0.producer.claims p.known.rising);
         stored = subst AreStored (sym claims) (stored_kept f c.place.result
-            (λ d. refl) (g.B.Steps.knows p.seat).producer.claims p.known.stored);
+            (λ d. refl) p.seat.me.0.producer.claims p.known.stored);
         own = λ all. ap (λ (v : View). v.producer.seen_tail) put.view ∙ p.known.own all;
         whole = p.known.whole;
         limit = p.known.limit;
       };
-      produces = ap (λ (v : View). v.consumes) put.view ∙ p.produces;
+      produces = (ap (λ (v : View). v.consumes) put.view ∙ p.produces.0, c.put_bytes.ensures.seat.slots ∙ p.produces.1);
     }
 
 pub returns-clause-claim : goal.returns-clause-claim
 returns-clause-claim g c =
     let h = c.requires.claim in
     let t = c.args.claim.now in
-    let v : View = (g.B.Steps.knows c.args.producer.now.seat) in
+    let v : View = c.args.producer.now.seat.me.0 in
     let put = c.put_bytes.ensures.put in
     let f : StagedClaim → StagedClaim = put_at c.args.offset c.args.bytes.now in (
       refl,
@@ -77,7 +77,7 @@ returns-clause-others g c =
     record {
       rising = c.args.producer.now.known.rising;
       claims = λ t h other.
-          still_open h (has_other (g.B.Steps.knows c.args.producer.now.seat) (g.B.Steps.knows c.put_bytes.new.seat) c.place.result t.place
+          still_open h (has_other c.args.producer.now.seat.me.0 c.put_bytes.new.seat.me.0 c.place.result t.place
           (put_at c.args.offset c.args.bytes.now) (IsStagedOpen t.type_id t.len)
           (ap (λ (v : View). v.producer.claims) put.view) h.claim (λ here. other (here ∙ c.place.ensures)));
     }

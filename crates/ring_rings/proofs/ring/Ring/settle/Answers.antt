@@ -12,7 +12,7 @@ pub overflow_sub-producer : goal.overflow_sub-producer
 overflow_sub-producer g c =
     let p = c.args.producer.now in
     let counted = p.known.counted in
-    let settled = settles_one (g.B.Steps.knows p.seat) c.args.claim.place c.place.result c.args.claim.type_id c.args.claim.len
+    let settled = settles_one p.seat.me.0 c.args.claim.place c.place.result c.args.claim.type_id c.args.claim.len
     c.args.state c.requires.claim.claim c.place.ensures c.store_settled_header.ensures.rising
     (none_open c.args.state c.requires.settled) in
     omega arith
@@ -22,10 +22,10 @@ invariant_of-producer g c =
     let p = c.args.producer.now in
     let e = c.store_settled_header.ensures in
     record {
-      known = matches_settled (g.B.Steps.knows p.seat) _ p.shares p.open_claims p.own_tail c.args.claim.place c.place.result
+      known = matches_settled p.seat.me.0 _ p.shares p.open_claims p.own_tail c.args.claim.place c.place.result
           c.args.claim.type_id c.args.claim.len c.args.state p.known c.requires.claim.claim c.place.ensures e.rising
           e.view (none_open c.args.state c.requires.settled);
-      produces = ap (λ (v : View). v.consumes) e.view ∙ p.produces;
+      produces = (ap (λ (v : View). v.consumes) e.view ∙ p.produces.0, e.seat.slots ∙ p.produces.1);
     }
 
 pub returns-clause-others : goal.returns-clause-others
@@ -34,7 +34,7 @@ returns-clause-others g c =
     record {
       rising = e.rising;
       claims = λ t h other.
-          still_open h (has_other (g.B.Steps.knows c.args.producer.now.seat) (g.B.Steps.knows c.store_settled_header.new.seat) c.place.result
+          still_open h (has_other c.args.producer.now.seat.me.0 c.store_settled_header.new.seat.me.0 c.place.result
           t.place (staged (Stored c.args.state)) (IsStagedOpen t.type_id t.len)
           (ap (λ (v : View). v.producer.claims) e.view) h.claim (λ here. other (here ∙ c.place.ensures)));
     }

@@ -6,7 +6,7 @@ use Rattle.ring_conductor.proofs.storming.shared.Shared.work.Given as goal
 
 abbrev pub invariant-loop : goal.invariant-loop
 invariant-loop g l = record {
-  conductor : IsConductorOf l.self.ring.now l.self.board.now l.self.values.now l.conductor;
+  conductor : IsConductorOf IsConsumerOf l.self.ring.now l.self.board.now l.self.values.now l.conductor;
   counters : HasCounters l.self.plan l.conductor;
   receivers : KeepsReceivers l.fn.conductor l.conductor;
   taken : taken_by l.conductor ≡ taken_by l.fn.conductor;

@@ -1,0 +1,87 @@
+//! What a conductor needs of a ring, whatever its kind.
+ghost use Rattle.std.specs.Prelude.{◌≡◌, ℕ, ◌+◌, ◌≤◌, IfOk};
+ghost use Rattle.ring_table.specs.Seats.{IsSameSeat};
+ghost use Rattle.ring_table.specs.Views.{with_beat};
+ghost use Rattle.ring_rings.specs.declared.ring.Consumer.{Consumer as TheConsumer};
+ghost use Rattle.ring_rings.specs.declared.ring.Producer.{Producer as TheProducer};
+ghost use Rattle.ring_rings.specs.Closing.{close_refusal_of, kept_open, HandsOut, IsRefusedAs, Serves};
+ghost use Rattle.ring_rings.specs.Reading.{Controls, EndsAt};
+ghost use Rattle.ring_rings.specs.Seats.{capacity_of, consumer_view, head_of, open_claims_of, shares_of, start_of};
+ghost use Rattle.ring_rings.specs.Seats.{view_of, IsConsumerOf, IsProducerOf};
+
+use crate::ring::{CloseRefused, Consumer, Producer, Ring};
+use ring_words::{Handler, ReadEnd, SoloRing, Stop};
+
+/// A ring that commands are read from: of one producer or of many.
+pub trait CommandSource: Sized {
+    /// The bytes of its buffer.
+    ghost bytes: { Self → ℕ };
+
+    /// The position of its first claim.
+    ghost start: { Self → ℕ };
+
+    /// A producer of this ring.
+    ghost is_producer: { Self → TheProducer → Type 0 };
+
+    /// The consumer of this ring.
+    ghost is_consumer: { Self → TheConsumer → Type 0 };
+
+    /// Reads at most `limit` messages, and heeds the handler's actions, as `Ring::controlled_read` does.
+    fn controlled_read<H: Handler>(
+        &self,
+        consumer: &mut Consumer,
+        limit: u32,
+        handler: &mut H,
+    ) -> ReadEnd
+        requires consumer { is_consumer self.now consumer.old }
+        requires ready { H.ready handler.old }
+        ensures consumer { is_consumer self.now consumer.new }
+        ensures ready { H.ready handler.new }
+        ensures seat { IsSameSeat consumer.old.seat consumer.new.seat }
+        ensures controls { Controls H.step limit (consumer_view consumer.old) (consumer_view consumer.new)
+            handler.old handler.new result }
+        ensures ends { EndsAt limit (consumer_view consumer.old) (consumer_view consumer.new) result };
+
+    /// Stores the consumer's heartbeat, as `Ring::set_heartbeat` does.
+    fn set_heartbeat(&self, consumer: &mut Consumer, value: u64)
+        requires consumer { is_consumer self.now consumer.old }
+        ensures consumer { is_consumer self.now consumer.new }
+        ensures seat { IsSameSeat consumer.old.seat consumer.new.seat }
+        ensures view { consumer_view consumer.new ≡ with_beat value (consumer_view consumer.old) };
+
+    /// Takes the ring apart, as `Ring::close` does.
+    fn close(self, producer: Producer, consumer: Consumer) -> Result<SoloRing, CloseRefused<Self>>
+        requires producer { is_producer self producer }
+        requires consumer { is_consumer self consumer }
+        ensures refused { IsRefusedAs (kept_open self producer consumer)
+            (close_refusal_of (open_claims_of producer) (shares_of producer)) result }
+        ensures rest { IfOk result (HandsOut (bytes self) (start self) (view_of producer) (consumer_view consumer)) }
+        ensures service { IfOk result (Serves (bytes self) (view_of producer) (consumer_view consumer)) };
+}
+
+impl<K> CommandSource for Ring<K> {
+    ghost bytes = { capacity_of };
+
+    ghost start = { start_of };
+
+    ghost is_producer = { IsProducerOf };
+
+    ghost is_consumer = { IsConsumerOf };
+
+    fn controlled_read<H: Handler>(
+        &self,
+        consumer: &mut Consumer,
+        limit: u32,
+        handler: &mut H,
+    ) -> ReadEnd {
+        Ring::controlled_read(self, consumer, limit, handler)
+    }
+
+    fn set_heartbeat(&self, consumer: &mut Consumer, value: u64) {
+        Ring::set_heartbeat(self, consumer, value);
+    }
+
+    fn close(self, producer: Producer, consumer: Consumer) -> Result<SoloRing, CloseRefused<Self>> {
+        Ring::close(self, producer, consumer)
+    }
+}
