@@ -1,4 +1,5 @@
 -- The steps as the functions call them: at the word that the code computes, under the capacity that the caller has.
+use Rattle.ring_table.specs.Staged.{in_words}
 use Rattle.std.proofs.Common.{◌≡◌, ℕ, ◌+◌, ◌/◌, ◌<◌, ℤ, sym, ap, ◌∙◌, subst, arith}
 use Rattle.atomic_table.specs.Seated.{TableId}
 use Rattle.atomic_table.specs.Table.{Allows}
@@ -36,7 +37,7 @@ module _ {id : TableId} {key : Key} {capacity : ℕ} {seat : Seat Wanted View} (
   -- a ring of the capacity C lets the word i become f of itself, and `told` holds of it, the view, the number found and
   -- the view after
   abbrev pub MayStep : ℕ → ℕ → (ℕ → ℕ) → (ℕ → Mine → ℕ → Mine → Type 0) → Type 0
-  MayStep C i f told = Allows (Ok C key.start) id.slots seat.id seat.me i f (told i seat.me)
+  MayStep C i f told = Allows (Ok in_words C key.start) id.slots seat.id seat.me i f (told i seat.me)
 
   -- what a step asks of the table
   abbrev pub Asks : ℕ → (ℕ → ℕ) → (ℕ → Mine → ℕ → Mine → Type 0) → Type 0
@@ -76,7 +77,7 @@ module _ {id : TableId} {key : Key} {capacity : ℕ} {seat : Seat Wanted View} (
         (λ k me _ me'. (me'.1 ≡ me.1) × StoresSettled u k me.0 me'.0 × AreRising me.0.producer.claims)
     settled_step value value_is = record_step i place h.claim.place is h.at_place (λ _. value)
         (λ k me _ me'. (me'.1 ≡ me.1) × StoresSettled u k me.0 me'.0 × AreRising me.0.producer.claims)
-        (settles capacity key.start u id.slots seat.id seat.me s.view_is h.nth h.claim value h.there h.holds.stage
+        (settles in_words capacity key.start u id.slots seat.id seat.me s.view_is h.nth h.claim value h.there h.holds.stage
         value_is)
 
     pub settled_view : (w : View) → StoresSettled u i seat.me.0 w → w ≡ with_changed place (staged (Stored u)) seat.me.0

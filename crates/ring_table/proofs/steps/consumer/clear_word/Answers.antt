@@ -1,3 +1,4 @@
+use Rattle.ring_table.specs.Staged.{in_words}
 use Rattle.std.proofs.Common.{◌≡◌, ap, arith}
 use Rattle.ring_table.specs.Views.{View}
 use Rattle.ring_table.specs.ConsumerSteps.{ClearsWord}
@@ -11,7 +12,7 @@ store-requires c =
     let passed = c.requires.passed in
     record_step c.requires.seat _ c.args.cleared _ c.requires.target at (λ _. 0)
     (λ _ me _ me'. (me'.1 ≡ me.1) × ClearsWord me.0 me'.0)
-    (clears_word c.args.capacity c.args.ring.now.key.start _ _ c.args.consumer.now.me c.requires.consumes (omega arith))
+    (clears_word in_words c.args.capacity c.args.ring.now.key.start _ _ c.args.consumer.now.me c.requires.consumes (omega arith))
 
 pub returns-clause-seat : goal.returns-clause-seat
 returns-clause-seat c = let h = c.store.ensures in same_seat h.0 h.1 h.2.0 (ap (λ (v : View). v.capacity) h.2.1)

@@ -1,3 +1,4 @@
+use Rattle.ring_table.specs.Staged.{in_words}
 use Rattle.std.proofs.Common.{◌≡◌, ap, refl, subst}
 use Rattle.ring_table.specs.Views.{View, logged}
 use Rattle.ring_table.specs.ConsumerSteps.{LoadsBody}

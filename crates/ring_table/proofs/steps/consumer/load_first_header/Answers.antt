@@ -1,3 +1,4 @@
+use Rattle.ring_table.specs.Staged.{in_words}
 use Rattle.std.proofs.Common.{◌≡◌, ℕ, sym, ◌∙◌, subst}
 use Rattle.ring_table.specs.Views.{Logs}
 use Rattle.ring_table.specs.ProducerSteps.{Mine}
@@ -13,7 +14,7 @@ load-requires c =
     record_step s _ c.args.head _ c.word_index.ensures at (λ n. n)
     (λ k me n me'. (me'.1 ≡ me.1) × LoadsHeader me.0.capacity me.0.consumer.head me.0.consumer.taken me.0 n me'.0
     × Logs k n me.0 me'.0)
-    (loads_first c.args.capacity c.args.ring.now.key.start _ _ c.args.consumer.now.me s.view_is c.requires.consumes
+    (loads_first in_words c.args.capacity c.args.ring.now.key.start _ _ c.args.consumer.now.me s.view_is c.requires.consumes
     (c.requires.nothing_cleared ∙ sym at))
 
 pub returns-clause-told : goal.returns-clause-told

@@ -1,3 +1,4 @@
+use Rattle.ring_table.specs.Staged.{in_words}
 use Rattle.std.proofs.Common.{◌≡◌, ℕ, subst, arith}
 use Rattle.ring_table.specs.Views.{Logs}
 use Rattle.ring_table.specs.ProducerSteps.{Mine}
@@ -13,7 +14,7 @@ load-requires c =
     record_step s _ c.args.scan _ c.word_index.ensures at (λ n. n)
     (λ k me n me'. (me'.1 ≡ me.1) × LoadsHeader me.0.capacity me.0.consumer.scan me.0.consumer.got me.0 n me'.0
     × Logs k n me.0 me'.0)
-    (loads_next c.args.capacity c.args.ring.now.key.start _ _ c.args.consumer.now.me s.view_is c.requires.consumes
+    (loads_next in_words c.args.capacity c.args.ring.now.key.start _ _ c.args.consumer.now.me s.view_is c.requires.consumes
     (let near = c.requires.near in omega arith))
 
 pub returns-clause-told : goal.returns-clause-told

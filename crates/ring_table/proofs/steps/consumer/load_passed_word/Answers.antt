@@ -1,3 +1,4 @@
+use Rattle.ring_table.specs.Staged.{in_words}
 use Rattle.std.proofs.Common.{◌≡◌, ap, arith}
 use mathlib.Core.Logic.{dite}
 use native.Mathlib.Decide.{ℕ_discrete}
@@ -13,7 +14,7 @@ load-requires c =
     let passed = c.requires.passed in
     record_step c.requires.seat _ c.args.cleared _ c.requires.target at (λ n. n)
     (λ _ me n me'. (me'.1 ≡ me.1) × LoadsPassed me.0 n me'.0)
-    (loads_passed c.args.capacity c.args.ring.now.key.start _ _ c.args.consumer.now.me c.requires.consumes
+    (loads_passed in_words c.args.capacity c.args.ring.now.key.start _ _ c.args.consumer.now.me c.requires.consumes
     (omega arith))
 
 pub returns-clause-seat : goal.returns-clause-seat

@@ -1,3 +1,4 @@
+use Rattle.ring_table.specs.Staged.{in_words}
 use Rattle.std.proofs.Common.{◌≡◌, ap, arith}
 use Rattle.ring_table.specs.Views.{View}
 use Rattle.ring_table.specs.ConsumerSteps.{StoresHead}
@@ -8,7 +9,7 @@ use Rattle.ring_table.proofs.steps.consumer.store_head.Goals as goal
 pub store-requires : goal.store-requires
 store-requires c = trailer_step c.requires.seat _ 48 (omega arith) c.trailer_word.ensures (λ _. c.args.head)
     (λ _ me _ me'. (me'.1 ≡ me.1) × StoresHead me.0 me'.0)
-    (stores_head c.args.capacity c.args.ring.now.key.start _ _ c.args.consumer.now.me c.args.head
+    (stores_head in_words c.args.capacity c.args.ring.now.key.start _ _ c.args.consumer.now.me c.args.head
     c.requires.consumes c.requires.scan c.requires.cleared)
 
 pub returns-clause-seat : goal.returns-clause-seat

@@ -1,3 +1,4 @@
+use Rattle.ring_table.specs.Staged.{in_words}
 use Rattle.std.proofs.Common.{◌≡◌, ap, arith}
 use Rattle.ring_table.specs.Views.{View}
 use Rattle.ring_table.specs.ConsumerSteps.{StoresHeadBefore}
@@ -9,7 +10,7 @@ pub store-requires : goal.store-requires
 store-requires c = let l = c.requires.last in
     trailer_step c.requires.seat _ 48 (omega arith) c.trailer_word.ensures (λ _. c.args.head)
     (λ _ me _ me'. (me'.1 ≡ me.1) × StoresHeadBefore me.0 me'.0)
-    (stores_head_before c.args.capacity c.args.ring.now.key.start _ _ c.args.consumer.now.me c.args.head l.front l.last
+    (stores_head_before in_words c.args.capacity c.args.ring.now.key.start _ _ c.args.consumer.now.me c.args.head l.front l.last
     c.requires.consumes l.got l.place l.cleared)
 
 pub returns-clause-seat : goal.returns-clause-seat

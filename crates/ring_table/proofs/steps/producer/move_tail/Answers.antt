@@ -1,3 +1,4 @@
+use Rattle.ring_table.specs.Staged.{in_words}
 use Rattle.std.proofs.Common.{◌≡◌, ◌≢◌, ℕ, ap, eqb, arith, subst}
 use mathlib.Core.Logic.{dite}
 use mathlib.Core.Option.{some}
@@ -16,7 +17,7 @@ compare_exchange_with-requires c =
     trailer_step c.requires.seat _ 16 (omega arith) c.trailer_word-tail.ensures (λ n. either (eqb n old) new n)
     (λ k me n me'. (me'.1 ≡ me.1) × ((said : Wanted) → some c.args.wanted ≡ some said
     → MovesTail me.0.capacity old new said me.0 n me'.0) × (n ≢ old → Logs k n me.0 me'.0))
-    (moves_tail c.args.capacity c.args.ring.now.key.start _ _ c.args.producer.now.me c.requires.seat.view_is old new
+    (moves_tail in_words c.args.capacity c.args.ring.now.key.start _ _ c.args.producer.now.me c.requires.seat.view_is old new
     c.args.wanted c.requires.share c.requires.room)
 
 pub returns-clause-told : goal.returns-clause-told

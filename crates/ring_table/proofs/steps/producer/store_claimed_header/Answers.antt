@@ -1,3 +1,4 @@
+use Rattle.ring_table.specs.Staged.{in_words}
 use Rattle.std.proofs.Common.{◌≡◌, ℕ, ◌+◌, ◌^◌, ◌<◌, sym, ap, ◌∙◌, arith}
 use Rattle.std.proofs.lemmas.List.{length-replicate}
 use Rattle.ring_layout.specs.Places.{index}
@@ -19,7 +20,7 @@ store-requires c =
     c.open_header-header.ensures in
     record_step s _ c.args.place _ c.word_index.ensures h.at_place (λ _. value)
     (λ i me _ me'. (me'.1 ≡ me.1) × StoresClaimed i value me.0 me'.0 × AreRising me.0.producer.claims)
-    (opens c.args.capacity c.args.ring.now.key.start _ _ c.args.producer.now.me s.view_is h.nth h.claim
+    (opens in_words c.args.capacity c.args.ring.now.key.start _ _ c.args.producer.now.me s.view_is h.nth h.claim
     c.args.wanted.type_id c.args.wanted.len value value_is h.there h.holds.stage
     (record { most = s.lawful.most; span_is = h.holds.same_span; lawful = c.requires.message }))
 

@@ -1,3 +1,4 @@
+use Rattle.ring_table.specs.Staged.{in_words}
 use Rattle.std.proofs.Common.{◌≡◌, ℕ, ◌-◌, ◌<◌, sym, ap, ◌∙◌, subst}
 use Rattle.ring_layout.specs.Headers.{padding_header}
 use Rattle.ring_layout.specs.Places.{index}
@@ -16,7 +17,7 @@ store-requires c =
     let value : ℕ = c.padding_header-header.result in
     record_step s _ c.args.from _ c.word_index.ensures h.holds.from_is (λ _. value)
     (λ i me _ me'. (me'.1 ≡ me.1) × StoresPadding i me.0 me'.0 × AreRising me.0.producer.claims)
-    (pads c.args.capacity c.args.ring.now.key.start _ _ c.args.producer.now.me s.view_is h.nth h.claim value h.there
+    (pads in_words c.args.capacity c.args.ring.now.key.start _ _ c.args.producer.now.me s.view_is h.nth h.claim value h.there
     h.holds.stage
     (subst (λ (z : ℕ × ℕ). z.0 < z.1) (λ i. (sym h.holds.from_is i, h.claim.place)) h.holds.some_padding)
     (c.padding_header-header.ensures ∙ λ i. padding_header (sym h.at_place i - sym h.holds.from_is i)))

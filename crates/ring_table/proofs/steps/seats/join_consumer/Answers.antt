@@ -1,3 +1,4 @@
+use Rattle.ring_table.specs.Staged.{in_words}
 use Rattle.std.proofs.Common.{ap}
 use Rattle.ring_table.specs.ProducerSteps.{Mine}
 use Rattle.ring_table.proofs.Calls.{same_seat}
@@ -10,7 +11,7 @@ join_seat-requires c = (
   c.requires.table.1,
   c.requires.slots,
   c.requires.words,
-  joins_consumer
+  joins_consumer in_words
       c.args.ring.now.key.capacity c.args.ring.now.key.start _ _ _ _ c.requires.consumes c.requires.no_share,
 )
 

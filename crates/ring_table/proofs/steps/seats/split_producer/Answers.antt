@@ -1,3 +1,4 @@
+use Rattle.ring_table.specs.Staged.{in_words}
 use Rattle.std.proofs.Common.{ap}
 use Rattle.ring_table.specs.ProducerSteps.{Mine}
 use Rattle.ring_table.proofs.Calls.{same_seat}
@@ -8,7 +9,7 @@ pub split_seat-requires : goal.split_seat-requires
 split_seat-requires c = (
   c.requires.table,
   c.requires.words,
-  splits_producer c.args.ring.now.key.capacity c.args.ring.now.key.start _ _
+  splits_producer in_words c.args.ring.now.key.capacity c.args.ring.now.key.start _ _
       c.requires.shares,
 )
 

@@ -1,3 +1,4 @@
+use Rattle.ring_table.specs.Staged.{in_words}
 use Rattle.std.proofs.Common.{◌≡◌, ap, arith}
 use Rattle.ring_table.specs.Views.{View, Logs}
 use Rattle.ring_table.specs.ServiceSteps.{LoadsHeartbeat}
@@ -8,7 +9,7 @@ use Rattle.ring_table.proofs.steps.service.load_heartbeat.Goals as goal
 pub load-requires : goal.load-requires
 load-requires c = trailer_step c.requires.seat _ 80 (omega arith) c.trailer_word.ensures (λ n. n)
     (λ k me n me'. (me'.1 ≡ me.1) × LoadsHeartbeat me.0.capacity me.0 n me'.0 × Logs k n me.0 me'.0)
-    (loads_heartbeat c.args.capacity c.args.ring.now.key.start _ _ c.args.producer.now.me c.requires.seat.view_is
+    (loads_heartbeat in_words c.args.capacity c.args.ring.now.key.start _ _ c.args.producer.now.me c.requires.seat.view_is
     c.requires.share)
 
 pub returns-clause-seat : goal.returns-clause-seat
