@@ -199,7 +199,7 @@ def arguments():
     ask = argparse.ArgumentParser(prog="bench/run", description=__doc__,
                                   formatter_class=argparse.RawDescriptionHelpFormatter)
     ask.add_argument("--quick", action="store_true", help="fewer points, 5 rounds, short measurements: a minute")
-    ask.add_argument("--only", default="", metavar="W1,W2..", help="these workloads alone")
+    ask.add_argument("--only", default="", metavar="batches,pair..", help="these workloads alone")
     ask.add_argument("--contenders", default="", metavar="REGEX", help="those whose name it matches, and the reference")
     ask.add_argument("--reps", type=int, default=0, metavar="N", help="rounds, 15 if it is not given")
     ask.add_argument("--json", default="", metavar="FILE", help="where all values are written, a set for bench/page.py")

@@ -4,7 +4,9 @@
   bench/page.py                        docs/PERFORMANCE.md, its pictures, bench/RESULTS.md and the rows in README.md
   bench/page.py --check                writes nothing: says what would change, with status 1 if anything would
   bench/page.py --keep RUN SET.. [--twins TEXT]
-                                       first keeps sets of `bench/run --json SET` as the run RUN: sets, queues or felter
+                                       first keeps sets of `bench/run --json SET` as the run RUN: `sets`, or `queues` or
+                                       `felter` if other queues or the calls of felter.h were measured apart
+  bench/page.py --forget RUN           first drops what was kept as queues or felter
 """
 import argparse
 import os
@@ -66,7 +68,7 @@ def has_plain(run):
 
 def measured(run, rows):
     """The rows that have a figure."""
-    return [row for row in rows if run.ns(*row[1:]) is not None]
+    return [row for row in rows if run.ns(row[1], row[2], *row[-3:]) is not None]
 
 
 def of_queue(runs, twin, *keys):
@@ -92,10 +94,11 @@ def user_cells(runs, row):
 
 
 def users(runs):
-    yield from about(runs["sets"], "Ours")
+    yield from about(runs["sets"], "Ours" if "queues" in runs else "Measured on")
     yield ""
-    yield from about(runs["queues"], "Queues")
-    yield ""
+    if "queues" in runs:
+        yield from about(runs["queues"], "Queues")
+        yield ""
     plain = ["plain bodies"] if has_plain(runs["sets"]) else []
     yield from table(["times `ar`", "ours, ns", "ours", *plain, *(title for _, title in USER_QUEUES)],
                      [user_cells(runs, row) for row in USER_ROWS])
@@ -147,10 +150,12 @@ def all_rows(runs):
         yield ""
     yield "## From C, through felter.h"
     yield ""
-    yield from about(runs["felter"], "Machine")
-    yield ""
+    run = runs.get("felter", runs["sets"])
+    if run is not runs["sets"]:
+        yield from about(run, "Machine")
+        yield ""
     yield from table(["", "from C", "plain", "from C / plain", "from C / `sc`", "from C / `ar`"],
-                     [c_cells(runs["felter"], row) for row in C_ROWS])
+                     [c_cells(run, row) for row in measured(run, C_ROWS)])
 
 
 def set_by_set(found):
@@ -234,11 +239,15 @@ def main():
                                   formatter_class=argparse.RawDescriptionHelpFormatter)
     ask.add_argument("--check", action="store_true")
     ask.add_argument("--keep", nargs="+", metavar="RUN SET", default=[])
+    ask.add_argument("--forget", choices=("queues", "felter"), action="append", default=[])
     ask.add_argument("--twins", default="those of bench/twins")
     options = ask.parse_args()
     runs = results.load()
     if options.keep:
         runs[options.keep[0]] = results.run_of_sets(options.keep[1:], options.twins)
+    for name in options.forget:
+        runs.pop(name, None)
+    if options.keep or options.forget:
         results.save(runs)
     stale = []
     for path, wanted in made(runs).items():

@@ -19,44 +19,45 @@ def of_sizes(rings, workload, sizes):
 
 # Title, and for each row: label, workload, contender, bytes, threads, metric. Rows without a figure are left out.
 SECTIONS = (
-    ("One thread, batches of 16 written and read: ns a message", of_sizes(RINGS, "W1", SIZES)),
+    ("One thread, batches of 16 written and read: ns a message", of_sizes(RINGS, "batches", SIZES)),
     ("The same with bodies of which every other word is 0: ns a message", of_sizes(RINGS, "sparse", SIZES[1:])),
-    ("One producer thread, one consumer thread: ns a message", of_sizes(RINGS[1:], "W2", SIZES)),
+    ("One producer thread, one consumer thread: ns a message", of_sizes(RINGS[1:], "pair", SIZES)),
     ("Several producers, one consumer: ns a message",
-     [(f"{threads} producers, {size} bytes{said}", "W3", ours, size, threads, "ns")
+     [(f"{threads} producers, {size} bytes{said}", "producers", ours, size, threads, "ns")
       for said, ours in (("", "ours-m2o"), (", plain bodies", "plain-m2o")) for threads in (2, 4) for size in (8, 64)]),
     ("A command to the conductor and its reply back: ns",
-     [(f"{name}, {said}", "W4", ours, COMMAND, 1, metric) for name, ours in RINGS[1:]
+     [(f"{name}, {said}", "trips", ours, COMMAND, 1, metric) for name, ours in RINGS[1:]
       for said, metric in (("mean", "mean"), *((f"p{part:g}", metric) for metric, part in points.PERCENTILES))]),
     ("One transmitter, two receivers: ns a transmission",
-     [(f"board, {size:,} bytes", "W5", "ours-board", size, 2, "ns") for size in (64, 1024)]),
+     [(f"board, {size:,} bytes", "broadcast", "ours-board", size, 2, "ns") for size in (64, 1024)]),
     ("Counters: ns",
-     [(said, "W6", "ours-counters", 8, 2, metric) for said, metric in (
+     [(said, "counters", "ours-counters", 8, 2, metric) for said, metric in (
          ("allocate and free", "alloc_free"), ("get", "get"), ("set", "set"),
          ("set that two threads watch", "set_watched"))]),
     ("Storms: ns a command",
-     [(f"{n} client{'' if n == 1 else 's'}{said}", "W7", "ours-storm", COMMAND, n, metric)
+     [(f"{n} client{'' if n == 1 else 's'}{said}", "storm", "ours-storm", COMMAND, n, metric)
       for said, metric in (("", "ns"), (", whole call", "whole")) for n in (1, 2, 4, 16, 64)]),
 )
 
 # The table against the limit: by length, and then all else.
 LENGTH_ROWS = (
-    ("one thread, one owner", "W1", "ours-solo", SIZES),
-    ("one thread, one-to-one", "W1", "ours-o2o", SIZES),
-    ("one thread, many-to-one", "W1", "ours-m2o", SIZES),
-    ("two threads, one-to-one", "W2", "ours-o2o", SIZES),
-    ("two threads, many-to-one", "W2", "ours-m2o", SIZES),
+    ("one thread, one owner", "batches", "ours-solo", SIZES),
+    ("one thread, one-to-one", "batches", "ours-o2o", SIZES),
+    ("one thread, many-to-one", "batches", "ours-m2o", SIZES),
+    ("two threads, one-to-one", "pair", "ours-o2o", SIZES),
+    ("two threads, many-to-one", "pair", "ours-m2o", SIZES),
 )
 OTHER_ROWS = (
-    *((f"{n} producers, {size:,} bytes", "W3", "ours-m2o", size, n, "ns") for n in (2, 4) for size in (8, 64)),
-    *((f"command and reply, {said}", "W4", "ours-m2o", COMMAND, 1, metric)
+    *((f"{n} producers, {size:,} bytes", "producers", "ours-m2o", size, n, "ns") for n in (2, 4) for size in (8, 64)),
+    *((f"command and reply, {said}", "trips", "ours-m2o", COMMAND, 1, metric)
       for said, metric in (("p50", "p50"), ("p99", "p99"), ("p99.9", "p999"))),
-    *((f"broadcast of {size:,} bytes", "W5", "ours-board", size, 2, "ns") for size in (64, 1024)),
-    ("counter: allocate and free", "W6", "ours-counters", 8, 2, "alloc_free"),
-    ("counter: get", "W6", "ours-counters", 8, 2, "get"),
-    ("counter: set", "W6", "ours-counters", 8, 2, "set"),
-    ("counter: set that two threads watch", "W6", "ours-counters", 8, 2, "set_watched"),
-    *((f"storm of {n} client{'' if n == 1 else 's'}", "W7", "ours-storm", COMMAND, n, "ns") for n in (1, 2, 4, 16, 64)),
+    *((f"broadcast of {size:,} bytes", "broadcast", "ours-board", size, 2, "ns") for size in (64, 1024)),
+    ("counter: allocate and free", "counters", "ours-counters", 8, 2, "alloc_free"),
+    ("counter: get", "counters", "ours-counters", 8, 2, "get"),
+    ("counter: set", "counters", "ours-counters", 8, 2, "set"),
+    ("counter: set that two threads watch", "counters", "ours-counters", 8, 2, "set_watched"),
+    *((f"storm of {n} client{'' if n == 1 else 's'}", "storm", "ours-storm", COMMAND, n, "ns")
+      for n in (1, 2, 4, 16, 64)),
 )
 
 # What users would pick: a column for each, by the names that a row gives.
@@ -68,20 +69,21 @@ OF_MANY = dict(OF_ONE, jctools=["jctools-mpsc"], disruptor=["disruptor-mp"])
 BROADCAST = {"disruptor": ["disruptor-lossless"], "tokio": ["tokio-broadcast"]}
 # Label, (workload, bytes, threads, metric), ours, and the contenders of each column.
 USER_ROWS = (
-    *((f"one thread, {size:,} bytes", ("W1", size, 1, "ns"), "ours-o2o", OF_ONE) for size in (8, 128, 1024)),
-    *((f"two threads, {size:,} bytes", ("W2", size, 1, "ns"), "ours-o2o", OF_ONE) for size in (8, 128, 1024)),
-    *((f"{n} producers, {size} bytes", ("W3", size, n, "ns"), "ours-m2o", OF_MANY) for n in (2, 4) for size in (8, 64)),
-    ("command and reply, p50", ("W4", COMMAND, 1, "p50"), "ours-o2o", OF_ONE),
-    *((f"broadcast, {size:,} bytes", ("W5", size, 2, "ns"), "ours-board", BROADCAST) for size in (64, 1024)),
+    *((f"one thread, {size:,} bytes", ("batches", size, 1, "ns"), "ours-o2o", OF_ONE) for size in (8, 128, 1024)),
+    *((f"two threads, {size:,} bytes", ("pair", size, 1, "ns"), "ours-o2o", OF_ONE) for size in (8, 128, 1024)),
+    *((f"{n} producers, {size} bytes", ("producers", size, n, "ns"), "ours-m2o", OF_MANY)
+      for n in (2, 4) for size in (8, 64)),
+    ("command and reply, p50", ("trips", COMMAND, 1, "p50"), "ours-o2o", OF_ONE),
+    *((f"broadcast, {size:,} bytes", ("broadcast", size, 2, "ns"), "ours-board", BROADCAST) for size in (64, 1024)),
 )
 # README's rows: the last two are the queue of Rust and that of Java.
 README_ROWS = (
-    ("one thread, 8 bytes", ("W1", 8, 1, "ns"), "ours-o2o", ("crossbeam-array", "jctools-spsc")),
-    ("two threads, 128 bytes", ("W2", 128, 1, "ns"), "ours-o2o", ("crossbeam-array", "jctools-spsc")),
-    ("two threads, 1,024 bytes", ("W2", 1024, 1, "ns"), "ours-o2o", ("crossbeam-array", "jctools-spsc")),
-    ("four producers, 64 bytes", ("W3", 64, 4, "ns"), "ours-m2o", ("crossbeam-array", "jctools-mpsc")),
-    ("a command and its reply, median", ("W4", COMMAND, 1, "p50"), "ours-o2o", ("crossbeam-array", "jctools-spsc")),
-    ("a broadcast of 64 bytes, two receivers", ("W5", 64, 2, "ns"), "ours-board",
+    ("one thread, 8 bytes", ("batches", 8, 1, "ns"), "ours-o2o", ("crossbeam-array", "jctools-spsc")),
+    ("two threads, 128 bytes", ("pair", 128, 1, "ns"), "ours-o2o", ("crossbeam-array", "jctools-spsc")),
+    ("two threads, 1,024 bytes", ("pair", 1024, 1, "ns"), "ours-o2o", ("crossbeam-array", "jctools-spsc")),
+    ("four producers, 64 bytes", ("producers", 64, 4, "ns"), "ours-m2o", ("crossbeam-array", "jctools-mpsc")),
+    ("a command and its reply, median", ("trips", COMMAND, 1, "p50"), "ours-o2o", ("crossbeam-array", "jctools-spsc")),
+    ("a broadcast of 64 bytes, two receivers", ("broadcast", 64, 2, "ns"), "ours-board",
      ("tokio-broadcast", "disruptor-lossless")),
 )
 
@@ -91,11 +93,11 @@ C_RINGS = tuple((f"{name}, {said}", f"felter-{ring}{ending}", f"ours-{ring}")
                 for said, ending in (("read", ""), ("read in batches", "-batch")))
 C_ROWS = (
     *((f"{threads}, {name}, {size:,} bytes", workload, c, plain, size, 1, "ns")
-      for threads, workload in (("one thread", "W1"), ("two threads", "W2")) for name, c, plain in C_RINGS
+      for threads, workload in (("one thread", "batches"), ("two threads", "pair")) for name, c, plain in C_RINGS
       for size in SIZES),
-    *((f"4 producers, {name}, {size:,} bytes", "W3", c, plain, size, 4, "ns") for name, c, plain in C_RINGS[2:]
+    *((f"4 producers, {name}, {size:,} bytes", "producers", c, plain, size, 4, "ns") for name, c, plain in C_RINGS[2:]
       for size in (8, 64)),
-    *((f"a command and its reply, {said}", "W4", "felter-m2o", "ours-m2o", COMMAND, 1, said)
+    *((f"a command and its reply, {said}", "trips", "felter-m2o", "ours-m2o", COMMAND, 1, said)
       for said in ("mean", "p50", "p99")),
 )
 
@@ -112,8 +114,8 @@ def by_size(workload):
 
 
 def by_producers(size):
-    return [(name, colour, "", [(1, ("W2", who, size, 1, "ns"))]
-             + [(n, ("W3", who, size, n, "ns")) for n in points.PRODUCERS]) for name, colour, who in WHO]
+    return [(name, colour, "", [(1, ("pair", who, size, 1, "ns"))]
+             + [(n, ("producers", who, size, n, "ns")) for n in points.PRODUCERS]) for name, colour, who in WHO]
 
 
 def ticks(numbers):
@@ -124,13 +126,13 @@ def ticks(numbers):
 TAILS = [(100 / (100 - part), f"p{part:g}") for _, part in PERCENTILES]
 CURVES = {
     "round-trips": [("A command and its reply: ns", "percentile", TAILS,
-                     [(name, colour, "", [(x, ("W4", who, COMMAND, 1, metric))
+                     [(name, colour, "", [(x, ("trips", who, COMMAND, 1, metric))
                                           for (x, _), (metric, _) in zip(TAILS, PERCENTILES)])
                       for name, colour, who in WHO])],
-    "lengths": [("One thread: ns a message", "bytes of a message", ticks(points.LENGTHS), by_size("W1")),
-                ("Two threads: ns a message", "bytes of a message", ticks(points.LENGTHS), by_size("W2"))],
+    "lengths": [("One thread: ns a message", "bytes of a message", ticks(points.LENGTHS), by_size("batches")),
+                ("Two threads: ns a message", "bytes of a message", ticks(points.LENGTHS), by_size("pair"))],
     "threads": [("Messages of 8 bytes: ns a message", "producers", ticks((1, *points.PRODUCERS)), by_producers(8)),
                 ("Storms: ns a command", "clients", ticks(points.CLIENTS),
-                 [(name, colour, "", [(n, ("W7", who, COMMAND, n, "ns")) for n in points.CLIENTS])
+                 [(name, colour, "", [(n, ("storm", who, COMMAND, n, "ns")) for n in points.CLIENTS])
                   for name, colour, who in STORMS])],
 }

@@ -18,11 +18,11 @@
 
 /* The workloads, by the names of bench/README.md: batches of one thread, and those of which every other word is 0; two
  * threads; several producers; a command and its reply. */
-#define BATCHES "W1"
+#define BATCHES "batches"
 #define SPARSE "sparse"
-#define PAIR "W2"
-#define CROWD "W3"
-#define TRIPS "W4"
+#define PAIR "pair"
+#define CROWD "producers"
+#define TRIPS "trips"
 
 #define MOST_PRODUCERS 16
 #define BATCH 64

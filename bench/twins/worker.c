@@ -48,19 +48,19 @@ static const struct entry {
     bool is_for_one;
     enum job first, last;
 } entries[] = {
-    {"W1", "o2o-" TWIN, true, BATCHES, BATCHES},
-    {"W1", "m2o-" TWIN, false, BATCHES, BATCHES},
+    {"batches", "o2o-" TWIN, true, BATCHES, BATCHES},
+    {"batches", "m2o-" TWIN, false, BATCHES, BATCHES},
     {"sparse", "o2o-" TWIN, true, BATCHES, BATCHES},
     {"sparse", "m2o-" TWIN, false, BATCHES, BATCHES},
-    {"W2", "o2o-" TWIN, true, FLOW, FLOW},
-    {"W2", "m2o-" TWIN, false, FLOW, FLOW},
-    {"W3", "m2o-" TWIN, false, FLOW, FLOW},
-    {"W4", "o2o-" TWIN, true, TRIPS, TRIPS},
-    {"W4", "m2o-" TWIN, false, TRIPS, TRIPS},
-    {"W7", "storm-" TWIN, false, STORM, STORM},
+    {"pair", "o2o-" TWIN, true, FLOW, FLOW},
+    {"pair", "m2o-" TWIN, false, FLOW, FLOW},
+    {"producers", "m2o-" TWIN, false, FLOW, FLOW},
+    {"trips", "o2o-" TWIN, true, TRIPS, TRIPS},
+    {"trips", "m2o-" TWIN, false, TRIPS, TRIPS},
+    {"storm", "storm-" TWIN, false, STORM, STORM},
 #if !HAS_BODIES_APART /* (the others would be those of `sc`) */
-    {"W5", "board-" TWIN, false, BROADCAST, BROADCAST},
-    {"W6", "counters-" TWIN, false, SETS, WATCHED_SETS},
+    {"broadcast", "board-" TWIN, false, BROADCAST, BROADCAST},
+    {"counters", "counters-" TWIN, false, SETS, WATCHED_SETS},
 #endif
 };
 

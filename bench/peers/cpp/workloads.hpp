@@ -176,10 +176,10 @@ using Table = std::map<std::pair<std::string, std::string>, Run>;
 
 template <class Q, unsigned N> void enter_length(Table &table, const std::string &name, bool is_for_one) {
     std::string sized = name + "/" + std::to_string(N);
-    table[{"W1", sized}] = [](const Request &of, uint64_t times, auto) { return run_batches<Q, N>(of.capacity, times); };
+    table[{"batches", sized}] = [](const Request &of, uint64_t times, auto) { return run_batches<Q, N>(of.capacity, times); };
     Run flow = [](const Request &of, uint64_t times, auto) { return run_flow<Q, N>(of.capacity, of.threads, times); };
-    table[{"W2", sized}] = flow;
-    if (!is_for_one) table[{"W3", sized}] = flow;
+    table[{"pair", sized}] = flow;
+    if (!is_for_one) table[{"producers", sized}] = flow;
 }
 
 template <template <unsigned> class Q> void enter(Table &table, const std::string &name, bool is_for_one) {
@@ -187,7 +187,7 @@ template <template <unsigned> class Q> void enter(Table &table, const std::strin
     enter_length<Q<64>, 64>(table, name, is_for_one);
     enter_length<Q<128>, 128>(table, name, is_for_one);
     enter_length<Q<1024>, 1024>(table, name, is_for_one);
-    table[{"W4", name}] = [](const Request &of, uint64_t times, std::vector<uint32_t> *trips) {
+    table[{"trips", name}] = [](const Request &of, uint64_t times, std::vector<uint32_t> *trips) {
         return run_trips<Q<COMMAND>, Q<REPLY>>(of.capacity, times, trips);
     };
 }
@@ -197,7 +197,7 @@ inline uint64_t times_for(const std::string &line, const Request &of, const Run 
     static std::map<std::string, uint64_t> known;
     uint64_t &times = known[line];
     if (times) return times;
-    uint64_t least = of.workload == "W4" ? 500 : 2000, most = of.workload == "W4" ? 1000000 : 50000000;
+    uint64_t least = of.workload == "trips" ? 500 : 2000, most = of.workload == "trips" ? 1000000 : 50000000;
     times = least;
     for (int tries = 0; tries < 8; tries++) {
         double growth = of.ms * 1e6 / (double(run(of, times, nullptr)) + 1);
@@ -219,7 +219,7 @@ inline void answer_run(const Table &table, const std::string &line) {
         return;
     }
     uint64_t times = times_for(line, of, found->second);
-    std::vector<uint32_t> trips(of.workload == "W4" ? times : 0);
+    std::vector<uint32_t> trips(of.workload == "trips" ? times : 0);
     double each = double(found->second(of, times, trips.empty() ? nullptr : &trips)) / double(times);
     std::cout << (trips.empty() ? "ns " : "mean ") << each << '\n';
     std::sort(trips.begin(), trips.end());

@@ -8,24 +8,24 @@ import java.util.Map;
 /** Queues of Java as a worker of bench/run: JCTools' array queues, and the Disruptor. */
 final class Main {
     private static final String[] ENTRIES = {
-        "W1 jctools-spsc", "W2 jctools-spsc", "W3 jctools-mpsc", "W4 jctools-spsc",
-        "W1 disruptor-sp", "W2 disruptor-sp", "W3 disruptor-mp", "W4 disruptor-sp", "W5 disruptor-lossless"};
+        "batches jctools-spsc", "pair jctools-spsc", "producers jctools-mpsc", "trips jctools-spsc",
+        "batches disruptor-sp", "pair disruptor-sp", "producers disruptor-mp", "trips disruptor-sp", "broadcast disruptor-lossless"};
     private static final String[] PARTS = {"p50", "p90", "p99", "p999", "p9999"};
     private static final long[] SHARES = {5000, 9000, 9900, 9990, 9999};
     private static final Map<String, Long> KNOWN = new HashMap<>();
 
     private static long run(Request of, long times, int[] trips) throws InterruptedException {
         switch (of.workload) {
-            case "W1": return Workloads.batches(of, times);
-            case "W4": return Workloads.trips(of, times, trips);
-            case "W5": return Workloads.broadcast(of, times);
+            case "batches": return Workloads.batches(of, times);
+            case "trips": return Workloads.trips(of, times, trips);
+            case "broadcast": return Workloads.broadcast(of, times);
             default: return Workloads.flow(of, times);
         }
     }
 
     /** How often a run fills the time of a request; the machine warms up meanwhile, for some runs more. */
     private static long fill(Request of) throws InterruptedException {
-        long least = of.workload.equals("W4") ? 500 : 2000, most = of.workload.equals("W4") ? 1000000 : 50000000;
+        long least = of.workload.equals("trips") ? 500 : 2000, most = of.workload.equals("trips") ? 1000000 : 50000000;
         long times = least;
         for (int tries = 0; tries < 12; tries++) {
             double growth = of.ms * 1e6 / (run(of, times, null) + 1.0);
@@ -43,7 +43,7 @@ final class Main {
         Request of = new Request(words);
         Long times = KNOWN.get(line);
         if (times == null) KNOWN.put(line, times = fill(of));
-        int[] trips = of.workload.equals("W4") ? new int[times.intValue()] : null;
+        int[] trips = of.workload.equals("trips") ? new int[times.intValue()] : null;
         double each = (double) run(of, times, trips) / times;
         System.out.println((trips == null ? "ns " : "mean ") + each);
         if (trips == null) return;

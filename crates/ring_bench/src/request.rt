@@ -27,14 +27,14 @@ impl Workload {
     /// Its name in requests.
     pub fn name(self) -> &'static str {
         match self {
-            Workload::Batches => "W1",
+            Workload::Batches => "batches",
             Workload::Sparse => "sparse",
-            Workload::Pair => "W2",
-            Workload::Crowd => "W3",
-            Workload::Trips => "W4",
-            Workload::Broadcast => "W5",
-            Workload::Counters => "W6",
-            Workload::Storm => "W7",
+            Workload::Pair => "pair",
+            Workload::Crowd => "producers",
+            Workload::Trips => "trips",
+            Workload::Broadcast => "broadcast",
+            Workload::Counters => "counters",
+            Workload::Storm => "storm",
         }
     }
 

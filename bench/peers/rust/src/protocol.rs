@@ -93,7 +93,7 @@ impl Entry {
 
 /// How often a run fills the time of a request.
 fn fill(run: Run, of: &Request) -> u64 {
-    let (least, most) = if of.workload == "W4" { (500, 1_000_000) } else { (2_000, 50_000_000) };
+    let (least, most) = if of.workload == "trips" { (500, 1_000_000) } else { (2_000, 50_000_000) };
     let mut times = least;
     for _ in 0..8 {
         let growth = of.ms * 1e6 / (run(of, times).took.as_nanos() as f64 + 1.0);
