@@ -3,7 +3,7 @@
  * The library behind this header is proved; this header, and what a caller keeps, is not.
  *
  * Handles. A handle owns an endpoint (a producer, a consumer, ..) together with its ring, which lives as long as one of
- * its handles does. The order in which handles are freed is free.
+ * its handles does. Handles may be freed in any order.
  *   1. Begin each handle as FELTER_EMPTY. Never copy one and use both, and never read or write what is in it: two
  *      copies would free one object twice. Free it by felter_free when done. An empty or freed handle returns
  *      FELTER_NO_HANDLE.
@@ -20,10 +20,9 @@
  *      without being given its number see to that, by one count. A program that calls a function ending in _numbered,
  *      or has two of these counts (below), sees to it itself.
  *
- * Two handles of one call are of one ring, board, conductor or set of counters. A call that takes a handle in
- * (felter_join, felter_close) or back (the others with `join` in their names) returns FELTER_OTHER_RING otherwise, and
- * if only one of the two handles is a conductor's. It compares numbers: each ring, board, conductor and set of counters
- * is given one when it is made. Handles that were made through several languages in one process are distinguished only
+ * Two handles of one call are of one ring, board, conductor or set of counters. felter_close, felter_join and the other
+ * joins return FELTER_OTHER_RING if they are not, or if only one handle is a conductor's. They compare numbers: each
+ * ring, board, conductor and set of counters is given one when it is made. Handles that were made through several languages in one process are distinguished only
  * if their numbers differ: this header counts from 1 on, the Rust crate from 2^62, the Python module from 2^63.
  *
  * Results. Each call but felter_free and felter_version returns a code of enum felter_code; FELTER_OK is 0, and
@@ -164,8 +163,8 @@ static inline int32_t felter_one_to_one_new_at(uint32_t capacity, uint64_t start
 int32_t felter_write(felter_producer *producer, int32_t type_id, const void *body, size_t len);
 
 /* Claims room for a message of len bytes, which are 0 until they are put, and says the claim's number: its place,
- * which is given once in a ring. Any number of claims may be open at once, and they may be settled in any order; the
- * consumer passes no open claim, so settle each. It refuses as felter_write, and with FELTER_OUT_OF_MEMORY, before
+ * which is given once in a ring. Any number of claims may be open at once, and they may be settled in any order, each
+ * in about the same time however many are open; the consumer passes no open claim, so settle each. It refuses as felter_write, and with FELTER_OUT_OF_MEMORY, before
  * anything is tried, if there is no memory to keep one claim more. */
 int32_t felter_claim(felter_producer *producer, int32_t type_id, size_t len, uint64_t *claim);
 /* Puts bytes into an open claim of the producer from a byte on. FELTER_NO_CLAIM, FELTER_PUT_RANGE. */
@@ -197,6 +196,16 @@ int32_t felter_shares(felter_producer *producer, uint32_t *shares);
  * buffer: *len is then its length and *type_id its type id. An eighth of the capacity is always enough. */
 int32_t felter_read(felter_consumer *consumer, int32_t *type_id, size_t *len, void *buffer, size_t room);
 
+/* Copies the next message into a buffer as felter_read does, with the same codes, and leaves it in the ring: the next
+ * call finds it again. */
+int32_t felter_peek(felter_consumer *consumer, int32_t *type_id, size_t *len, void *buffer, size_t room);
+/* Takes the next message, which felter_peek showed, and copies nothing. FELTER_NO_MESSAGE.
+ *
+ * Together they are a controlled read: peek, look at the message, and then do what Agrona's actions do. ABORT: stop, and
+ * the message stays. BREAK: take, and stop. COMMIT, CONTINUE: take, and go on. The head moves at each take, so that the
+ * producers have the room of all messages that were taken. */
+int32_t felter_take(felter_consumer *consumer);
+
 /* What comes before the bytes of a message in a batch. It may be read in place if the buffer is aligned to 8 bytes;
  * otherwise memcpy it out. */
 typedef struct felter_record {
@@ -214,6 +223,20 @@ typedef struct felter_record {
  * felter_read says its length): FELTER_SPAN(capacity / 8) bytes are always enough for one. */
 int32_t felter_read_batch(felter_consumer *consumer, uint32_t limit, uint32_t *count, size_t *used, void *buffer,
                           size_t room);
+
+/* What a ring's consumer has before it. */
+enum felter_found {
+    FELTER_FOUND_MESSAGE = 0, /* a message, which felter_read takes */
+    FELTER_FOUND_NONE = 1,    /* nothing is claimed after the head */
+    FELTER_FOUND_CLAIM = 2,   /* a claim that is not settled yet: its producer is slow, or lost */
+    FELTER_FOUND_CHANGE = 3   /* something changed meanwhile: call again */
+};
+
+/* Says which of these it is, and the head, which is the place of the claim if it is one. It takes a producer and the
+ * consumer of one ring. It loads the positions, reads into no room, and loads the positions again: it is a function of
+ * this header. */
+static inline int32_t felter_standing(felter_producer *producer, felter_consumer *consumer, int32_t *found,
+                                      uint64_t *head);
 
 /* Writes the messages of a batch, laid as felter_read_batch leaves them, one after another by felter_write. It stops
  * at the first refusal, which it returns, and says how many were written, also then. FELTER_PUT_RANGE if a record is
@@ -338,8 +361,8 @@ int32_t felter_counters_close_owner(felter_counters *counters, uint64_t now, uin
 /* Makes a reader of the values, for another thread, with one share of the counters' 65,536. The share is lost when the
  * reader is freed without felter_counters_join. FELTER_NO_SHARES, FELTER_OUT_OF_MEMORY, FELTER_HANDLE_IN_USE. */
 int32_t felter_counters_reader(felter_counters *counters, felter_reader *reader);
-/* Loads a value: of an id that was never used 0, of a freed one its last. No value that the reader has seen comes back
- * once a later one was loaded. FELTER_BAD_ID. */
+/* Loads a value: of an id that was never used 0, of a freed one its last. A reader never loads an older write of an id
+ * after a later one. FELTER_BAD_ID. */
 int32_t felter_reader_value(felter_reader *reader, uint32_t id, int64_t *value);
 /* Takes back a reader of these counters, with its share, and empties its handle. FELTER_OTHER_RING, also if
  * felter_conductor_reader made it. */
@@ -364,8 +387,8 @@ int32_t felter_conductor_client(felter_conductor *conductor, felter_client *clie
 
 /* Why felter_conductor_work stopped. */
 enum felter_stop {
-    FELTER_STOP_LIMIT = 0,       /* as many commands were taken as were wanted */
-    FELTER_STOP_BLOCK = 1,       /* at the end of the ring's buffer: the next call goes on behind it */
+    FELTER_STOP_LIMIT = 0,       /* `limit` commands were taken */
+    FELTER_STOP_BLOCK = 1,       /* at the end of the ring's buffer: the next call goes on after it */
     FELTER_STOP_UNPUBLISHED = 2, /* no further command was there */
     FELTER_STOP_BOARD_END = 3    /* a reply might end above 2^62 on the board: the command stays, not applied */
 };

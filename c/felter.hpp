@@ -89,13 +89,11 @@ class consumer : public owner<felter_consumer> {
 public:
     result<felter::sizes> sizes() { return detail::sizes_of(raw()->handle); }
     // Reads the next message into a buffer.
-    result<message> read(buffer into) {
-        message found{};
-        std::size_t len = 0;
-        const std::int32_t why = felter_read(raw(), &found.type_id, &len, into.data(), into.size());
-        found.body = {into.data(), why == FELTER_OK ? len : 0};
-        return detail::answer(why, found);
-    }
+    result<message> read(buffer into) { return copied(felter_read, into); }
+    // The same, and leaves it in the ring.
+    result<message> peek(buffer into) { return copied(felter_peek, into); }
+    // Takes the next message, and copies nothing.
+    code take() { return felter_take(raw()); }
     // Reads up to `limit` messages into a buffer, calls f with each, and says how many there were.
     template <class F>
     result<std::uint32_t> read_batch(std::uint32_t limit, buffer into, F f) {
@@ -115,6 +113,16 @@ public:
     code close(producer &last) { return felter_close(raw(), last.raw()); }
     result<std::uint64_t> finish() {
         return detail::out<std::uint64_t>([&](std::uint64_t *it) { return felter_finish(raw(), it); });
+    }
+
+private:
+    template <class F>
+    result<message> copied(F call, buffer into) {
+        message found{};
+        std::size_t len = 0;
+        const std::int32_t why = call(raw(), &found.type_id, &len, into.data(), into.size());
+        found.body = {into.data(), why == FELTER_OK ? len : 0};
+        return detail::answer(why, found);
     }
 };
 

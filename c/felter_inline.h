@@ -250,6 +250,26 @@ FELTER_GUARD int32_t felter_guarded_read(felter_consumer *consumer, int32_t *typ
     return code;
 }
 
+FELTER_GUARD int32_t felter_guarded_peek(felter_consumer *consumer, int32_t *type_id, size_t *len, void *buffer,
+                                         size_t room) {
+    if (!consumer) return felter_refuse("felter_peek", FELTER_NO_HANDLE);
+    if (!type_id) return felter_refuse("felter_peek", FELTER_NULL_POINTER);
+    if (!len) return felter_refuse("felter_peek", FELTER_NULL_POINTER);
+    if (!buffer && room) return felter_refuse("felter_peek", FELTER_NULL_POINTER);
+    FELTER_ENTER1("felter_peek", &consumer->handle);
+    int32_t code = felter_peek(consumer, type_id, len, buffer, room);
+    FELTER_LEAVE1();
+    return code;
+}
+
+FELTER_GUARD int32_t felter_guarded_take(felter_consumer *consumer) {
+    if (!consumer) return felter_refuse("felter_take", FELTER_NO_HANDLE);
+    FELTER_ENTER1("felter_take", &consumer->handle);
+    int32_t code = felter_take(consumer);
+    FELTER_LEAVE1();
+    return code;
+}
+
 FELTER_GUARD int32_t felter_guarded_read_batch(felter_consumer *consumer, uint32_t limit, uint32_t *count, size_t *used,
                                                void *buffer, size_t room) {
     if (!consumer) return felter_refuse("felter_read_batch", FELTER_NO_HANDLE);
@@ -973,6 +993,28 @@ FELTER_GUARD int32_t felter_write_batch(felter_producer *producer, const void *r
     return FELTER_OK;
 }
 
+FELTER_GUARD int32_t felter_standing(felter_producer *producer, felter_consumer *consumer, int32_t *found,
+                                     uint64_t *head) {
+    uint64_t first = 0, claimed = 0, last = 0, tail = 0;
+    uint32_t count = 0;
+    int32_t code, why;
+    size_t used = 0;
+    if (!found || !head) return felter_refuse("felter_standing", FELTER_NULL_POINTER);
+    code = felter_guarded_positions(producer, &first, &claimed);
+    if (code != FELTER_OK) return code;
+    /* A message has no room, and stays. */
+    why = felter_guarded_read_batch(consumer, 1, &count, &used, NULL, 0);
+    if (why != FELTER_NO_MESSAGE && why != FELTER_SHORT_BUFFER) return why;
+    code = felter_guarded_positions(producer, &last, &tail);
+    if (code != FELTER_OK) return code;
+    *head = last;
+    if (why == FELTER_SHORT_BUFFER) *found = FELTER_FOUND_MESSAGE;
+    else if (last == first && tail <= first) *found = FELTER_FOUND_NONE;
+    else if (last == first && claimed > first) *found = FELTER_FOUND_CLAIM;
+    else *found = FELTER_FOUND_CHANGE;
+    return FELTER_OK;
+}
+
 #define felter_free felter_guarded_free
 #define felter_version felter_guarded_version
 #define felter_capacity felter_guarded_capacity
@@ -993,6 +1035,8 @@ FELTER_GUARD int32_t felter_write_batch(felter_producer *producer, const void *r
 #define felter_set_heartbeat felter_guarded_set_heartbeat
 #define felter_shares felter_guarded_shares
 #define felter_read felter_guarded_read
+#define felter_peek felter_guarded_peek
+#define felter_take felter_guarded_take
 #define felter_read_batch felter_guarded_read_batch
 #define felter_close felter_guarded_close
 #define felter_finish felter_guarded_finish

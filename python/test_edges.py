@@ -2,20 +2,24 @@
 
 import array
 import copy
+import importlib.machinery
 import os
 import pathlib
 import pickle
 import signal
 import subprocess
 import sys
+import tempfile
 import threading
 import unittest
 
 import felter
-from felter import Message, Number
+from felter import Message, Number, _library
 from test_felter import Case
 
 HERE = pathlib.Path(__file__).resolve().parent
+# Whether the calls go through the extension in C, and not through ctypes.
+IS_FAST = _library.fast is not None
 
 
 class Liar(bytes):
@@ -67,6 +71,13 @@ class Edges(Case):
         with producer.claim(2, 4) as claim:
             claim.put(1, bytearray(b"ab"))
         self.assertEqual(consumer.read(), Message(2, b"\0ab\0"))
+        released = memoryview(b"abc")
+        released.release()
+        with self.assertRaises(ValueError):
+            producer.write(1, released)
+        table = memoryview(bytes(range(8))).cast("B", (2, 2, 2))
+        producer.write(1, table)
+        self.assertEqual(consumer.read(), Message(1, bytes(range(8))))
         for body in "text", 5, None, [1]:
             with self.assertRaises(TypeError):
                 producer.write(1, body)
@@ -86,6 +97,54 @@ class Edges(Case):
             with self.assertRaises(TypeError):
                 producer.write(type_id, b"")
         self.assertEqual(list(consumer), [])
+
+    def test_numbers_may_have_code_of_their_own(self):
+        producer, consumer = felter.many_to_one(256)
+
+        class Frees:
+            def __index__(self):
+                producer.free()
+                return 1
+
+        class Raises:
+            def __index__(self):
+                raise KeyError("mine")
+
+        with self.assertRaises(KeyError):
+            producer.write(Raises(), b"")
+        with self.assertRaises(felter.Closed):
+            producer.write(Frees(), b"")
+        self.assertEqual(list(consumer), [])
+
+    def test_only_handles_are_taken_for_handles(self):
+        producer, consumer = felter.many_to_one(256)
+        _, other = felter.many_to_one(256)
+
+        class Poses:
+            _number = consumer._number
+
+            @property
+            def __class__(self):
+                return felter.Producer
+
+        for it in Poses(), None, 5:
+            with self.assertRaises((TypeError, AttributeError)):
+                consumer.close(it)
+        unmade = felter.Producer.__new__(felter.Producer)
+        with self.assertRaises(felter.Error):
+            other._do("felter_close", unmade)
+        for given in ("felter_read",), ("felter_read", None, None), ("felter_none",), (), ("felter_close", 5):
+            with self.assertRaises((TypeError, AttributeError, KeyError)):
+                consumer._do(*given)
+        producer.write(1, b"still there")
+        self.assertEqual(list(consumer), [Message(1, b"still there")])
+
+    def test_long_messages_have_room(self):
+        producer, consumer = felter.many_to_one(1 << 16)
+        bodies = [bytes([n % 251]) * n for n in (0, 255, 256, 257, 8192, 1, 4000)]
+        for body in bodies:
+            producer.write(1, body)
+        self.assertEqual([it.body for it in consumer], bodies)
 
     def test_a_dropped_claim_is_aborted(self):
         producer, consumer = felter.many_to_one(256)
@@ -109,6 +168,10 @@ class Edges(Case):
         self.refuses(Number.NO_HANDLE, claim.commit)
         del claim
         self.assertEqual(list(consumer), [])
+
+
+# Before Python 3.10 an interrupt can come between the end of a `with` and its __exit__, which leaves a lock held.
+LEAVES_LOCKS = not IS_FAST and sys.version_info < (3, 10)
 
 
 class Interrupts(Case):
@@ -136,6 +199,7 @@ class Interrupts(Case):
             signal.signal(signal.SIGALRM, before)
         return count
 
+    @unittest.skipIf(LEAVES_LOCKS, "this Python leaves locks held")
     def test_interrupts_stay_what_they_are(self):
         producer, consumer = felter.many_to_one(256)
 
@@ -150,6 +214,7 @@ class Interrupts(Case):
         producer.write(2, b"after")
         self.assertEqual(list(consumer), [Message(2, b"after")])
 
+    @unittest.skipIf(LEAVES_LOCKS, "this Python leaves locks held")
     def test_no_claim_stays_open(self):
         producer, consumer = felter.many_to_one(1024)
 
@@ -179,12 +244,14 @@ class Interrupts(Case):
         self.assertEqual(consumer.finish(), 0)
 
     def test_a_handler_that_uses_the_interrupted_handle_is_refused(self):
+        # (no call of the extension is interrupted, so there is nothing to refuse)
         producer, consumer = felter.many_to_one(256)
-        said = []
+        said, written = [], []
 
         def use(*_):
             try:
                 producer.write(1, b"")
+                written.append(1)
             except RuntimeError as why:
                 said.append(str(why))
             except felter.Full:
@@ -194,12 +261,14 @@ class Interrupts(Case):
         try:
             signal.setitimer(signal.ITIMER_REAL, 0.0003, 0.0003)
             end = os.times().elapsed + 3
-            while not said and os.times().elapsed < end:
+            while not said and not (IS_FAST and len(written) > 9) and os.times().elapsed < end:
                 producer.positions()
         finally:
             signal.setitimer(signal.ITIMER_REAL, 0)
             signal.signal(signal.SIGALRM, before)
-        self.assertIn("interrupted", said[0])
+        if not IS_FAST:
+            self.assertIn("interrupted", said[0])
+        self.assertEqual(len(list(consumer)), len(written))
 
     def test_a_forked_child_is_refused(self):
         producer, consumer = felter.many_to_one(256)
@@ -207,7 +276,8 @@ class Interrupts(Case):
         done = threading.Event()
 
         def hold():
-            with producer._lock:
+            # (by ctypes the other thread is in the middle of a call, as far as the child can see)
+            with getattr(producer, "_lock", threading.Lock()):
                 held.set()
                 done.wait()
 
@@ -223,9 +293,13 @@ class Interrupts(Case):
             os._exit(1)
         done.set()
         thread.join()
-        self.assertEqual(os.waitstatus_to_exitcode(os.waitpid(child, 0)[1]), 7)
+        self.assertEqual(os.WEXITSTATUS(os.waitpid(child, 0)[1]), 7)
         producer.write(1, b"ours")
         self.assertEqual(list(consumer), [Message(1, b"ours")])
+
+
+# What prints whether the extension is there and is taken.
+SHOWS_FAST = "import felter._library as it; print(it.fast is not None)"
 
 
 class Imports(Case):
@@ -234,6 +308,25 @@ class Imports(Case):
         done = subprocess.run([sys.executable, "-c", "import felter"], env=environment, capture_output=True, text=True)
         self.assertIn("ImportError: felter: there is no /nowhere/libfelter.so.", done.stderr)
         self.assertIn("run c/build in the repository", done.stderr)
+
+    def test_the_extension_is_taken_if_it_is_there(self):
+        folder = pathlib.Path(_library.library).parent
+        endings = [it for it in importlib.machinery.EXTENSION_SUFFIXES if it != ".abi3.so" or sys.version_info >= (3, 11)]
+        is_there = any((folder / ("_fast" + it)).exists() for it in endings)
+        for pure, is_fast in ("1", False), ("0", is_there), ("", is_there):
+            environment = {**os.environ, "FELTER_PURE": pure, "FELTER_DIR": str(folder), "PYTHONPATH": str(HERE)}
+            words = [sys.executable, "-B", "-c", SHOWS_FAST]
+            done = subprocess.run(words, env=environment, capture_output=True, text=True)
+            self.assertEqual((done.stdout, done.stderr), ("%s\n" % is_fast, ""))
+
+    def test_an_extension_that_cannot_be_loaded_is_not_taken(self):
+        with tempfile.TemporaryDirectory() as folder:
+            os.symlink(os.path.realpath(_library.library), folder + "/libfelter.so")
+            pathlib.Path(folder, "_fast.abi3.so").write_text("no library")
+            environment = {**os.environ, "FELTER_PURE": "", "FELTER_DIR": folder, "PYTHONPATH": str(HERE)}
+            words = [sys.executable, "-B", "-c", "import felter; print(felter.many_to_one(128)[0].shares())"]
+            done = subprocess.run(words, env=environment, capture_output=True, text=True)
+            self.assertEqual((done.stdout, done.stderr), ("65536\n", ""))
 
 
 if __name__ == "__main__":

@@ -193,6 +193,24 @@ class Rings(Case):
 
 
 class Asking(Case):
+    def test_a_consumer_says_what_is_next(self):
+        producer, consumer = felter.many_to_one(512)
+        other, _ = felter.many_to_one(128)
+        self.assertEqual(consumer.standing(producer), (felter.Found.NONE, 0))
+        claim = producer.claim(1, 5)
+        producer.write(2, b"")
+        self.assertEqual(consumer.standing(producer), (felter.Found.CLAIM, 0))
+        claim.commit()
+        self.assertEqual(consumer.standing(producer), (felter.Found.MESSAGE, 0))
+        self.assertEqual(consumer.read(), Message(1, bytes(5)))
+        self.assertEqual(consumer.standing(producer), (felter.Found.MESSAGE, 16))
+        self.assertEqual(consumer.read(), Message(2, b""))
+        self.assertEqual(consumer.standing(producer), felter.Standing(felter.Found.NONE, 24))
+        producer.claim(1, 8).abort()
+        self.assertEqual(consumer.standing(producer), (felter.Found.CHANGE, 40))
+        self.assertEqual(consumer.standing(producer), (felter.Found.NONE, 40))
+        self.refuses(Number.OTHER_RING, consumer.standing, other)
+
     def test_sizes_and_places(self):
         producer, consumer = felter.one_to_one(512)
         transmitter = felter.Transmitter(4096, 8192)

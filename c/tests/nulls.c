@@ -28,6 +28,8 @@ int main(void) {
     EXPECT(FELTER_NULL_POINTER, felter_read(&consumer, NULL, &len, buffer, sizeof buffer));
     EXPECT(FELTER_NULL_POINTER, felter_read(&consumer, &type_id, NULL, buffer, sizeof buffer));
     EXPECT(FELTER_NULL_POINTER, felter_read(&consumer, &type_id, &len, NULL, 1));
+    EXPECT(FELTER_NULL_POINTER, felter_peek(&consumer, &type_id, NULL, buffer, sizeof buffer));
+    EXPECT(FELTER_NO_HANDLE, felter_take(NULL));
     CHECK(type_id == -7 && len == 7 && buffer[0] == 5 && number == 77 && written == 7);
     EXPECT(FELTER_OK, felter_read(&consumer, &type_id, &len, NULL, 0));
     CHECK(type_id == 1 && len == 0);

@@ -91,10 +91,12 @@ static void write_and_read(felter_producer *producer, felter_consumer *consumer)
     NONE(FELTER_OK, felter_heartbeat(producer, &number));
     NONE(FELTER_OK, felter_shares(producer, &count));
     NONE(FELTER_SHORT_BUFFER, felter_read(consumer, &type_id, &len, buffer, 1));
+    NONE(FELTER_OK, felter_peek(consumer, &type_id, &len, buffer, sizeof buffer));
     NONE(FELTER_OK, felter_read(consumer, &type_id, &len, buffer, sizeof buffer));
     CHECK(type_id == 1 && len == 5);
     NONE(FELTER_OK, felter_read_batch(consumer, 9, &count, &used, buffer, sizeof buffer));
     CHECK(count == 2);
+    NONE(FELTER_NO_MESSAGE, felter_take(consumer));
     NONE(FELTER_NO_MESSAGE, felter_read(consumer, &type_id, &len, buffer, sizeof buffer));
 }
 

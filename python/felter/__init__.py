@@ -16,22 +16,26 @@ that interrupted a call of the same handle. Handles of two rings, boards, sets o
 the numbers that this module gives them from one count: it compares them, and so does the library.
 
 The library is libfelter.so in this package, or in the folder that FELTER_DIR names, or in the repository's c/out, where
-c/build puts it. This module is tested and not proved.
+c/build puts it. Calls go through an extension in C beside it, which keeps the global interpreter lock (no call waits),
+or through ctypes if there is none for this Python, or if FELTER_PURE is 1. Through ctypes and before Python 3.10 a Ctrl-C
+during a call can leave its handle locked, and its calls are then refused. This module is tested and not proved.
 """
 
 from felter._owner import Sizes
 from felter.boards import Lap, RawReceiver, RawRecord, Receiver, Transmitter
 from felter.claims import Claim
 from felter.conductor import Client, Conductor, Finished, Reply, ReplyKind, Work, WorkStop
+from felter.controlled import Action
 from felter.counters import Counters, Reader
 from felter.errors import Closed, Contended, Disconnected, Error, Full, Lapped, Number
 from felter.message import Message
-from felter.rings import Consumer, Positions, Producer, many_to_one, one_to_one
+from felter.rings import Consumer, Found, Positions, Producer, Standing, many_to_one, one_to_one
 from felter.waiting import Doorbell
 
 __version__ = "0.1.0"
 
 __all__ = [
+    "Action",
     "Claim",
     "Client",
     "Closed",
@@ -43,6 +47,7 @@ __all__ = [
     "Doorbell",
     "Error",
     "Finished",
+    "Found",
     "Full",
     "Lap",
     "Lapped",
@@ -57,6 +62,7 @@ __all__ = [
     "Reply",
     "ReplyKind",
     "Sizes",
+    "Standing",
     "Transmitter",
     "Work",
     "WorkStop",

@@ -22,6 +22,8 @@ felter_heartbeat *producer *u64
 felter_set_heartbeat *consumer u64
 felter_shares *producer *u32
 felter_read *consumer *i32 *usize *u8 usize
+felter_peek *consumer *i32 *usize *u8 usize
+felter_take *consumer
 felter_read_batch *consumer u32 *u32 *usize *u8 usize
 felter_close *consumer *producer
 felter_finish *consumer *u64

@@ -1,113 +1,70 @@
-"""The calls of libfelter.so, by ctypes."""
+"""The library, and what calls it: an extension in C if there is one for this Python, and otherwise ctypes.
 
-import ctypes
-import operator
+The library is libfelter.so, and the extension is a file named _fast beside it. FELTER_PURE=1 takes ctypes all the same.
+Both have `Handle`, `Cell` and `call`, and do the same.
+"""
+
+import importlib.machinery
+import importlib.util
 import os
+import types
 import typing
 
 from felter._calls import CALLS
-from felter.errors import Number, refusal
+from felter.errors import Lapped, refusal
+from felter.message import Message
 
-
-class Handle(ctypes.Structure):
-    _fields_ = [("at", ctypes.c_void_p)]
-
-
-# What stands for a type of C in the table of calls.
-TYPES: typing.Dict[str, typing.Any] = {
-    "i32": ctypes.c_int32,
-    "u32": ctypes.c_uint32,
-    "i64": ctypes.c_int64,
-    "u64": ctypes.c_uint64,
-    "usize": ctypes.c_size_t,
-    "bytes": ctypes.c_char_p,
-    "*u8": ctypes.c_void_p,
-    "*i32": ctypes.POINTER(ctypes.c_int32),
-    "*u32": ctypes.POINTER(ctypes.c_uint32),
-    "*i64": ctypes.POINTER(ctypes.c_int64),
-    "*u64": ctypes.POINTER(ctypes.c_uint64),
-    "*usize": ctypes.POINTER(ctypes.c_size_t),
+# Each call, with the words for what it takes. To a call all kinds of handles are one.
+KINDS = ["*" + it for it in "producer consumer transmitter receiver raw_receiver counters reader conductor client".split()]
+TABLE = {
+    name: ["*handle" if it in KINDS else it for it in words] for name, *words in map(str.split, CALLS.strip().splitlines())
 }
 
-# The kinds of handles, which are one type to ctypes; `handle` is one of any kind.
-KINDS = "handle producer consumer transmitter receiver raw_receiver counters reader conductor client"
-TYPES.update(("*" + kind, ctypes.POINTER(Handle)) for kind in KINDS.split())
 
-# The numbers that a parameter can be. ctypes alone would cut a larger one off.
-RANGES = {
-    "i32": (-(2**31), 2**31),
-    "u32": (0, 2**32),
-    "i64": (-(2**63), 2**63),
-    "u64": (0, 2**64),
-    "usize": (0, 2**64),
-}
-
-Range = typing.Tuple[int, int, int]
-Function = typing.Tuple[typing.Callable[..., int], typing.List[Range]]
-
-
-def load() -> ctypes.CDLL:
-    """The library: in the folder that FELTER_DIR names, or else in this package, or else in this repository's c/out."""
+def find() -> str:
+    """The path of the library: in the folder that FELTER_DIR names, or else in this package, or else in this
+    repository's c/out."""
     here = os.path.dirname(os.path.abspath(__file__))
     folder = os.environ.get("FELTER_DIR")
     folders = [folder] if folder else [here, os.path.normpath(os.path.join(here, "..", "..", "c", "out"))]
     paths = [os.path.join(it, "libfelter.so") for it in folders]
     for path in paths:
         if os.path.exists(path):
-            try:
-                return ctypes.CDLL(path)
-            except OSError as why:
-                raise ImportError("felter: %s cannot be loaded: %s" % (path, why)) from why
+            return path
     raise ImportError(
         "felter: there is no %s. Install the wheel that c/package makes, or run c/build in the repository, or let "
         "FELTER_DIR name the folder of libfelter.so." % " and no ".join(paths)
     )
 
 
-def functions_of(found: ctypes.CDLL) -> typing.Dict[str, Function]:
-    """The functions with the ranges of their numbers: where the number stands, the least, and the first too large."""
-    functions = {}
-    for line in CALLS.strip().splitlines():
-        name, *parameters = line.split()
+def extension(folder: str) -> typing.Optional[types.ModuleType]:
+    """The extension in a folder, or None if there is none that this Python can load."""
+    if os.environ.get("FELTER_PURE", "0") not in ("", "0"):
+        return None
+    for ending in importlib.machinery.EXTENSION_SUFFIXES:
+        spec = importlib.util.spec_from_file_location("felter._fast", os.path.join(folder, "_fast" + ending))
+        if spec is None or spec.loader is None or not os.path.exists(typing.cast(str, spec.origin)):
+            continue
         try:
-            function = getattr(found, name)
-        except AttributeError:
-            raise ImportError("felter: %s has no %s: it is of another version" % (found._name, name)) from None
-        function.argtypes = [TYPES[it] for it in parameters]
-        function.restype = None if name == "felter_free" else ctypes.c_int32
-        functions[name] = function, [(i, *RANGES[it]) for i, it in enumerate(parameters) if it in RANGES]
-    return functions
+            made = importlib.util.module_from_spec(spec)
+            spec.loader.exec_module(made)
+            return made
+        except ImportError:  # (it was built for a later Python)
+            continue
+    return None
 
 
-library = load()
-functions = functions_of(library)
+library = find()
+fast = extension(os.path.dirname(library))
+if fast is not None:
+    made: typing.Any = fast
+else:
+    from felter import _pure as made
 
+made.open(library, TABLE, refusal, Lapped, Message)
+os.register_at_fork(after_in_child=made.forked)
 
-def octets(data: typing.Any) -> bytes:
-    """The bytes of an object that has some, whatever it says of its length. A bytearray or a memoryview is copied."""
-    return data if type(data) is bytes else memoryview(data).tobytes()
-
-
-def code_of(name: str, *parameters: typing.Any) -> int:
-    """What a call answers. Numbers are looked at here and not by ctypes, where an interrupt would become another
-    exception."""
-    function, ranges = functions[name]
-    for index, low, end in ranges:
-        if not low <= operator.index(parameters[index]) < end:
-            raise OverflowError("%d is not from %d to %d" % (parameters[index], low, end - 1))
-    return function(*parameters)
-
-
-def call(name: str, *parameters: typing.Any) -> None:
-    """Calls, and raises what was refused."""
-    code = code_of(name, *parameters)
-    if code:
-        raise refusal(code)
-
-
-def is_there(name: str, *parameters: typing.Any) -> bool:
-    """Calls, and says whether there was a message."""
-    code = code_of(name, *parameters)
-    if code and code != Number.NO_MESSAGE:
-        raise refusal(code)
-    return not code
+if typing.TYPE_CHECKING:
+    from felter._pure import Cell, Handle, call
+else:
+    Cell, Handle, call = made.Cell, made.Handle, made.call

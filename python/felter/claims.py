@@ -1,12 +1,11 @@
 """Claims of a producer."""
 
 import contextlib
-import ctypes
 import typing
 import weakref
 
-from felter._library import code_of, octets
-from felter._owner import Unique, generation
+from felter._library import Cell
+from felter._owner import Unique
 from felter.errors import Error
 
 if typing.TYPE_CHECKING:
@@ -21,7 +20,7 @@ class Trace(weakref.ref):  # type: ignore[type-arg]
 
     # (so long as an interrupt left it like this, nothing was claimed)
     producer: typing.Any = None
-    number = ctypes.c_uint64(NONE)
+    number = Cell(NONE)
     is_settled = False
 
     def owner(self) -> "Producer":
@@ -35,21 +34,12 @@ class Trace(weakref.ref):  # type: ignore[type-arg]
         if self.is_settled or self.number.value == NONE:
             return True
         producer = self.owner()
-        is_gone = producer._handle.at is None and not producer._lock._is_owned()  # type: ignore[attr-defined]
-        return is_gone or producer._generation != generation[0]
+        return producer._is_empty() or producer._is_forked()
 
     def abort(self) -> None:
         """Aborts the claim if it is open, unless a call of the producer is running."""
-        if self.is_over():
-            return
-        lock = self.owner()._lock
-        if lock._is_owned() or not lock.acquire(False):  # type: ignore[attr-defined]
-            return
-        try:
-            code_of("felter_abort", self.producer._handle, self.number.value)
+        if not self.is_over() and self.owner()._quietly("felter_abort", self.number.value):
             self.is_settled = True
-        finally:
-            lock.release()
 
 
 class Claim(Unique):
@@ -60,14 +50,13 @@ class Claim(Unique):
         # The trace is there before the claim is made: an interrupt behind the call, whose claim nobody got, leaves it.
         # It is called for by the weak reference alone, which no interrupt can stop.
         trace = Trace(self, producer._dropped.append)
-        trace.producer, trace.number = producer, ctypes.c_uint64(NONE)
+        trace.producer, trace.number = producer, Cell(NONE)
         producer._traces[id(trace)] = trace
         self._trace = trace
 
     def put(self, offset: int, data: typing.Any) -> None:
         """Puts bytes into the message, from a byte on."""
-        data = octets(data)
-        self._do("felter_put", offset, data, len(data))
+        self._do("felter_put", offset, data)
 
     def commit(self) -> None:
         """Shows the message to the consumer."""
@@ -91,5 +80,5 @@ class Claim(Unique):
 
     def __del__(self) -> None:
         trace = getattr(self, "_trace", None)
-        if trace is not None and code_of is not None:
+        if trace is not None:
             trace.abort()

@@ -1,12 +1,11 @@
 """Conductors: they own counters, which clients command."""
 
-import ctypes
 import enum
 import typing
 
-from felter._library import call, octets
+from felter._library import call
 from felter._owner import Owner, numbers
-from felter.boards import Receiver, is_received
+from felter.boards import Receiver
 from felter.counters import Reader
 from felter.errors import Error, Number
 
@@ -67,41 +66,39 @@ class Conductor(Owner):
 
     def __init__(self, capacity: int, replies: int, counters: int, reuse_ms: int = 0) -> None:
         super().__init__(next(numbers))
-        self._replies = replies
-        parameters = capacity, replies, counters, reuse_ms
-        call("felter_conductor_new_numbered", self._number, *parameters, self._handle)
+        call("felter_conductor_new_numbered", self._number, capacity, replies, counters, reuse_ms, self)
 
     def client(self) -> "Client":
         """Makes a client, with one share of the ring's 65,536 and one of the board's. It starts with the reply that was
         transmitted last."""
         client = Client(self._number, self._ends, writes=False)
-        self._do("felter_conductor_client", client._handle)
+        self._do("felter_conductor_client", client)
         return client
 
     def subscribe(self) -> Receiver:
         """Makes a receiver of the replies as they lie on the board, which starts with the one that was transmitted
         last, with one of the board's shares."""
-        receiver = Receiver(self._replies, self._number, self._ends)
-        self._do("felter_conductor_subscribe", receiver._handle)
+        receiver = Receiver(self._number, self._ends, writes=False)
+        self._do("felter_conductor_subscribe", receiver)
         return receiver
 
     def reader(self) -> Reader:
         """Makes a reader of the counters' values, for another thread, with one of the counters' 65,536 shares. One that
         is freed takes its share with it, and is in nobody's way."""
         reader = Reader(self._number)
-        self._do("felter_conductor_reader", reader._handle)
+        self._do("felter_conductor_reader", reader)
         return reader
 
     def work(self, now: int, limit: int = 2**32 - 1) -> Work:
-        """Takes up to `limit` commands, applies each at a moment, and transmits its reply. Answers a Work."""
-        messages, stopped = ctypes.c_uint64(), ctypes.c_int32()
-        self._do("felter_conductor_work", now, limit, messages, stopped)
-        return Work(messages.value, WorkStop(stopped.value))
+        """Takes up to `limit` commands, applies each at a moment, and transmits its reply. Returns a Work. Through the
+        extension in C other threads of Python wait meanwhile."""
+        messages, stopped = self._do("felter_conductor_work", now, limit)
+        return Work(messages, WorkStop(stopped))
 
     def find(self, type_id: int, registration: int) -> typing.Optional[int]:
         """The lowest id in use of a type and registration id, or None."""
         try:
-            return self._say("felter_conductor_find", ctypes.c_uint32, type_id, registration)
+            return self._do("felter_conductor_find", type_id, registration)
         except Error as refused:
             if refused.number != Number.NOT_ALLOCATED:
                 raise
@@ -109,43 +106,39 @@ class Conductor(Owner):
 
     def count(self) -> int:
         """The number of ids, in use or not."""
-        return self._say("felter_conductor_count", ctypes.c_uint32)
+        return self._do("felter_conductor_count")
 
     def value(self, counter: int) -> int:
         """A counter's value."""
-        return self._say("felter_conductor_value", ctypes.c_int64, counter)
+        return self._do("felter_conductor_value", counter)
 
     def type_id(self, counter: int) -> int:
         """A counter's type id."""
-        return self._say("felter_conductor_type_id", ctypes.c_int32, counter)
+        return self._do("felter_conductor_type_id", counter)
 
     def registration(self, counter: int) -> int:
         """A counter's registration id."""
-        return self._say("felter_conductor_registration", ctypes.c_uint64, counter)
+        return self._do("felter_conductor_registration", counter)
 
     def owner(self, counter: int) -> int:
         """A counter's owner, 0 if it has none."""
-        return self._say("felter_conductor_owner", ctypes.c_uint64, counter)
+        return self._do("felter_conductor_owner", counter)
 
     def state(self, counter: int) -> int:
         """The state of a record: 0 if it was never used, 1 if the counter is in use, -1 if it was freed."""
-        return self._say("felter_conductor_state", ctypes.c_int32, counter)
+        return self._do("felter_conductor_state", counter)
 
     def deadline(self, counter: int) -> int:
         """The moment from which an id may be allocated again: 0 if it was never used, 2^63 - 1 if it is in use."""
-        return self._say("felter_conductor_deadline", ctypes.c_uint64, counter)
+        return self._do("felter_conductor_deadline", counter)
 
     def label(self, counter: int) -> bytes:
         """A counter's label."""
-        label, length = ctypes.create_string_buffer(380), ctypes.c_size_t()
-        self._do("felter_conductor_label", counter, length, label, len(label))
-        return label[: length.value]
+        return self._do("felter_conductor_label", counter, 380)
 
     def key(self, counter: int) -> bytes:
         """A counter's key of 112 bytes, with zeros after a shorter one."""
-        key = ctypes.create_string_buffer(112)
-        self._do("felter_conductor_key", counter, key, len(key))
-        return key[:]
+        return self._do("felter_conductor_key", counter, 112)
 
     def set_heartbeat(self, value: int) -> None:
         """Stores the heartbeat that clients load."""
@@ -166,39 +159,33 @@ class Conductor(Owner):
     def finish(self) -> Finished:
         """Ends a conductor whose clients and receivers were all taken back, and answers a Finished. Refused with
         PRODUCERS_OUT, then RECEIVERS_OUT, and then IN_USE where a reader is out, it goes on as before."""
-        received, left = ctypes.c_uint64(), ctypes.c_uint64()
-        self._do("felter_conductor_finish", received, left)
+        finished = Finished(*self._do("felter_conductor_finish"))
         self._is_gone = True
-        return Finished(received.value, left.value)
+        return finished
 
 
 class Client(Owner):
     """Sends commands to its conductor, and hears its replies. Each call that sends makes one try, and answers the
     correlation id that was drawn for the command; `poll` asks for its reply."""
 
-    def _send(self, name: str, *parameters: typing.Any) -> int:
-        return self._say(name, ctypes.c_uint64, *parameters)
-
     def allocate(self, type_id: int, key: typing.Any = b"", label: typing.Any = b"", owner: int = 0) -> int:
         """Asks for a counter of value 0; its registration id is the correlation id. The owner 0 stands for none. The
         command takes 20 bytes and those of key and label, and with an owner 8 more."""
-        key, label = octets(key), octets(label)
-        texts = key, len(key), label, len(label)
         if owner == 0:
-            return self._send("felter_send_allocate", type_id, *texts)
-        return self._send("felter_send_allocate_owned", type_id, owner, *texts)
+            return self._do("felter_send_allocate", type_id, key, label)
+        return self._do("felter_send_allocate_owned", type_id, owner, key, label)
 
     def release(self, counter: int) -> int:
         """Asks that a counter is freed."""
-        return self._send("felter_send_free", counter)
+        return self._do("felter_send_free", counter)
 
     def set(self, counter: int, value: int) -> int:
         """Asks that a counter's value is set."""
-        return self._send("felter_send_set", counter, value)
+        return self._do("felter_send_set", counter, value)
 
     def close_owner(self, owner: int) -> int:
         """Asks that each counter of an owner is freed."""
-        return self._send("felter_send_close_owner", owner)
+        return self._do("felter_send_close_owner", owner)
 
     def is_abandoned(self) -> bool:
         """Whether the conductor was freed, or has finished: no further reply will come."""
@@ -210,18 +197,15 @@ class Client(Owner):
 
         Raises Lapped where the conductor overtook the client: the next call goes on with the reply that was transmitted
         last, and what became of the commands that were on their way is not known."""
-        kind, number, lapped = ctypes.c_int32(), ctypes.c_int64(), ctypes.c_uint64()
-        outs = kind, number, lapped
-        self._check()
-        with self._lock:
-            while True:
-                try:
-                    took = is_received("felter_poll", self._handle, correlation, *outs, lapped=lapped)
-                    return Reply(ReplyKind(kind.value), number.value) if took else None
-                except Error as refused:
-                    if refused.number != Number.OTHER_REPLY:
-                        raise
+        while True:
+            try:
+                found = self._try("felter_poll", correlation)
+            except Error as refused:
+                if refused.number != Number.OTHER_REPLY:
+                    raise
+            else:
+                return found and Reply(ReplyKind(found[0]), found[1])
 
     def heartbeat(self) -> int:
         """Loads the heartbeat that the conductor stored last, 0 before the first."""
-        return self._say("felter_client_heartbeat", ctypes.c_uint64)
+        return self._do("felter_client_heartbeat")

@@ -2,13 +2,14 @@
 
 import collections
 import contextlib
-import ctypes
+import enum
 import struct
 import typing
 
-from felter._library import call, is_there, octets
+from felter._library import Handle, call
 from felter._owner import Ends, Owner, Sizes, numbers
 from felter.claims import Claim, Trace
+from felter.controlled import Controlled
 from felter.errors import Contended, Error, Full, Number
 from felter.message import Message
 from felter.waiting import wait_for
@@ -21,12 +22,31 @@ class Positions(typing.NamedTuple):
     tail: int
 
 
-class Consumer(Owner):
+class Found(enum.IntEnum):
+    """What is next in a ring, by the numbers of felter.h."""
+
+    # A message, which the consumer reads next.
+    MESSAGE = 0
+    # Nothing is claimed after the head.
+    NONE = 1
+    # A claim that is not settled yet: its producer is slow, or lost.
+    CLAIM = 2
+    # Something changed meanwhile: ask again.
+    CHANGE = 3
+
+
+class Standing(typing.NamedTuple):
+    """What is next in a ring, and the head, in bytes, which is the place of the claim if it is one."""
+
+    found: Found
+    head: int
+
+
+class Consumer(Controlled):
     """Reads a ring, one message after the other, into a buffer that grows with them."""
 
     def __init__(self, number: int, ends: Ends) -> None:
         super().__init__(number, ends, writes=False)
-        self._buffer = ctypes.create_string_buffer(256)
 
     def sizes(self) -> Sizes:
         """The capacity, and how many bytes the longest message has."""
@@ -40,20 +60,12 @@ class Consumer(Owner):
     def read(self, timeout: typing.Optional[float] = 0) -> typing.Optional[Message]:
         """The next message, or None if nothing came within so many seconds (0: it does not wait, None: it waits for
         ever). Waiting, it raises Disconnected if every producer is gone and all was read."""
+        if timeout == 0:
+            return self._read_by("felter_read")
         return wait_for(self._read, timeout, self.is_abandoned)
 
     def _read(self) -> typing.Optional[Message]:
-        type_id, length = ctypes.c_int32(), ctypes.c_size_t()
-        self._check()
-        with self._lock:
-            while True:
-                try:
-                    took = is_there("felter_read", self._handle, type_id, length, self._buffer, len(self._buffer))
-                    return Message(type_id.value, self._buffer[: length.value]) if took else None
-                except Error as refused:
-                    if refused.number != Number.SHORT_BUFFER:
-                        raise
-                    self._buffer = ctypes.create_string_buffer(length.value)
+        return self._read_by("felter_read")
 
     def __iter__(self) -> typing.Iterator[Message]:
         """The messages that are there, each taken as it is asked for."""
@@ -62,16 +74,33 @@ class Consumer(Owner):
     def read_batch(self, limit: int, room: int = 65536) -> typing.List[Message]:
         """A list of up to `limit` messages, by one call; of none it is empty. Fewer can come than are there. A message
         takes 16 bytes of the room and its own, rounded up to 8, and one that has no room stays."""
-        buffer, count, used = ctypes.create_string_buffer(room), ctypes.c_uint32(), ctypes.c_size_t()
-        self._check()
-        with self._lock:
-            is_there("felter_read_batch", self._handle, limit, count, used, buffer, room)
+        count, records = self._try("felter_read_batch", limit, room) or (0, b"")
         messages, at = [], 0
-        for _ in range(count.value):
-            length, type_id = struct.unpack_from("=Qq", buffer, at)
-            messages.append(Message(type_id, buffer[at + 16 : at + 16 + length]))
+        for _ in range(count):
+            length, type_id = struct.unpack_from("=Qq", records, at)
+            messages.append(Message(type_id, records[at + 16 : at + 16 + length]))
             at += 16 + (length + 7) // 8 * 8
         return messages
+
+    def standing(self, producer: "Producer") -> Standing:
+        """What is next in the ring, of which it needs a producer. It loads the positions, reads into no room, and loads
+        the positions again: padding and aborted claims before the next message are passed, which is a change."""
+        if self._number != producer._number:
+            raise Error(Number.OTHER_RING)
+        first, is_message = producer.positions(), False
+        try:
+            # (a message has no room, and stays)
+            self._try("felter_read_batch", 1, 0)
+        except Error as refused:
+            if refused.number != Number.SHORT_BUFFER:
+                raise
+            is_message = True
+        head, tail = producer.positions()
+        if is_message:
+            return Standing(Found.MESSAGE, head)
+        if head == first.head and tail <= head:
+            return Standing(Found.NONE, head)
+        return Standing(Found.CLAIM if head == first.head and first.tail > head else Found.CHANGE, head)
 
     def set_heartbeat(self, value: int) -> None:
         """Stores the heartbeat that producers load."""
@@ -90,9 +119,13 @@ class Consumer(Owner):
     def finish(self) -> int:
         """Ends a ring that was closed, frees the consumer, and returns how many messages were left unread. If the ring
         was not closed it is refused with PRODUCERS_OUT, and goes on as before."""
-        left = self._say("felter_finish", ctypes.c_uint64)
+        left: int = self._do("felter_finish")
         self._is_gone = True
         return left
+
+
+# (a write is worth the shortest way to the library)
+do = Handle._do
 
 
 class Producer(Owner):
@@ -117,10 +150,10 @@ class Producer(Owner):
                 with contextlib.suppress(ValueError):
                     self._dropped.remove(trace)
 
-    def _do(self, name: str, *parameters: typing.Any) -> None:
+    def _do(self, name: str, *given: typing.Any) -> typing.Any:
         if self._dropped:
             self._settle_dropped()
-        super()._do(name, *parameters)
+        return do(self, name, *given)
 
     def sizes(self) -> Sizes:
         """The capacity, and how many bytes the longest message has."""
@@ -134,20 +167,25 @@ class Producer(Owner):
         """Writes a message. The body is any object with bytes: bytes, a bytearray, an array. While the ring is full, or
         another producer is faster, it tries for so many seconds (0: once, None: for ever), and then raises that. It
         raises Disconnected if it would wait, and the consumer is gone."""
-        body = octets(body)
+        if self._dropped:
+            self._settle_dropped()
+        if timeout == 0:
+            do(self, "felter_write", type_id, body)
+        else:
+            self._write_within(timeout, type_id, body)
+
+    def _write_within(self, timeout: typing.Optional[float], type_id: int, body: typing.Any) -> None:
         refused: typing.List[Error] = []
 
         def attempt() -> typing.Optional[bool]:
             try:
-                self._do("felter_write", type_id, body, len(body))
+                self._do("felter_write", type_id, body)
                 return True
             except (Full, Contended) as why:
                 refused[:] = [why]
                 return None
 
-        if timeout == 0:
-            self._do("felter_write", type_id, body, len(body))
-        elif not wait_for(attempt, timeout, self.is_abandoned):
+        if not wait_for(attempt, timeout, self.is_abandoned):
             raise refused[0]
 
     def write_all(self, messages: typing.Iterable[typing.Tuple[int, typing.Any]]) -> int:
@@ -169,7 +207,7 @@ class Producer(Owner):
     def split(self) -> "Producer":
         """Makes another producer of a many-to-one ring, with one share."""
         other = Producer(self._number, self)
-        self._do("felter_split", other._handle)
+        self._do("felter_split", other)
         return other
 
     def join(self, other: "Producer") -> None:
@@ -179,28 +217,26 @@ class Producer(Owner):
 
     def positions(self) -> Positions:
         """Loads the head, and then the tail."""
-        head, tail = ctypes.c_uint64(), ctypes.c_uint64()
-        self._do("felter_positions", head, tail)
-        return Positions(head.value, tail.value)
+        return Positions(*self._do("felter_positions"))
 
     def next_id(self) -> int:
         """Draws the ring's next correlation id."""
-        return self._say("felter_next_id", ctypes.c_uint64)
+        return self._do("felter_next_id")
 
     def heartbeat(self) -> int:
         """Loads the heartbeat that the consumer stored last, 0 before the first."""
-        return self._say("felter_heartbeat", ctypes.c_uint64)
+        return self._do("felter_heartbeat")
 
     def shares(self) -> int:
         """How many of the ring's 65,536 shares it holds."""
-        return self._say("felter_shares", ctypes.c_uint32)
+        return self._do("felter_shares")
 
 
 def _ring(name: str, capacity: int, start: int) -> typing.Tuple[Producer, Consumer]:
     number = next(numbers)
     producer = Producer(number)
     consumer = Consumer(number, producer._ends)
-    call(name, number, capacity, start, producer._handle, consumer._handle)
+    call(name, number, capacity, start, producer, consumer)
     return producer, consumer
 
 

@@ -25,7 +25,9 @@ pub use exports::conducting::{
     felter_conductor_client, felter_conductor_new_numbered, felter_conductor_set_heartbeat,
     felter_conductor_work,
 };
-pub use exports::consuming::{felter_read, felter_read_batch, felter_set_heartbeat};
+pub use exports::consuming::{
+    felter_peek, felter_read, felter_read_batch, felter_set_heartbeat, felter_take,
+};
 pub use exports::counting::{
     felter_counter_add, felter_counter_allocate, felter_counter_allocate_owned,
     felter_counter_find, felter_counter_free, felter_counter_key, felter_counter_label,

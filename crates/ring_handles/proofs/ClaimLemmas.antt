@@ -1,5 +1,5 @@
--- The open claims of a producer: how they are found, and how they stay open.
-use Rattle.std.proofs.Common.{◌≡◌, ◌≢◌, ℕ, suc, ◌+◌, ◌%◌, ◌<◌, ◌≤◌, pos, MatchOption, Bool, true, false, cond, eqb, List, [], ◌∷◌, ◌++◌, All, Some, length, get_or, take, drop, slice_index_or, refl, sym, ap, ◌∙◌, subst, arith, append_assoc, append-nil, take_all}
+-- The open claims of a producer: how they stay open.
+use Rattle.std.proofs.Common.{◌≡◌, ◌≢◌, ◌⊎◌, inl, inr, ℕ, suc, ◌+◌, ◌%◌, ◌<◌, ◌≤◌, pos, MatchOption, Bool, true, false, cond, eqb, List, [], ◌∷◌, ◌++◌, All, Some, length, get_or, take, drop, slice_index_or, refl, sym, ap, ◌∙◌, subst, arith, append_assoc, append-nil, take_all}
 use Rattle.std.proofs.lemmas.List.{at_drop_all, drop_more, get_or_default, take_more}
 use Rattle.std.proofs.lemmas.List.Elements.{All-append, All-cons, All-head, All-nil, All-pop, All-push, All-tail, All-weaker}
 use Rattle.ring_layout.specs.declared.message.ClaimState.{ClaimState}
@@ -12,73 +12,23 @@ use Rattle.ring_table.specs.Changes.{blank, changed, staged}
 use Rattle.ring_table.specs.ProducerSteps.{with_changed}
 use Rattle.ring_rings.specs.declared.ring.Ring.{Ring}
 use Rattle.ring_rings.specs.declared.ring.Producer.{Producer}
+use Rattle.ring_rings.specs.Bodies.{PutsBytes}
 use Rattle.ring_rings.specs.Seats.{view_of, IsOpenClaimOf, KeepsBoth, KeepsClaims, KeepsOthers, LiesApart}
-use Rattle.ring_handles.specs.Claims.{aborted, claim_numbered, without, AreApart, AreOpen, IsNoNumber, HasIndex, Takes}
-use Rattle.ring_handles.specs.Producing.{holding, settling, Declined, Settled}
+use Rattle.ring_handles.specs.Claims.{aborted, claim_numbered, without, AreApart, AreOpen, Takes}
+use Rattle.ring_handles.specs.Producing.{holding, settling, Declined, Put, Settled}
 use Rattle.ring_handles.specs.Side.{knowing, side}
 use Rattle.ring_handles.specs.declared.identity.Identity.{Identity}
 
--- The search ---------------------------------------------------------------------
-
--- the first claims do not have this number
-pub record IsBehind (number : ℕ) (claims : List ClaimAt) (i : ℕ) : Type 0 where
-  pub claim : claim_numbered number claims ≡ claim_numbered number (drop i claims)
-  pub rest : without number claims ≡ take i claims ++ without number (drop i claims)
+-- Lists of claims ----------------------------------------------------------------
 
 -- the head of a list, by what the test of its number says
-numbered_by : (b : Bool) (number : ℕ) (t : ClaimAt) (ts : List ClaimAt) → eqb t.place number ≡ b
+pub numbered_by : (b : Bool) (number : ℕ) (t : ClaimAt) (ts : List ClaimAt) → eqb t.place number ≡ b
     → (claim_numbered number (t ∷ ts) ≡ cond b (Some t) (claim_numbered number ts))
     × (without number (t ∷ ts) ≡ cond b ts (t ∷ without number ts))
 numbered_by b number t ts is = (
   ap (λ x. cond x (Some t) (claim_numbered number ts)) is,
   ap (λ x. cond x ts (t ∷ without number ts)) is,
 )
-
-module _ (number : ℕ) (claims : List ClaimAt) where
-  pub behind_none : IsBehind number claims 0
-  behind_none = record { claim = refl; rest = refl }
-
-  -- the next one does not have it
-  pub behind_more : (i : ℕ) (d : ClaimAt) → i < length claims → eqb (get_or claims i d).place number ≡ false
-      → IsBehind number claims i → IsBehind number claims (i + 1)
-  behind_more i d inside off so_far =
-      let t = get_or claims i d in
-      let front = drop_more claims i d inside in
-      let by = numbered_by false number t (drop (i + 1) claims) off in
-      record {
-        claim = so_far.claim ∙ ap (claim_numbered number) front ∙ by.0;
-        rest = so_far.rest ∙ ap (λ l. take i claims ++ without number l) front
-            ∙ ap (λ l. take i claims ++ l) by.1
-            ∙ sym (append_assoc (take i claims) (t ∷ []) (without number (drop (i + 1) claims)))
-            ∙ ap (λ l. l ++ without number (drop (i + 1) claims)) (sym (take_more claims i d inside));
-      }
-
-  -- the next one has it
-  pub found : (i : ℕ) (d : ClaimAt) → i < length claims → eqb (get_or claims i d).place number ≡ true
-      → IsBehind number claims i → HasIndex number claims i
-  found i d inside on so_far =
-      let t = get_or claims i d in
-      let front = drop_more claims i d inside in
-      let by = numbered_by true number t (drop (i + 1) claims) on in
-      let next : i + 1 ≡ suc i = omega arith in
-      record {
-        inside = inside;
-        claim = λ e. so_far.claim ∙ ap (claim_numbered number) front ∙ by.0
-            ∙ ap Some (get_or_default claims i d e inside);
-        rest = so_far.rest ∙ ap (λ l. take i claims ++ without number l) front
-            ∙ ap (λ l. take i claims ++ l) by.1
-            ∙ ap (λ n. take i claims ++ drop n claims) next;
-      }
-
-  -- none has it
-  pub not_found : (i : ℕ) → length claims ≤ i → IsBehind number claims i → IsNoNumber number claims
-  not_found i past so_far = record {
-    claim = so_far.claim ∙ at_drop_all (claim_numbered number) claims i past;
-    rest = so_far.rest ∙ ap (λ l. take i claims ++ l) (at_drop_all (without number) claims i past)
-        ∙ append-nil (take i claims) ∙ take_all i claims past;
-  }
-
--- Lists of claims ----------------------------------------------------------------
 
 some_same : (t u : ClaimAt) → Some t ≡ Some u → t ≡ u
 some_same t u same = cc
@@ -94,7 +44,7 @@ has_number number t X on off = pick (eqb t.place number) refl
 
 -- what holds of all claims holds of the one of a number, and of all without it
 module _ (R : ClaimAt → Type 0) (number : ℕ) where
-  holds_of : (ts : List ClaimAt) (t : ClaimAt) → claim_numbered number ts ≡ Some t → All R ts → R t
+  pub holds_of : (ts : List ClaimAt) (t : ClaimAt) → claim_numbered number ts ≡ Some t → All R ts → R t
   holds_of [] t is all = absurd cc
   holds_of (u ∷ us) t is all = has_number number u (R t)
       (λ on. subst R (some_same u t (sym (numbered_by true number u us on).0 ∙ is)) (All-head R u us all))
@@ -254,6 +204,34 @@ module _ {K : Type 0} (ring : Ring K) where
       ∙ ap (λ l. holding l (knowing (with_changed t.place (staged (Stored state)) (view_of p)) before)) takes.rest in
       subst (λ o. MatchOption o (Declined (pos 104) before after (pos 0))
       (λ u. (pos 0 ≡ pos 0) × (after ≡ settling state number u before))) (sym takes.claim) (refl, same)
+
+  -- bytes were put into the claim of a number
+  pub put_one : (number offset : ℕ) (bytes : List ℕ) (p q : Producer) (claims left : List ClaimAt) (t : ClaimAt)
+      (many : Bool) (identity : Identity) → claim_numbered number claims ≡ Some t → left ≡ claims
+      → PutsBytes t.place offset bytes (view_of p) (view_of q)
+      → Put number offset bytes (side many identity ring p claims) (side many identity ring q left) (pos 0)
+  put_one number offset bytes p q claims left t many identity is same puts =
+      let before = side many identity ring p claims in
+      let after = side many identity ring q left in
+      let stays : after ≡ knowing (view_of q) before = ap (λ l. holding l (knowing (view_of q) before)) same in
+      subst (λ o. MatchOption o (Declined (pos 104) before after (pos 0))
+      (λ u. ((pos 0 ≡ pos 0) × (after ≡ knowing after.view before)
+      × PutsBytes u.place offset bytes before.view after.view)
+      ⊎ ((u.len < offset + length bytes) × Declined (pos 9) before after (pos 0)))) (sym is) (inl (refl, stays, puts))
+
+  -- or are not inside it
+  pub put_refused : (number offset : ℕ) (bytes : List ℕ) (p q : Producer) (claims left : List ClaimAt) (t : ClaimAt)
+      (many : Bool) (identity : Identity) → claim_numbered number claims ≡ Some t → left ≡ claims → q ≡ p
+      → t.len < offset + length bytes
+      → Put number offset bytes (side many identity ring p claims) (side many identity ring q left) (pos 9)
+  put_refused number offset bytes p q claims left t many identity is same rest short =
+      let before = side many identity ring p claims in
+      let after = side many identity ring q left in
+      subst (λ o. MatchOption o (Declined (pos 104) before after (pos 9))
+      (λ u. ((pos 9 ≡ pos 0) × (after ≡ knowing after.view before)
+      × PutsBytes u.place offset bytes before.view after.view)
+      ⊎ ((u.len < offset + length bytes) × Declined (pos 9) before after (pos 9)))) (sym is)
+      (inr (short, (refl, λ i. side many identity ring (rest i) (same i))))
 
 -- the last one is aborted first
 pub aborted_last : (ts : List ClaimAt) (t : ClaimAt) (cs : List StagedClaim)

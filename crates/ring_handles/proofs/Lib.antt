@@ -3,5 +3,8 @@ mod ClaimLemmas
 mod EndLemmas
 mod EndingLemmas
 pub mod HandleValues
+mod PeekLemmas
 mod ReadLemmas
+mod ShownLemmas
+mod SlotLemmas
 pub mod Values

@@ -18,42 +18,12 @@ use Rattle.ring_handles.specs.Consuming.{Out, RanOut, ReadOne, ReadsOne, LeavesA
 use Rattle.ring_handles.specs.Copying.{Copies, Exceeds, CopiesIn}
 use Rattle.ring_handles.specs.Side.{Reading, having_read}
 use Rattle.ring_handles.proofs.EndLemmas.{both, had_none, in_words, next_on, none_once, none_twice, ran_out}
+use Rattle.ring_handles.proofs.ShownLemmas.{none_more, shown_none, shown_one, uncounted}
 
 -- it never goes on after a message
 never_on : (s t : Copying) (m : Message) (a : Action) → Copies s m t a → GoesOn a → ⊥
 never_on s t m a (inl fits) on = subst GoesOn fits.action on
 never_on s t m a (inr exceeds) on = subst GoesOn exceeds.action on
-
--- a handler that goes on was shown nothing
-shown_none : (s t : Copying) (ms : List PlacedMessage) (actions : List Action)
-    → Handles Copies s (messages_of ms) actions t → All GoesOn actions → (ms ≡ []) × (s ≡ t)
-shown_none s t [] [] handled on = (refl, handled)
-shown_none s t [] (a ∷ actions) handled on = absurd handled
-shown_none s t (m ∷ ms) [] handled on = absurd handled
-shown_none s t (m ∷ ms) (a ∷ actions) handled on =
-    absurd (never_on s handled.0 m.message a handled.1 (All-head GoesOn a actions on))
-
--- one that goes on until it breaks was shown one message
-shown_one : (s t : Copying) (ms : List PlacedMessage) (actions before : List Action)
-    → Handles Copies s (messages_of ms) actions t → All GoesOn before → actions ≡ before ++ Break ∷ []
-    → (m : PlacedMessage) × (ms ≡ m ∷ []) × Copies s m.message t Break
-shown_one s t ms actions before handled on is =
-    one before on (subst (λ answers. Handles Copies s (messages_of ms) answers t) is handled)
-  where
-    last : (ms : List PlacedMessage) → Handles Copies s (messages_of ms) (Break ∷ []) t
-        → (m : PlacedMessage) × (ms ≡ m ∷ []) × Copies s m.message t Break
-    last [] handled = absurd handled
-    last (m ∷ []) handled = (m, refl, subst (λ u. Copies s m.message u Break) handled.2 handled.1)
-    last (m ∷ (n ∷ ms)) handled = absurd handled.2
-
-    one : (before : List Action) → All GoesOn before → Handles Copies s (messages_of ms) (before ++ Break ∷ []) t
-        → (m : PlacedMessage) × (ms ≡ m ∷ []) × Copies s m.message t Break
-    one [] on handled = last ms handled
-    one (a ∷ before) on handled = absurd (first ms handled)
-      where
-        first : (ms : List PlacedMessage) → Handles Copies s (messages_of ms) (a ∷ (before ++ Break ∷ [])) t → ⊥
-        first [] handled = handled
-        first (m ∷ ms) handled = never_on s handled.0 m.message a handled.1 (All-head GoesOn a before on)
 
 -- Break is not Abort
 broken : (s t : Copying) (m : Message) → Copies s m t Break → CopiesIn s m t Break
@@ -66,17 +36,8 @@ aborted s t m (inl fits) = let clash : Abort ≡ Break = fits.action in absurd c
 
 -- Of the consumer ----------------------------------------------------------------
 
-none_more : (v w : View) (ms : List PlacedMessage) → w.consumer.taken ≡ v.consumer.taken ++ ms → ms ≡ []
-    → w.consumer.taken ≡ v.consumer.taken
-none_more v w ms taken none =
-    taken ∙ ap (λ (ns : List PlacedMessage). v.consumer.taken ++ ns) none ∙ append-nil v.consumer.taken
-
 abbrev outs : Copying → Out
 outs s = out s.type_id s.len s.buffer.now
-
--- no message is counted if none was shown
-uncounted : (n : ℕ) (ms : List PlacedMessage) → n ≡ length ms → ms ≡ [] → n ≡ 0
-uncounted n ms counted none = counted ∙ ap (λ (ns : List PlacedMessage). length ns) none
 
 -- it took one message, or none, or left one that is too long
 pub took_one : (v w : View) (s t : Copying) (end : ReadEnd) → s.code ≡ pos 105
@@ -84,7 +45,7 @@ pub took_one : (v w : View) (s t : Copying) (end : ReadEnd) → s.code ≡ pos 1
     → Controls Copies 1 v w s t end
     → TookOne (RanOut 1 end.stopped) v w (out s.type_id s.len s.buffer.now) (out t.type_id t.len t.buffer.now) t.code
 took_one v w s t end waits bytes blocked (inl on) =
-    let none = shown_none s t on.reads.messages on.reads.actions on.reads.handled on.went_on in
+    let none = shown_none Copies never_on s t on.reads.messages on.reads.actions on.reads.handled on.went_on in
     inr (inl (
       ap (λ (u : Copying). u.code) (sym none.1)
           ∙ waits,
@@ -96,7 +57,7 @@ took_one v w s t end waits bytes blocked (inl on) =
       },
     ))
 took_one v w s t end waits bytes blocked (inr (inl broke)) =
-    let one = shown_one s t broke.reads.messages broke.reads.actions broke.before broke.reads.handled broke.went_on
+    let one = shown_one Copies never_on s t broke.reads.messages broke.reads.actions broke.before broke.reads.handled broke.went_on
     broke.broke in
     let fits = broken s t one.0.message one.2 in
     inl (
@@ -110,7 +71,7 @@ took_one v w s t end waits bytes blocked (inr (inl broke)) =
     )
 took_one v w s t end waits bytes blocked (inr (inr aborts)) =
     let none =
-    shown_none s aborts.before aborts.reads.messages aborts.reads.actions aborts.reads.handled aborts.went_on in
+    shown_none Copies never_on s aborts.before aborts.reads.messages aborts.reads.actions aborts.reads.handled aborts.went_on in
     let exceeds = aborted s t aborts.message
     (subst (λ (u : Copying). Copies u aborts.message t Abort) (sym none.1) aborts.aborted) in
     inr (inr (
@@ -136,14 +97,14 @@ pub same_borrow : (limit : ℕ) (v w : View) (s t : Copying) (end : ReadEnd) →
     → t.buffer.ghost_name ≡ s.buffer.ghost_name
 same_borrow limit v w s t end (inl on) =
     ap (λ (u : Copying). u.buffer.ghost_name)
-    (sym (shown_none s t on.reads.messages on.reads.actions on.reads.handled on.went_on).1)
+    (sym (shown_none Copies never_on s t on.reads.messages on.reads.actions on.reads.handled on.went_on).1)
 same_borrow limit v w s t end (inr (inl broke)) =
-    let one = shown_one s t broke.reads.messages broke.reads.actions broke.before broke.reads.handled broke.went_on
+    let one = shown_one Copies never_on s t broke.reads.messages broke.reads.actions broke.before broke.reads.handled broke.went_on
     broke.broke in
     (broken s t one.0.message one.2).borrow
 same_borrow limit v w s t end (inr (inr aborts)) =
     let none =
-    shown_none s aborts.before aborts.reads.messages aborts.reads.actions aborts.reads.handled aborts.went_on in
+    shown_none Copies never_on s aborts.before aborts.reads.messages aborts.reads.actions aborts.reads.handled aborts.went_on in
     (aborted s t aborts.message (subst (λ (u : Copying). Copies u aborts.message t Abort)
     (sym none.1) aborts.aborted)).borrow
 

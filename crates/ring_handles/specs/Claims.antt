@@ -1,6 +1,5 @@
 -- The open claims of a producer, the oldest first. The number of a claim is its place.
-use Rattle.std.specs.Prelude.{◌≡◌, ◌≢◌, ◌==◌, ℕ, ◌<◌, List, [], ◌∷◌, All, Option, Some, None, if◌then◌else◌, length, slice_index_or}
-use Rattle.std.specs.List.{remove}
+use Rattle.std.specs.Prelude.{◌≡◌, ◌≢◌, ◌==◌, ℕ, ◌<◌, List, [], ◌∷◌, All, Option, Some, None, Bool, true, false, if◌then◌else◌, length, slice_index_or, slice_set, vec_capacity, vec_len}
 use Rattle.ring_layout.specs.declared.message.ClaimState.TheVariants.{Aborted}
 use Rattle.ring_words.specs.Open.{ClaimAt}
 use Rattle.ring_table.specs.declared.claim.StagedClaim.{StagedClaim}
@@ -9,6 +8,7 @@ use Rattle.ring_table.specs.Changes.{changed, staged}
 use Rattle.ring_rings.specs.declared.ring.Ring.{Ring}
 use Rattle.ring_rings.specs.declared.ring.Producer.{Producer}
 use Rattle.ring_rings.specs.Seats.{IsOpenClaimOf}
+use Rattle.ring_handles.specs.declared.open_claims.OpenClaims.{OpenClaims}
 
 -- Claims by number ---------------------------------------------------------------
 
@@ -22,12 +22,6 @@ abbrev pub without : ℕ → List ClaimAt → List ClaimAt
 without number [] = []
 without number (t ∷ ts) = if t.place == number then ts else t ∷ without number ts
 
--- the claim of this number stands at this index
-pub record HasIndex (number : ℕ) (claims : List ClaimAt) (index : ℕ) : Type 0 where
-  pub inside : index < length claims
-  pub claim : (d : ClaimAt) → claim_numbered number claims ≡ Some (slice_index_or claims index d)
-  pub rest : without number claims ≡ remove claims index
-
 -- no claim has this number
 pub record IsNoNumber (number : ℕ) (claims : List ClaimAt) : Type 0 where
   pub claim : claim_numbered number claims ≡ None
@@ -37,6 +31,38 @@ pub record IsNoNumber (number : ℕ) (claims : List ClaimAt) : Type 0 where
 pub record Takes (number : ℕ) (t : ClaimAt) (old new : List ClaimAt) : Type 0 where
   pub claim : claim_numbered number old ≡ Some t
   pub rest : new ≡ without number old
+
+-- Slots --------------------------------------------------------------------------
+
+-- the claims in these slots, of which some are empty
+abbrev pub in_slots : List (Option ClaimAt) → List ClaimAt
+in_slots [] = []
+in_slots (None ∷ slots) = in_slots slots
+in_slots (Some t ∷ slots) = t ∷ in_slots slots
+
+-- the claims that a producer keeps, the oldest first
+abbrev pub claims_in : OpenClaims → List ClaimAt
+claims_in kept = in_slots kept.slots.items
+
+-- there is room to keep one more
+abbrev pub HasRoomToKeep : OpenClaims → Type 0
+HasRoomToKeep kept = vec_len kept.slots < vec_capacity kept.slots
+
+-- the slot has the claim of this number
+abbrev pub has_numbered : ℕ → Option ClaimAt → Bool
+has_numbered number None = false
+has_numbered number (Some t) = t.place == number
+
+-- the slot at this index has it
+pub record IsSlotOf (number : ℕ) (slots : List (Option ClaimAt)) (index : ℕ) : Type 0 where
+  pub inside : index < length slots
+  pub has : has_numbered number (slice_index_or slots index None) ≡ true
+
+-- the claim of this number was taken out of the slot at this index
+pub record TakesFrom (number index : ℕ) (t : ClaimAt) (old new : List (Option ClaimAt)) : Type 0 where
+  pub inside : index < length new
+  pub takes : Takes number t (in_slots old) (in_slots new)
+  pub back : slice_set new index (Some t) ≡ old
 
 -- Claims that are open -----------------------------------------------------------
 

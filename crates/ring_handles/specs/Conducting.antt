@@ -122,7 +122,7 @@ ConductorBeat value c d code = (code ≡ pos 0) × Beats value c d
 
 -- Counters -----------------------------------------------------------------------
 
--- P tells what its counters answered, and nothing of the conductor changed
+-- P holds of what its counters reported, and nothing of the conductor changed
 abbrev pub AsksIts : {T : Type 0} → (CountersManager → T → T → ℤ → Type 0) → T → T → ConductorSide → ConductorSide → ℤ
     → Type 0
 AsksIts P before after c d code = (d ≡ c) × P (manager_in c.conductor) before after code

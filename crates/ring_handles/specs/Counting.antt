@@ -36,7 +36,7 @@ TellsOf ask id m = Answers (id_refusal_of (registry_of m) id) (ask (registry_of 
 abbrev pub TellsOfRecord : {T : Type 0} → (Registry → T) → ℕ → CountersManager → T → T → ℤ → Type 0
 TellsOfRecord ask id m = Answers (range_refusal_of (registry_of m) id) (ask (registry_of m))
 
--- P tells what the counters answered, and they did not change
+-- P holds of what the counters reported, and they did not change
 abbrev pub Asks : {T : Type 0} → (CountersManager → T → T → ℤ → Type 0) → T → T → CountersSide → CountersSide → ℤ
     → Type 0
 Asks P before after c d code = (d ≡ c) × P c.manager before after code

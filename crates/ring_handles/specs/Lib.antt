@@ -12,6 +12,7 @@ pub mod Kinds
 pub mod Lending
 pub mod Opening
 pub mod Owned
+pub mod Peeking
 pub mod Producing
 pub mod Raw
 pub mod Returning

@@ -34,7 +34,7 @@ abbrev pub capacity_in : AnyRing → ℕ
 capacity_in (Many ring) = capacity_of (arc_value ring)
 capacity_in (One ring) = capacity_of (arc_value ring)
 
--- a producer of it, which holds all shares where it is the only one
+-- a producer of it, which holds all shares if the ring has no other
 abbrev pub IsProducerIn : AnyRing → Producer → Type 0
 IsProducerIn (Many ring) p = IsProducerOf (arc_value ring) p
 IsProducerIn (One ring) p = IsProducerOf (arc_value ring) p × (shares_of p ≡ all_shares)

@@ -75,7 +75,7 @@ fn lay_some<K>(
     ring.controlled_read(consumer, limit, laying)
 }
 
-/// Lays up to `limit` messages into a buffer, and says how many and the bytes that they take, and why it stopped.
+/// Lays up to `limit` messages into a buffer, and reports how many and the bytes that they take, and why it stopped.
 fn lay_into<K>(
     ring: &Ring<K>,
     consumer: &mut Consumer,
@@ -124,7 +124,7 @@ impl ConsumerSide {
         on_ring!(self.ring, ring => lay_into(ring, &mut self.consumer, limit, count, used, buffer))
     }
 
-    /// Lays up to `limit` messages into a buffer, and says how many and the bytes that they take.
+    /// Lays up to `limit` messages into a buffer, and reports how many and the bytes that they take.
     pub fn read_batch(
         &mut self,
         limit: u32,

@@ -72,7 +72,7 @@ impl Model for ReceiverSide {
 }
 
 impl TransmitterSide {
-    /// The bytes of the board's buffer.
+    /// The bytes of the broadcast buffer.
     pub(crate) fn capacity(&self) -> u32
         ensures { result ≡ self.now.capacity }
     {
@@ -117,7 +117,7 @@ fn copy_front(buffer: &mut [u8], body: &[u8])
     copy_at(buffer, 0, &body[..room]);
 }
 
-/// Puts out where a receiver was when it was lapped last, and the intent that showed it.
+/// Reports where a receiver was when it was lapped last, and the intent that showed it.
 pub(crate) fn tell_lap(lap: Option<Lapped>, place: &mut u64, intent: &mut u64) -> i32
     ensures { TellsLap (lap_out place.old intent.old) (lap_out place.new intent.new) lap result }
 {
@@ -164,14 +164,14 @@ fn hear(
 }
 
 impl ReceiverSide {
-    /// The bytes of the board's buffer.
+    /// The bytes of the broadcast buffer.
     pub(crate) fn capacity(&self) -> u32
         ensures { result ≡ self.now.capacity }
     {
         self.board.board().capacity()
     }
 
-    /// Puts out the position, in bytes, at which the next call looks for a record.
+    /// Reports the position, in bytes, at which the next call looks for a record.
     pub fn place(&mut self, place: &mut u64) -> i32
         ensures { SaysPlace place.new self.old self.new result }
     {
@@ -179,7 +179,7 @@ impl ReceiverSide {
         DONE
     }
 
-    /// Puts out where the receiver was when it was lapped last, and the intent that showed it.
+    /// Reports where the receiver was when it was lapped last, and the intent that showed it.
     pub fn lap(&mut self, place: &mut u64, intent: &mut u64) -> i32
         ensures { SaysLap (lap_out place.old intent.old) (lap_out place.new intent.new) self.old self.new result }
     {
@@ -213,7 +213,7 @@ impl ReceiverSide {
         )
     }
 
-    /// Says how often the receiver was lapped.
+    /// Reports how often the receiver was lapped.
     pub fn lapped_count(&mut self, count: &mut u64) -> i32
         ensures { SaysLapped count.new self.old self.new result }
     {

@@ -22,7 +22,7 @@ pub struct ConductorSide {
     pub(crate) shared: Arc<Shared>,
     pub(crate) conductor: Conductor,
     pub(crate) producer: Producer,
-    /// How many shares of the board are not with receivers.
+    /// How many shares of the broadcast buffer are not with receivers.
     pub(crate) shares: u32,
     ghost conducts: { IsConductorOf IsConsumerOf (arc_value shared).ring (arc_value shared).board
         (arc_value shared).values conductor },

@@ -41,7 +41,7 @@ impl Model for ConsumerSide {
     ghost invariant = { λ a. IsConsumerIn a.ring a.consumer × IsLastIn a.ring a.last };
 }
 
-/// Reads up to one message, as far as the end of the ring's buffer, and says why it stopped.
+/// Reads up to one message, as far as the end of the ring's buffer, and reports why it stopped.
 fn take_one<K>(ring: &Ring<K>, consumer: &mut Consumer, copying: &mut Copying<'_>) -> Stop
     requires consumer { IsConsumerOf ring.now consumer.old }
     requires waits { copying.old.code ≡ pos 105 }
@@ -55,7 +55,7 @@ fn take_one<K>(ring: &Ring<K>, consumer: &mut Consumer, copying: &mut Copying<'_
     ring.controlled_read(consumer, 1, copying).stopped
 }
 
-/// Reads up to one message into a buffer, and says its type id and length, and why it stopped.
+/// Reads up to one message into a buffer, and reports its type id and length, and why it stopped.
 fn read_into<K>(
     ring: &Ring<K>,
     consumer: &mut Consumer,
@@ -97,7 +97,7 @@ impl ConsumerSide {
         on_ring!(self.ring, ring => read_into(ring, &mut self.consumer, type_id, len, buffer))
     }
 
-    /// Reads the next message into a buffer, and says its type id and length.
+    /// Reads the next message into a buffer, and reports its type id and length.
     pub fn read(&mut self, type_id: &mut i32, len: &mut usize, buffer: &mut [u8]) -> i32
         ensures { ReadOne (out type_id.old len.old buffer.old)
             (out type_id.new len.new buffer.new) self.old self.new result }

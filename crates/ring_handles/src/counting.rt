@@ -24,7 +24,7 @@ pub struct Wanted<'a> {
     pub owner: u64,
 }
 
-/// Puts out what a call returns, and returns the code: 0, or the number of the refusal, with what is out as it was.
+/// Reports what a call returns, and returns the code: 0, or the number of the refusal, with what is out as it was.
 macro_rules! tell {
     ($out:ident, $answer:expr) => {
         match $answer {
@@ -57,7 +57,7 @@ pub(crate) fn find_in(
     }
 }
 
-/// Copies a counter's label to the front of a buffer, and puts its length out.
+/// Copies a counter's label to the front of a buffer, and reports its length.
 pub(crate) fn label_of(
     manager: &CountersManager,
     id: u32,
@@ -98,7 +98,7 @@ pub(crate) fn key_of(manager: &CountersManager, id: u32, buffer: &mut [u8]) -> i
 }
 
 impl CountersSide {
-    /// Allocates a counter, and says its id.
+    /// Allocates a counter, and reports its id.
     pub fn allocate(&mut self, wanted: Wanted<'_>, id: &mut u32) -> i32
         ensures { WasAllocated wanted.entry.now wanted.entry.type_id wanted.entry.key.now wanted.entry.label.now
             wanted.entry.registration wanted.entry.owner id.old id.new self.old self.new result }
@@ -125,7 +125,7 @@ impl CountersSide {
         }
     }
 
-    /// Adds to a counter's value, and says the value before.
+    /// Adds to a counter's value, and reports the value before.
     pub fn add(&mut self, id: u32, delta: i64, before: &mut i64) -> i32
         ensures { WasAdded id delta before.old before.new self.old self.new result }
     {
@@ -145,7 +145,7 @@ impl CountersSide {
         }
     }
 
-    /// Frees each counter of an owner, and says how many.
+    /// Frees each counter of an owner, and reports how many.
     pub fn close_owner(&mut self, now: u64, owner: u64, freed: &mut u32) -> i32
         ensures { OwnerClosed now owner freed.old freed.new self.old self.new result }
     {
@@ -168,7 +168,7 @@ impl CountersSide {
         find_in(&self.manager, type_id, registration, id)
     }
 
-    /// Says how many ids there are.
+    /// Reports how many ids there are.
     pub fn count(&mut self, count: &mut u32) -> i32
         ensures { Asks TellsCount count.old count.new self.old self.new result }
     {
@@ -176,21 +176,21 @@ impl CountersSide {
         DONE
     }
 
-    /// Says a counter's value.
+    /// Reports a counter's value.
     pub fn value(&mut self, id: u32, value: &mut i64) -> i32
         ensures { Asked (λ r. (counter_at r id).values.value) id value.old value.new self.old self.new result }
     {
         tell!(value, self.manager.value(id))
     }
 
-    /// Says a counter's type.
+    /// Reports a counter's type.
     pub fn type_id(&mut self, id: u32, type_id: &mut i32) -> i32
         ensures { Asked (λ r. (counter_at r id).metadata.type_id) id type_id.old type_id.new self.old self.new result }
     {
         tell!(type_id, self.manager.type_id(id))
     }
 
-    /// Says a counter's registration id.
+    /// Reports a counter's registration id.
     pub fn registration(&mut self, id: u32, registration: &mut u64) -> i32
         ensures { Asked (λ r. (counter_at r id).values.registration) id registration.old registration.new self.old
             self.new result }
@@ -198,7 +198,7 @@ impl CountersSide {
         tell!(registration, self.manager.registration(id))
     }
 
-    /// Says a counter's label.
+    /// Reports a counter's label.
     pub fn label(&mut self, id: u32, len: &mut usize, buffer: &mut [u8]) -> i32
         ensures { Asks (TellsLabel id) (label_out len.old buffer.old) (label_out len.new buffer.new) self.old self.new
             result }
@@ -206,21 +206,21 @@ impl CountersSide {
         label_of(&self.manager, id, len, buffer)
     }
 
-    /// Says a counter's key.
+    /// Reports a counter's key.
     pub fn key(&mut self, id: u32, buffer: &mut [u8]) -> i32
         ensures { Asks (TellsKey id) buffer.old buffer.new self.old self.new result }
     {
         key_of(&self.manager, id, buffer)
     }
 
-    /// Says a counter's owner, 0 for none.
+    /// Reports a counter's owner, 0 for none.
     pub fn owner(&mut self, id: u32, owner: &mut u64) -> i32
         ensures { Asked (λ r. (counter_at r id).values.owner) id owner.old owner.new self.old self.new result }
     {
         tell!(owner, self.manager.owner(id))
     }
 
-    /// Raises a counter's value to this one if it is below it, and puts out 1, or else 0.
+    /// Raises a counter's value to this one if it is below it, and reports 1, or otherwise 0.
     pub fn propose_max(&mut self, id: u32, value: i64, raised: &mut u32) -> i32
         ensures { WasProposed id value raised.old raised.new self.old self.new result }
     {
@@ -237,7 +237,7 @@ impl CountersSide {
         }
     }
 
-    /// Puts out the state of a record: 0 if it was never used, 1 if the counter is in use, -1 if it was freed.
+    /// Reports the state of a record: 0 if it was never used, 1 if the counter is in use, -1 if it was freed.
     pub fn state(&mut self, id: u32, state: &mut i32) -> i32
         ensures { Asks (TellsOfRecord (λ r. state_of (counter_at r id).metadata.status) id) state.old state.new
             self.old self.new result }
@@ -245,7 +245,7 @@ impl CountersSide {
         tell!(state, self.manager.state(id))
     }
 
-    /// Puts out the moment from which an id may be allocated again.
+    /// Reports the moment from which an id may be allocated again.
     pub fn deadline(&mut self, id: u32, deadline: &mut u64) -> i32
         ensures { Asks (TellsOfRecord (λ r. deadline_of (counter_at r id).metadata.status) id)
             deadline.old deadline.new self.old self.new result }

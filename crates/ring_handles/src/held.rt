@@ -27,7 +27,7 @@ pub enum Held {
 }
 
 impl Held {
-    /// The bytes of the ring's or the board's buffer, if this is a producer, a consumer, a transmitter or a receiver.
+    /// The bytes of the ring's or the broadcast buffer, if this is a producer, a consumer, a transmitter or a receiver.
     pub fn capacity(&self) -> Option<u32>
         ensures { result ≡ capacity_held self.now }
     {

@@ -16,6 +16,7 @@ use crate::consumer::ConsumerSide;
 use crate::counters::CountersSide;
 use crate::held::Held;
 use crate::identity::Identity;
+use crate::open_claims::OpenClaims;
 use crate::producer::ProducerSide;
 use crate::ring::AnyRing;
 use ring_board::Board;
@@ -73,7 +74,7 @@ fn box_both(
         ring,
         identity,
         producer,
-        claims: Vec::new(alloc),
+        claims: OpenClaims::new(alloc),
     });
     let two = Held::Consumer(ConsumerSide {
         ring: same,
@@ -192,7 +193,7 @@ pub fn open_counters(
 
 /// Makes a conductor of these sizes, to which nothing was sent.
 ///
-/// The first refusal comes of ring, board and counters, and 3 if there is no memory.
+/// The first refusal comes of ring, broadcast buffer and counters, and 3 if there is no memory.
 pub fn open_conductor(alloc: Global, identity: Identity, sizes: Sizes) -> Result<Box<Held>, i32>
     ensures made { IfOk result (λ made.
         HoldNewConductor identity sizes.capacity sizes.replies sizes.counters sizes.reuse_ms (Some made.value)) }

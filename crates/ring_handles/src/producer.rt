@@ -10,9 +10,10 @@ ghost use Rattle.ring_words.specs.Open.{ClaimAt};
 use crate::claims::{abort_all, claim_in, put_in, settle_in};
 use crate::code::{DONE, NO_SHARES, OTHER_RING, OUT_OF_MEMORY, WRONG_HANDLE};
 use crate::identity::Identity;
+use crate::open_claims::OpenClaims;
 use crate::ring::{AnyRing, on_ring};
 use ring_layout::ClaimState;
-use ring_rings::{Claim, Kind, Producer, Ring};
+use ring_rings::{Kind, Producer, Ring};
 use std::alloc::Global;
 use std::marker::Model;
 use std::sync::Arc;
@@ -25,17 +26,18 @@ pub struct ProducerSide {
     pub(crate) identity: Identity,
     pub(crate) producer: Producer,
     /// The claims that are open, the oldest first.
-    pub(crate) claims: Vec<Claim>,
+    pub(crate) claims: OpenClaims,
 }
 
 impl Model for ProducerSide {
+    ghost use Rattle.ring_handles.specs.Claims.{claims_in};
     ghost use Rattle.ring_handles.specs.Side.{side_in, IsSide, Side};
 
     ghost Value = { Side };
 
-    ghost view = { λ a. side_in a.ring a.identity a.producer a.claims.items };
+    ghost view = { λ a. side_in a.ring a.identity a.producer (claims_in a.claims) };
 
-    ghost invariant = { λ a. IsSide a.ring a.producer a.claims.items };
+    ghost invariant = { λ a. IsSide a.ring a.producer (claims_in a.claims) };
 }
 
 /// Writes a message into a ring, by one try.
@@ -157,7 +159,7 @@ impl ProducerSide {
         DONE
     }
 
-    /// Says how many shares it holds.
+    /// Reports how many shares it holds.
     pub fn shares(&mut self, shares: &mut u32) -> i32
         ensures { Counted shares.new self.old self.new result }
     {
@@ -181,7 +183,7 @@ impl ProducerSide {
                 ring: AnyRing::Many(same),
                 identity: self.identity,
                 producer,
-                claims: Vec::new(alloc),
+                claims: OpenClaims::new(alloc),
             }),
             Err(_) => Err(NO_SHARES),
         }

@@ -148,14 +148,14 @@ fn test_latest(board: &Board, receiver: &mut Receiver, latest: Option<RawRecord>
 }
 
 impl RawReceiverSide {
-    /// The bytes of the board's buffer.
+    /// The bytes of the broadcast buffer.
     pub(crate) fn capacity(&self) -> u32
         ensures { result ≡ self.now.capacity }
     {
         self.board.capacity()
     }
 
-    /// Puts out the position, in bytes, at which the next call looks for a record.
+    /// Reports the position, in bytes, at which the next call looks for a record.
     pub fn place(&mut self, place: &mut u64) -> i32
         ensures { SaysRawPlace place.new self.old self.new result }
     {
@@ -163,7 +163,7 @@ impl RawReceiverSide {
         DONE
     }
 
-    /// Puts out where the receiver was when it was lapped last, and the intent that showed it.
+    /// Reports where the receiver was when it was lapped last, and the intent that showed it.
     pub fn lap(&mut self, place: &mut u64, intent: &mut u64) -> i32
         ensures { SaysRawLap (lap_out place.old intent.old) (lap_out place.new intent.new) self.old self.new
             result }
@@ -201,7 +201,7 @@ impl RawReceiverSide {
         test_latest(&self.board, &mut self.receiver, self.latest)
     }
 
-    /// Says how often the receiver was lapped.
+    /// Reports how often the receiver was lapped.
     pub fn lapped_count(&mut self, count: &mut u64) -> i32
         ensures { SaysLaps count.new self.old self.new result }
     {

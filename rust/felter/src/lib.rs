@@ -38,6 +38,7 @@ mod board;
 mod client;
 mod conductor;
 mod conductor_counters;
+mod controlled;
 mod counters;
 mod doorbell;
 mod ends;
@@ -46,11 +47,13 @@ mod handle;
 mod message;
 mod raw;
 mod ring;
+mod standing;
 mod wait;
 
 pub use board::{Lap, RawReceiver, RawRecord, Receiver, Transmitter};
 pub use client::{Client, Polled, Reply};
 pub use conductor::{Conductor, Finished, Work, WorkStop};
+pub use controlled::Action;
 pub use counters::{Counters, Reader, MAX_KEY};
 pub use doorbell::Doorbell;
 pub use error::{BatchRefused, Error, Refused};
@@ -59,4 +62,5 @@ pub use message::{Batch, Message};
 pub use ring::{
     many_to_one, many_to_one_at, one_to_one, one_to_one_at, Claim, Consumer, KeptClaim, Positions, Producer,
 };
+pub use standing::{Found, Standing};
 pub use wait::WaitError;

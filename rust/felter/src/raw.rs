@@ -64,6 +64,14 @@ extern "C" {
         buffer: *mut u8,
         room: usize,
     ) -> i32;
+    pub(crate) fn felter_peek(
+        consumer: *mut Raw,
+        type_id: *mut i32,
+        len: *mut usize,
+        buffer: *mut u8,
+        room: usize,
+    ) -> i32;
+    pub(crate) fn felter_take(consumer: *mut Raw) -> i32;
     pub(crate) fn felter_read_batch(
         consumer: *mut Raw,
         limit: u32,

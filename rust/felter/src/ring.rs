@@ -59,7 +59,7 @@ pub struct Positions {
 #[derive(Debug)]
 pub struct Producer {
     handle: Handle,
-    ring: Number,
+    pub(crate) ring: Number,
     end: End,
 }
 
@@ -313,8 +313,8 @@ impl Drop for Claim<'_> {
 /// Reads a ring.
 #[derive(Debug)]
 pub struct Consumer {
-    handle: Handle,
-    ring: Number,
+    pub(crate) handle: Handle,
+    pub(crate) ring: Number,
     end: End,
 }
 

@@ -2,6 +2,7 @@
 ghost use Rattle.ring_handles.specs.Batch.{batch, ReadBatch};
 ghost use Rattle.ring_handles.specs.Consuming.{out, Beat, ReadOne};
 ghost use Rattle.ring_handles.specs.Kinds.{a_consumer};
+ghost use Rattle.ring_handles.specs.Peeking.{PeekOne, TakeOne};
 ghost use Rattle.ring_c.specs.Told.{Uses, Yields};
 
 use crate::work_on::work_on;
@@ -21,6 +22,29 @@ pub extern "C" fn felter_read(
         consumer.old.held consumer.new.held result }
 {
     work_on!(consumer, alloc, Consumer(side) => side.read(type_id, len, buffer))
+}
+
+/// Copies the next message into a buffer, and says its type id and length. It stays in the ring.
+#[unsafe(no_mangle)]
+pub extern "C" fn felter_peek(
+    alloc: Global,
+    consumer: &mut Handle,
+    type_id: &mut i32,
+    len: &mut usize,
+    buffer: &mut [u8],
+) -> i32
+    ensures { Yields a_consumer PeekOne (out type_id.old len.old buffer.old) (out type_id.new len.new buffer.new)
+        consumer.old.held consumer.new.held result }
+{
+    work_on!(consumer, alloc, Consumer(side) => side.peek(type_id, len, buffer))
+}
+
+/// Takes the next message, and copies nothing.
+#[unsafe(no_mangle)]
+pub extern "C" fn felter_take(alloc: Global, consumer: &mut Handle) -> i32
+    ensures { Uses a_consumer TakeOne consumer.old.held consumer.new.held result }
+{
+    work_on!(consumer, alloc, Consumer(side) => side.take())
 }
 
 /// Reads up to `limit` messages into a buffer, one after another, and says how many and the bytes that they take.

@@ -19,7 +19,7 @@ fn send_number(fault: SendFault) -> i32
     }
 }
 
-/// What a reply says in addition to its kind.
+/// What a reply reports in addition to its kind.
 fn number_in(reply: Reply) -> i64
     ensures { result ≡ number_in reply }
 {
@@ -38,7 +38,7 @@ fn number_in(reply: Reply) -> i64
 }
 
 impl ClientSide {
-    /// Makes one try to send a command, and says its correlation id.
+    /// Makes one try to send a command, and reports its correlation id.
     pub fn send(&mut self, request: Request<'_>, id: &mut u64) -> i32
         ensures { WasSent request.entry id.old id.new self.old self.new result }
     {
@@ -51,7 +51,7 @@ impl ClientSide {
         }
     }
 
-    /// Takes the next message of the broadcast buffer, and says of the reply that was asked about what it is.
+    /// Takes the next message of the broadcast buffer, and reports of the reply that was asked about what it is.
     pub fn poll(
         &mut self,
         correlation: u64,

@@ -16,7 +16,7 @@ impl ConductorSide {
         find_in(self.conductor.counters(), type_id, registration, id)
     }
 
-    /// Puts out how many ids there are.
+    /// Reports how many ids there are.
     pub fn count(&mut self, count: &mut u32) -> i32
         ensures { AsksIts TellsCount count.old count.new self.old self.new result }
     {
@@ -24,7 +24,7 @@ impl ConductorSide {
         DONE
     }
 
-    /// Puts out a counter's value.
+    /// Reports a counter's value.
     pub fn value(&mut self, id: u32, value: &mut i64) -> i32
         ensures { AsksIts (TellsOf (λ r. (counter_at r id).values.value) id) value.old value.new self.old self.new
             result }
@@ -32,7 +32,7 @@ impl ConductorSide {
         tell!(value, self.conductor.counters().value(id))
     }
 
-    /// Puts out a counter's type.
+    /// Reports a counter's type.
     pub fn type_id(&mut self, id: u32, type_id: &mut i32) -> i32
         ensures { AsksIts (TellsOf (λ r. (counter_at r id).metadata.type_id) id) type_id.old type_id.new self.old
             self.new result }
@@ -40,7 +40,7 @@ impl ConductorSide {
         tell!(type_id, self.conductor.counters().type_id(id))
     }
 
-    /// Puts out a counter's registration id.
+    /// Reports a counter's registration id.
     pub fn registration(&mut self, id: u32, registration: &mut u64) -> i32
         ensures { AsksIts (TellsOf (λ r. (counter_at r id).values.registration) id) registration.old registration.new
             self.old self.new result }
@@ -48,7 +48,7 @@ impl ConductorSide {
         tell!(registration, self.conductor.counters().registration(id))
     }
 
-    /// Puts out a counter's owner, 0 for none.
+    /// Reports a counter's owner, 0 for none.
     pub fn owner(&mut self, id: u32, owner: &mut u64) -> i32
         ensures { AsksIts (TellsOf (λ r. (counter_at r id).values.owner) id) owner.old owner.new self.old self.new
             result }
@@ -56,7 +56,7 @@ impl ConductorSide {
         tell!(owner, self.conductor.counters().owner(id))
     }
 
-    /// Copies a counter's label to the front of a buffer, and puts its length out.
+    /// Copies a counter's label to the front of a buffer, and reports its length.
     pub fn label(&mut self, id: u32, len: &mut usize, buffer: &mut [u8]) -> i32
         ensures { AsksIts (TellsLabel id) (label_out len.old buffer.old) (label_out len.new buffer.new) self.old
             self.new result }
@@ -71,7 +71,7 @@ impl ConductorSide {
         key_of(self.conductor.counters(), id, buffer)
     }
 
-    /// Puts out the state of a record: 0 if it was never used, 1 if the counter is in use, -1 if it was freed.
+    /// Reports the state of a record: 0 if it was never used, 1 if the counter is in use, -1 if it was freed.
     pub fn state(&mut self, id: u32, state: &mut i32) -> i32
         ensures { AsksIts (TellsOfRecord (λ r. state_of (counter_at r id).metadata.status) id) state.old state.new
             self.old self.new result }
@@ -79,7 +79,7 @@ impl ConductorSide {
         tell!(state, self.conductor.counters().state(id))
     }
 
-    /// Puts out the moment from which an id may be allocated again.
+    /// Reports the moment from which an id may be allocated again.
     pub fn deadline(&mut self, id: u32, deadline: &mut u64) -> i32
         ensures { AsksIts (TellsOfRecord (λ r. deadline_of (counter_at r id).metadata.status) id)
             deadline.old deadline.new self.old self.new result }

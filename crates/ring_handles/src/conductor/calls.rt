@@ -42,7 +42,7 @@ impl ConductorSide {
         })
     }
 
-    /// Takes up to `limit` commands, and says how many it took and why it stopped.
+    /// Takes up to `limit` commands, and reports how many it took and why it stopped.
     pub fn work(&mut self, now: u64, limit: u32, messages: &mut u64, stopped: &mut i32) -> i32
         ensures { Worked now limit (report_out messages.old stopped.old) (report_out messages.new stopped.new)
             self.old self.new result }

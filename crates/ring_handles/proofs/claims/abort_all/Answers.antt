@@ -2,7 +2,7 @@ use Rattle.std.proofs.Common.{◌∙◌, ap, subst, sym}
 use Rattle.ring_table.specs.declared.view.View.{View}
 use Rattle.ring_table.specs.Views.{with_claims}
 use Rattle.ring_rings.specs.Seats.{claims_of, view_of}
-use Rattle.ring_handles.specs.Claims.{aborted, AreOpen}
+use Rattle.ring_handles.specs.Claims.{aborted, claims_in, AreOpen}
 use Rattle.ring_handles.proofs.ClaimLemmas.{aborted_last, front_open}
 use Rattle.ring_handles.proofs.claims.abort_all.Goals as goal
 
@@ -11,9 +11,9 @@ loop-claim-preserved g c =
     let was = c.loop-claim.invariant in
     let old = c.loop-claim.producer in
     let new = c.abort.new.producer in
-    let front = c.pop.new.self.items in
+    let front = claims_in c.pop.new.self in
     let t = c.in-Some.claim in
-    let items = c.in-Some.ensures.items in
+    let items = c.in-Some.ensures in
     record {
       of = c.abort.ensures.producer;
       shares = ap (λ (v : View). v.producer.shares) c.abort.ensures.settled ∙ was.shares;

@@ -1,12 +1,12 @@
 use Rattle.std.proofs.Common.{◌∙◌, ◌++◌, ◌∷◌, [], ap, subst, sym}
-use Rattle.ring_handles.specs.Claims.{AreOpen}
+use Rattle.ring_handles.specs.Claims.{claims_in, AreOpen}
 use Rattle.ring_handles.proofs.ClaimLemmas.{one_more_open}
 use Rattle.ring_handles.proofs.claims.claim_in.Goals as goal
 
 pub returns-in-Ok-claim_once-clause-claims : goal.returns-in-Ok-claim_once-clause-claims
 returns-in-Ok-claim_once-clause-claims g c =
     let made = c.in-Ok-claim_once in
-    let held = c.push_reserved.ensures.items ∙ ap (λ l. l ++ made.claim ∷ []) c.reserve.ensures.items in
+    let held = c.keep.ensures ∙ ap (λ l. l ++ made.claim ∷ []) c.reserve.ensures.same in
     subst (AreOpen c.args.ring.now c.claim_once.new.producer) (sym held)
-    (one_more_open c.args.ring.now c.args.producer.now c.claim_once.new.producer c.args.claims.now.items made.claim
+    (one_more_open c.args.ring.now c.args.producer.now c.claim_once.new.producer (claims_in c.args.claims.now) made.claim
     c.claim_once.ensures.holdings.claims made.ensures.opened.is_open made.ensures.opened.apart c.requires.claims)

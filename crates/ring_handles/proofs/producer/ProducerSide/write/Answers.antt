@@ -3,6 +3,7 @@ use Rattle.std.specs.Int.{w32}
 use Rattle.std.proofs.lemmas.Int.{to_z-of_z}
 use Rattle.ring_words.specs.Open.{ClaimAt}
 use Rattle.ring_rings.specs.declared.ring.Producer.{Producer}
+use Rattle.ring_handles.specs.Claims.{claims_in}
 use Rattle.ring_handles.specs.Side.{side_in, Side}
 use Rattle.ring_handles.specs.declared.identity.Identity.{Identity}
 use Rattle.ring_handles.specs.declared.ring.AnyRing.{AnyRing}
@@ -21,7 +22,7 @@ of_the_handle R any ring identity p q claims s is view holds =
 pub returns-in-Many : goal.returns-in-Many
 returns-in-Many c =
     let own = c.self.inside in
-    let claims = own.claims.items in
+    let claims = claims_in own.claims in
     let wrote = rw (to_z-of_z w32 c.args.type_id c.ranges.type_id, c.deref.ensures) at
     c.write_in.ensures.wrote true own.identity claims in
     let told = of_the_handle (λ p q. Wrote c.args.type_id c.args.body.now p q c.write_in.result) own.ring
@@ -32,7 +33,7 @@ returns-in-Many c =
 pub returns-in-One : goal.returns-in-One
 returns-in-One c =
     let own = c.self.inside in
-    let claims = own.claims.items in
+    let claims = claims_in own.claims in
     let wrote = rw (to_z-of_z w32 c.args.type_id c.ranges.type_id, c.deref-in-One.ensures) at
     c.write_in-in-One.ensures.wrote false own.identity claims in
     let told = of_the_handle (λ p q. Wrote c.args.type_id c.args.body.now p q c.write_in-in-One.result) own.ring

@@ -1,0 +1,124 @@
+/* Handles, and the other types. */
+#include "fast.h"
+
+#include <structmember.h>
+
+PyTypeObject *handle_type, *cell_type, *function_type;
+void (*free_handle)(void **at);
+unsigned generation;
+
+/* Calls with the handle as the first of what is given. */
+static PyObject *called_by(enum manner manner, PyObject *self, PyObject *const *given, Py_ssize_t count) {
+    PyObject *all[MOST];
+    if (count < 1 || count > MOST) {
+        PyErr_SetString(PyExc_TypeError, "a call has a name and a few values");
+        return NULL;
+    }
+    all[0] = self;
+    for (Py_ssize_t i = 1; i < count; i++) all[i] = given[i];
+    return called(manner, given[0], all, count);
+}
+
+static PyObject *handle_do(PyObject *self, PyObject *const *given, Py_ssize_t count) {
+    return called_by(DO, self, given, count);
+}
+
+static PyObject *handle_try(PyObject *self, PyObject *const *given, Py_ssize_t count) {
+    return called_by(TRY, self, given, count);
+}
+
+static PyObject *handle_read(PyObject *self, PyObject *name) {
+    PyObject *given[] = {self, Py_None};
+    return called(READ, name, given, 2);
+}
+
+static PyObject *handle_quietly(PyObject *self, PyObject *const *given, Py_ssize_t count) {
+    return called_by(QUIETLY, self, given, count);
+}
+
+static PyObject *handle_free(PyObject *self, PyObject *Py_UNUSED(none)) {
+    word at;
+    if (take_handle(self, &at) != 0) return NULL;
+    if (free_handle) free_handle(at.pointer);
+    Py_RETURN_NONE;
+}
+
+static PyObject *handle_is_empty(PyObject *self, PyObject *Py_UNUSED(none)) {
+    return PyBool_FromLong(((Handle *)self)->at == NULL);
+}
+
+static PyObject *handle_is_forked(PyObject *self, PyObject *Py_UNUSED(none)) {
+    return PyBool_FromLong(((Handle *)self)->generation != generation);
+}
+
+static PyObject *handle_new(PyTypeObject *type, PyObject *Py_UNUSED(its), PyObject *Py_UNUSED(named)) {
+    Handle *self = (Handle *)((allocfunc)PyType_GetSlot(type, Py_tp_alloc))(type, 0);
+    if (self) self->generation = generation;
+    return (PyObject *)self;
+}
+
+static void plain_dealloc(PyObject *it) {
+    PyTypeObject *type = Py_TYPE(it);
+    ((freefunc)PyType_GetSlot(type, Py_tp_free))(it);
+    Py_DECREF(type);
+}
+
+static void handle_dealloc(PyObject *it) {
+    Handle *self = (Handle *)it;
+    /* (a forked child owns nothing) */
+    if (self->at && free_handle && self->generation == generation) free_handle(&self->at);
+    PyMem_Free(self->room);
+    plain_dealloc(it);
+}
+
+static int cell_init(PyObject *self, PyObject *its, PyObject *Py_UNUSED(named)) {
+    unsigned long long value = 0;
+    if (!PyArg_ParseTuple(its, "K", &value)) return -1;
+    ((Cell *)self)->value = value;
+    return 0;
+}
+
+#define FAST(call) (PyCFunction)(void (*)(void))call, METH_FASTCALL
+
+static PyMethodDef handle_methods[] = {
+    {"_do", FAST(handle_do), "Calls, and returns what was put out, or raises what was refused."},
+    {"_try", FAST(handle_try), "The same, but returns None if there is no message."},
+    {"_read_by", handle_read, METH_O, "Calls what reads a message, and returns it, or None."},
+    {"_quietly", FAST(handle_quietly), "Calls, unless another call uses the handle. Returns whether it did."},
+    {"_free", handle_free, METH_NOARGS, "Frees what it owns."},
+    {"_is_empty", handle_is_empty, METH_NOARGS, "Whether it owns nothing."},
+    {"_is_forked", handle_is_forked, METH_NOARGS, "Whether it belongs to the process that forked this one."},
+    {NULL, NULL, 0, NULL},
+};
+
+static PyMemberDef cell_members[] = {
+    {"value", T_ULONGLONG, offsetof(Cell, value), 0, NULL},
+    {NULL, 0, 0, 0, NULL},
+};
+
+static PyType_Slot handle_slots[] = {
+    {Py_tp_new, handle_new},
+    {Py_tp_dealloc, handle_dealloc},
+    {Py_tp_methods, handle_methods},
+    {0, NULL},
+};
+static PyType_Slot cell_slots[] = {
+    {Py_tp_init, cell_init},
+    {Py_tp_dealloc, plain_dealloc},
+    {Py_tp_members, cell_members},
+    {0, NULL},
+};
+static PyType_Slot function_slots[] = {{Py_tp_dealloc, plain_dealloc}, {0, NULL}};
+
+static PyType_Spec handle_spec = {
+    "felter._fast.Handle", sizeof(Handle), 0, Py_TPFLAGS_DEFAULT | Py_TPFLAGS_BASETYPE, handle_slots,
+};
+static PyType_Spec cell_spec = {"felter._fast.Cell", sizeof(Cell), 0, Py_TPFLAGS_DEFAULT, cell_slots};
+static PyType_Spec function_spec = {"felter._fast.Function", sizeof(Function), 0, Py_TPFLAGS_DEFAULT, function_slots};
+
+int make_types(void) {
+    handle_type = (PyTypeObject *)PyType_FromSpec(&handle_spec);
+    cell_type = (PyTypeObject *)PyType_FromSpec(&cell_spec);
+    function_type = (PyTypeObject *)PyType_FromSpec(&function_spec);
+    return handle_type && cell_type && function_type ? 0 : -1;
+}

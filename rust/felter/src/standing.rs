@@ -1,0 +1,64 @@
+//! What a consumer has before it.
+use crate::error::Error;
+use crate::ring::{Consumer, Producer};
+
+/// What is next in a ring.
+#[derive(Clone, Copy, Debug, PartialEq, Eq)]
+pub enum Found {
+    /// A message, which the consumer reads next.
+    Message,
+    /// Nothing is claimed after the head.
+    Nothing,
+    /// A claim that is not settled yet: its producer is slow, or lost.
+    Claim,
+    /// Something changed meanwhile: ask again.
+    Change,
+}
+
+/// What is next in a ring, and where.
+#[derive(Clone, Copy, Debug, PartialEq, Eq)]
+pub struct Standing {
+    /// What it is.
+    pub found: Found,
+    /// The head, in bytes, which is the place of the claim if it is one.
+    pub head: u64,
+}
+
+impl Consumer {
+    /// Returns what is next in the ring, of which it needs a producer. It loads the positions, reads into no room, and
+    /// loads the positions again: padding and aborted claims before the next message are passed, which is a change.
+    ///
+    /// Errors: [`Error::OtherRing`].
+    ///
+    /// ```
+    /// use felter::Found;
+    ///
+    /// let (mut producer, mut consumer) = felter::one_to_one(1024)?;
+    /// assert_eq!(consumer.standing(&mut producer)?.found, Found::Nothing);
+    /// let claim = producer.claim(1, 5)?.keep();
+    /// assert_eq!(consumer.standing(&mut producer)?.found, Found::Claim);
+    /// claim.commit(&mut producer).map_err(|refused| refused.reason)?;
+    /// assert_eq!(consumer.standing(&mut producer)?.found, Found::Message);
+    /// # Ok::<(), felter::Error>(())
+    /// ```
+    pub fn standing(&mut self, producer: &mut Producer) -> Result<Standing, Error> {
+        self.ring.must_be(producer.ring)?;
+        let first = producer.positions()?;
+        // (a message has no room, and stays)
+        let is_message = match self.read_batch(1, &mut []) {
+            Err(Error::ShortBuffer { .. }) => true,
+            other => other.map(|_| false)?,
+        };
+        let last = producer.positions()?;
+        let found = if is_message {
+            Found::Message
+        } else if last.head == first.head && last.tail <= first.head {
+            Found::Nothing
+        } else if last.head == first.head && first.tail > first.head {
+            Found::Claim
+        } else {
+            Found::Change
+        };
+        Ok(Standing { found, head: last.head })
+    }
+}
