@@ -1,23 +1,59 @@
-/* A program for tests/show to look into: a ring of 1,024 bytes whose consumer is blocked by a claim that stays open,
- * and one of 4,096 bytes through which messages go until standard input ends. It prints its number once both are
- * there. */
+/* A program for tests/show to look into:
+ *
+ *   - a ring of 1,024 bytes whose consumer is blocked by a claim that stays open
+ *   - a ring of 4,096 bytes through which messages of 72 bytes go until standard input ends
+ *   - a broadcast buffer of 2,048 bytes with three messages, and counters of which two are in use
+ *   - a ring of 16,777,216 bytes whose positions change all the time, since a thread passes messages through it
+ *
+ * It prints its number once all are there. */
 #include <poll.h>
+#include <pthread.h>
+#include <stdatomic.h>
 #include <stdio.h>
 #include <string.h>
 #include <unistd.h>
 
 #include "felter.h"
 
-static felter_producer blocked = FELTER_EMPTY, busy = FELTER_EMPTY;
-static felter_consumer blocked_reader = FELTER_EMPTY, busy_reader = FELTER_EMPTY;
+static felter_producer blocked = FELTER_EMPTY, busy = FELTER_EMPTY, restless = FELTER_EMPTY;
+static felter_consumer blocked_reader = FELTER_EMPTY, busy_reader = FELTER_EMPTY, restless_reader = FELTER_EMPTY;
+static felter_transmitter board = FELTER_EMPTY;
+static felter_counters counters = FELTER_EMPTY;
+static atomic_int is_over;
 
-static int make(void) {
+static int make_rings(void) {
     uint64_t claim;
     return felter_many_to_one_new(1024, &blocked, &blocked_reader) == FELTER_OK &&
            felter_one_to_one_new(4096, &busy, &busy_reader) == FELTER_OK &&
+           felter_one_to_one_new(1 << 24, &restless, &restless_reader) == FELTER_OK &&
+           felter_write(&busy, 7, (const uint8_t *)"first", 5) == FELTER_OK &&
            felter_write(&blocked, 3, (const uint8_t *)"shown", 5) == FELTER_OK &&
            felter_claim(&blocked, 5, 20, &claim) == FELTER_OK &&
            felter_write(&blocked, 6, (const uint8_t *)"waits", 5) == FELTER_OK;
+}
+
+static int make_others(void) {
+    uint32_t id;
+    if (felter_board_new(2048, &board) != FELTER_OK) return 0;
+    for (int32_t type_id = 1; type_id <= 3; type_id++) {
+        if (felter_transmit(&board, type_id, "transmitted", 11) != FELTER_OK) return 0;
+    }
+    return felter_counters_new(4, 0, &counters) == FELTER_OK &&
+           felter_counter_allocate(&counters, 0, 1, "", 0, "messages sent", 13, 0, &id) == FELTER_OK &&
+           felter_counter_allocate(&counters, 0, 2, "", 0, "bytes on disk", 13, 0, &id) == FELTER_OK;
+}
+
+/* Writes a message and reads it, again and again. */
+static void *pass(void *result) {
+    uint8_t body[8] = {1}, buffer[512];
+    int32_t type_id;
+    size_t len;
+    while (!atomic_load(&is_over)) {
+        if (felter_write(&restless, 9, body, sizeof body) != FELTER_OK) *(int *)result = 1;
+        while (felter_read(&restless_reader, &type_id, &len, buffer, sizeof buffer) == FELTER_OK)
+            ;
+    }
+    return NULL;
 }
 
 static int has_ended(int milliseconds) {
@@ -30,7 +66,9 @@ int main(void) {
     uint8_t body[64] = {1}, buffer[512];
     int32_t type_id;
     size_t len;
-    if (!make()) return 1;
+    pthread_t thread;
+    int is_wrong = 0;
+    if (!make_rings() || !make_others() || pthread_create(&thread, NULL, pass, &is_wrong)) return 1;
     printf("%ld\n", (long)getpid());
     fflush(stdout);
     while (!has_ended(1)) {
@@ -40,9 +78,15 @@ int main(void) {
         /* (one message stays, so that the ring is never empty) */
         if (felter_write(&busy, 7, body, sizeof body) != FELTER_OK) return 2;
     }
+    atomic_store(&is_over, 1);
+    pthread_join(thread, NULL);
     felter_free(&blocked.handle);
     felter_free(&blocked_reader.handle);
     felter_free(&busy.handle);
     felter_free(&busy_reader.handle);
-    return 0;
+    felter_free(&restless.handle);
+    felter_free(&restless_reader.handle);
+    felter_free(&board.handle);
+    felter_free(&counters.handle);
+    return is_wrong;
 }

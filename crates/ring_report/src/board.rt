@@ -27,6 +27,11 @@ fn mark_of(is_padding: bool, is_valid: bool) -> Mark {
 }
 
 impl<'a> From<BoardRecord<'a>> for Shown<'a> {
+    ghost use Rattle.std.specs.Prelude.{◌≡◌};
+
+    ghost from_gives = { λ own shown. (shown.place ≡ own.place) × (shown.index ≡ own.index)
+        × (shown.type_id ≡ own.type_id) × (shown.length ≡ own.length) };
+
     fn from(record: BoardRecord<'a>) -> Shown<'a> {
         let (is_padding, is_valid) = (record.is_padding, record.is_valid);
         Shown {

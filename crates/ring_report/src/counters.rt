@@ -161,6 +161,7 @@ impl Report {
             unlisted: gathered.unlisted,
             counts: fields(alloc, &counts)?,
             details: Vec::new(alloc),
+            message_bytes: 0,
             summary: format!(in alloc; "{in_use} in use, {freed} freed, of {ids} ids")?,
             findings: gathered.findings,
         })

@@ -2,12 +2,14 @@
 //! from a file or given as words, to a table that a person reads, JSON, or Prometheus' text.
 //!
 //! - `ring`, `board`, `counters`: the report of each. `records`: the lists that the first two have in common.
-//! - `report`: what is shown. `table`, `json`, `prometheus` and `rates` print it; `picture` and `bodies` are its parts.
+//! - `report`: what is shown. `table`, `json`, `prometheus` and `rates` print it; `picture`, `bodies` and `colour` are
+//!   its parts.
 //! - `input`, `input_fault`: a section of a file, as words. `view`: what is wanted of a report.
 #![tactic(auto)]
 
 mod board;
 mod bodies;
+mod colour;
 mod counters;
 mod input;
 mod input_fault;

@@ -1,8 +1,8 @@
 //! A buffer as one line.
 use std::alloc::{AllocError, Global};
 
-/// The most characters of a buffer.
-const MAX_WIDTH: u32 = 64;
+/// The most pieces of a buffer.
+const MAX_WIDTH: u32 = 512;
 
 /// What a piece of the buffer is shown as, the weakest first: of two the stronger one is shown.
 #[derive(Clone, Copy, PartialEq, Eq, PartialOrd, Ord)]
@@ -39,9 +39,9 @@ pub struct Picture {
 }
 
 impl Picture {
-    /// A buffer with nothing in it.
-    pub fn new(alloc: Global, capacity: u32) -> Result<Picture, AllocError> {
-        let width = (capacity / 8).min(MAX_WIDTH);
+    /// A buffer with nothing in it, in at most `width` pieces.
+    pub fn new(alloc: Global, capacity: u32, width: u32) -> Result<Picture, AllocError> {
+        let width = (capacity / 8).min(width.min(MAX_WIDTH)).max(1);
         let marks = vec![in alloc; Mark::Free; width as usize]?;
         Ok(Picture {
             capacity,

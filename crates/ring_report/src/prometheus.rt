@@ -3,72 +3,59 @@ use crate::report::{Cell, Report, number};
 use std::alloc::{AllocError, Global};
 use std::fmt::Write;
 
-/// A metric without labels.
-#[derive(Clone, Copy)]
-struct Metric {
-    name: &'static str,
-    kind: &'static str,
-    help: &'static str,
-}
+/// A metric without labels: its name, its kind and its help.
+type Metric = (&'static str, &'static str, &'static str);
 
-const RING_CAPACITY: Metric = Metric {
-    name: "ring_capacity_bytes",
-    kind: "gauge",
-    help: "The bytes of the ring's buffer.",
-};
+static RING_CAPACITY: Metric = (
+    "ring_capacity_bytes",
+    "gauge",
+    "The bytes of the ring's buffer.",
+);
 
-const RING_USED: Metric = Metric {
-    name: "ring_used_bytes",
-    kind: "gauge",
-    help: "The bytes that are claimed and not yet read.",
-};
+static RING_USED: Metric = (
+    "ring_used_bytes",
+    "gauge",
+    "The bytes that are claimed and not yet read.",
+);
 
-const RING_WRITTEN: Metric = Metric {
-    name: "ring_written_bytes_total",
-    kind: "counter",
-    help: "The bytes that were claimed in all: the tail.",
-};
+static RING_WRITTEN: Metric = (
+    "ring_written_bytes_total",
+    "counter",
+    "The bytes that were claimed in all: the tail.",
+);
 
-const RING_READ: Metric = Metric {
-    name: "ring_read_bytes_total",
-    kind: "counter",
-    help: "The bytes that were read in all: the head.",
-};
+static RING_READ: Metric = (
+    "ring_read_bytes_total",
+    "counter",
+    "The bytes that were read in all: the head.",
+);
 
-const RING_BLOCKED: Metric = Metric {
-    name: "ring_blocked",
-    kind: "gauge",
-    help: "1 if the consumer is blocked by an open record, otherwise 0.",
-};
+static RING_BLOCKED: Metric = (
+    "ring_blocked",
+    "gauge",
+    "1 if the consumer is blocked by an open record, otherwise 0.",
+);
 
-const BROADCAST_CAPACITY: Metric = Metric {
-    name: "broadcast_capacity_bytes",
-    kind: "gauge",
-    help: "The bytes of the broadcast buffer.",
-};
+static BROADCAST_CAPACITY: Metric = (
+    "broadcast_capacity_bytes",
+    "gauge",
+    "The bytes of the broadcast buffer.",
+);
 
-const BROADCAST_POSITION: Metric = Metric {
-    name: "broadcast_position_bytes",
-    kind: "counter",
-    help: "The bytes that were transmitted in all: the tail.",
-};
+static BROADCAST_POSITION: Metric = (
+    "broadcast_position_bytes",
+    "counter",
+    "The bytes that were transmitted in all: the tail.",
+);
 
-const FINDINGS: Metric = Metric {
-    name: "findings",
-    kind: "gauge",
-    help: "How many findings the memory has.",
-};
+static FINDINGS: Metric = ("findings", "gauge", "How many findings the memory has.");
 
-/// The lines of a metric's name.
-fn push_head(text: &mut String, metric: Metric) -> Result<(), AllocError> {
-    let Metric { name, kind, help } = metric;
-    writeln!(text, "# HELP felter_{name} {help}")?;
-    writeln!(text, "# TYPE felter_{name} {kind}")
-}
-
+/// The lines of a metric.
 fn push_metric(text: &mut String, metric: Metric, value: u64) -> Result<(), AllocError> {
-    push_head(text, metric)?;
-    writeln!(text, "felter_{} {value}", metric.name)
+    let (name, kind, help) = metric;
+    writeln!(text, "# HELP felter_{name} {help}")?;
+    writeln!(text, "# TYPE felter_{name} {kind}")?;
+    writeln!(text, "felter_{name} {value}")
 }
 
 /// The metrics of a ring. A ring whose positions make no sense has no `used`.

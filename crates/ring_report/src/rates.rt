@@ -1,5 +1,5 @@
 //! How fast a ring, a broadcast buffer or counters change between two reports.
-use crate::report::{Cell, Report};
+use crate::report::{Cell, Report, number};
 use std::alloc::{AllocError, Global};
 use std::fmt::Write;
 
@@ -64,6 +64,25 @@ fn push_rate(
     write!(text, "  {what} {rate}")
 }
 
+/// How many messages a report counts: of a ring the committed and the open ones, of a broadcast buffer the valid and
+/// the lapped ones.
+fn messages(report: &Report) -> u64 {
+    let counts = report.counts.as_slice();
+    let whole = number(counts, "committed").or(number(counts, "valid"));
+    let other = number(counts, "open").or(number(counts, "lapped"));
+    whole.unwrap_or(0).saturating_add(other.unwrap_or(0))
+}
+
+/// Adds about how many messages these bytes a second are, if those that lie there are of the usual length: memory
+/// counts no messages.
+fn push_messages(text: &mut String, report: &Report, bytes: u64) -> Result<(), AllocError> {
+    if report.message_bytes == 0 {
+        return Ok(());
+    }
+    let rate = bytes.saturating_mul(messages(report)) / report.message_bytes;
+    write!(text, "  messages about {rate}")
+}
+
 /// Adds how fast a ring was written and read.
 fn push_ring(
     text: &mut String,
@@ -86,13 +105,16 @@ fn push_ring(
         millis,
     )?;
     let (drawn, now) = (before.number("correlation"), after.number("correlation"));
-    push_rate(text, "correlation ids", drawn, now, millis)
+    push_rate(text, "correlation ids", drawn, now, millis)?;
+    let bytes = per_second(before.number("tail"), after.number("tail"), millis);
+    push_messages(text, after, bytes)
 }
 
 impl Report {
     /// How fast it changed since an earlier report of the same memory, some milliseconds before, in one line: the bytes
     /// that were written and read in a second and the correlation ids that were drawn, the bytes that were transmitted,
-    /// or the change of each counter.
+    /// or the change of each counter. Of a ring and a broadcast buffer also about how many messages that were: memory
+    /// counts none, so those that lie there are taken as a sample.
     pub fn rates_since(
         &self,
         alloc: Global,
@@ -105,6 +127,7 @@ impl Report {
             "board" => {
                 let (then, now) = (before.number("tail"), self.number("tail"));
                 push_rate(&mut text, "bytes transmitted", then, now, millis)?;
+                push_messages(&mut text, self, per_second(then, now, millis))?;
             }
             _ => push_changes(&mut text, before, self, millis)?,
         }

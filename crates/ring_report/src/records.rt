@@ -1,5 +1,7 @@
 //! A list of records: what rings and broadcast buffers have in common.
+ghost use Rattle.std.specs.Prelude.{◌≡◌, ◌<◌, ◌≤◌, length, OnOk, IfOk};
 ghost use Rattle.std.specs.Iterator.{IsFinite};
+ghost use Rattle.ring_report.specs.Rows.{IsAppended, IsRowOf};
 
 use crate::bodies;
 use crate::picture::{Mark, Picture};
@@ -40,9 +42,22 @@ fn body_cell(alloc: Global, bodies: Bodies, body: Option<Body<'_>>) -> Result<Ce
     bodies::cell(alloc, bodies, bytes.as_slice())
 }
 
+/// Marks the bytes of a record. If headers are not yet stored they may go on at the buffer's start.
+fn mark(picture: &mut Picture, capacity: u32, shown: &Shown<'_>) {
+    let span = align8(u64::from(shown.length));
+    let room = u64::from(capacity.saturating_sub(shown.index));
+    picture.mark(shown.index, span.min(room), shown.mark);
+    if span > room {
+        picture.mark(0, span - room, shown.mark);
+    }
+}
+
 impl<'a> Shown<'a> {
     /// Its cells, one for each column.
-    fn row(self, alloc: Global, bodies: Bodies) -> Result<Vec<Cell>, AllocError> {
+    fn row(self, alloc: Global, bodies: Bodies) -> Result<Vec<Cell>, AllocError>
+        ensures { IfOk result (λ row. IsRowOf self.entry.place self.entry.index self.entry.type_id self.entry.length
+            row.items) }
+    {
         let state = String::from_str(alloc, self.state)?;
         let mut row = vec![in alloc;
             Cell::Unsigned(self.place),
@@ -67,12 +82,18 @@ pub struct Tally {
     /// Aborted ones, and padding.
     pub passed: u32,
     pub unstored: bool,
+    /// The bytes of the records that are messages, from the start of each to the next one's.
+    pub message_bytes: u64,
     /// The place of the first record at which a reader stops.
     pub blocked: Option<u64>,
 }
 
 impl Tally {
-    fn add(&mut self, mark: Mark, place: u64) {
+    fn add(&mut self, mark: Mark, place: u64, length: u32) {
+        if matches!(mark, Mark::Committed | Mark::Lapped | Mark::Open) {
+            let span = align8(u64::from(length));
+            self.message_bytes = self.message_bytes.saturating_add(span);
+        }
         match mark {
             Mark::Committed => self.committed = self.committed.saturating_add(1),
             Mark::Lapped => self.lapped = self.lapped.saturating_add(1),
@@ -122,7 +143,7 @@ impl Listed {
             capacity,
             bodies: view.bodies,
             limit: view.limit.unwrap_or(u64::MAX),
-            picture: Picture::new(alloc, capacity)?,
+            picture: Picture::new(alloc, capacity, view.width)?,
             tally: Tally::default(),
             rows: Vec::new(alloc),
             unlisted: 0,
@@ -130,20 +151,17 @@ impl Listed {
         })
     }
 
-    /// Marks the bytes of a record. If headers are not yet stored they may go on at the buffer's start.
-    fn mark(&mut self, index: u32, length: u32, mark: Mark) {
-        let span = align8(u64::from(length));
-        let room = u64::from(self.capacity.saturating_sub(index));
-        self.picture.mark(index, span.min(room), mark);
-        if span > room {
-            self.picture.mark(0, span - room, mark);
-        }
-    }
-
-    /// Adds a record.
-    fn add(&mut self, alloc: Global, shown: Shown<'_>) -> Result<(), AllocError> {
-        self.mark(shown.index, shown.length, shown.mark);
-        self.tally.add(shown.mark, shown.place);
+    /// Adds a record: as one row if fewer than the limit are listed.
+    fn add(&mut self, alloc: Global, shown: Shown<'_>) -> Result<(), AllocError>
+        ensures listed { OnOk result (length self.old.rows.items < self.old.limit
+            → IsAppended self.old.rows.items self.new.rows.items (λ row. IsRowOf shown.entry.place shown.entry.index
+            shown.entry.type_id shown.entry.length row.items)) }
+        ensures left_out { OnOk result (self.old.limit ≤ length self.old.rows.items
+            → self.new.rows.items ≡ self.old.rows.items) }
+        ensures limit { self.new.limit ≡ self.old.limit }
+    {
+        mark(&mut self.picture, self.capacity, &shown);
+        self.tally.add(shown.mark, shown.place, shown.length);
         if self.rows.len() as u64 >= self.limit {
             self.unlisted = self.unlisted.saturating_add(1);
             return Ok(());
@@ -207,6 +225,7 @@ impl Listed {
             unlisted: self.unlisted,
             counts,
             details,
+            message_bytes: self.tally.message_bytes,
             summary,
             findings: self.findings,
         })

@@ -55,6 +55,8 @@ pub struct Report {
     pub counts: Vec<Field>,
     /// What the records say of the whole.
     pub details: Vec<Field>,
+    /// The bytes of the records that are messages, from the start of each to the next one's.
+    pub message_bytes: u64,
     /// The number of each kind, in one line.
     pub summary: String,
     /// What is wrong with the memory, one text each.
@@ -87,6 +89,7 @@ impl Report {
             unlisted: 0,
             counts: Vec::new(alloc),
             details: Vec::new(alloc),
+            message_bytes: 0,
             summary: String::from_str(alloc, summary)?,
             findings,
         })

@@ -28,6 +28,11 @@ fn mark_of(state: RecordState) -> Mark {
 }
 
 impl<'a> From<Record<'a>> for Shown<'a> {
+    ghost use Rattle.std.specs.Prelude.{◌≡◌};
+
+    ghost from_gives = { λ own shown. (shown.place ≡ own.place) × (shown.index ≡ own.index)
+        × (shown.type_id ≡ own.type_id) × (shown.length ≡ own.length) };
+
     fn from(record: Record<'a>) -> Shown<'a> {
         let has_message = matches!(record.state, RecordState::Open | RecordState::Committed);
         Shown {

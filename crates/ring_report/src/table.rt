@@ -1,4 +1,5 @@
 //! A report as a table that a person reads.
+use crate::colour::{Colour, push_colored, push_picture, row_colour};
 use crate::report::{Cell, Column, Field, Report};
 use std::alloc::{AllocError, Global};
 
@@ -93,28 +94,50 @@ fn push_word(
     push_spaces(line, 2)
 }
 
-/// One line of the list, each text in its column.
+/// One line of the list in a colour, each text in its column.
 fn push_line(
     alloc: Global,
     text: &mut String,
     columns: &[Column],
     words: &[String],
     widths: &[usize],
+    colour: Colour,
 ) -> Result<(), AllocError> {
     let mut line = String::new(alloc);
     for (column, (word, width)) in columns.iter().zip(words.iter().zip(widths)) {
         push_word(&mut line, column.is_number, word.as_str(), *width)?;
     }
-    end_line(text, line.as_str())
+    push_colored(text, colour, line.as_str().trim_end())
 }
 
-/// The lines of the list.
-fn push_list(alloc: Global, text: &mut String, report: &Report) -> Result<(), AllocError> {
+/// The colour of a line of the list, of which the first has the names of the columns.
+fn line_colour(report: &Report, line: usize, is_colored: bool) -> Colour {
+    match report.rows.as_slice().get(line.wrapping_sub(1)) {
+        Some(row) if is_colored => row_colour(row.as_slice()),
+        _ => Colour::Plain,
+    }
+}
+
+/// The lines of the list. Those of rows are in the colour of their state, if there are colours.
+fn push_list(
+    alloc: Global,
+    text: &mut String,
+    report: &Report,
+    is_colored: bool,
+) -> Result<(), AllocError> {
     let lines = lines(alloc, report)?;
     let columns = report.columns.as_slice();
     let widths = widths(alloc, lines.as_slice(), columns.len())?;
-    for line in lines.iter() {
-        push_line(alloc, text, columns, line.as_slice(), widths.as_slice())?;
+    for (k, line) in lines.iter().enumerate() {
+        let colour = line_colour(report, k, is_colored);
+        push_line(
+            alloc,
+            text,
+            columns,
+            line.as_slice(),
+            widths.as_slice(),
+            colour,
+        )?;
     }
     Ok(())
 }
@@ -123,14 +146,34 @@ impl Report {
     /// The report as a table: a line of what holds of the whole, the picture of a buffer, the list with the names of
     /// its columns, how many rows were left out, and the summary. The findings are not in it.
     pub fn to_table(&self, alloc: Global) -> Result<String, AllocError> {
+        self.table(alloc, false)
+    }
+
+    /// The table with colours, for a terminal: open records and headers that are not yet stored in yellow, aborted and
+    /// lapped records and freed counters dimmed, and in the picture messages in green.
+    pub fn to_colored_table(&self, alloc: Global) -> Result<String, AllocError> {
+        self.table(alloc, true)
+    }
+
+    /// Pushes the picture of the buffer.
+    fn push_picture(&self, text: &mut String, is_colored: bool) -> Result<(), AllocError> {
+        if is_colored {
+            push_picture(text, self.picture.as_str())
+        } else {
+            text.push_str(self.picture.as_str())
+        }
+    }
+
+    /// The report as a table, with colours or without.
+    fn table(&self, alloc: Global, is_colored: bool) -> Result<String, AllocError> {
         let mut text = String::new(alloc);
         push_fields(alloc, &mut text, self)?;
         if !self.picture.is_empty() {
-            text.push_str(self.picture.as_str())?;
+            self.push_picture(&mut text, is_colored)?;
             text.push('\n')?;
         }
         if !self.rows.is_empty() {
-            push_list(alloc, &mut text, self)?;
+            push_list(alloc, &mut text, self, is_colored)?;
         }
         if self.unlisted > 0 {
             writeln!(text, "({} more)", self.unlisted)?;

@@ -21,4 +21,6 @@ pub struct View {
     pub bodies: Bodies,
     /// How many records or counters are listed at most. All are counted.
     pub limit: Option<u64>,
+    /// The most pieces in which a buffer is drawn, up to 512; a piece is at least 8 bytes.
+    pub width: u32,
 }

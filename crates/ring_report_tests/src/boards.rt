@@ -16,6 +16,7 @@ fn report_of(alloc: Global, intent: u64, from: Option<u64>) -> Result<Report, Fa
         from,
         bodies: Bodies::Text,
         limit: None,
+        width: 64,
     };
     Ok(Report::of_board(alloc, words.as_slice(), view)?)
 }

@@ -4,6 +4,8 @@
 #[cfg(test)]
 mod boards;
 #[cfg(test)]
+mod printing;
+#[cfg(test)]
 mod rings_and_counters;
 #[cfg(test)]
 mod snapshots;

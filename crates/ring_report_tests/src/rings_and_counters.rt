@@ -11,6 +11,7 @@ static WHOLE: View = View {
     from: None,
     bodies: Bodies::Text,
     limit: None,
+    width: 64,
 };
 
 /// The words of a ring with one record and a tail of 32: after the record is a length of 5.
@@ -77,6 +78,7 @@ fn lists_no_more_than_the_limit(rt: HostRuntime) -> Result<(), Fail> {
         from: None,
         bodies: Bodies::Text,
         limit: Some(0),
+        width: 64,
     };
     let text = Report::of_ring(rt.alloc(), words.as_slice(), view)?.to_table(rt.alloc())?;
     assert_eq!(rt;

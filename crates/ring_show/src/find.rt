@@ -1,11 +1,9 @@
-//! Rings and broadcast buffers in the memory of a process, in a core file or in a copy.
+//! Rings, broadcast buffers and counters in the memory of a process, in a core file or in a copy.
 use crate::fault::ShowFault;
+use crate::found::{Found, Kind, METADATA, add_buffer, add_counter, print_found};
 use crate::memory::{Memory, Region};
-use crate::options::Options;
-use crate::show::print_text;
-use ring_report::{Bodies, Cause, InputFault, Report, Section, View, section_words, words_of};
-use ring_snapshot::next_ring;
-use std::fmt::Write;
+use ring_report::{Cause, Section, words_of};
+use ring_snapshot::{next_board, next_counter, next_ring};
 use std::io::Input;
 use std::process::ExitCode;
 use std::rt::Files;
@@ -16,72 +14,80 @@ const WINDOW: u64 = (1 << 25) + 768;
 /// How far the next window begins after one.
 const STEP: u64 = 1 << 24;
 
-/// The bytes of a ring's trailer.
-const TRAILER: u64 = 768;
-
-/// A ring that was found.
+/// Words of memory, and the place of the first of them.
 #[derive(Clone, Copy)]
-struct Found {
+struct Window<'a> {
+    words: &'a [u64],
     /// Its address in the program.
     address: u64,
-    /// Where it begins in the file.
+    /// The start of it in the file.
     at: u64,
-    capacity: u32,
 }
 
-impl Found {
-    /// Where its trailer begins.
-    fn trailer(self) -> u64 {
-        self.address.saturating_add(u64::from(self.capacity))
-    }
-
-    fn length(self) -> u64 {
-        u64::from(self.capacity) + TRAILER
-    }
-}
-
-/// Adds a ring. Of two with one trailer the larger one is kept: a part of a buffer can look like a buffer too.
-fn add(found: &mut Vec<Found>, new: Found) -> Result<(), ShowFault<'static>> {
-    for it in found.iter_mut() {
-        if it.trailer() == new.trailer() {
-            if it.capacity < new.capacity {
-                *it = new;
-            }
-            return Ok(());
+impl<'a> Window<'a> {
+    /// What is found at a word.
+    fn found(self, kind: Kind, index: usize, capacity: u64) -> Found {
+        let offset = (index as u64).saturating_mul(8);
+        Found {
+            kind,
+            address: self.address.saturating_add(offset),
+            at: self.at.saturating_add(offset),
+            capacity,
         }
     }
-    found.push(new)?;
-    Ok(())
 }
 
-/// Adds the rings of one capacity among words, which begin `offset` bytes after a region does.
-fn add_rings(
+/// The next ring or broadcast buffer of a capacity.
+fn next_buffer(words: &[u64], from: usize, kind: Kind, capacity: u32) -> Option<usize> {
+    if kind == Kind::Ring {
+        next_ring(words, from, capacity)
+    } else {
+        next_board(words, from, capacity)
+    }
+}
+
+/// Adds the rings, or the broadcast buffers, of one capacity.
+fn add_buffers(
     found: &mut Vec<Found>,
-    words: &[u64],
-    region: Region,
-    offset: u64,
+    window: Window<'_>,
+    kind: Kind,
     capacity: u32,
 ) -> Result<(), ShowFault<'static>> {
     let mut from = 0;
-    for _ in 0..=words.len() {
-        let Some(index) = next_ring(words, from, capacity) else {
+    for _ in 0..=window.words.len() {
+        let Some(index) = next_buffer(window.words, from, kind, capacity) else {
             break;
         };
-        let offset = (index as u64).saturating_mul(8).saturating_add(offset);
-        add(
-            found,
-            Found {
-                address: region.address.saturating_add(offset),
-                at: region.at.saturating_add(offset),
-                capacity,
-            },
-        )?;
+        add_buffer(found, window.found(kind, index, u64::from(capacity)))?;
         from = index.saturating_add(1);
     }
     Ok(())
 }
 
-/// Adds the rings in a region, window by window. What cannot be read is passed.
+/// Adds the counters.
+fn add_counters(found: &mut Vec<Found>, window: Window<'_>) -> Result<(), ShowFault<'static>> {
+    let mut from = 0;
+    for _ in 0..=window.words.len() {
+        let Some(index) = next_counter(window.words, from) else {
+            break;
+        };
+        add_counter(found, window.found(Kind::Counters, index, METADATA))?;
+        from = index.saturating_add(1);
+    }
+    Ok(())
+}
+
+/// Adds all that is found in a window.
+fn search_window(found: &mut Vec<Found>, window: Window<'_>) -> Result<(), ShowFault<'static>> {
+    // (capacities are powers of two, up to 2^24)
+    for exponent in 7..25u32 {
+        add_buffers(found, window, Kind::Ring, 1 << exponent)?;
+        add_buffers(found, window, Kind::Board, 1 << exponent)?;
+    }
+    add_counters(found, window)
+}
+
+/// Adds what is found in a region, window by window. What cannot be read is passed.
 fn search_region<R: AllocGlobal + Files + Input>(
     rt: &R,
     file: &str,
@@ -90,17 +96,20 @@ fn search_region<R: AllocGlobal + Files + Input>(
 ) -> Result<(), ShowFault<'static>> {
     let mut offset = 0;
     for _ in 0..region.length.div_ceil(STEP) {
+        let at = region.at.saturating_add(offset);
         let section = Section {
             file,
-            at: region.at.saturating_add(offset),
+            at,
             length: Some((region.length.saturating_sub(offset).min(WINDOW)) / 8 * 8),
         };
         match words_of(rt, section, WINDOW) {
             Ok(words) => {
-                // (the capacities of rings are powers of two, from 2^7 to 2^24)
-                for exponent in 7..25u32 {
-                    add_rings(found, words.as_slice(), region, offset, 1 << exponent)?;
-                }
+                let window = Window {
+                    words: words.as_slice(),
+                    address: region.address.saturating_add(offset),
+                    at,
+                };
+                search_window(found, window)?;
             }
             Err(Cause::OutOfMemory) => return Err(ShowFault::OutOfMemory),
             Err(_unreadable) => {}
@@ -110,52 +119,8 @@ fn search_region<R: AllocGlobal + Files + Input>(
     Ok(())
 }
 
-/// How a ring is listed: its summary, without its records.
-const SUMMARY: View = View {
-    from: None,
-    bodies: Bodies::None,
-    limit: Some(0),
-};
-
-/// The lines of a ring: its address, capacity, positions and summary, and the command that shows it.
-fn print_found<R: AllocGlobal + Files + Input + Print>(
-    rt: &R,
-    file: &str,
-    found: Found,
-) -> Result<(), ShowFault<'static>> {
-    let Found {
-        address,
-        at,
-        capacity,
-    } = found;
-    let section = Section {
-        file,
-        at,
-        length: Some(found.length()),
-    };
-    let Ok(words) = words_of(rt, section, WINDOW) else {
-        return Ok(());
-    };
-    let report = Report::of_ring(rt.alloc(), words.as_slice(), SUMMARY)?;
-    let (head, tail) = (report.number("head"), report.number("tail"));
-    let sure = if head == tail {
-        "empty, so less sure"
-    } else {
-        "sure"
-    };
-    let mut text = String::new(rt.alloc());
-    writeln!(text, "ring at 0x{address:x}  capacity {capacity}  ({sure})")?;
-    writeln!(text, "  {}", report.summary)?;
-    writeln!(
-        text,
-        "  ring-show ring {file} --at 0x{at:x} --length {}",
-        found.length()
-    )?;
-    print_text(rt, text.as_str())
-}
-
-/// Lists the rings in memory. The status is 0 if there is one, otherwise 1.
-pub fn find_rings<'a, R: AllocGlobal + Files + Input + Print>(
+/// Lists the rings, broadcast buffers and counters in memory. The status is 0 if there is one, otherwise 1.
+pub fn find_all<'a, R: AllocGlobal + Files + Input + Print>(
     rt: &R,
     memory: &Memory,
 ) -> Result<ExitCode, ShowFault<'a>> {
@@ -163,8 +128,8 @@ pub fn find_rings<'a, R: AllocGlobal + Files + Input + Print>(
     for region in memory.regions.iter() {
         search_region(rt, memory.file.as_str(), *region, &mut found)?;
     }
-    for ring in found.iter() {
-        print_found(rt, memory.file.as_str(), *ring)?;
+    for it in found.iter() {
+        print_found(rt, memory.file.as_str(), *it)?;
     }
     Ok(ExitCode::from(u8::from(found.is_empty())))
 }

@@ -10,7 +10,7 @@ pub const BOARD: &str = "Lists the records of a broadcast buffer's current lap";
 pub const COUNTERS: &str = "Lists the counters in use and those that were freed, by rising id";
 
 pub const FIND: &str =
-    "Looks for rings in the memory of a process, in a core file or in a copy of memory";
+    "Looks for rings, broadcast buffers and counters in the memory of a process, in a core file or in a copy of memory";
 
 pub const MEMORY: &str = "The number of a process, or a file";
 
@@ -44,6 +44,9 @@ pub const BODIES: &str = "How bytes are shown";
 
 pub const LIMIT: &str = "List at most this many; all are counted";
 
+pub const WIDTH: &str =
+    "Draw a buffer in at most this many pieces [default: what COLUMNS has room for at a terminal, or 64]";
+
 pub const FORMAT: &str = "A table, JSON, or the text format of Prometheus";
 
 pub const AFTER: &str = "\
@@ -54,7 +57,9 @@ The line below the positions is a picture of the buffer, from its first byte to 
   a board: L latest   T tail   I tail intent   = valid   ~ lapped   - padding   . not listed
 
 A file may be /proc/PID/mem, with the address as --at: what a running program has is then shown as it was while it was
-read.
+read. If the positions changed meanwhile, it is read again, up to three times.
+
+A terminal gets colours unless the variable NO_COLOR has a value.
 
 What is wrong with the memory is printed on standard error, one finding a line.
 

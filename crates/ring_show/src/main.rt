@@ -5,17 +5,21 @@
 mod cnc;
 mod fault;
 mod find;
+mod found;
 mod help;
 mod memory;
 mod options;
+mod screen;
+mod settled;
 mod show;
 mod watch;
 
 use cnc::show_cnc;
 use fault::ShowFault;
-use find::find_rings;
+use find::find_all;
 use memory::memory_of;
 use options::Task;
+use screen::{Screen, screen_of};
 use std::env;
 use std::env::Env;
 use std::io::{ErrorKind, Input, IsTerminal};
@@ -31,8 +35,8 @@ fn main(rt: HostRuntime) -> ExitCode {
         Ok(words) => words,
         Err(fault) => return failed(&rt, fault),
     };
-    let is_terminal = rt.stdout().is_terminal();
-    match run(&rt, words.as_slice(), is_terminal) {
+    let screen = screen_of(&rt, rt.stdout().is_terminal());
+    match run(&rt, words.as_slice(), screen) {
         Ok(code) => code,
         Err(fault) => failed(&rt, fault),
     }
@@ -57,10 +61,10 @@ fn words_of<R: AllocGlobal + Env>(rt: &R) -> Result<Vec<String>, ShowFault<'stat
 fn run<'a, R: AllocGlobal + Clock + Files + Input + Print + Eprint>(
     rt: &R,
     words: &'a [String],
-    is_terminal: bool,
+    screen: Screen,
 ) -> Result<ExitCode, ShowFault<'a>> {
     match options::parse(rt.alloc(), words) {
-        Ok((name, matches)) => do_task(rt, options::task_of(name, &matches)?, is_terminal),
+        Ok((name, matches)) => do_task(rt, options::task_of(name, &matches, screen)?, screen),
         Err(error) => match error.print(rt) {
             Ok(()) => Ok(ExitCode::from(error.exit_code() as u8)),
             Err(_) => Err(ShowFault::OutputUnwritten),
@@ -71,13 +75,13 @@ fn run<'a, R: AllocGlobal + Clock + Files + Input + Print + Eprint>(
 fn do_task<'a, R: AllocGlobal + Clock + Files + Input + Print + Eprint>(
     rt: &R,
     task: Task<'a>,
-    is_terminal: bool,
+    screen: Screen,
 ) -> Result<ExitCode, ShowFault<'a>> {
     match task {
-        Task::Show(options) => show_often(rt, options, is_terminal),
+        Task::Show(options) => show_often(rt, options, screen.is_terminal),
         Task::Find(name) => {
             let memory = memory_of(rt, name)?;
-            find_rings(rt, &memory)
+            find_all(rt, &memory)
         }
         Task::Cnc { file, view, format } => show_cnc(rt, file, view, format),
     }

@@ -1,6 +1,7 @@
 //! The command line.
 use crate::fault::ShowFault;
 use crate::help;
+use crate::screen::Screen;
 use clap::{Arg, ArgAction, ArgMatches, Command, Error, value_parser};
 use ring_report::{Bodies, Section, View};
 use std::alloc::Global;
@@ -21,7 +22,7 @@ pub enum Subject<'a> {
 pub enum Task<'a> {
     /// To show what has a known place.
     Show(Options<'a>),
-    /// To look for rings in the memory of a process or in a file.
+    /// To look for rings, broadcast buffers and counters in the memory of a process or in a file.
     Find(&'a str),
     /// To show a command-and-control file.
     Cnc {
@@ -35,6 +36,8 @@ pub enum Task<'a> {
 #[derive(Clone, Copy)]
 pub enum Format {
     Table,
+    /// A table with colours.
+    Colored,
     Json,
     Prometheus,
 }
@@ -87,6 +90,7 @@ fn printed<'a>(alloc: Global, name: &'a str, about: &'a str) -> Result<Command<'
     let command = Command::new(alloc, name)
         .about(about)
         .arg(number(alloc, "limit", "N", help::LIMIT))?
+        .arg(number(alloc, "width", "N", help::WIDTH))?
         .arg(choice(alloc, "bodies", BODIES.as_slice(), help::BODIES).default_value("hex"))?
         .arg(choice(alloc, "format", FORMATS.as_slice(), help::FORMAT).default_value("table"))?;
     Ok(command)
@@ -121,7 +125,7 @@ fn counted<'a>(alloc: Global) -> Result<Command<'a>, Error> {
     Ok(command)
 }
 
-/// The subcommand that looks for rings.
+/// The subcommand that looks for rings, broadcast buffers and counters.
 fn found<'a>(alloc: Global) -> Result<Command<'a>, Error> {
     let command = Command::new(alloc, "find")
         .about(help::FIND)
@@ -207,7 +211,8 @@ fn subject_of<'a>(name: &str, matches: &ArgMatches<'a>) -> Result<Subject<'a>, S
 }
 
 /// How it is to be shown.
-fn view_of(matches: &ArgMatches<'_>) -> View {
+fn view_of(matches: &ArgMatches<'_>, screen: Screen) -> View {
+    let width: Option<u64> = matches.get_one("width");
     View {
         from: matches.get_one("from"),
         bodies: match matches.get_str("bodies") {
@@ -216,40 +221,53 @@ fn view_of(matches: &ArgMatches<'_>) -> View {
             _ => Bodies::Hex,
         },
         limit: matches.get_one("limit"),
+        width: match width {
+            Some(width) => u32::try_from(width).unwrap_or(u32::MAX),
+            None => screen.width,
+        },
     }
 }
 
-fn format_of(matches: &ArgMatches<'_>) -> Format {
+fn format_of(matches: &ArgMatches<'_>, screen: Screen) -> Format {
     match matches.get_str("format") {
         Some("json") => Format::Json,
         Some("prometheus") => Format::Prometheus,
+        _ if screen.is_colored => Format::Colored,
         _ => Format::Table,
     }
 }
 
 /// What the arguments of a subcommand that shows a known place ask for. `NotBytes` if an offset or a length is no
 /// number.
-fn options_of<'a>(name: &str, matches: &ArgMatches<'a>) -> Result<Options<'a>, ShowFault<'a>> {
+fn options_of<'a>(
+    name: &str,
+    matches: &ArgMatches<'a>,
+    screen: Screen,
+) -> Result<Options<'a>, ShowFault<'a>> {
     let every: Option<u64> = matches.get_one("every");
     let looks = if every.is_some() { u64::MAX } else { 1 };
     Ok(Options {
         subject: subject_of(name, matches)?,
-        view: view_of(matches),
-        format: format_of(matches),
+        view: view_of(matches, screen),
+        format: format_of(matches, screen),
         every,
         times: matches.get_one("times").unwrap_or(looks),
     })
 }
 
 /// What a subcommand's arguments ask for. `NotBytes` if an offset or a length is no number.
-pub fn task_of<'a>(name: &str, matches: &ArgMatches<'a>) -> Result<Task<'a>, ShowFault<'a>> {
+pub fn task_of<'a>(
+    name: &str,
+    matches: &ArgMatches<'a>,
+    screen: Screen,
+) -> Result<Task<'a>, ShowFault<'a>> {
     match name {
         "find" => Ok(Task::Find(matches.get_str("MEMORY").unwrap_or(""))),
         "cnc" => Ok(Task::Cnc {
             file: matches.get_str("FILE").unwrap_or(""),
-            view: view_of(matches),
-            format: format_of(matches),
+            view: view_of(matches, screen),
+            format: format_of(matches, screen),
         }),
-        _ => Ok(Task::Show(options_of(name, matches)?)),
+        _ => Ok(Task::Show(options_of(name, matches, screen)?)),
     }
 }

@@ -1,6 +1,7 @@
 //! Reading what a command line names, and printing it once.
 use crate::fault::ShowFault;
 use crate::options::{Format, Options, Subject};
+use crate::settled::{Words, add_unsettled, settled_words};
 use ring_report::{Report, section_words};
 use std::io;
 use std::io::{Input, Write};
@@ -18,12 +19,16 @@ pub fn report_of<'a, R: AllocGlobal + Files + Input>(
     let (alloc, view) = (rt.alloc(), options.view);
     match options.subject {
         Subject::Ring(section) => {
-            let words = section_words(rt, section)?;
-            Ok(Report::of_ring(alloc, words.as_slice(), view)?)
+            let Words { words, is_settled } = settled_words(rt, section, true)?;
+            let mut report = Report::of_ring(alloc, words.as_slice(), view)?;
+            add_unsettled(alloc, &mut report, is_settled)?;
+            Ok(report)
         }
         Subject::Board(section) => {
-            let words = section_words(rt, section)?;
-            Ok(Report::of_board(alloc, words.as_slice(), view)?)
+            let Words { words, is_settled } = settled_words(rt, section, false)?;
+            let mut report = Report::of_board(alloc, words.as_slice(), view)?;
+            add_unsettled(alloc, &mut report, is_settled)?;
+            Ok(report)
         }
         Subject::Counters { metadata, values } => {
             let metadata = section_words(rt, metadata)?;
@@ -49,6 +54,7 @@ pub fn print_report<R: AllocGlobal + Print + Eprint>(
 ) -> Result<bool, ShowFault<'static>> {
     let text = match format {
         Format::Table => report.to_table(rt.alloc())?,
+        Format::Colored => report.to_colored_table(rt.alloc())?,
         Format::Json => report.to_json(rt.alloc())?,
         Format::Prometheus => report.to_prometheus(rt.alloc())?,
     };

@@ -30,7 +30,7 @@ fn print_rates<R: AllocGlobal + Print>(
     before: &Look,
     look: &Look,
 ) -> Result<(), ShowFault<'static>> {
-    if !matches!(format, Format::Table) {
+    if !matches!(format, Format::Table | Format::Colored) {
         return Ok(());
     }
     let millis = look.at.duration_since(before.at).as_millis();

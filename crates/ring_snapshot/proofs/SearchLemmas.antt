@@ -1,8 +1,10 @@
 -- The steps of the tests whether words look like a ring's.
-use Rattle.std.specs.Prelude.{Bool, true, false, ◌&&◌, Ok, Err}
-use Rattle.std.proofs.Common.{◌≡◌, ◌≢◌, ℕ, zero, suc, ◌+◌, ◌<◌, ◌≤◌, List, slice_index, ap, sym, ◌∙◌, arith, eq-eqb}
-use Rattle.std.proofs.lemmas.Bool.{ne_eqb}
+use Rattle.std.specs.Prelude.{Bool, true, false, ◌&&◌, Result, Ok, Err, IsOk, Option, Some, None, is_none}
+use Rattle.std.specs.Iterator.{YieldsFirst}
+use Rattle.std.proofs.Common.{◌≡◌, ◌≢◌, ℕ, zero, suc, ◌+◌, ◌<◌, ◌≤◌, List, [], ◌∷◌, slice_index, refl, ap, sym, subst, ◌∙◌, arith, eq-eqb, ⊎_elim}
+use Rattle.std.proofs.lemmas.Bool.{cases_lt, ne_eqb}
 use Rattle.ring_layout.specs.Places.{index}
+use Rattle.ring_layout.specs.Refusals.{IsRefusedBy}
 use Rattle.ring_snapshot.specs.declared.record.Record.{Record}
 use Rattle.ring_snapshot.specs.declared.ring_finding.RingFinding.{RingFinding}
 use Rattle.ring_snapshot.specs.Listing.{followed, up_to_eight}
@@ -65,3 +67,44 @@ ok_fails C words tail (suc n) at f some lt is =
 pub ok_ends : (C : ℕ) (words : List ℕ) (tail n at : ℕ) → tail ≤ at → all_ok (listing C words tail n at) ≡ true
 ok_ends C words tail n at le =
     ap all_ok (listing_ends (λ (x : Record). x.length) (entry_at C words tail) tail n at le)
+
+-- ---- entries that an iterator yields
+
+pub yielded_ok : {S R F : Type 0} (rest : S → List (Result R F)) (s t : S) (next : Option (Result R F))
+    (x : Result R F) {r : R} → next ≡ Some x → YieldsFirst rest s next t → x ≡ Ok r
+    → all_ok (rest s) ≡ all_ok (rest t)
+yielded_ok rest s t next x {r} some steps is =
+    let here : rest s ≡ Ok r ∷ rest t = subst (λ y. YieldsFirst rest s y t) (some ∙ ap (λ z. Some z) is) steps in
+    ap all_ok here
+
+pub yielded_err : {S R F : Type 0} (rest : S → List (Result R F)) (s t : S) (next : Option (Result R F))
+    (x : Result R F) {f : F} → next ≡ Some x → YieldsFirst rest s next t → x ≡ Err f → all_ok (rest s) ≡ false
+yielded_err rest s t next x {f} some steps is =
+    let here : rest s ≡ Err f ∷ rest t = subst (λ y. YieldsFirst rest s y t) (some ∙ ap (λ z. Some z) is) steps in
+    ap all_ok here
+
+pub yielded_none : {S R F : Type 0} (rest : S → List (Result R F)) (s t : S) (next : Option (Result R F))
+    → next ≡ None → YieldsFirst rest s next t → all_ok (rest s) ≡ true
+yielded_none rest s t next none steps =
+    let here : (rest s ≡ []) × (rest t ≡ []) = subst (λ y. YieldsFirst rest s y t) none steps in
+    ap all_ok here.0
+
+-- ---- what a result says of a refusal
+
+pub not_refused : {T F : Type 0} (refusal : Option F) (result : Result T F) {x : T} → IsRefusedBy refusal result
+    → result ≡ Ok x → is_none refusal ≡ true
+not_refused None result refused is = refl
+not_refused (Some f) result {x} refused is = let clash : Err f ≡ Ok x = sym refused ∙ is in absurd cc
+
+pub is_refused : {T F : Type 0} (refusal : Option F) (result : Result T F) {f : F} → IsRefusedBy refusal result
+    → result ≡ Err f → is_none refusal ≡ false
+is_refused None result {f} refused is = let clash : false ≡ true = subst (λ r. IsOk r) is refused in absurd cc
+is_refused (Some g) result refused is = refl
+
+-- ---- the first index at which something begins
+
+pub none_below : (begins : ℕ → Bool) (from at : ℕ) → begins at ≡ false
+    → ((k : ℕ) → from ≤ k → k < at → begins k ≡ false) → (k : ℕ) → from ≤ k → k < at + 1 → begins k ≡ false
+none_below begins from at here before = λ k ge lt. ⊎_elim (λ below. before k ge below)
+    (λ above. let e : k ≡ at = omega (arith, above, lt) in rw e here)
+    (cases_lt k at)

@@ -5,3 +5,5 @@ pub mod CounterRecords
 pub mod BoardRecords
 pub mod WordLists
 pub mod Search
+pub mod BoardSearch
+pub mod CounterSearch

@@ -3,6 +3,8 @@ ghost use Rattle.std.specs.Prelude.{◌≡◌, ◌+◌, ◌%◌, ◌≤◌, leng
 ghost use Rattle.ring_layout.specs.Places.{IsBoardCapacity};
 ghost use Rattle.ring_board.specs.Layout.{board_words};
 
+pub(crate) mod search;
+
 use crate::board_finding::BoardFinding;
 use crate::board_record::BoardRecord;
 use crate::body::Body;

@@ -2,6 +2,8 @@
 ghost use Rattle.std.specs.Prelude.{◌≡◌, ◌≤◌};
 ghost use Rattle.ring_snapshot.specs.CounterWords.{HaveIds};
 
+pub(crate) mod search;
+
 use crate::body::Body;
 use crate::counter::{Counter, CounterState};
 use crate::counters_finding::CountersFinding;

@@ -1,7 +1,8 @@
 //! What is in the words of a ring, a broadcast buffer and counters: read from a copy of their memory, whatever it
 //! holds; and writing such a copy.
 //!
-//! - `ring`, `board`, `counters`: one pass over a copy of each. `listing`: what the first two have in common.
+//! - `ring`, `board`, `counters`: one pass over a copy of each, and the search for them in memory. `listing`: what the
+//!   first two have in common.
 //! - `record`, `board_record`, `counter`, `body`: what a pass yields.
 //! - `ring_finding`, `board_finding`, `counters_finding`: what is wrong with the words.
 //! - `write`: writing such a copy.
@@ -20,11 +21,13 @@ mod ring;
 mod ring_finding;
 mod write;
 
+pub use board::search::next_board;
 pub use board::{BoardRecords, BoardSnapshot};
 pub use board_finding::BoardFinding;
 pub use board_record::BoardRecord;
 pub use body::Body;
 pub use counter::{Counter, CounterState};
+pub use counters::search::next_counter;
 pub use counters::{Counters, CountersSnapshot};
 pub use counters_finding::CountersFinding;
 pub use record::{Record, RecordState};

@@ -8,7 +8,12 @@ use std::process::Abort;
 
 /// A closed board of 256 bytes, on which this many messages of lengths that look random were transmitted: message k has
 /// the type id k and bytes k - 1 modulo 256.
-fn transmitted(rt: &impl Abort, alloc: Global, numbers: &mut Numbers, sent: i32) -> ClosedBoard {
+pub fn transmitted(
+    rt: &impl Abort,
+    alloc: Global,
+    numbers: &mut Numbers,
+    sent: i32,
+) -> ClosedBoard {
     let (board, mut transmitter) = Board::new(alloc, 256).expect(rt, "a board");
     'sends: for type_id in 0..sent {
         let len = (numbers.next() % 33) as usize;

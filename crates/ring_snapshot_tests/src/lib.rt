@@ -10,6 +10,8 @@ mod random;
 #[cfg(test)]
 mod rings;
 #[cfg(test)]
+mod searching;
+#[cfg(test)]
 mod words;
 #[cfg(test)]
 mod writing;

@@ -10,7 +10,7 @@ use ring_layout::{align8, is_capacity, word_index};
 
 /// Tests whether `count` words from an index on are 0.
 #[tactic(auto, using(crate::proofs::SearchLemmas::zero_goes, crate::proofs::SearchLemmas::zero_fails))]
-fn are_zero(words: &[u64], from: usize, count: usize) -> bool
+pub(crate) fn are_zero(words: &[u64], from: usize, count: usize) -> bool
     requires { from + count ≤ length words.now }
     ensures { result ≡ are_zero words.now count from }
 {

@@ -1,14 +1,12 @@
-use Rattle.std.proofs.Common.{rules, ◌≡◌, ◌<◌, false, arith, ⊎_elim}
-use Rattle.std.proofs.lemmas.Bool.{cases_lt}
+use Rattle.std.proofs.Common.{rules, ◌≡◌, ◌<◌, false, arith}
 use Rattle.ring_snapshot.specs.Search.{is_ring_at}
+use Rattle.ring_snapshot.proofs.SearchLemmas.{none_below}
 use Rattle.ring_snapshot.proofs.ring.search.next_ring.Goals as goal
 
 pub loop-at-preserved : goal.loop-at-preserved
 loop-at-preserved c =
     let here : is_ring_at c.args.capacity c.args.words.now c.loop-at.at ≡ false = search rules in
-    λ k ge lt. ⊎_elim (λ below. c.loop-at.invariant k ge below)
-    (λ above. let e : k ≡ c.loop-at.at = omega (arith, above, lt) in rw e here)
-    (cases_lt k c.loop-at.at)
+    none_below (is_ring_at c.args.capacity c.args.words.now) c.args.from c.loop-at.at here c.loop-at.invariant
 
 pub returns-clause-none : goal.returns-clause-none
 returns-clause-none c = λ lawful k ge fits.

@@ -1,0 +1,85 @@
+//! The colours of a table at a terminal.
+use crate::report::Cell;
+use std::alloc::AllocError;
+
+/// A colour of a text.
+#[derive(Clone, Copy, PartialEq, Eq)]
+pub enum Colour {
+    /// That of the terminal.
+    Plain,
+    Green,
+    Yellow,
+    Dim,
+}
+
+impl Colour {
+    /// What begins a text of this colour.
+    fn start(self) -> &'static str {
+        match self {
+            Colour::Plain => "",
+            Colour::Green => "\x1b[32m",
+            Colour::Yellow => "\x1b[33m",
+            Colour::Dim => "\x1b[2m",
+        }
+    }
+
+    /// What ends a text of this colour.
+    fn end(self) -> &'static str {
+        match self {
+            Colour::Plain => "",
+            _ => "\x1b[0m",
+        }
+    }
+}
+
+/// The colour of a state.
+fn state_colour(state: &str) -> Colour {
+    match state {
+        "open" | "not stored yet" => Colour::Yellow,
+        "committed" | "valid" | "in use" => Colour::Plain,
+        _ => Colour::Dim,
+    }
+}
+
+/// The colour of a row: that of its state, which is its first text.
+pub fn row_colour(row: &[Cell]) -> Colour {
+    for cell in row {
+        if let Cell::Text(state) = cell {
+            return state_colour(state.as_str());
+        }
+    }
+    Colour::Plain
+}
+
+/// The colour of a piece of a buffer.
+fn piece_colour(piece: char) -> Colour {
+    match piece {
+        '=' => Colour::Green,
+        'O' | '?' => Colour::Yellow,
+        'x' | '-' | '~' => Colour::Dim,
+        _ => Colour::Plain,
+    }
+}
+
+/// Pushes a line in a colour.
+pub fn push_colored(text: &mut String, colour: Colour, line: &str) -> Result<(), AllocError> {
+    text.push_str(colour.start())?;
+    text.push_str(line)?;
+    text.push_str(colour.end())?;
+    text.push('\n')
+}
+
+/// Pushes the line of a buffer, its pieces in their colours.
+pub fn push_picture(text: &mut String, line: &str) -> Result<(), AllocError> {
+    let mut last = Colour::Plain;
+    for piece in line.chars() {
+        let colour = piece_colour(piece);
+        if colour != last {
+            text.push_str(last.end())?;
+            text.push_str(colour.start())?;
+            last = colour;
+        }
+        text.push(piece)?;
+    }
+    text.push_str(last.end())
+}

@@ -1,0 +1,62 @@
+//! Reading memory that others may change at the same time.
+use crate::fault::ShowFault;
+use ring_report::{Report, Section, section_words};
+use ring_snapshot::{BoardSnapshot, RingSnapshot};
+use std::alloc::Global;
+use std::io::Input;
+use std::rt::Files;
+
+/// How often memory is read again at most.
+const READS: u32 = 3;
+
+/// Words, and whether their positions stayed the same while they were read.
+#[derive(Drop)]
+pub struct Words {
+    pub words: Vec<u64>,
+    pub is_settled: bool,
+}
+
+/// The positions of a ring or a broadcast buffer, between which its records are. `None` for other words.
+fn positions(words: &[u64], is_ring: bool) -> Option<(u64, u64)> {
+    if is_ring {
+        let ring = RingSnapshot::new(words).ok()?;
+        Some((ring.head(), ring.tail()))
+    } else {
+        let board = BoardSnapshot::new(words).ok()?;
+        Some((board.intent(), board.tail()))
+    }
+}
+
+/// The words of a ring or a broadcast buffer. Each read ends with the trailer, so two in a row with the same positions
+/// show that these did not change during the second. It is read up to three times more until they do. Standard input is
+/// read once.
+pub fn settled_words<'a, R: AllocGlobal + Files + Input>(
+    rt: &R,
+    section: Section<'a>,
+    is_ring: bool,
+) -> Result<Words, ShowFault<'a>> {
+    let mut words = section_words(rt, section)?;
+    let mut is_settled = section.file == "-";
+    for _ in 0..READS {
+        if is_settled {
+            break;
+        }
+        let again = section_words(rt, section)?;
+        is_settled = positions(again.as_slice(), is_ring) == positions(words.as_slice(), is_ring);
+        words = again;
+    }
+    Ok(Words { words, is_settled })
+}
+
+/// Adds the finding that positions changed all the time.
+pub fn add_unsettled<'a>(
+    alloc: Global,
+    report: &mut Report,
+    is_settled: bool,
+) -> Result<(), ShowFault<'a>> {
+    if !is_settled {
+        let text = format!(in alloc; "Unsettled: positions changed during each of {READS} reads")?;
+        report.findings.push(text)?;
+    }
+    Ok(())
+}

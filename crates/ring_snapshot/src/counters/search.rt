@@ -1,0 +1,52 @@
+//! Counters among the words of memory.
+ghost use Rattle.std.specs.Prelude.{◌≡◌, ℕ, ◌+◌, ◌<◌, ◌≤◌, false, true, drop, length, IfNone, IfSome};
+ghost use Rattle.ring_snapshot.specs.CounterSearch.{is_counter_at, looks_like_counter};
+
+use ring_layout::counter_descriptor::{
+    FREE_FOR_REUSE_DEADLINE_WORD, LABEL_WORD, MAX_LABEL_LENGTH, METADATA_WORDS, NOT_FREE_FOR_REUSE,
+    RECORD_ALLOCATED, STATE_WORD,
+};
+use ring_layout::unpack_header;
+
+/// Tests whether a metadata record of a counter in use begins with these words: its state is that of a counter in use,
+/// its deadline is 2^63 - 1, and its label is not longer than its room.
+fn looks_like_counter(metadata: &[u64]) -> bool
+    requires { 64 ≤ length metadata.now }
+    ensures { result ≡ looks_like_counter metadata.now }
+{
+    let (length, _) = unpack_header(metadata[LABEL_WORD]);
+    if length < 0 || length > MAX_LABEL_LENGTH as i32 {
+        return false;
+    }
+    let (state, _) = unpack_header(metadata[STATE_WORD]);
+    state == RECORD_ALLOCATED && metadata[FREE_FOR_REUSE_DEADLINE_WORD] == NOT_FREE_FOR_REUSE
+}
+
+/// Tests whether the metadata of a counter in use begin at an index.
+fn is_counter_at(words: &[u64], at: usize) -> bool
+    requires { at + 64 ≤ length words.now }
+    ensures { result ≡ is_counter_at words.now at }
+{
+    looks_like_counter(&words[at..])
+}
+
+/// The first index from `from` on at which the metadata of a counter in use begin among words of memory. `None` if there
+/// is none. Its values are elsewhere, and memory does not say where.
+pub fn next_counter(words: &[u64], from: usize) -> Option<usize>
+    ensures found { IfSome result (λ at. (from ≤ at) × (at + 64 ≤ length words.now)
+        × (is_counter_at words.now at ≡ true)) }
+    ensures first { IfSome result (λ at. (k : ℕ) → from ≤ k → k < at → is_counter_at words.now k ≡ false) }
+    ensures none { IfNone result ((k : ℕ) → from ≤ k → k + 64 ≤ length words.now
+        → is_counter_at words.now k ≡ false) }
+{
+    let size = METADATA_WORDS;
+    if words.len() < size {
+        return None;
+    }
+    for at in from..words.len() - size + 1 {
+        if is_counter_at(words, at) {
+            return Some(at);
+        }
+    }
+    None
+}
