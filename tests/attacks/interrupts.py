@@ -20,7 +20,15 @@ def run(seconds, seed):
     folder, dice = library(), random.Random(seed)
     if not os.path.exists(os.path.join(folder, "libfelter.so")):
         raise NotRun(f"there is no libfelter.so in {folder}")
-    environment = dict(os.environ, FELTER_DIR=folder, PYTHONPATH=os.path.join(TOP, "python"))
+    ways = {"by ctypes": "1"}
+    if any(name.startswith("_fast.") for name in os.listdir(folder)):
+        ways["by the extension"] = "0"
+    return "; ".join(f"{way}: {interrupted(seconds / len(ways), dice, folder, pure)}" for way, pure in ways.items())
+
+
+def interrupted(seconds, dice, folder, pure):
+    """Interrupts a program of which each call goes one way."""
+    environment = dict(os.environ, FELTER_DIR=folder, FELTER_PURE=pure, PYTHONPATH=os.path.join(TOP, "python"))
     words = [sys.executable, "-B", os.path.join(ATTACKS, "interrupted.py"), str(max(0.5, seconds - 1))]
     # (what Python says of a Ctrl-C in a destructor would fill a pipe)
     with tempfile.TemporaryFile() as errors, \

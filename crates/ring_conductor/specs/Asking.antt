@@ -1,4 +1,4 @@
--- What a client asks, and what it hears.
+-- What a client asks, and what it receives.
 use Rattle.std.specs.Prelude.{◌≡◌, ◌≢◌, ℕ, ◌≤◌, ℤ, List, length}
 use Rattle.ring_table.specs.declared.view.Service.{Service}
 use Rattle.ring_table.specs.declared.view.View.{View}
@@ -44,11 +44,12 @@ services_of p = (view_of p).producer.joined
 abbrev pub client_view : Client → View
 client_view c = view_of c.producer
 
--- what its receiver knows of the board
+-- what its receiver knows of the broadcast buffer
 abbrev pub client_seat : Client → Sat
 client_seat c = receiver_seat c.receiver
 
--- its producer may claim in this ring, whose kind is for one producer or is not, and its receiver hears this board
+-- its producer may claim in this ring, whose kind is for one producer or is not, and its receiver is this broadcast
+-- buffer's
 abbrev pub IsSeatedAt : {K : Type 0} → Type 0 → Ring K → Board → Client → Type 0
 IsSeatedAt is_for_one ring board c =
     IsProducerOf ring (producer_of c) × MayClaim is_for_one (producer_of c) × IsReceiverOf board (receiver_of c)
@@ -118,7 +119,7 @@ pub record HearsNoReply (old new : Sat) : Type 0 where
   pub copied : GotCopy place type_id body old new
   pub spells : (r : Reply) → reply.Spells type_id body r → ⊥
 
--- what one who waits for the reply to the command with this correlation id is told
+-- what a poll for the reply to the command with this correlation id returns
 abbrev pub IsHeard : ℕ → Sat → Sat → Polled → Type 0
 IsHeard correlation old new (Answered r) = Hears r old new × (reply.correlation_id_of r ≡ correlation)
 IsHeard correlation old new (Another r) = Hears r old new × (reply.correlation_id_of r ≢ correlation)

@@ -30,7 +30,7 @@ use Rattle.ring_conductor.specs.Serving.{HaveRoom, IsAtEnd}
 abbrev pub ring_view : Conductor → View
 ring_view c = consumer_view c.consumer
 
--- what it knows of its board
+-- what it knows of its broadcast buffer
 abbrev pub board_view : Conductor → BoardView
 board_view c = view_of c.transmitter
 
@@ -45,8 +45,8 @@ ledger_of c = record { registry = registry_of c.counters; writes = writes_of c.c
 abbrev pub value_shares_of : Conductor → ℕ
 value_shares_of c = shares_of c.counters
 
--- the conductor reads this ring, whose consumer is known by `is_consumer`, transmits on this board and writes these
--- values
+-- the conductor reads this ring, whose consumer is known by `is_consumer`, transmits on this broadcast buffer and writes
+-- these values
 abbrev pub IsConductorOf : {R : Type 0} → (R → Consumer → Type 0) → R → Board → CounterValues → Conductor → Type 0
 IsConductorOf is_consumer ring board values c =
     is_consumer ring c.consumer × IsTransmitterOf board c.transmitter × IsManagerOf values c.counters
@@ -80,7 +80,7 @@ pub record KeepsAllCounters (values : CounterValues) (old new : Conductor) : Typ
   pub counters : KeepsCounters values (manager_in old) (manager_in new)
   pub seats : KeepsSeats old new
 
--- a receiver is joined: the transmitter has its share back, and the receiver stands behind those joined before
+-- a receiver is joined: the transmitter has its share back, and the receiver comes after those joined before
 pub record JoinsReceiver (r : CopyReceiver) (old new : Conductor) : Type 0 where
   pub view : board_view new ≡ joined (board_view old) (receiver_view r)
   pub shares : board_shares_of (transmitter_of new) ≡ board_shares_of (transmitter_of old) + 1
@@ -91,7 +91,7 @@ abbrev pub AreUnused : CountersManager → Type 0
 AreUnused counters =
     ((count : ℕ) × (reuse_ms : ℕ) × (registry_of counters ≡ fresh_registry count reuse_ms)) × (writes_of counters ≡ [])
 
--- how the stop of a read is told
+-- what the conductor returns for the stop of a read
 abbrev pub work_stop : Stop → WorkStop
 work_stop Limit = work.Limit
 work_stop Block = work.Block
@@ -104,7 +104,7 @@ pub record IsReadOut (limit : ℕ) (v w : View) (done : Work) : Type 0 where
   pub moved : v.consumer.head + bytes ≡ w.consumer.head
   pub stopped : done.stopped ≡ work_stop (stop_of w.capacity limit done.messages w.consumer.head bytes)
 
--- a command was left, since the board has no room for its reply
+-- a command was left, since the broadcast buffer has no room for its reply
 pub record IsCutOff (limit : ℕ) (v w : View) (board : BoardView) (done : Work) : Type 0 where
   pub stopped : done.stopped ≡ work.BoardEnd
   pub command : Message

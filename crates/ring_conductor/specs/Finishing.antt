@@ -32,7 +32,7 @@ use Rattle.ring_conductor.specs.Account.{IsFoldOf, messages_in}
 use Rattle.ring_conductor.specs.Asking.{services_of}
 use Rattle.ring_conductor.specs.Conducting.{IsConductorOf, manager_in, received_of, ring_view, transmitter_of}
 
--- why a conductor does not finish, with so many open claims of the producer, and so many shares of producer and
+-- why a conductor does not finish, by the number of open claims of the producer, and of the shares of producer and
 -- transmitter, in the order of the tests
 abbrev pub finish_refusal_of : ℕ → ℕ → ℕ → Option FinishFault
 finish_refusal_of open_claims producing transmitting =
@@ -98,13 +98,13 @@ abbrev pub IsFoldOfReceived : Conductor → CountersManager → Type 0
 IsFoldOfReceived c counters =
     IsFoldOf (messages_of (received_of c)) (registry_of counters) (writes_of counters) (messages_in (replies_of c))
 
--- the closed board has the words of these replies
+-- the closed broadcast buffer has the words of these replies
 abbrev pub HasAllReplies : Board → List Record → ClosedBoard → Type 0
 HasAllReplies board replies closed =
     (closed_capacity closed ≡ capacity_of board)
     × IsClosed (capacity_of board) (start_of board) replies (closed_words closed)
 
--- Where a conductor does not finish, all five come back as they were, so that the call can be made again
+-- If a conductor does not finish, all five come back as they were, so that the call can be made again
 pub record ComesBack {R : Type 0} (is_consumer : R → Consumer → Type 0) (is_producer : R → Producer → Type 0) (ring : R)
     (board : Board) (values : CounterValues) (c : Conductor) (p : Producer) (r : FinishRefused R) : Type 0 where
   pub same : HasBack ring board values c p r
@@ -114,7 +114,7 @@ pub record ComesBack {R : Type 0} (is_consumer : R → Consumer → Type 0) (is_
 -- What the headline says of what one run hands out, in the order of its words. C and start are the ring's; the producer
 -- p and the conductor c are those that were given
 pub record Headline (C start : ℕ) (p : Producer) (c : Conductor) (f : Finished) : Type 0 where
-  -- The claims, in tail-exchange order: one behind the other from the ring's start on, so that none occurs twice.
+  -- The claims, in tail-exchange order: one after another from the ring's start on, so that none occurs twice.
   pub ordered : AreOrdered C start (claims_of p)
   -- What was received, followed by what still lies in the ring, is the committed records, each whole and once.
   pub whole : IsWhole (claims_of p) (received_of c) f.rest
@@ -125,8 +125,9 @@ pub record Headline (C start : ℕ) (p : Producer) (c : Conductor) (f : Finished
   -- The counters and the transmitted replies are the fold of the commands received, each applied at a moment.
   pub folded : ∥ IsFoldOfReceived c f.counters ∥₁
 
--- What is handed on: the counters, the board with all replies, how many commands were received, the values, in the rest
--- the words of ids and heartbeat, which are those that were drawn and stored, and producer and conductor by name
+-- What is handed on: the counters, the broadcast buffer with all replies, the number of commands received, the values,
+-- in the rest the words of ids and heartbeat, which are those that were drawn and stored, and producer and conductor by
+-- name
 pub record HandsOn (C : ℕ) (board : Board) (v : CounterValues) (p : Producer) (c : Conductor) (f : Finished)
     : Type 0 where
   pub counters : f.counters ≡ manager_in c

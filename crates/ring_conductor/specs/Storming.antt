@@ -73,7 +73,7 @@ abbrev pub failure_after : ℕ → ℕ → Option Failure → Option Failure
 failure_after replies commands failure =
     if nat_lt replies commands then Some (unwrap_or failure fails.TurnsSpent) else failure
 
--- how many commands all clients send
+-- the number of commands of all clients
 abbrev pub all_commands : StormPlan → ℕ
 all_commands p = p.clients * p.commands
 
@@ -128,7 +128,7 @@ abbrev pub IsClientSeat : {K : Type 0} → Ring K → Producer → Type 0
 IsClientSeat ring p =
     IsProducerOf ring p × (shares_of p ≡ 1) × (open_claims_of p ≡ 0) × HasRisen p × (services_of p ≡ [])
 
--- how many claims a producer has made
+-- the number of claims that a producer has made
 abbrev pub sent_by : Producer → ℕ
 sent_by p = length (claims_of p)
 
@@ -150,28 +150,28 @@ deeds_of c = record {
 abbrev pub IsNew : StormClient → Type 0
 IsNew c = (sent_by (producer_of c.client) ≡ 0) × (c.seen ≡ 0) × (draws_by c.client ≡ []) × (c.counter ≡ 0)
 
--- it has sent so many commands at the most, and drew as many numbers at the most
+-- it has sent at most n commands, and drew at most n numbers
 abbrev pub SentAtMost : ℕ → StormClient → Type 0
 SentAtMost n c = (sent_by (producer_of c.client) ≤ n) × (length (draws_by c.client) ≤ n)
 
--- the client with this number has sent so many commands at the most, and each one that it counts was answered
+-- the client with this number has sent at most this many commands, and each one that it counts was answered
 pub record HasWorked (commands client : ℕ) (c : StormClient) : Type 0 where
   pub sent : SentAtMost commands c
   pub seen : c.seen ≤ commands
   pub index : c.index ≡ client
   pub answered : AreAnswered c.index c.seen (deeds_of c)
 
--- how many commands the conductor took
+-- the number of commands that the conductor took
 abbrev pub taken_by : Conductor → ℕ
 taken_by c = length (received_of c)
 
--- the counters are what the messages that the conductor took make of fresh ones, and nobody else reads their values
+-- the counters are what the messages that the conductor took make of fresh ones, and no other thread reads their values
 abbrev pub HasCounters : StormPlan → Conductor → Type 0
 HasCounters p c = (registry_of (manager_in c) ≡ storm_counters p (messages_of (received_of c)))
     × (value_shares_of c ≡ all_shares)
 
 -- producer and conductor belong to this ring, this board and these values, the counters are those of the messages
--- taken, nobody else reads their values, and the producer drew no number
+-- taken, no other thread reads their values, and the producer drew no number
 abbrev pub IsHubOf : {K : Type 0} → StormPlan → Ring K → Board → CounterValues → Hub → Type 0
 IsHubOf p ring board values hub = IsProducerOf ring hub.producer
     × IsConductorOf IsConsumerOf ring board values hub.conductor × HasCounters p hub.conductor
@@ -187,14 +187,14 @@ IsConductorAt s c = IsConductorOf IsConsumerOf s.ring.now s.board.now s.values.n
 abbrev pub IsHubAt : {G : Type 0} → Shared G → Hub → Type 0
 IsHubAt s hub = IsHubOf s.plan s.ring.now s.board.now s.values.now hub
 
--- all commands were taken, and so many clients had all their replies: so many were seen, each in its turn
+-- all commands were taken, and this many clients had all their replies: each was seen, in its turn
 abbrev pub IsDone : StormPlan → ℕ → LevelEnd → Type 0
 IsDone p clients end = (all_commands p ≤ taken_by end.hub.conductor) × (end.seen ≡ clients * p.commands)
     × AreAllTurns p.commands clients (claims_of end.hub.producer) (joined_by end.hub.conductor)
     (services_of end.hub.producer)
 
 -- what the conductor's thread gives back: the conductor with the counters of the messages taken; it has joined no
--- receiver, and where it is done it took all commands
+-- receiver, and if it is done it took all commands
 pub record HasConducted {K : Type 0} (p : StormPlan) (ring : Ring K) (board : Board) (values : CounterValues)
     (end : ConductorEnd) : Type 0 where
   pub conductor : IsConductorOf IsConsumerOf ring board values end.conductor
@@ -202,7 +202,7 @@ pub record HasConducted {K : Type 0} (p : StormPlan) (ring : Ring K) (board : Bo
   pub none_joined : joined_by end.conductor ≡ []
   pub done : IsTrue end.is_done → all_commands p ≤ taken_by end.conductor
 
--- nobody has sent a command, and neither a receiver nor a producer was joined
+-- no command was sent, and neither a receiver nor a producer was joined
 abbrev pub IsUnused : Hub → Type 0
 IsUnused hub = (claims_of hub.producer ≡ []) × (joined_by hub.conductor ≡ []) × (services_of hub.producer ≡ [])
 
@@ -238,7 +238,7 @@ pub record LendsSeats (old new : Hub) : Type 0 where
   pub taken : taken_by new.conductor ≡ taken_by old.conductor
 
 -- a client's seats are joined: one share of the ring and one of the board more, its claims put among the others, and
--- its receiver and its service behind the others
+-- its receiver and its service after the others
 pub record TakesSeats (c : StormClient) (old new : Hub) : Type 0 where
   pub producers : shares_of new.producer ≡ shares_of old.producer + 1
   pub receivers : board_shares_of new.conductor ≡ board_shares_of old.conductor + 1
@@ -250,8 +250,8 @@ pub record TakesSeats (c : StormClient) (old new : Hub) : Type 0 where
   pub services : services_of new.producer ≡ services_of old.producer ++ service_of (producer_of c.client) ∷ []
   pub taken : taken_by new.conductor ≡ taken_by old.conductor
 
--- The end of a level: hub with the seats of so many clients, which sent no more commands and saw no more replies than
--- the plan has for them; all of these, each in its turn, where nothing failed
+-- The end of a level: hub with the seats of this many clients, which sent no more commands and saw no more replies than
+-- the plan has for them; all of these, each in its turn, if nothing failed
 pub record IsEndOf {K : Type 0} (p : StormPlan) (ring : Ring K) (board : Board) (values : CounterValues)
     (clients : ℕ) (end : LevelEnd) : Type 0 where
   pub hub : IsHubOf p ring board values end.hub

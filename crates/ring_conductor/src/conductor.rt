@@ -26,7 +26,7 @@ pub struct Conductor {
     pub(crate) consumer: Consumer,
     pub(crate) transmitter: Transmitter,
     pub(crate) counters: CountersManager,
-    // The number of commands that it took. Each has a reply of at least 8 bytes on the broadcast buffer.
+    /// The number of commands that it took. Each has a reply of at least 8 bytes on the broadcast buffer.
     pub(crate) received: u64,
     ghost counted: { received ≡ length (taken_of consumer) },
     ghost answered: { 8 * received ≤ (view_of transmitter).at },

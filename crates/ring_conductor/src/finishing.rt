@@ -21,14 +21,14 @@ use std::snapshot::Snapshot;
 /// What a conductor hands out.
 #[derive(Drop)]
 pub struct Finished {
-    /// What lies in the ring yet.
+    /// What is still in the ring.
     pub rest: SoloRing,
-    /// The board with all replies.
+    /// The broadcast buffer with all replies.
     pub board: ClosedBoard,
     /// The counters' values, for readers that are still out.
     pub values: CounterValues,
     pub counters: CountersManager,
-    /// How many commands were taken in all.
+    /// The number of commands that were taken.
     pub received: u64,
     /// The producer that was given, for contracts: it has no bytes. They read the claims of all producers in it.
     pub producer: Snapshot<Producer>,
@@ -62,11 +62,12 @@ fn test_finish(conductor: &Conductor, producer: &Producer) -> Result<(), FinishF
     Ok(())
 }
 
-/// Closes ring and board, once all producers and all receivers are back and no claim is open, and hands out what lies
-/// in the ring, the board with all replies, and the counters. Readers of the values may be out still.
+/// Closes ring and broadcast buffer, once all producers and all receivers are back and no claim is open. Returns what
+/// is still in the ring, the broadcast buffer with all replies, and the counters. Readers of the values may still be
+/// out.
 ///
-/// It refuses with `ClaimsOpen`, then with `ProducersOut`, and then with `ReceiversOut`, before anything is closed;
-/// all five come back then as they were, and the call can be made again.
+/// Returns, in this order and before anything is closed: `ClaimsOpen`, `ProducersOut`, `ReceiversOut`. All five
+/// arguments are then returned unchanged, and the call can be made again.
 pub fn finish<R: CommandSource>(
     ring: R,
     board: Board,
@@ -77,7 +78,7 @@ pub fn finish<R: CommandSource>(
     requires conductor { IsConductorOf R.is_consumer ring board values conductor }
     requires producer { R.is_producer ring producer }
 
-    // Once the producers have returned. Else all comes back as it was.
+    // Once the producers have returned. Otherwise all five arguments are returned unchanged.
     ensures refused { IsRefusedAs (handed_back ring board values conductor producer)
         (refusal_to conductor producer) result }
     ensures back { IfErr result (ComesBack R.is_consumer R.is_producer ring board values conductor producer) }

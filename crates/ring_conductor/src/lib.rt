@@ -4,7 +4,7 @@
 //! - `Client`, `Request`: the client's side, which sends commands and receives replies.
 //! - `Conductor`: takes a ring's consumer, a broadcast buffer's transmitter and counters, and works.
 //! - `finish`: closes ring and broadcast buffer, and returns all that is left. Its contract is the headline.
-//! - `whole_run`: one run of all of that, to be read.
+//! - `whole_run`: one run of all of that, the part to read first.
 //! - `storm`: clients on threads of their own, against one conductor.
 //! - the laws: what holds of the protocol and of the fold of commands.
 #![tactic(auto)]

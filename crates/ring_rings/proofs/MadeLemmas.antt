@@ -24,7 +24,7 @@ use Rattle.ring_rings.proofs.CountLemmas.{open_count-more, open_few, stored_more
 use Rattle.ring_rings.proofs.NewestLemmas.{has_last}
 use Rattle.ring_rings.proofs.RisingLemmas.{rising_more}
 
--- a claim stays where others come behind it
+-- a claim stays if others come after it
 has_more : (v w : View) (c : StagedClaim) (place : ℕ) (P : StagedClaim → Type 0)
     → w.producer.claims ≡ v.producer.claims ++ c ∷ [] → HasClaimAt v place P → HasClaimAt w place P
 has_more v w c place P more h = record {
@@ -35,7 +35,7 @@ has_more v w c place P more h = record {
   holds = h.holds;
 }
 
--- an open claim is still one, where it stands as before
+-- an open claim is still one, if it is as before
 pub still_open : {K : Type 0} {ring : Ring K} {p q : Producer} {t : ClaimAt} → IsOpenClaimOf ring p t
     → HasClaimAt q.seat.me.0 t.place (IsStagedOpen t.type_id t.len) → IsOpenClaimOf ring q t
 still_open h claim = record { index = h.index; message = h.message; limit = h.limit; claim = claim }
@@ -60,7 +60,7 @@ module _ {C tail : ℕ} {type_id : ℤ} {len : ℕ} {front : List (ℕ × ℕ)} 
       (sym made.admitted.place) (IsStagedOpen type_id len)
       (record { stage = refl; type_is = refl; len_is = length-replicate len 0 })
 
-  -- what the producer keeps where one more claim comes behind its own, and so many are open then
+  -- what the producer keeps if one more claim comes after its own, and this many are open then
   matches_more : {shares open_claims own_tail : ℕ} (u : View) (c : StagedClaim) (open_then : ℕ)
       → u.producer.shares ≡ v.producer.shares → u.producer.claims ≡ v.producer.claims ++ c ∷ []
       → u.producer.seen_tail ≡ a.end → tail ≤ c.place → IsStored c.stage
@@ -101,7 +101,7 @@ module _ {C tail : ℕ} {type_id : ℤ} {len : ℕ} {front : List (ℕ × ℕ)} 
         (ap (λ (u : View). u.producer.seen_tail) made.view ∙ sym made.admitted.end) (next_le C tail (span len)) tt refl
         known
 
-  -- behind all claims that the producer had
+  -- after all claims that the producer had
   pub made_apart : (place : ℕ) (P : StagedClaim → Type 0) → HasClaimAt v place P → place ≢ a.place
   made_apart place P h same =
       let ends = made.behind h.nth h.claim h.there in

@@ -19,7 +19,7 @@ use Rattle.ring_rings.specs.declared.ring.CloseRefused.{CloseRefused}
 use Rattle.ring_rings.specs.declared.ring.Producer.{Producer}
 use Rattle.ring_rings.specs.declared.ring.Consumer.{Consumer}
 
--- why a producer with so many open claims and shares does not close a ring, in the order of the tests
+-- why a producer with this many open claims and shares does not close a ring, in the order of the tests
 abbrev pub close_refusal_of : ℕ → ℕ → Option CloseFault
 close_refusal_of open_claims shares =
     if nat_lt 0 open_claims then Some (ClaimsOpen open_claims)
@@ -36,12 +36,12 @@ abbrev pub kept_open : {R : Type 0} → R → Producer → Consumer → CloseFau
 kept_open ring producer consumer reason =
     record { reason = reason; ring = ring; producer = producer; consumer = consumer }
 
--- claims lie one behind the other from the start on, so that their places rise and none occurs twice
+-- claims are one after the other from the start on, so that their places rise and none occurs twice
 pub record AreOrdered (C start : ℕ) (cs : List StagedClaim) : Type 0 where
   pub placed : ArePlaced C start cs
   pub rising : AreRising cs
 
--- The producer p has all claims of the ring, which lie one behind the other from its start on, and r was its consumer.
+-- The producer p has all claims of the ring, which are one after the other from its start on, and r was its consumer.
 -- The first claims are settled, and the messages that r took are the committed ones among them, with their places. The
 -- others are a history that the rest has, at the same places
 pub record HandsOut (C start : ℕ) (p r : View) (rest : Ring) : Type 0 where

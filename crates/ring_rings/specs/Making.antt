@@ -15,7 +15,7 @@ use Rattle.ring_rings.specs.declared.producer.room.Shortage.{Shortage}
 use Rattle.ring_rings.specs.declared.producer.room.Shortage.TheVariants.{Full, Passed}
 use Rattle.ring_rings.specs.Claiming.{GoesBy, LooksTwice, SeesRoom, claim_behind, looked, tail_refusal_of}
 
--- a lawful message goes here behind the tail
+-- a valid message goes here past the tail
 pub record GoesBehind (C tail : ℕ) (type_id : ℤ) (len : ℕ) (a : Admission) : Type 0 where
   pub message : IsMessage C (blank type_id len)
   pub tail_is : a.tail ≡ tail
@@ -23,7 +23,7 @@ pub record GoesBehind (C tail : ℕ) (type_id : ℤ) (len : ℕ) (a : Admission)
   pub end : a.end ≡ end_after C tail (span len)
   pub limit : end_after C tail (span len) ≤ max_position
 
--- there is room behind the tail up to `end`
+-- there is room after the tail up to `end`
 pub record FindsRoom (C tail end : ℕ) (v w : View) : Type 0 where
   pub loads : List (ℕ × ℕ)
   pub head : ℕ
@@ -31,7 +31,7 @@ pub record FindsRoom (C tail end : ℕ) (v w : View) : Type 0 where
   pub looks : SeesRoom C tail end loads
   pub room : end ≤ head + C
 
--- neither the cached head nor the head, which were loaded, has room behind it up to `end`
+-- neither the cached head nor the head, which were loaded, has room up to `end`
 pub record FindsNoRoom (C tail end head : ℕ) (v w : View) : Type 0 where
   pub loads : List (ℕ × ℕ)
   pub seen : ℕ
@@ -53,7 +53,7 @@ abbrev pub FindsShortage : ℕ → ℕ → ℕ → Shortage → View → View �
 FindsShortage C tail end (Full head) v w = FindsNoRoom C tail end head v w
 FindsShortage C tail end (Passed seen) v w = FindsPassed C tail end seen v w
 
--- the claim is made behind the tail, after these loads and others
+-- the claim is made after the tail, after these loads and others
 pub record Makes (C tail : ℕ) (type_id : ℤ) (len : ℕ) (front : List (ℕ × ℕ)) (v : View) (a : Admission)
     (w : View) : Type 0 where
   pub refusal : tail_refusal_of C tail type_id len ≡ None
@@ -67,12 +67,12 @@ pub record Makes (C tail : ℕ) (type_id : ℤ) (len : ℕ) (front : List (ℕ �
   pub few : length v.producer.claims ≤ a.place
   pub behind : EndBelow tail v.producer.claims
 
--- it is made behind a tail that was loaded
+-- it is made after a tail that was loaded
 abbrev pub MakesBehind : ℕ → ℤ → ℕ → View → Admission → View → Type 0
 MakesBehind C type_id len v a w =
     Makes C a.tail type_id len ((tail_index C, a.tail) ∷ []) v a w × (v.producer.seen_tail ≤ a.tail)
 
--- c is the last claim of the view, made from the tail on for len bytes. No header is stored, and the others lie before
+-- c is the last claim of the view, made from the tail on for len bytes. No header is stored, and the others are before
 pub record IsNewest (tail place len : ℕ) (cs : List StagedClaim) (c : StagedClaim) (v : View) : Type 0 where
   pub claims : v.producer.claims ≡ cs ++ c ∷ []
   pub behind : EndBelow tail cs
@@ -87,7 +87,7 @@ pub record HasNewest (tail place len : ℕ) (v : View) : Type 0 where
   pub claim : StagedClaim
   pub newest : IsNewest tail place len others claim v
 
--- the last claim of the view was just made behind the tail, and is open
+-- the last claim of the view was just made after the tail, and is open
 pub record IsJustMade (C tail : ℕ) (type_id : ℤ) (len place : ℕ) (cs : List StagedClaim) (v : View) : Type 0 where
   pub claims : v.producer.claims ≡ cs ++ claim_behind C tail type_id len ∷ []
   pub behind : EndBelow tail cs

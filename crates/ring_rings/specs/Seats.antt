@@ -1,4 +1,4 @@
--- What clauses say of rings and of those who work on them.
+-- What clauses say of rings, producers and consumers.
 use Rattle.std.specs.Prelude.{◌≡◌, ◌≢◌, ℕ, ◌+◌, ◌%◌, ◌≤◌, List}
 use Rattle.ring_layout.specs.History.{IsMessage}
 use Rattle.ring_layout.specs.Places.{max_position}
@@ -36,7 +36,7 @@ claims_of p = p.seat.me.0.producer.claims
 abbrev pub shares_of : Producer → ℕ
 shares_of p = p.seat.me.0.producer.shares
 
--- how many of its claims are open
+-- the number of its claims that are open
 abbrev pub open_claims_of : Producer → ℕ
 open_claims_of p = open_count p.seat.me.0.producer.claims
 
@@ -48,7 +48,7 @@ pub record IsProducerOf {K : Type 0} (ring : Ring K) (p : Producer) : Type 0 whe
   pub table : p.seat.table_id ≡ ring.table.shared.table_id
   pub capacity : p.seat.me.0.capacity ≡ ring.capacity
 
--- where the ring is for one producer, this one holds all shares
+-- if the ring is for one producer, this one holds all shares
 abbrev pub MayClaim : Type 0 → Producer → Type 0
 MayClaim is_for_one p = is_for_one → shares_of p ≡ all_shares
 
@@ -96,16 +96,16 @@ pub record OpensNone {K : Type 0} (ring : Ring K) (old new : Producer) : Type 0 
   pub holdings : KeepsHoldings ring old new
   pub open_claims : open_claims_of new ≡ open_claims_of old
 
--- claims lie at different places, and what was open stays open, but at this place
+-- claims are at different places, and what was open stays open, but at this place
 pub record KeepsOthers {K : Type 0} (ring : Ring K) (place : ℕ) (old new : Producer) : Type 0 where
   pub rising : AreRising (claims_of old)
   pub claims : (t : ClaimAt) → IsOpenClaimOf ring old t → t.place ≢ place → IsOpenClaimOf ring new t
 
--- a claim lies where no open one of the producer lies
+-- a claim is at a place without an open one of the producer
 abbrev pub LiesApart : {K : Type 0} → Ring K → Producer → ClaimAt → Type 0
 LiesApart ring p new = (t : ClaimAt) → IsOpenClaimOf ring p t → t.place ≢ new.place
 
--- a claim that was opened lies apart from those that were open before
+-- a claim that was opened is apart from those that were open before
 pub record IsNewClaimOf {K : Type 0} (ring : Ring K) (old new : Producer) (t : ClaimAt) : Type 0 where
   pub is_open : IsOpenClaimOf ring new t
   pub apart : LiesApart ring old t

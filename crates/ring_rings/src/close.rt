@@ -44,9 +44,9 @@ fn test_close(producer: &Producer) -> Result<(), CloseFault>
 }
 
 impl<K> Ring<K> {
-    /// Takes the ring apart and hands out what lies in it as a ring of one owner: what was committed and not read, and
-    /// the trailer's words. It refuses with `ClaimsOpen` where claims of this producer are open, and then with
-    /// `ProducersOut` where shares are with other producers; all comes back then.
+    /// Takes the ring apart and returns what is in it as a ring of one owner: what was committed and not read, and the
+    /// trailer's words. Returns, in this order: `ClaimsOpen` if claims of this producer are open; `ProducersOut` if
+    /// shares are with other producers. After an error everything comes back unchanged.
     pub fn close(
         self,
         producer: Producer,

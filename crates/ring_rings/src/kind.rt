@@ -9,9 +9,9 @@ use crate::claim::Claim;
 use crate::fault::TryFault;
 use crate::ring::{ManyToOne, OneToOne, Producer, Ring};
 
-/// A kind of ring: `OneToOne` or `ManyToOne`. What its calls do, `claims`, `writes` and `refuses` say for each kind.
+/// A kind of ring: `OneToOne` or `ManyToOne`. `claims`, `writes` and `refuses` state what its calls do.
 pub trait Kind: Sized {
-    /// Its rings have one producer, who holds all shares when it claims.
+    /// Its rings have one producer, which holds all shares when it claims.
     ghost is_for_one: { Type 0 };
 
     /// What a claim does to a producer's view.

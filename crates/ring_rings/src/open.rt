@@ -13,7 +13,7 @@ use std::alloc::{AllocError, Global};
 use std::marker::PhantomData;
 
 impl<K> Ring<K> {
-    /// Makes an empty ring that starts at position 0, with a producer that holds all shares. The refusals are those of
+    /// Makes an empty ring that starts at position 0, with a producer that holds all shares. Returns the errors of
     /// `new_at`.
     pub fn new(alloc: Global, capacity: u32) -> Result<(Self, Producer, Consumer), MakeFault>
         ensures refused { IsMadeUnless (make_refusal_of (is_capacity capacity) capacity 0) result }
@@ -25,8 +25,8 @@ impl<K> Ring<K> {
     }
 
     /// Makes an empty ring that starts at a multiple of its capacity, in bytes, with a producer that holds all shares.
-    /// It refuses with `BadCapacity` a capacity that is no power of two from 128 to 2^24, then with `BadStart` a start
-    /// that is no multiple of the capacity or above 2^62, and then with `OutOfMemory`.
+    /// Returns, in this order: `BadCapacity` if the capacity is no power of two from 128 to 2^24; `BadStart` if the
+    /// start is no multiple of the capacity or is above 2^62; `OutOfMemory`.
     pub fn new_at(
         alloc: Global,
         capacity: u32,
@@ -41,7 +41,7 @@ impl<K> Ring<K> {
         Self::make(alloc, capacity, start).map_err(|_| MakeFault::OutOfMemory)
     }
 
-    /// Makes a ring of a lawful capacity at a lawful start.
+    /// Makes a ring of a valid capacity at a valid start.
     fn make(
         alloc: Global,
         capacity: u32,

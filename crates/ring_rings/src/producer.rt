@@ -16,14 +16,14 @@ ghost use Rattle.ring_rings.specs.Seats.{open_claims_of, shares_of};
 use crate::ring::Producer;
 
 impl Producer {
-    /// How many shares of the ring it holds.
+    /// Returns the number of shares of the ring that it holds.
     pub fn shares(&self) -> u32
         ensures { result ≡ shares_of self.now }
     {
         self.shares
     }
 
-    /// How many of its claims are open.
+    /// Returns the number of its claims that are open.
     pub fn open_claims(&self) -> u64
         ensures { result ≡ open_claims_of self.now }
     {

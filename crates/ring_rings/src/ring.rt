@@ -1,4 +1,4 @@
-//! A ring, and those who work on it.
+//! A ring, its producers and its consumer.
 ghost use Rattle.std.specs.Prelude.{◌≡◌, ℕ, ◌%◌, ◌/◌, ◌^◌, ◌<◌, ◌≤◌, [], vec_len, true, false};
 ghost use Rattle.ring_layout.specs.Places.{IsCapacity, max_position};
 ghost use Rattle.ring_layout.specs.Layout.{ring_words};
@@ -34,23 +34,23 @@ pub type OneToOneRing = Ring<OneToOne>;
 /// A ring with any number of producers, which move the tail by a compare-exchange.
 pub type ManyToOneRing = Ring<ManyToOne>;
 
-/// One who writes into a ring. It is used by one thread at a time, and may move between threads.
+/// Writes into a ring. It is used by one thread at a time, and may move between threads.
 ///
 /// The first producer holds 65,536 shares, and `ManyToOneRing::split` moves one of them to a new producer; `close`
-/// wants all of them back. So a producer that is let go keeps its ring from closing for good.
+/// needs all of them back. So a dropped producer keeps its ring from ever being closed.
 #[derive(Drop)]
 pub struct Producer {
     pub(crate) seat: RingSeat,
     pub(crate) shares: u32,
     pub(crate) open_claims: u64,
-    // The ring's tail, where it holds all shares.
+    // The ring's tail, if it holds all shares.
     pub(crate) own_tail: u64,
     ghost known: { Matches seat.me.0 shares open_claims own_tail } by { matches_prop _ _ _ _ _ _ },
     ghost produces: { (seat.me.0.consumes ≡ false) × (seat.me.1 ≡ []) },
 }
 
-/// The one who reads a ring. It is used by one thread at a time, and may move between threads. Where it is let go, the
-/// ring fills up and can never be closed.
+/// Reads a ring. It is used by one thread at a time, and may move between threads. If it is dropped, the ring fills up
+/// and can never be closed.
 #[derive(Drop)]
 pub struct Consumer {
     pub(crate) seat: RingSeat,
@@ -62,7 +62,7 @@ pub struct Consumer {
     ghost room: { vec_len scratch ≡ seat.me.0.capacity / 8 },
 }
 
-/// A ring was not closed, and all comes back as it was.
+/// A ring was not closed: the reason, and all arguments unchanged.
 #[derive(Drop)]
 pub struct CloseRefused<R> {
     pub reason: CloseFault,

@@ -26,7 +26,7 @@ impl Client {
         }
     }
 
-    /// Gives producer and receiver back, to be joined.
+    /// Returns producer and receiver, to be joined.
     pub fn into_parts(self) -> (Producer, CopyReceiver)
         ensures producer { result.0 ≡ producer_of self }
         ensures receiver { result.1 ≡ receiver_of self }
@@ -50,8 +50,8 @@ impl Client {
         ring.next_correlation_id(&mut self.producer)
     }
 
-    /// Loads the heartbeat that the conductor stores, by one step: 0 if it stored none, and no value before one that
-    /// this client loaded. Whether a conductor that stores none any more still lives is for the caller to judge.
+    /// Loads the heartbeat that the conductor stores, by one step: 0 if it stored none, and never one before the last
+    /// that this client loaded. Whether a conductor that no longer stores one is alive is for the caller to judge.
     pub fn heartbeat<K>(&mut self, ring: &Ring<K>) -> u64
         requires { IsProducerOf ring.now (producer_of self.old) }
         ensures producer { IsProducerOf ring.now (producer_of self.new) }
@@ -130,7 +130,7 @@ impl Client {
     /// Takes the next message of the broadcast buffer, for a caller that waits for the reply to the command with this
     /// correlation id. It never waits, and takes no memory.
     ///
-    /// After `Lapped` the next call goes on with the reply at latest. The bytes passed over are from its `place` on.
+    /// After `Lapped` the next call goes on with the most recent reply. The bytes passed over begin at its `place`.
     pub fn poll(&mut self, board: &Board, correlation: u64) -> Polled
         requires { IsReceiverOf board.now (receiver_of self.old) }
         ensures receiver { IsReceiverOf board.now (receiver_of self.new) }

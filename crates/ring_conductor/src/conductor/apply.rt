@@ -88,7 +88,7 @@ fn close(counters: &mut CountersManager, now: u64, correlation: u64, owner: u64)
     }
 }
 
-/// Applies a command at a moment, and gives its reply.
+/// Applies a command at a moment, and returns its reply.
 fn obey(
     counters: &mut CountersManager,
     values: &CounterValues,
@@ -140,8 +140,8 @@ fn obey(
     }
 }
 
-/// Applies a message at a moment, and gives its one reply. What can't be read, and what the counters refuse, changes
-/// nothing; the reply is then `Refused`.
+/// Applies a message at a moment, and returns its one reply. If the message cannot be read, or the counters refuse it,
+/// nothing changes, and the reply is `Refused`.
 pub(crate) fn apply(
     counters: &mut CountersManager,
     values: &CounterValues,

@@ -27,7 +27,7 @@ fn work_stop(stopped: Stop) -> WorkStop
     }
 }
 
-// Has the commands of one read served.
+/// Makes one controlled read, and applies its commands.
 fn take<R: CommandSource>(
     ring: &R,
     consumer: &mut Consumer,
@@ -50,7 +50,7 @@ fn take<R: CommandSource>(
 }
 
 impl Conductor {
-    /// Makes a conductor of a ring's consumer, a board's transmitter, and counters, of which none was used yet.
+    /// Makes a conductor of a ring's consumer, a broadcast buffer's transmitter, and counters, of which none was used.
     pub fn new(consumer: Consumer, transmitter: Transmitter, counters: CountersManager) -> Conductor
         requires consumer { taken_of consumer ≡ [] }
         requires transmitter { transmitted transmitter ≡ [] }
@@ -78,10 +78,10 @@ impl Conductor {
     /// milliseconds and at most 2^62, and gets exactly one reply, which carries its correlation id. No memory is
     /// taken.
     ///
-    /// It stops as a controlled read of the ring does, or with `BoardEnd` where a reply of 12 bytes would end above
-    /// 2^62 on the board. The command stays in the ring then, not applied, also where its own reply would be shorter
-    /// and would fit. `Block` with no message does not say that the ring is empty: the next call goes on behind the
-    /// end of the buffer.
+    /// It stops as a controlled read of the ring does, or with `BoardEnd` if a reply of 12 bytes would end above 2^62
+    /// on the broadcast buffer. The command then stays in the ring and is not applied, even if its own reply would be
+    /// shorter and would fit. `Block` with no message does not say that the ring is empty: the next call goes on after
+    /// the end of the buffer.
     pub fn do_work<R: CommandSource>(
         &mut self,
         ring: &R,

@@ -11,9 +11,9 @@ impl Conductor {
     /// Stores the ring's heartbeat, by one step. Clients load it with `Ring::heartbeat`, on threads of their own; it
     /// is 0 until the first is stored.
     ///
-    /// The value is the user's own, such as a time in milliseconds: nothing here reads it. It may be called at any
-    /// time between calls of `do_work`, by the thread that has the conductor. All else stays: the counters, the
-    /// board, the receivers that were joined, and what was received.
+    /// The value is the caller's own, such as a time in milliseconds: nothing here reads it. It may be called at any
+    /// time between calls of `do_work`, by the thread that has the conductor. The counters, the broadcast buffer, the
+    /// receivers that were joined, and what was received stay as they were.
     pub fn set_heartbeat<R: CommandSource>(&mut self, ring: &R, value: u64)
         requires consumer { R.is_consumer ring.now (consumer_of self.old) }
         ensures consumer { R.is_consumer ring.now (consumer_of self.new) }

@@ -19,8 +19,10 @@ use ring_counters::{CounterValues, NoShares, ValueReader};
 use std::alloc::Global;
 
 impl Conductor {
-    /// Makes a receiver of the replies, which starts with the one at latest, with one share of the transmitter's.
-    /// `NoShares` if the transmitter has one share, then `OutOfMemory`; all is then as before.
+    /// Makes a receiver of the replies, which starts with the most recent one. It takes one share of the transmitter.
+    ///
+    /// Returns, in this order: `NoShares` if the transmitter has one share left; `OutOfMemory`. Nothing has changed
+    /// then.
     pub fn subscribe(
         &mut self,
         alloc: Global,
@@ -64,8 +66,8 @@ impl Conductor {
         self.counters.reader(values)
     }
 
-    /// Takes a reader of the values back, with its share. What it loaded are values after first parts of the writes,
-    /// after which the values are the registry's.
+    /// Takes a reader of the values back, with its share. Each value that it loaded is the counter's value after some
+    /// prefix of the writes.
     pub fn join_value_reader(&mut self, values: &CounterValues, reader: ValueReader)
         requires counters { IsManagerOf values.now (manager_in self.old) }
         requires reader { IsReaderOf values.now reader }

@@ -14,8 +14,8 @@ use ring_counters::CounterValues;
 use ring_rings::CommandSource;
 
 impl Conductor {
-    /// Calls `do_work` for each cycle, up to one that comes to the board's end. It gives the sum of the messages and
-    /// the last stop; without a cycle 0 and `Limit`.
+    /// Calls `do_work` for each cycle, up to one that comes to the end of the broadcast buffer. Returns the sum of the
+    /// messages and the last stop, or 0 and `Limit` if there is no cycle.
     pub fn run<R: CommandSource>(
         &mut self,
         ring: &R,

@@ -20,7 +20,7 @@ use ring_rings::ManyToOneRing;
 /// The type of the clients' counters.
 const COUNTER_TYPE: i32 = 1;
 
-/// The label of a client's counter, and how long it is: `c` and the client's number, which is below 100.
+/// The label of a client's counter, and its length: `c` and the client's number, which is below 100.
 fn label_of(client: u32) -> ([u8; 3], usize)
     requires { client < 100 }
     ensures length { result.1 ≤ 3 }
@@ -54,7 +54,7 @@ fn request_of(label: &[u8], counter: u32, number: u32) -> Request<'_>
     }
 }
 
-/// One try to send a command. It is refused while the ring is full, or if another client was faster.
+/// Tries once to send a command. The ring refuses while it is full, or if another client was faster.
 fn try_send(
     ring: &ManyToOneRing,
     client: &mut Client,
@@ -88,7 +88,7 @@ impl<G: Gate> Shared<'_, G> {
         false
     }
 
-    /// Waits until the command with a correlation id is sent, which is returned.
+    /// Draws a correlation id, waits until the command with it is sent, and returns the id.
     fn send(&self, client: &mut Client, request: Request<'_>) -> Option<u64>
         requires { IsClientSeat self.now.ring.now (producer_of client.old) }
         ensures seat { IsClientSeat self.now.ring.now (producer_of client.new) }
@@ -129,7 +129,7 @@ impl<G: Gate> Shared<'_, G> {
             }
             match client.poll(self.board, correlation) {
                 Polled::Answered(reply) => return Some(reply),
-                // More may be after it already.
+                // The next message may be there already.
                 Polled::Another(_) | Polled::NoReply => backoff.reset(),
                 Polled::Nothing | Polled::Lapped(_) => backoff.snooze(),
             }
@@ -168,7 +168,7 @@ impl<G: Gate> Shared<'_, G> {
         Some(())
     }
 
-    /// Runs a client to its end. If it gives up, it stops all others.
+    /// Sends all commands of a client. If it gives up, it stops all others.
     pub(crate) fn run_client(&self, mut client: StormClient) -> StormClient
         requires client { IsClientAt self.now client }
         requires new { IsNew client }

@@ -16,7 +16,7 @@ pub(crate) struct ConductorEnd {
 }
 
 impl<G> Shared<'_, G> {
-    /// Works until a command comes, and returns how many came; 0 if none came.
+    /// Works until a command comes, and returns the number of those that came, 0 if none did.
     fn work(&self, conductor: &mut Conductor) -> u64
         requires conductor { IsConductorAt self.now conductor.old }
         requires counters { HasCounters self.now.plan conductor.old }

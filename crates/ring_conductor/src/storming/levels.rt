@@ -17,8 +17,8 @@ use core::thread::Stack;
 use std::alloc::Global;
 use std::thread::{Scope, Threads};
 
-/// The stack that a thread is asked for with. For one that the gate refuses it is too large for any system, so that the
-/// thread can't be started.
+/// The stack of a thread that is to start. If the gate refuses the thread, the stack is larger than any system gives,
+/// so that it cannot be started.
 fn stack_of<G: Gate>(gate: &G, thread: u32) -> Stack {
     if gate.may_start(thread) {
         Stack::new()
@@ -27,7 +27,7 @@ fn stack_of<G: Gate>(gate: &G, thread: u32) -> Stack {
     }
 }
 
-/// A level that goes no deeper, since memory or a thread is wanting.
+/// A level that goes no deeper, since memory ran out or a thread could not be started.
 fn give_up(hub: Hub) -> LevelEnd
     ensures hub { result.hub ≡ hub }
     ensures seen { result.seen ≡ 0 }
@@ -59,7 +59,7 @@ fn conduct<'s, E, R: Threads, G: Gate + Sync>(
         producer,
         conductor,
     } = hub;
-    // A thread's closure takes plain references along: of a struct that holds references nothing is known there.
+    // The closure takes plain references, since nothing is known in it of a struct that holds references.
     let Shared {
         ring,
         board,
@@ -112,7 +112,7 @@ fn conduct<'s, E, R: Threads, G: Gate + Sync>(
             }
         }
         Err(closure) => {
-            // The closure sees at once that it is to end, and gives the conductor back.
+            // The closure ends at once, since all are stopped, and gives the conductor back.
             shared.stop();
             let ConductorEnd { conductor, .. } = (closure.value)();
             give_up(Hub {
@@ -186,7 +186,7 @@ pub(crate) fn level<'s, E, R: Threads, G: Gate + Sync>(
             (end, child.join(rt))
         }
         Err(closure) => {
-            // The closure sees at once that it is to end, and gives the seats back.
+            // The closure ends at once, since all are stopped, and gives the seats back.
             shared.stop();
             let client = (closure.value)();
             (give_up(hub), client)
@@ -195,7 +195,7 @@ pub(crate) fn level<'s, E, R: Threads, G: Gate + Sync>(
     gather(shared, index, end, client)
 }
 
-/// Takes a client's seats back. It has spent its turns if a reply is wanting.
+/// Takes a client's seats back. It has spent its turns if it did not get all its replies.
 fn gather<G>(shared: Shared<'_, G>, index: u32, end: LevelEnd, client: StormClient) -> LevelEnd
     requires plan { IsPlan shared.plan × (index < 64) }
     requires end { IsEndAt shared index end }

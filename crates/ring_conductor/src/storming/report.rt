@@ -1,4 +1,4 @@
-//! What is said of a storm that ended well.
+//! The report of a storm.
 ghost use Rattle.std.specs.Prelude.{◌≡◌, ◌≤◌, List, length};
 ghost use Rattle.ring_layout.specs.declared.message.Claim.{Claim};
 ghost use Rattle.ring_layout.specs.History.{committed_of};

@@ -14,12 +14,13 @@ pub(crate) struct Shared<'a, G> {
     pub(crate) board: &'a Board,
     pub(crate) values: &'a CounterValues,
     pub(crate) gate: &'a G,
-    /// Whether a thread gave up. Each wait looks at it in each turn.
+    /// Whether a thread gave up. Each wait tests it in each turn.
     pub(crate) stopped: &'a AtomicBool,
     pub(crate) plan: StormPlan,
 }
 
 impl<G> Shared<'_, G> {
+    /// Whether a thread gave up.
     pub(crate) fn is_stopped(&self) -> bool {
         self.stopped.load(SeqCst)
     }

@@ -1,4 +1,4 @@
-//! What a running read finds where it has come to.
+//! What a running read finds next.
 ghost use Rattle.std.specs.Prelude.{◌≡◌, ℕ, ◌+◌, ◌<◌, List, true};
 ghost use Rattle.ring_table.specs.declared.claim.PlacedMessage.{PlacedMessage};
 ghost use Rattle.ring_table.specs.Seats.{IsSameSeat};
@@ -9,18 +9,18 @@ use ring_layout::record_descriptor::{HEADER_LENGTH, PADDING_MSG_TYPE_ID};
 use ring_layout::unpack_header;
 use ring_table::{RingSeat, SharedRing};
 
-/// The record or padding that a header tells of.
+/// The record or padding that a header describes.
 #[derive(Clone, Copy)]
 pub(crate) enum Found {
     /// None that is settled.
     Nothing,
-    /// Padding, or an aborted record, of so many bytes.
+    /// Padding, or an aborted record, of this many bytes.
     Quiet(u64),
-    /// A message of this type id, whose body has so many bytes.
+    /// A message of this type id, whose body has this many bytes.
     Message(i32, usize),
 }
 
-/// Loads the header at `scan`, where a read has come to, and comes behind its record, if that is settled.
+/// Loads the header at `scan`, and moves past its record if that is settled.
 pub(super) fn find(
     ring: &SharedRing,
     seat: &mut RingSeat,

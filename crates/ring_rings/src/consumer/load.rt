@@ -11,7 +11,7 @@ use ring_layout::record_descriptor::HEADER_LENGTH;
 use ring_layout::{put_word, word_index};
 use ring_table::{RingSeat, SharedRing, load_body_word, load_first_header, load_next_header};
 
-/// Loads the header at `scan`, where a read has come to.
+/// Loads the header at `scan`, to which a read has come.
 pub(super) fn load_header(
     ring: &SharedRing,
     seat: &mut RingSeat,

@@ -15,7 +15,7 @@ use ring_table::{
     RingSeat, SharedRing, clear_word, load_passed_word, store_head, store_head_before,
 };
 
-/// Sees to it that the next word that the read has passed is 0. Its index in the buffer is `target`.
+/// Clears the next word that the read has passed. Its index in the buffer is `target`.
 #[inline(always)]
 fn pass_word(ring: &SharedRing, seat: &mut RingSeat, capacity: u32, cleared: u64, target: usize)
     requires seat { IsReaderSeatOf ring.now.table_id ring.now.key capacity seat.old }
@@ -31,7 +31,7 @@ fn pass_word(ring: &SharedRing, seat: &mut RingSeat, capacity: u32, cleared: u64
     }
 }
 
-/// Sees to it that the words from the head up to the position `to`, which the read has passed, are 0.
+/// Clears the words that the read has passed, from the head up to the position `to`.
 #[inline(always)]
 fn clear_up(ring: &SharedRing, seat: &mut RingSeat, capacity: u32, head: u64, to: u64)
     requires seat { IsReaderSeatOf ring.now.table_id ring.now.key capacity seat.old }
@@ -59,8 +59,7 @@ fn clear_up(ring: &SharedRing, seat: &mut RingSeat, capacity: u32, head: u64, to
 }
 
 impl<K> Ring<K> {
-    /// Clears all that the read has passed, up to `scan`, and stores the head there. Where the head stands there, does
-    /// nothing.
+    /// Clears all that the read has passed, up to `scan`, and stores the head there. Does nothing if the head is there.
     #[inline(always)]
     pub(super) fn move_head(&self, consumer: &mut Consumer, scan: u64)
         requires consumer { IsConsumerOf self.now consumer.old }

@@ -104,12 +104,11 @@ impl<K> Ring<K> {
         }
     }
 
-    /// Reads at most `limit` messages, and takes every action of the handler as `Continue`. The handler is shown each
-    /// message in a copy. No memory is taken.
+    /// Reads at most `limit` messages, and takes every action of the handler as `Continue`. The handler is shown a copy
+    /// of each message. No memory is taken.
     ///
-    /// It stops with `Limit` where `limit` messages were read, else with `Block` where it came to the end of the
-    /// buffer, else with `Unpublished` where no settled record lay at the head. What it passes is set to 0, and then
-    /// the head moves.
+    /// Stops with `Limit` after `limit` messages, otherwise with `Block` at the end of the buffer, otherwise with
+    /// `Unpublished` if no settled record was at the head. What it passes is set to 0, and then the head moves.
     pub fn read<H: Handler>(&self, consumer: &mut Consumer, limit: u32, handler: &mut H) -> ReadEnd
         requires consumer { IsConsumerOf self.now consumer.old }
         requires ready { H.ready handler.old }
@@ -123,9 +122,9 @@ impl<K> Ring<K> {
         self.run(consumer, limit, false, handler)
     }
 
-    /// Reads as `read` does, and goes on behind the end of the buffer: where the first read stops with `Block`, a
-    /// second one follows, and no third. So `Unpublished` tells that no settled record lay at the head, and it stops
-    /// with `Block` only where it went from one end of the buffer to the next.
+    /// Reads as `read` does, and goes on past the end of the buffer: if the first read stops with `Block`, a second one
+    /// follows, and no third. So `Unpublished` says that no settled record was at the head, and `Block` only that the
+    /// read went from one end of the buffer to the next.
     pub fn read_across<H: Handler>(
         &self,
         consumer: &mut Consumer,
@@ -154,8 +153,8 @@ impl<K> Ring<K> {
     }
 
     /// Reads as `read` does, and heeds the handler's actions: `Abort` leaves the message and stops, `Break` takes it
-    /// and stops, both with `Action`; `Commit` clears what was passed and moves the head at once, and goes on;
-    /// `Continue` goes on. Padding and aborted records that were passed before a message is left stay passed.
+    /// and stops, both with `Action`; `Commit` clears what was passed, moves the head, and goes on; `Continue` goes on.
+    /// Padding and aborted records passed before a message that is left stay passed.
     pub fn controlled_read<H: Handler>(
         &self,
         consumer: &mut Consumer,

@@ -17,13 +17,13 @@ use ring_table::{Wanted, join_producer, load_tail, split_producer};
 
 impl Ring<ManyToOne> {
     /// Makes one try to claim room for a message of `len` bytes, which are 0 until they are `put`. Several claims may
-    /// be open at once.
+    /// be open at once. It never waits.
     ///
-    /// It refuses, in this order, with `BadType` a type id below 1, with `TooLong` a body of more than an eighth of the
-    /// capacity, and with `PositionLimit` a record that would end above 2^62. Where another producer was faster it
-    /// refuses with `Contended`: the head that the try goes by is beyond the tail that it loaded, or the exchange found
-    /// a later tail. With `InsufficientCapacity` it refuses a record that fits behind neither the cached head nor the
-    /// head, which it loaded after the tail. It never waits.
+    /// Returns, in this order: `BadType` if the type id is below 1; `TooLong` if the body would have more than an
+    /// eighth of the capacity in bytes; `PositionLimit` if the record would end above 2^62; `Contended` if another
+    /// producer was faster, so that the head is beyond the tail that this try loaded, or the exchange found a later
+    /// tail; `InsufficientCapacity` if the record fits after neither the cached head nor the head, which it loaded
+    /// after the tail. After an error no claim was made.
     pub fn claim_once(
         &self,
         producer: &mut Producer,
@@ -86,8 +86,8 @@ impl Ring<ManyToOne> {
         Ok(())
     }
 
-    /// Makes another producer with one share of this one's, without claims, draws or heartbeats read. `NoShares` where
-    /// this one holds a single share, and then it is as before.
+    /// Makes another producer with one share of this one's, without claims, draws or heartbeats read. Returns
+    /// `NoShares` if this one holds a single share; it is unchanged then.
     pub fn split(&self, producer: &mut Producer) -> Result<Producer, NoShares>
         requires { IsProducerOf self.now producer.old }
         ensures producer { IsProducerOf self.now producer.new }
@@ -113,7 +113,7 @@ impl Ring<ManyToOne> {
 
     /// Takes another producer in, with its shares and its claims. Afterwards the tail is loaded.
     ///
-    /// Claims that are open stay so, those of either; this producer settles them all from then on.
+    /// Open claims of both stay open; from then on this producer settles them.
     pub fn join(&self, producer: &mut Producer, other: Producer)
         requires producer { IsProducerOf self.now producer.old }
         requires other { IsProducerOf self.now other }

@@ -15,9 +15,9 @@ use ring_words::ClaimFault;
 impl Ring<OneToOne> {
     /// Claims room for a message of `len` bytes, which are 0 until they are `put`. Several claims may be open at once.
     ///
-    /// It refuses, in this order, with `BadType` a type id below 1, with `TooLong` a body of more than an eighth of the
-    /// capacity, with `PositionLimit` a record that would end above 2^62, and with `InsufficientCapacity` one that does
-    /// not fit behind the head, which was then loaded in this call. It never waits.
+    /// Returns, in this order: `BadType` if the type id is below 1; `TooLong` if the body would have more than an
+    /// eighth of the capacity in bytes; `PositionLimit` if the record would end above 2^62; `InsufficientCapacity` if
+    /// it does not fit after the head, which this call then loaded.
     pub fn claim(
         &self,
         producer: &mut Producer,

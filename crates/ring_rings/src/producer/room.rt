@@ -10,14 +10,14 @@ use ring_table::{RingSeat, SharedRing, load_cache, load_head, store_cache};
 /// Why no room was found.
 #[derive(Clone, Copy)]
 pub(crate) enum Shortage {
-    /// There is none behind the head.
+    /// There is none after the head.
     Full { head: u64 },
     /// The head is beyond the tail that was loaded, so that another producer has moved the tail.
     Passed { seen: u64 },
 }
 
-/// Looks for room for a claim of the only producer: behind the cached head, and then behind the head. Where there is
-/// none it returns the head.
+/// Looks for room for a claim of the only producer: after the cached head, and then after the head. If there is none it
+/// returns the head.
 pub(crate) fn find_room_alone(
     words: &SharedRing,
     seat: &mut RingSeat,

@@ -44,7 +44,7 @@ fn store_settled_header(
 }
 
 impl<K> Ring<K> {
-    /// Puts bytes into an open claim, from the byte `offset` of its body on. It refuses bytes that do not lie inside
+    /// Puts bytes into an open claim, from the byte `offset` of its body on. It refuses bytes that are not inside
     /// the body, and then nothing is changed.
     pub fn put(
         &self,
