@@ -18,8 +18,8 @@ sys.dont_write_bytecode = True
 sys.path.insert(0, os.path.dirname(os.path.abspath(__file__)))
 import pictures
 import results
-from rows import (C_ROWS, CURVES, LENGTH_ROWS, OTHER_ROWS, PERCENTILES, README_ROWS, SECTIONS, USER_ROWS, USER_QUEUES,
-                  twin_of)
+from rows import (C_LENGTH_ROWS, C_ROWS, CURVES, LENGTH_ROWS, OTHER_ROWS, PERCENTILES, README_ROWS, SECTIONS, USER_QUEUES,
+                  USER_ROWS, twin_of)
 
 TOP = os.path.dirname(os.path.dirname(os.path.abspath(__file__)))
 NONE = "–"
@@ -121,6 +121,15 @@ def limit(runs):
     yield from table(["", "ours, ns", "times `sc`", "times `ar`"], lines)
 
 
+def from_c(runs):
+    """Calls of felter.h in times the plain calls, by the length of a body."""
+    run, lines = runs.get("felter", runs["sets"]), []
+    for label, workload, mine, plain, sizes in C_LENGTH_ROWS:
+        lines.append([label] + [times(run.against(plain, workload, mine, size, 1, "ns")) if size in sizes else NONE
+                                for size in (8, 32, 128, 1024)])
+    yield from table(["times the plain calls", "8 bytes", "32", "128", "1,024"], lines)
+
+
 def readme(runs):
     lines = []
     for label, point, ours, queues in README_ROWS:
@@ -210,7 +219,7 @@ def made(runs):
     """Each file that is written whole, and what comes between two marks of a page: {path: text or [(mark, lines)]}."""
     files = {"bench/RESULTS.md": "\n".join(all_rows(runs)) + "\n",
              "docs/performance/ratios.svg": ratio_picture(runs),
-             "docs/PERFORMANCE.md": [("users", users(runs)), ("limit", limit(runs))],
+             "docs/PERFORMANCE.md": [("users", users(runs)), ("limit", limit(runs)), ("c", from_c(runs))],
              "README.md": [("performance", readme(runs))]}
     for name, panels in CURVES.items():
         files[f"docs/performance/{name}.svg"] = pictures.curves([curve(runs["sets"], *panel) for panel in panels])

@@ -100,6 +100,10 @@ C_ROWS = (
     *((f"a command and its reply, {said}", "trips", "felter-m2o", "ours-m2o", COMMAND, 1, said)
       for said in ("mean", "p50", "p99")),
 )
+# The same in a table by length.
+C_LENGTH_ROWS = tuple((f"{threads}, {said}", workload, f"felter-m2o{ending}", "ours-m2o", SIZES)
+                      for threads, workload in (("one thread", "batches"), ("two threads", "pair"))
+                      for said, ending in (("one message a read", ""), ("read in batches", "-batch")))
 
 # Curves: of each picture its panels, (title, what x is, ticks, lines), a line being (name, colour, dash, [(x, key)]).
 PERCENTILES = points.PERCENTILES
