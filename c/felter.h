@@ -22,8 +22,9 @@
  *
  * Two handles of one call are of one ring, board, conductor or set of counters. felter_close, felter_join and the other
  * joins return FELTER_OTHER_RING if they are not, or if only one handle is a conductor's. They compare numbers: each
- * ring, board, conductor and set of counters is given one when it is made. Handles that were made through several languages in one process are distinguished only
- * if their numbers differ: this header counts from 1 on, the Rust crate from 2^62, the Python module from 2^63.
+ * ring, board, conductor and set of counters is given one when it is made. Handles that were made through several
+ * languages in one process are distinguished only if their numbers differ: this header counts from 1 on, the Rust crate
+ * from 2^62, the Python module from 2^63.
  *
  * Results. Each call but felter_free and felter_version returns a code of enum felter_code; FELTER_OK is 0, and
  * felter_text(code) says it in words. A call that refuses leaves every handle as it was. Out numbers are written on
@@ -38,8 +39,9 @@
  * Moments are milliseconds, at most 2^62, by a clock of the caller.
  *
  * Checked. If all files of a program are compiled with -DFELTER_CHECKED, then a call ends the program by abort, with a
- * line on standard error, if a pointer is NULL, a handle is a copy of one that was freed or was never made, one handle
- * is given twice, or a call on another thread uses the handle. Such a build is slower: it is for tests.
+ * line on standard error, if a pointer is NULL, a handle is a copy of one that was freed (unless another handle got its
+ * memory by now) or was never made, one handle is given twice, or a call on another thread uses the handle. Such a build
+ * is slower: it is for tests.
  *
  * Link: cc program.c -Iinclude lib/libfelter.a, or cc program.c $(pkg-config --cflags --libs felter), or in CMake
  * find_package(felter) and target_link_libraries(program felter::felter). C++ programs can include felter.hpp.
@@ -164,8 +166,8 @@ int32_t felter_write(felter_producer *producer, int32_t type_id, const void *bod
 
 /* Claims room for a message of len bytes, which are 0 until they are put, and says the claim's number: its place,
  * which is given once in a ring. Any number of claims may be open at once, and they may be settled in any order, each
- * in about the same time however many are open; the consumer passes no open claim, so settle each. It refuses as felter_write, and with FELTER_OUT_OF_MEMORY, before
- * anything is tried, if there is no memory to keep one claim more. */
+ * in about the same time however many are open; the consumer passes no open claim, so settle each. It refuses as
+ * felter_write, and with FELTER_OUT_OF_MEMORY, before anything is tried, if there is no memory to keep one claim more. */
 int32_t felter_claim(felter_producer *producer, int32_t type_id, size_t len, uint64_t *claim);
 /* Puts bytes into an open claim of the producer from a byte on. FELTER_NO_CLAIM, FELTER_PUT_RANGE. */
 int32_t felter_put(felter_producer *producer, uint64_t claim, size_t offset, const void *bytes, size_t len);

@@ -2,14 +2,10 @@
 
 import array
 import copy
-import importlib.machinery
 import os
-import pathlib
 import pickle
 import signal
-import subprocess
 import sys
-import tempfile
 import threading
 import unittest
 
@@ -17,7 +13,6 @@ import felter
 from felter import Message, Number, _library
 from test_felter import Case
 
-HERE = pathlib.Path(__file__).resolve().parent
 # Whether the calls go through the extension in C, and not through ctypes.
 IS_FAST = _library.fast is not None
 
@@ -243,6 +238,35 @@ class Interrupts(Case):
         consumer.close(producer)
         self.assertEqual(consumer.finish(), 0)
 
+    @unittest.skipIf(LEAVES_LOCKS, "this Python leaves locks held")
+    def test_no_lock_stays_held(self):
+        producer, consumer = felter.many_to_one(256)
+
+        def work():
+            # (what a claim that is dropped calls)
+            producer._quietly("felter_abort", 7)
+
+        self.assertGreater(self.interrupted(work, 1), 10)
+        producer.write(1, b"after")
+        self.assertEqual(list(consumer), [Message(1, b"after")])
+
+    def test_claims_of_a_producer_that_was_taken_in_are_known_after_an_interrupt(self):
+        producer, consumer = felter.many_to_one(256)
+        other, do = producer.split(), producer._do
+        kept, dropped = other.claim(1, 1), other.claim(2, 1)
+
+        def interrupted(*given):
+            do(*given)
+            raise KeyboardInterrupt
+
+        producer._do = interrupted
+        with self.assertRaises(KeyboardInterrupt):
+            producer.join(other)
+        del producer._do, dropped
+        kept.commit()
+        producer.write(3, b"after")
+        self.assertEqual(list(consumer), [Message(1, b"\0"), Message(3, b"after")])
+
     def test_a_handler_that_uses_the_interrupted_handle_is_refused(self):
         # (no call of the extension is interrupted, so there is nothing to refuse)
         producer, consumer = felter.many_to_one(256)
@@ -296,37 +320,6 @@ class Interrupts(Case):
         self.assertEqual(os.WEXITSTATUS(os.waitpid(child, 0)[1]), 7)
         producer.write(1, b"ours")
         self.assertEqual(list(consumer), [Message(1, b"ours")])
-
-
-# What prints whether the extension is there and is taken.
-SHOWS_FAST = "import felter._library as it; print(it.fast is not None)"
-
-
-class Imports(Case):
-    def test_without_the_library_the_error_says_what_to_do(self):
-        environment = {**os.environ, "FELTER_DIR": "/nowhere", "PYTHONPATH": str(HERE)}
-        done = subprocess.run([sys.executable, "-c", "import felter"], env=environment, capture_output=True, text=True)
-        self.assertIn("ImportError: felter: there is no /nowhere/libfelter.so.", done.stderr)
-        self.assertIn("run c/build in the repository", done.stderr)
-
-    def test_the_extension_is_taken_if_it_is_there(self):
-        folder = pathlib.Path(_library.library).parent
-        endings = [it for it in importlib.machinery.EXTENSION_SUFFIXES if it != ".abi3.so" or sys.version_info >= (3, 11)]
-        is_there = any((folder / ("_fast" + it)).exists() for it in endings)
-        for pure, is_fast in ("1", False), ("0", is_there), ("", is_there):
-            environment = {**os.environ, "FELTER_PURE": pure, "FELTER_DIR": str(folder), "PYTHONPATH": str(HERE)}
-            words = [sys.executable, "-B", "-c", SHOWS_FAST]
-            done = subprocess.run(words, env=environment, capture_output=True, text=True)
-            self.assertEqual((done.stdout, done.stderr), ("%s\n" % is_fast, ""))
-
-    def test_an_extension_that_cannot_be_loaded_is_not_taken(self):
-        with tempfile.TemporaryDirectory() as folder:
-            os.symlink(os.path.realpath(_library.library), folder + "/libfelter.so")
-            pathlib.Path(folder, "_fast.abi3.so").write_text("no library")
-            environment = {**os.environ, "FELTER_PURE": "", "FELTER_DIR": folder, "PYTHONPATH": str(HERE)}
-            words = [sys.executable, "-B", "-c", "import felter; print(felter.many_to_one(128)[0].shares())"]
-            done = subprocess.run(words, env=environment, capture_output=True, text=True)
-            self.assertEqual((done.stdout, done.stderr), ("65536\n", ""))
 
 
 if __name__ == "__main__":

@@ -1,6 +1,7 @@
 """Tests of waiting, of ends that are seen, and of doorbells: python3 python/test_waiting.py"""
 
 import asyncio
+import sys
 import threading
 import time
 import unittest
@@ -70,6 +71,46 @@ class Waiting(Case):
         self.assertEqual((client.is_abandoned(), receiver.is_abandoned()), (False, False))
         conductor.free()
         self.assertEqual((client.is_abandoned(), receiver.is_abandoned()), (True, True))
+
+
+    def test_ends_are_seen_while_others_come_and_go(self):
+        def look(producer, consumer):
+            gone, is_over = [producer.split() for _ in range(200)], threading.Event()
+            for it in gone:
+                it.free()
+
+            def split():
+                while not is_over.is_set():
+                    gone.append(producer.split())
+                    gone[-1].free()
+                    del gone[250:]
+
+            def ask():
+                try:
+                    for _ in range(200):
+                        self.assertFalse(consumer.is_abandoned())
+                finally:
+                    is_over.set()
+
+            run(split, ask)
+
+        interval = sys.getswitchinterval()
+        sys.setswitchinterval(1e-6)
+        try:
+            for _ in range(10):
+                look(*felter.many_to_one(256))
+        finally:
+            sys.setswitchinterval(interval)
+
+    def test_an_end_that_was_refused_is_none(self):
+        producer, consumer = felter.one_to_one(256)
+        try:
+            producer.split()
+        except felter.Error as refused:
+            kept = refused
+        producer.free()
+        self.assertTrue(consumer.is_abandoned())
+        del kept
 
 
 class Doorbells(Case):

@@ -57,6 +57,21 @@ void rings() {
     CHECK(felter::one_to_one(100).code() == FELTER_BAD_CAPACITY);
 }
 
+// A message is seen before it is taken.
+void peeks() {
+    auto ring = felter::one_to_one(512).value();
+    std::array<std::uint8_t, 64> room{};
+    CHECK(ring.consumer.peek(room).code() == FELTER_NO_MESSAGE && ring.consumer.take() == FELTER_NO_MESSAGE);
+    ring.producer.write(3, "first").value();
+    ring.producer.write(4, "second").value();
+    for (int i = 0; i < 2; i++) {
+        auto message = ring.consumer.peek(room);
+        CHECK(message && message->type_id == 3 && message->body.text() == "first");
+    }
+    ring.consumer.take().value();
+    CHECK(ring.consumer.read(room).value().body.text() == "second");
+}
+
 void claims() {
     auto ring = felter::one_to_one(512).value();
     std::array<std::uint8_t, 64> room{};
@@ -118,6 +133,7 @@ void boards_and_conductors() {
 
 int main() {
     rings();
+    peeks();
     claims();
     threads_and_ends();
     boards_and_conductors();

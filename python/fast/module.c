@@ -87,24 +87,34 @@ static int add(PyObject *made, void *library, const char *path, PyObject *name, 
     return code;
 }
 
-static PyObject *opened(PyObject *Py_UNUSED(module), PyObject *arguments) {
-    const char *path;
-    PyObject *table, *refusal, *lapped, *message, *name, *words;
+/* Makes the functions of a table, by their names. */
+static PyObject *functions_of(const char *path, PyObject *table) {
+    PyObject *name, *words;
     Py_ssize_t at = 0;
-    if (!PyArg_ParseTuple(arguments, "sO!OOO!", &path, &PyDict_Type, &table, &refusal, &lapped, &PyType_Type, &message))
-        return NULL;
-    if (!PyType_IsSubtype((PyTypeObject *)message, &PyTuple_Type))
-        return PyErr_Format(PyExc_TypeError, "%R is no tuple", message);
     /* (it stays loaded: handles that live are freed by it) */
     void *library = dlopen(path, RTLD_NOW | RTLD_LOCAL);
     if (!library) return PyErr_Format(PyExc_ImportError, "felter: %s cannot be loaded: %s", path, dlerror());
     PyObject *made = PyDict_New();
-    if (!made) return NULL;
-    while (PyDict_Next(table, &at, &name, &words)) {
-        if (add(made, library, path, name, words) == 0) continue;
-        Py_DECREF(made);
-        return NULL;
+    while (made && PyDict_Next(table, &at, &name, &words)) {
+        if (add(made, library, path, name, words) != 0) Py_CLEAR(made);
     }
+    return made;
+}
+
+static PyObject *opened(PyObject *Py_UNUSED(module), PyObject *arguments) {
+    PyObject *path, *table, *refusal, *lapped, *message;
+    if (!PyArg_ParseTuple(arguments, "O&O!OOO!", PyUnicode_FSConverter, &path, &PyDict_Type, &table, &refusal, &lapped,
+                          &PyType_Type, &message))
+        return NULL;
+    PyObject *made = NULL;
+    /* (what is kept below belongs to whoever opened it: another interpreter, or the same module once more, takes
+     * ctypes, so that no handle gets the exceptions and messages of the other) */
+    if (functions) PyErr_SetString(PyExc_ImportError, "felter: the extension is in use by another copy of felter");
+    else if (!PyType_IsSubtype((PyTypeObject *)message, &PyTuple_Type))
+        PyErr_Format(PyExc_TypeError, "%R is no tuple", message);
+    else made = functions_of(PyBytes_AsString(path), table);
+    Py_DECREF(path);
+    if (!made) return NULL;
     Function *freeing = (Function *)PyDict_GetItemString(made, "felter_free");
     if (freeing) memcpy(&free_handle, &freeing->address, sizeof free_handle);
     Py_INCREF(refusal);

@@ -37,11 +37,8 @@ static int take_number(PyObject *given, enum kind kind, word *to) {
 }
 
 /* Takes a copy of the bytes of a buffer whose bytes are apart. */
-static int take_copy(Call *call, PyObject *given, word *data) {
-    Py_buffer *view = &call->views[call->view_count];
-    if (PyObject_GetBuffer(given, view, PyBUF_FULL_RO) != 0) return -1;
-    call->view_count++;
-    void *copy = PyMem_Malloc(view->len ? (size_t)view->len : 1);
+static int take_copy(Call *call, Py_buffer *view, word *data) {
+    void *copy = PyMem_Malloc((size_t)view->len);
     if (!copy) {
         PyErr_NoMemory();
         return -1;
@@ -51,7 +48,8 @@ static int take_copy(Call *call, PyObject *given, word *data) {
     return PyBuffer_ToContiguous(copy, view, view->len, 'C');
 }
 
-/* Takes the bytes of an object, by its buffer: a `__len__` of its own is not asked. */
+/* Takes the bytes of an object, by its buffer: a `__len__` of its own is not asked. Every object with bytes gives a
+ * buffer with all that describes it; if less is asked for, some raise what is no BufferError. */
 static int take_bytes(Call *call, PyObject *given, word *data) {
     if (PyBytes_CheckExact(given)) {
         data[0].pointer = PyBytes_AsString(given);
@@ -59,16 +57,11 @@ static int take_bytes(Call *call, PyObject *given, word *data) {
         return 0;
     }
     Py_buffer *view = &call->views[call->view_count];
-    if (PyObject_GetBuffer(given, view, PyBUF_CONTIG_RO) == 0) {
-        call->view_count++;
-        data[0].pointer = view->buf;
-    } else {
-        if (!PyErr_ExceptionMatches(PyExc_BufferError)) return -1;
-        PyErr_Clear();
-        if (take_copy(call, given, data) != 0) return -1;
-    }
+    if (PyObject_GetBuffer(given, view, PyBUF_FULL_RO) != 0) return -1;
+    call->view_count++;
+    data[0].pointer = view->buf;
     data[1].whole = (uint64_t)view->len;
-    return 0;
+    return PyBuffer_IsContiguous(view, 'C') ? 0 : take_copy(call, view, data);
 }
 
 /* Takes room for bytes: of a length, or for None the handle's own. */

@@ -10,8 +10,8 @@ are an `Error` whose `is_passing` is then true). With a timeout they wait; `is_a
 gone, and a `Doorbell` wakes event loops. Capacities, lengths and positions are bytes; moments
 are milliseconds by a clock of the caller.
 
-A handle may be used by any thread: a lock in each lets one call at a time work on it. Handles are context managers, and
-free what they own at the end. They are not copied or pickled, and not used in a forked child, nor by a signal handler
+A handle may be used by any thread: one call at a time works on it. Handles are context managers, and free what they own
+at the end. They are not copied or pickled, and not used in a forked child, nor by a signal handler
 that interrupted a call of the same handle. Handles of two rings, boards, sets of counters or conductors are refused, by
 the numbers that this module gives them from one count: it compares them, and so does the library.
 

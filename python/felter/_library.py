@@ -1,7 +1,8 @@
 """The library, and what calls it: an extension in C if there is one for this Python, and otherwise ctypes.
 
-The library is libfelter.so, and the extension is a file named _fast beside it. FELTER_PURE=1 takes ctypes all the same.
-Both have `Handle`, `Cell` and `call`, and do the same.
+The library is libfelter.so, and the extension is a file named _fast beside it. FELTER_PURE=1 takes ctypes all the same,
+and so does a second copy of this package in the process, as in another interpreter. Both have `Handle`, `Cell` and
+`call`, and do the same.
 """
 
 import importlib.machinery
@@ -37,31 +38,37 @@ def find() -> str:
     )
 
 
-def extension(folder: str) -> typing.Optional[types.ModuleType]:
-    """The extension in a folder, or None if there is none that this Python can load."""
+def extension(path: str) -> typing.Optional[types.ModuleType]:
+    """The extension beside the library, which it has opened, or None if there is none that this Python can load."""
     if os.environ.get("FELTER_PURE", "0") not in ("", "0"):
         return None
     for ending in importlib.machinery.EXTENSION_SUFFIXES:
-        spec = importlib.util.spec_from_file_location("felter._fast", os.path.join(folder, "_fast" + ending))
-        if spec is None or spec.loader is None or not os.path.exists(typing.cast(str, spec.origin)):
+        file = os.path.join(os.path.dirname(path), "_fast" + ending)
+        spec = importlib.util.spec_from_file_location("felter._fast", file)
+        if spec is None or spec.loader is None or not os.path.exists(file):
             continue
         try:
-            made = importlib.util.module_from_spec(spec)
+            made: typing.Any = importlib.util.module_from_spec(spec)
             spec.loader.exec_module(made)
+            made.open(path, *GIVEN)
             return made
-        except ImportError:  # (it was built for a later Python)
+        except (ImportError, UnicodeError):
+            # (it was built for a later Python, or serves another copy of this package, or has a name that is no UTF-8)
             continue
     return None
 
 
+# What is opened with the library.
+GIVEN = TABLE, refusal, Lapped, Message
+
 library = find()
-fast = extension(os.path.dirname(library))
+fast = extension(library)
 if fast is not None:
     made: typing.Any = fast
 else:
     from felter import _pure as made
 
-made.open(library, TABLE, refusal, Lapped, Message)
+    made.open(library, *GIVEN)
 os.register_at_fork(after_in_child=made.forked)
 
 if typing.TYPE_CHECKING:

@@ -38,27 +38,24 @@ class Ends:
     """The ends of a ring or a board that are there."""
 
     def __init__(self) -> None:
-        self.writers: "weakref.WeakSet[Owner]" = weakref.WeakSet()
-        self.readers: "weakref.WeakSet[Owner]" = weakref.WeakSet()
+        # (a WeakSet cannot be gone through while another thread adds to it; the list of keyrefs is made at once)
+        self.writers: "weakref.WeakKeyDictionary[Owner, None]" = weakref.WeakKeyDictionary()
+        self.readers: "weakref.WeakKeyDictionary[Owner, None]" = weakref.WeakKeyDictionary()
 
 
 class Owner(Unique, Handle):
     """A handle that owns something, and frees it. `number` tells its ring, board, counters or conductor. Its ends are
     those of what it belongs to, of which this one writes or reads."""
 
-    # Whether it was freed, closed, or taken in.
-    _is_gone = False
-
     def __init__(self, number: int, ends: typing.Optional["Ends"] = None, writes: bool = True) -> None:
         self._ends = ends or Ends()
         self._writes = writes
-        (self._ends.writers if writes else self._ends.readers).add(self)
+        (self._ends.writers if writes else self._ends.readers)[self] = None
         self._number = number
 
     def free(self) -> None:
         """Frees what it owns; its calls are then refused with NO_HANDLE. It may be called again."""
         self._free()
-        self._is_gone = True
 
     def __enter__(self: Self) -> Self:
         return self
@@ -67,8 +64,9 @@ class Owner(Unique, Handle):
         self.free()
 
     def _is_abandoned(self) -> bool:
-        """Whether every end of the other side is gone."""
-        return all(it._is_gone for it in (self._ends.readers if self._writes else self._ends.writers))
+        """Whether every end of the other side is gone: it was freed, closed, or taken in, and so is empty."""
+        others = (it() for it in (self._ends.readers if self._writes else self._ends.writers).keyrefs())
+        return all(it is None or it._is_empty() for it in others)
 
     def _sizes(self) -> Sizes:
         return Sizes(*self._do("felter_capacity"))

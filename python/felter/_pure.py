@@ -100,7 +100,12 @@ def call(name: str, *given: typing.Any) -> typing.Any:
 
 def take_bytes(given: typing.Any) -> typing.Tuple[typing.Any, ...]:
     """The bytes of an object, by its buffer, and their length: a `__len__` of its own is not asked."""
-    data = given if type(given) is bytes else memoryview(given).tobytes()
+    if type(given) is bytes:
+        return given, len(given)
+    try:
+        data = memoryview(given).tobytes()
+    except TypeError as why:
+        raise TypeError(str(why).replace("memoryview: ", "")) from None
     return data, len(data)
 
 
@@ -152,19 +157,23 @@ class Function:
         handles = [given[i] for i in self.handles]
         for it in handles:
             it._check()
-        if len(handles) == 1:
-            with handles[0]._lock:
-                return self.asked(given, parameters, outs, is_trying)
-        one, two = sorted(handles, key=id)
+        one, two = sorted((handles[0], handles[-1]), key=id)
+        if one is two:
+            with one._lock:
+                return self.asked(one, one, given, parameters, outs, is_trying)
         with one._lock, two._lock:
-            return self.asked(given, parameters, outs, is_trying)
+            return self.asked(one, two, given, parameters, outs, is_trying)
 
-    def asked(self, given: typing.Any, parameters: typing.Any, outs: typing.Any, is_trying: bool) -> typing.Any:
+    def asked(
+        self, one: "Handle", two: "Handle", given: typing.Any, parameters: typing.Any, outs: typing.Any, is_trying: bool
+    ) -> typing.Any:
         """The same, when the handles are locked."""
-        if self.has_room:
-            code, room = self.fill(given, parameters, outs)
-        else:
-            code, room = self.call(*parameters), None
+        try:
+            code, room = self.fill(given, parameters, outs) if self.has_room else (self.call(*parameters), None)
+        finally:
+            # (no interrupt comes between these two)
+            one._was_emptied = one._raw.at is None
+            two._was_emptied = two._raw.at is None
         if code == 0:
             its = [outs[i].value for i in self.found]
             if room is not None:
@@ -192,6 +201,8 @@ class Function:
         if given[-1] is not None:
             room = ctypes.create_string_buffer(TAKES["usize"](given[-1])[0])
             return self.call(*parameters, room, len(room)), room
+        if self.length is None:
+            raise TypeError("the call needs a length")
         room, length = given[0]._room, outs[self.length]
         code: int = self.call(*parameters, room, len(room))
         while code == Number.SHORT_BUFFER and length.value > len(room):
@@ -221,6 +232,7 @@ class Handle:
     _lock: typing.Any
     _room: typing.Any
     _forks: int
+    _was_emptied = True
 
     def __new__(cls, *_: typing.Any, **__: typing.Any) -> typing.Any:
         self = super().__new__(cls)
@@ -255,24 +267,35 @@ class Handle:
 
     def _quietly(self, name: str, *given: typing.Any) -> bool:
         """Calls, unless another call uses the handle. Returns whether it did."""
-        if self._lock._is_owned() or not self._lock.acquire(False):
+        function = functions[name]
+        parameters, _ = function.take((self, *given))
+        if self._lock._is_owned():
             return False
+        is_free = False
         try:
-            function = functions[name]
-            function.call(*function.take((self, *given))[0])
+            is_free = self._lock.acquire(False)
+            if is_free:
+                function.call(*parameters)
         finally:
-            self._lock.release()
-        return True
+            # (an interrupt can come after the lock was taken, and before `is_free` says so)
+            try:
+                self._lock.release()
+            except RuntimeError:
+                pass
+        return is_free
 
     def _free(self) -> None:
         """Frees what it owns."""
         self._check()
         with self._lock:
-            functions["felter_free"].call(self._raw)
+            try:
+                functions["felter_free"].call(self._raw)
+            finally:
+                self._was_emptied = self._raw.at is None
 
     def _is_empty(self) -> bool:
-        """Whether it owns nothing. (During a call of it this cannot be seen.)"""
-        return self._raw.at is None and not self._lock._is_owned()
+        """Whether it owned nothing when its last call ended: during a call this cannot be seen."""
+        return self._was_emptied
 
     def _is_forked(self) -> bool:
         """Whether it belongs to the process that forked this one."""

@@ -56,9 +56,7 @@ class Transmitter(Owner):
     def close(self) -> int:
         """Ends a board whose receivers were all taken back, frees the transmitter, and answers the position where the
         last transmission ended. Refused with RECEIVERS_OUT, it goes on as before."""
-        tail: int = self._do("felter_board_close")
-        self._is_gone = True
-        return tail
+        return self._do("felter_board_close")
 
 
 class Receiver(Owner):

@@ -159,9 +159,7 @@ class Conductor(Owner):
     def finish(self) -> Finished:
         """Ends a conductor whose clients and receivers were all taken back, and answers a Finished. Refused with
         PRODUCERS_OUT, then RECEIVERS_OUT, and then IN_USE where a reader is out, it goes on as before."""
-        finished = Finished(*self._do("felter_conductor_finish"))
-        self._is_gone = True
-        return finished
+        return Finished(*self._do("felter_conductor_finish"))
 
 
 class Client(Owner):

@@ -114,14 +114,11 @@ class Consumer(Controlled):
         if isinstance(producer, Producer):
             producer._settle_dropped()
         self._with("felter_close", producer)
-        producer._is_gone = True
 
     def finish(self) -> int:
         """Ends a ring that was closed, frees the consumer, and returns how many messages were left unread. If the ring
         was not closed it is refused with PRODUCERS_OUT, and goes on as before."""
-        left: int = self._do("felter_finish")
-        self._is_gone = True
-        return left
+        return self._do("felter_finish")
 
 
 # (a write is worth the shortest way to the library)
@@ -212,8 +209,13 @@ class Producer(Owner):
 
     def join(self, other: "Producer") -> None:
         """Takes another producer of the same ring in, with its shares and its open claims."""
-        self._with("felter_join", other)
-        other._joined, other._is_gone = self, True
+        was_there = not other._is_empty()
+        try:
+            self._with("felter_join", other)
+        finally:
+            # (its claims are this one's from now on, also if an interrupt came after the call)
+            if was_there and other._is_empty():
+                other._joined = self
 
     def positions(self) -> Positions:
         """Loads the head, and then the tail."""

@@ -1,95 +1,70 @@
 //! What a conductor's counters are asked, on the thread that uses the conductor.
 use crate::conductor::Conductor;
-use crate::counters::{MAX_KEY, MAX_LABEL};
+use crate::counters::MAX_KEY;
 use crate::error::Error;
 use crate::handle::done;
-use crate::raw::{self, Raw};
+use crate::raw;
 
 impl Conductor {
-    /// A number of a record, by the call that says it.
-    fn number<T: Default>(
-        &mut self,
-        id: u32,
-        call: unsafe extern "C" fn(*mut Raw, u32, *mut T) -> i32,
-    ) -> Result<T, Error> {
-        let mut number = T::default();
-        // SAFETY: our handle, and a number of ours.
-        done(unsafe { call(self.handle.raw(), id, &mut number) })?;
-        Ok(number)
-    }
-
     /// A counter's value.
     ///
     /// Errors: [`Error::BadId`], [`Error::NotAllocated`].
     pub fn value(&mut self, id: u32) -> Result<i64, Error> {
-        self.number(id, raw::felter_conductor_value)
+        self.handle.number(id, raw::felter_conductor_value)
     }
 
     /// A counter's type id.
     ///
     /// Errors: [`Error::BadId`], [`Error::NotAllocated`].
     pub fn type_id(&mut self, id: u32) -> Result<i32, Error> {
-        self.number(id, raw::felter_conductor_type_id)
+        self.handle.number(id, raw::felter_conductor_type_id)
     }
 
     /// A counter's registration id.
     ///
     /// Errors: [`Error::BadId`], [`Error::NotAllocated`].
     pub fn registration(&mut self, id: u32) -> Result<u64, Error> {
-        self.number(id, raw::felter_conductor_registration)
+        self.handle.number(id, raw::felter_conductor_registration)
     }
 
     /// A counter's owner, 0 if it has none.
     ///
     /// Errors: [`Error::BadId`], [`Error::NotAllocated`].
     pub fn owner(&mut self, id: u32) -> Result<u64, Error> {
-        self.number(id, raw::felter_conductor_owner)
+        self.handle.number(id, raw::felter_conductor_owner)
     }
 
     /// The state of a record: 0 if it was never used, 1 if the counter is in use, -1 if it was freed.
     ///
     /// Errors: [`Error::BadId`].
     pub fn state(&mut self, id: u32) -> Result<i32, Error> {
-        self.number(id, raw::felter_conductor_state)
+        self.handle.number(id, raw::felter_conductor_state)
     }
 
     /// The moment from which an id may be allocated again: 0 if it was never used, 2^63 - 1 if the counter is in use.
     ///
     /// Errors: [`Error::BadId`].
     pub fn deadline(&mut self, id: u32) -> Result<u64, Error> {
-        self.number(id, raw::felter_conductor_deadline)
+        self.handle.number(id, raw::felter_conductor_deadline)
     }
 
     /// A counter's label.
     ///
     /// Errors: [`Error::BadId`], [`Error::NotAllocated`].
     pub fn label(&mut self, id: u32) -> Result<Vec<u8>, Error> {
-        let (mut label, mut len) = (vec![0; MAX_LABEL], 0);
-        // SAFETY: our handle, a number of ours, and a vector's pointer and length.
-        done(unsafe { raw::felter_conductor_label(self.handle.raw(), id, &mut len, label.as_mut_ptr(), MAX_LABEL) })?;
-        label.truncate(len);
-        Ok(label)
+        self.handle.label(id, raw::felter_conductor_label)
     }
 
     /// A counter's key, with zeros after a shorter one.
     ///
     /// Errors: [`Error::BadId`], [`Error::NotAllocated`].
     pub fn key(&mut self, id: u32) -> Result<[u8; MAX_KEY], Error> {
-        let mut key = [0; MAX_KEY];
-        // SAFETY: our handle, and an array's pointer and length.
-        done(unsafe { raw::felter_conductor_key(self.handle.raw(), id, key.as_mut_ptr(), MAX_KEY) })?;
-        Ok(key)
+        self.handle.key(id, raw::felter_conductor_key)
     }
 
     /// The lowest id in use of a type and registration id.
     pub fn find(&mut self, type_id: i32, registration: u64) -> Result<Option<u32>, Error> {
-        let mut id = 0;
-        // SAFETY: our handle, and a number of ours.
-        match done(unsafe { raw::felter_conductor_find(self.handle.raw(), type_id, registration, &mut id) }) {
-            Ok(()) => Ok(Some(id)),
-            Err(Error::NotAllocated) => Ok(None),
-            Err(other) => Err(other),
-        }
+        self.handle.find(type_id, registration, raw::felter_conductor_find)
     }
 
     /// The number of ids, in use or not.

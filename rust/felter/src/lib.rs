@@ -46,6 +46,7 @@ mod error;
 mod handle;
 mod message;
 mod raw;
+mod records;
 mod ring;
 mod standing;
 mod wait;

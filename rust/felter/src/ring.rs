@@ -3,7 +3,7 @@ use crate::ends::End;
 use crate::error::{BatchRefused, Error, Refused};
 use crate::handle::{done, Handle, Number, Sizes};
 use crate::message::{message_of, Batch, Message};
-use crate::raw;
+use crate::raw::{self, Raw};
 
 /// Makes a ring of any number of producers, with the first of them, which holds all 65,536 shares, and its consumer.
 ///
@@ -16,12 +16,7 @@ pub fn many_to_one(capacity: u32) -> Result<(Producer, Consumer), Error> {
 ///
 /// Errors: also [`Error::BadStart`].
 pub fn many_to_one_at(capacity: u32, start: u64) -> Result<(Producer, Consumer), Error> {
-    let (ring, mut producer, mut consumer) = (Number::next(), Handle::empty(), Handle::empty());
-    let (one, two) = (producer.raw(), consumer.raw());
-    // SAFETY: a number that nothing else has, and two empty handles.
-    done(unsafe { raw::felter_many_to_one_new_at_numbered(ring.raw(), capacity, start, one, two) })?;
-    let (writes, reads) = End::pair();
-    Ok((Producer { handle: producer, ring, end: writes }, Consumer { handle: consumer, ring, end: reads }))
+    made_by(raw::felter_many_to_one_new_at_numbered, capacity, start)
 }
 
 /// Makes a ring of one producer, which cannot be split.
@@ -35,10 +30,18 @@ pub fn one_to_one(capacity: u32) -> Result<(Producer, Consumer), Error> {
 ///
 /// Errors: also [`Error::BadStart`].
 pub fn one_to_one_at(capacity: u32, start: u64) -> Result<(Producer, Consumer), Error> {
+    made_by(raw::felter_one_to_one_new_at_numbered, capacity, start)
+}
+
+/// A ring, by the call that makes its kind.
+fn made_by(
+    call: unsafe extern "C" fn(u64, u32, u64, *mut Raw, *mut Raw) -> i32,
+    capacity: u32,
+    start: u64,
+) -> Result<(Producer, Consumer), Error> {
     let (ring, mut producer, mut consumer) = (Number::next(), Handle::empty(), Handle::empty());
-    let (one, two) = (producer.raw(), consumer.raw());
     // SAFETY: a number that nothing else has, and two empty handles.
-    done(unsafe { raw::felter_one_to_one_new_at_numbered(ring.raw(), capacity, start, one, two) })?;
+    done(unsafe { call(ring.raw(), capacity, start, producer.raw(), consumer.raw()) })?;
     let (writes, reads) = End::pair();
     Ok((Producer { handle: producer, ring, end: writes }, Consumer { handle: consumer, ring, end: reads }))
 }
@@ -293,7 +296,7 @@ impl KeptClaim {
     fn settle(
         self,
         producer: &mut Producer,
-        call: impl FnOnce(*mut raw::Raw, u64) -> i32,
+        call: impl FnOnce(*mut Raw, u64) -> i32,
     ) -> Result<(), Refused<KeptClaim>> {
         let settled = self.ring.must_be(producer.ring).and_then(|()| done(call(producer.handle.raw(), self.number)));
         settled.map_err(|reason| Refused { reason, back: self })
