@@ -105,9 +105,10 @@ def build_sdist(sdist_directory, config_settings=None):
 
 
 if __name__ == "__main__":
-    if sys.argv[1:] in (["-h"], ["--help"]) or sys.argv[1:2] == [] or len(sys.argv) > 3:
+    its = sys.argv[1:]
+    if len(its) == 2 and its[0] == "--extension":
+        sys.exit(0 if build_extension(its[1]) else 1)
+    if len(its) != 1 or its[0].startswith("-"):
         print(__doc__.strip())
-        sys.exit(0 if len(sys.argv) == 2 else 2)
-    if sys.argv[1] == "--extension":
-        sys.exit(0 if build_extension(sys.argv[2]) else 1)
-    print(build_wheel(sys.argv[1]))
+        sys.exit(0 if its in (["-h"], ["--help"]) else 2)
+    print(build_wheel(its[0]))

@@ -18,7 +18,8 @@ fn named() -> Option<PathBuf> {
 fn packaged() -> Option<PathBuf> {
     let said = Command::new("pkg-config").args(["--variable=libdir", "felter"]).output().ok()?;
     let folder = String::from_utf8(said.stdout).ok()?;
-    said.status.success().then(|| PathBuf::from(folder.trim()))
+    // (it puts a backslash before each space)
+    said.status.success().then(|| PathBuf::from(folder.trim().replace("\\ ", " ")))
 }
 
 /// The folders in which the archive may be, the first one first.
