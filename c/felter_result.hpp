@@ -88,6 +88,9 @@ public:
     // A text in quotes, without its end.
     template <std::size_t N, class B = Byte, class = std::enable_if_t<std::is_const_v<B>>>
     constexpr view(const char (&text)[N]) noexcept : data_(text), size_(N - 1) {}
+    // An array that can be written is none: pass {array, size}.
+    template <std::size_t N, class B = Byte, class = std::enable_if_t<std::is_const_v<B>>>
+    view(char (&array)[N]) = delete;
 
     constexpr Byte *data() const noexcept { return data_; }
     constexpr std::size_t size() const noexcept { return size_; }

@@ -22,6 +22,9 @@ static_assert(!std::is_copy_constructible_v<felter::producer>);
 static_assert(std::is_nothrow_move_constructible_v<felter::producer>);
 static_assert(!std::is_copy_constructible_v<felter::claim>);
 static_assert(sizeof(felter::producer) == sizeof(felter_producer));
+// An array that can be written is no text in quotes: its last byte may be one of the body.
+static_assert(std::is_convertible_v<const char (&)[4], felter::bytes>);
+static_assert(!std::is_convertible_v<char (&)[4], felter::bytes>);
 
 void rings() {
     auto ring = felter::many_to_one(512).value();
