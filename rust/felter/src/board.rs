@@ -3,7 +3,7 @@ use crate::ends::End;
 use crate::error::{Error, Refused};
 use crate::handle::{done, Handle, Number, Sizes};
 use crate::message::{message_of, Message};
-use crate::raw;
+use crate::raw::{self, Raw};
 
 /// Transmits on a board. It never waits: a receiver that is too slow is overtaken, and learns that.
 ///
@@ -139,12 +139,7 @@ impl Transmitter {
     /// # Ok::<(), felter::Error>(())
     /// ```
     pub fn close(mut self) -> Result<u64, Refused<Transmitter>> {
-        let mut tail = 0;
-        // SAFETY: our handle, and a number of ours.
-        match done(unsafe { raw::felter_board_close(self.handle.raw(), &mut tail) }) {
-            Ok(()) => Ok(tail),
-            Err(reason) => Err(Refused { reason, back: self }),
-        }
+        self.handle.said(raw::felter_board_close).map_err(|reason| Refused { reason, back: self })
     }
 }
 
@@ -155,6 +150,31 @@ pub struct Lap {
     pub place: u64,
     /// The intent that showed the lap: the position up to which the transmitter had begun to write.
     pub intent: u64,
+}
+
+impl Lap {
+    /// How a receiver was lapped last, by the call that says it.
+    fn of(
+        handle: &mut Handle,
+        call: unsafe extern "C" fn(*mut Raw, *mut u64, *mut u64) -> i32,
+    ) -> Result<Option<Lap>, Error> {
+        let (mut place, mut intent) = (0, 0);
+        // SAFETY: our handle, and two numbers of ours.
+        match done(unsafe { call(handle.raw(), &mut place, &mut intent) }) {
+            Ok(()) => Ok(Some(Lap { place, intent })),
+            Err(Error::NoMessage) => Ok(None),
+            Err(other) => Err(other),
+        }
+    }
+}
+
+/// The error of a lap that was just now, of a receiver that goes on from a place.
+fn lapped_now(count: u64, lap: Result<Option<Lap>, Error>, place: Result<u64, Error>) -> Error {
+    let missed_bytes = match (lap, place) {
+        (Ok(Some(lap)), Ok(place)) => place - lap.place,
+        _ => 0,
+    };
+    Error::Lapped { count, missed_bytes }
 }
 
 /// Receives what is transmitted on a board.
@@ -174,30 +194,12 @@ impl Receiver {
 
     /// The position, in bytes, at which the next call looks for a message.
     pub fn place(&mut self) -> Result<u64, Error> {
-        let mut place = 0;
-        // SAFETY: our handle, and a number of ours.
-        done(unsafe { raw::felter_receiver_place(self.handle.raw(), &mut place) })?;
-        Ok(place)
+        self.handle.said(raw::felter_receiver_place)
     }
 
     /// How it was lapped last, if it was.
     pub fn lap(&mut self) -> Result<Option<Lap>, Error> {
-        let (mut place, mut intent) = (0, 0);
-        // SAFETY: our handle, and two numbers of ours.
-        match done(unsafe { raw::felter_receiver_lap(self.handle.raw(), &mut place, &mut intent) }) {
-            Ok(()) => Ok(Some(Lap { place, intent })),
-            Err(Error::NoMessage) => Ok(None),
-            Err(other) => Err(other),
-        }
-    }
-
-    /// The error of a lap that was just now.
-    fn lapped(&mut self, count: u64) -> Error {
-        let missed_bytes = match (self.lap(), self.place()) {
-            (Ok(Some(lap)), Ok(place)) => place - lap.place,
-            _ => 0,
-        };
-        Error::Lapped { count, missed_bytes }
+        Lap::of(&mut self.handle, raw::felter_receiver_lap)
     }
 
     /// Whether the transmitter was dropped, or closed, or the conductor that transmits: nothing more will come. What was
@@ -226,17 +228,14 @@ impl Receiver {
         // SAFETY: our handle, three numbers of ours, and a slice's pointer and length.
         let code = unsafe { raw::felter_receive(self.handle.raw(), &mut type_id, &mut len, &mut lapped, at, room) };
         match message_of(code, type_id, len, buffer) {
-            Err(Error::Lapped { .. }) => Err(self.lapped(lapped)),
+            Err(Error::Lapped { .. }) => Err(lapped_now(lapped, self.lap(), self.place())),
             answer => answer,
         }
     }
 
     /// How often the receiver was lapped.
     pub fn lapped_count(&mut self) -> Result<u64, Error> {
-        let mut count = 0;
-        // SAFETY: our handle, and a number of ours.
-        done(unsafe { raw::felter_lapped_count(self.handle.raw(), &mut count) })?;
-        Ok(count)
+        self.handle.said(raw::felter_lapped_count)
     }
 }
 
@@ -265,30 +264,12 @@ impl RawReceiver {
 
     /// The position, in bytes, at which the next call looks for a message.
     pub fn place(&mut self) -> Result<u64, Error> {
-        let mut place = 0;
-        // SAFETY: our handle, and a number of ours.
-        done(unsafe { raw::felter_raw_receiver_place(self.handle.raw(), &mut place) })?;
-        Ok(place)
+        self.handle.said(raw::felter_raw_receiver_place)
     }
 
     /// How it was lapped last, if it was.
     pub fn lap(&mut self) -> Result<Option<Lap>, Error> {
-        let (mut place, mut intent) = (0, 0);
-        // SAFETY: our handle, and two numbers of ours.
-        match done(unsafe { raw::felter_raw_receiver_lap(self.handle.raw(), &mut place, &mut intent) }) {
-            Ok(()) => Ok(Some(Lap { place, intent })),
-            Err(Error::NoMessage) => Ok(None),
-            Err(other) => Err(other),
-        }
-    }
-
-    /// The error of a lap that was just now.
-    fn lapped(&mut self, count: u64) -> Error {
-        let missed_bytes = match (self.lap(), self.place()) {
-            (Ok(Some(lap)), Ok(place)) => place - lap.place,
-            _ => 0,
-        };
-        Error::Lapped { count, missed_bytes }
+        Lap::of(&mut self.handle, raw::felter_raw_receiver_lap)
     }
 
     /// Whether the transmitter was dropped, or closed.
@@ -307,7 +288,7 @@ impl RawReceiver {
         match done(code) {
             Ok(()) => Ok(Some(RawRecord { type_id, len })),
             Err(Error::NoMessage) => Ok(None),
-            Err(Error::Lapped { .. }) => Err(self.lapped(lapped)),
+            Err(Error::Lapped { .. }) => Err(lapped_now(lapped, self.lap(), self.place())),
             Err(other) => Err(other),
         }
     }
@@ -337,9 +318,6 @@ impl RawReceiver {
 
     /// How often [`receive_next`](RawReceiver::receive_next) answered that it was lapped.
     pub fn lapped_count(&mut self) -> Result<u64, Error> {
-        let mut count = 0;
-        // SAFETY: our handle, and a number of ours.
-        done(unsafe { raw::felter_raw_lapped_count(self.handle.raw(), &mut count) })?;
-        Ok(count)
+        self.handle.said(raw::felter_raw_lapped_count)
     }
 }

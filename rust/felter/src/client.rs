@@ -142,9 +142,6 @@ impl Client {
 
     /// Loads the heartbeat that the conductor stored last, 0 before the first.
     pub fn heartbeat(&mut self) -> Result<u64, Error> {
-        let mut value = 0;
-        // SAFETY: our handle, and a number of ours.
-        done(unsafe { raw::felter_client_heartbeat(self.handle.raw(), &mut value) })?;
-        Ok(value)
+        self.handle.said(raw::felter_client_heartbeat)
     }
 }

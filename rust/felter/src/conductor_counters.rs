@@ -2,7 +2,6 @@
 use crate::conductor::Conductor;
 use crate::counters::MAX_KEY;
 use crate::error::Error;
-use crate::handle::done;
 use crate::raw;
 
 impl Conductor {
@@ -69,9 +68,6 @@ impl Conductor {
 
     /// The number of ids, in use or not.
     pub fn count(&mut self) -> Result<u32, Error> {
-        let mut count = 0;
-        // SAFETY: our handle, and a number of ours.
-        done(unsafe { raw::felter_conductor_count(self.handle.raw(), &mut count) })?;
-        Ok(count)
+        self.handle.said(raw::felter_conductor_count)
     }
 }

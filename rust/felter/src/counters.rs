@@ -174,10 +174,7 @@ impl Counters {
 
     /// The number of ids, in use or not.
     pub fn count(&mut self) -> Result<u32, Error> {
-        let mut count = 0;
-        // SAFETY: our handle, and a number of ours.
-        done(unsafe { raw::felter_counters_count(self.handle.raw(), &mut count) })?;
-        Ok(count)
+        self.handle.said(raw::felter_counters_count)
     }
 
     /// The ids in use, rising.

@@ -39,6 +39,14 @@ impl Handle {
         Ok(Sizes { capacity, max_message })
     }
 
+    /// The number that a call says.
+    pub(crate) fn said<T: Default>(&mut self, call: unsafe extern "C" fn(*mut Raw, *mut T) -> i32) -> Result<T, Error> {
+        let mut number = T::default();
+        // SAFETY: our handle, and a number of ours.
+        done(unsafe { call(&mut self.raw, &mut number) })?;
+        Ok(number)
+    }
+
     /// For a call. The pointer is used in that call alone.
     pub(crate) fn raw(&mut self) -> *mut Raw {
         &mut self.raw

@@ -182,26 +182,17 @@ impl Producer {
 
     /// Draws the ring's next correlation id.
     pub fn next_id(&mut self) -> Result<u64, Error> {
-        let mut id = 0;
-        // SAFETY: our handle, and a number of ours.
-        done(unsafe { raw::felter_next_id(self.handle.raw(), &mut id) })?;
-        Ok(id)
+        self.handle.said(raw::felter_next_id)
     }
 
     /// Loads the heartbeat that the consumer stored last, 0 before the first.
     pub fn heartbeat(&mut self) -> Result<u64, Error> {
-        let mut value = 0;
-        // SAFETY: our handle, and a number of ours.
-        done(unsafe { raw::felter_heartbeat(self.handle.raw(), &mut value) })?;
-        Ok(value)
+        self.handle.said(raw::felter_heartbeat)
     }
 
     /// How many of the ring's 65,536 shares it holds.
     pub fn shares(&mut self) -> Result<u32, Error> {
-        let mut shares = 0;
-        // SAFETY: our handle, and a number of ours.
-        done(unsafe { raw::felter_shares(self.handle.raw(), &mut shares) })?;
-        Ok(shares)
+        self.handle.said(raw::felter_shares)
     }
 }
 
@@ -427,11 +418,6 @@ impl Consumer {
     /// # Ok::<(), felter::Error>(())
     /// ```
     pub fn finish(mut self) -> Result<u64, Refused<Consumer>> {
-        let mut left = 0;
-        // SAFETY: our handle, and a number of ours.
-        match done(unsafe { raw::felter_finish(self.handle.raw(), &mut left) }) {
-            Ok(()) => Ok(left),
-            Err(reason) => Err(Refused { reason, back: self }),
-        }
+        self.handle.said(raw::felter_finish).map_err(|reason| Refused { reason, back: self })
     }
 }
