@@ -30,11 +30,10 @@ class Run:
     """The crates, and what the checks of this run took.
 
     is_random: the edits were written at random, and many do not compile. Those that the front end names are bad.
-    nice: how much checks give way to other programs. Builds do not, since checks wait for them.
     """
 
-    def __init__(self, logs=None, is_random=False, nice=0):
-        self.logs, self.is_random, self.nice, self.seconds = logs, is_random, nice, collections.Counter()
+    def __init__(self, logs=None, is_random=False):
+        self.logs, self.is_random, self.seconds = logs, is_random, collections.Counter()
         rows = [line for line in read(f"{TOP}/crates.txt").splitlines(True) if re.match(r"\w", line)]
         self.lines = {re.match(r"\w+", line)[0]: line for line in rows}
         self.starting, self.running = threading.Lock(), 0
@@ -109,12 +108,9 @@ class Run:
 
     def ran(self, crate, words, folder, path):
         """Runs rt in a folder. Returns what it said, and its seconds of processor."""
-        command = ["rt", *words]
-        if words[0] == "check" and self.nice:
-            command = ["nice", "-n", str(self.nice), *command]
         with open(path, "w+", errors="replace", encoding="utf-8") as said:
             streams = {"stdin": subprocess.DEVNULL, "stdout": said, "stderr": subprocess.STDOUT}
-            done = subprocess.Popen(command, cwd=folder, **streams)
+            done = subprocess.Popen(["rt", *words], cwd=folder, **streams)
             _, ended, used = os.wait4(done.pid, 0)
             said.seek(0)
             return Log(crate, said.read(), os.waitstatus_to_exitcode(ended)), used.ru_utime + used.ru_stime
