@@ -187,6 +187,8 @@ class Interrupts(Case):
                     # (an end, since an interrupt during a finalizer is only reported)
                     for _ in range(1000):
                         work()
+                    # (what comes before this is raised here, and nothing comes after it)
+                    signal.setitimer(signal.ITIMER_REAL, 0)
                 except KeyboardInterrupt:
                     count += 1
         finally:

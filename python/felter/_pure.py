@@ -157,10 +157,11 @@ class Function:
         handles = [given[i] for i in self.handles]
         for it in handles:
             it._check()
-        one, two = sorted((handles[0], handles[-1]), key=id)
-        if one is two:
+        if len(handles) == 1:
+            one = handles[0]
             with one._lock:
                 return self.asked(one, one, given, parameters, outs, is_trying)
+        one, two = sorted(handles, key=id)
         with one._lock, two._lock:
             return self.asked(one, two, given, parameters, outs, is_trying)
 
