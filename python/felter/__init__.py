@@ -16,9 +16,10 @@ that interrupted a call of the same handle. Handles of two rings, boards, sets o
 the numbers that this module gives them from one count: it compares them, and so does the library.
 
 The library is libfelter.so in this package, or in the folder that FELTER_DIR names, or in the repository's c/out, where
-c/build puts it. Calls go through an extension in C beside it, which keeps the global interpreter lock (no call waits),
-or through ctypes if there is none for this Python, or if FELTER_PURE is 1. Through ctypes and before Python 3.10 a Ctrl-C
-during a call can leave its handle locked, and its calls are then refused. This module is tested and not proved.
+c/build puts it. Calls go through an extension in C beside it, which keeps the global interpreter lock (no call waits).
+They go through ctypes if there is none for this Python, if another copy of this package has it (as one in another
+interpreter of the process), or if FELTER_PURE is 1. Through ctypes and before Python 3.10 a Ctrl-C during a call can
+leave its handle locked, and its calls are then refused. This module is tested and not proved.
 """
 
 from felter._owner import Sizes
