@@ -1,2 +1,3 @@
+mod PrinterLemmas
 mod RequestLemmas
 mod ServiceLemmas

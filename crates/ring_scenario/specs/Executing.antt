@@ -1,44 +1,83 @@
 -- What lines do, with what they print.
-use Rattle.std.specs.Prelude.{◌≡◌, ℕ, List, codes}
+use Rattle.std.specs.Prelude.{◌≡◌, ◌↔◌, ℕ, true, List, codes, IfOk, Result, Err}
+use Rattle.ring_layout.specs.declared.message.ClaimState.{ClaimState}
 use Rattle.ring_layout.specs.declared.message.ClaimState.TheVariants.{Aborted, Committed}
 use Rattle.ring_table.specs.ServiceSteps.{DrawsId, LoadsHeartbeat}
 use Rattle.ring_words.specs.declared.positions.Positions.{Positions}
 use Rattle.ring_rings.specs.Joining.{LoadsPositions}
-use Rattle.ring_conductor.specs.declared.conductor.Work.{Work}
-use Rattle.ring_conductor.specs.Conducting.{Works, ledger_of, ring_view}
+use Rattle.ring_conductor.specs.Storming.{IsPlan, IsReportOf}
+use Rattle.ring_conductor.specs.declared.storming.plan.StormFault.{StormFault}
+use Rattle.ring_conductor.specs.declared.storming.plan.StormFault.TheVariants.{BadPlan}
+use Rattle.ring_conductor.specs.declared.storming.plan.StormPlan.{StormPlan}
+use Rattle.ring_conductor.specs.declared.storming.plan.StormReport.{StormReport}
 use Rattle.ring_lines.specs.declared.call.Call.{Call}
 use Rattle.ring_lines.specs.declared.call.Call.TheVariants as call
 use Rattle.ring_lines.specs.declared.service_call.ServiceCall.{ServiceCall}
 use Rattle.ring_lines.specs.declared.service_call.ServiceCall.TheVariants as asks
 use Rattle.ring_loose.specs.Claims.{SettlesAt}
-use Rattle.ring_loose.specs.Loose.{beaten_view, with_reader}
+use Rattle.ring_loose.specs.Loose.{Loose, beaten_view, with_holder, with_reader, with_view}
 use Rattle.ring_scenario.specs.declared.runner.Runner.{Runner}
-use Rattle.ring_scenario.specs.Texts.{number_text, ok_text, positions_text, work_text}
+use Rattle.ring_scenario.specs.declared.service.CommandService.{CommandService}
+use Rattle.ring_scenario.specs.BoardLines.{LeavesLine, ReceivesLine, SubscribesLine, TransmitsLine}
+use Rattle.ring_scenario.specs.RefusalTexts.{storm_refused}
+use Rattle.ring_scenario.specs.RingLines.{ClaimsLine, ControlsLine, PutsLine, ReadsLine, WritesLine}
+use Rattle.ring_scenario.specs.SeatLines.{HearsLine, ListensLine, PeeksLine, UnwatchesLine, WatchesLine}
+use Rattle.ring_scenario.specs.ServiceLines.{CountsLine, RequestsLine, SendsLine, WorksLine, owner_text}
+use Rattle.ring_scenario.specs.ServiceTexts.{storm_text}
+use Rattle.ring_scenario.specs.Texts.{answer_text, number_text, ok_text, positions_text}
 
--- the conductor took commands at the moment of the line, and the text says how many and why it stopped. Of the other
--- lines of its side nothing is said
-abbrev pub Serves : ServiceCall → Runner → Runner → List ℕ → Type 0
-Serves (asks.Work now limit) old new text =
-    (done : Work) × Works now.ms limit (ring_view old.service.conductor) (ring_view new.service.conductor)
-    (ledger_of old.service.conductor) (ledger_of new.service.conductor) done × (text ≡ work_text done)
-Serves other old new text = Unit {0}
+-- a line of the conductor's side made its call, and the text is what the call returned
+abbrev pub Serves : ServiceCall → CommandService → CommandService → List ℕ → Type 0
+Serves (asks.Send type_id body) old new text = SendsLine type_id body.items old new text
+Serves (asks.Request request) old new text = RequestsLine request old new text
+Serves (asks.Work now limit) old new text = WorksLine now.ms limit old new text
+Serves asks.Listen old new text = ListensLine old new text
+Serves (asks.Hear number) old new text = HearsLine number old new text
+Serves asks.Counters old new text = CountsLine old text × (new ≡ old)
+Serves (asks.Owner id) old new text = (text ≡ owner_text id old) × (new ≡ old)
+Serves asks.Watch old new text = WatchesLine old new text
+Serves (asks.Peek number id) old new text = PeeksLine number id old new text
+Serves (asks.Unwatch number) old new text = UnwatchesLine number old new text
 
--- A line made its call, and the text is what the call returned. Of the lines that can be refused nothing is said, but
--- of those that settle claims
+-- the plan of a storm whose ring is as large as the command ring
+abbrev pub plan_of : ℕ → ℕ → Runner → StormPlan
+plan_of clients commands r =
+    record { clients = clients; commands = commands; ring = r.commands; turns = 50000000 }
+
+-- a storm was run, or refused
+pub record StormsLine (plan : StormPlan) (text : List ℕ) : Type 0 where
+  pub ran : Result StormReport StormFault
+  pub bad_plan : (ran ≡ Err BadPlan) ↔ (IsPlan plan → ⊥)
+  pub report : IfOk ran (IsReportOf plan)
+  pub prints : text ≡ answer_text storm_text storm_refused ran
+
+-- a claim was settled
+abbrev pub SettlesLine : ClaimState → ℕ → Loose → Loose → List ℕ → Type 0
+SettlesLine state number old new text =
+    SettlesAt state old.holder number new.holder × (new ≡ with_holder new.holder old) × (text ≡ ok_text)
+
+-- a line made its call, and the text is what the call returned
 abbrev pub Executes : Call → Runner → Runner → List ℕ → Type 0
-Executes (call.Commit number) old new text =
-    SettlesAt Committed old.loose.holder number new.loose.holder × (text ≡ ok_text)
-Executes (call.Abort number) old new text =
-    SettlesAt Aborted old.loose.holder number new.loose.holder × (text ≡ ok_text)
+Executes (call.Write type_id body) old new text = WritesLine type_id body.items old.loose new.loose text
+Executes (call.Claim type_id len) old new text = ClaimsLine type_id len old.loose new.loose text
+Executes (call.Put number offset bytes) old new text = PutsLine number offset bytes.items old.loose new.loose text
+Executes (call.Commit number) old new text = SettlesLine Committed number old.loose new.loose text
+Executes (call.Abort number) old new text = SettlesLine Aborted number old.loose new.loose text
+Executes (call.Read limit) old new text = ReadsLine limit old.loose new.loose text
+Executes (call.Control limit actions) old new text = ControlsLine limit actions.items old.loose new.loose text
 Executes call.Positions old new text =
     (p : Positions) × LoadsPositions old.loose.capacity old.loose.holder.view p.head p.tail new.loose.holder.view
-    × (text ≡ positions_text p)
-Executes call.Correlation old new text =
-    (id : ℕ) × DrawsId old.loose.holder.view id new.loose.holder.view × (text ≡ number_text (codes "correlation") id)
+    × (new.loose ≡ with_view new.loose.holder.view old.loose) × (text ≡ positions_text p)
+Executes call.Correlation old new text = (id : ℕ) × DrawsId old.loose.holder.view id new.loose.holder.view
+    × (new.loose ≡ with_view new.loose.holder.view old.loose) × (text ≡ number_text (codes "correlation") id)
 Executes (call.Beat value) old new text =
     (new.loose ≡ with_reader (beaten_view value old.loose) old.loose) × (text ≡ ok_text)
 Executes call.Heartbeat old new text =
     (value : ℕ) × LoadsHeartbeat old.loose.capacity old.loose.holder.view value new.loose.holder.view
-    × (text ≡ number_text (codes "heartbeat") value)
-Executes (call.Service c) old new text = Serves c old new text
-Executes other old new text = Unit {0}
+    × (new.loose ≡ with_view new.loose.holder.view old.loose) × (text ≡ number_text (codes "heartbeat") value)
+Executes (call.Transmit type_id body) old new text = TransmitsLine type_id body.items old.board new.board text
+Executes call.Subscribe old new text = SubscribesLine old.board new.board text
+Executes (call.Receive number) old new text = ReceivesLine number old.board new.board text
+Executes (call.Leave number) old new text = LeavesLine number old.board new.board text
+Executes (call.Storm clients commands) old new text = StormsLine (plan_of clients commands old) text
+Executes (call.Service c) old new text = Serves c old.service new.service text

@@ -1,8 +1,16 @@
+pub mod BoardLines
 pub mod Closing
 pub mod Executing
 pub mod Faults
 pub mod Instructions
+pub mod Keeping
 pub mod Making
+pub mod Printing
+pub mod RefusalTexts
+pub mod RingLines
+pub mod SeatLines
+pub mod ServiceLines
+pub mod ServiceTexts
 pub mod Serving
 pub mod Sizes
 pub mod Texts

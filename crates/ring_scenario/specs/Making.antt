@@ -1,10 +1,12 @@
 -- How a run is made.
-use Rattle.std.specs.Prelude.{◌≡◌}
+use Rattle.std.specs.Prelude.{◌≡◌, [], false}
 use Rattle.ring_rings.specs.Seats.{capacity_of}
-use Rattle.ring_board.specs.Seats.{capacity_of as board_capacity_of}
+use Rattle.ring_board.specs.Rule.{opening_view}
+use Rattle.ring_board.specs.Seats.{capacity_of as board_capacity_of, view_of}
 use Rattle.ring_counters.specs.Manager.{registry_of}
 use Rattle.ring_counters.specs.Registry.{fresh_registry}
 use Rattle.ring_conductor.specs.Conducting.{manager_in}
+use Rattle.ring_loose.specs.Held.{held_in}
 use Rattle.ring_loose.specs.Loose.{fresh_loose}
 use Rattle.ring_scenario.specs.declared.options.Options.{Options}
 use Rattle.ring_scenario.specs.declared.runner.Runner.{Runner}
@@ -16,9 +18,12 @@ pub record ServesBy (options : Options) (s : CommandService) : Type 0 where
   pub board : board_capacity_of s.board ≡ options.replies
   pub counters : registry_of (manager_in s.conductor) ≡ fresh_registry options.counters options.reuse_ms
 
--- each part is the one that the options describe
+-- each part is the one that the options describe, as it is made, and no line asked anything of the conductor's side
 pub record RunsBy (options : Options) (r : Runner) : Type 0 where
   pub ring : r.loose ≡ fresh_loose options.ring
   pub board : board_capacity_of r.board.board ≡ options.board
+  pub transmitter : view_of r.board.transmitter ≡ opening_view options.board 0
+  pub receivers : held_in r.board.receivers ≡ []
   pub commands : r.commands ≡ options.commands
   pub service : ServesBy options r.service
+  pub serves : r.serves ≡ false

@@ -1,7 +1,7 @@
 //! Runs a scenario on a ring of messages, a broadcast buffer and a conductor of counters.
 //!
 //! - `scenario`: a text, line by line. `input` reads it whole, `options` are the command line.
-//! - `runner`: what a run holds, and what each call prints; `printer` shows messages.
+//! - `runner`: what a run holds, and what each call prints; `printer` shows messages, `refusal` faults.
 //! - `service`: the conductor's side of a run, made, working and closed; `commanding`: the commands that lines ask for.
 //! - `fault`: why a line or a run ends early.
 #![tactic(auto)]
@@ -11,6 +11,7 @@ mod fault;
 mod input;
 mod options;
 mod printer;
+mod refusal;
 mod runner;
 mod scenario;
 mod service;

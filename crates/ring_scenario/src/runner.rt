@@ -1,23 +1,23 @@
 //! What a run holds, and what its calls print.
-ghost use Rattle.std.specs.Prelude.{◌≡◌, ◌+◌, ◌↔◌, ℕ, None, IfOk, IfSome, IsOkUnless, IsSome, IsTrue, codes, length, string_bytes};
+ghost use Rattle.std.specs.Prelude.{◌≡◌, ◌+◌, ◌↔◌, ℕ, None, IfOk, IfSome, IsOkUnless, IsSome, IsTrue, OnOk, codes, length, string_bytes};
 ghost use Rattle.ring_table.specs.Passing.{placed_committed_of};
 ghost use Rattle.ring_loose.specs.Loose.{aborted_view};
 ghost use Rattle.ring_scenario.specs.Closing.{read_count, TookAndLeft};
 ghost use Rattle.ring_scenario.specs.Sizes.{size_fault_of};
-ghost use Rattle.ring_scenario.specs.Texts.{number_text, ok_text, positions_text, stop_text};
+ghost use Rattle.ring_scenario.specs.Texts.{number_text, positions_text};
 
 mod serving;
 mod storming;
+mod texts;
 
 use crate::fault::RunFault;
 use crate::options::Options;
-use crate::printer::{Printer, hex_word};
+use crate::printer::Printer;
 use crate::service::{CommandService, Served};
 use ring_lines::{Call, LineFault};
-use ring_loose::{Claimed, LooseBoard, LooseRing, Received};
-use ring_words::{Action, MakeFault, Positions, ReadEnd, Stop};
+use ring_loose::{LooseBoard, LooseRing};
+use ring_words::{Action, MakeFault, Positions};
 use std::alloc::{AllocError, Global};
-use std::fmt::Display;
 use std::sync::Wait;
 use std::thread::Threads;
 
@@ -51,8 +51,12 @@ impl Runner {
     ghost use Rattle.ring_words.specs.declared.positions.Positions.{Positions};
     ghost use Rattle.ring_rings.specs.Joining.{LoadsPositions};
     ghost use Rattle.ring_table.specs.ServiceSteps.{DrawsId, LoadsHeartbeat};
+    ghost use Rattle.ring_loose.specs.Loose.{with_view};
+    ghost use Rattle.ring_scenario.specs.BoardLines.{ReceivesLine, SubscribesLine, TransmitsLine};
     ghost use Rattle.ring_scenario.specs.Executing.{Executes};
+    ghost use Rattle.ring_scenario.specs.Keeping.{KeepsButBoard, KeepsButRing, KeepsRest};
     ghost use Rattle.ring_scenario.specs.Making.{RunsBy};
+    ghost use Rattle.ring_scenario.specs.RingLines.{ClaimsLine, ControlsLine, PutsLine, ReadsLine, WritesLine};
 
     /// Makes the parts that the options describe.
     pub fn new(alloc: Global, options: &Options) -> Result<Self, RunFault>
@@ -76,7 +80,8 @@ impl Runner {
 
     /// Executes a call, and gives the lines that it prints.
     pub fn execute<R: Threads + Wait>(&mut self, rt: &R, call: Call) -> Result<String, LineFault>
-        ensures { IfOk result (λ text. Executes call self.old self.new (string_bytes text)) }
+        ensures line { IfOk result (λ text. Executes call self.old self.new (string_bytes text)) }
+        ensures rest { OnOk result (KeepsRest call self.old self.new) }
     {
         let text = match call {
             Call::Write { type_id, body } => self.write(rt, type_id, body.as_slice())?,
@@ -116,126 +121,116 @@ impl Runner {
         Ok(text)
     }
 
-    fn ok(&self) -> Result<String, AllocError>
-        ensures { IfOk result (λ text. string_bytes text ≡ ok_text) }
+    fn write<R: Wait>(&mut self, rt: &R, type_id: i32, body: &[u8]) -> Result<String, AllocError>
+        ensures line { IfOk result (λ text.
+            WritesLine type_id body.now self.old.loose self.new.loose (string_bytes text)) }
+        ensures rest { KeepsButRing self.old self.new }
     {
-        String::from_str(self.alloc, "ok\n")
+        let written = self.loose.write(rt, type_id, body);
+        self.done(written)
     }
 
-    fn refused<F: Display + Drop>(&self, fault: F) -> Result<String, AllocError> {
-        format!(in self.alloc; "refused {fault}\n")
+    fn claim<R: Wait>(&mut self, rt: &R, type_id: i32, len: usize) -> Result<String, AllocError>
+        ensures line { IfOk result (λ text.
+            ClaimsLine type_id len self.old.loose self.new.loose (string_bytes text)) }
+        ensures rest { KeepsButRing self.old self.new }
+    {
+        let tried = self.loose.claim(rt, type_id, len)?;
+        self.claimed(tried)
     }
 
-    fn write<R: Wait>(&mut self, rt: &R, type_id: i32, body: &[u8]) -> Result<String, AllocError> {
-        match self.loose.write(rt, type_id, body) {
-            Ok(()) => self.ok(),
-            Err(fault) => self.refused(fault),
-        }
+    fn put(&mut self, number: usize, offset: usize, bytes: &[u8]) -> Result<String, LineFault>
+        ensures line { IfOk result (λ text.
+            PutsLine number offset bytes.now self.old.loose self.new.loose (string_bytes text)) }
+        ensures rest { KeepsButRing self.old self.new }
+    {
+        let Some(put) = self.loose.put(number, offset, bytes) else {
+            return Err(LineFault::Bad);
+        };
+        Ok(self.done(put)?)
     }
 
-    fn claim<R: Wait>(&mut self, rt: &R, type_id: i32, len: usize) -> Result<String, AllocError> {
-        match self.loose.claim(rt, type_id, len)? {
-            Ok(Claimed { number, index }) => format!(in self.alloc;
-                "claim {number} index {index}\n"
-            ),
-            Err(fault) => self.refused(fault),
-        }
-    }
-
-    fn put(&mut self, number: usize, offset: usize, bytes: &[u8]) -> Result<String, LineFault> {
-        match self.loose.put(number, offset, bytes).ok_or(LineFault::Bad)? {
-            Ok(()) => Ok(self.ok()?),
-            Err(fault) => Ok(self.refused(fault)?),
-        }
-    }
-
-    fn read(&mut self, limit: u32) -> Result<String, AllocError> {
+    fn read(&mut self, limit: u32) -> Result<String, AllocError>
+        ensures line { IfOk result (λ text. ReadsLine limit self.old.loose self.new.loose (string_bytes text)) }
+        ensures rest { KeepsButRing self.old self.new }
+    {
         let mut printer = Printer::new(self.alloc, &[]);
         let end = self.loose.read(limit, &mut printer);
         self.messages = self.messages.saturating_add(u64::from(end.messages));
         self.read_text(printer, end)
     }
 
-    fn control(&mut self, limit: u32, actions: &[Action]) -> Result<String, AllocError> {
+    fn control(&mut self, limit: u32, actions: &[Action]) -> Result<String, AllocError>
+        ensures line { IfOk result (λ text.
+            ControlsLine limit actions.now self.old.loose self.new.loose (string_bytes text)) }
+        ensures rest { KeepsButRing self.old self.new }
+    {
         let mut printer = Printer::new(self.alloc, actions);
         let end = self.loose.controlled_read(limit, &mut printer);
         self.messages = self.messages.saturating_add(u64::from(end.messages));
         self.read_text(printer, end)
     }
 
-    /// Gives the lines of a read.
-    fn read_text(&self, printer: Printer, end: ReadEnd) -> Result<String, AllocError> {
-        let stop = stop_name(end.stopped);
-        let last = format!(in self.alloc;
-            "read {} bytes {} stopped {stop}\n",
-            end.messages, end.bytes
-        )?;
-        let mut text = printer.into_text()?;
-        text.push_str(last.as_str())?;
-        Ok(text)
-    }
-
     fn positions(&mut self) -> Result<String, AllocError>
-        ensures { IfOk result (λ text. (p : Positions) × LoadsPositions self.old.loose.capacity
+        ensures line { IfOk result (λ text. (p : Positions) × LoadsPositions self.old.loose.capacity
             self.old.loose.holder.view p.head p.tail self.new.loose.holder.view
+            × (self.new.loose ≡ with_view self.new.loose.holder.view self.old.loose)
             × (string_bytes text ≡ positions_text p)) }
+        ensures rest { KeepsButRing self.old self.new }
     {
         let Positions { head, tail } = self.loose.positions();
         format!(in self.alloc; "head {head} tail {tail}\n")
     }
 
     fn correlation(&mut self) -> Result<String, AllocError>
-        ensures { IfOk result (λ text. (id : ℕ) × DrawsId self.old.loose.holder.view id self.new.loose.holder.view
+        ensures line { IfOk result (λ text. (id : ℕ)
+            × DrawsId self.old.loose.holder.view id self.new.loose.holder.view
+            × (self.new.loose ≡ with_view self.new.loose.holder.view self.old.loose)
             × (string_bytes text ≡ number_text (codes "correlation") id)) }
+        ensures rest { KeepsButRing self.old self.new }
     {
         let id = self.loose.next_correlation_id();
         format!(in self.alloc; "correlation {id}\n")
     }
 
     fn heartbeat(&mut self) -> Result<String, AllocError>
-        ensures { IfOk result (λ text. (value : ℕ) × LoadsHeartbeat self.old.loose.capacity
+        ensures line { IfOk result (λ text. (value : ℕ) × LoadsHeartbeat self.old.loose.capacity
             self.old.loose.holder.view value self.new.loose.holder.view
+            × (self.new.loose ≡ with_view self.new.loose.holder.view self.old.loose)
             × (string_bytes text ≡ number_text (codes "heartbeat") value)) }
+        ensures rest { KeepsButRing self.old self.new }
     {
         let value = self.loose.heartbeat();
         format!(in self.alloc; "heartbeat {value}\n")
     }
 
-    fn transmit(&mut self, type_id: i32, body: &[u8]) -> Result<String, AllocError> {
-        match self.board.transmit(type_id, body) {
-            Ok(()) => self.ok(),
-            Err(fault) => self.refused(fault),
-        }
+    fn transmit(&mut self, type_id: i32, body: &[u8]) -> Result<String, AllocError>
+        ensures line { IfOk result (λ text.
+            TransmitsLine type_id body.now self.old.board self.new.board (string_bytes text)) }
+        ensures rest { KeepsButBoard self.old self.new }
+    {
+        let sent = self.board.transmit(type_id, body);
+        self.done(sent)
     }
 
-    fn subscribe(&mut self) -> Result<String, AllocError> {
-        match self.board.subscribe(self.alloc)? {
-            Ok(number) => format!(in self.alloc; "receiver {number}\n"),
-            Err(fault) => self.refused(fault),
-        }
+    fn subscribe(&mut self) -> Result<String, AllocError>
+        ensures line { IfOk result (λ text. SubscribesLine self.old.board self.new.board (string_bytes text)) }
+        ensures rest { KeepsButBoard self.old self.new }
+    {
+        let made = self.board.subscribe(self.alloc)?;
+        self.numbered("receiver", made)
     }
 
-    fn receive(&mut self, number: usize) -> Result<String, LineFault> {
-        let received = self
-            .board
-            .receive(self.alloc, number)
-            .ok_or(LineFault::Bad)??;
-        Ok(self.received_text(received)?)
-    }
-
-    fn received_text(&self, received: Received) -> Result<String, AllocError> {
-        match received {
-            Received::Copy {
-                place,
-                type_id,
-                body,
-            } => {
-                let digits = hex_word(self.alloc, body.as_slice())?;
-                format!(in self.alloc; "copy {type_id} {digits} place {place}\n")
-            }
-            Received::Nothing => String::from_str(self.alloc, "none\n"),
-            Received::Lapped(lapped) => format!(in self.alloc; "lapped {}\n", lapped.count),
-        }
+    fn receive(&mut self, number: usize) -> Result<String, LineFault>
+        ensures line { IfOk result (λ text.
+            ReceivesLine number self.old.board self.new.board (string_bytes text)) }
+        ensures rest { KeepsButBoard self.old self.new }
+    {
+        let Some(received) = self.board.receive(self.alloc, number) else {
+            return Err(LineFault::Bad);
+        };
+        let received = received?;
+        Ok(self.received(received)?)
     }
 
     /// Aborts the open claims, joins receivers, listeners and watchers, closes all, and counts the messages that are
@@ -272,16 +267,5 @@ fn from_make(fault: MakeFault) -> RunFault
     match fault {
         MakeFault::OutOfMemory => RunFault::OutOfMemory,
         MakeFault::BadCapacity | MakeFault::BadStart => RunFault::BadCapacity,
-    }
-}
-
-fn stop_name(stop: Stop) -> &'static str
-    ensures { result.now ≡ stop_text stop }
-{
-    match stop {
-        Stop::Limit => "limit",
-        Stop::Block => "block",
-        Stop::Unpublished => "unpublished",
-        Stop::Action => "action",
     }
 }

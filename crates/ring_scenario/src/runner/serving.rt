@@ -1,9 +1,10 @@
 //! What the calls of the conductor's side print.
-ghost use Rattle.std.specs.Prelude.{◌≡◌};
-ghost use Rattle.ring_scenario.specs.Texts.{work_stop_text, work_text};
+ghost use Rattle.std.specs.Prelude.{◌≡◌, IfOk, string_bytes};
+ghost use Rattle.ring_scenario.specs.ServiceTexts.{counter_text, counters_text, work_stop_text};
 
 use super::Runner;
 use crate::printer::hex_word;
+use crate::refusal::Refusal;
 use ring_conductor::{Work, WorkStop};
 use ring_counters::CounterInfo;
 use ring_lines::{LineFault, Moment, Request, ServiceCall};
@@ -11,14 +12,16 @@ use std::alloc::{AllocError, Global};
 use std::sync::Wait;
 
 impl Runner {
-    ghost use Rattle.std.specs.Prelude.{◌≡◌, IfOk, string_bytes};
-    ghost use Rattle.ring_conductor.specs.declared.conductor.Work.{Work};
-    ghost use Rattle.ring_conductor.specs.Conducting.{Works, ledger_of, ring_view};
+    ghost use Rattle.std.specs.Prelude.{OnOk};
     ghost use Rattle.ring_scenario.specs.Executing.{Serves};
+    ghost use Rattle.ring_scenario.specs.Keeping.{KeepsButService, KeepsOthers};
+    ghost use Rattle.ring_scenario.specs.SeatLines.{HearsLine, ListensLine, PeeksLine, WatchesLine};
+    ghost use Rattle.ring_scenario.specs.ServiceLines.{CountsLine, RequestsLine, SendsLine, WorksLine, owner_text};
 
     /// Executes a call of the conductor's side, and gives the lines that it prints.
     pub(super) fn serve<R: Wait>(&mut self, rt: &R, call: ServiceCall) -> Result<String, LineFault>
-        ensures { IfOk result (λ text. Serves call self.old self.new (string_bytes text)) }
+        ensures line { IfOk result (λ text. Serves call self.old.service self.new.service (string_bytes text)) }
+        ensures rest { OnOk result (KeepsButService self.old self.new) }
     {
         self.serves = true;
         let text = match call {
@@ -39,72 +42,88 @@ impl Runner {
         Ok(text)
     }
 
-    fn send<R: Wait>(&mut self, rt: &R, type_id: i32, body: &[u8]) -> Result<String, AllocError> {
-        match self.service.send(rt, type_id, body) {
-            Ok(()) => self.ok(),
-            Err(fault) => self.refused(fault),
-        }
+    fn send<R: Wait>(&mut self, rt: &R, type_id: i32, body: &[u8]) -> Result<String, AllocError>
+        ensures line { IfOk result (λ text.
+            SendsLine type_id body.now self.old.service self.new.service (string_bytes text)) }
+        ensures rest { KeepsOthers self.old self.new }
+    {
+        let sent = self.service.send(rt, type_id, body);
+        self.done(sent)
     }
 
-    fn request<R: Wait>(&mut self, rt: &R, request: &Request) -> Result<String, LineFault> {
-        match self.service.request(rt, request).ok_or(LineFault::Bad)? {
-            Ok(correlation) => Ok(format!(in self.alloc; "sent {correlation}\n")?),
-            Err(fault) => Ok(self.refused(fault)?),
-        }
+    fn request<R: Wait>(&mut self, rt: &R, request: &Request) -> Result<String, LineFault>
+        ensures line { IfOk result (λ text.
+            RequestsLine request.now self.old.service self.new.service (string_bytes text)) }
+        ensures rest { KeepsOthers self.old self.new }
+    {
+        let Some(sent) = self.service.request(rt, request) else {
+            return Err(LineFault::Bad);
+        };
+        Ok(self.identified("sent", sent)?)
     }
 
     fn work(&mut self, now: Moment, limit: u32) -> Result<String, AllocError>
-        ensures { IfOk result (λ text. (done : Work) × Works now.ms limit
-            (ring_view self.old.service.conductor) (ring_view self.new.service.conductor)
-            (ledger_of self.old.service.conductor) (ledger_of self.new.service.conductor) done
-            × (string_bytes text ≡ work_text done)) }
+        ensures line { IfOk result (λ text.
+            WorksLine now.ms limit self.old.service self.new.service (string_bytes text)) }
+        ensures rest { KeepsOthers self.old self.new }
     {
         let Work { messages, stopped } = self.service.work(now, limit);
         let stop = work_stop_name(stopped);
         format!(in self.alloc; "work {messages} stopped {stop}\n")
     }
 
-    fn listen(&mut self) -> Result<String, AllocError> {
-        match self.service.listen(self.alloc)? {
-            Ok(number) => format!(in self.alloc; "listener {number}\n"),
-            Err(fault) => self.refused(fault),
-        }
+    fn listen(&mut self) -> Result<String, AllocError>
+        ensures line { IfOk result (λ text. ListensLine self.old.service self.new.service (string_bytes text)) }
+        ensures rest { KeepsOthers self.old self.new }
+    {
+        let made = self.service.listen(self.alloc)?;
+        self.numbered("listener", made)
     }
 
-    fn hear(&mut self, number: usize) -> Result<String, LineFault> {
-        let received = self
-            .service
-            .hear(self.alloc, number)
-            .ok_or(LineFault::Bad)??;
-        Ok(self.received_text(received)?)
+    fn hear(&mut self, number: usize) -> Result<String, LineFault>
+        ensures line { IfOk result (λ text.
+            HearsLine number self.old.service self.new.service (string_bytes text)) }
+        ensures rest { KeepsOthers self.old self.new }
+    {
+        let Some(received) = self.service.hear(self.alloc, number) else {
+            return Err(LineFault::Bad);
+        };
+        let received = received?;
+        Ok(self.received(received)?)
     }
 
-    fn counters(&self) -> Result<String, AllocError> {
+    fn counters(&self) -> Result<String, AllocError>
+        ensures { IfOk result (λ text. CountsLine self.now.service (string_bytes text)) }
+    {
         match self.service.live(self.alloc) {
             Ok(infos) => counters_text(self.alloc, infos.as_slice()),
-            Err(fault) => self.refused(fault),
+            Err(fault) => fault.line(self.alloc),
         }
     }
 
-    fn owner(&self, id: u32) -> Result<String, AllocError> {
-        match self.service.owner(id) {
-            Ok(owner) => format!(in self.alloc; "owner {owner}\n"),
-            Err(fault) => self.refused(fault),
-        }
+    fn owner(&self, id: u32) -> Result<String, AllocError>
+        ensures { IfOk result (λ text. string_bytes text ≡ owner_text id self.now.service) }
+    {
+        self.identified("owner", self.service.owner(id))
     }
 
-    fn watch(&mut self) -> Result<String, AllocError> {
-        match self.service.watch()? {
-            Ok(number) => format!(in self.alloc; "watcher {number}\n"),
-            Err(fault) => self.refused(fault),
-        }
+    fn watch(&mut self) -> Result<String, AllocError>
+        ensures line { IfOk result (λ text. WatchesLine self.old.service self.new.service (string_bytes text)) }
+        ensures rest { KeepsOthers self.old self.new }
+    {
+        let made = self.service.watch()?;
+        self.numbered("watcher", made)
     }
 
-    fn peek(&mut self, number: usize, id: u32) -> Result<String, LineFault> {
-        match self.service.peek(number, id).ok_or(LineFault::Bad)? {
-            Ok(value) => Ok(format!(in self.alloc; "value {value}\n")?),
-            Err(fault) => Ok(self.refused(fault)?),
-        }
+    fn peek(&mut self, number: usize, id: u32) -> Result<String, LineFault>
+        ensures line { IfOk result (λ text.
+            PeeksLine number id self.old.service self.new.service (string_bytes text)) }
+        ensures rest { KeepsOthers self.old self.new }
+    {
+        let Some(loaded) = self.service.peek(number, id) else {
+            return Err(LineFault::Bad);
+        };
+        Ok(self.loaded(loaded)?)
     }
 }
 
@@ -120,7 +139,9 @@ fn work_stop_name(stop: WorkStop) -> &'static str
 }
 
 /// A line for each counter, and one with their number.
-fn counters_text(alloc: Global, infos: &[CounterInfo]) -> Result<String, AllocError> {
+fn counters_text(alloc: Global, infos: &[CounterInfo]) -> Result<String, AllocError>
+    ensures { IfOk result (λ text. string_bytes text ≡ counters_text infos.now) }
+{
     let mut text = String::new(alloc);
     for info in infos {
         let line = counter_text(alloc, info)?;
@@ -131,7 +152,9 @@ fn counters_text(alloc: Global, infos: &[CounterInfo]) -> Result<String, AllocEr
     Ok(text)
 }
 
-fn counter_text(alloc: Global, info: &CounterInfo) -> Result<String, AllocError> {
+fn counter_text(alloc: Global, info: &CounterInfo) -> Result<String, AllocError>
+    ensures { IfOk result (λ text. string_bytes text ≡ counter_text info.now) }
+{
     let label = hex_word(alloc, info.label.as_slice())?;
     format!(in alloc;
         "counter {} type {} value {} registration {} label {label}\n",

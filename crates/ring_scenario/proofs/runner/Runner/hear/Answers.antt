@@ -1,0 +1,12 @@
+use Rattle.std.proofs.lemmas.Result.{IfOk-at_ok}
+use Rattle.ring_scenario.proofs.runner.Runner.hear.Goals as goal
+
+pub returns-clause-line : goal.returns-clause-line
+returns-clause-line c = record {
+  received = c.in_ok-received.received;
+  receives = IfOk-at_ok _ c.in_ok-received.was c.in-Some.ensures.told;
+  ring = c.hear.ensures.ring;
+  conductor = c.hear.ensures.conductor;
+  values = c.hear.ensures.values;
+  prints = c.in_ok-received-2.ensures;
+}

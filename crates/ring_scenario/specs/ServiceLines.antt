@@ -1,0 +1,61 @@
+-- What lines of the command ring and of the conductor do, with what they print.
+use Rattle.std.specs.Prelude.{◌≡◌, ℕ, ℤ, List, codes, length, IfErr, IfOk, OnOk, Result}
+use Rattle.ring_words.specs.declared.fault.ClaimFault.{ClaimFault}
+use Rattle.ring_rings.specs.Seats.{capacity_of, view_of}
+use Rattle.ring_counters.specs.Infos.{AreInfos}
+use Rattle.ring_counters.specs.Manager.{registry_of}
+use Rattle.ring_counters.specs.Registry.{answer, counter_at, id_refusal_of, live_of}
+use Rattle.ring_counters.specs.declared.fault.OutOfMemory.{OutOfMemory}
+use Rattle.ring_counters.specs.declared.info.CounterInfo.{CounterInfo}
+use Rattle.ring_conductor.specs.declared.conductor.Work.{Work}
+use Rattle.ring_conductor.specs.Conducting.{Works, ledger_of, manager_in, ring_view}
+use Rattle.ring_lines.specs.declared.request.Request.{Request}
+use Rattle.ring_loose.specs.Claims.{RefusesAfter, WritesAfter}
+use Rattle.ring_scenario.specs.Instructions.{FitsRoom}
+use Rattle.ring_scenario.specs.RefusalTexts.{claim_refused, id_refused, memory_refused}
+use Rattle.ring_scenario.specs.ServiceTexts.{counters_text, work_text}
+use Rattle.ring_scenario.specs.Serving.{RefusesRequest, SendsRequest}
+use Rattle.ring_scenario.specs.Texts.{answer_text, done_text, number_text}
+use Rattle.ring_scenario.specs.declared.service.CommandService.{CommandService}
+
+-- a message was written into the command ring, or refused
+pub record SendsLine (type_id : ℤ) (body : List ℕ) (old new : CommandService) (text : List ℕ) : Type 0 where
+  pub sent : Result (Unit {0}) ClaimFault
+  pub written : OnOk sent
+      (WritesAfter (capacity_of old.ring) type_id body (view_of old.producer) (view_of new.producer))
+  pub refused : IfErr sent (λ fault.
+      RefusesAfter (capacity_of old.ring) type_id (length body) (view_of old.producer) fault (view_of new.producer))
+  pub conductor : new.conductor ≡ old.conductor
+  pub prints : text ≡ done_text claim_refused sent
+
+-- a command was sent, or refused
+pub record RequestsLine (request : Request) (old new : CommandService) (text : List ℕ) : Type 0 where
+  pub sent : Result ℕ ClaimFault
+  pub fits : FitsRoom request
+  pub written : IfOk sent (λ correlation.
+      SendsRequest (capacity_of old.ring) request (view_of old.producer) correlation (view_of new.producer))
+  pub refused : IfErr sent (λ fault.
+      RefusesRequest (capacity_of old.ring) request (view_of old.producer) fault (view_of new.producer))
+  pub conductor : new.conductor ≡ old.conductor
+  pub prints : text ≡ answer_text (number_text (codes "sent")) claim_refused sent
+
+-- the conductor took at most `limit` commands at this moment
+pub record WorksLine (now limit : ℕ) (old new : CommandService) (text : List ℕ) : Type 0 where
+  pub done : Work
+  pub works : Works now limit (ring_view old.conductor) (ring_view new.conductor) (ledger_of old.conductor)
+      (ledger_of new.conductor) done
+  pub producer : new.producer ≡ old.producer
+  pub prints : text ≡ work_text done
+
+-- the counters in use were listed, or there was no memory for the list
+pub record CountsLine (s : CommandService) (text : List ℕ) : Type 0 where
+  pub listed : Result (List CounterInfo) OutOfMemory
+  pub infos : IfOk listed (λ infos. AreInfos infos (live_of (registry_of (manager_in s.conductor))))
+  pub prints : text ≡ answer_text counters_text memory_refused listed
+
+-- the owner of a counter in use, or why there is none
+abbrev pub owner_text : ℕ → CommandService → List ℕ
+owner_text id s =
+    let registry = registry_of (manager_in s.conductor) in
+    answer_text (number_text (codes "owner")) id_refused
+    (answer (id_refusal_of registry id) (counter_at registry id).values.owner)
