@@ -1,6 +1,6 @@
 -- The words of a closed broadcast buffer list its transmissions.
 use Rattle.std.proofs.Common.{◌≡◌, ℕ, zero, suc, ◌+◌, ◌-◌, ◌*◌, ◌/◌, ◌%◌, ◌^◌, ◌<◌, ◌≤◌, ◌⊎◌, List, [], ◌∷◌, ◌++◌, length, drop, slice_index, refl, ap, sym, ◌∙◌, subst, inl, inr, ⊎_elim, arith, ℤ, pos, ◌≤ℤ◌, true, false, Ok, eq-eqb}
-use Rattle.std.specs.Prelude.{int_lt, not, ◌&&◌, ◌||◌}
+use Rattle.std.specs.Prelude.{Bool, int_lt, nat_lt, not, ◌&&◌, ◌||◌, if◌then◌else◌}
 use Rattle.std.specs.Int.{from_le_bytes, w64}
 use Rattle.std.proofs.lemmas.Bool.{cases_lt, lt-ltb, le-ltb, le-leb, lt-leb, cond-true, cond-false}
 use Rattle.std.proofs.lemmas.Nat.{mod_below}
@@ -10,17 +10,16 @@ use Rattle.ring_layout.specs.Places.{index, room}
 use Rattle.ring_layout.specs.Headers.{padding_header, padding_type}
 use Rattle.ring_layout.proofs.Laps.{mod_aligned, mod_step}
 use Rattle.ring_layout.proofs.PlaceLemmas.{span_bounds}
-use Rattle.ring_layout.proofs.HeaderLemmas.{len_of-header, type_of-header, fits_pos}
+use Rattle.ring_layout.proofs.HeaderLemmas.{fits_pos}
 use Rattle.ring_counters.specs.Records.{bytes_at}
 use Rattle.ring_board.specs.declared.shared.view.Record.{Record}
 use Rattle.ring_board.specs.Records.{end, Follows, Chain, end_of, last_of, header_of}
-use Rattle.ring_board.proofs.PlaceLemmas.{lies_cases, lies_after, lies_inside, lies_whole, chain_rises, chain_at}
+use Rattle.ring_board.proofs.PlaceLemmas.{lies_cases, lies_after, lies_inside, lies_whole, chain_rises, chain_at, last_low}
 use Rattle.ring_snapshot.specs.declared.board_record.BoardRecord.{BoardRecord}
-use Rattle.ring_snapshot.specs.Listing.{up_to_eight, followed, ok_records}
-use Rattle.ring_snapshot.specs.RingRecords.{length_in, type_in}
+use Rattle.ring_snapshot.specs.Listing.{up_to_eight, ok_records}
 use Rattle.ring_snapshot.specs.BoardRecords.{BoardEntry, is_length, padding_at, message_at, entry_for, entry_at, listing, record_of, records_of, from_on}
-use Rattle.ring_snapshot.proofs.EntryLemmas.{not_padding, not_below_one, body_told}
-use Rattle.ring_snapshot.proofs.StepLemmas.{some_suc, listing_ends, listing_step}
+use Rattle.ring_snapshot.proofs.EntryLemmas.{not_padding, not_below_one, decoded, body_told}
+use Rattle.ring_snapshot.proofs.StepLemmas.{listing_ends, padded, IsThere, from_place, from_before}
 
 -- ---- numbers
 
@@ -119,16 +118,6 @@ module _ (C intent : ℕ) where
   abbrev pad_of : Record → BoardRecord
   pad_of r = padding_at C intent r.before (r.place - r.before) padding_type
 
-  padded : (r : Record) (rs : List Record) → r.before < r.place
-      → records_of C intent (r ∷ rs) ≡ pad_of r ∷ record_of C intent r ∷ records_of C intent rs
-  padded r rs lt = ap (λ l. l ++ record_of C intent r ∷ records_of C intent rs)
-      (cond-true _ (pad_of r ∷ []) [] (lt-ltb r.before r.place lt))
-
-  plain : (r : Record) (rs : List Record) → r.place ≤ r.before
-      → records_of C intent (r ∷ rs) ≡ record_of C intent r ∷ records_of C intent rs
-  plain r rs le = ap (λ l. l ++ record_of C intent r ∷ records_of C intent rs)
-      (cond-false _ (pad_of r ∷ []) [] (le-ltb r.before r.place le))
-
   taken : (p : ℕ) (x : BoardRecord) (xs : List BoardRecord) → p ≤ x.place → from_on p (x ∷ xs) ≡ x ∷ from_on p xs
   taken p x xs le = ap (λ l. l ++ from_on p xs) (cond-true _ (x ∷ []) [] (le-leb p x.place le))
 
@@ -138,12 +127,14 @@ module _ (C intent : ℕ) where
   -- a transmission before the position
   all_out : (p : ℕ) (r : Record) (rs : List Record) → r.before < p → r.place < p
       → from_on p (records_of C intent (r ∷ rs)) ≡ from_on p (records_of C intent rs)
-  all_out p r rs b lt = ⊎_elim
-      (λ pads. ap (from_on p) (padded r rs pads)
-      ∙ left_out p (pad_of r) (record_of C intent r ∷ records_of C intent rs) b
-      ∙ left_out p (record_of C intent r) (records_of C intent rs) lt)
-      (λ le. ap (from_on p) (plain r rs le) ∙ left_out p (record_of C intent r) (records_of C intent rs) lt)
-      (cases_lt r.before r.place)
+  all_out p r rs b lt = by_padding (nat_lt r.before r.place)
+    where
+      by_padding : (pads : Bool)
+          → from_on p ((if pads then pad_of r ∷ [] else []) ++ record_of C intent r ∷ records_of C intent rs)
+          ≡ from_on p (records_of C intent rs)
+      by_padding true = left_out p (pad_of r) (record_of C intent r ∷ records_of C intent rs) b
+          ∙ left_out p (record_of C intent r) (records_of C intent rs) lt
+      by_padding false = left_out p (record_of C intent r) (records_of C intent rs) lt
 
   module _ (roomy : 256 ≤ C) (whole : C % 64 ≡ 0) where
     from_on_all : (p e : ℕ) (l : List Record) → Chain C e l → p ≤ e
@@ -152,16 +143,19 @@ module _ (C intent : ℕ) where
     from_on_all p e (r ∷ rs) c le =
         let f = c.0.fits in let a = lies_after C e r.before r.place (end r) f roomy whole in let b = f.begins in
         let so = f.some_room in
-        let here : p ≤ r.place = omega (arith, le, a, b) in
-        let on : from_on p (record_of C intent r ∷ records_of C intent rs) ≡ record_of C intent r
-        ∷ records_of C intent rs =
-        taken p (record_of C intent r) (records_of C intent rs) here
-        ∙ ap (λ l. record_of C intent r ∷ l) (from_on_all p (end r) rs c.1 (omega (arith, here, so))) in
-        ⊎_elim (λ pads. ap (from_on p) (padded r rs pads)
-        ∙ taken p (pad_of r) (record_of C intent r ∷ records_of C intent rs) (omega (arith, le, b))
-        ∙ ap (λ l. pad_of r ∷ l) on ∙ sym (padded r rs pads))
-        (λ same. ap (from_on p) (plain r rs same) ∙ on ∙ sym (plain r rs same))
-        (cases_lt r.before r.place)
+        by_padding (omega (arith, le, b))
+        (taken p (record_of C intent r) (records_of C intent rs) (omega (arith, le, a, b))
+        ∙ ap (λ l. record_of C intent r ∷ l) (from_on_all p (end r) rs c.1 (omega (arith, le, a, b, so))))
+        (nat_lt r.before r.place)
+      where
+        by_padding : p ≤ r.before
+            → from_on p (record_of C intent r ∷ records_of C intent rs) ≡ record_of C intent r ∷ records_of C intent rs
+            → (pads : Bool)
+            → from_on p ((if pads then pad_of r ∷ [] else []) ++ record_of C intent r ∷ records_of C intent rs)
+            ≡ (if pads then pad_of r ∷ [] else []) ++ record_of C intent r ∷ records_of C intent rs
+        by_padding low on true = taken p (pad_of r) (record_of C intent r ∷ records_of C intent rs) low
+            ∙ ap (λ l. pad_of r ∷ l) on
+        by_padding low on false = on
 
     pub from_on_none : (p e : ℕ) (l : List Record) → Chain C e l → end_of e l ≤ p
         → from_on p (records_of C intent l) ≡ []
@@ -201,11 +195,8 @@ module _ (C : ℕ) (roomy : 256 ≤ C) (narrow : C ≤ 2 ^ 24) (whole : C % 64 �
       let body = body_told words r.message.body (r.place % C) f.lawful.bytes
       (mod_aligned C r.place (omega (arith, whole)) p8) (kept.body near) in
       let less : 8 + n - 8 ≡ n = omega arith in
-      ap (λ w. entry_for C words intent latest tail r.place (length_in w) (type_in w)) (kept.header near)
-      ∙ ap (λ x. entry_for C words intent latest tail r.place x (type_in (header_of r.message)))
-      (len_of-header (pos (8 + n)) r.message.type_id (fits_pos (8 + n) small))
-      ∙ ap (λ x. entry_for C words intent latest tail r.place (pos (8 + n)) x)
-      (type_of-header (pos (8 + n)) r.message.type_id (fits_pos (8 + n) small) f.lawful.type_fits)
+      decoded (entry_for C words intent latest tail r.place) _ (pos (8 + n)) r.message.type_id (kept.header near)
+      (fits_pos (8 + n) small) f.lawful.type_fits
       ∙ for_message C words intent latest tail r.place (8 + n) r.message.type_id f.lawful.type_id (omega arith) fits
       ∙ ap (with_body r) (ap (bytes_at words (r.place % C + 8)) less ∙ body)
 
@@ -219,28 +210,25 @@ module _ (C : ℕ) (roomy : 256 ≤ C) (narrow : C ≤ 2 ^ 24) (whole : C % 64 �
         let p8 = lies_whole C e r.before r.place (end r) f.fits roomy whole in
         (omega (arith, b8, p8, lt), omega (arith, b8, p8, lt))
 
-    pad_fits : r.place ≤ latest → is_length C latest tail r.before (r.place - r.before) ≡ true
-    pad_fits below =
+    pad_there : IsKept C words tail r → tail ≤ r.before + C → r.place ≤ latest → latest ≤ tail
+        → IsThere (λ (x : BoardRecord). x.length) (entry_at C words intent latest tail) tail r.before r.place
+        (pad_of C intent r)
+    pad_there kept near below low =
+        let pad : ℕ = r.place - r.before in
         let is = pad_is.0 in let few = pad_is.1 in let eight = pad_some.0 in let p8 = pad_some.1 in
         let short = f.lawful.short in let b = span_bounds (length r.message.body) in
-        length_before C latest tail r.before (r.place - r.before) eight
-        (omega (arith, few, is, p8, short, b, whole)) (omega (arith, is, p8, lt)) (omega (arith, lt, below))
-        (omega (arith, p8, lt, below))
-
-    pad_entry : IsKept C words tail r → tail ≤ r.before + C → r.place ≤ latest
-        → entry_at C words intent latest tail r.before ≡ Ok (pad_of C intent r)
-    pad_entry kept near below =
-        let pad : ℕ = r.place - r.before in
-        let is = pad_is.0 in let eight = pad_some.0 in
-        let few : pad < 2 ^ 31 = omega (arith, is, narrow) in
-        ap (λ w. entry_for C words intent latest tail r.before (length_in w) (type_in w)) (kept.padding lt near)
-        ∙ ap (λ x. entry_for C words intent latest tail r.before x (type_in (padding_header pad)))
-        (len_of-header (pos pad) padding_type (fits_pos pad few))
-        ∙ ap (λ x. entry_for C words intent latest tail r.before (pos pad) x)
-        (type_of-header (pos pad) padding_type (fits_pos pad few) record { sfits = omega arith })
-        ∙ for_padding C words intent latest tail r.before pad (omega (arith, eight)) (pad_fits below)
-        (omega (arith, lt, below))
-        (let in_buffer = mod_below r.before C (omega (arith, roomy)) in omega (arith, is, in_buffer, lt))
+        let in_buffer = mod_below r.before C (omega (arith, roomy)) in
+        record {
+          some_room = omega (arith, eight, lt);
+          inside = omega (arith, below, low);
+          ends = omega (arith, p8, lt);
+          there = decoded (entry_for C words intent latest tail r.before) _ (pos pad) padding_type
+              (kept.padding lt near) (fits_pos pad (omega (arith, is, narrow))) record { sfits = omega arith }
+              ∙ for_padding C words intent latest tail r.before pad (omega (arith, eight))
+              (length_before C latest tail r.before pad eight (omega (arith, few, is, p8, short, b, whole))
+              (omega (arith, is, p8, lt)) (omega (arith, lt, below)) (omega (arith, p8, lt, below)))
+              (omega (arith, lt, below)) (omega (arith, is, in_buffer, lt));
+        }
 
   -- a record's length, if these come after it
   fits_at : (e : ℕ) (r : Record) (rs : List Record) → Chain C e (r ∷ rs) → last_of r.place rs ≡ latest
@@ -266,24 +254,18 @@ module _ (C : ℕ) (roomy : 256 ≤ C) (narrow : C ≤ 2 ^ 24) (whole : C % 64 �
     pub last : last_of d l ≡ latest
     pub ends : end_of e l ≡ tail
 
-  from_record : (e : ℕ) (r : Record) (rs : List Record) → Chain C e (r ∷ rs) → IsKept C words tail r
-      → EndThere r.place (end r) rs → (rest : List BoardEntry)
-      → ((less : ℕ) → tail ≤ end r + 8 * less → listing C words intent latest tail less (end r) ≡ rest)
-      → (m : ℕ) → (tail ≤ r.place + C) × (tail ≤ r.place + 8 * m)
-      → listing C words intent latest tail m r.place ≡ Ok (record_of C intent r) ∷ rest
-  from_record e r rs c kept there rest behind m bounds =
-      let la = there.last in
-      let en = there.ends in
-      let near = bounds.0 in
-      let enough = bounds.1 in
-      let so = c.0.fits.some_room in let up = chain_rises C roomy whole (end r) rs c.1 in
-      let less = some_suc m (omega (arith, enough, so, up, en)) in let is = less.1 in
-      ap (λ x. listing C words intent latest tail x r.place) is
-      ∙ listing_step (λ (x : BoardRecord). x.length) (entry_at C words intent latest tail) tail less.0 r.place
-      (omega (arith, so, up, en))
-      ∙ ap (followed (λ (x : BoardRecord). x.length) (listing C words intent latest tail less.0) r.place)
-      (message_entry e r c.0 kept near (fits_at e r rs c la en))
-      ∙ ap (λ xs. Ok (record_of C intent r) ∷ xs) (behind less.0 (omega (arith, enough, is, so)))
+  record_there : (e : ℕ) (r : Record) (rs : List Record) → Chain C e (r ∷ rs) → IsKept C words tail r
+      → EndThere r.place (end r) rs → tail ≤ r.place + C
+      → IsThere (λ (x : BoardRecord). x.length) (entry_at C words intent latest tail) tail r.place (end r)
+      (record_of C intent r)
+  record_there e r rs c kept there near =
+      let up = chain_rises C roomy whole (end r) rs c.1 in let en = there.ends in
+      record {
+        some_room = c.0.fits.some_room;
+        inside = omega (arith, up, en);
+        ends = refl;
+        there = message_entry e r c.0 kept near (fits_at e r rs c there.last en);
+      }
 
   abbrev told : List BoardRecord → List BoardEntry
   told rs = ok_records rs
@@ -295,34 +277,20 @@ module _ (C : ℕ) (roomy : 256 ≤ C) (narrow : C ≤ 2 ^ 24) (whole : C % 64 �
       let en = there.ends in
       listing_ends (λ (x : BoardRecord). x.length) (entry_at C words intent latest tail) tail m e (omega (arith, en))
   from_begin d e (r ∷ rs) c kept there near m enough =
-      let la = there.last in
-      let en = there.ends in
-      let behind : EndThere r.place (end r) rs = record { last = la; ends = en } in
-      let f = c.0.fits in let b = f.begins in let so = f.some_room in
-      let a = lies_after C e r.before r.place (end r) f roomy whole in
-      let up = chain_rises C roomy whole (end r) rs c.1 in
+      let behind : EndThere r.place (end r) rs = record { last = there.last; ends = there.ends } in
+      let la = there.last in let en = there.ends in
+      let b = c.0.fits.begins in let so = c.0.fits.some_room in
+      let a = lies_after C e r.before r.place (end r) c.0.fits roomy whole in
       let high = last_high C roomy whole r.place (end r) rs c.1 (omega (arith, so)) in
-      let on : (k : ℕ) → tail ≤ r.place + 8 * k
-      → listing C words intent latest tail k r.place ≡ Ok (record_of C intent r) ∷ told (records_of C intent rs) =
-      λ k much. from_record e r rs c (kept 0 r refl) behind (told (records_of C intent rs))
-      (λ less far. from_begin r.place (end r) rs c.1 (λ j q at. kept (suc j) q at) behind
-      (omega (arith, near, a, b, so)) less far) k (omega (arith, near, a, b), much) in
-      ⊎_elim (λ pads. let less = some_suc m (omega (arith, enough, so, up, en, a, b)) in let is = less.1 in
-      let eight = pad_some e r c.0 pads in let p8 = eight.1 in let above = eight.0 in
-      let pad_end : r.before + up_to_eight (r.place - r.before) ≡ r.place = omega (arith, p8, pads) in
-      ap (λ x. listing C words intent latest tail x e) is
-      ∙ ap (listing C words intent latest tail (suc less.0)) (sym b)
-      ∙ listing_step (λ (x : BoardRecord). x.length) (entry_at C words intent latest tail) tail less.0 r.before
-      (omega (arith, pads, so, up, en))
-      ∙ ap (followed (λ (x : BoardRecord). x.length) (listing C words intent latest tail less.0) r.before)
-      (pad_entry e r c.0 pads (kept 0 r refl) (omega (arith, near, b)) (omega (arith, high, la)))
-      ∙ ap (λ x. Ok (pad_of C intent r) ∷ listing C words intent latest tail less.0 x) pad_end
-      ∙ ap (λ xs. Ok (pad_of C intent r) ∷ xs) (on less.0 (omega (arith, enough, is, above, b)))
-      ∙ sym (ap told (padded C intent r rs pads)))
-      (λ same. let at : e ≡ r.place = omega (arith, same, a, b) in
-      ap (listing C words intent latest tail m) at ∙ on m (omega (arith, enough, at))
-      ∙ sym (ap told (plain C intent r rs same)))
-      (cases_lt r.before r.place)
+      let low = last_low C roomy whole e (r ∷ rs) c in
+      ap (listing C words intent latest tail m) (sym b)
+      ∙ from_before (λ (x : BoardRecord). x.length) (entry_at C words intent latest tail) tail r.before r.place (end r)
+      (pad_of C intent r) (record_of C intent r) (records_of C intent rs) a
+      (λ pads. pad_there e r c.0 pads (kept 0 r refl) (omega (arith, near, b)) (omega (arith, high, la))
+      (omega (arith, low, la, en)))
+      (record_there e r rs c (kept 0 r refl) behind (omega (arith, near, a, b)))
+      (from_begin r.place (end r) rs c.1 (λ j q at. kept (suc j) q at) behind (omega (arith, near, a, b, so)))
+      m (omega (arith, enough, b))
 
   -- from the start of one of them
   pub from_one : (p d e : ℕ) (l : List Record) → Chain C e l → AreKept C words tail l → EndThere d e l
@@ -347,10 +315,13 @@ module _ (C : ℕ) (roomy : 256 ≤ C) (narrow : C ≤ 2 ^ 24) (whole : C % 64 �
       ∙ sym (ap told (from_on_all C intent roomy whole p e (r ∷ rs) c (omega (arith, first)))) in
       ⊎_elim whole_list
       (λ is. ⊎_elim (λ pads. ap (listing C words intent latest tail m) is
-      ∙ from_record e r rs c (kept 0 r refl) behind (told (records_of C intent rs))
-      (λ j much. from_begin r.place (end r) rs c.1 (λ i x at'. kept (suc i) x at') behind
-      (omega (arith, near, is, so)) j much) m (omega (arith, near, is), omega (arith, enough, is))
-      ∙ sym (ap told (ap (from_on p) (padded C intent r rs pads)
+      ∙ from_place (λ (x : BoardRecord). x.length) (entry_at C words intent latest tail) tail r.place (end r)
+      (record_of C intent r) (records_of C intent rs)
+      (record_there e r rs c (kept 0 r refl) behind (omega (arith, near, is)))
+      (from_begin r.place (end r) rs c.1 (λ i x at'. kept (suc i) x at') behind (omega (arith, near, is, so)))
+      m (omega (arith, enough, is))
+      ∙ sym (ap told (ap (from_on p) (padded r.before r.place (pad_of C intent r) (record_of C intent r)
+      (records_of C intent rs) pads)
       ∙ left_out C intent p (pad_of C intent r) (record_of C intent r ∷ records_of C intent rs)
       (omega (arith, is, pads))
       ∙ taken C intent p (record_of C intent r) (records_of C intent rs) (omega (arith, is))

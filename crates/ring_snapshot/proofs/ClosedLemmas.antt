@@ -133,14 +133,11 @@ module _ (C : ℕ) (ok : IsBoardCapacity C) (words : List ℕ) (sent : List Reco
         (record { last = sym closed.latest; ends = sym closed.tail }) t.0 t.1 (t.2, t.3) m (near, enough))
         begins
 
-    -- the listing of positions that were read there
-    pub closed_listing : (i t l q : ℕ) → i ≡ intent → t ≡ tail → l ≡ latest → q ≡ p → tail ≤ p + C
-        → listing C words i l t ((t - q) / 8) q ≡ ok_records (from_on p (records_of C intent sent))
-    closed_listing i t l q it tl la first near =
+    pub closed_listing : tail ≤ p + C
+        → listing C words intent latest tail ((tail - p) / 8) p ≡ ok_records (from_on p (records_of C intent sent))
+    closed_listing near =
         let w8 = begins_whole in let e8 = fit.3 in let en = closed.tail in
-        let enough : tail ≤ p + 8 * ((tail - p) / 8) = omega (arith, w8, e8, en) in
-        (λ j. listing C words (it j) (la j) (tl j) ((tl j - first j) / 8) (first j))
-        ∙ closed_listed ((tail - p) / 8) near enough
+        closed_listed ((tail - p) / 8) near (omega (arith, w8, e8, en))
 
   -- the running lap
   pub lap_begins : BeginsAt sent tail (lap_of C latest)

@@ -1,15 +1,17 @@
--- What the words of a record say: a type id, and a body.
-use Rattle.std.proofs.Common.{◌≡◌, ℕ, ◌+◌, ◌*◌, ◌/◌, ◌%◌, ◌^◌, ◌<◌, List, length, drop, slice_index, refl, ap, ◌∙◌, arith, inl, inr, ℤ, pos, negsuc, ◌≤ℤ◌, false}
+-- What the words of a record say: a length and a type id, and a body.
+use Rattle.std.proofs.Common.{◌≡◌, ℕ, ◌+◌, ◌*◌, ◌/◌, ◌%◌, ◌^◌, ◌<◌, List, length, drop, slice_index, refl, ap, ◌∙◌, arith, inl, inr, ℤ, pos, negsuc, ◌≤ℤ◌, FitsSigned, false}
 use Rattle.std.specs.Prelude.{All, int_lt}
-use Rattle.std.specs.Int.{from_le_bytes, w64}
+use Rattle.std.specs.Int.{from_le_bytes, w32, w64}
 use Rattle.std.proofs.lemmas.Int.{ints}
 use Rattle.std.proofs.lemmas.Bool.{cases_lt}
 use Rattle.std.proofs.lemmas.List.{ext_get_or, get_or-drop, get_or_past}
 use Rattle.std.proofs.lemmas.List.FromFn.{length-map-range_with_len, get_or-map-range_with_len}
 use Rattle.std.proofs.lemmas.List.Elements.{All-get_or}
+use Rattle.ring_layout.specs.Headers.{header}
+use Rattle.ring_layout.proofs.HeaderLemmas.{len_of-header, type_of-header}
 use Rattle.ring_layout.proofs.WordBytes.{byte_of_word}
 use Rattle.ring_counters.specs.Records.{byte_at, bytes_at}
-use Rattle.ring_snapshot.specs.RingRecords.{is_padding_type}
+use Rattle.ring_snapshot.specs.RingRecords.{length_in, type_in, is_padding_type}
 
 pub not_padding : (z : ℤ) → pos 1 ≤ℤ z → is_padding_type z ≡ false
 not_padding (pos n) h = refl
@@ -17,6 +19,14 @@ not_padding (negsuc n) h = absurd (omega (arith, ints))
 
 pub not_below_one : (z : ℤ) → pos 1 ≤ℤ z → int_lt z (pos 1) ≡ false
 not_below_one z h = grind (arith, ints)
+
+-- a header word gives its length and its type id
+pub decoded : {E : Type 0} (entry_for : ℤ → ℤ → E) (w : ℕ) (len type_id : ℤ) → w ≡ header len type_id
+    → FitsSigned w32 len → FitsSigned w32 type_id
+    → entry_for (length_in w) (type_in w) ≡ entry_for len type_id
+decoded entry_for w len type_id is f g =
+    ap (λ x. entry_for (length_in x) (type_in x)) is
+    ∙ (λ i. entry_for (len_of-header len type_id f i) (type_of-header len type_id f g i))
 
 -- the words after the header at the byte `base` are those of this body
 module _ (words body : List ℕ) (base : ℕ) (small : All (λ b. b < 256) body) (aligned : base % 8 ≡ 0)

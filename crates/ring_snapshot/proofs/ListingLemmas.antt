@@ -1,8 +1,8 @@
 -- The words of a history list its records.
-use Rattle.std.proofs.Common.{◌≡◌, ℕ, zero, suc, ◌+◌, ◌-◌, ◌*◌, ◌/◌, ◌%◌, ◌^◌, ◌<◌, ◌≤◌, List, [], ◌∷◌, ◌++◌, length, drop, slice_index, refl, ap, sym, ◌∙◌, arith, inl, inr, ℤ, pos, neg_ℤ, nat_abs, ◌≤ℤ◌, true, false, Ok, rules}
+use Rattle.std.proofs.Common.{◌≡◌, ℕ, zero, suc, ◌+◌, ◌-◌, ◌*◌, ◌/◌, ◌%◌, ◌^◌, ◌<◌, ◌≤◌, Bool, List, [], ◌∷◌, length, drop, slice_index, refl, ap, sym, ◌∙◌, arith, inl, inr, ℤ, pos, neg_ℤ, nat_abs, ◌≤ℤ◌, FitsSigned, true, false, Ok, rules}
 use Rattle.std.specs.Prelude.{int_lt, not, ◌&&◌, if◌then◌else◌}
-use Rattle.std.specs.Int.{from_le_bytes, w64}
-use Rattle.std.proofs.lemmas.Bool.{cases_lt, lt-ltb, le-ltb, ne_eqb, cond-true, cond-false}
+use Rattle.std.specs.Int.{from_le_bytes, w32, w64}
+use Rattle.std.proofs.lemmas.Bool.{ne_eqb, cond-true, cond-false}
 use Rattle.std.proofs.lemmas.List.Elements.{All-head, All-tail}
 use Rattle.ring_layout.specs.declared.message.Claim.{Claim}
 use Rattle.ring_layout.specs.declared.message.ClaimState.TheVariants.{Open, Committed, Aborted}
@@ -14,15 +14,15 @@ use Rattle.ring_layout.proofs.Laps.{index_step, mod_aligned}
 use Rattle.ring_layout.proofs.CapacityLemmas.{capacity_blocks}
 use Rattle.ring_layout.proofs.PlaceLemmas.{next_le, next_cases, next_within, next_aligned, span_bounds, end_of_le}
 use Rattle.ring_layout.proofs.PictureLemmas.{word_at_padding_header, word_at_record, word_at_rest}
-use Rattle.ring_layout.proofs.HeaderLemmas.{len_of-header, type_of-header, fits_pos, fits_neg}
+use Rattle.ring_layout.proofs.HeaderLemmas.{len_of-header, fits_pos, fits_neg}
 use Rattle.ring_words.proofs.HeadLemmas.{state_cases, header_open, header_committed, header_aborted}
 use Rattle.ring_counters.specs.Records.{bytes_at}
 use Rattle.ring_snapshot.specs.declared.record.Record.{Record}
 use Rattle.ring_snapshot.specs.declared.record.RecordState.TheVariants as shown
-use Rattle.ring_snapshot.specs.Listing.{up_to_eight, followed, ok_records}
-use Rattle.ring_snapshot.specs.RingRecords.{Entry, length_in, type_in, is_length, is_padding_type, passed_at, message_at, entry_for, entry_at, listing, claim_as, record_of_claim, records_of, Lie}
-use Rattle.ring_snapshot.proofs.EntryLemmas.{not_padding, not_below_one, body_told}
-use Rattle.ring_snapshot.proofs.StepLemmas.{some_suc, listing_ends, listing_step}
+use Rattle.ring_snapshot.specs.Listing.{up_to_eight, ok_records}
+use Rattle.ring_snapshot.specs.RingRecords.{length_in, is_length, is_padding_type, passed_at, message_at, entry_for, entry_at, listing, claim_as, record_of_claim, records_of, Lie}
+use Rattle.ring_snapshot.proofs.EntryLemmas.{not_padding, not_below_one, decoded, body_told}
+use Rattle.ring_snapshot.proofs.StepLemmas.{listing_ends, IsThere, from_before}
 
 -- ---- numbers
 
@@ -34,23 +34,10 @@ neg_below : (n : ℕ) → 0 < n → int_lt (neg_ℤ (pos n)) (pos 0) ≡ true
 neg_below zero h = absurd (omega arith)
 neg_below (suc n) h = refl
 
-neg_not_positive : (n : ℕ) → int_lt (pos 0) (neg_ℤ (pos n)) ≡ false
-neg_not_positive zero = refl
-neg_not_positive (suc n) = refl
+not_negative : (k : ℕ) → int_lt (pos k) (pos 0) ≡ false
+not_negative k = grind (arith)
 
 -- ---- an entry
-
--- a header with a length is not 0
-module _ (C : ℕ) (words : List ℕ) (tail at : ℕ) (len type_id : ℤ) where
-  entry_decoded : (w : ℕ) → slice_index words (index C at) ≡ w → length_in w ≡ len → type_in w ≡ type_id
-      → (len ≡ pos 0 → ⊥)
-      → entry_at C words tail at ≡ entry_for C words tail at len type_id
-  entry_decoded w is len_is type_is some =
-      let some_word : slice_index words (index C at) ≡ 0 → ⊥ = λ z. some (sym len_is ∙ ap length_in (sym is ∙ z)) in
-      cond-false _ _ _ (ne_eqb _ 0 some_word)
-      ∙ ap (λ x. entry_for C words tail at (length_in x) (type_in x)) is
-      ∙ ap (λ x. entry_for C words tail at x (type_in w)) len_is
-      ∙ ap (λ x. entry_for C words tail at len x) type_is
 
 length_fits : (C tail at n : ℕ) → 8 ≤ n → n ≤ 8 + C / 8 → up_to_eight n ≤ room C at → at + up_to_eight n ≤ tail
     → is_length C tail at n ≡ true
@@ -63,72 +50,38 @@ for_passed C words tail at n some fits =
     (let above : int_lt (pos 0) (pos n) ≡ true =
     grind (arith, some) in ap (λ b. b && is_padding_type padding_type) above)
 
-for_committed : (C : ℕ) (words : List ℕ) (tail at n : ℕ) (type_id : ℤ) → pos 1 ≤ℤ type_id → is_length C tail at n ≡ true
-    → entry_for C words tail at (pos n) type_id ≡ Ok (message_at C words at (pos n) type_id)
-for_committed C words tail at n type_id lawful fits =
-    cond-false _ _ _ (ap not fits)
-    ∙ cond-false _ _ _ (ap (λ b. int_lt (pos 0) (pos n) && b) (not_padding type_id lawful) ∙ search rules)
-    ∙ cond-false _ _ _ (not_below_one type_id lawful)
+module _ (C : ℕ) (words : List ℕ) (tail at : ℕ) (len type_id : ℤ) where
+  for_message : pos 1 ≤ℤ type_id → is_length C tail at (nat_abs len) ≡ true
+      → entry_for C words tail at len type_id ≡ Ok (message_at C words at len type_id)
+  for_message lawful fits =
+      cond-false _ _ _ (ap not fits)
+      ∙ cond-false _ _ _ (ap (λ b. int_lt (pos 0) len && b) (not_padding type_id lawful) ∙ search rules)
+      ∙ cond-false _ _ _ (not_below_one type_id lawful)
 
-for_open : (C : ℕ) (words : List ℕ) (tail at n : ℕ) (type_id : ℤ) → pos 1 ≤ℤ type_id → is_length C tail at n ≡ true
-    → entry_for C words tail at (neg_ℤ (pos n)) type_id ≡ Ok (message_at C words at (neg_ℤ (pos n)) type_id)
-for_open C words tail at n type_id lawful fits =
-    cond-false _ _ _ (ap (λ k. not (is_length C tail at k)) (abs_neg n) ∙ ap not fits)
-    ∙ cond-false _ _ _ (ap (λ b. b && is_padding_type type_id) (neg_not_positive n))
-    ∙ cond-false _ _ _ (not_below_one type_id lawful)
+  -- a header with a length is not 0
+  entry_decoded : slice_index words (index C at) ≡ header len type_id → FitsSigned w32 len → FitsSigned w32 type_id
+      → (len ≡ pos 0 → ⊥)
+      → entry_at C words tail at ≡ entry_for C words tail at len type_id
+  entry_decoded is f g some =
+      let some_word : slice_index words (index C at) ≡ 0 → ⊥ =
+      λ z. some (sym (len_of-header len type_id f) ∙ ap length_in (sym is ∙ z)) in
+      cond-false _ _ _ (ne_eqb _ 0 some_word) ∙ decoded (entry_for C words tail at) _ len type_id is f g
 
 -- ---- a claim as a record
 
-state_open : (C place : ℕ) (c : Claim) → c.state ≡ Open
-    → record_of_claim C place c ≡ claim_as C place c shown.Open (8 + length c.message.body) c.message.body
-state_open C place c e = rw e refl
-
-state_committed : (C place : ℕ) (c : Claim) → c.state ≡ Committed
-    → record_of_claim C place c ≡ claim_as C place c shown.Committed (8 + length c.message.body) c.message.body
-state_committed C place c e = rw e refl
-
-state_aborted : (C place : ℕ) (c : Claim) → c.state ≡ Aborted
-    → record_of_claim C place c ≡ passed_at C place (8 + length c.message.body)
-state_aborted C place c e = rw e refl
-
-length_of_state : (C place : ℕ) (c : Claim) → (record_of_claim C place c).length ≡ 8 + length c.message.body
-length_of_state C place c =
-    elim (state_cases c.state) as (λ _. (record_of_claim C place c).length ≡ 8 + length c.message.body) [
-      | inl e ↦ ap (λ (r : Record). r.length) (state_open C place c e)
-      | inr other ↦ elim other as (λ _. (record_of_claim C place c).length ≡ 8 + length c.message.body) [
-        | inl e ↦ ap (λ (r : Record). r.length) (state_committed C place c e)
-        | inr e ↦ ap (λ (r : Record). r.length) (state_aborted C place c e)
-      ]
-    ]
-
-not_negative : (k : ℕ) → int_lt (pos k) (pos 0) ≡ false
-not_negative k = grind (arith)
-
-message_committed : (C : ℕ) (words : List ℕ) (place : ℕ) (c : Claim)
-    → bytes_at words (place % C + 8) (length c.message.body) ≡ c.message.body
-    → message_at C words place (pos (8 + length c.message.body)) c.message.type_id
-    ≡ claim_as C place c shown.Committed (8 + length c.message.body) c.message.body
-message_committed C words place c body =
-    let k : ℕ = length c.message.body in
-    let less : 8 + k - 8 ≡ k = omega arith in
-    ap (λ b. claim_as C place c (if b then shown.Open else shown.Committed) (8 + k)
-    (bytes_at words (place % C + 8) (8 + k - 8))) (not_negative (8 + k))
-    ∙ ap (λ j. claim_as C place c shown.Committed (8 + k) (bytes_at words (place % C + 8) j)) less
-    ∙ ap (claim_as C place c shown.Committed (8 + k)) body
-
-message_open : (C : ℕ) (words : List ℕ) (place : ℕ) (c : Claim)
-    → bytes_at words (place % C + 8) (length c.message.body) ≡ c.message.body
-    → message_at C words place (neg_ℤ (pos (8 + length c.message.body))) c.message.type_id
-    ≡ claim_as C place c shown.Open (8 + length c.message.body) c.message.body
-message_open C words place c body =
-    let k : ℕ = length c.message.body in
-    let less : 8 + k - 8 ≡ k = omega arith in
-    let len : ℤ = neg_ℤ (pos (8 + k)) in
-    ap (λ b. claim_as C place c (if b then shown.Open else shown.Committed) (nat_abs len)
-    (bytes_at words (place % C + 8) (nat_abs len - 8))) (neg_below (8 + k) (omega arith))
-    ∙ ap (λ a. claim_as C place c shown.Open a (bytes_at words (place % C + 8) (a - 8))) (abs_neg (8 + k))
-    ∙ ap (λ j. claim_as C place c shown.Open (8 + k) (bytes_at words (place % C + 8) j)) less
-    ∙ ap (claim_as C place c shown.Open (8 + k)) body
+-- what holds of it, by the state of the claim
+by_state : (C place : ℕ) (c : Claim) (P : Record → Type 0)
+    → (c.state ≡ Open → P (claim_as C place c shown.Open (8 + length c.message.body) c.message.body))
+    → (c.state ≡ Committed → P (claim_as C place c shown.Committed (8 + length c.message.body) c.message.body))
+    → (c.state ≡ Aborted → P (passed_at C place (8 + length c.message.body)))
+    → P (record_of_claim C place c)
+by_state C place c P waits committed aborted = elim (state_cases c.state) as (λ _. P (record_of_claim C place c)) [
+  | inl e ↦ rw e (waits e)
+  | inr other ↦ elim other as (λ _. P (record_of_claim C place c)) [
+    | inl e ↦ rw e (committed e)
+    | inr e ↦ rw e (aborted e)
+  ]
+]
 
 -- ---- one claim
 
@@ -197,104 +150,80 @@ module _ (C : ℕ) (words : List ℕ) (tail e : ℕ) (c : Claim) (h : List Claim
   body_is : bytes_at words (place % C + 8) n ≡ c.message.body
   body_is = body_told words c.message.body (place % C) lawful.bytes (mod_aligned C place c8 place_aligned) body_word
 
-  -- the entry at the place
-  abbrev Told : Type 0
-  Told = entry_at C words tail place ≡ Ok (record_of_claim C place c)
+  -- the entry at the place: of a claim with its body, whose length is negative if it is open
+  message_entry : (len : ℤ) (is_open : Bool) → header_of c ≡ header len c.message.type_id → FitsSigned w32 len
+      → nat_abs len ≡ 8 + n → int_lt len (pos 0) ≡ is_open
+      → entry_at C words tail place
+      ≡ Ok (claim_as C place c (if is_open then shown.Open else shown.Committed) (8 + n) c.message.body)
+  message_entry len is_open head fits long sign =
+      let less : 8 + n - 8 ≡ n = omega arith in
+      let body : bytes_at words (place % C + 8) (nat_abs len - 8) ≡ c.message.body =
+      ap (λ k. bytes_at words (place % C + 8) (k - 8)) long ∙ ap (bytes_at words (place % C + 8)) less ∙ body_is in
+      entry_decoded C words tail place len c.message.type_id (header_word ∙ head) fits lawful.type_fits
+      (λ z. let bad : 8 + n ≡ 0 = sym long ∙ ap nat_abs z in omega (arith, bad))
+      ∙ for_message C words tail place len c.message.type_id lawful.type_id
+      (ap (is_length C tail place) long ∙ record_fits)
+      ∙ (λ i. Ok (claim_as C place c (if sign i then shown.Open else shown.Committed) (long i) (body i)))
 
-  committed_entry : c.state ≡ Committed → Told
-  committed_entry e =
-      let word : slice_index words (index C place) ≡ header (pos (8 + n)) c.message.type_id =
-      header_word ∙ header_committed c e in
-      let len_is : length_in (header (pos (8 + n)) c.message.type_id) ≡ pos (8 + n) =
-      len_of-header (pos (8 + n)) c.message.type_id (fits_pos (8 + n) small) in
-      let type_is : type_in (header (pos (8 + n)) c.message.type_id) ≡ c.message.type_id =
-      type_of-header (pos (8 + n)) c.message.type_id (fits_pos (8 + n) small) lawful.type_fits in
-      entry_decoded C words tail place (pos (8 + n)) c.message.type_id
-      (header (pos (8 + n)) c.message.type_id) word len_is type_is
-      (λ z. let bad : 8 + n ≡ 0 = ap nat_abs z in omega (arith, bad))
-      ∙ for_committed C words tail place (8 + n) c.message.type_id lawful.type_id record_fits
-      ∙ ap Ok (message_committed C words place c body_is ∙ sym (state_committed C place c e))
-
-  open_entry : c.state ≡ Open → Told
-  open_entry e =
-      let len : ℤ = neg_ℤ (pos (8 + n)) in
-      let word : slice_index words (index C place) ≡ header len c.message.type_id = header_word ∙ header_open c e in
-      let len_is : length_in (header len c.message.type_id) ≡ len =
-      len_of-header len c.message.type_id (fits_neg (8 + n) small) in
-      let type_is : type_in (header len c.message.type_id) ≡ c.message.type_id =
-      type_of-header len c.message.type_id (fits_neg (8 + n) small) lawful.type_fits in
-      let abs : nat_abs len ≡ 8 + n = abs_neg (8 + n) in
-      entry_decoded C words tail place len c.message.type_id (header len c.message.type_id) word len_is type_is
-      (λ z. let bad : 8 + n ≡ 0 = sym abs ∙ ap nat_abs z in omega (arith, bad))
-      ∙ for_open C words tail place (8 + n) c.message.type_id lawful.type_id record_fits
-      ∙ ap Ok (message_open C words place c body_is ∙ sym (state_open C place c e))
-
-  aborted_entry : c.state ≡ Aborted → Told
-  aborted_entry e =
-      let word : slice_index words (index C place) ≡ header (pos (8 + n)) padding_type =
-      header_word ∙ header_aborted c e in
-      let len_is : length_in (header (pos (8 + n)) padding_type) ≡ pos (8 + n) =
-      len_of-header (pos (8 + n)) padding_type (fits_pos (8 + n) small) in
-      let type_is : type_in (header (pos (8 + n)) padding_type) ≡ padding_type =
-      type_of-header (pos (8 + n)) padding_type (fits_pos (8 + n) small) record { sfits = omega arith } in
-      entry_decoded C words tail place (pos (8 + n)) padding_type
-      (header (pos (8 + n)) padding_type) word len_is type_is
+  passed_entry : header_of c ≡ header (pos (8 + n)) padding_type
+      → entry_at C words tail place ≡ Ok (passed_at C place (8 + n))
+  passed_entry head =
+      entry_decoded C words tail place (pos (8 + n)) padding_type (header_word ∙ head) (fits_pos (8 + n) small)
+      record { sfits = omega arith }
       (λ z. let bad : 8 + n ≡ 0 = ap nat_abs z in omega (arith, bad))
       ∙ for_passed C words tail place (8 + n) (omega arith) record_fits
-      ∙ ap Ok (sym (state_aborted C place c e))
 
-  claim_entry : Told
-  claim_entry = elim (state_cases c.state) as (λ _. Told) [
-    | inl e ↦ open_entry e
-    | inr other ↦ elim other as (λ _. Told) [
-      | inl e ↦ committed_entry e
-      | inr e ↦ aborted_entry e
-    ]
-  ]
+  claim_entry : entry_at C words tail place ≡ Ok (record_of_claim C place c)
+  claim_entry = by_state C place c (λ r. entry_at C words tail place ≡ Ok r)
+      (λ o. message_entry (neg_ℤ (pos (8 + n))) true (header_open c o) (fits_neg (8 + n) small) (abs_neg (8 + n))
+      (neg_below (8 + n) (omega arith)))
+      (λ o. message_entry (pos (8 + n)) false (header_committed c o) (fits_pos (8 + n) small) refl
+      (not_negative (8 + n)))
+      (λ o. passed_entry (header_aborted c o))
+
+  claim_there : IsThere (λ (r : Record). r.length) (entry_at C words tail) tail place (place + span n)
+      (record_of_claim C place c)
+  claim_there = record {
+    some_room = omega (arith, bounds);
+    inside = end_below;
+    ends = ap (λ k. place + up_to_eight k)
+        (by_state C place c (λ r. r.length ≡ 8 + n) (λ _. refl) (λ _. refl) (λ _. refl));
+    there = claim_entry;
+  }
 
   -- the padding before it
   module _ (before : e < place) where
     abbrev pad : ℕ
     pad = place - e
 
-    pad_is_room : pad ≡ room C e
-    pad_is_room = elim (next_cases C e (span_of c)) as (λ _. place - e ≡ room C e) [
+    pad_is_room : (pad ≡ room C e) × (room C e < span n)
+    pad_is_room = elim (next_cases C e (span_of c)) as (λ _. (place - e ≡ room C e) × (room C e < span n)) [
       | inl here ↦ absurd (omega (arith, here.1, before))
-      | inr next ↦ omega (arith, next.1)
+      | inr next ↦ (omega (arith, next.1), next.0)
     ]
 
-    room_short : room C e < span n
-    room_short = elim (next_cases C e (span_of c)) as (λ _. room C e < span n) [
-      | inl here ↦ absurd (omega (arith, here.1, before))
-      | inr next ↦ next.0
-    ]
+    pad_whole : (8 ≤ pad) × (pad % 8 ≡ 0)
+    pad_whole = (omega (arith, aligned, place_aligned, before), omega (arith, aligned, place_aligned, before))
 
-    pad_bounds : (8 ≤ pad) × (pad % 8 ≡ 0)
-    pad_bounds = (omega (arith, aligned, place_aligned, before), omega (arith, aligned, place_aligned, before))
-
-    pad_whole : up_to_eight pad ≡ pad
-    pad_whole = let b = pad_bounds in omega (arith, b)
-
-    pad_fits : is_length C tail e pad ≡ true
-    pad_fits =
-        let b = pad_bounds in
-        let whole = pad_whole in
-        let r = room_short in
-        let is = pad_is_room in
-        length_fits C tail e pad b.0 (omega (arith, b.1, r, is, lawful.short, bounds, capacity_blocks C ok))
-        (omega (arith, whole, is)) (omega (arith, whole, end_below, before))
-
-    pad_entry : entry_at C words tail e ≡ Ok (passed_at C e pad)
-    pad_entry =
-        let few : pad < 2 ^ 31 = omega (arith, room_short, pad_is_room, short, ok.most) in
-        let word : slice_index words (index C e) ≡ header (pos pad) padding_type =
-        lie.picture e aligned (omega arith) (omega (arith, before, end_below))
-        ∙ word_at_padding_header C e c h before in
-        entry_decoded C words tail e (pos pad) padding_type (header (pos pad) padding_type) word
-        (len_of-header (pos pad) padding_type (fits_pos pad few))
-        (type_of-header (pos pad) padding_type (fits_pos pad few) record { sfits = omega arith })
-        (λ z. let b = pad_bounds in let bad : pad ≡ 0 = ap nat_abs z in omega (arith, b, bad))
-        ∙ for_passed C words tail e pad (pad_bounds.0) pad_fits
+    pad_there : IsThere (λ (r : Record). r.length) (entry_at C words tail) tail e place (passed_at C e pad)
+    pad_there =
+        let b = pad_whole in
+        let is = pad_is_room.0 in
+        let few = pad_is_room.1 in
+        let whole : up_to_eight pad ≡ pad = omega (arith, b) in
+        record {
+          some_room = omega (arith, b, before);
+          inside = omega (arith, end_below);
+          ends = omega (arith, whole, before);
+          there = entry_decoded C words tail e (pos pad) padding_type
+              (lie.picture e aligned (omega arith) (omega (arith, before, end_below))
+              ∙ word_at_padding_header C e c h before)
+              (fits_pos pad (omega (arith, few, is, short, ok.most))) record { sfits = omega arith }
+              (λ z. let bad : pad ≡ 0 = ap nat_abs z in omega (arith, b, bad))
+              ∙ for_passed C words tail e pad b.0 (length_fits C tail e pad b.0
+              (omega (arith, b.1, few, is, lawful.short, bounds, capacity_blocks C ok))
+              (omega (arith, whole, is)) (omega (arith, whole, end_below, before)));
+        }
 
   -- what is after it
   rest_lies : Lie C words tail (place + span n) h
@@ -314,46 +243,11 @@ exact C words tail ok [] m e aligned enough lie =
     (let ends : e ≡ tail = lie.ends in omega (arith, ends))
 exact C words tail ok (c ∷ h) m e aligned enough lie =
     let place : ℕ = next_place C e (span_of c) in
-    let n : ℕ = length c.message.body in
-    let low : e ≤ place = begins C words tail e c h ok aligned lie in
-    let end : place + span n ≤ tail = end_below C words tail e c h ok aligned lie in
-    let b = span_bounds n in
-    let whole : place % 8 ≡ 0 = place_aligned C words tail e c h ok aligned lie in
-    let behind : List Entry = ok_records (records_of C (place + span n) h) in
-    let from_claim : (k : ℕ) → tail ≤ place + 8 * k
-    → listing C words tail k place ≡ Ok (record_of_claim C place c) ∷ behind =
-    λ k much.
-    let (less, is) = some_suc k (omega (arith, much, end, b)) in
-    let rest : listing C words tail less (place + span n) ≡ behind =
-    exact C words tail ok h less (place + span n) (omega (arith, whole, b)) (omega (arith, much, is, b))
-    (rest_lies C words tail e c h ok aligned lie) in
-    ap (λ x. listing C words tail x place) is
-    ∙ listing_step (λ (r : Record). r.length) (entry_at C words tail) tail less place
-    (omega (arith, end, b))
-    ∙ ap (followed (λ (r : Record). r.length) (listing C words tail less) place)
-    (claim_entry C words tail e c h ok aligned lie)
-    ∙ ap (λ x. Ok (record_of_claim C place c) ∷ listing C words tail less (place + up_to_eight x))
-    (length_of_state C place c)
-    ∙ ap (λ xs. Ok (record_of_claim C place c) ∷ xs) rest in
-    elim (cases_lt e place) as (λ _. listing C words tail m e ≡ ok_records (records_of C e (c ∷ h))) [
-      | inl before ↦
-          let (less, is) = some_suc m (omega (arith, enough, end, before, b)) in
-          let w = pad_whole C words tail e c h ok aligned lie before in
-          let pb = pad_bounds C words tail e c h ok aligned lie before in
-          let pad_end : e + up_to_eight (place - e) ≡ place = omega (arith, w, before) in
-          ap (λ x. listing C words tail x e) is
-          ∙ listing_step (λ (r : Record). r.length) (entry_at C words tail) tail less e
-          (omega (arith, end, before, b))
-          ∙ ap (followed (λ (r : Record). r.length) (listing C words tail less) e)
-          (pad_entry C words tail e c h ok aligned lie before)
-          ∙ ap (λ x. Ok (passed_at C e (place - e)) ∷ listing C words tail less x) pad_end
-          ∙ ap (λ xs. Ok (passed_at C e (place - e)) ∷ xs) (from_claim less (omega (arith, enough, is, pb, before)))
-          ∙ sym (ap (λ xs. ok_records (xs ++ record_of_claim C place c ∷ records_of C (place + span n) h))
-          (cond-true _ (passed_at C e (place - e) ∷ []) [] (lt-ltb e place before)))
-      | inr from ↦
-          let at : e ≡ place = omega (arith, low, from) in
-          ap (listing C words tail m) at
-          ∙ from_claim m (omega (arith, enough, at))
-          ∙ sym (ap (λ xs. ok_records (xs ++ record_of_claim C place c ∷ records_of C (place + span n) h))
-          (cond-false _ (passed_at C e (place - e) ∷ []) [] (le-ltb e place from)))
-    ]
+    let end : ℕ = place + span (length c.message.body) in
+    let b = span_bounds (length c.message.body) in
+    let whole = place_aligned C words tail e c h ok aligned lie in
+    from_before (λ (r : Record). r.length) (entry_at C words tail) tail e place end (passed_at C e (place - e))
+    (record_of_claim C place c) (records_of C end h) (begins C words tail e c h ok aligned lie)
+    (pad_there C words tail e c h ok aligned lie) (claim_there C words tail e c h ok aligned lie)
+    (λ k much. exact C words tail ok h k end (omega (arith, whole, b)) much
+    (rest_lies C words tail e c h ok aligned lie)) m enough

@@ -12,10 +12,10 @@ use Rattle.ring_counters.specs.Records.{bytes_at}
 use Rattle.ring_snapshot.specs.declared.board_record.BoardRecord.{BoardRecord}
 use Rattle.ring_snapshot.specs.declared.board_finding.BoardFinding.{BoardFinding}
 use Rattle.ring_snapshot.specs.declared.board_finding.BoardFinding.TheVariants.{UnalignedPosition, TailBeforeLatest, IntentBeforeTail, TailTooFar, IntentTooFar, OutsideOfRecords, BadLength, BadType}
-use Rattle.ring_snapshot.specs.declared.board.BoardRecords.{BoardRecords}
+use Rattle.ring_snapshot.specs.declared.listing.Listing.{Listing}
 use Rattle.ring_snapshot.specs.declared.board.BoardSnapshot.{BoardSnapshot}
 use Rattle.ring_layout.specs.Lists.{or_else}
-use Rattle.ring_snapshot.specs.Listing.{up_to_eight, lies_inside, listed_by, ok_records}
+use Rattle.ring_snapshot.specs.Listing.{up_to_eight, lies_inside, listed_by, left_of, after_padding, ok_records}
 use Rattle.ring_snapshot.specs.RingRecords.{length_in, type_in, is_padding_type}
 
 abbrev pub BoardEntry : Type 0
@@ -72,10 +72,6 @@ abbrev pub listing : ℕ → List ℕ → ℕ → ℕ → ℕ → ℕ → ℕ �
 listing C words intent latest tail =
     listed_by (λ (r : BoardRecord). r.length) (entry_at C words intent latest tail) tail
 
--- what is still to come
-abbrev pub records_left : BoardRecords → List BoardEntry
-records_left r = listing r.board.capacity r.board.words.now r.intent r.latest r.tail r.most r.at
-
 -- the positions in the trailer
 abbrev pub intent_in : BoardSnapshot → ℕ
 intent_in b = slice_index b.words.now (intent_index b.capacity)
@@ -85,6 +81,11 @@ tail_in b = slice_index b.words.now (tail_index b.capacity)
 
 abbrev pub latest_in : BoardSnapshot → ℕ
 latest_in b = slice_index b.words.now (latest_index b.capacity)
+
+-- what is still to come
+abbrev pub records_left : Listing BoardSnapshot → List BoardEntry
+records_left = left_of (λ (r : BoardRecord). r.length)
+    (λ b. entry_at b.capacity b.words.now (intent_in b) (latest_in b))
 
 -- what is in a broadcast buffer from a position up to its tail
 abbrev pub listed_from : BoardSnapshot → ℕ → List BoardEntry
@@ -142,8 +143,8 @@ record_of C intent r = record {
 abbrev pub records_of : ℕ → ℕ → List Record → List BoardRecord
 records_of C intent [] = []
 records_of C intent (r ∷ rs) =
-    (if nat_lt r.before r.place then padding_at C intent r.before (r.place - r.before) padding_type ∷ [] else [])
-    ++ record_of C intent r ∷ records_of C intent rs
+    after_padding r.before r.place (padding_at C intent r.before (r.place - r.before) padding_type)
+    (record_of C intent r) (records_of C intent rs)
 
 -- those of them that are at a position or after it
 abbrev pub from_on : ℕ → List BoardRecord → List BoardRecord

@@ -1,7 +1,8 @@
 -- One record after the other, of a ring or of a broadcast buffer. R is what a record is, F what may be wrong with the
 -- words.
-use Rattle.std.specs.Prelude.{ℕ, zero, suc, ◌+◌, ◌*◌, ◌/◌, Bool, ◌&&◌, nat_le, if◌then◌else◌, List, [], ◌∷◌, Result, Ok, Err}
+use Rattle.std.specs.Prelude.{ℕ, zero, suc, ◌+◌, ◌*◌, ◌/◌, Bool, ◌&&◌, nat_le, nat_lt, if◌then◌else◌, List, [], ◌∷◌, ◌++◌, Result, Ok, Err}
 use Rattle.ring_layout.specs.Places.{room}
+use Rattle.ring_snapshot.specs.declared.listing.Listing.{Listing}
 
 -- the bytes from a record's begin to the next one's
 abbrev pub up_to_eight : ℕ → ℕ
@@ -22,6 +23,14 @@ abbrev pub listed_by : {R F : Type 0} → (R → ℕ) → (ℕ → Result R F) �
 listed_by length_of entry tail zero at = []
 listed_by length_of entry tail (suc n) at =
     if nat_le tail at then [] else followed length_of (listed_by length_of entry tail n) at (entry at)
+
+-- what is still to come, if this is what is in a buffer at a position before a tail
+abbrev pub left_of : {B R F : Type 0} → (R → ℕ) → (B → ℕ → ℕ → Result R F) → Listing B → List (Result R F)
+left_of length_of entry l = listed_by length_of (entry l.buffer l.tail) l.tail l.most l.at
+
+-- a record, and the rest; before it the padding, if there is one
+abbrev pub after_padding : {R : Type 0} → ℕ → ℕ → R → R → List R → List R
+after_padding before place pad r rest = (if nat_lt before place then pad ∷ [] else []) ++ r ∷ rest
 
 abbrev pub ok_records : {R F : Type 0} → List R → List (Result R F)
 ok_records [] = []

@@ -1,6 +1,6 @@
 -- The records in the words of a ring, whatever these are, and those of a history. Positions are running byte counts,
 -- and C is the capacity of the buffer.
-use Rattle.std.specs.Prelude.{◌≡◌, ℕ, ◌+◌, ◌-◌, ◌/◌, ◌%◌, ◌^◌, ◌<◌, ◌≤◌, Bool, ◌&&◌, ◌==◌, not, nat_le, nat_lt, int_lt, int_le, if◌then◌else◌, ℤ, pos, nat_abs, List, [], ◌∷◌, ◌++◌, All, length, slice_index, Result, Ok, Err, Option, Some, None, ◌||◌}
+use Rattle.std.specs.Prelude.{◌≡◌, ℕ, ◌+◌, ◌-◌, ◌/◌, ◌%◌, ◌^◌, ◌<◌, ◌≤◌, Bool, ◌&&◌, ◌==◌, not, nat_le, nat_lt, int_lt, int_le, if◌then◌else◌, ℤ, pos, nat_abs, List, [], ◌∷◌, All, length, slice_index, Result, Ok, Err, Option, Some, None, ◌||◌}
 use Rattle.std.specs.Int.{cast_signed, w32}
 use Rattle.ring_layout.specs.declared.message.Claim.{Claim}
 use Rattle.ring_layout.specs.declared.message.ClaimState.{ClaimState}
@@ -12,13 +12,13 @@ use Rattle.ring_layout.specs.Headers.{padding_type}
 use Rattle.ring_layout.specs.Layout.{tail_index, head_index}
 use Rattle.ring_counters.specs.Records.{bytes_at}
 use Rattle.ring_layout.specs.Lists.{or_else}
-use Rattle.ring_snapshot.specs.Listing.{up_to_eight, lies_inside, listed_by}
+use Rattle.ring_snapshot.specs.Listing.{up_to_eight, lies_inside, listed_by, left_of, after_padding}
 use Rattle.ring_snapshot.specs.declared.record.Record.{Record}
 use Rattle.ring_snapshot.specs.declared.record.RecordState.{RecordState}
 use Rattle.ring_snapshot.specs.declared.record.RecordState.TheVariants.{Open, Committed, Aborted, AbortedOrPadding, Unstored}
 use Rattle.ring_snapshot.specs.declared.ring_finding.RingFinding.{RingFinding}
 use Rattle.ring_snapshot.specs.declared.ring_finding.RingFinding.TheVariants.{UnalignedPosition, TailBeforeHead, TailTooFar, OutsideOfRecords, BadLength, BadType}
-use Rattle.ring_snapshot.specs.declared.ring.Records.{Records}
+use Rattle.ring_snapshot.specs.declared.listing.Listing.{Listing}
 use Rattle.ring_snapshot.specs.declared.ring.RingSnapshot.{RingSnapshot}
 
 abbrev pub Entry : Type 0
@@ -84,8 +84,8 @@ abbrev pub listing : ℕ → List ℕ → ℕ → ℕ → ℕ → List Entry
 listing C words tail = listed_by (λ (r : Record). r.length) (entry_at C words tail) tail
 
 -- what is still to come
-abbrev pub records_left : Records → List Entry
-records_left r = listing r.ring.capacity r.ring.words.now r.tail r.most r.at
+abbrev pub records_left : Listing RingSnapshot → List Entry
+records_left = left_of (λ (r : Record). r.length) (λ ring. entry_at ring.capacity ring.words.now)
 
 -- the positions in a ring's trailer
 abbrev pub head_in : RingSnapshot → ℕ
@@ -132,8 +132,7 @@ abbrev pub records_of : ℕ → ℕ → List Claim → List Record
 records_of C e [] = []
 records_of C e (c ∷ h) =
     let place = next_place C e (span_of c) in
-    (if nat_lt e place then passed_at C e (place - e) ∷ [] else []) ++ record_of_claim C place c
-    ∷ records_of C (place + span_of c) h
+    after_padding e place (passed_at C e (place - e)) (record_of_claim C place c) (records_of C (place + span_of c) h)
 
 -- the claims are from e up to the tail, and the words there are theirs
 pub record Lie (C : ℕ) (words : List ℕ) (tail e : ℕ) (h : List Claim) : Type 0 where

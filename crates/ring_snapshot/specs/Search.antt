@@ -1,5 +1,5 @@
 -- Words of memory that look like a ring's.
-use Rattle.std.specs.Prelude.{ℕ, zero, suc, ◌+◌, ◌-◌, ◌/◌, ◌^◌, Bool, true, false, ◌&&◌, ◌||◌, ◌==◌, nat_le, nat_lt, not, is_none, List, [], ◌∷◌, take, drop, slice_index, Result, Ok, Err}
+use Rattle.std.specs.Prelude.{ℕ, zero, suc, ◌+◌, ◌-◌, ◌/◌, ◌^◌, Bool, true, false, ◌&&◌, ◌||◌, ◌==◌, nat_le, nat_lt, not, is_none, List, [], ◌∷◌, min, take, drop, slice_index, Result, Ok, Err}
 use Rattle.ring_layout.specs.Places.{index}
 use Rattle.ring_layout.specs.Layout.{head_index, ring_words, tail_index}
 use Rattle.ring_snapshot.specs.RingRecords.{listing, positions_finding}
@@ -18,20 +18,16 @@ abbrev pub are_zero : List ℕ → ℕ → ℕ → Bool
 are_zero words zero i = true
 are_zero words (suc n) i = slice_index words i == 0 && are_zero words n (i + 1)
 
--- the n words from a position on are 0
+-- the n words from a position on are 0: those up to the end of the buffer, and then those from its start on
 abbrev pub is_clear : ℕ → List ℕ → ℕ → ℕ → Bool
-is_clear C words zero p = true
-is_clear C words (suc n) p = slice_index words (index C p) == 0 && is_clear C words n (p + 8)
+is_clear C words n p =
+    let first = min n (C / 8 - index C p) in are_zero words first (index C p) && are_zero words (n - first) 0
 
--- the words of the trailer before, between and after the first two fields are 0
-abbrev pub has_clear_start : ℕ → List ℕ → Bool
-has_clear_start C words =
-    are_zero words 16 (C / 8) && (are_zero words 15 (C / 8 + 17) && are_zero words 15 (C / 8 + 33))
-
--- and those after the other three
-abbrev pub has_clear_end : ℕ → List ℕ → Bool
-has_clear_end C words =
-    are_zero words 15 (C / 8 + 49) && (are_zero words 15 (C / 8 + 65) && are_zero words 15 (C / 8 + 81))
+-- the words of the trailer before, between and after its five fields are 0
+abbrev pub has_clear_trailer : ℕ → List ℕ → Bool
+has_clear_trailer C words =
+    are_zero words 16 (C / 8) && are_zero words 15 (C / 8 + 17) && are_zero words 15 (C / 8 + 33)
+    && are_zero words 15 (C / 8 + 49) && are_zero words 15 (C / 8 + 65) && are_zero words 15 (C / 8 + 81)
 
 -- head and tail make sense, what is listed from the head on are records, of which the first has its header, and what
 -- is left of the buffer is 0
@@ -44,7 +40,7 @@ is_used_buffer C words head tail =
 -- the words of a ring of C bytes in which something was claimed
 abbrev pub looks_like_ring : ℕ → List ℕ → Bool
 looks_like_ring C words =
-    nat_lt 0 (slice_index words (tail_index C)) && has_clear_start C words && has_clear_end C words
+    nat_lt 0 (slice_index words (tail_index C)) && has_clear_trailer C words
     && is_used_buffer C words (slice_index words (head_index C)) (slice_index words (tail_index C))
 
 -- such a ring begins at this word

@@ -1,5 +1,5 @@
 //! The records of a broadcast buffer.
-ghost use Rattle.std.specs.Prelude.{◌≡◌, ◌+◌, ◌%◌, ◌≤◌, length};
+ghost use Rattle.std.specs.Prelude.{◌≡◌, length};
 ghost use Rattle.ring_layout.specs.Places.{IsBoardCapacity};
 ghost use Rattle.ring_board.specs.Layout.{board_words};
 
@@ -8,7 +8,8 @@ pub(crate) mod search;
 use crate::board_finding::BoardFinding;
 use crate::board_record::BoardRecord;
 use crate::body::Body;
-use crate::listing::lies_inside;
+use crate::buffer::{Buffer, lies_inside};
+use crate::listing::Listing;
 use ring_layout::broadcast_buffer_descriptor::{
     LATEST_COUNTER_WORD, MAX_CAPACITY, TAIL_COUNTER_WORD, TAIL_INTENT_COUNTER_WORD, TRAILER_WORDS,
 };
@@ -25,17 +26,7 @@ pub struct BoardSnapshot<'a> {
 }
 
 /// The records of a broadcast buffer from a position on, in order. It ends at the tail, and after a finding.
-#[derive(Debug, Drop)]
-pub struct BoardRecords<'a> {
-    board: BoardSnapshot<'a>,
-    intent: u64,
-    tail: u64,
-    latest: u64,
-    at: u64,
-    most: u64,
-    ghost aligned: { (at % 8 ≡ 0) × (tail % 8 ≡ 0) },
-    ghost order: { (at ≤ tail) × (latest ≤ tail) × (tail ≤ intent) },
-}
+pub type BoardRecords<'a> = Listing<BoardSnapshot<'a>>;
 
 impl<'a> BoardSnapshot<'a> {
     ghost use Rattle.std.specs.Prelude.{◌≡◌, ◌≢◌, ℕ, ◌+◌, ◌-◌, ◌*◌, ◌/◌, ◌%◌, ◌^◌, ◌<◌, ◌≤◌, List, length, slice_index, IfOk, IfErr, IsOkAnd};
@@ -45,7 +36,7 @@ impl<'a> BoardSnapshot<'a> {
     ghost use Rattle.ring_board.specs.Refusals.{IsRefusedBy};
     ghost use Rattle.ring_snapshot.specs.declared.board_finding.BoardFinding.TheVariants.{BadSize};
     ghost use Rattle.ring_snapshot.specs.Listing.{up_to_eight};
-    ghost use Rattle.ring_snapshot.specs.BoardRecords.{intent_in, tail_in, latest_in, records_left, listing, listed_from, first_whole, is_lap_whole, positions_finding, from_finding, HaveTransmitted, BeginsAt, lap_of, transmitted_from};
+    ghost use Rattle.ring_snapshot.specs.BoardRecords.{is_length, entry_at, intent_in, tail_in, latest_in, records_left, listed_from, first_whole, is_lap_whole, positions_finding, from_finding, HaveTransmitted, BeginsAt, lap_of, transmitted_from};
 
     /// Takes the words of a broadcast buffer. Returns `BadSize` if no broadcast buffer has this many.
     pub fn new(words: &'a [u64]) -> Result<Self, BoardFinding>
@@ -123,7 +114,7 @@ impl<'a> BoardSnapshot<'a> {
         let lap = latest - byte_index(self.capacity, latest);
         let whole = self.is_lap_whole();
         let first = if whole { lap } else { latest };
-        Ok(self.listing(intent, tail, latest, first))
+        Ok(Listing::new(*self, first, tail))
     }
 
     /// Iterates over the records from a position on, which must be the start of one, for example the place of a
@@ -143,24 +134,7 @@ impl<'a> BoardSnapshot<'a> {
         if position % 8 != 0 || !begins || intent - position > u64::from(self.capacity) {
             return Err(BoardFinding::OutsideOfRecords { position });
         }
-        Ok(self.listing(intent, tail, latest, position))
-    }
-
-    /// The records from a position on.
-    fn listing(&self, intent: u64, tail: u64, latest: u64, first: u64) -> BoardRecords<'a>
-        requires aligned { (first % 8 ≡ 0) × (tail % 8 ≡ 0) }
-        requires order { (first ≤ tail) × (latest ≤ tail) × (tail ≤ intent) }
-        ensures { records_left result ≡ listing self.now.capacity self.now.words.now intent latest tail
-            ((tail - first) / 8) first }
-    {
-        BoardRecords {
-            board: *self,
-            intent,
-            tail,
-            latest,
-            at: first,
-            most: (tail - first) / 8,
-        }
+        Ok(Listing::new(*self, position, tail))
     }
 
     /// Tests the positions of the trailer.
@@ -189,44 +163,41 @@ impl<'a> BoardSnapshot<'a> {
         }
         Ok(())
     }
-}
-
-impl<'a> BoardRecords<'a> {
-    ghost use Rattle.std.specs.Prelude.{◌≡◌, ◌+◌, ◌<◌, ◌≤◌, IfOk};
-    ghost use Rattle.ring_snapshot.specs.Listing.{up_to_eight};
-    ghost use Rattle.ring_snapshot.specs.BoardRecords.{is_length, entry_at};
-
-    /// Tests whether a record of this length, header included, may be at the position.
-    fn is_length(&self, length: u32) -> bool
-        ensures { result ≡ is_length self.now.board.capacity self.now.latest self.now.tail self.now.at length }
+    /// Tests whether a record of this length, header included, may be at a position.
+    fn is_length(&self, latest: u64, tail: u64, at: u64, length: u32) -> bool
+        requires { at < tail }
+        ensures { result ≡ is_length self.now.capacity latest tail at length }
     {
-        if !lies_inside(self.board.capacity, self.at, length) {
+        if !lies_inside(self.capacity, at, length) {
             return false;
         }
         let span = align8(u64::from(length));
-        if self.at < self.latest {
-            span <= self.latest - self.at
+        if at < latest {
+            span <= latest - at
         } else {
-            self.at == self.latest && span == self.tail - self.at
+            at == latest && span == tail - at
         }
     }
-
-    /// What is at the position, which is before the tail.
-    fn entry_at(&self) -> Result<BoardRecord<'a>, BoardFinding>
-        requires { self.now.at < self.now.tail }
-        ensures entry { result ≡ entry_at self.now.board.capacity self.now.board.words.now self.now.intent
-            self.now.latest self.now.tail self.now.at }
-        ensures inside { IfOk result (λ r. (8 ≤ r.length) × (self.now.at + up_to_eight r.length ≤ self.now.tail)) }
+    /// What is at a position before the tail, with this intent and this place of the last record.
+    fn entry_with(
+        &self,
+        intent: u64,
+        latest: u64,
+        tail: u64,
+        at: u64,
+    ) -> Result<BoardRecord<'a>, BoardFinding>
+        requires { at < tail }
+        ensures entry { result ≡ entry_at self.now.capacity self.now.words.now intent latest tail at }
+        ensures inside { IfOk result (λ r. at + up_to_eight r.length < 2 ^ 64) }
     {
-        let capacity = self.board.capacity;
-        let index = byte_index(capacity, self.at) as u32;
-        let (len, type_id) = unpack_header(self.board.words[word_index(capacity, self.at)]);
+        let index = byte_index(self.capacity, at) as u32;
+        let (len, type_id) = unpack_header(self.words[word_index(self.capacity, at)]);
         let length = len.unsigned_abs();
-        if len < 1 || !self.is_length(length) {
+        if len < 1 || !self.is_length(latest, tail, at, length) {
             return Err(BoardFinding::BadLength { index, length: len });
         }
         let is_padding = type_id == PADDING_MSG_TYPE_ID;
-        if is_padding && (self.at >= self.latest || index + length != capacity) {
+        if is_padding && (at >= latest || index + length != self.capacity) {
             return Err(BoardFinding::BadLength { index, length: len });
         }
         if !is_padding && type_id < 1 {
@@ -238,39 +209,33 @@ impl<'a> BoardRecords<'a> {
             length as usize - HEADER_LENGTH
         };
         Ok(BoardRecord {
-            place: self.at,
+            place: at,
             index,
             is_padding,
-            is_valid: self.intent - self.at < u64::from(capacity),
+            is_valid: intent.saturating_sub(at) < u64::from(self.capacity),
             type_id,
             length,
-            body: Body::new(self.board.words, index as usize + HEADER_LENGTH, bytes),
+            body: Body::new(self.words, index as usize + HEADER_LENGTH, bytes),
         })
     }
 }
 
-impl<'a> Iterator for BoardRecords<'a> {
-    ghost use Rattle.std.specs.Iterator.{YieldsFirst, item_count};
-    ghost use Rattle.ring_snapshot.specs.BoardRecords.{records_left};
+impl<'a> Buffer for BoardSnapshot<'a> {
+    ghost use Rattle.ring_snapshot.specs.BoardRecords.{entry_at, intent_in, latest_in};
 
-    type Item = Result<BoardRecord<'a>, BoardFinding>;
+    type Record = BoardRecord<'a>;
 
-    ghost next_gives = { YieldsFirst records_left };
+    type Finding = BoardFinding;
 
-    ghost remaining = { item_count records_left };
+    ghost size = { λ r. r.length };
 
-    fn next(&mut self) -> Option<Result<BoardRecord<'a>, BoardFinding>> {
-        if self.most == 0 || self.at >= self.tail {
-            return None;
-        }
-        let entry = self.entry_at();
-        match &entry {
-            Ok(record) => {
-                self.at += align8(u64::from(record.length));
-                self.most -= 1;
-            }
-            Err(_finding) => self.most = 0,
-        }
-        Some(entry)
+    ghost entry = { λ b. entry_at b.capacity b.words.now (intent_in b) (latest_in b) };
+
+    fn entry_at(&self, tail: u64, at: u64) -> Result<BoardRecord<'a>, BoardFinding> {
+        self.entry_with(self.intent(), self.latest(), tail, at)
+    }
+
+    fn length_of(own: &BoardRecord<'a>) -> u32 {
+        own.length
     }
 }

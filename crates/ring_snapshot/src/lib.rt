@@ -1,8 +1,8 @@
 //! What is in the words of a ring, a broadcast buffer and counters: read from a copy of their memory, whatever it
 //! holds; and writing such a copy.
 //!
-//! - `ring`, `board`, `counters`: one pass over a copy of each, and the search for them in memory. `listing`: what the
-//!   first two have in common.
+//! - `ring`, `board`, `counters`: one pass over a copy of each, and the search for them in memory. `buffer`, `listing`,
+//!   `search`: what they have in common.
 //! - `record`, `board_record`, `counter`, `body`: what a pass yields.
 //! - `ring_finding`, `board_finding`, `counters_finding`: what is wrong with the words.
 //! - `write`: writing such a copy.
@@ -12,6 +12,7 @@ mod board;
 mod board_finding;
 mod board_record;
 mod body;
+mod buffer;
 mod counter;
 mod counters;
 mod counters_finding;
@@ -19,6 +20,7 @@ mod listing;
 mod record;
 mod ring;
 mod ring_finding;
+mod search;
 mod write;
 
 pub use board::search::next_board;

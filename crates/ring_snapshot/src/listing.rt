@@ -1,19 +1,78 @@
-//! What the listings of rings and broadcast buffers have in common.
-ghost use Rattle.std.specs.Prelude.{◌≡◌, IsTrue};
-ghost use Rattle.std.specs.Int.{is_power_of_two};
-ghost use Rattle.ring_snapshot.specs.Listing.{lies_inside};
+//! The records of a ring or a broadcast buffer, one after the other.
+ghost use Rattle.std.specs.Prelude.{◌≡◌, ◌+◌, ◌%◌, ◌^◌, ◌≤◌};
 
-use ring_layout::record_descriptor::HEADER_LENGTH;
-use ring_layout::{align8, byte_index, max_message};
+use crate::buffer::Buffer;
+use ring_layout::align8;
 
-/// Tests whether a record of this length, header included, may be at a position: no message is longer, and it does not
-/// cross the end of the buffer.
-pub(crate) fn lies_inside(capacity: u32, at: u64, length: u32) -> bool
-    requires { IsTrue (is_power_of_two capacity) }
-    ensures { result ≡ lies_inside capacity at length }
-{
-    if length < HEADER_LENGTH as u32 || length > HEADER_LENGTH as u32 + max_message(capacity) {
-        return false;
+/// The records of a buffer from a position on, in order. It ends at the tail, and after a finding.
+#[derive(Debug, Drop)]
+pub struct Listing<B> {
+    buffer: B,
+    at: u64,
+    tail: u64,
+    most: u64,
+    ghost aligned: { (at % 8 ≡ 0) × (tail % 8 ≡ 0) },
+    ghost near: { tail ≤ at + 2 ^ 24 },
+}
+
+impl<B: Buffer> Listing<B> {
+    ghost use Rattle.std.specs.Prelude.{◌≡◌, ◌+◌, ◌-◌, ◌/◌, ◌%◌, ◌^◌, ◌≤◌};
+    ghost use Rattle.ring_snapshot.specs.Listing.{left_of, listed_by};
+    ghost use Rattle.ring_snapshot.specs.Search.{all_ok};
+
+    /// The records from a position on.
+    pub(crate) fn new(buffer: B, at: u64, tail: u64) -> Self
+        requires aligned { (at % 8 ≡ 0) × (tail % 8 ≡ 0) }
+        requires order { at ≤ tail }
+        requires near { tail ≤ at + 2 ^ 24 }
+        ensures { left_of B.size B.entry result ≡ listed_by B.size (B.entry buffer tail) tail ((tail - at) / 8) at }
+    {
+        let most = (tail - at) / 8;
+        Listing {
+            buffer,
+            at,
+            tail,
+            most,
+        }
     }
-    align8(u64::from(length)) <= u64::from(capacity) - byte_index(capacity, at)
+
+    /// Tests whether all that are left are records.
+    #[tactic(auto, using(crate::proofs::SearchLemmas::yielded_ok, crate::proofs::SearchLemmas::yielded_err, crate::proofs::SearchLemmas::yielded_none))]
+    pub(crate) fn are_records(self) -> bool
+        ensures { result ≡ all_ok (left_of B.size B.entry self) }
+    {
+        for entry in self {
+            match entry {
+                Ok(_record) => {}
+                Err(_finding) => return false,
+            }
+        }
+        true
+    }
+}
+
+impl<B: Buffer> Iterator for Listing<B> {
+    ghost use Rattle.std.specs.Iterator.{YieldsFirst, item_count};
+    ghost use Rattle.ring_snapshot.specs.Listing.{left_of};
+
+    type Item = Result<B::Record, B::Finding>;
+
+    ghost next_gives = { YieldsFirst (left_of B.size B.entry) };
+
+    ghost remaining = { item_count (left_of B.size B.entry) };
+
+    fn next(&mut self) -> Option<Result<B::Record, B::Finding>> {
+        if self.most == 0 || self.at >= self.tail {
+            return None;
+        }
+        let entry = self.buffer.entry_at(self.tail, self.at);
+        match &entry {
+            Ok(record) => {
+                self.at += align8(u64::from(B::length_of(record)));
+                self.most -= 1;
+            }
+            Err(_finding) => self.most = 0,
+        }
+        Some(entry)
+    }
 }

@@ -1,12 +1,13 @@
 //! The records of a ring.
-ghost use Rattle.std.specs.Prelude.{◌≡◌, ◌+◌, ◌%◌, ◌≤◌, length};
+ghost use Rattle.std.specs.Prelude.{◌≡◌, length};
 ghost use Rattle.ring_layout.specs.Places.{IsCapacity};
 ghost use Rattle.ring_layout.specs.Layout.{ring_words};
 
 pub(crate) mod search;
 
 use crate::body::Body;
-use crate::listing::lies_inside;
+use crate::buffer::{Buffer, lies_inside};
+use crate::listing::Listing;
 use crate::record::{Record, RecordState};
 use crate::ring_finding::RingFinding;
 use ring_layout::record_descriptor::{HEADER_LENGTH, PADDING_MSG_TYPE_ID};
@@ -26,16 +27,7 @@ pub struct RingSnapshot<'a> {
 }
 
 /// The records of a ring from a position on, in order. It ends at the tail, and after a finding.
-#[derive(Debug, Drop)]
-pub struct Records<'a> {
-    ring: RingSnapshot<'a>,
-    at: u64,
-    tail: u64,
-    most: u64,
-    ghost aligned: { (at % 8 ≡ 0) × (tail % 8 ≡ 0) },
-    ghost before: { at ≤ tail },
-    ghost near: { tail ≤ at + ring.capacity },
-}
+pub type Records<'a> = Listing<RingSnapshot<'a>>;
 
 impl<'a> RingSnapshot<'a> {
     ghost use Rattle.std.specs.Prelude.{◌≡◌, ◌≢◌, ℕ, ◌+◌, ◌-◌, ◌*◌, ◌/◌, ◌%◌, ◌^◌, ◌<◌, ◌≤◌, ◌==◌, if◌then◌else◌, List, [], length, slice_index, IfOk, IfErr};
@@ -140,12 +132,7 @@ impl<'a> RingSnapshot<'a> {
         if position % 8 != 0 || position < head || position > tail {
             return Err(RingFinding::OutsideOfRecords { position });
         }
-        Ok(Records {
-            ring: *self,
-            at: position,
-            tail,
-            most: (tail - position) / 8,
-        })
+        Ok(Listing::new(*self, position, tail))
     }
 
     /// Tests the positions of head and tail.
@@ -206,15 +193,20 @@ impl<'a> RingSnapshot<'a> {
             body: Body::new(self.words, 0, 0),
         }
     }
+}
 
-    /// What is at a position before the tail.
-    fn entry_at(&self, tail: u64, at: u64) -> Result<Record<'a>, RingFinding>
-        requires aligned { (at % 8 ≡ 0) × (tail % 8 ≡ 0) }
-        requires before { at < tail }
-        requires near { tail ≤ at + self.now.capacity }
-        ensures entry { result ≡ entry_at self.now.capacity self.now.words.now tail at }
-        ensures inside { IfOk result (λ r. (8 ≤ r.length) × (at + up_to_eight r.length ≤ tail)) }
-    {
+impl<'a> Buffer for RingSnapshot<'a> {
+    ghost use Rattle.ring_snapshot.specs.RingRecords.{entry_at};
+
+    type Record = Record<'a>;
+
+    type Finding = RingFinding;
+
+    ghost size = { λ r. r.length };
+
+    ghost entry = { λ ring. entry_at ring.capacity ring.words.now };
+
+    fn entry_at(&self, tail: u64, at: u64) -> Result<Record<'a>, RingFinding> {
         let index = byte_index(self.capacity, at) as u32;
         let word = self.words[word_index(self.capacity, at)];
         if word == 0 {
@@ -249,30 +241,8 @@ impl<'a> RingSnapshot<'a> {
             ),
         })
     }
-}
 
-impl<'a> Iterator for Records<'a> {
-    ghost use Rattle.std.specs.Iterator.{YieldsFirst, item_count};
-    ghost use Rattle.ring_snapshot.specs.RingRecords.{records_left};
-
-    type Item = Result<Record<'a>, RingFinding>;
-
-    ghost next_gives = { YieldsFirst records_left };
-
-    ghost remaining = { item_count records_left };
-
-    fn next(&mut self) -> Option<Result<Record<'a>, RingFinding>> {
-        if self.most == 0 || self.at >= self.tail {
-            return None;
-        }
-        let entry = self.ring.entry_at(self.tail, self.at);
-        match &entry {
-            Ok(record) => {
-                self.at += align8(u64::from(record.length));
-                self.most -= 1;
-            }
-            Err(_finding) => self.most = 0,
-        }
-        Some(entry)
+    fn length_of(own: &Record<'a>) -> u32 {
+        own.length
     }
 }

@@ -46,6 +46,7 @@ pub struct CounterMetadata<'a>(pub &'a CountersManager);
 impl<'a> Words for CounterMetadata<'a> {
     ghost words = { λ m. metadata_words (registry_of m.0.now) };
 
+    #[tactic(auto, using(crate::proofs::WriteLemmas::at_index, crate::proofs::WriteLemmas::past_index))]
     fn word_at(&self, index: usize) -> Option<u64> {
         let id = index / METADATA_WORDS;
         if id >= self.0.count() as usize {
@@ -62,6 +63,7 @@ pub struct CounterValueWords<'a>(pub &'a CountersManager);
 impl<'a> Words for CounterValueWords<'a> {
     ghost words = { λ m. value_words (registry_of m.0.now) };
 
+    #[tactic(auto, using(crate::proofs::WriteLemmas::at_index, crate::proofs::WriteLemmas::past_index))]
     fn word_at(&self, index: usize) -> Option<u64> {
         let id = index / COUNTER_WORDS;
         if id >= self.0.count() as usize {

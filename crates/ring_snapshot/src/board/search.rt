@@ -2,27 +2,12 @@
 ghost use Rattle.std.specs.Prelude.{◌≡◌, ℕ, ◌+◌, ◌<◌, ◌≤◌, false, true, length, IfNone, IfSome};
 ghost use Rattle.ring_layout.specs.Places.{IsBoardCapacity};
 ghost use Rattle.ring_board.specs.Layout.{board_words};
-ghost use Rattle.ring_snapshot.specs.BoardRecords.{records_left};
-ghost use Rattle.ring_snapshot.specs.Search.{all_ok};
 ghost use Rattle.ring_snapshot.specs.BoardSearch.{is_board_at};
 
-use crate::board::{BoardRecords, BoardSnapshot};
-use crate::ring::search::are_zero;
+use crate::board::BoardSnapshot;
+use crate::search::{are_zero, first_index};
 use ring_layout::broadcast_buffer_descriptor::TRAILER_WORDS;
 use ring_layout::is_board_capacity;
-
-/// Tests whether all that is left of a listing are records.
-fn are_records(records: BoardRecords<'_>) -> bool
-    ensures { result ≡ all_ok (records_left records.entry) }
-{
-    for entry in records {
-        match entry {
-            Ok(_record) => {}
-            Err(_finding) => return false,
-        }
-    }
-    true
-}
 
 impl<'a> BoardSnapshot<'a> {
     ghost use Rattle.std.specs.Prelude.{◌≡◌, ◌+◌, ◌/◌, ◌<◌, ◌≤◌, length};
@@ -36,7 +21,7 @@ impl<'a> BoardSnapshot<'a> {
             (latest_in self.now) }
     {
         match self.records() {
-            Ok(records) => are_records(records),
+            Ok(records) => records.are_records(),
             Err(_finding) => false,
         }
     }
@@ -67,17 +52,12 @@ pub fn next_board(words: &[u64], from: usize, capacity: u32) -> Option<usize>
         return None;
     }
     let size = capacity as usize / 8 + TRAILER_WORDS;
-    if words.len() < size {
-        return None;
-    }
-    for at in from..words.len() - size + 1 {
-        let board = BoardSnapshot {
-            capacity,
-            words: &words[at..at + size],
-        };
-        if board.looks_like_one() {
-            return Some(at);
-        }
-    }
-    None
+    let is_at = |at: usize| -> bool
+        requires { IsBoardCapacity capacity × (size ≡ board_words capacity) × (at + size ≤ length words.now) }
+        ensures { is_board_at capacity words.entry.now at ≡ result }
+    {
+        let words = &words[at..at + size];
+        BoardSnapshot { capacity, words }.looks_like_one()
+    };
+    first_index(words, size, from, is_at)
 }

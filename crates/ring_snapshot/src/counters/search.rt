@@ -2,6 +2,7 @@
 ghost use Rattle.std.specs.Prelude.{◌≡◌, ℕ, ◌+◌, ◌<◌, ◌≤◌, false, true, drop, length, IfNone, IfSome};
 ghost use Rattle.ring_snapshot.specs.CounterSearch.{is_counter_at, looks_like_counter};
 
+use crate::search::first_index;
 use ring_layout::counter_descriptor::{
     FREE_FOR_REUSE_DEADLINE_WORD, LABEL_WORD, MAX_LABEL_LENGTH, METADATA_WORDS, NOT_FREE_FOR_REUSE,
     RECORD_ALLOCATED, STATE_WORD,
@@ -22,14 +23,6 @@ fn looks_like_counter(metadata: &[u64]) -> bool
     state == RECORD_ALLOCATED && metadata[FREE_FOR_REUSE_DEADLINE_WORD] == NOT_FREE_FOR_REUSE
 }
 
-/// Tests whether the metadata of a counter in use begin at an index.
-fn is_counter_at(words: &[u64], at: usize) -> bool
-    requires { at + 64 ≤ length words.now }
-    ensures { result ≡ is_counter_at words.now at }
-{
-    looks_like_counter(&words[at..])
-}
-
 /// The first index from `from` on at which the metadata of a counter in use begin among words of memory. `None` if there
 /// is none. Its values are elsewhere, and memory does not say where.
 pub fn next_counter(words: &[u64], from: usize) -> Option<usize>
@@ -39,14 +32,9 @@ pub fn next_counter(words: &[u64], from: usize) -> Option<usize>
     ensures none { IfNone result ((k : ℕ) → from ≤ k → k + 64 ≤ length words.now
         → is_counter_at words.now k ≡ false) }
 {
-    let size = METADATA_WORDS;
-    if words.len() < size {
-        return None;
-    }
-    for at in from..words.len() - size + 1 {
-        if is_counter_at(words, at) {
-            return Some(at);
-        }
-    }
-    None
+    let is_at = |at: usize| -> bool
+        requires { at + 64 ≤ length words.now }
+        ensures { is_counter_at words.entry.now at ≡ result }
+    { looks_like_counter(&words[at..]) };
+    first_index(words, METADATA_WORDS, from, is_at)
 }

@@ -2,93 +2,42 @@
 ghost use Rattle.std.specs.Prelude.{◌≡◌, ℕ, ◌+◌, ◌-◌, ◌/◌, ◌%◌, ◌<◌, ◌≤◌, false, true, length, IfNone, IfSome};
 ghost use Rattle.ring_layout.specs.Places.{IsCapacity};
 ghost use Rattle.ring_layout.specs.Layout.{ring_words};
-ghost use Rattle.ring_snapshot.specs.Search.{are_zero, is_ring_at};
+ghost use Rattle.ring_snapshot.specs.Search.{is_ring_at};
 
+use crate::listing::Listing;
 use crate::ring::RingSnapshot;
+use crate::search::{are_zero, first_index};
 use ring_layout::ring_buffer_descriptor::TRAILER_WORDS;
-use ring_layout::{align8, is_capacity, word_index};
-
-/// Tests whether `count` words from an index on are 0.
-#[tactic(auto, using(crate::proofs::SearchLemmas::zero_goes, crate::proofs::SearchLemmas::zero_fails))]
-pub(crate) fn are_zero(words: &[u64], from: usize, count: usize) -> bool
-    requires { from + count ≤ length words.now }
-    ensures { result ≡ are_zero words.now count from }
-{
-    for k in 0..count {
-        if words[from + k] != 0 {
-            return false;
-        }
-    }
-    true
-}
+use ring_layout::{is_capacity, word_index};
 
 impl<'a> RingSnapshot<'a> {
     ghost use Rattle.std.specs.Prelude.{◌≡◌, ◌+◌, ◌-◌, ◌*◌, ◌/◌, ◌%◌, ◌^◌, ◌<◌, ◌≤◌, length};
     ghost use Rattle.ring_layout.specs.Layout.{head_index, ring_words, tail_index};
-    ghost use Rattle.ring_snapshot.specs.RingRecords.{head_in, listing, tail_in};
-    ghost use Rattle.ring_snapshot.specs.Search.{all_ok, has_clear_end, has_clear_start, is_clear, is_used_buffer, looks_like_ring};
+    ghost use Rattle.ring_snapshot.specs.RingRecords.{head_in, tail_in};
+    ghost use Rattle.ring_snapshot.specs.Search.{has_clear_trailer, is_clear, is_used_buffer, looks_like_ring};
 
-    /// Tests whether the words of the trailer before, between and after its first two fields are 0.
-    fn has_clear_start(&self) -> bool
-        ensures { result ≡ has_clear_start self.now.capacity self.now.words.now }
+    /// Tests whether the words of the trailer without a name are 0.
+    fn has_clear_trailer(&self) -> bool
+        ensures { result ≡ has_clear_trailer self.now.capacity self.now.words.now }
     {
         let trailer = self.capacity as usize / 8;
-        if !are_zero(self.words, trailer, 16) {
-            return false;
-        }
-        if !are_zero(self.words, trailer + 17, 15) {
-            return false;
-        }
-        are_zero(self.words, trailer + 33, 15)
+        are_zero(self.words, trailer, 16)
+            && are_zero(self.words, trailer + 17, 15)
+            && are_zero(self.words, trailer + 33, 15)
+            && are_zero(self.words, trailer + 49, 15)
+            && are_zero(self.words, trailer + 65, 15)
+            && are_zero(self.words, trailer + 81, 15)
     }
 
-    /// Tests whether the words of the trailer after its other three fields are 0.
-    fn has_clear_end(&self) -> bool
-        ensures { result ≡ has_clear_end self.now.capacity self.now.words.now }
-    {
-        let trailer = self.capacity as usize / 8;
-        if !are_zero(self.words, trailer + 49, 15) {
-            return false;
-        }
-        if !are_zero(self.words, trailer + 65, 15) {
-            return false;
-        }
-        are_zero(self.words, trailer + 81, 15)
-    }
-
-    /// Tests whether `count` words from a position on are 0.
-    #[tactic(auto, using(crate::proofs::SearchLemmas::clear_goes, crate::proofs::SearchLemmas::clear_fails))]
-    fn is_clear(&self, from: u64, count: u64) -> bool
-        requires { from + 8 * count < 2 ^ 64 }
+    /// Tests whether `count` words from a position on are 0: those up to the end of the buffer, and then those from its
+    /// start on.
+    fn is_clear(&self, from: u64, count: usize) -> bool
+        requires { 8 * count ≤ self.now.capacity }
         ensures { result ≡ is_clear self.now.capacity self.now.words.now count from }
     {
-        for k in 0..count {
-            if self.words[word_index(self.capacity, from + 8 * k)] != 0 {
-                return false;
-            }
-        }
-        true
-    }
-
-    /// Tests whether what is listed from the head up to the tail are records.
-    #[tactic(auto, using(crate::proofs::SearchLemmas::ok_goes, crate::proofs::SearchLemmas::ok_fails, crate::proofs::SearchLemmas::ok_ends))]
-    fn are_records(&self, head: u64, tail: u64) -> bool
-        requires aligned { (head % 8 ≡ 0) × (tail % 8 ≡ 0) }
-        requires order { head ≤ tail }
-        requires near { tail ≤ head + self.now.capacity }
-        ensures { result ≡ all_ok (listing self.now.capacity self.now.words.now tail ((tail - head) / 8) head) }
-    {
-        let mut at = head;
-        for k in 0..(tail - head) / 8 {
-            if at >= tail {
-                return true;
-            }
-            match self.entry_at(tail, at) {
-                Ok(record) => at += align8(u64::from(record.length)),
-                Err(_finding) => return false,
-            }
-        }
-        true
+        let index = word_index(self.capacity, from);
+        let first = count.min(self.capacity as usize / 8 - index);
+        are_zero(self.words, index, first) && are_zero(self.words, 0, count - first)
     }
 
     /// Tests whether head and tail, what is listed between them and the rest of the buffer are those of a ring.
@@ -102,7 +51,7 @@ impl<'a> RingSnapshot<'a> {
             return false;
         }
         let rest = (head + u64::from(self.capacity) - tail) / 8;
-        self.are_records(head, tail) && self.is_clear(tail, rest)
+        Listing::new(*self, head, tail).are_records() && self.is_clear(tail, rest as usize)
     }
 
     /// Tests whether the words are those of a ring that was used: something was claimed, the words of the trailer
@@ -111,10 +60,7 @@ impl<'a> RingSnapshot<'a> {
     pub fn looks_like_one(&self) -> bool
         ensures { result ≡ looks_like_ring self.now.capacity self.now.words.now }
     {
-        self.tail() > 0
-            && self.has_clear_start()
-            && self.has_clear_end()
-            && self.is_used(self.head(), self.tail())
+        self.tail() > 0 && self.has_clear_trailer() && self.is_used(self.head(), self.tail())
     }
 }
 
@@ -131,17 +77,12 @@ pub fn next_ring(words: &[u64], from: usize, capacity: u32) -> Option<usize>
         return None;
     }
     let size = capacity as usize / 8 + TRAILER_WORDS;
-    if words.len() < size {
-        return None;
-    }
-    for at in from..words.len() - size + 1 {
-        let ring = RingSnapshot {
-            capacity,
-            words: &words[at..at + size],
-        };
-        if ring.looks_like_one() {
-            return Some(at);
-        }
-    }
-    None
+    let is_at = |at: usize| -> bool
+        requires { IsCapacity capacity × (size ≡ ring_words capacity) × (at + size ≤ length words.now) }
+        ensures { is_ring_at capacity words.entry.now at ≡ result }
+    {
+        let words = &words[at..at + size];
+        RingSnapshot { capacity, words }.looks_like_one()
+    };
+    first_index(words, size, from, is_at)
 }

@@ -1,8 +1,16 @@
-use Rattle.std.proofs.Common.{◌≡◌, refl, sym, ◌∙◌, ⊎_elim, arith, true, false, eq-eqb}
+use Rattle.std.proofs.Common.{◌≡◌, ◌-◌, ◌/◌, ap, sym, ◌∙◌, ⊎_elim, arith, true, false, eq-eqb}
 use Rattle.std.proofs.lemmas.Bool.{le-leb}
+use Rattle.ring_snapshot.specs.BoardRecords.{intent_in, latest_in, listing}
 use Rattle.ring_snapshot.proofs.ClosedLemmas.{never_refused, closed_listing, begins_whole, begins_low, at_rest}
 use Rattle.ring_snapshot.proofs.board.BoardSnapshot.records_from.Goals as goal
 use Rattle.ring_snapshot.proofs.board.BoardSnapshot.records_from.Goals.{then-position-latest, else-position-latest, then-position-ne0-via-then-position-ne0, then-position-ne0-via-else-position-ne0+then-not-begins, then-position-ne0-via-else-position-ne0+else-not-begins+then-intent-position}
+
+pub returns-clause-listed : goal.returns-clause-listed
+returns-clause-listed c =
+    let b = c.args.self.now in
+    let from = c.args.position in
+    c.new.ensures
+    ∙ ap (λ t. listing b.capacity b.words.now (intent_in b) (latest_in b) t ((t - from) / 8) from) c.tail-tail.ensures
 
 pub returns-in_err-check_positions-clause-exact : goal.returns-in_err-check_positions-clause-exact
 returns-in_err-check_positions-clause-exact c = λ sent h begins near.
@@ -40,6 +48,4 @@ returns-then-position-ne0-clause-exact c = λ sent h begins near.
 pub returns-clause-exact : goal.returns-clause-exact
 returns-clause-exact c = λ sent h begins near.
     let b = c.args.self.now in
-    c.listing.ensures
-    ∙ closed_listing b.capacity b.lawful b.words.now sent h c.args.position begins _ _ _ _ c.intent-intent.ensures
-    c.tail-tail.ensures c.latest-latest.ensures refl near
+    returns-clause-listed c ∙ closed_listing b.capacity b.lawful b.words.now sent h c.args.position begins near
