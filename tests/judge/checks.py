@@ -12,6 +12,7 @@ import tempfile
 import threading
 import time
 
+from .attacks import Attack, put_attacks
 from .edits import read, replaced
 from .log import Log
 
@@ -72,6 +73,7 @@ class Run:
             text = replaced(read(f"{own}/{file}"), changes)
             with open(f"{own}/{file}", "w", encoding="utf-8") as it:
                 it.write(text)
+        put_attacks(own, [it for it in edits if isinstance(it, Attack)])
         return own
 
     def wait_for_memory(self):
@@ -100,7 +102,7 @@ class Run:
             self.running -= 1
         self.seconds[crate] += seconds
         spent = f"{seconds:.0f} s of processor, {time.time() - began:.0f} s"
-        print(f"{crate}: {label}: {len(edits)} edits, {spent}", flush=True)
+        print(f"{crate}: {label}: {len(edits)} tried, {spent}", flush=True)
         has_said = log.is_verdict or re.search(r"\berror(\[|:)", log.text)
         if not has_said if edits else log.status:
             sys.exit(f"{sys.argv[0]}: rt {words[0]} of {crate} ended with status {log.status}: {log.text[-600:]}")
@@ -126,6 +128,14 @@ class Run:
             return
         for number, part in enumerate(self.parts_left(crate, edits, label, log)):
             self.judge(crate, part, f"{label}.{number}")
+
+    def judge_attacks(self, crate, attacks, label):
+        """Settles these attacks by one check, or each by one of its own if that gives no verdict."""
+        log = self.rt(crate, ["check", "--jobs", "1"], attacks, label)
+        for number, it in enumerate(attacks):
+            it.settle(*it.verdict_of(log))
+            if it.verdict == "undecided" and len(attacks) > 1:
+                self.judge_attacks(crate, [it], f"{label}.{number}")
 
     def parts_left(self, crate, edits, label, log):
         """Settles what a check of several edits decides, and returns the rest as it is tried next."""
