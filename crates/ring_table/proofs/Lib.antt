@@ -21,6 +21,9 @@ pub mod OpenLemmas
 mod SplitSums
 pub mod SplitLemmas
 pub mod CloseLemmas
+pub mod ShelfLemmas
+pub mod CarryLemmas
+pub mod HeaderWords
 pub mod Calls
 pub mod HeaderCalls
 pub mod LawLemmas

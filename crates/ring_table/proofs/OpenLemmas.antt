@@ -1,4 +1,5 @@
 -- A fresh ring meets the rule.
+use Rattle.ring_table.specs.Staged.{in_words}
 use Rattle.std.proofs.Common.{◌≡◌, ℕ, zero, suc, ◌≤◌, List, [], ◌∷◌, Bool, true, false, cond, ltb, sym, refl, ap, ◌∙◌, subst, le-ltb, arith}
 use mathlib.Core.Option.{some, some-injective, some-ne-none}
 use lib.ListN.{get_elem?}
@@ -11,7 +12,7 @@ use Rattle.ring_table.proofs.StagedPlaces.{start_aligned}
 use Rattle.ring_table.proofs.MemoryLemmas.{index_inside}
 
 pub fresh_keeps : (C start : ℕ) (words : List ℕ) → IsLawful C start → start ≤ max_position → IsFresh C start words
-    → Kept C start words (first_view (record { capacity = C; start = start }) ∷ [])
+    → Kept in_words C start words (first_view (record { capacity = C; start = start }) ∷ [])
 fresh_keeps C start words law limit is_fresh =
     let v : View = first_view (record { capacity = C; start = start }) in
     let cache = is_fresh.cache in
@@ -33,7 +34,7 @@ fresh_keeps C start words law limit is_fresh =
         clears_from = omega arith;
         clears_to = omega arith;
         clears_words = start_aligned C start law;
-        shows = λ p p8 p0 p1. is_fresh.records (index C p) (index_inside C start law p) ∙ sym (nothing (ltb p start));
+        shows = λ p p8 p0 p1. is_fresh.records (index C p) (index_inside in_words C start law p) ∙ sym (nothing (ltb p start));
       };
       service = record {
         cache = omega arith;

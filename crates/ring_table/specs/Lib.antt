@@ -4,6 +4,7 @@ pub mod Owners
 pub mod Passing
 pub mod Services
 pub mod Views
+pub mod Shelf
 pub mod Rule
 pub mod Seats
 pub mod Closed

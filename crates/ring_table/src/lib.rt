@@ -1,12 +1,13 @@
 //! The rule of a shared ring, and a small function for each kind of step.
 //!
-//! - `view`, `claim`: what each seat knows. `rule`: what holds between any two steps.
+//! - `view`, `claim`: what each seat knows. `rule`: what holds between any two steps. `mode`: where bodies lie.
 //! - `plays`: what each kind of step says, by role. `steps`: a function for each kind, in files of the same names.
 //! - `table`: a ring's table, from its making to its close. `laws`: what follows from the rule.
 #![tactic(auto)]
 
 mod claim;
 mod laws;
+mod mode;
 mod plays;
 mod rule;
 mod steps;
@@ -18,6 +19,7 @@ pub use laws::{
     last_claim_stands_last, newest_claim_changes_alone, open_claims_are_counted,
     stored_claims_show_one_picture,
 };
+pub use mode::{InSlots, InWords, Mode};
 pub use rule::RingRule;
 pub use steps::consumer::{
     clear_word, load_body_word, load_first_header, load_next_header, load_passed_word, store_head,

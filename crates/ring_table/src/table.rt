@@ -9,17 +9,18 @@ ghost use Rattle.ring_table.specs.Views.{first_view};
 ghost use Rattle.ring_table.specs.Closed.{IsClosed, IsFresh, LeavesRest};
 ghost use Rattle.ring_table.specs.OpenClaims.{open_count};
 
+use crate::mode::InWords;
 use crate::rule::RingRule;
 use crate::steps::RingSeat;
-use crate::view::{Key, View, Wanted};
+use crate::view::{Key, View};
 use atomic_table::{Closed, Table};
 use ring_layout::ring_buffer_descriptor::{
     HEAD_CACHE_POSITION_WORD, HEAD_POSITION_WORD, TAIL_POSITION_WORD, TRAILER_WORDS,
 };
 use std::alloc::{AllocError, Global};
 
-/// A ring with its memory. Its field `shared` is what threads share.
-pub type RingTable = Table<Wanted, View, Key, RingRule, Global>;
+/// A ring with its memory, whose bodies lie in words. Its field `shared` is what threads share.
+pub type RingTable = Table<u64, View, Key, RingRule<InWords>, Global>;
 
 fn fresh_words(alloc: Global, key: Key) -> Result<Vec<u64>, AllocError>
     requires { IsLawful key.capacity key.start }
@@ -49,7 +50,7 @@ pub fn open(alloc: Global, key: Key) -> Result<(RingTable, RingSeat), AllocError
 }
 
 /// The words of a ring, once all producers and the consumer were joined into this seat.
-pub fn close(table: RingTable, seat: RingSeat) -> Closed<Wanted, Global>
+pub fn close(table: RingTable, seat: RingSeat) -> Closed<u64, Global>
     requires table { seat.table_id ≡ table.shared.table_id }
     requires shares { seat.me.0.producer.shares ≡ all_shares }
     requires consumes { seat.me.0.consumes ≡ true }
