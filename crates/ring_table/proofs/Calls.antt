@@ -21,7 +21,7 @@ use Rattle.ring_table.specs.Seats.{IsSeatOf, IsSameSeat}
 use Rattle.ring_table.proofs.StagedPlaces.{capacity_aligned}
 use Rattle.ring_table.proofs.LoadLemmas.{Ok}
 use Rattle.ring_table.proofs.StoreLemmas.{settles}
-use Rattle.ring_table.proofs.ShelfLemmas.{Carries, CarriesIn}
+use Rattle.ring_table.proofs.ShelfLemmas.{CarriesOn, CarriesIn}
 use Rattle.ring_table.proofs.CarryLemmas.{Holds, lift, carries_same, carries_on, carries_claim, carries_changed, one_claim}
 use Rattle.std.proofs.lemmas.Nat.{mod_below}
 
@@ -47,14 +47,14 @@ pub record Leaves (B : Bodies) (v w : View) : Type 0 where
   pub out : w.out ≡ v.out
   pub carries : CarriesIn B v w
 
-in_any : (B : Bodies) (v w : View) → Carries v w → CarriesIn B v w
+in_any : (B : Bodies) (v w : View) → CarriesOn v w → CarriesIn B v w
 in_any in_words v w c = tt
 in_any elsewhere v w c = c
 
-pub leaves_as : (B : Bodies) {v w x : View} → w ≡ x → x.out ≡ v.out → Carries v x → Leaves B v w
+pub leaves_as : (B : Bodies) {v w x : View} → w ≡ x → x.out ≡ v.out → CarriesOn v x → Leaves B v w
 leaves_as B {v} {w} {x} is out c = record {
   out = ap (λ (z : View). z.out) is ∙ out;
-  carries = in_any B v w (subst (Carries v) (sym is) c);
+  carries = in_any B v w (subst (CarriesOn v) (sym is) c);
 }
 
 -- claims, kind and head are as they were
@@ -78,7 +78,7 @@ leaves_claim B {v} {w} {C} {e} {new} {n} {type_id} is = leaves_as B is refl
 -- the head is stored at q, up to which the words are cleared
 pub head_rises : (B : Bodies) {C start id : ℕ} (v : View) (s : State ℕ View) → Ok B C start s
     → get_elem? s.views id ≡ some v → v.consumes ≡ true → (q : ℕ) (got : List PlacedMessage)
-    → v.consumer.cleared ≤ q → Carries v (with_consumer (stands_at q got v.consumer) v)
+    → v.consumer.cleared ≤ q → CarriesOn v (with_consumer (stands_at q got v.consumer) v)
 head_rises B {C} {start} {id} v s r at consumes q got above =
     let mine = ((r.seated.each id v at).consumes consumes).1 in
     let heads : v.consumer.head ≡ r.consumer.head = ap (λ (z : ConsumerView). z.head) mine in
@@ -156,7 +156,7 @@ module _ (B : Bodies) {id : TableId} {key : Key} {capacity : ℕ} {seat : Seat �
         (IsStagedOpen type_id n) h s.view_is h.holds.stage (is ∙ ap (index capacity) (sym h.at_place))
 
     settled_claims : AreRising seat.me.0.producer.claims
-        → Carries seat.me.0 (with_changed place (staged (Stored u)) seat.me.0)
+        → CarriesOn seat.me.0 (with_changed place (staged (Stored u)) seat.me.0)
     settled_claims rising = carries_changed seat.me.0 place (staged (Stored u)) (λ k d has at _.
         let one : h.claim ≡ d = one_claim seat.me.0.producer.claims h.nth k h.claim d rising h.there has
         (h.at_place ∙ sym at) in record {

@@ -17,7 +17,7 @@ use Rattle.ring_table.proofs.ListLemmas.{at_more}
 use Rattle.ring_table.proofs.HistoryLemmas.{changed_at_place, changed_at_other}
 use Rattle.ring_table.proofs.LawLemmas.{above_at}
 use Rattle.ring_table.proofs.LoadLemmas.{Ok}
-use Rattle.ring_table.proofs.ShelfLemmas.{IsAsWas, HasWas, Carries, CarriesIn, CarriesBoth, stepped_shelf, parted_shelf, met_shelf}
+use Rattle.ring_table.proofs.ShelfLemmas.{IsAsWas, HasWas, Carries, CarriesOn, CarriesIn, CarriesBoth, stepped_shelf, parted_shelf, met_shelf}
 
 -- ---- views
 
@@ -31,21 +31,27 @@ has_same v k c has stored = record {
 
 -- claims, the seat's kind and the head are as they were
 pub carries_same : {v w : View} → w.producer.claims ≡ v.producer.claims → w.consumes ≡ v.consumes
-    → w.consumer.head ≡ v.consumer.head → Carries v w
+    → w.consumer.head ≡ v.consumer.head → CarriesOn v w
 carries_same {v} {w} claims kind head = record {
-  claims = λ k c has stored. has_same v k c (subst (λ l. get_elem? l k ≡ some c) claims has) stored;
-  reads = λ consumes. (sym kind ∙ consumes, omega arith);
+  carries = record {
+    claims = λ k c has stored. has_same v k c (subst (λ l. get_elem? l k ≡ some c) claims has) stored;
+    reads = λ consumes. (sym kind ∙ consumes, omega arith);
+  };
+  stays = λ consumes. kind ∙ consumes;
 }
 
-pub carries_as : {v w x : View} → w ≡ x → Carries v x → Carries v w
-carries_as {v} {w} {x} is c = subst (Carries v) (sym is) c
+pub carries_as : {v w x : View} → w ≡ x → CarriesOn v x → CarriesOn v w
+carries_as {v} {w} {x} is c = subst (CarriesOn v) (sym is) c
 
 -- and the head rises
 pub carries_on : {v w : View} → w.producer.claims ≡ v.producer.claims → w.consumes ≡ v.consumes
-    → v.consumer.head ≤ w.consumer.head → Carries v w
+    → v.consumer.head ≤ w.consumer.head → CarriesOn v w
 carries_on {v} {w} claims kind head = record {
-  claims = λ k c has stored. has_same v k c (subst (λ l. get_elem? l k ≡ some c) claims has) stored;
-  reads = λ consumes. (sym kind ∙ consumes, head);
+  carries = record {
+    claims = λ k c has stored. has_same v k c (subst (λ l. get_elem? l k ≡ some c) claims has) stored;
+    reads = λ consumes. (sym kind ∙ consumes, head);
+  };
+  stays = λ consumes. kind ∙ consumes;
 }
 
 unstored : (b : Bool) → IsStored (fresh_stage b) → ⊥
@@ -54,13 +60,14 @@ unstored false stored = stored
 
 -- a claim is made
 pub carries_claim : (v : View) (c : StagedClaim) (b : Bool) (tail : ℕ) → c.stage ≡ fresh_stage b
-    → Carries v (with_claim c tail v)
+    → CarriesOn v (with_claim c tail v)
 carries_claim v c b tail fresh = record {
-  claims = λ k d has stored. ⊎_elim
+  carries = record { claims = λ k d has stored. ⊎_elim
       (λ was. has_same v k d was stored)
       (λ t. absurd (unstored b (subst IsStored (ap (λ (z : StagedClaim). z.stage) (sym t.1) ∙ fresh) stored)))
       (at_more v.producer.claims c d k has);
-  reads = λ consumes. (consumes, omega arith);
+  reads = λ consumes. (consumes, omega arith) };
+  stays = λ consumes. consumes;
 }
 
 was_changed : (p : ℕ) (f : StagedClaim → StagedClaim) (cs : List StagedClaim) (k : ℕ) (c : StagedClaim)
@@ -73,9 +80,9 @@ was_changed p f (d ∷ ds) (suc k) c e = was_changed p f ds k c e
 -- an own claim is changed, which keeps its place and body if its header is stored
 pub carries_changed : (v : View) (p : ℕ) (f : StagedClaim → StagedClaim)
     → ((k : ℕ) (d : StagedClaim) → HasClaim v k d → d.place ≡ p → IsStored (f d).stage → IsAsWas d (f d))
-    → Carries v (with_claims (changed p f v.producer.claims) v)
+    → CarriesOn v (with_claims (changed p f v.producer.claims) v)
 carries_changed v p f keeps_it = record {
-  claims = λ k c has stored.
+  carries = record { claims = λ k c has stored.
       let t = was_changed p f v.producer.claims k c has in
       dite (ℕ_discrete t.0.place p)
       (λ here.
@@ -87,7 +94,8 @@ carries_changed v p f keeps_it = record {
             stored));
       })
       (λ other. has_same v k c (t.1 ∙ ap some (sym (changed_at_other p f t.0 other) ∙ t.2)) stored);
-  reads = λ consumes. (consumes, omega arith);
+  reads = λ consumes. (consumes, omega arith) };
+  stays = λ consumes. consumes;
 }
 
 -- of claims whose places rise, there is one at each place
@@ -178,6 +186,7 @@ module _ (B : Bodies) (C : ℕ) (homes : List (Option ℕ)) (views : List View) 
         claims = λ k c has stored. absurd (nothing_claimed k c has);
         reads = λ consumes. (consumes, omega arith);
       })
+      (λ consumes. inr consumes)
 
   producer_parts : (B : Bodies) → HasShelf B C homes views
       → HasShelf B C homes (set views id (without_share v) ++ producer_alone v ∷ [])
@@ -191,23 +200,26 @@ module _ (B : Bodies) (C : ℕ) (homes : List (Option ℕ)) (views : List View) 
         claims = λ k c has stored. absurd (nothing_claimed k c has);
         reads = λ consumes. absurd (false≢true consumes);
       })
+      (λ consumes. inl consumes)
 
   module _ (other : ℕ) (w : View) (ne : other ≢ id) (none_w : w.out ≡ []) where
-    consumer_meets : (B : Bodies) → get_elem? (set views id (with_consumer_of v w)) other ≡ some w
+    consumer_meets : (B : Bodies) → w.consumes ≡ true → get_elem? (set views id (with_consumer_of v w)) other ≡ some w
         → HasShelf B C homes views → HasShelf B C homes (set (set views id (with_consumer_of v w)) other spent)
-    consumer_meets in_words there s = tt
-    consumer_meets elsewhere there s = met_shelf C homes views s id v at none other w (with_consumer_of v w) spent ne
+    consumer_meets in_words is there s = tt
+    consumer_meets elsewhere is there s = met_shelf C homes views s id v at none other w (with_consumer_of v w) spent ne
         there none_w none
         (record {
           claims = λ k c has stored. inl (has_same v k c has stored);
           reads = λ consumes. inr (consumes, omega arith);
+          first = λ _. is;
+          second = λ _. is;
         })
         refl nothing_claimed (λ consumes. false≢true consumes)
 
-    producer_meets : (B : Bodies) → get_elem? (set views id (with_producer_of v w)) other ≡ some w
+    producer_meets : (B : Bodies) → w.consumes ≡ false → get_elem? (set views id (with_producer_of v w)) other ≡ some w
         → HasShelf B C homes views → HasShelf B C homes (set (set views id (with_producer_of v w)) other spent)
-    producer_meets in_words there s = tt
-    producer_meets elsewhere there s = met_shelf C homes views s id v at none other w (with_producer_of v w) spent ne
+    producer_meets in_words is_not there s = tt
+    producer_meets elsewhere is_not there s = met_shelf C homes views s id v at none other w (with_producer_of v w) spent ne
         there none_w none
         (record {
           claims = λ k c has stored. ⊎_elim
@@ -215,6 +227,8 @@ module _ (B : Bodies) (C : ℕ) (homes : List (Option ℕ)) (views : List View) 
               (λ (t : (j : ℕ) × (get_elem? w.producer.claims j ≡ some c)). inr (has_same w t.0 c t.1 stored))
               (of_both v.producer.claims w.producer.claims k c has);
           reads = λ consumes. inl (consumes, omega arith);
+          first = λ consumes. consumes;
+          second = λ consumes. absurd (false≢true (sym is_not ∙ consumes));
         })
         refl nothing_claimed (λ consumes. false≢true consumes)
 
@@ -227,14 +241,14 @@ module _ (B : Bodies) (C start id : ℕ) (v : View) (none : v.out ≡ []) where
       (without_share v) (producer_alone v) → Splits (Holds B C start) id v (without_share v) (producer_alone v)
   lift_producer_split splits s r at = (splits s r.0 at, producer_parts B C s.homes s.views id v at none B r.1)
 
-  pub lift_consumer_join : (other : ℕ) (w : View) → w.out ≡ []
+  pub lift_consumer_join : (other : ℕ) (w : View) → w.out ≡ [] → w.consumes ≡ true
       → Joins (λ (s : State ℕ View). Kept B C start s.words s.views) id v other w (with_consumer_of v w) spent
       → Joins (Holds B C start) id v other w (with_consumer_of v w) spent
-  lift_consumer_join other w none_w joins s r at ne there =
-      (joins s r.0 at ne there, consumer_meets B C s.homes s.views id v at none other w ne none_w B there r.1)
+  lift_consumer_join other w none_w is joins s r at ne there =
+      (joins s r.0 at ne there, consumer_meets B C s.homes s.views id v at none other w ne none_w B is there r.1)
 
-  pub lift_producer_join : (other : ℕ) (w : View) → w.out ≡ []
+  pub lift_producer_join : (other : ℕ) (w : View) → w.out ≡ [] → w.consumes ≡ false
       → Joins (λ (s : State ℕ View). Kept B C start s.words s.views) id v other w (with_producer_of v w) spent
       → Joins (Holds B C start) id v other w (with_producer_of v w) spent
-  lift_producer_join other w none_w joins s r at ne there =
-      (joins s r.0 at ne there, producer_meets B C s.homes s.views id v at none other w ne none_w B there r.1)
+  lift_producer_join other w none_w is_not joins s r at ne there =
+      (joins s r.0 at ne there, producer_meets B C s.homes s.views id v at none other w ne none_w B is_not there r.1)

@@ -45,7 +45,7 @@ unfolding last_or
 last_is d [] m = refl
 last_is d (x ∷ xs) m = last_is x xs m
 
-one_end : (g g' : List PlacedMessage) (m m' : PlacedMessage) → g ++ m ∷ [] ≡ g' ++ m' ∷ [] → (g ≡ g') × (m ≡ m')
+pub one_end : (g g' : List PlacedMessage) (m m' : PlacedMessage) → g ++ m ∷ [] ≡ g' ++ m' ∷ [] → (g ≡ g') × (m ≡ m')
 one_end g g' m m' e = (
   sym (front_is g m) ∙ (ap drop_last e ∙ front_is g' m'),
   sym (last_is m g m)

@@ -24,6 +24,11 @@ pub mod CloseLemmas
 pub mod ShelfLemmas
 pub mod CarryLemmas
 pub mod HeaderWords
+pub mod RangeLemmas
+pub mod FillLemmas
+pub mod BodyPlaces
+pub mod SlotLemmas
+pub mod OutLemmas
 pub mod Calls
 pub mod HeaderCalls
 pub mod LawLemmas

@@ -91,7 +91,7 @@ not_passed C s e (y ∷ ys) got (suc i) x h r at un =
 
 -- ---- messages
 
-shown_cases : (t : Stage) (m0 m : PlacedMessage) (got later : List PlacedMessage) (k : ℕ) → got ≡ shown_at t m0 ++ later
+pub shown_cases : (t : Stage) (m0 m : PlacedMessage) (got later : List PlacedMessage) (k : ℕ) → got ≡ shown_at t m0 ++ later
     → get_elem? got k ≡ some m → (m0 ≡ m) ⊎ ((k' : ℕ) × (get_elem? later k' ≡ some m))
 shown_cases Moved m0 m got later k e at = inr (k, subst (λ l. get_elem? l k ≡ some m) e at)
 shown_cases Padded m0 m got later k e at = inr (k, subst (λ l. get_elem? l k ≡ some m) e at)
@@ -101,7 +101,7 @@ shown_cases (Stored Committed) m0 m got later zero e at =
     inl (some-injective m0 m (subst (λ l. get_elem? l 0 ≡ some m) e at))
 shown_cases (Stored Committed) m0 m got later (suc k) e at = inr (k, subst (λ l. get_elem? l (suc k) ≡ some m) e at)
 
-none_of : {A : Type 0} (got : List PlacedMessage) (k : ℕ) (m : PlacedMessage) → got ≡ [] → get_elem? got k ≡ some m → A
+pub none_of : {A : Type 0} (got : List PlacedMessage) (k : ℕ) (m : PlacedMessage) → got ≡ [] → get_elem? got k ≡ some m → A
 none_of got k m e at = absurd (some-ne-none m (sym (subst (λ l. get_elem? l k ≡ some m) e at)))
 
 -- a settled claim's header is stored

@@ -1,15 +1,15 @@
 -- The slots as views change and homes stay.
 use Rattle.std.specs.Prelude.{⊤}
-use Rattle.std.proofs.Common.{◌≡◌, ◌≢◌, ℕ, zero, suc, ◌+◌, ◌≤◌, ◌<◌, ◌⊎◌, List, [], ◌∷◌, ◌++◌, Bool, true, false, cond, ltb, set, sym, refl, ap, ◌∙◌, subst, inl, inr, ⊎_elim, arith}
+use Rattle.std.proofs.Common.{◌≡◌, ◌≢◌, ℕ, zero, suc, ◌+◌, ◌≤◌, ◌<◌, ◌⊎◌, List, [], ◌∷◌, ◌++◌, Bool, true, false, cond, ltb, set, sym, refl, ap, ◌∙◌, subst, inl, inr, ⊎_elim, length, arith}
 use mathlib.Core.Option.{Option, some, some-injective, some-ne-none}
 use mathlib.Core.Logic.{dite}
 use native.Mathlib.Decide.{ℕ_discrete}
 use lib.ListN.{get_elem?}
-use Rattle.atomic_table.proofs.Lists.{at_set, set_here, set_else, at_longer}
+use Rattle.atomic_table.proofs.Lists.{at_set, set_here, set_else, at_longer, at_last}
 use Rattle.ring_table.specs.Staged.{Bodies, in_words, elsewhere, StagedClaim, PlacedMessage, IsStored}
 use Rattle.ring_table.specs.Views.{View}
 use Rattle.ring_table.specs.ProducerSteps.{HasClaim}
-use Rattle.ring_table.specs.Shelf.{IsOut, IsOneOut, IsClaimOf, ReadsFrom, HasRight, IsShelf, HasShelf}
+use Rattle.ring_table.specs.Shelf.{IsOut, IsOneOut, IsClaimOf, ReadsFrom, HasReader, HasRight, IsShelf, HasShelf}
 use Rattle.ring_layout.proofs.ListLemmas.{at_below}
 use Rattle.ring_table.proofs.ListLemmas.{at_more}
 
@@ -31,9 +31,14 @@ pub record Carries (v w : View) : Type 0 where
   pub claims : (k : ℕ) (c : StagedClaim) → HasClaim w k c → IsStored c.stage → HasWas v c
   pub reads : w.consumes ≡ true → (v.consumes ≡ true) × (v.consumer.head ≤ w.consumer.head)
 
+-- and w consumes if v does
+pub record CarriesOn (v w : View) : Type 0 where
+  pub carries : Carries v w
+  pub stays : v.consumes ≡ true → w.consumes ≡ true
+
 abbrev pub CarriesIn : Bodies → View → View → Type 0
 CarriesIn in_words v w = ⊤
-CarriesIn elsewhere v w = Carries v w
+CarriesIn elsewhere v w = CarriesOn v w
 
 -- the claim was there before
 record WasThere (views : List View) (c : StagedClaim) : Type 0 where
@@ -57,6 +62,7 @@ record HasOut (C i : ℕ) (views : List View) : Type 0 where
 record Follows (C : ℕ) (views views' : List View) : Type 0 where
   pub fed : (id : ℕ) (u : View) → get_elem? views' id ≡ some u → IsFed views u
   pub out : (i : ℕ) → HasOut C i views → HasOut C i views'
+  pub reader : HasReader views'
 
 follows : (C : ℕ) (homes : List (Option ℕ)) (views views' : List View) → Follows C views views'
     → IsShelf C homes views → IsShelf C homes views'
@@ -80,6 +86,7 @@ follows C homes views views' f s = record {
         head = omega arith;
       }));
   outs = λ id u there. (f.fed id u there).out;
+  reader = f.reader;
 }
 
 fed_by : (views : List View) (id : ℕ) (v w : View) → get_elem? views id ≡ some v → Carries v w → w.out ≡ []
@@ -119,12 +126,30 @@ not_this C i views id v at none o same =
     let one : o.view ≡ v = some-injective o.view v (sym o.there ∙ ap (get_elem? views) same ∙ at) in
     nothing_out C i o.view (ap (λ (z : View). z.out) one ∙ none) o.out
 
+-- the reader as one seat steps
+reader_after : (views : List View) (id : ℕ) (v w : View) → get_elem? views id ≡ some v
+    → (v.consumes ≡ true → w.consumes ≡ true) → HasReader views → HasReader (set views id w)
+reader_after views id v w at stays r = dite (ℕ_discrete r.seat id)
+    (λ same.
+    let one : r.view ≡ v = some-injective r.view v (sym r.there ∙ ap (get_elem? views) same ∙ at) in record {
+      seat = id;
+      view = w;
+      there = set_here views id w (at_below views id v at);
+      consumes = stays (ap (λ (z : View). z.consumes) (sym one) ∙ r.consumes);
+    })
+    (λ other. record {
+      seat = r.seat;
+      view = r.view;
+      there = set_else views id r.seat w other ∙ r.there;
+      consumes = r.consumes;
+    })
+
 module _ (C : ℕ) (homes : List (Option ℕ)) (views : List View) (s : IsShelf C homes views)
     (id : ℕ) (v : View) (at : get_elem? views id ≡ some v) (none : v.out ≡ []) where
-  pub stepped_shelf : (w : View) → w.out ≡ [] → Carries v w → IsShelf C homes (set views id w)
+  pub stepped_shelf : (w : View) → w.out ≡ [] → CarriesOn v w → IsShelf C homes (set views id w)
   stepped_shelf w none' c = follows C homes views (set views id w) (record {
     fed = λ j u there. ⊎_elim
-        (λ (t : (j ≡ id) × (w ≡ u)). subst (IsFed views) t.1 (fed_by views id v w at c none'))
+        (λ (t : (j ≡ id) × (w ≡ u)). subst (IsFed views) t.1 (fed_by views id v w at c.carries none'))
         (λ (t : (j ≢ id) × (get_elem? views j ≡ some u)). fed_same views j u t.1 (s.outs j u t.1))
         (at_set views id j w u there);
     out = λ i o.
@@ -134,11 +159,13 @@ module _ (C : ℕ) (homes : List (Option ℕ)) (views : List View) (s : IsShelf 
           there = set_else views id o.seat w (not_this C i views id v at none o) ∙ o.there;
           out = o.out;
         };
+    reader = reader_after views id v w at c.stays s.reader;
   }) s
 
   pub parted_shelf : (left right : View) → left.out ≡ [] → right.out ≡ [] → Carries v left → Carries v right
+      → (v.consumes ≡ true → (left.consumes ≡ true) ⊎ (right.consumes ≡ true))
       → IsShelf C homes (set views id left ++ right ∷ [])
-  parted_shelf left right none_l none_r c d = follows C homes views (set views id left ++ right ∷ []) (record {
+  parted_shelf left right none_l none_r c d stays = follows C homes views (set views id left ++ right ∷ []) (record {
     fed = λ j u there. ⊎_elim
         (λ was. ⊎_elim
         (λ (t : (j ≡ id) × (left ≡ u)). subst (IsFed views) t.1 (fed_by views id v left at c none_l))
@@ -154,6 +181,32 @@ module _ (C : ℕ) (homes : List (Option ℕ)) (views : List View) (s : IsShelf 
               (set_else views id o.seat left (not_this C i views id v at none o) ∙ o.there);
           out = o.out;
         };
+    reader =
+        (let r = s.reader in
+        dite (ℕ_discrete r.seat id)
+            (λ same.
+            let one : r.view ≡ v = some-injective r.view v (sym r.there ∙ ap (get_elem? views) same ∙ at) in
+            ⊎_elim
+            (λ (is : left.consumes ≡ true). record {
+              seat = id;
+              view = left;
+              there = at_longer (set views id left) (right ∷ []) id left (set_here views id left (at_below views id v at));
+              consumes = is;
+            })
+            (λ (is : right.consumes ≡ true). record {
+              seat = length (set views id left);
+              view = right;
+              there = at_last (set views id left) right (length (set views id left)) refl;
+              consumes = is;
+            })
+            (stays (ap (λ (z : View). z.consumes) (sym one) ∙ r.consumes)))
+            (λ other. record {
+              seat = r.seat;
+              view = r.view;
+              there = at_longer (set views id left) (right ∷ []) r.seat r.view
+                  (set_else views id r.seat left other ∙ r.there);
+              consumes = r.consumes;
+            }));
   }) s
 
   -- what both seats have is fed by the one or the other
@@ -161,6 +214,8 @@ module _ (C : ℕ) (homes : List (Option ℕ)) (views : List View) (s : IsShelf 
     pub claims : (k : ℕ) (c : StagedClaim) → HasClaim both k c → IsStored c.stage → HasWas v c ⊎ HasWas w c
     pub reads : both.consumes ≡ true → ((v.consumes ≡ true) × (v.consumer.head ≤ both.consumer.head))
         ⊎ ((w.consumes ≡ true) × (w.consumer.head ≤ both.consumer.head))
+    pub first : v.consumes ≡ true → both.consumes ≡ true
+    pub second : w.consumes ≡ true → both.consumes ≡ true
 
   pub met_shelf : (other : ℕ) (w both spent : View) → other ≢ id → get_elem? (set views id both) other ≡ some w
       → w.out ≡ [] → both.out ≡ [] → CarriesBoth w both → spent.out ≡ []
@@ -208,4 +263,28 @@ module _ (C : ℕ) (homes : List (Option ℕ)) (views : List View) (s : IsShelf 
                   ∙ set_else views id o.seat both (not_this C i views id v at none o) ∙ o.there;
               out = o.out;
             };
+        reader =
+            (let r = s.reader in
+            let it : (both.consumes ≡ true) → HasReader (set (set views id both) other spent) = λ is. record {
+              seat = id;
+              view = both;
+              there = set_else (set views id both) other id spent (λ e. ne (sym e))
+                  ∙ set_here views id both (at_below views id v at);
+              consumes = is;
+            } in
+            dite (ℕ_discrete r.seat id)
+                (λ same.
+                let one : r.view ≡ v = some-injective r.view v (sym r.there ∙ ap (get_elem? views) same ∙ at) in
+                it (c.first (ap (λ (z : View). z.consumes) (sym one) ∙ r.consumes)))
+                (λ not_id. dite (ℕ_discrete r.seat other)
+                (λ same.
+                let one : r.view ≡ w = some-injective r.view w (sym r.there ∙ ap (get_elem? views) same ∙ was) in
+                it (c.second (ap (λ (z : View). z.consumes) (sym one) ∙ r.consumes)))
+                (λ not_other. record {
+                  seat = r.seat;
+                  view = r.view;
+                  there = set_else (set views id both) other r.seat spent not_other
+                      ∙ set_else views id r.seat both not_id ∙ r.there;
+                  consumes = r.consumes;
+                })));
       }) s

@@ -34,28 +34,7 @@ use Rattle.ring_table.proofs.KnowLemmas.{knows_after}
 use Rattle.ring_table.proofs.StepLemmas.{sees_top_after, becomes}
 use Rattle.ring_table.proofs.MemoryLemmas.{memory_edited, service_elsewhere, one_position, index_inside}
 use Rattle.ring_table.proofs.LoadLemmas.{HasUnsettled, Ok, stands}
-
-one_negated : (m n : ℕ) → neg_ℤ (pos m) ≡ neg_ℤ (pos n) → m ≡ n
-one_negated zero zero e = refl
-one_negated zero (suc n) e = absurd (omega (arith, ints))
-one_negated (suc m) zero e = absurd (omega (arith, ints))
-one_negated (suc m) (suc n) e = omega (arith, ints)
-
--- a claimed header says type id and length
-one_length : (type_id : ℤ) (n : ℕ) (type_id' : ℤ) (n' : ℕ) → 8 + n < 2 ^ 31 → 8 + n' < 2 ^ 31
-    → open_header type_id n ≡ open_header type_id' n' → n ≡ n'
-one_length type_id n type_id' n' small small' same =
-    let e = one_negated (8 + n) (8 + n') (sym (len_of-header (neg_ℤ (pos (8 + n))) type_id (fits_neg (8 + n) small))
-    ∙ ap (λ w. cast_signed w32 (w % 2 ^ 32)) same
-    ∙ len_of-header (neg_ℤ (pos (8 + n'))) type_id' (fits_neg (8 + n') small')) in
-    omega arith
-
-one_type : (type_id : ℤ) (n : ℕ) (type_id' : ℤ) (n' : ℕ) → FitsSigned w32 type_id → 8 + n < 2 ^ 31
-    → FitsSigned w32 type_id' → 8 + n' < 2 ^ 31 → open_header type_id n ≡ open_header type_id' n' → type_id ≡ type_id'
-one_type type_id n type_id' n' fits small fits' small' same =
-    sym (type_of-header (neg_ℤ (pos (8 + n))) type_id (fits_neg (8 + n) small) fits)
-    ∙ ap (λ w. cast_signed w32 (w / 2 ^ 32)) same
-    ∙ type_of-header (neg_ℤ (pos (8 + n'))) type_id' (fits_neg (8 + n') small') fits'
+use Rattle.ring_table.proofs.HeaderWords.{one_type, one_length}
 
 -- a word of a claim's record is at q, or one of the padding before it while only the tail was moved
 record IsWordOf (c : StagedClaim) (q : ℕ) : Type 0 where
@@ -163,13 +142,13 @@ module _ (B : Bodies) (C start : ℕ) where
         };
       })
 
-  rising : (words : List ℕ) (views : List View) (r : Kept B C start words views) (id : ℕ) (v : View)
+  pub rising : (words : List ℕ) (views : List View) (r : Kept B C start words views) (id : ℕ) (v : View)
       → get_elem? views id ≡ some v → AreRising v.producer.claims
   rising words views r id v at =
       subst AreRising (sym (r.seated.each id v at).claims) (rising_owned_by C start id r.hist r.memory.placed)
 
   -- two claims of a view that are not settled and have a word with one index at positions of theirs are at one place
-  same_place : (words : List ℕ) (views : List View) (r : Kept B C start words views) (id : ℕ) (v : View) (k k' : ℕ)
+  pub same_place : (words : List ℕ) (views : List View) (r : Kept B C start words views) (id : ℕ) (v : View) (k k' : ℕ)
       (c c' : StagedClaim) → HasUnsettled B C start views id v k c → HasUnsettled B C start views id v k' c' → (q q' : ℕ)
       → IsWordOf c q → IsWordOf c' q' → index C q' ≡ index C q → (c'.place ≡ c.place) × (q' ≡ q)
   same_place words views r id v k k' c c' has has' q q' is is' same =
@@ -202,7 +181,7 @@ module _ (B : Bodies) (C start : ℕ) where
       )
 
   -- the header of a claim that is not settled is a word of its record
-  header_lies : (words : List ℕ) (views : List View) (r : Kept B C start words views) (id : ℕ) (v : View) (k : ℕ)
+  pub header_lies : (words : List ℕ) (views : List View) (r : Kept B C start words views) (id : ℕ) (v : View) (k : ℕ)
       (c : StagedClaim) → HasUnsettled B C start views id v k c → IsWordOf c c.place
   header_lies words views r id v k c has =
       let st = stands B C start words views r id v k c has in

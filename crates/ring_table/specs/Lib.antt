@@ -12,3 +12,6 @@ pub mod OpenClaims
 pub mod ProducerSteps
 pub mod ConsumerSteps
 pub mod ServiceSteps
+pub mod Ranges
+pub mod SlotSteps
+pub mod Filling

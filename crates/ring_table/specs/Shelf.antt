@@ -59,6 +59,13 @@ pub record ReadsFrom (views : List View) (p : ℕ) : Type 0 where
   pub consumes : view.consumes ≡ true
   pub head : view.consumer.head ≤ p
 
+-- a view consumes
+pub record HasReader (views : List View) : Type 0 where
+  pub seat : ℕ
+  pub view : View
+  pub there : get_elem? views seat ≡ some view
+  pub consumes : view.consumes ≡ true
+
 -- A slot that no seat has out is at home. Bodies from the head on have their words there
 pub record IsShelf (C : ℕ) (homes : List (Option ℕ)) (views : List View) : Type 0 where
   pub wide : length homes ≡ C / 8
@@ -67,6 +74,7 @@ pub record IsShelf (C : ℕ) (homes : List (Option ℕ)) (views : List View) : T
   pub exact : (c : StagedClaim) → IsClaimOf views c → ReadsFrom views c.place
       → HasRight C homes c.place c.message.body
   pub outs : (id : ℕ) (v : View) → get_elem? views id ≡ some v → IsOneOut v
+  pub reader : HasReader views
 
 abbrev pub HasShelf : Bodies → ℕ → List (Option ℕ) → List View → Type 0
 HasShelf in_words C homes views = ⊤

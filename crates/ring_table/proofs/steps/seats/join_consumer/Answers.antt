@@ -12,6 +12,7 @@ join_seat-requires g c = (
   c.requires.slots.1.0,
   c.requires.words,
   lift_consumer_join g.M.Mode.bodies c.args.ring.now.key.capacity c.args.ring.now.key.start _ _ c.requires.slots.0 _ _ c.requires.slots.1.1
+      c.requires.consumes
       (joins_consumer g.M.Mode.bodies
       c.args.ring.now.key.capacity c.args.ring.now.key.start _ _ _ _ c.requires.consumes c.requires.no_share),
 )

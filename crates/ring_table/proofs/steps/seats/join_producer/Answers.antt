@@ -12,6 +12,7 @@ join_seat-requires g c = (
   c.requires.slots.1.0,
   c.requires.words,
   lift_producer_join g.M.Mode.bodies c.args.ring.now.key.capacity c.args.ring.now.key.start _ _ c.requires.slots.0 _ _ c.requires.slots.1.1
+      c.requires.produces
       (joins_producer g.M.Mode.bodies
       c.args.ring.now.key.capacity c.args.ring.now.key.start _ _ _ _ c.requires.produces c.requires.share),
 )
