@@ -123,6 +123,16 @@ module _ (C start : ℕ) (words : List ℕ) (v : View) (closed : IsClosed C star
           unnamed = closed.service.unnamed;
         }
 
+-- what a producer into which the consumer was joined has of both
+pub none_open_too : (v p r : View) → v ≡ with_consumer_of p r → open_count p.producer.claims ≡ 0
+    → open_count v.producer.claims ≡ 0
+none_open_too v p r both none = ap (λ (u : View). open_count u.producer.claims) both ∙ none
+
+pub none_cleared_too : (v p r : View) → v ≡ with_consumer_of p r → r.consumer.cleared ≡ r.consumer.head
+    → v.consumer.cleared ≡ v.consumer.head
+none_cleared_too v p r both none =
+    ap (λ (u : View). u.consumer.cleared) both ∙ none ∙ sym (ap (λ (u : View). u.consumer.head) both)
+
 -- v is the view of a producer p that the consumer r was joined into, and the items are a copy of the closed table's
 -- words
 module _ (K C start : ℕ) (same : K ≡ C) (words items : List ℕ) (copied : items ≡ words) (v p r : View)

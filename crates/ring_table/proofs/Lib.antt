@@ -30,5 +30,6 @@ pub mod BodyPlaces
 pub mod SlotLemmas
 pub mod OutLemmas
 pub mod Calls
+pub mod SlotCalls
 pub mod HeaderCalls
 pub mod LawLemmas

@@ -12,6 +12,7 @@ pub record IsSeatOf (id : TableId) (key : Key) (capacity : ℕ) (s : Seat ℕ Vi
   pub words_are : id.words ≡ ring_words capacity
   pub key_is : key.capacity ≡ capacity
   pub view_is : s.me.0.capacity ≡ capacity
+  pub none : s.me.1 ≡ []
   pub home : s.me.0.out ≡ []
   pub lawful : IsCapacity capacity
 

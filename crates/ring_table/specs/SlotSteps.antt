@@ -77,11 +77,34 @@ pub record HasLast (place : ℕ) (v : View) : Type 0 where
   pub place_is : message.place ≡ place
   pub ahead : v.consumer.cleared ≤ message.place
 
+abbrev pub IsOpen : StagedClaim → Type 0
+IsOpen c = c.stage ≡ Stored Open
+
+-- the body of the own open claim at this place is out, and the slots have the words of `body`
+pub record IsTaken (C place : ℕ) (body : List ℕ) (me : Mine) : Type 0 where
+  pub message : PlacedMessage
+  pub out_is : me.0.out ≡ message ∷ []
+  pub at : message.place ≡ place
+  pub nth : ℕ
+  pub claim : StagedClaim
+  pub there : HasClaim me.0 nth claim
+  pub stage : claim.stage ≡ Stored Open
+  pub at_place : claim.place ≡ place
+  pub long : length claim.message.body ≡ length message.message.body
+  pub same_length : length body ≡ length message.message.body
+  pub bytes : All (λ b. b < 256) body
+  pub slots : HasBody (index C place + 1) body me.1
+
+-- the body of the message that the read got last is out, and the slots have its words
+pub record IsLent (C place : ℕ) (me : Mine) : Type 0 where
+  pub last : HasLast place me.0
+  pub out_is : me.0.out ≡ last.message ∷ []
+  pub slots : HasBody (index C place + 1) last.message.message.body me.1
+
 -- the seat is one of this table, which is a ring of this capacity, and may have a body out
 pub record IsHolderOf (id : TableId) (key : Key) (capacity : ℕ) (s : Seat ℕ View) : Type 0 where
   pub table_is : s.table_id ≡ id
   pub words_are : id.words ≡ ring_words capacity
-  pub slots_are : id.slots ≡ capacity / 8
   pub key_is : key.capacity ≡ capacity
   pub view_is : s.me.0.capacity ≡ capacity
   pub lawful : IsCapacity capacity

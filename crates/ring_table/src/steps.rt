@@ -3,6 +3,7 @@ pub mod consumer;
 pub mod producer;
 pub mod seats;
 pub mod service;
+pub mod slots;
 
 ghost use Rattle.std.specs.Prelude.{◌≡◌, ◌+◌, ◌/◌, ◌<◌};
 

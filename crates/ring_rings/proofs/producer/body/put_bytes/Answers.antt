@@ -108,6 +108,7 @@ loop-done-preserved c =
         id = e.seat.id ∙ r.id ∙ was.id;
         slots = e.seat.slots
             ∙ r.slots ∙ was.slots;
+        out = e.seat.out ∙ r.out ∙ was.out;
         capacity = e.seat.capacity ∙ r.capacity ∙ was.capacity;
       };
       loads = inv.loads ++ mw.view.0;

@@ -5,10 +5,10 @@ use Rattle.ring_table.specs.ProducerSteps.{IsStagedOpen}
 use Rattle.ring_rings.proofs.MadeLemmas.{still_open}
 use Rattle.ring_rings.proofs.JoinLemmas.{joined_claims, joined_few, joined_matches}
 use Rattle.ring_rings.proofs.RisingLemmas.{has_first, has_second, two_apart}
-use Rattle.ring_rings.proofs.producer.many_to_one.Ring+ManyToOne.join.Goals as goal
+use Rattle.ring_rings.proofs.producer.many_to_one.Ring+ManyToOne+B.join.Goals as goal
 
 pub overflow_add-producer-2 : goal.overflow_add-producer-2
-overflow_add-producer-2 c =
+overflow_add-producer-2 g c =
     let p = c.args.producer.now in
     let q = c.args.other in
     let few = joined_few c.args.self.now.capacity c.load_tail-producer.result p.seat.me.0 q.seat.me.0
@@ -18,7 +18,7 @@ overflow_add-producer-2 c =
     omega arith
 
 pub invariant_of-producer : goal.invariant_of-producer
-invariant_of-producer c =
+invariant_of-producer g c =
     let p = c.args.producer.now in
     let q = c.args.other in
     let joined = c.join_producer.ensures in
@@ -32,10 +32,11 @@ invariant_of-producer c =
             ∙ p.produces.0,
         loaded.seat.slots ∙ joined.seat.slots ∙ p.produces.1,
       );
+      home = loaded.seat.out ∙ joined.seat.out ∙ p.home;
     }
 
 pub returns-clause-claims : goal.returns-clause-claims
-returns-clause-claims c =
+returns-clause-claims g c =
     let p : View = c.args.producer.now.seat.me.0 in
     let q : View = c.args.other.seat.me.0 in
     let u : View = c.load_tail-producer.new.producer.me.0 in

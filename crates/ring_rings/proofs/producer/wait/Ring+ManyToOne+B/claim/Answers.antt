@@ -2,7 +2,7 @@ use Rattle.std.proofs.Common.{of_z, subst, to_z, w32}
 use Rattle.ring_rings.specs.Claiming.{RefusesTry}
 use Rattle.ring_rings.specs.Seats.{capacity_of, view_of}
 use Rattle.ring_rings.proofs.WaitLemmas.{tried_more, tried_none}
-use Rattle.ring_rings.proofs.producer.wait.Ring+ManyToOne.claim.Goals as goal
+use Rattle.ring_rings.proofs.producer.wait.Ring+ManyToOne+B.claim.Goals as goal
 
 pub loop-init : goal.loop-init
 loop-init g c = tried_none _ _ _ _ c.requires.producer
