@@ -28,7 +28,7 @@ pub use ring::{
     CloseRefused, Consumer, ManyToOne, ManyToOneRing, OneToOne, OneToOneRing, Producer, Ring,
 };
 pub use ring_layout::{MakeFault, NoShares};
-pub use ring_words::{Action, ClaimFault, Handler, Positions, PutRange, ReadEnd, Standing, Stop};
 pub use ring_table::RingTable;
+pub use ring_words::{Action, ClaimFault, Handler, Positions, PutRange, ReadEnd, Standing, Stop};
 pub use source::CommandSource;
 pub use steps::Steps;

@@ -149,7 +149,14 @@ pub trait Steps: Sized {
         ensures view { consumer.new.me.0 ≡ with_beat value consumer.old.me.0 };
 
     /// Moves the tail from `old` to `new` if it is still `old`, which makes a claim of `wanted`. Returns the tail found.
-    fn move_tail(&self, producer: &mut RingSeat, capacity: u32, old: u64, new: u64, wanted: Wanted) -> u64
+    fn move_tail(
+        &self,
+        producer: &mut RingSeat,
+        capacity: u32,
+        old: u64,
+        new: u64,
+        wanted: Wanted,
+    ) -> u64
         requires seat { IsSeatOf (table_of self.now) (key_of self.now) capacity producer.old }
         requires share { 0 < producer.old.me.0.producer.shares }
         requires room { IsClaimable capacity old new wanted.type_id wanted.len producer.old.me.0.producer.seen_head }
@@ -177,7 +184,13 @@ pub trait Steps: Sized {
 
     /// Stores the header of a claim of `len` bytes, its length negated. The claim is open from then on, with zeros for its
     /// bytes.
-    fn store_claimed_header(&self, producer: &mut RingSeat, capacity: u32, place: u64, wanted: Wanted)
+    fn store_claimed_header(
+        &self,
+        producer: &mut RingSeat,
+        capacity: u32,
+        place: u64,
+        wanted: Wanted,
+    )
         requires seat { IsSeatOf (table_of self.now) (key_of self.now) capacity producer.old }
         requires message { IsMessage capacity (blank wanted.type_id wanted.len) }
         requires claim { HasClaimAt producer.old.me.0 place (NeedsHeader wanted.len) }
@@ -198,14 +211,7 @@ pub trait Steps: Sized {
             → seat.new.me.0 ≡ with_claims (cs ++ put_at 0 body.now c ∷ []) seat.old.me.0 };
 
     /// Puts bytes into an open claim, from the byte `offset` of its body on.
-    fn put_bytes(
-        &self,
-        seat: &mut RingSeat,
-        capacity: u32,
-        place: u64,
-        offset: usize,
-        bytes: &[u8],
-    )
+    fn put_bytes(&self, seat: &mut RingSeat, capacity: u32, place: u64, offset: usize, bytes: &[u8])
         requires seat { IsSeatOf (table_of self.now) (key_of self.now) capacity seat.old }
         requires place { place ≤ max_position }
         requires claim { HasClaimAt seat.old.me.0 place (HasRoom (offset + length bytes.now)) }
@@ -214,7 +220,13 @@ pub trait Steps: Sized {
         ensures put { PutsBytes place offset bytes.now seat.old.me.0 seat.new.me.0 };
 
     /// Stores the header of a claim that is committed.
-    fn store_committed_header(&self, producer: &mut RingSeat, capacity: u32, place: u64, wanted: Wanted)
+    fn store_committed_header(
+        &self,
+        producer: &mut RingSeat,
+        capacity: u32,
+        place: u64,
+        wanted: Wanted,
+    )
         requires seat { IsSeatOf (table_of self.now) (key_of self.now) capacity producer.old }
         requires message { IsMessage capacity (blank wanted.type_id wanted.len) }
         requires claim { HasClaimAt producer.old.me.0 place (IsStagedOpen wanted.type_id wanted.len) }
@@ -223,7 +235,13 @@ pub trait Steps: Sized {
         ensures rising { AreRising producer.old.me.0.producer.claims };
 
     /// Stores the header of a claim that is aborted: the type id of padding.
-    fn store_aborted_header(&self, producer: &mut RingSeat, capacity: u32, place: u64, wanted: Wanted)
+    fn store_aborted_header(
+        &self,
+        producer: &mut RingSeat,
+        capacity: u32,
+        place: u64,
+        wanted: Wanted,
+    )
         requires seat { IsSeatOf (table_of self.now) (key_of self.now) capacity producer.old }
         requires message { IsMessage capacity (blank wanted.type_id wanted.len) }
         requires claim { HasClaimAt producer.old.me.0 place (IsStagedOpen wanted.type_id wanted.len) }

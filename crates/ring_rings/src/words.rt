@@ -99,7 +99,14 @@ impl Steps for RingTable {
     }
 
     #[inline(always)]
-    fn move_tail(&self, producer: &mut RingSeat, capacity: u32, old: u64, new: u64, wanted: Wanted) -> u64 {
+    fn move_tail(
+        &self,
+        producer: &mut RingSeat,
+        capacity: u32,
+        old: u64,
+        new: u64,
+        wanted: Wanted,
+    ) -> u64 {
         move_tail(&self.shared, producer, capacity, old, new, wanted)
     }
 
@@ -114,7 +121,13 @@ impl Steps for RingTable {
     }
 
     #[inline(always)]
-    fn store_claimed_header(&self, producer: &mut RingSeat, capacity: u32, place: u64, wanted: Wanted) {
+    fn store_claimed_header(
+        &self,
+        producer: &mut RingSeat,
+        capacity: u32,
+        place: u64,
+        wanted: Wanted,
+    ) {
         store_claimed_header(&self.shared, producer, capacity, place, wanted);
     }
 
@@ -136,12 +149,24 @@ impl Steps for RingTable {
     }
 
     #[inline(always)]
-    fn store_committed_header(&self, producer: &mut RingSeat, capacity: u32, place: u64, wanted: Wanted) {
+    fn store_committed_header(
+        &self,
+        producer: &mut RingSeat,
+        capacity: u32,
+        place: u64,
+        wanted: Wanted,
+    ) {
         store_committed_header(&self.shared, producer, capacity, place, wanted);
     }
 
     #[inline(always)]
-    fn store_aborted_header(&self, producer: &mut RingSeat, capacity: u32, place: u64, wanted: Wanted) {
+    fn store_aborted_header(
+        &self,
+        producer: &mut RingSeat,
+        capacity: u32,
+        place: u64,
+        wanted: Wanted,
+    ) {
         store_aborted_header(&self.shared, producer, capacity, place, wanted);
     }
 

@@ -62,11 +62,13 @@ unstored false stored = stored
 pub carries_claim : (v : View) (c : StagedClaim) (b : Bool) (tail : ℕ) → c.stage ≡ fresh_stage b
     → CarriesOn v (with_claim c tail v)
 carries_claim v c b tail fresh = record {
-  carries = record { claims = λ k d has stored. ⊎_elim
-      (λ was. has_same v k d was stored)
-      (λ t. absurd (unstored b (subst IsStored (ap (λ (z : StagedClaim). z.stage) (sym t.1) ∙ fresh) stored)))
-      (at_more v.producer.claims c d k has);
-  reads = λ consumes. (consumes, omega arith) };
+  carries = record {
+    claims = λ k d has stored. ⊎_elim
+        (λ was. has_same v k d was stored)
+        (λ t. absurd (unstored b (subst IsStored (ap (λ (z : StagedClaim). z.stage) (sym t.1) ∙ fresh) stored)))
+        (at_more v.producer.claims c d k has);
+    reads = λ consumes. (consumes, omega arith);
+  };
   stays = λ consumes. consumes;
 }
 
@@ -82,19 +84,21 @@ pub carries_changed : (v : View) (p : ℕ) (f : StagedClaim → StagedClaim)
     → ((k : ℕ) (d : StagedClaim) → HasClaim v k d → d.place ≡ p → IsStored (f d).stage → IsAsWas d (f d))
     → CarriesOn v (with_claims (changed p f v.producer.claims) v)
 carries_changed v p f keeps_it = record {
-  carries = record { claims = λ k c has stored.
-      let t = was_changed p f v.producer.claims k c has in
-      dite (ℕ_discrete t.0.place p)
-      (λ here.
-      let is : f t.0 ≡ c = sym (changed_at_place p f t.0 here) ∙ t.2 in record {
-        nth = k;
-        claim = t.0;
-        has = t.1;
-        was = subst (IsAsWas t.0) is (keeps_it k t.0 t.1 here (subst (λ (z : StagedClaim). IsStored z.stage) (sym is)
-            stored));
-      })
-      (λ other. has_same v k c (t.1 ∙ ap some (sym (changed_at_other p f t.0 other) ∙ t.2)) stored);
-  reads = λ consumes. (consumes, omega arith) };
+  carries = record {
+    claims = λ k c has stored.
+        let t = was_changed p f v.producer.claims k c has in
+        dite (ℕ_discrete t.0.place p)
+        (λ here.
+        let is : f t.0 ≡ c = sym (changed_at_place p f t.0 here) ∙ t.2 in record {
+          nth = k;
+          claim = t.0;
+          has = t.1;
+          was = subst (IsAsWas t.0) is (keeps_it k t.0 t.1 here (subst (λ (z : StagedClaim). IsStored z.stage) (sym is)
+              stored));
+        })
+        (λ other. has_same v k c (t.1 ∙ ap some (sym (changed_at_other p f t.0 other) ∙ t.2)) stored);
+    reads = λ consumes. (consumes, omega arith);
+  };
   stays = λ consumes. consumes;
 }
 

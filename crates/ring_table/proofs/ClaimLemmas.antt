@@ -134,13 +134,13 @@ module _ (B : Bodies) (C start : ℕ) where
           refl,
           λ said fits small' same. let e : wanted ≡ said = one_wanted C wanted said claimable.message r.lawful.capacity.most
               fits small' (sym header_is ∙ some-injective header (open_header said.type_id said.len) same) in record {
-            hit = λ _ i. with_claim (moved_claim (sym cap i) old (e i).type_id (e i).len) new v;
-            behind = λ _. end_below B C start s.words s.views r id v at old (sym hit ∙ is);
-            miss = λ other. absurd (other hit);
-            later = omega arith;
-            position = position;
-            sole = at_sole;
-          },
+                hit = λ _ i. with_claim (moved_claim (sym cap i) old (e i).type_id (e i).len) new v;
+                behind = λ _. end_below B C start s.words s.views r id v at old (sym hit ∙ is);
+                miss = λ other. absurd (other hit);
+                later = omega arith;
+                position = position;
+                sole = at_sole;
+              },
           λ other. absurd (other hit),
         ),
       ))

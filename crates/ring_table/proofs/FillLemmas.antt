@@ -166,7 +166,7 @@ copy_more first k n w scratch before held held' less room t told =
     let some = first_of_some t.left (omega arith) in
     let y : ℕ = some.0 in
     let heard = told y (numbered (suc (first + k)) some.1 ++ numbered first t.done)
-        (t.held_is ∙ ap (λ l. numbered (first + k) l ++ numbered first t.done) some.2) in
+    (t.held_is ∙ ap (λ l. numbered (first + k) l ++ numbered first t.done) some.2) in
     let long : length t.left ≡ suc (length some.1) = ap length some.2 in
     let more : length (t.done ++ y ∷ []) ≡ length t.done + 1 = length-append t.done (y ∷ []) in
     let parts : (t.done ++ y ∷ []) ++ some.1 ≡ t.done ++ t.left = append_assoc t.done (y ∷ []) some.1 ∙ ap (λ l. t.done ++ l) (sym some.2) in
@@ -185,7 +185,7 @@ copy_more first k n w scratch before held held' less room t told =
           let o : ℕ = j - 8 * k in
           let there : j ≡ 8 * k + o = omega arith in
           let word : body_word body (8 * k) ≡ w = ap (λ z. body_word body (8 * z)) (sym t.gone)
-              ∙ words (length t.done) y (ap (λ l. get_elem? l (length t.done)) (append_assoc t.done (y ∷ []) some.1) ∙ get_next t.done y some.1) ∙ sym heard.0 in
+          ∙ words (length t.done) y (ap (λ l. get_elem? l (length t.done)) (append_assoc t.done (y ∷ []) some.1) ∙ get_next t.done y some.1) ∙ sym heard.0 in
           overwritten_inside (8 * k) (to_le_bytes w64 w) scratch j (omega arith) h (omega arith)
           ∙ byte_of_bytes w o (omega arith) ∙ ap (λ z. z / 2 ^ (8 * o) % 256) (sym word) ∙ byte_of_body body small k o (omega arith)
           ∙ ap (λ z. get_or body z 0) (sym there))
@@ -202,7 +202,7 @@ copy_end first k n scratch before held is t =
           ∙ ap (numbered first) (sym (append-nil t.done)) ∙ ap (λ l. numbered first (t.done ++ l)) (sym none) ∙ sym t.before_is,
       λ body has small j inside.
           let values : has.values ≡ t.done ++ t.left = sym (values_numbered first has.values) ∙ ap values_of (sym has.held_is ∙ t.before_is)
-              ∙ values_numbered first (t.done ++ t.left) in
+          ∙ values_numbered first (t.done ++ t.left) in
           let count = has.count in
           let all : length has.values ≡ length t.done + length t.left = ap length values ∙ length-append t.done t.left in
           t.copies body (subst (AreWordsOf body) values has.words) small j inside (omega arith),

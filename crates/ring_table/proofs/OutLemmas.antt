@@ -60,10 +60,16 @@ has_owned (x ∷ xs) zero j c e =
 has_owned (x ∷ xs) (suc n) j c e =
     let t = has_owned xs n j c e in
     dite (ℕ_discrete x.0 j)
-    (λ own. (suc t.0, ap (λ b. get_elem? (cond b (x.1 ∷ owned_by j xs) (owned_by j xs)) (suc t.0))
-    (eq-eqb x.0 j own) ∙ t.1))
-    (λ other. (t.0, ap (λ b. get_elem? (cond b (x.1 ∷ owned_by j xs) (owned_by j xs)) t.0)
-    (ne_eqb x.0 j other) ∙ t.1))
+    (λ own. (
+      suc t.0,
+      ap (λ b. get_elem? (cond b (x.1 ∷ owned_by j xs) (owned_by j xs)) (suc t.0))
+          (eq-eqb x.0 j own) ∙ t.1,
+    ))
+    (λ other. (
+      t.0,
+      ap (λ b. get_elem? (cond b (x.1 ∷ owned_by j xs) (owned_by j xs)) t.0)
+          (ne_eqb x.0 j other) ∙ t.1,
+    ))
 
 -- claims of a view that has them as before
 same_claims : (views : List View) (id : ℕ) (v w : View) (c : StagedClaim) → get_elem? views id ≡ some v
@@ -187,7 +193,7 @@ module _ (C start : ℕ) where
               let one : c ≡ c' = own_claim s r.0 id v at cap k c has un k' c' has' (λ z. subst IsSettled is' z) same in (
                 (λ x. with_out (placed_message (one x) ∷ []) v),
                 subst (λ (z : StagedClaim). HasBody (i + 1) z.message.body (carried_after me.1
-                (takes_from (i + 1) ys.0))) one body,
+                    (takes_from (i + 1) ys.0))) one body,
               ),
           rising elsewhere C start s.words s.views r.0 id v at,
         ),
@@ -250,7 +256,7 @@ module _ (C start : ℕ) where
             let same = one_end front front' m m' (sym got ∙ got') in (
               (λ x. with_out (same.1 x ∷ []) v),
               subst (λ (z : PlacedMessage). HasBody (i + 1) z.message.body (carried_after me.1
-              (takes_from (i + 1) ys.0))) same.1 body,
+                  (takes_from (i + 1) ys.0))) same.1 body,
             ),
       )
 

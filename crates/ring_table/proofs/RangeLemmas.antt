@@ -94,7 +94,7 @@ module _ {S : Type 0} where
   homes_gives hs k [] c = refl
   homes_gives hs k (y ∷ ys) c = homes_gives (set hs k (some y)) (suc k) ys c
 
--- ---- a turn of the loop that writes them
+  -- ---- a turn of the loop that writes them
 
   pub first_of_some : (ys : List S) → 0 < length ys → (y : S) × (rest : List S) × (ys ≡ y ∷ rest)
   first_of_some [] h = absurd (omega arith)

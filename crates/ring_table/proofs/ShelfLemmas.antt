@@ -184,29 +184,29 @@ module _ (C : ℕ) (homes : List (Option ℕ)) (views : List View) (s : IsShelf 
     reader =
         (let r = s.reader in
         dite (ℕ_discrete r.seat id)
-            (λ same.
-            let one : r.view ≡ v = some-injective r.view v (sym r.there ∙ ap (get_elem? views) same ∙ at) in
-            ⊎_elim
-            (λ (is : left.consumes ≡ true). record {
-              seat = id;
-              view = left;
-              there = at_longer (set views id left) (right ∷ []) id left (set_here views id left (at_below views id v at));
-              consumes = is;
-            })
-            (λ (is : right.consumes ≡ true). record {
-              seat = length (set views id left);
-              view = right;
-              there = at_last (set views id left) right (length (set views id left)) refl;
-              consumes = is;
-            })
-            (stays (ap (λ (z : View). z.consumes) (sym one) ∙ r.consumes)))
-            (λ other. record {
-              seat = r.seat;
-              view = r.view;
-              there = at_longer (set views id left) (right ∷ []) r.seat r.view
-                  (set_else views id r.seat left other ∙ r.there);
-              consumes = r.consumes;
-            }));
+        (λ same.
+        let one : r.view ≡ v = some-injective r.view v (sym r.there ∙ ap (get_elem? views) same ∙ at) in
+        ⊎_elim
+        (λ (is : left.consumes ≡ true). record {
+          seat = id;
+          view = left;
+          there = at_longer (set views id left) (right ∷ []) id left (set_here views id left (at_below views id v at));
+          consumes = is;
+        })
+        (λ (is : right.consumes ≡ true). record {
+          seat = length (set views id left);
+          view = right;
+          there = at_last (set views id left) right (length (set views id left)) refl;
+          consumes = is;
+        })
+        (stays (ap (λ (z : View). z.consumes) (sym one) ∙ r.consumes)))
+        (λ other. record {
+          seat = r.seat;
+          view = r.view;
+          there = at_longer (set views id left) (right ∷ []) r.seat r.view
+              (set_else views id r.seat left other ∙ r.there);
+          consumes = r.consumes;
+        }));
   }) s
 
   -- what both seats have is fed by the one or the other
@@ -273,18 +273,18 @@ module _ (C : ℕ) (homes : List (Option ℕ)) (views : List View) (s : IsShelf 
               consumes = is;
             } in
             dite (ℕ_discrete r.seat id)
-                (λ same.
-                let one : r.view ≡ v = some-injective r.view v (sym r.there ∙ ap (get_elem? views) same ∙ at) in
-                it (c.first (ap (λ (z : View). z.consumes) (sym one) ∙ r.consumes)))
-                (λ not_id. dite (ℕ_discrete r.seat other)
-                (λ same.
-                let one : r.view ≡ w = some-injective r.view w (sym r.there ∙ ap (get_elem? views) same ∙ was) in
-                it (c.second (ap (λ (z : View). z.consumes) (sym one) ∙ r.consumes)))
-                (λ not_other. record {
-                  seat = r.seat;
-                  view = r.view;
-                  there = set_else (set views id both) other r.seat spent not_other
-                      ∙ set_else views id r.seat both not_id ∙ r.there;
-                  consumes = r.consumes;
-                })));
+            (λ same.
+            let one : r.view ≡ v = some-injective r.view v (sym r.there ∙ ap (get_elem? views) same ∙ at) in
+            it (c.first (ap (λ (z : View). z.consumes) (sym one) ∙ r.consumes)))
+            (λ not_id. dite (ℕ_discrete r.seat other)
+            (λ same.
+            let one : r.view ≡ w = some-injective r.view w (sym r.there ∙ ap (get_elem? views) same ∙ was) in
+            it (c.second (ap (λ (z : View). z.consumes) (sym one) ∙ r.consumes)))
+            (λ not_other. record {
+              seat = r.seat;
+              view = r.view;
+              there = set_else (set views id both) other r.seat spent not_other
+                  ∙ set_else views id r.seat both not_id ∙ r.there;
+              consumes = r.consumes;
+            })));
       }) s

@@ -1,5 +1,7 @@
 -- How far a body is in its slots.
 use Rattle.std.specs.Prelude.{◌≡◌, ℕ, ◌+◌, ◌*◌, ◌<◌, List, ◌++◌, All, length, slice_index}
+use Rattle.atomic_table.specs.declared.shared.Seat.{Seat}
+use Rattle.ring_table.specs.Views.{View}
 use Rattle.ring_table.specs.Ranges.{numbered}
 use Rattle.ring_table.specs.SlotSteps.{AreWordsOf}
 
@@ -26,3 +28,9 @@ pub record Copying (first k n : ℕ) (scratch : List ℕ) (before held : List (�
   pub count : length left + k ≡ n
   pub copies : (body : List ℕ) → AreWordsOf body (done ++ left) → All (λ b. b < 256) body → (j : ℕ) → j < length body → j < 8 * k
       → slice_index scratch j ≡ slice_index body j
+
+-- the same seat with the same view
+pub record IsSameTable (old new : Seat ℕ View) : Type 0 where
+  pub table : new.table_id ≡ old.table_id
+  pub id : new.id ≡ old.id
+  pub view : new.me.0 ≡ old.me.0

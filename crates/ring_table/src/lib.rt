@@ -5,6 +5,7 @@
 //! - `table`: a ring's table, from its making to its close. `laws`: what follows from the rule.
 #![tactic(auto)]
 
+mod bodies;
 mod claim;
 mod laws;
 mod mode;
@@ -14,6 +15,7 @@ mod steps;
 mod table;
 mod view;
 
+pub use bodies::{copy_slots, fill_slots, fill_zeros};
 pub use claim::{PlacedMessage, Stage, StagedClaim};
 pub use laws::{
     last_claim_stands_last, newest_claim_changes_alone, open_claims_are_counted,
@@ -35,5 +37,5 @@ pub use steps::service::{
 };
 pub use steps::slots::{give_body, lend_body, open_body, return_body, take_body};
 pub use steps::{RingSeat, SharedRing};
-pub use table::{RingTable, close, open};
+pub use table::{RingTable, SlotTable, close, open, open_slots};
 pub use view::{ConsumerView, Key, ProducerView, Service, View, Wanted};

@@ -4,8 +4,8 @@ ghost use Rattle.ring_table.specs.declared.claim.PlacedMessage.{PlacedMessage};
 ghost use Rattle.ring_table.specs.Seats.{IsSameSeat};
 ghost use Rattle.ring_rings.specs.ReadingSteps.{Finds, HasCome, IsAt, IsReaderSeatOf, OnlyScans};
 
-use crate::steps::Steps;
 use super::load::load_header;
+use crate::steps::Steps;
 use ring_layout::record_descriptor::{HEADER_LENGTH, PADDING_MSG_TYPE_ID};
 use ring_layout::unpack_header;
 use ring_table::RingSeat;

@@ -15,6 +15,7 @@ impl<K, B: Steps> Ring<K, B> {
         ensures seat { IsSameSeat consumer.old.seat consumer.new.seat }
         ensures view { consumer_view consumer.new ≡ with_beat value (consumer_view consumer.old) }
     {
-        self.table.store_heartbeat(&mut consumer.seat, self.capacity, value);
+        self.table
+            .store_heartbeat(&mut consumer.seat, self.capacity, value);
     }
 }

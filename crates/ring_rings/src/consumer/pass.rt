@@ -16,7 +16,13 @@ use ring_table::{Mode, RingSeat, SharedRing, clear_word, load_passed_word};
 
 /// Clears the next word that the read has passed. Its index in the buffer is `target`.
 #[inline(always)]
-fn pass_word<M: Mode>(ring: &SharedRing<M>, seat: &mut RingSeat, capacity: u32, cleared: u64, target: usize)
+fn pass_word<M: Mode>(
+    ring: &SharedRing<M>,
+    seat: &mut RingSeat,
+    capacity: u32,
+    cleared: u64,
+    target: usize,
+)
     requires seat { IsReaderSeatOf ring.now.table_id ring.now.key capacity seat.old }
     requires target { target ≡ index capacity cleared }
     requires cleared { seat.old.me.0.consumer.cleared ≡ cleared }
@@ -32,7 +38,13 @@ fn pass_word<M: Mode>(ring: &SharedRing<M>, seat: &mut RingSeat, capacity: u32, 
 
 /// Clears the words that the read has passed, from the head up to the position `to`.
 #[inline(always)]
-pub(crate) fn clear_up<M: Mode>(ring: &SharedRing<M>, seat: &mut RingSeat, capacity: u32, head: u64, to: u64)
+pub(crate) fn clear_up<M: Mode>(
+    ring: &SharedRing<M>,
+    seat: &mut RingSeat,
+    capacity: u32,
+    head: u64,
+    to: u64,
+)
     requires seat { IsReaderSeatOf ring.now.table_id ring.now.key capacity seat.old }
     requires cleared { seat.old.me.0.consumer.cleared ≡ head }
     requires passed { (head ≤ to) × (to ≤ seat.old.me.0.consumer.scan) }
@@ -69,12 +81,10 @@ impl<K, B: Steps> Ring<K, B> {
         ensures settles { SettlesAll scan (seat_view consumer.old) (seat_view consumer.new) }
     {
         if consumer.head < scan {
-            self.table.clear_up(&mut consumer.seat,
-                self.capacity,
-                consumer.head,
-                scan,
-            );
-            self.table.store_head(&mut consumer.seat, self.capacity, scan);
+            self.table
+                .clear_up(&mut consumer.seat, self.capacity, consumer.head, scan);
+            self.table
+                .store_head(&mut consumer.seat, self.capacity, scan);
             consumer.head = scan;
         }
     }
@@ -90,12 +100,10 @@ impl<K, B: Steps> Ring<K, B> {
         ensures settles { SettlesBefore place (seat_view consumer.old) (seat_view consumer.new) }
     {
         if consumer.head < place {
-            self.table.clear_up(&mut consumer.seat,
-                self.capacity,
-                consumer.head,
-                place,
-            );
-            self.table.store_head_before(&mut consumer.seat, self.capacity, place);
+            self.table
+                .clear_up(&mut consumer.seat, self.capacity, consumer.head, place);
+            self.table
+                .store_head_before(&mut consumer.seat, self.capacity, place);
             consumer.head = place;
         }
     }

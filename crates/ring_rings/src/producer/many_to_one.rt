@@ -41,12 +41,7 @@ impl<B: Steps> Ring<ManyToOne, B> {
         ensures claims { KeepsClaims self.now producer.old producer.new }
     {
         let wanted = Wanted { type_id, len };
-        let admission = try_claim(
-            &self.table,
-            &mut producer.seat,
-            self.capacity,
-            wanted,
-        )?;
+        let admission = try_claim(&self.table, &mut producer.seat, self.capacity, wanted)?;
         producer.own_tail = admission.end;
         producer.open_claims += 1;
         Ok(Claim::new(self.capacity, admission.place, wanted))

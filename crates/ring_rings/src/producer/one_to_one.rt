@@ -37,13 +37,7 @@ impl<B: Steps> Ring<OneToOne, B> {
     {
         let wanted = Wanted { type_id, len };
         let tail = producer.own_tail;
-        let admission = claim_alone(
-            &self.table,
-            &mut producer.seat,
-            self.capacity,
-            tail,
-            wanted,
-        )?;
+        let admission = claim_alone(&self.table, &mut producer.seat, self.capacity, tail, wanted)?;
         producer.own_tail = admission.end;
         producer.open_claims += 1;
         Ok(Claim::new(self.capacity, admission.place, wanted))

@@ -16,7 +16,8 @@ impl<K, B: Steps> Ring<K, B> {
         ensures draws { DrawsId (view_of producer.old) result (view_of producer.new) }
         ensures claims { KeepsClaims self.now producer.old producer.new }
     {
-        self.table.draw_correlation_id(&mut producer.seat, self.capacity)
+        self.table
+            .draw_correlation_id(&mut producer.seat, self.capacity)
     }
 
     /// The consumer's heartbeat: 0, or a value that it stored, and none before one that this producer read.

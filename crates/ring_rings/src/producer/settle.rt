@@ -67,7 +67,8 @@ impl<K, B: Steps> Ring<K, B> {
         if offset > len || bytes.len() > len - offset {
             return Err(PutRange);
         }
-        self.table.put_bytes(&mut producer.seat,
+        self.table.put_bytes(
+            &mut producer.seat,
             self.capacity,
             claim.place(),
             offset,

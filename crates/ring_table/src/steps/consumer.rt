@@ -33,7 +33,12 @@ pub fn load_first_header<M: Mode>(
 }
 
 /// Loads the header that the running read has reached.
-pub fn load_next_header<M: Mode>(ring: &SharedRing<M>, consumer: &mut RingSeat, capacity: u32, scan: u64) -> u64
+pub fn load_next_header<M: Mode>(
+    ring: &SharedRing<M>,
+    consumer: &mut RingSeat,
+    capacity: u32,
+    scan: u64,
+) -> u64
     requires seat { IsSeatOf ring.now.table_id ring.now.key capacity consumer.old }
     requires consumes { consumer.old.me.0.consumes ≡ true }
     requires scan { consumer.old.me.0.consumer.scan ≡ scan }
@@ -115,7 +120,12 @@ pub fn store_head<M: Mode>(ring: &SharedRing<M>, consumer: &mut RingSeat, capaci
 }
 
 /// Stores the head before the last message that the read has got, which stays in the ring.
-pub fn store_head_before<M: Mode>(ring: &SharedRing<M>, consumer: &mut RingSeat, capacity: u32, head: u64)
+pub fn store_head_before<M: Mode>(
+    ring: &SharedRing<M>,
+    consumer: &mut RingSeat,
+    capacity: u32,
+    head: u64,
+)
     requires seat { IsSeatOf ring.now.table_id ring.now.key capacity consumer.old }
     requires consumes { consumer.old.me.0.consumes ≡ true }
     requires last { StandsBefore head consumer.old.me.0 }

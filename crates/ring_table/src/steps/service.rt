@@ -36,7 +36,11 @@ pub fn store_cache<M: Mode>(ring: &SharedRing<M>, producer: &mut RingSeat, capac
 }
 
 /// Draws the next correlation id by a fetch-and-add of 1.
-pub fn draw_correlation_id<M: Mode>(ring: &SharedRing<M>, producer: &mut RingSeat, capacity: u32) -> u64
+pub fn draw_correlation_id<M: Mode>(
+    ring: &SharedRing<M>,
+    producer: &mut RingSeat,
+    capacity: u32,
+) -> u64
     requires seat { IsSeatOf ring.now.table_id ring.now.key capacity producer.old }
     requires share { 0 < producer.old.me.0.producer.shares }
     ensures seat { IsSameSeat producer.old producer.new }
@@ -60,7 +64,12 @@ pub fn load_heartbeat<M: Mode>(ring: &SharedRing<M>, producer: &mut RingSeat, ca
 }
 
 /// Stores the consumer's heartbeat.
-pub fn store_heartbeat<M: Mode>(ring: &SharedRing<M>, consumer: &mut RingSeat, capacity: u32, value: u64)
+pub fn store_heartbeat<M: Mode>(
+    ring: &SharedRing<M>,
+    consumer: &mut RingSeat,
+    capacity: u32,
+    value: u64,
+)
     requires seat { IsSeatOf ring.now.table_id ring.now.key capacity consumer.old }
     requires consumes { consumer.old.me.0.consumes ≡ true }
     ensures seat { IsSameSeat consumer.old consumer.new }
