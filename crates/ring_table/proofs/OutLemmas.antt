@@ -22,7 +22,7 @@ use Rattle.ring_table.specs.ProducerSteps.{Mine, HasClaim, with_changed}
 use Rattle.ring_table.specs.Rule.{Kept}
 use Rattle.ring_table.specs.Ranges.{numbered, values_of, takes_from, gives_first, laid}
 use Rattle.ring_table.specs.Shelf.{IsClaimOf, IsShelf}
-use Rattle.ring_table.specs.SlotSteps.{words_of, AreWordsOf, HasSlots, HasBody, with_out, OpensBody, TakesBody, GivesBody, LendsBody, ReturnsBody}
+use Rattle.ring_table.specs.SlotSteps.{words_of, AreWordsOf, HasSlots, HasBody, with_out, OpensBody, TakesBody, GivesBody, LendsBody, ReturnsBody, body_loads}
 use Rattle.ring_table.proofs.RangeLemmas.{values_numbered, carried_takes, valid_takes, carried_gives, valid_gives, homes_gives}
 use Rattle.ring_table.proofs.ListLemmas.{there_or_past}
 use Rattle.ring_table.proofs.HistoryLemmas.{changed_at_place, changed_at_other, changed_there}
@@ -95,12 +95,12 @@ same_claims views id v w c at claims of = ⊎_elim
 
 -- one view has another body out
 pub outed : (B : Bodies) (C start : ℕ) (words : List ℕ) (views : List View) (r : Kept B C start words views) (id : ℕ)
-    (v : View) → get_elem? views id ≡ some v → (ms : List PlacedMessage)
-    → Kept B C start words (set views id (with_out ms v))
-outed B C start words views r id v at ms =
+    (v : View) → get_elem? views id ≡ some v → (ms : List PlacedMessage) (log : List (ℕ × ℕ))
+    → Kept B C start words (set views id (record v { out = ms; log = log }))
+outed B C start words views r id v at ms log =
     let top : ℕ = staged_end start (all_of r.hist) in
     let k = r.seated.each id v at in
-    becomes B C start words views r id v at words r.hist r.consumer r.drawn (with_out ms v) (record {
+    becomes B C start words views r id v at words r.hist r.consumer r.drawn (record v { out = ms; log = log }) (record {
       memory = r.memory;
       service = r.service;
       steps = record {
@@ -108,7 +108,7 @@ outed B C start words views r id v at ms =
         others = λ j u ne knows. knows;
         shares = refl;
         outside = λ j ne. refl;
-        latest = sees_top_after views id v (with_out ms v) top top at (λ rich. rich) refl (λ e. e) r.seated.latest;
+        latest = sees_top_after views id v (record v { out = ms; log = log }) top top at (λ rich. rich) refl (λ e. e) r.seated.latest;
         drawn = λ x. refl;
       };
     })
@@ -180,7 +180,7 @@ module _ (C start : ℕ) where
         takes_from (i + 1) ys.0,
         valid_takes s.homes me.1 (i + 1) ys.0 ys.2,
         (
-          loaded s i (set s.views id w) (outed elsewhere C start s.words s.views r.0 id v at (m ∷ [])),
+          loaded s i (set s.views id w) (outed elsewhere C start s.words s.views r.0 id v at (m ∷ []) v.log),
           takes_shelf C start s.words s.homes s.views r.0 r.1 id v w at refl refl m me.1 ys.0 (record {
             was = none;
             now = refl;
@@ -244,7 +244,7 @@ module _ (C start : ℕ) where
         takes_from (i + 1) ys.0,
         valid_takes s.homes me.1 (i + 1) ys.0 ys.2,
         (
-          loaded s i (set s.views id w) (outed elsewhere C start s.words s.views r.0 id v at (m ∷ [])),
+          loaded s i (set s.views id w) (outed elsewhere C start s.words s.views r.0 id v at (m ∷ []) v.log),
           takes_shelf C start s.words s.homes s.views r.0 r.1 id v w at refl refl m me.1 ys.0 (record {
             was = none;
             now = refl;
@@ -274,12 +274,13 @@ module _ (C start : ℕ) where
       let carried : me.1 ≡ numbered (i + 1) ws ++ [] = has.held_is ∙ sym (append-nil (numbered (i + 1) ws)) in
       let homes_are : homes_after s.homes me.1 (gives_first ws) ≡ laid (i + 1) (map some ws) s.homes =
       ap (λ h. homes_after s.homes h (gives_first ws)) carried ∙ homes_gives s.homes (i + 1) ws [] in
-      let w : View = with_out [] v in (
+      let loads : List (ℕ × ℕ) = v.log ++ body_loads C m (words_of (length m.message.body)) in
+      let w : View = record v { out = []; log = loads } in (
         w,
         gives_first ws,
         valid_gives s.homes me.1 ws,
         (
-          loaded s i (set s.views id w) (outed elsewhere C start s.words s.views r.0 id v at []),
+          loaded s i (set s.views id w) (outed elsewhere C start s.words s.views r.0 id v at [] loads),
           subst (λ hs. IsShelf C hs (set s.views id w)) (sym homes_are)
               (gives_shelf C start s.words s.homes s.views r.0 r.1 id v w at refl refl m ws (record {
                 was = out;
@@ -299,7 +300,15 @@ module _ (C start : ℕ) where
                     (subst (λ b. AreWordsOf b ws) bodies has.words, ap length (sym bodies));
               }) l has.count),
         ),
-        (ap (λ h. carried_after h (gives_first ws)) carried ∙ carried_gives (i + 1) ws [], refl),
+        (
+          ap (λ h. carried_after h (gives_first ws)) carried ∙ carried_gives (i + 1) ws [],
+          λ m' out'.
+              let one : m ≡ m' = one_out m m' v.out out out' in
+              λ x. record v {
+                out = [];
+                log = v.log ++ body_loads (sym cap x) (one x) (words_of (length (one x).message.body));
+              },
+        ),
       )
 
   pub gives_it : (slots id : ℕ) (me : Mine) → me.0.capacity ≡ C → (k : ℕ) (c : StagedClaim) (m : PlacedMessage)
@@ -332,7 +341,7 @@ module _ (C start : ℕ) where
       let kept_out : Kept elsewhere C start (set s.words i (slice_index s.words i)) (set s.views id w) =
       subst (λ l. Kept elsewhere C start (set s.words i (slice_index s.words i)) l) (set_twice s.views id mid w)
       (outed elsewhere C start (set s.words i (slice_index s.words i)) (set s.views id mid) kept id mid
-      (set_here s.views id mid (at_below s.views id v at)) []) in
+      (set_here s.views id mid (at_below s.views id v at)) [] mid.log) in
       let own : (k' : ℕ) (c' : StagedClaim) → HasClaim w k' c' → c'.place ≡ m.place → c' ≡ f c = λ k' c' has' same.
       let d = was_changed c.place f v.producer.claims k' c' has' in
       dite (ℕ_discrete d.0.place c.place)
@@ -427,7 +436,7 @@ module _ (C start : ℕ) where
       let kept_out : Kept elsewhere C start (set s.words i value) (set s.views id w) =
       subst (λ l. Kept elsewhere C start (set s.words i value) l) (set_twice s.views id mid w)
       (outed elsewhere C start (set s.words i value) (set s.views id mid) kept id mid
-      (set_here s.views id mid (at_below s.views id v at)) (m ∷ [])) in (
+      (set_here s.views id mid (at_below s.views id v at)) (m ∷ []) mid.log) in (
         w,
         takes_from (i + 1) ys.0,
         valid_takes s.homes me.1 (i + 1) ys.0 ys.2,

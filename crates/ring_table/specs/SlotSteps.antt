@@ -1,5 +1,5 @@
 -- What the steps on slots say, if bodies lie in them.
-use Rattle.std.specs.Prelude.{◌≡◌, ℕ, ℤ, ◌+◌, ◌*◌, ◌/◌, ◌≤◌, ◌<◌, ◌^◌, FitsSigned, List, [], ◌∷◌, ◌++◌, All, length}
+use Rattle.std.specs.Prelude.{◌≡◌, ℕ, zero, suc, ℤ, ◌+◌, ◌*◌, ◌/◌, ◌≤◌, ◌<◌, ◌^◌, FitsSigned, List, [], ◌∷◌, ◌++◌, All, length}
 use Rattle.std.specs.Int.{w32}
 use mathlib.Core.Option.{some}
 use lib.ListN.{get_elem?}
@@ -66,8 +66,18 @@ abbrev pub LendsBody : ℕ → Mine → Mine → Type 0
 LendsBody word me me' = (front : List PlacedMessage) (m : PlacedMessage) → me.0.consumer.got ≡ front ++ m ∷ []
     → (me'.0 ≡ with_out (m ∷ []) me.0) × HasBody (word + 1) m.message.body me'.1
 
+-- the first k words of the body of m as loads of a log
+abbrev pub body_loads : ℕ → PlacedMessage → ℕ → List (ℕ × ℕ)
+body_loads C m zero = []
+body_loads C m (suc k) = body_loads C m k ++ (index C (m.place + 8 + 8 * k), body_word m.message.body (8 * k)) ∷ []
+
+-- they go home, and the log has their words as if each was loaded
 abbrev pub ReturnsBody : Mine → Mine → Type 0
-ReturnsBody me me' = (me'.1 ≡ []) × (me'.0 ≡ with_out [] me.0)
+ReturnsBody me me' = (me'.1 ≡ []) × ((m : PlacedMessage) → me.0.out ≡ m ∷ []
+    → me'.0 ≡ record me.0 {
+      out = [];
+      log = me.0.log ++ body_loads me.0.capacity m (words_of (length m.message.body));
+    })
 
 -- the message that the read got last is at this place, and is not cleared
 pub record HasLast (place : ℕ) (v : View) : Type 0 where
