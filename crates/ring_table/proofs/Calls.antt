@@ -70,16 +70,16 @@ leaves_at B {v} {w} s = record {
 }
 
 -- a claim is made
-pub leaves_claim : (B : Bodies) {v w : View} {C e new n : ℕ} {type_id : ℤ}
+pub leaves_claim : (B : Bodies) {v w : View} (C e new n : ℕ) (type_id : ℤ)
     → w ≡ with_claim (moved_claim C e type_id n) new v → Leaves B v w
-leaves_claim B {v} {w} {C} {e} {new} {n} {type_id} is = leaves_as B is refl
+leaves_claim B {v} {w} C e new n type_id is = leaves_as B is refl
     (carries_claim v (moved_claim C e type_id n) (eqb e (next_place C e (span n))) new refl)
 
 -- the head is stored at q, up to which the words are cleared
-pub head_rises : (B : Bodies) {C start id : ℕ} (v : View) (s : State ℕ View) → Ok B C start s
+pub head_rises : (B : Bodies) (C start id : ℕ) (v : View) (s : State ℕ View) → Ok B C start s
     → get_elem? s.views id ≡ some v → v.consumes ≡ true → (q : ℕ) (got : List PlacedMessage)
     → v.consumer.cleared ≤ q → CarriesOn v (with_consumer (stands_at q got v.consumer) v)
-head_rises B {C} {start} {id} v s r at consumes q got above =
+head_rises B C start id v s r at consumes q got above =
     let mine = ((r.seated.each id v at).consumes consumes).1 in
     let heads : v.consumer.head ≡ r.consumer.head = ap (λ (z : ConsumerView). z.head) mine in
     let cleared : v.consumer.cleared ≡ r.consumer.cleared = ap (λ (z : ConsumerView). z.cleared) mine in
@@ -101,38 +101,35 @@ after_change t at f capacity i place v w P h cap stage is told =
 
 module _ (B : Bodies) {id : TableId} {key : Key} {capacity : ℕ} {seat : Seat ℕ View}
     (s : IsSeatOf id key capacity seat) where
-  -- what is stated of a step of this seat at the word i, which found n: its slots stay, and `told` holds of the word,
-  -- the view, the number and the view after
-  abbrev pub Stated : (ℕ → View → ℕ → View → Type 0) → ℕ → ℕ → Mine → Type 0
-  Stated told i n me' = (me'.1 ≡ seat.me.1) × told i seat.me.0 n me'.0
-
-  -- a ring of the capacity C lets the word i become f of itself
-  abbrev pub MayStep : ℕ → ℕ → (ℕ → ℕ) → (ℕ → View → ℕ → View → Type 0) → Type 0
-  MayStep C i f told = Allows (Ok B C key.start) id.slots seat.id seat.me i f (Stated told i)
+  -- a ring of the capacity C lets the word i become f of itself, and `told` holds of it, the view, the number found and
+  -- the view after
+  abbrev pub MayStep : ℕ → ℕ → (ℕ → ℕ) → (ℕ → Mine → ℕ → Mine → Type 0) → Type 0
+  MayStep C i f told = Allows (Ok B C key.start) id.slots seat.id seat.me i f (told i seat.me)
 
   -- what a step asks of the table
-  abbrev pub Asks : ℕ → (ℕ → ℕ) → (ℕ → View → ℕ → View → Type 0) → Type 0
+  abbrev pub Asks : ℕ → (ℕ → ℕ) → (ℕ → Mine → ℕ → Mine → Type 0) → Type 0
   Asks i f told = (seat.table_id ≡ id) × (i < id.words)
-      × Allows (Holds B key.capacity key.start) id.slots seat.id seat.me i f (Stated told i)
+      × Allows (Holds B key.capacity key.start) id.slots seat.id seat.me i f (told i seat.me)
 
-  -- what it leaves for the shelf
-  abbrev pub Spares : ℕ → (ℕ → View → ℕ → View → Type 0) → Type 0
-  Spares i told = (n : ℕ) (w : View) → told i seat.me.0 n w → (s : State ℕ View)
-      → Ok B key.capacity key.start s → get_elem? s.views seat.id ≡ some seat.me.0 → Leaves B seat.me.0 w
+  -- it takes and gives no slots, and what it leaves for the shelf
+  abbrev pub Spares : ℕ → (ℕ → Mine → ℕ → Mine → Type 0) → Type 0
+  Spares i told = (n : ℕ) (me' : Mine) → told i seat.me n me' → (s : State ℕ View)
+      → Ok B key.capacity key.start s → get_elem? s.views seat.id ≡ some seat.me.0
+      → (me'.1 ≡ seat.me.1) × Leaves B seat.me.0 me'.0
 
-  at_word : (i j : ℕ) → i < id.words → i ≡ j → (f : ℕ → ℕ) (told : ℕ → View → ℕ → View → Type 0) → Spares i told
+  at_word : (i j : ℕ) → i < id.words → i ≡ j → (f : ℕ → ℕ) (told : ℕ → Mine → ℕ → Mine → Type 0) → Spares i told
       → MayStep capacity j f told → Asks i f told
   at_word i j inside is f told spares allows = (
     s.table_is,
     inside,
-    lift B key.capacity key.start id.slots seat.id seat.me i f (λ n w. told i seat.me.0 n w) s.home
-        (λ n w t s r at. let l = spares n w t s r at in (l.out, l.carries))
+    lift B key.capacity key.start id.slots seat.id seat.me i f (told i seat.me) s.home
+        (λ n me' t s r at. let l = spares n me' t s r at in (l.0, l.1.out, l.1.carries))
         (subst (λ (z : ℕ × ℕ). MayStep z.0 z.1 f told) (λ k. (sym s.key_is k, sym is k)) allows),
   )
 
   -- at a word of the trailer
   pub trailer_step : (i word : ℕ) → word < 96 → i ≡ capacity / 8 + word
-      → (f : ℕ → ℕ) (told : ℕ → View → ℕ → View → Type 0) → Spares i told
+      → (f : ℕ → ℕ) (told : ℕ → Mine → ℕ → Mine → Type 0) → Spares i told
       → MayStep capacity (capacity / 8 + word) f told → Asks i f told
   trailer_step i word inside is =
       let wide : id.words ≡ ring_words capacity = s.words_are in
@@ -140,7 +137,7 @@ module _ (B : Bodies) {id : TableId} {key : Key} {capacity : ℕ} {seat : Seat �
 
   -- at a record's word, whose position is p in the code and q in the lemma
   pub record_step : (i p q : ℕ) → i ≡ index capacity p → q ≡ p
-      → (f : ℕ → ℕ) (told : ℕ → View → ℕ → View → Type 0) → Spares i told
+      → (f : ℕ → ℕ) (told : ℕ → Mine → ℕ → Mine → Type 0) → Spares i told
       → MayStep capacity (index capacity q) f told → Asks i f told
   record_step i p q is at =
       let wide : id.words ≡ ring_words capacity = s.words_are in
@@ -167,9 +164,9 @@ module _ (B : Bodies) {id : TableId} {key : Key} {capacity : ℕ} {seat : Seat �
 
     -- the header that settles a claim is stored
     pub settled_step : (value : ℕ) → value ≡ header_of (record { message = h.claim.message; state = u })
-        → Asks i (λ _. value) (λ k v _ w. StoresSettled u k v w × AreRising v.producer.claims)
+        → Asks i (λ _. value) (λ k me _ me'. (me'.1 ≡ me.1) × StoresSettled u k me.0 me'.0 × AreRising me.0.producer.claims)
     settled_step value value_is = record_step i place h.claim.place is h.at_place (λ _. value)
-        (λ k v _ w. StoresSettled u k v w × AreRising v.producer.claims)
-        (λ _ w t _ _ _. leaves_as B (settled_view w t.0) refl (settled_claims t.1))
+        (λ k me _ me'. (me'.1 ≡ me.1) × StoresSettled u k me.0 me'.0 × AreRising me.0.producer.claims)
+        (λ _ me' t _ _ _. (t.0, leaves_as B (settled_view me'.0 t.1) refl (settled_claims t.2)))
         (settles B capacity key.start u id.slots seat.id seat.me s.view_is h.nth h.claim value h.there h.holds.stage
         value_is)

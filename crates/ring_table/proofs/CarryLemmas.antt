@@ -5,7 +5,7 @@ use mathlib.Core.Logic.{dite}
 use native.Mathlib.Decide.{ℕ_discrete}
 use lib.ListN.{get_elem?}
 use Rattle.std.proofs.lemmas.Bool.{false≢true}
-use Rattle.atomic_table.specs.Table.{State, keeps, Allows, Splits, Joins}
+use Rattle.atomic_table.specs.Table.{State, carried_after, keeps, Allows, Splits, Joins}
 use Rattle.ring_table.specs.Staged.{Bodies, in_words, elsewhere, StagedClaim, Stage, IsStored, AreRising}
 use Rattle.ring_table.specs.Changes.{changed, changed_at, fresh_stage}
 use Rattle.ring_table.specs.Owners.{insert_claim, interleaved}
@@ -72,7 +72,7 @@ carries_claim v c b tail fresh = record {
   stays = λ consumes. consumes;
 }
 
-was_changed : (p : ℕ) (f : StagedClaim → StagedClaim) (cs : List StagedClaim) (k : ℕ) (c : StagedClaim)
+pub was_changed : (p : ℕ) (f : StagedClaim → StagedClaim) (cs : List StagedClaim) (k : ℕ) (c : StagedClaim)
     → get_elem? (changed p f cs) k ≡ some c
     → (d : StagedClaim) × (get_elem? cs k ≡ some d) × (changed_at p f d ≡ c)
 was_changed p f [] k c e = absurd (some-ne-none c (sym e))
@@ -157,19 +157,19 @@ step_shelf elsewhere C homes views id v w at none none' carries s =
     stepped_shelf C homes views s id v at none w none' carries
 
 -- a step that takes and gives no slots keeps the whole rule
-pub lift : (B : Bodies) (C start slots id : ℕ) (me : Mine) (i : ℕ) (f : ℕ → ℕ) (told : ℕ → View → Type 0)
-    → me.0.out ≡ [] → ((n : ℕ) (w : View) → told n w → (s : State ℕ View) → Ok B C start s
-    → get_elem? s.views id ≡ some me.0 → (w.out ≡ me.0.out) × CarriesIn B me.0 w)
-    → Allows (Ok B C start) slots id me i f (λ n me'. (me'.1 ≡ me.1) × told n me'.0)
-    → Allows (Holds B C start) slots id me i f (λ n me'. (me'.1 ≡ me.1) × told n me'.0)
+pub lift : (B : Bodies) (C start slots id : ℕ) (me : Mine) (i : ℕ) (f : ℕ → ℕ) (told : ℕ → Mine → Type 0)
+    → me.0.out ≡ [] → ((n : ℕ) (me' : Mine) → told n me' → (s : State ℕ View) → Ok B C start s
+    → get_elem? s.views id ≡ some me.0 → (me'.1 ≡ me.1) × (me'.0.out ≡ me.0.out) × CarriesIn B me.0 me'.0)
+    → Allows (Ok B C start) slots id me i f told → Allows (Holds B C start) slots id me i f told
 lift B C start slots id me i f told none carries allows s r wide at small =
     let t = allows s r.0 wide at small in
-    let c = carries (slice_index s.words i) t.0 t.4.1 s r.0 at in (
+    let n : ℕ = slice_index s.words i in
+    let c = carries n (t.0, carried_after me.1 t.1) t.4 s r.0 at in (
       t.0,
       keeps,
       tt,
-      (t.3, step_shelf B C s.homes s.views id me.0 t.0 at none (c.0 ∙ none) c.1 r.1),
-      (refl, t.4.1),
+      (t.3, step_shelf B C s.homes s.views id me.0 t.0 at none (c.1 ∙ none) c.2 r.1),
+      subst (λ (held : List (ℕ × ℕ)). told n (t.0, held)) c.0 t.4,
     )
 
 module _ (B : Bodies) (C : ℕ) (homes : List (Option ℕ)) (views : List View) (id : ℕ) (v : View)

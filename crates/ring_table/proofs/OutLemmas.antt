@@ -2,7 +2,7 @@
 use Rattle.std.proofs.Common.{◌≡◌, ◌≢◌, ℕ, ℤ, zero, suc, ◌+◌, ◌*◌, ◌/◌, ◌%◌, ◌^◌, ◌≤◌, ◌<◌, ◌⊎◌, FitsSigned, List, [], ◌∷◌, ◌++◌, Bool, true, false, cond, eqb, set, map, slice_index, sym, refl, ap, ◌∙◌, subst, inl, inr, ⊎_elim, length, append-nil, eq-eqb, ne_eqb, arith}
 use Rattle.std.specs.Prelude.{All}
 use Rattle.std.specs.Int.{w32}
-use mathlib.Core.Option.{Option, none, some, some-injective, some-ne-none}
+use mathlib.Core.Option.{Option, some, some-injective, some-ne-none}
 use mathlib.Core.Logic.{dite}
 use native.Mathlib.Decide.{ℕ_discrete}
 use lib.ListN.{get_elem?}

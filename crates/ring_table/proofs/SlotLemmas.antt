@@ -27,11 +27,11 @@ use Rattle.ring_table.proofs.BodyPlaces.{BodyIn, Lies, WasPassed, body_index, bo
 
 -- ---- lists
 
-one_out : (m m' : PlacedMessage) (l : List PlacedMessage) → l ≡ m ∷ [] → l ≡ m' ∷ [] → m ≡ m'
+pub one_out : (m m' : PlacedMessage) (l : List PlacedMessage) → l ≡ m ∷ [] → l ≡ m' ∷ [] → m ≡ m'
 one_out m m' l e e' = some-injective m m' (ap (λ (z : List PlacedMessage). get_elem? z 0) (sym e ∙ e'))
 
 no_out : {A : Type 0} (m : PlacedMessage) (l : List PlacedMessage) → l ≡ [] → l ≡ m ∷ [] → A
-no_out m l none e = absurd (some-ne-none m (ap (λ (z : List PlacedMessage). get_elem? z 0) (sym e ∙ none)))
+no_out m l bare e = absurd (some-ne-none m (ap (λ (z : List PlacedMessage). get_elem? z 0) (sym e ∙ bare)))
 
 pub same_value : (h : Option (Option ℕ)) (x y : ℕ) → h ≡ some (some x) → h ≡ some (some y) → x ≡ y
 same_value h x y e e' = some-injective x y (some-injective (some x) (some y) (sym e ∙ e'))
@@ -53,13 +53,13 @@ taken_gone hs c k [] i j y less is e = omega arith
 taken_gone hs c k (x ∷ xs) i j y less is e =
     ⊎_elim (λ (t : (j ≡ k) × (none ≡ some y)). some-ne-none y (sym t.1))
     (λ (t : (j ≢ k) × (get_elem? (homes_after hs c (takes_from (suc k) xs)) j ≡ some (some y))).
-    later i less is t.0 t.1)
+    not_first i less is t.0 (λ n less' is'. taken_gone hs c (suc k) xs n j y less' is' t.1))
     (at_set (homes_after hs c (takes_from (suc k) xs)) k j none (some y) e)
   where
-    later : (i : ℕ) → i < suc (length xs) → j ≡ k + i → j ≢ k
-        → get_elem? (homes_after hs c (takes_from (suc k) xs)) j ≡ some (some y) → ⊥
-    later zero less is ne there = ne (omega arith)
-    later (suc i) less is ne there = taken_gone hs c (suc k) xs i j y (omega arith) (omega arith) there
+    not_first : (i : ℕ) → i < suc (length xs) → j ≡ k + i → j ≢ k
+        → ((n : ℕ) → n < length xs → j ≡ suc k + n → ⊥) → ⊥
+    not_first zero less is ne more = ne (omega arith)
+    not_first (suc i) less is ne more = more i (omega arith) (omega arith)
 
 word_there : (l : List ℕ) (i : ℕ) → i < length l → (y : ℕ) × (get_elem? l i ≡ some y)
 word_there [] i h = absurd (omega arith)
@@ -128,7 +128,7 @@ module _ (C start : ℕ) (words : List ℕ) (homes : List (Option ℕ)) (views :
       }
 
   out_lies : (id : ℕ) (v : View) (m : PlacedMessage) → get_elem? views id ≡ some v → v.out ≡ m ∷ [] → OutLies id v m
-  out_lies id v m at out = ⊎_elim (λ (none : v.out ≡ []). no_out m v.out none out)
+  out_lies id v m at out = ⊎_elim (λ (bare : v.out ≡ []). no_out m v.out bare out)
       (λ (t : (m' : PlacedMessage) × (v.out ≡ m' ∷ []) × (IsOwnOut v m' ⊎ IsGotOut v m')).
       subst (OutLies id v) (one_out t.0 m v.out t.1 out) (⊎_elim
       (λ (o : IsOwnOut v t.0).
@@ -160,7 +160,7 @@ module _ (C start : ℕ) (words : List ℕ) (homes : List (Option ℕ)) (views :
 
   pub none_at_own : (id : ℕ) (v : View) (k : ℕ) (c : StagedClaim) → get_elem? views id ≡ some v → v.out ≡ []
       → HasClaim v k c → (IsSettled c.stage → ⊥) → NoneAt c.place
-  none_at_own id v k c at none has un j u m there out same =
+  none_at_own id v k c at bare has un j u m there out same =
       let o = out_lies j u m there out in
       let h = in_history id v k c at has in
       let one : o.owned ≡ (id, c) =
@@ -169,14 +169,14 @@ module _ (C start : ℕ) (words : List ℕ) (homes : List (Option ℕ)) (views :
       (λ (t : (o.owned.0 ≡ j) × (IsSettled o.owned.1.stage → ⊥)).
       let seats : j ≡ id = sym t.0 ∙ ap (λ (z : ℕ × StagedClaim). z.0) one in
       let is : u ≡ v = one_view views j id u v there at seats in
-      no_out m u.out (ap (λ (z : View). z.out) is ∙ none) out)
+      no_out m u.out (ap (λ (z : View). z.out) is ∙ bare) out)
       (λ (t : (u.consumes ≡ true) × IsSettled o.owned.1.stage).
       un (subst (λ (z : ℕ × StagedClaim). IsSettled z.1.stage) one t.1))
       o.whose
 
   pub none_at_got : (id : ℕ) (v : View) (m : PlacedMessage) → get_elem? views id ≡ some v → v.out ≡ []
       → v.consumes ≡ true → WasPassed r.hist m → NoneAt m.place
-  none_at_got id v m at none consumes p j u m' there out same =
+  none_at_got id v m at bare consumes p j u m' there out same =
       let o = out_lies j u m' there out in
       let place : p.owned.1.place ≡ m.place = ap (λ (z : PlacedMessage). z.place) p.is in
       let one : o.owned ≡ p.owned =
@@ -189,7 +189,7 @@ module _ (C start : ℕ) (words : List ℕ) (homes : List (Option ℕ)) (views :
       let seats : j ≡ id = ((r.seated.each j u there).consumes t.0).0 ∙ sym ((r.seated.each id v at).consumes consumes).0
       in
       let is : u ≡ v = one_view views j id u v there at seats in
-      no_out m' u.out (ap (λ (z : View). z.out) is ∙ none) out)
+      no_out m' u.out (ap (λ (z : View). z.out) is ∙ bare) out)
       o.whose
 
   -- the slots of such a body are at home

@@ -37,7 +37,7 @@ use Rattle.ring_table.proofs.LoadLemmas.{HasUnsettled, Ok, stands}
 use Rattle.ring_table.proofs.HeaderWords.{one_type, one_length}
 
 -- a word of a claim's record is at q, or one of the padding before it while only the tail was moved
-record IsWordOf (c : StagedClaim) (q : ℕ) : Type 0 where
+pub record IsWordOf (c : StagedClaim) (q : ℕ) : Type 0 where
   pub whole : q % 8 ≡ 0
   pub from : c.from ≤ q
   pub below : q < claim_end c

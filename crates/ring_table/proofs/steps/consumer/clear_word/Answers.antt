@@ -10,8 +10,8 @@ store-requires g c =
     let at = c.requires.cleared in
     let passed = c.requires.passed in
     record_step g.M.Mode.bodies c.requires.seat _ c.args.cleared _ c.requires.target at (λ _. 0)
-    (λ _ v _ w. ClearsWord v w)
-    (λ _ _ t _ _ _. leaves_same g.M.Mode.bodies t refl refl refl refl)
+    (λ _ me _ me'. (me'.1 ≡ me.1) × ClearsWord me.0 me'.0)
+    (λ _ _ t _ _ _. (t.0, leaves_same g.M.Mode.bodies t.1 refl refl refl refl))
     (clears_word g.M.Mode.bodies c.args.capacity c.args.ring.now.key.start _ _ c.args.consumer.now.me c.requires.consumes (omega arith))
 
 pub returns-clause-seat : goal.returns-clause-seat

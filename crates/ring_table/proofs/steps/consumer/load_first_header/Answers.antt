@@ -11,9 +11,9 @@ load-requires g c =
     let s = c.requires.seat in
     let at = c.requires.head in
     record_step g.M.Mode.bodies s _ c.args.head _ c.word_index.ensures at (λ n. n)
-    (λ k v n w. LoadsHeader v.capacity v.consumer.head v.consumer.taken v n w
-    × Logs k n v w)
-    (λ _ _ t _ _ _. leaves_at g.M.Mode.bodies t.0.stays)
+    (λ k me n me'. (me'.1 ≡ me.1) × LoadsHeader me.0.capacity me.0.consumer.head me.0.consumer.taken me.0 n me'.0
+    × Logs k n me.0 me'.0)
+    (λ _ _ t _ _ _. (t.0, leaves_at g.M.Mode.bodies t.1.stays))
     (loads_first g.M.Mode.bodies c.args.capacity c.args.ring.now.key.start _ _ c.args.consumer.now.me s.view_is c.requires.consumes
     (c.requires.nothing_cleared ∙ sym at))
 

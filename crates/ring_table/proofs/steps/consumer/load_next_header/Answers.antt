@@ -11,9 +11,9 @@ load-requires g c =
     let s = c.requires.seat in
     let at = c.requires.scan in
     record_step g.M.Mode.bodies s _ c.args.scan _ c.word_index.ensures at (λ n. n)
-    (λ k v n w. LoadsHeader v.capacity v.consumer.scan v.consumer.got v n w
-    × Logs k n v w)
-    (λ _ _ t _ _ _. leaves_at g.M.Mode.bodies t.0.stays)
+    (λ k me n me'. (me'.1 ≡ me.1) × LoadsHeader me.0.capacity me.0.consumer.scan me.0.consumer.got me.0 n me'.0
+    × Logs k n me.0 me'.0)
+    (λ _ _ t _ _ _. (t.0, leaves_at g.M.Mode.bodies t.1.stays))
     (loads_next g.M.Mode.bodies c.args.capacity c.args.ring.now.key.start _ _ c.args.consumer.now.me s.view_is c.requires.consumes
     (let near = c.requires.near in omega arith))
 

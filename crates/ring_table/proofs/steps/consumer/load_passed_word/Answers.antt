@@ -12,9 +12,12 @@ load-requires g c =
     let at = c.requires.cleared in
     let passed = c.requires.passed in
     record_step g.M.Mode.bodies c.requires.seat _ c.args.cleared _ c.requires.target at (λ n. n)
-    (λ _ v n w. LoadsPassed v n w)
-    (λ n _ t _ _ _. dite (ℕ_discrete n 0) (λ zero. leaves_same g.M.Mode.bodies (t.zero zero) refl refl refl refl)
-    (λ other. leaves_same g.M.Mode.bodies (t.other other) refl refl refl refl))
+    (λ _ me n me'. (me'.1 ≡ me.1) × LoadsPassed me.0 n me'.0)
+    (λ n _ t _ _ _. (
+      t.0,
+      dite (ℕ_discrete n 0) (λ zero. leaves_same g.M.Mode.bodies (t.1.zero zero) refl refl refl refl)
+          (λ other. leaves_same g.M.Mode.bodies (t.1.other other) refl refl refl refl),
+    ))
     (loads_passed g.M.Mode.bodies c.args.capacity c.args.ring.now.key.start _ _ c.args.consumer.now.me c.requires.consumes
     (omega arith))
 

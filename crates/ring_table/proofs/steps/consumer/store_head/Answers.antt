@@ -10,9 +10,12 @@ store-requires g c =
     let scan = c.requires.scan in
     let cleared = c.requires.cleared in
     trailer_step g.M.Mode.bodies c.requires.seat _ 48 (omega arith) c.trailer_word.ensures (λ _. c.args.head)
-    (λ _ v _ w. StoresHead v w)
-    (λ _ _ t s r at. leaves_as g.M.Mode.bodies t refl (head_rises g.M.Mode.bodies c.args.consumer.now.me.0 s r at c.requires.consumes
-    c.args.consumer.now.me.0.consumer.scan c.args.consumer.now.me.0.consumer.got (omega arith)))
+    (λ _ me _ me'. (me'.1 ≡ me.1) × StoresHead me.0 me'.0)
+    (λ _ _ t s r at. (
+      t.0,
+      leaves_as g.M.Mode.bodies t.1 refl (head_rises g.M.Mode.bodies _ _ _ c.args.consumer.now.me.0 s r at c.requires.consumes
+          c.args.consumer.now.me.0.consumer.scan c.args.consumer.now.me.0.consumer.got (omega arith)),
+    ))
     (stores_head g.M.Mode.bodies c.args.capacity c.args.ring.now.key.start _ _ c.args.consumer.now.me c.args.head
     c.requires.consumes c.requires.scan c.requires.cleared)
 

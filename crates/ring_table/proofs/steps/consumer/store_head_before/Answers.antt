@@ -10,9 +10,12 @@ store-requires g c = let l = c.requires.last in
     let place = l.place in
     let cleared = l.cleared in
     trailer_step g.M.Mode.bodies c.requires.seat _ 48 (omega arith) c.trailer_word.ensures (λ _. c.args.head)
-    (λ _ v _ w. StoresHeadBefore v w)
-    (λ _ _ t s r at. leaves_as g.M.Mode.bodies (t l.front l.last l.got) refl (head_rises g.M.Mode.bodies c.args.consumer.now.me.0 s r at
-    c.requires.consumes l.last.place l.front (omega arith)))
+    (λ _ me _ me'. (me'.1 ≡ me.1) × StoresHeadBefore me.0 me'.0)
+    (λ _ _ t s r at. (
+      t.0,
+      leaves_as g.M.Mode.bodies (t.1 l.front l.last l.got) refl (head_rises g.M.Mode.bodies _ _ _ c.args.consumer.now.me.0 s r at
+          c.requires.consumes l.last.place l.front (omega arith)),
+    ))
     (stores_head_before g.M.Mode.bodies c.args.capacity c.args.ring.now.key.start _ _ c.args.consumer.now.me c.args.head l.front l.last
     c.requires.consumes l.got l.place l.cleared)
 

@@ -27,14 +27,16 @@ compare_exchange_with-requires g c =
     let short : c.args.wanted.len ≤ c.args.capacity / 8 = omega (arith, c.requires.room.message.short) in
     let most = c.requires.seat.lawful.most in
     trailer_step g.M.Mode.bodies c.requires.seat _ 16 (omega arith) c.trailer_word-tail.ensures (λ n. either (eqb n old) new n)
-    (λ k v n w. ((said : Wanted) → FitsSigned w32 said.type_id → 8 + said.len < 2 ^ 31
+    (λ k me n me'. (me'.1 ≡ me.1) × ((said : Wanted) → FitsSigned w32 said.type_id → 8 + said.len < 2 ^ 31
     → some c.open_header-said.result ≡ some (open_header said.type_id said.len)
-    → MovesTail v.capacity old new said v n w) × (n ≢ old → Logs k n v w))
+    → MovesTail me.0.capacity old new said me.0 n me'.0) × (n ≢ old → Logs k n me.0 me'.0))
     (λ n _ t _ _ _.
-    let told = t.0 c.args.wanted c.requires.room.message.type_fits (omega arith)
-    (ap some (header_is c.args.wanted.type_id c.args.wanted.len _ c.requires.room.message.type_fits c.open_header-said.ensures)) in
-    dite (ℕ_discrete n old) (λ hit. leaves_claim g.M.Mode.bodies (told.hit hit))
-    (λ missed. leaves_same g.M.Mode.bodies (told.miss missed) refl refl refl refl))
+    let told = t.1 c.args.wanted c.requires.room.message.type_fits (omega arith) (ap some (header_is
+    c.args.wanted.type_id c.args.wanted.len _ c.requires.room.message.type_fits c.open_header-said.ensures)) in (
+      t.0,
+      dite (ℕ_discrete n old) (λ hit. leaves_claim g.M.Mode.bodies _ _ _ _ _ (told.hit hit))
+          (λ missed. leaves_same g.M.Mode.bodies (told.miss missed) refl refl refl refl),
+    ))
     (moves_tail g.M.Mode.bodies c.args.capacity c.args.ring.now.key.start _ _ c.args.producer.now.me c.requires.seat.view_is old new
     c.args.wanted c.open_header-said.result
     (header_is c.args.wanted.type_id c.args.wanted.len _ c.requires.room.message.type_fits c.open_header-said.ensures) c.requires.share c.requires.room)

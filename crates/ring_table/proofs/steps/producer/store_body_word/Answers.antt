@@ -15,9 +15,12 @@ store-requires c =
     let h = c.requires.claim in
     record_step in_words s _ (c.args.place + 8 + c.args.at) _ c.requires.target (ap (λ p. p + 8 + c.args.at) h.at_place)
     (λ _. c.args.word)
-    (λ i v _ w. StoresBody i c.args.word v w × AreRising v.producer.claims)
-    (λ _ w t _ _ _. leaves_words (t.0 h.nth h.claim c.args.at h.there h.holds.stage h.holds.aligned h.holds.inside
-    ((λ i. index (s.view_is i) (h.at_place i + 8 + c.args.at)) ∙ sym c.requires.target)) refl)
+    (λ i me _ me'. (me'.1 ≡ me.1) × StoresBody i c.args.word me.0 me'.0 × AreRising me.0.producer.claims)
+    (λ _ w t _ _ _. (
+      t.0,
+      leaves_words (t.1 h.nth h.claim c.args.at h.there h.holds.stage h.holds.aligned h.holds.inside
+          ((λ i. index (s.view_is i) (h.at_place i + 8 + c.args.at)) ∙ sym c.requires.target)) refl,
+    ))
     (puts c.args.capacity c.args.ring.now.key.start _ _ c.args.producer.now.me s.view_is h.nth h.claim c.args.at
     c.args.word h.there h.holds (omega arith))
 

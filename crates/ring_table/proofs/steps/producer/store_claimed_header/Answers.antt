@@ -23,11 +23,14 @@ store-requires c =
     let value_is = packs_open value c.args.wanted.len c.args.wanted.type_id c.requires.message.type_fits
     c.open_header-header.ensures in
     record_step in_words s _ c.args.place _ c.word_index.ensures h.at_place (λ _. value)
-    (λ i v _ w. StoresClaimed i value v w × AreRising v.producer.claims)
-    (λ _ w t _ _ _. leaves_words (after_change Padded (λ c. c.place)
-    (with_header c.args.wanted.type_id c.args.wanted.len) c.args.capacity _ c.args.place c.args.producer.now.me.0 w _ h
-    s.view_is h.holds.stage (c.word_index.ensures ∙ ap (index c.args.capacity) (sym h.at_place))
-    (t.0 c.args.wanted.type_id c.args.wanted.len c.requires.message.type_fits small value_is)) refl)
+    (λ i me _ me'. (me'.1 ≡ me.1) × StoresClaimed i value me.0 me'.0 × AreRising me.0.producer.claims)
+    (λ _ me' t _ _ _. (
+      t.0,
+      leaves_words (after_change Padded (λ c. c.place)
+          (with_header c.args.wanted.type_id c.args.wanted.len) c.args.capacity _ c.args.place c.args.producer.now.me.0 me'.0 _ h
+          s.view_is h.holds.stage (c.word_index.ensures ∙ ap (index c.args.capacity) (sym h.at_place))
+          (t.1 c.args.wanted.type_id c.args.wanted.len c.requires.message.type_fits small value_is)) refl,
+    ))
     (opens in_words c.args.capacity c.args.ring.now.key.start _ _ c.args.producer.now.me s.view_is h.nth h.claim
     c.args.wanted.type_id c.args.wanted.len value value_is h.there h.holds.stage
     (record { most = s.lawful.most; span_is = h.holds.same_span; lawful = c.requires.message }))

@@ -2,7 +2,7 @@ use Rattle.std.proofs.Common.{ap, refl}
 use Rattle.ring_layout.specs.declared.message.ClaimState.TheVariants.{Committed}
 use Rattle.ring_table.specs.Views.{View}
 use Rattle.ring_table.proofs.Calls.{same_seat, settled_step, settled_view, of_as}
-use Rattle.ring_table.proofs.HeaderCalls.{packs_committed, of_as}
+use Rattle.ring_table.proofs.HeaderCalls.{packs_committed}
 use Rattle.ring_table.proofs.steps.producer.store_committed_header.Goals as goal
 
 pub store-requires : goal.store-requires

@@ -20,9 +20,12 @@ store-requires g c =
     let h = c.requires.claim in
     let value : ℕ = c.padding_header-header.result in
     record_step g.M.Mode.bodies s _ c.args.from _ c.word_index.ensures h.holds.from_is (λ _. value)
-    (λ i v _ w. StoresPadding i v w × AreRising v.producer.claims)
-    (λ _ w t _ _ _. leaves_as g.M.Mode.bodies (padded_view w t.0) refl (carries_changed c.args.producer.now.me.0 c.args.place
-    (staged Padded) (λ _ _ _ _ stored. absurd stored)))
+    (λ i me _ me'. (me'.1 ≡ me.1) × StoresPadding i me.0 me'.0 × AreRising me.0.producer.claims)
+    (λ _ me' t _ _ _. (
+      t.0,
+      leaves_as g.M.Mode.bodies (padded_view me'.0 t.1) refl (carries_changed c.args.producer.now.me.0 c.args.place
+          (staged Padded) (λ _ _ _ _ stored. absurd stored)),
+    ))
     (pads g.M.Mode.bodies c.args.capacity c.args.ring.now.key.start _ _ c.args.producer.now.me s.view_is h.nth h.claim value h.there
     h.holds.stage
     (subst (λ (z : ℕ × ℕ). z.0 < z.1) (λ i. (sym h.holds.from_is i, h.claim.place)) h.holds.some_padding)

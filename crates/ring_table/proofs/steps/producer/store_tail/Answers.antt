@@ -7,8 +7,8 @@ use Rattle.ring_table.proofs.steps.producer.store_tail.Goals as goal
 
 pub store-requires : goal.store-requires
 store-requires g c = trailer_step g.M.Mode.bodies c.requires.seat _ 16 (omega arith) c.trailer_word.ensures (λ _. c.args.new)
-    (λ _ v _ w. MovesOwnTail v.capacity c.args.new v w)
-    (λ _ _ t _ _ _. leaves_claim g.M.Mode.bodies t.view)
+    (λ _ me _ me'. (me'.1 ≡ me.1) × MovesOwnTail me.0.capacity c.args.new me.0 me'.0)
+    (λ _ _ t _ _ _. (t.0, leaves_claim g.M.Mode.bodies _ _ _ _ _ t.1.view))
     (moves_own_tail g.M.Mode.bodies c.args.capacity c.args.ring.now.key.start _ _ c.args.producer.now.me c.requires.seat.view_is
     c.args.new c.args.wanted.type_id c.args.wanted.len c.requires.sole c.requires.room)
 

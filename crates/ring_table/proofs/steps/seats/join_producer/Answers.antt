@@ -9,9 +9,9 @@ pub join_seat-requires : goal.join_seat-requires
 join_seat-requires g c = (
   c.requires.table.0,
   c.requires.table.1,
-  c.requires.slots.1.0,
+  c.requires.slots.1,
   c.requires.words,
-  lift_producer_join g.M.Mode.bodies c.args.ring.now.key.capacity c.args.ring.now.key.start _ _ c.requires.slots.0 _ _ c.requires.slots.1.1
+  lift_producer_join g.M.Mode.bodies c.args.ring.now.key.capacity c.args.ring.now.key.start _ _ c.requires.slots.0 _ _ c.requires.slots.2
       c.requires.produces
       (joins_producer g.M.Mode.bodies
       c.args.ring.now.key.capacity c.args.ring.now.key.start _ _ _ _ c.requires.produces c.requires.share),

@@ -19,6 +19,6 @@ load-requires c =
     (sym l.place_is) t.slots))
 
 pub returns-clause-seat : goal.returns-clause-seat
-returns-clause-seat c = let e = c.load.ensures in 
+returns-clause-seat c = let e = c.load.ensures in
     let t = c.requires.last in
     holder e.0 e.1 (ap (λ (v : View). v.capacity) (e.2.1 t.last.message t.out_is))
