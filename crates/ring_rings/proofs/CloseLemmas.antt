@@ -16,7 +16,7 @@ use Rattle.ring_table.specs.Services.{AreServed, once_below, times_drawn}
 use Rattle.ring_words.specs.Ring.{Has, IsRing, ring}
 use Rattle.ring_table.specs.declared.claim.StagedClaim.{StagedClaim}
 use Rattle.ring_table.specs.declared.view.View.{View}
-use Rattle.ring_table.specs.Staged.{AreAbove, ArePlaced, AreRising, claim_end, unplaced, staged_span}
+use Rattle.ring_table.specs.Staged.{in_words, AreAbove, ArePlaced, AreRising, claim_end, unplaced, staged_span}
 use Rattle.ring_table.specs.Closed.{IsClosed, LeavesRest, restarted}
 use Rattle.ring_table.specs.OpenClaims.{open_count}
 use Rattle.ring_table.specs.Views.{with_consumer_of}
@@ -68,7 +68,7 @@ module _ (C start : ℕ) (words : List ℕ) (v : View) (closed : IsClosed C star
   rest_is_ring : IsRing (ring C words)
   rest_is_ring =
       let m = closed.memory in
-      let bounds = head_bounds C start closed.lawful words v.consumer v.producer.claims m in
+      let bounds = head_bounds in_words C start closed.lawful words v.consumer v.producer.claims m in
       let above = bounds.1 in
       let aligned = bounds.2 in
       let head = m.head_is in

@@ -25,7 +25,7 @@ pub struct Ring<K, B: Steps = RingTable> {
     pub(crate) capacity: u32,
     pub(crate) kind: PhantomData<K>,
     ghost key: { (B.key_of table).capacity ≡ capacity },
-    ghost wide: { ((B.table_of table).words ≡ ring_words capacity) × B.fits table
+    ghost wide: { ((B.table_of table).words ≡ ring_words capacity) × ((B.table_of table).slots ≡ B.slots_for capacity)
         × (vec_len room ≡ ring_words capacity) },
     ghost lawful: { IsCapacity capacity },
 }

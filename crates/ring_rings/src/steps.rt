@@ -37,22 +37,24 @@ pub trait Steps: Sized {
     /// What it was made of.
     ghost key_of: { Self → TheKey };
 
-    /// It has the slots that its form asks for.
-    ghost fits: { Self → Type 0 };
+    /// The number of slots of a table of this many bytes.
+    ghost slots_for: { ℕ → ℕ };
 
     /// A fresh ring, and its first seat, which is the only producer and the consumer. The only error is that there was
     /// no memory.
     fn open(alloc: Global, key: Key) -> Result<(Self, RingSeat), AllocError>
         requires lawful { IsLawful key.capacity key.start }
         requires limit { key.start ≤ max_position }
-        ensures words { IfOk result (λ t. ((table_of t.0).words ≡ ring_words key.capacity) × fits t.0) }
+        ensures words { IfOk result (λ t. ((table_of t.0).words ≡ ring_words key.capacity)
+            × ((table_of t.0).slots ≡ slots_for key.capacity)) }
         ensures key { IfOk result (λ t. key_of t.0 ≡ key) }
         ensures seat { IfOk result (λ t. t.1.table_id ≡ table_of t.0) }
         ensures view { IfOk result (λ t. t.1.me ≡ (first_view key, [])) };
 
     /// The words of a ring in its format, in `room`, once all producers and the consumer were joined into this seat.
     fn close(self, seat: RingSeat, room: Vec<u64>) -> Vec<u64>
-        requires table { (seat.table_id ≡ table_of self) × fits self }
+        requires table { (seat.table_id ≡ table_of self)
+            × ((table_of self).slots ≡ slots_for (key_of self).capacity) }
         requires room { vec_len room ≡ (table_of self).words }
         requires all { (seat.me.0.producer.shares ≡ all_shares) × (seat.me.0.consumes ≡ true) }
         requires settled { (open_count seat.me.0.producer.claims ≡ 0)

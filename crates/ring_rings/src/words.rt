@@ -33,7 +33,7 @@ impl Steps for RingTable {
 
     ghost key_of = { λ table. table.shared.key };
 
-    ghost fits = { λ table. table.shared.table_id.slots ≡ 0 };
+    ghost slots_for = { λ _. 0 };
 
     fn open(alloc: Global, key: Key) -> Result<(Self, RingSeat), AllocError> {
         open(alloc, key)

@@ -65,7 +65,7 @@ store_committed_header-requires-clause-claim g c =
     })
 
 pub returns-clause-stored : goal.returns-clause-stored
-returns-clause-stored c tail cs made =
+returns-clause-stored g c tail cs made =
     let C : ℕ = c.args.capacity in
     let body : List ℕ = c.args.body.now in
     let len : ℕ = c.args.wanted.len in
