@@ -31,5 +31,6 @@ pub mod SlotLemmas
 pub mod OutLemmas
 pub mod Calls
 pub mod SlotCalls
+pub mod SlotBodies
 pub mod HeaderCalls
 pub mod LawLemmas

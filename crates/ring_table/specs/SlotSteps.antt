@@ -90,6 +90,11 @@ pub record HasLast (place : ℕ) (v : View) : Type 0 where
 abbrev pub IsOpen : StagedClaim → Type 0
 IsOpen c = c.stage ≡ Stored Open
 
+-- the claim is open, with a body of n bytes
+pub record IsOpenOf (n : ℕ) (c : StagedClaim) : Type 0 where
+  pub stage : c.stage ≡ Stored Open
+  pub len_is : length c.message.body ≡ n
+
 -- the body of the own open claim at this place is out, and the slots have the words of `body`
 pub record IsTaken (C place : ℕ) (body : List ℕ) (me : Mine) : Type 0 where
   pub message : PlacedMessage

@@ -1,12 +1,19 @@
 //! Whole bodies in slots, which a seat has out: written, set to 0, and copied.
 ghost use Rattle.std.specs.Prelude.{◌≡◌, ◌+◌, ◌*◌, ◌/◌, ◌^◌, ◌≤◌, ◌<◌, [], ◌∷◌, ◌++◌, All, List, ℕ, length, replicate, true};
 ghost use Rattle.ring_table.specs.Filling.{Begins, Filling, IsSameTable};
-ghost use Rattle.ring_table.specs.SlotSteps.{words_of, HasBody, HasSlots};
-ghost use Rattle.ring_table.specs.Staged.{body_word};
+ghost use Rattle.ring_layout.specs.History.{IsMessage};
+ghost use Rattle.ring_table.specs.declared.claim.PlacedMessage.{PlacedMessage};
+ghost use Rattle.ring_table.specs.Changes.{blank, with_body, with_header};
+ghost use Rattle.ring_table.specs.ProducerSteps.{with_changed, HasClaimAt, NeedsHeader};
+ghost use Rattle.ring_table.specs.Seats.{IsSameSeat, IsSeatOf};
+ghost use Rattle.ring_table.specs.SlotSteps.{body_loads, words_of, HasBody, HasLast, HasSlots, IsOpenOf};
+ghost use Rattle.ring_table.specs.Staged.{body_word, AreRising};
 
 use crate::mode::InSlots;
+use crate::steps::slots::{give_body, lend_body, open_body, return_body, take_body};
 use crate::steps::{RingSeat, SharedRing};
-use ring_layout::{first_word, put_word};
+use crate::view::Wanted;
+use ring_layout::{first_word, put_word, word_index};
 
 /// Puts a word into the slot taken last, which goes behind the others.
 #[inline(always)]
@@ -102,4 +109,73 @@ pub fn copy_slots(
         let word = look_slot(ring, seat, first + k);
         put_word(scratch, 8 * k, word);
     }
+}
+
+/// Stores the header of a claim of `len` bytes, its length negated, and sets its slots to 0. The claim is open from then
+/// on, with zeros for its bytes.
+pub fn store_claimed_slots(
+    ring: &SharedRing<InSlots>,
+    producer: &mut RingSeat,
+    capacity: u32,
+    place: u64,
+    wanted: Wanted,
+)
+    requires seat { IsSeatOf ring.now.table_id ring.now.key capacity producer.old }
+    requires message { IsMessage capacity (blank wanted.type_id wanted.len) }
+    requires claim { HasClaimAt producer.old.me.0 place (NeedsHeader wanted.len) }
+    ensures seat { IsSameSeat producer.old producer.new }
+    ensures view { producer.new.me.0 ≡ with_changed place (with_header wanted.type_id wanted.len) producer.old.me.0 }
+    ensures rising { AreRising producer.old.me.0.producer.claims }
+{
+    open_body(ring, producer, capacity, place, wanted);
+    fill_zeros(ring, producer, word_index(capacity, place) + 1, wanted.len);
+    give_body(ring, producer, capacity, place);
+}
+
+/// Writes a whole body into the slots of an own open claim, which has it from then on.
+pub fn write_slots(
+    ring: &SharedRing<InSlots>,
+    producer: &mut RingSeat,
+    capacity: u32,
+    place: u64,
+    body: &[u8],
+)
+    requires seat { IsSeatOf ring.now.table_id ring.now.key capacity producer.old }
+    requires claim { HasClaimAt producer.old.me.0 place (IsOpenOf (length body.now)) }
+    requires small { length body.now < 2 ^ 58 }
+    ensures seat { IsSameSeat producer.old producer.new }
+    ensures view { producer.new.me.0 ≡ with_changed place (with_body body.now) producer.old.me.0 }
+    ensures rising { AreRising producer.old.me.0.producer.claims }
+{
+    take_body(ring, producer, capacity, place);
+    fill_slots(ring, producer, word_index(capacity, place) + 1, body);
+    give_body(ring, producer, capacity, place);
+}
+
+/// Copies the body of the message that the read got last, of `len` bytes, to the front of the scratch. The log gets its
+/// words as if each was loaded.
+pub fn read_slots(
+    ring: &SharedRing<InSlots>,
+    consumer: &mut RingSeat,
+    capacity: u32,
+    place: u64,
+    len: usize,
+    scratch: &mut [u8],
+)
+    requires seat { IsSeatOf ring.now.table_id ring.now.key capacity consumer.old }
+    requires consumes { consumer.old.me.0.consumes ≡ true }
+    requires last { (last : HasLast place consumer.old.me.0) × (length last.message.message.body ≡ len) }
+    requires room { (len < 2 ^ 58) × (8 * words_of len ≤ length scratch.old) }
+    ensures seat { IsSameSeat consumer.old consumer.new }
+    ensures view { (m : PlacedMessage) (front : List PlacedMessage) → consumer.old.me.0.consumer.got ≡ front ++ m ∷ []
+        → consumer.new.me.0 ≡ record consumer.old.me.0 {
+          log = consumer.old.me.0.log ++ body_loads capacity m (words_of (length m.message.body));
+        } }
+    ensures copies { (m : PlacedMessage) (front : List PlacedMessage) → consumer.old.me.0.consumer.got ≡ front ++ m ∷ []
+        → All (λ b. b < 256) m.message.body → Begins m.message.body scratch.new }
+{
+    lend_body(ring, consumer, capacity, place);
+    let first = word_index(capacity, place) + 1;
+    copy_slots(ring, consumer, first, len.div_ceil(8), scratch);
+    return_body(ring, consumer, capacity, place);
 }

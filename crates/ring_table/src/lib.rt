@@ -15,7 +15,9 @@ mod steps;
 mod table;
 mod view;
 
-pub use bodies::{copy_slots, fill_slots, fill_zeros};
+pub use bodies::{
+    copy_slots, fill_slots, fill_zeros, read_slots, store_claimed_slots, write_slots,
+};
 pub use claim::{PlacedMessage, Stage, StagedClaim};
 pub use laws::{
     last_claim_stands_last, newest_claim_changes_alone, open_claims_are_counted,
