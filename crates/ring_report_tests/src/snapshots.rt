@@ -78,6 +78,32 @@ pub fn wrapped(alloc: Global) -> Result<SoloRing, Fail> {
     Ok(ring)
 }
 
+/// The words that `wrapped` has at these indexes are headers.
+static HEADERS: [usize; 5] = [0, 3, 9, 12, 15];
+
+/// The ring of `wrapped` with its bodies apart: its words, and then its slots. Two slots still have a message that was
+/// read, and the padding has a type id of its own, -2.
+pub fn plain(alloc: Global, wrapped: &[u64]) -> Result<Vec<u64>, Fail> {
+    let mut words = Vec::from_slice(alloc, wrapped)?;
+    for index in 0..16usize {
+        let mut slot = 0;
+        if let Some(word) = words.get_mut(index) {
+            if !HEADERS.contains(&index) {
+                slot = *word;
+                *word = 0;
+            } else if index == 15 {
+                *word = word.wrapping_sub(1 << 32);
+            }
+        }
+        words.push(match index {
+            7 => u64::from_le_bytes(*b"third me"),
+            8 => u64::from_le_bytes(*b"ssage\0\0\0"),
+            _ => slot,
+        })?;
+    }
+    Ok(words)
+}
+
 /// A broadcast buffer of 256 bytes on which twelve messages were transmitted: the last four are in the second lap.
 pub fn lapped(alloc: Global) -> Result<ClosedBoard, Fail> {
     let (board, mut transmitter) = Board::new(alloc, 256)?;

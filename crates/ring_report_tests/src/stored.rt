@@ -1,6 +1,7 @@
 //! Snapshots are written as those of `examples/snapshots` are stored.
-use crate::snapshots::{blocked, bytes_of, lapped, reused, wrapped};
-use ring_snapshot::{CounterMetadata, CounterValueWords};
+use crate::snapshots::{blocked, bytes_of, lapped, plain, reused, wrapped};
+use ring_report::words_of_bytes;
+use ring_snapshot::{CounterMetadata, CounterValueWords, join_bodies};
 use std::alloc::{AllocError, Global};
 use std::test::Fail;
 
@@ -55,6 +56,58 @@ wrapped.ring
         let text = lines_of(rt.alloc(), name, bytes.as_slice())?;
         assert_eq!(rt; text.as_str(), wanted);
     }
+    Ok(())
+}
+
+/// The bytes of words, little-endian.
+fn bytes_of_words(alloc: Global, words: &[u64]) -> Result<Vec<u8>, AllocError> {
+    let mut bytes = Vec::new(alloc);
+    for word in words {
+        bytes.extend_from_slice(&word.to_le_bytes())?;
+    }
+    Ok(bytes)
+}
+
+#[test]
+fn a_plain_ring_is_stored_as_its_parts(rt: HostRuntime) -> Result<(), Fail> {
+    let bytes = bytes_of(rt.alloc(), &wrapped(rt.alloc())?)?;
+    let wrapped = words_of_bytes(rt.alloc(), bytes.as_slice())?;
+    let plain = plain(rt.alloc(), wrapped.as_slice())?;
+    let bytes = bytes_of_words(rt.alloc(), plain.as_slice())?;
+    let text = lines_of(rt.alloc(), "wrapped.plain", bytes.as_slice())?;
+    assert_eq!(rt;
+        text.as_str(),
+        "\
+wrapped.plain
+0 e8ffffff06000000000000000000000000000000000000001200000007000000
+64 0000000000000000180000000400000000000000000000000000000000000000
+96 18000000ffffffff0000000000000000000000000000000008000000feffffff
+256 b000000000000000000000000000000000000000000000000000000000000000
+512 4800000000000000000000000000000000000000000000000000000000000000
+896 000000000000000068616c660000000000000000000000000000000000000000
+928 6c61737420776f72647300000000000000000000000000007468697264206d65
+960 73736167650000000000000000000000666f75727468206d6573736167652121
+1024
+"
+    );
+    Ok(())
+}
+
+#[test]
+fn a_plain_ring_is_joined_to_the_stored_one(rt: HostRuntime) -> Result<(), Fail> {
+    let bytes = bytes_of(rt.alloc(), &wrapped(rt.alloc())?)?;
+    let wrapped = words_of_bytes(rt.alloc(), bytes.as_slice())?;
+    let plain = plain(rt.alloc(), wrapped.as_slice())?;
+    let (mut words, mut slots) = (Vec::new(rt.alloc()), Vec::new(rt.alloc()));
+    for (index, word) in plain.iter().enumerate() {
+        if index < 112 {
+            words.push(*word)?;
+        } else {
+            slots.push(*word)?;
+        }
+    }
+    assert_eq!(rt; join_bodies(words.as_mut_slice(), slots.as_slice()), Ok(()));
+    assert_eq!(rt; words.as_slice(), wrapped.as_slice());
     Ok(())
 }
 

@@ -12,6 +12,9 @@ pub enum ShowFault<'a> {
     /// The value of an option is not a number of bytes.
     #[error("--{option} {value}: a number of bytes is decimal, or hexadecimal after 0x")]
     NotBytes { option: &'a str, value: &'a str },
+    /// Bodies that lie apart are in another section of the file.
+    #[error("--bodies-at: standard input has one section, so give a file")]
+    BodiesOfInput,
     /// There is no such process, or its memory may not be read.
     #[error("{pid}: no such process, or its memory may not be read")]
     NoProcess { pid: &'a str },

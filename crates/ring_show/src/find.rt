@@ -1,9 +1,11 @@
 //! Rings, broadcast buffers and counters in the memory of a process, in a core file or in a copy.
+use crate::bodies::note_bodies;
 use crate::fault::ShowFault;
-use crate::found::{Found, Kind, METADATA, add_buffer, add_counter, print_found};
+use crate::found::{Found, Kind, METADATA, add_buffer, add_counter, formatted_words, print_found};
 use crate::memory::{Memory, Region};
 use ring_report::{Cause, Section, words_of};
 use ring_snapshot::{next_board, next_counter, next_ring};
+use std::alloc::Global;
 use std::io::Input;
 use std::process::ExitCode;
 use std::rt::Files;
@@ -24,6 +26,15 @@ struct Window<'a> {
     at: u64,
 }
 
+/// What is looked for.
+#[derive(Clone, Copy)]
+enum Wanted<'a> {
+    /// Rings, broadcast buffers and counters.
+    All,
+    /// The bodies of the rings that were found, among these pieces of memory.
+    Bodies(&'a [Region]),
+}
+
 impl<'a> Window<'a> {
     /// What is found at a word.
     fn found(self, kind: Kind, index: usize, capacity: u64) -> Found {
@@ -33,6 +44,7 @@ impl<'a> Window<'a> {
             address: self.address.saturating_add(offset),
             at: self.at.saturating_add(offset),
             capacity,
+            bodies_at: None,
         }
     }
 }
@@ -78,13 +90,39 @@ fn add_counters(found: &mut Vec<Found>, window: Window<'_>) -> Result<(), ShowFa
 }
 
 /// Adds all that is found in a window.
-fn search_window(found: &mut Vec<Found>, window: Window<'_>) -> Result<(), ShowFault<'static>> {
+fn search_window(
+    alloc: Global,
+    found: &mut Vec<Found>,
+    window: Window<'_>,
+) -> Result<(), ShowFault<'static>> {
+    let words = formatted_words(alloc, window.words)?;
+    let formatted = Window {
+        words: words.as_slice(),
+        address: window.address,
+        at: window.at,
+    };
     // (capacities are powers of two, up to 2^24)
     for exponent in 7..25u32 {
-        add_buffers(found, window, Kind::Ring, 1 << exponent)?;
+        add_buffers(found, formatted, Kind::Ring, 1 << exponent)?;
         add_buffers(found, window, Kind::Board, 1 << exponent)?;
     }
     add_counters(found, window)
+}
+
+/// Looks into a window.
+fn look_into(
+    alloc: Global,
+    found: &mut Vec<Found>,
+    window: Window<'_>,
+    wanted: Wanted<'_>,
+) -> Result<(), ShowFault<'static>> {
+    match wanted {
+        Wanted::All => search_window(alloc, found, window),
+        Wanted::Bodies(regions) => {
+            note_bodies(found.as_mut_slice(), regions, window.words);
+            Ok(())
+        }
+    }
 }
 
 /// Adds what is found in a region, window by window. What cannot be read is passed.
@@ -93,6 +131,7 @@ fn search_region<R: AllocGlobal + Files + Input>(
     file: &str,
     region: Region,
     found: &mut Vec<Found>,
+    wanted: Wanted<'_>,
 ) -> Result<(), ShowFault<'static>> {
     let mut offset = 0;
     for _ in 0..region.length.div_ceil(STEP) {
@@ -109,12 +148,25 @@ fn search_region<R: AllocGlobal + Files + Input>(
                     address: region.address.saturating_add(offset),
                     at,
                 };
-                search_window(found, window)?;
+                look_into(rt.alloc(), found, window, wanted)?;
             }
             Err(Cause::OutOfMemory) => return Err(ShowFault::OutOfMemory),
             Err(_unreadable) => {}
         }
         offset = offset.saturating_add(STEP);
+    }
+    Ok(())
+}
+
+/// Adds what is found in all of the memory.
+fn search_memory<R: AllocGlobal + Files + Input>(
+    rt: &R,
+    memory: &Memory,
+    found: &mut Vec<Found>,
+    wanted: Wanted<'_>,
+) -> Result<(), ShowFault<'static>> {
+    for region in memory.regions.iter() {
+        search_region(rt, memory.file.as_str(), *region, found, wanted)?;
     }
     Ok(())
 }
@@ -125,8 +177,10 @@ pub fn find_all<'a, R: AllocGlobal + Files + Input + Print>(
     memory: &Memory,
 ) -> Result<ExitCode, ShowFault<'a>> {
     let mut found = Vec::new(rt.alloc());
-    for region in memory.regions.iter() {
-        search_region(rt, memory.file.as_str(), *region, &mut found)?;
+    search_memory(rt, memory, &mut found, Wanted::All)?;
+    if found.iter().any(|it| it.kind == Kind::Ring) {
+        let regions = memory.regions.as_slice();
+        search_memory(rt, memory, &mut found, Wanted::Bodies(regions))?;
     }
     for it in found.iter() {
         print_found(rt, memory.file.as_str(), *it)?;

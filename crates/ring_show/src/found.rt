@@ -2,6 +2,8 @@
 use crate::fault::ShowFault;
 use crate::show::print_text;
 use ring_report::{Bodies, Cell, Report, Section, View, words_of};
+use ring_snapshot::formatted_header;
+use std::alloc::Global;
 use std::fmt::Write;
 use std::io::Input;
 use std::rt::Files;
@@ -30,6 +32,8 @@ pub struct Found {
     pub at: u64,
     /// The bytes of its buffer, or of the metadata of its counters.
     pub capacity: u64,
+    /// Where the bodies of a ring begin in the file, if they lie apart.
+    pub bodies_at: Option<u64>,
 }
 
 /// How something is listed: its summary, without its records.
@@ -109,6 +113,16 @@ pub fn add_counter(found: &mut Vec<Found>, new: Found) -> Result<(), ShowFault<'
     Ok(())
 }
 
+/// The words of memory with each header as the format has it. A ring whose bodies lie apart is listed by these, without
+/// its bodies; and so is one whose bodies do not.
+pub fn formatted_words(alloc: Global, words: &[u64]) -> Result<Vec<u64>, ShowFault<'static>> {
+    let mut formatted = Vec::new(alloc);
+    for word in words {
+        formatted.push(formatted_header(*word))?;
+    }
+    Ok(formatted)
+}
+
 /// The lines of a ring or a broadcast buffer.
 fn buffer_text<R: AllocGlobal>(
     rt: &R,
@@ -117,7 +131,8 @@ fn buffer_text<R: AllocGlobal>(
     words: &[u64],
 ) -> Result<String, ShowFault<'static>> {
     let report = if found.kind == Kind::Ring {
-        Report::of_ring(rt.alloc(), words, SUMMARY)?
+        let words = formatted_words(rt.alloc(), words)?;
+        Report::of_ring(rt.alloc(), words.as_slice(), SUMMARY)?
     } else {
         Report::of_board(rt.alloc(), words, SUMMARY)?
     };
@@ -139,10 +154,14 @@ fn buffer_text<R: AllocGlobal>(
         "{kind} at 0x{address:x}  capacity {capacity}  ({sure})"
     )?;
     writeln!(text, "  {}", report.summary)?;
-    writeln!(
+    write!(
         text,
         "  ring-show {kind} {file} --at 0x{at:x} --length {length}"
     )?;
+    if let Some(bodies_at) = found.bodies_at {
+        write!(text, " --bodies-at 0x{bodies_at:x}")?;
+    }
+    text.push('\n')?;
     Ok(text)
 }
 

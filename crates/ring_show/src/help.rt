@@ -38,6 +38,9 @@ pub const AT: &str = "Where the copy begins in the file, in bytes, decimal or 0x
 
 pub const LENGTH: &str = "The number of its bytes [default: up to the end of the file]";
 
+pub const BODIES_AT: &str =
+    "Where the bodies begin in the file, if they lie apart from the ring's words";
+
 pub const FROM: &str = "List from this position on, the start of a record";
 
 pub const BODIES: &str = "How bytes are shown";
@@ -58,6 +61,8 @@ The line below the positions is a picture of the buffer, from its first byte to 
 
 A file may be /proc/PID/mem, with the address as --at: what a running program has is then shown as it was while it was
 read. If the positions changed meanwhile, it is read again, up to three times.
+
+The bodies of a ring may lie apart from its words, in as many bytes as its buffer has: --bodies-at is then their place.
 
 A terminal gets colours unless the variable NO_COLOR has a value.
 

@@ -2,6 +2,7 @@
 //! and prints a table that a person reads, JSON, or the text format of Prometheus.
 #![tactic(auto)]
 
+mod bodies;
 mod cnc;
 mod fault;
 mod find;

@@ -9,7 +9,11 @@ use std::alloc::Global;
 /// What is shown, and the source of its memory.
 #[derive(Clone, Copy)]
 pub enum Subject<'a> {
-    Ring(Section<'a>),
+    Ring {
+        words: Section<'a>,
+        /// Where its bodies begin in the file, if they lie apart.
+        bodies_at: Option<u64>,
+    },
     Board(Section<'a>),
     Counters {
         metadata: Section<'a>,
@@ -114,6 +118,17 @@ fn listed<'a>(alloc: Global, name: &'a str, about: &'a str) -> Result<Command<'a
     Ok(command)
 }
 
+/// The subcommand that lists a ring.
+fn ringed<'a>(alloc: Global) -> Result<Command<'a>, Error> {
+    let command = listed(alloc, "ring", help::RING)?.arg(option(
+        alloc,
+        "bodies-at",
+        "BYTES",
+        help::BODIES_AT,
+    ))?;
+    Ok(command)
+}
+
 /// The subcommand that lists counters.
 fn counted<'a>(alloc: Global) -> Result<Command<'a>, Error> {
     let command = shown(alloc, "counters", help::COUNTERS)?
@@ -145,7 +160,7 @@ fn command<'a>(alloc: Global) -> Result<Command<'a>, Error> {
         .about(help::ABOUT)
         .after_help(help::AFTER)
         .subcommand_required(true)
-        .subcommand(listed(alloc, "ring", help::RING)?)?
+        .subcommand(ringed(alloc)?)?
         .subcommand(listed(alloc, "board", help::BOARD)?)?
         .subcommand(counted(alloc)?)?
         .subcommand(found(alloc)?)?
@@ -199,6 +214,15 @@ fn section<'a>(
     })
 }
 
+/// A ring as a subject. `BodiesOfInput` if its bodies lie apart and it is on standard input.
+fn ring_of<'a>(words: Section<'a>, bodies_at: Option<u64>) -> Result<Subject<'a>, ShowFault<'a>> {
+    if bodies_at.is_some() && words.file == "-" {
+        return Err(ShowFault::BodiesOfInput);
+    }
+    Ok(Subject::Ring { words, bodies_at })
+}
+
+/// The source of what a subcommand shows. `NotBytes` and `BodiesOfInput` as for `task_of`.
 fn subject_of<'a>(name: &str, matches: &ArgMatches<'a>) -> Result<Subject<'a>, ShowFault<'a>> {
     Ok(match name {
         "board" => Subject::Board(section(matches, "FILE", "at", "length")?),
@@ -206,7 +230,10 @@ fn subject_of<'a>(name: &str, matches: &ArgMatches<'a>) -> Result<Subject<'a>, S
             metadata: section(matches, "METADATA", "at", "length")?,
             values: section(matches, "VALUES", "values-at", "values-length")?,
         },
-        _ => Subject::Ring(section(matches, "FILE", "at", "length")?),
+        _ => ring_of(
+            section(matches, "FILE", "at", "length")?,
+            bytes(matches, "bodies-at")?,
+        )?,
     })
 }
 
@@ -237,8 +264,8 @@ fn format_of(matches: &ArgMatches<'_>, screen: Screen) -> Format {
     }
 }
 
-/// What the arguments of a subcommand that shows a known place ask for. `NotBytes` if an offset or a length is no
-/// number.
+/// What the arguments of a subcommand that shows a known place ask for. `NotBytes` and `BodiesOfInput` as for
+/// `task_of`.
 fn options_of<'a>(
     name: &str,
     matches: &ArgMatches<'a>,
@@ -255,7 +282,8 @@ fn options_of<'a>(
     })
 }
 
-/// What a subcommand's arguments ask for. `NotBytes` if an offset or a length is no number.
+/// What a subcommand's arguments ask for. `NotBytes` if an offset or a length is no number, `BodiesOfInput` if bodies
+/// that lie apart are to be read from standard input.
 pub fn task_of<'a>(
     name: &str,
     matches: &ArgMatches<'a>,

@@ -1,7 +1,7 @@
 //! Reading memory that others may change at the same time.
 use crate::fault::ShowFault;
 use ring_report::{Report, Section, section_words};
-use ring_snapshot::{BoardSnapshot, RingSnapshot};
+use ring_snapshot::{BoardSnapshot, RingSnapshot, join_bodies};
 use std::alloc::Global;
 use std::io::Input;
 use std::rt::Files;
@@ -46,6 +46,62 @@ pub fn settled_words<'a, R: AllocGlobal + Files + Input>(
         words = again;
     }
     Ok(Words { words, is_settled })
+}
+
+/// Adds the bodies that lie apart to the words of a ring. Words that no ring has stay as they are.
+fn add_bodies<'a, R: AllocGlobal + Files + Input>(
+    rt: &R,
+    words: &mut Vec<u64>,
+    file: &'a str,
+    at: u64,
+) -> Result<(), ShowFault<'a>> {
+    let Ok(ring) = RingSnapshot::new(words.as_slice()) else {
+        return Ok(());
+    };
+    let section = Section {
+        file,
+        at,
+        length: Some(u64::from(ring.capacity())),
+    };
+    let bodies = section_words(rt, section)?;
+    // (the section has as many words as the buffer, so nothing is refused)
+    let _ = join_bodies(words.as_mut_slice(), bodies.as_slice());
+    Ok(())
+}
+
+/// The words of a ring whose bodies lie apart, as those of `settled_words`. Bodies are read after the words, so that
+/// what is shown as committed was whole, and both between two looks at the positions.
+fn joined_words<'a, R: AllocGlobal + Files + Input>(
+    rt: &R,
+    section: Section<'a>,
+    bodies_at: u64,
+) -> Result<Words, ShowFault<'a>> {
+    let mut before = section_words(rt, section)?;
+    let mut words = Vec::new(rt.alloc());
+    let mut is_settled = false;
+    for _ in 0..READS {
+        if is_settled {
+            break;
+        }
+        words = section_words(rt, section)?;
+        add_bodies(rt, &mut words, section.file, bodies_at)?;
+        let after = section_words(rt, section)?;
+        is_settled = positions(after.as_slice(), true) == positions(before.as_slice(), true);
+        before = after;
+    }
+    Ok(Words { words, is_settled })
+}
+
+/// The words of a ring, in the format: with its bodies, if these lie apart.
+pub fn ring_words<'a, R: AllocGlobal + Files + Input>(
+    rt: &R,
+    section: Section<'a>,
+    bodies_at: Option<u64>,
+) -> Result<Words, ShowFault<'a>> {
+    match bodies_at {
+        Some(at) => joined_words(rt, section, at),
+        None => settled_words(rt, section, true),
+    }
 }
 
 /// Adds the finding that positions changed all the time.

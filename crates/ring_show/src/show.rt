@@ -1,7 +1,7 @@
 //! Reading what a command line names, and printing it once.
 use crate::fault::ShowFault;
 use crate::options::{Format, Options, Subject};
-use crate::settled::{Words, add_unsettled, settled_words};
+use crate::settled::{Words, add_unsettled, ring_words, settled_words};
 use ring_report::{Report, section_words};
 use std::io;
 use std::io::{Input, Write};
@@ -18,8 +18,8 @@ pub fn report_of<'a, R: AllocGlobal + Files + Input>(
 ) -> Result<Report, ShowFault<'a>> {
     let (alloc, view) = (rt.alloc(), options.view);
     match options.subject {
-        Subject::Ring(section) => {
-            let Words { words, is_settled } = settled_words(rt, section, true)?;
+        Subject::Ring { words, bodies_at } => {
+            let Words { words, is_settled } = ring_words(rt, words, bodies_at)?;
             let mut report = Report::of_ring(alloc, words.as_slice(), view)?;
             add_unsettled(alloc, &mut report, is_settled)?;
             Ok(report)

@@ -2,6 +2,7 @@ pub mod EntryLemmas
 pub mod SearchLemmas
 pub mod StepLemmas
 pub mod ListingLemmas
+pub mod JoinLemmas
 pub mod CounterLemmas
 pub mod WriteLemmas
 pub mod StoredLemmas

@@ -1,8 +1,8 @@
 //! What is in the words of a ring, a broadcast buffer and counters: read from a copy of their memory, whatever it
 //! holds; and writing such a copy.
 //!
-//! - `ring`, `board`, `counters`: one pass over a copy of each, and the search for them in memory. `buffer`, `listing`,
-//!   `search`: what they have in common.
+//! - `ring`, `board`, `counters`: one pass over a copy of each, and the search for them in memory; of a ring also its
+//!   words if its bodies lie apart. `buffer`, `listing`, `search`: what they have in common.
 //! - `record`, `board_record`, `counter`, `body`: what a pass yields.
 //! - `ring_finding`, `board_finding`, `counters_finding`: what is wrong with the words.
 //! - `write`: writing such a copy.
@@ -33,6 +33,7 @@ pub use counters::search::next_counter;
 pub use counters::{Counters, CountersSnapshot};
 pub use counters_finding::CountersFinding;
 pub use record::{Record, RecordState};
+pub use ring::plain::{formatted_header, join_bodies};
 pub use ring::search::next_ring;
 pub use ring::{Records, RingSnapshot};
 pub use ring_finding::RingFinding;

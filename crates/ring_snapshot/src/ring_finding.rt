@@ -7,6 +7,9 @@ pub enum RingFinding {
     /// No ring has this many words: `capacity / 8 + 96` for a capacity that is a power of two from 128 to 2^24.
     #[error("BadSize: no ring has {words} words")]
     BadSize { words: usize },
+    /// Slots for bodies that lie apart are another number of words than the buffer has.
+    #[error("BadBodies: the ring has no {words} words of bodies")]
+    BadBodies { words: usize },
     /// The head or the tail is no multiple of 8.
     #[error("UnalignedPosition: head {head}, tail {tail}")]
     UnalignedPosition { head: u64, tail: u64 },

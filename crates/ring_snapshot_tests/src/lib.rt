@@ -6,6 +6,8 @@ mod boards;
 #[cfg(test)]
 mod counters;
 #[cfg(test)]
+mod plain;
+#[cfg(test)]
 mod random;
 #[cfg(test)]
 mod rings;

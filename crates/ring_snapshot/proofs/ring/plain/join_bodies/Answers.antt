@@ -1,0 +1,26 @@
+use Rattle.std.specs.Prelude.{is_none}
+use Rattle.std.proofs.Common.{rules, ◌≡◌, ◌+◌, ◌-◌, ◌/◌, length, slice_index, ap, sym, ◌∙◌, true}
+use Rattle.ring_layout.specs.Layout.{head_index, tail_index}
+use Rattle.ring_snapshot.specs.PlainWords.{joined, joined_between, joined_from}
+use Rattle.ring_snapshot.specs.RingRecords.{positions_finding}
+use Rattle.std.proofs.lemmas.Bool.{cond-true}
+use Rattle.ring_snapshot.proofs.JoinLemmas.{same_capacity}
+use Rattle.ring_snapshot.proofs.ring.plain.join_bodies.Goals as goal
+
+pub returns-then-is_ordered-clause-joined : goal.returns-then-is_ordered-clause-joined
+returns-then-is_ordered-clause-joined c = λ C ok size.
+    let ring = c.in_ok-ring.ring in
+    let D = c.capacity-capacity.result in
+    let words = c.args.words.now in
+    let slots = c.args.slots.now in
+    let h = c.head-head.result in
+    let t = c.tail-tail.result in
+    let ordered : is_none (positions_finding D h t) ≡ true = search rules in
+    let head : h ≡ slice_index words (head_index D) = search rules in
+    let tail : t ≡ slice_index words (tail_index D) = search rules in
+    let long : length words ≡ D / 8 + 96 = search rules in
+    let same : D ≡ C = same_capacity D C (length words) c.capacity-capacity.ensures.lawful ok long size in
+    c.join_records.ensures.joined
+    ∙ sym (cond-true _ (joined_from D slots t ((t - h) / 8) h words) words ordered)
+    ∙ (λ i. joined_between D slots (head i) (tail i) words)
+    ∙ ap (λ K. joined K slots words) same

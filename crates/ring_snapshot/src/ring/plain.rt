@@ -1,0 +1,131 @@
+//! The words of a ring whose bodies lie apart: its own words have headers alone, and slots have the words of the bodies
+//! at the same indexes.
+ghost use Rattle.std.specs.Prelude.{◌≡◌, ◌≢◌, ℕ, ◌+◌, ◌-◌, ◌/◌, ◌≤◌, ◌==◌, if◌then◌else◌, length, slice_index, Err, IfErr, IfOk, None, Some};
+ghost use Rattle.ring_layout.specs.Places.{index, IsCapacity};
+ghost use Rattle.ring_layout.specs.Layout.{ring_words};
+ghost use Rattle.ring_layout.specs.Refusals.{IsRefusedBy};
+ghost use Rattle.ring_snapshot.specs.declared.ring_finding.RingFinding.TheVariants.{BadBodies, BadSize};
+ghost use Rattle.ring_snapshot.specs.PlainWords.{formatted, header_at, joined, joined_from, span_at, with_record};
+
+use crate::ring::RingSnapshot;
+use crate::ring_finding::RingFinding;
+use ring_layout::record_descriptor::PADDING_MSG_TYPE_ID;
+use ring_layout::{align8, unpack_header, word_index};
+
+/// The type id of padding in words without bodies, as the high half of a header.
+const PADDING_MARK: u64 = 0xffff_fffe;
+
+/// A header as the format has it. Words without bodies give padding the type id -2, where the format has that of an
+/// aborted record; every other header is the same.
+pub fn formatted_header(header: u64) -> u64
+    ensures { result ≡ formatted header }
+{
+    if header / 0x1_0000_0000 == PADDING_MARK {
+        header + 0x1_0000_0000
+    } else {
+        header
+    }
+}
+
+impl<'a> RingSnapshot<'a> {
+    ghost use Rattle.std.specs.Prelude.{◌≡◌, ◌+◌, ◌≤◌};
+    ghost use Rattle.ring_snapshot.specs.PlainWords.{span_at};
+
+    /// The bytes that a record with this header takes at a position, 0 if none has it.
+    fn span_at(&self, tail: u64, at: u64, header: u64) -> u64
+        requires { at ≤ tail }
+        ensures span { result ≡ span_at self.now.capacity tail at header }
+    {
+        let (len, type_id) = unpack_header(header);
+        let length = len.unsigned_abs();
+        let is_passed = len > 0 && type_id == PADDING_MSG_TYPE_ID;
+        if self.is_length(tail, at, length) && (type_id > 0 || is_passed) {
+            align8(u64::from(length))
+        } else {
+            0
+        }
+    }
+}
+
+/// Puts the record at a position into the format. Returns the bytes that it takes, 0 if there is none.
+fn join_record(words: &mut [u64], slots: &[u64], capacity: u32, tail: u64, at: u64) -> u64
+    requires lawful { IsCapacity capacity }
+    requires sizes { (length words.old ≡ ring_words capacity) × (length slots.now ≡ capacity / 8) }
+    requires order { at ≤ tail }
+    ensures span { result ≡ span_at capacity tail at (header_at capacity words.old at) }
+    ensures words { words.new
+        ≡ (if result == 0 then words.old else with_record capacity slots.now at result words.old) }
+    ensures inside { at + result ≤ tail }
+    ensures length { length words.new ≡ length words.old }
+    ensures trailer { (i : ℕ) → capacity / 8 ≤ i → slice_index words.new i ≡ slice_index words.old i }
+{
+    let index = word_index(capacity, at);
+    let header = words[index];
+    let shown = formatted_header(header);
+    let ring = RingSnapshot {
+        capacity,
+        words: &*words,
+    };
+    let bytes = ring.span_at(tail, at, shown);
+    if bytes > 0 {
+        if shown == header {
+            let end = index + bytes as usize / 8;
+            words[index + 1..end].copy_from_slice(&slots[index + 1..end]);
+        } else {
+            words[index] = shown;
+        }
+    }
+    bytes
+}
+
+/// Puts the records between these positions into the format, up to the first header that no record has.
+#[tactic(auto, using(crate::proofs::JoinLemmas::joined_goes, crate::proofs::JoinLemmas::joined_stops))]
+fn join_records(words: &mut [u64], slots: &[u64], capacity: u32, head: u64, tail: u64)
+    requires lawful { IsCapacity capacity }
+    requires sizes { (length words.old ≡ ring_words capacity) × (length slots.now ≡ capacity / 8) }
+    requires order { head ≤ tail }
+    ensures joined { words.new ≡ joined_from capacity slots.now tail ((tail - head) / 8) head words.old }
+    ensures length { length words.new ≡ length words.old }
+    ensures trailer { (i : ℕ) → capacity / 8 ≤ i → slice_index words.new i ≡ slice_index words.old i }
+{
+    let mut at = head;
+    for _k in 0..(tail - head) / 8 {
+        let bytes = join_record(words, slots, capacity, tail, at);
+        if bytes == 0 {
+            return;
+        }
+        at += bytes;
+    }
+}
+
+/// Makes the words of a ring in the format from words that have headers alone, and `slots`, `capacity / 8` words, which
+/// have the bodies at the same indexes. All listings work on the result.
+///
+/// From the head to the tail, one record after the other: padding, which has the type id -2, gets that of the format,
+/// and any other record, whatever its state, its body. A header that no record has ends it, and stays as it is. So does
+/// every other word; none is changed if the positions make no sense.
+///
+/// Returns `BadSize` if no ring has this many words, and then `BadBodies` if it has another number of slots. No word is
+/// changed then.
+pub fn join_bodies(words: &mut [u64], slots: &[u64]) -> Result<(), RingFinding>
+    ensures no_ring { ((C : ℕ) → IsCapacity C → length words.old ≢ ring_words C)
+        → result ≡ Err (BadSize (length words.old)) }
+    ensures refused { (C : ℕ) → IsCapacity C → length words.old ≡ ring_words C
+        → IsRefusedBy (if length slots.now == C / 8 then None else Some (BadBodies (length slots.now))) result }
+    ensures same { IfErr result (λ _. words.new ≡ words.old) }
+    ensures joined { (C : ℕ) → IsCapacity C → length words.old ≡ ring_words C
+        → IfOk result (λ _. words.new ≡ joined C slots.now words.old) }
+    ensures length { length words.new ≡ length words.old }
+    ensures trailer { (i : ℕ) → length words.old ≤ i + 96 → slice_index words.new i ≡ slice_index words.old i }
+{
+    let ring = RingSnapshot::new(&*words)?;
+    let (capacity, head, tail) = (ring.capacity(), ring.head(), ring.tail());
+    let is_ordered = ring.check_positions(head, tail).is_ok();
+    if slots.len() != capacity as usize / 8 {
+        return Err(RingFinding::BadBodies { words: slots.len() });
+    }
+    if is_ordered {
+        join_records(words, slots, capacity, head, tail);
+    }
+    Ok(())
+}
