@@ -8,7 +8,7 @@ use crate::sending::{receives, send};
 use ring_board::{Board, CopyReceiver};
 use ring_conductor::{Command, Conductor, Cycle, FinishFault, Finished, Reply, Work, WorkStop};
 use ring_counters::{CounterValues, CountersManager, IdFault};
-use ring_rings::{Kind, Producer, Ring};
+use ring_rings::{Closes, Kind, Producer, Ring, RingTable, Steps};
 use std::alloc::Global;
 use std::process::Abort;
 
@@ -49,10 +49,11 @@ fn done(is_done: bool) -> Answer {
     }
 }
 
-/// A conductor of some counters, with its ring, its board, the ring's sole producer and a listener.
+/// A conductor of some counters, with its ring, its board, the ring's sole producer and a listener. `B` says where the
+/// ring's bodies lie.
 #[derive(Drop)]
-pub struct Bench<K> {
-    pub ring: Ring<K>,
+pub struct Bench<K, B: Steps = RingTable> {
+    pub ring: Ring<K, B>,
     pub board: Board,
     pub values: CounterValues,
     pub conductor: Conductor,
@@ -64,7 +65,7 @@ pub struct Bench<K> {
     ghost listens: { IsReceiverOf board listener },
 }
 
-impl<K: Kind> Bench<K> {
+impl<K: Kind, B: Closes + Drop> Bench<K, B> {
     /// With a ring of 1,024 bytes, a board of 256, and this many counters, whose ids are given again after 50 ms.
     pub fn new(rt: &impl Abort, alloc: Global, counters: u32) -> Self {
         Self::with_sizes(rt, alloc, (1024, 256), counters, 0)
@@ -83,7 +84,7 @@ impl<K: Kind> Bench<K> {
         counters: u32,
         start: u64,
     ) -> Self {
-        let (ring, producer, consumer) = Ring::<K>::new(alloc, sizes.0).expect(rt, "a ring");
+        let (ring, producer, consumer) = Ring::<K, B>::new(alloc, sizes.0).expect(rt, "a ring");
         let (board, transmitter) = Board::new_at(alloc, sizes.1, start).expect(rt, "a board");
         let (values, counters) = CountersManager::new(alloc, counters, 50).expect(rt, "counters");
         let mut conductor = Conductor::new(consumer, transmitter, counters);

@@ -8,19 +8,20 @@ use crate::sending::work;
 use ring_board::Board;
 use ring_conductor::{Conductor, FinishFault, FinishRefused, WorkStop, finish};
 use ring_counters::CounterValues;
-use ring_rings::{ManyToOne, ManyToOneRing, Producer};
+use ring_rings::{Closes, ManyToOne, Producer, Ring, RingTable, SlotTable};
+use std::alloc::Global;
 use std::process::Abort;
 
 /// All of a conductor that does not finish yet, for this reason.
-fn refused(
+fn refused<B: Closes + Drop>(
     rt: &impl Abort,
-    ring: ManyToOneRing,
+    ring: Ring<ManyToOne, B>,
     board: Board,
     values: CounterValues,
     conductor: Conductor,
     producer: Producer,
     reason: FinishFault,
-) -> FinishRefused<ManyToOneRing>
+) -> FinishRefused<Ring<ManyToOne, B>>
     requires conductor { IsConductorOf IsConsumerOf ring board values conductor }
     requires producer { IsProducerOf ring producer }
     ensures ring { result.ring ≡ ring }
@@ -35,8 +36,7 @@ fn refused(
 }
 
 /// Open claims are reported before producers that are out, and the conductor works on after it did not finish.
-#[test]
-fn finishes_once_claims_are_settled_and_producers_back(rt: HostRuntime) {
+fn finishes_last<B: Closes + Drop>(rt: &impl Abort, alloc: Global) {
     let Bench {
         ring,
         board,
@@ -44,16 +44,16 @@ fn finishes_once_claims_are_settled_and_producers_back(rt: HostRuntime) {
         mut conductor,
         mut producer,
         listener,
-    } = Bench::<ManyToOne>::new(&rt, rt.alloc(), 4);
+    } = Bench::<ManyToOne, B>::new(rt, alloc, 4);
     conductor.join_receiver(&board, listener);
-    let mut other = ring.split(&mut producer).expect(&rt, "a producer");
-    let claim = ring.claim_once(&mut producer, 2, 12).expect(&rt, "a claim");
+    let mut other = ring.split(&mut producer).expect(rt, "a producer");
+    let claim = ring.claim_once(&mut producer, 2, 12).expect(rt, "a claim");
     let open = FinishFault::ClaimsOpen { claims: 1 };
-    let mut back = refused(&rt, ring, board, values, conductor, producer, open);
+    let mut back = refused(rt, ring, board, values, conductor, producer, open);
     back.ring.abort(&mut back.producer, claim);
     let out = FinishFault::ProducersOut { shares: 1 };
     let mut back = refused(
-        &rt,
+        rt,
         back.ring,
         back.board,
         back.values,
@@ -75,6 +75,12 @@ fn finishes_once_claims_are_settled_and_producers_back(rt: HostRuntime) {
         back.producer,
     )
     .ok()
-    .expect(&rt, "an end");
+    .expect(rt, "an end");
     assert_eq!(rt; (finished.received, finished.board.tail()), (1, 24));
+}
+
+#[test]
+fn finishes_once_claims_are_settled_and_producers_back(rt: HostRuntime) {
+    finishes_last::<RingTable>(&rt, rt.alloc());
+    finishes_last::<SlotTable>(&rt, rt.alloc());
 }

@@ -18,6 +18,8 @@ mod finishing;
 #[cfg(test)]
 mod gates;
 #[cfg(test)]
+mod headline;
+#[cfg(test)]
 mod heartbeats;
 #[cfg(test)]
 mod protocol;

@@ -5,10 +5,14 @@ ghost use Rattle.ring_board.specs.Seats.{IsReceiverOf};
 
 use ring_board::{Board, Copied, CopyReceiver, Lapped};
 use ring_conductor::{Command, Reply, Work, WorkStop, decode_reply, encode_command};
-use ring_rings::{Kind, Producer, Ring};
+use ring_rings::{Kind, Producer, Ring, Steps};
 
 /// Sends a command, and tests whether there was room for it.
-fn send_one<K: Kind>(ring: &Ring<K>, producer: &mut Producer, command: &Command<'_>) -> bool
+fn send_one<K: Kind, B: Steps>(
+    ring: &Ring<K, B>,
+    producer: &mut Producer,
+    command: &Command<'_>,
+) -> bool
     requires producer { IsProducerOf ring.now producer.old }
     requires sole { shares_of producer.old ≡ all_shares }
     ensures producer { IsProducerOf ring.now producer.new }
@@ -21,7 +25,11 @@ fn send_one<K: Kind>(ring: &Ring<K>, producer: &mut Producer, command: &Command<
 }
 
 /// Sends commands, and tests whether there was room for all.
-pub fn send<K: Kind>(ring: &Ring<K>, producer: &mut Producer, commands: &[Command]) -> bool
+pub fn send<K: Kind, B: Steps>(
+    ring: &Ring<K, B>,
+    producer: &mut Producer,
+    commands: &[Command],
+) -> bool
     requires producer { IsProducerOf ring.now producer.old }
     requires sole { shares_of producer.old ≡ all_shares }
     ensures producer { IsProducerOf ring.now producer.new }

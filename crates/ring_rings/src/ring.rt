@@ -5,7 +5,8 @@ ghost use Rattle.ring_layout.specs.Layout.{ring_words};
 ghost use Rattle.ring_rings.specs.Matching.{Matches, matches_prop};
 
 use crate::fault::CloseFault;
-use ring_table::{RingSeat, RingTable};
+use crate::steps::Steps;
+use ring_table::{RingSeat, RingTable, SlotTable};
 use std::marker::PhantomData;
 
 /// The kind of a ring that one producer writes.
@@ -14,25 +15,44 @@ pub struct OneToOne;
 /// The kind of a ring that any number of producers write.
 pub struct ManyToOne;
 
-/// A ring of messages between threads, shared by reference. It has one consumer, and producers as its kind says.
+/// A ring of messages between threads, shared by reference. It has one consumer, and producers as its kind says. `B` is
+/// its table, which says where the bodies of messages lie: in atomic words in a `RingTable`, in plain memory in a
+/// `SlotTable`. The calls and what they do are the same.
 #[derive(Drop)]
-pub struct Ring<K> {
-    pub(crate) table: RingTable,
+pub struct Ring<K, B: Steps = RingTable> {
+    pub(crate) table: B,
     // Room for the words that `close` hands on.
     pub(crate) room: Vec<u64>,
     pub(crate) capacity: u32,
     pub(crate) kind: PhantomData<K>,
-    ghost key: { table.shared.key.capacity ≡ capacity },
-    ghost wide: { (table.shared.table_id.words ≡ ring_words capacity) × (table.shared.table_id.slots ≡ 0)
+    ghost key: { (B.key_of table).capacity ≡ capacity },
+    ghost wide: { ((B.table_of table).words ≡ ring_words capacity) × ((B.table_of table).slots ≡ B.slots_for capacity)
         × (vec_len room ≡ ring_words capacity) },
     ghost lawful: { IsCapacity capacity },
 }
 
 /// A ring with one producer, which moves the tail by a store.
+///
+/// Its memory has the format of a ring at all times, bodies included. So a body costs an atomic step for each eight
+/// bytes, and one more to clear them. Take it if something else reads the memory by the format, and otherwise a
+/// `PlainOneToOneRing`.
 pub type OneToOneRing = Ring<OneToOne>;
 
-/// A ring with any number of producers, which move the tail by a compare-exchange.
+/// A ring with any number of producers, which move the tail by a compare-exchange. Its memory is that of a
+/// `OneToOneRing`.
 pub type ManyToOneRing = Ring<ManyToOne>;
+
+/// A ring whose bodies lie in plain memory, which one thread at a time reads and writes.
+pub type PlainRing<K> = Ring<K, SlotTable>;
+
+/// A ring with one producer whose bodies lie in plain memory.
+///
+/// It has the calls of a `OneToOneRing`, and a body costs about what copying it costs. It takes the memory of its buffer
+/// once more, since headers and bodies lie apart, and has the format of a ring only once it is closed.
+pub type PlainOneToOneRing = PlainRing<OneToOne>;
+
+/// A ring with any number of producers whose bodies lie in plain memory, as in a `PlainOneToOneRing`.
+pub type PlainManyToOneRing = PlainRing<ManyToOne>;
 
 /// Writes into a ring. It is used by one thread at a time, and may move between threads.
 ///
@@ -47,6 +67,7 @@ pub struct Producer {
     pub(crate) own_tail: u64,
     ghost known: { Matches seat.me.0 shares open_claims own_tail } by { matches_prop _ _ _ _ _ _ },
     ghost produces: { (seat.me.0.consumes ≡ false) × (seat.me.1 ≡ []) },
+    ghost home: { seat.me.0.out ≡ [] },
 }
 
 /// Reads a ring. It is used by one thread at a time, and may move between threads. If it is dropped, the ring fills up
@@ -57,6 +78,7 @@ pub struct Consumer {
     pub(crate) head: u64,
     pub(crate) scratch: Vec<u8>,
     ghost consumes: { (seat.me.0.consumes ≡ true) × (seat.me.1 ≡ []) × (seat.me.0.producer.shares ≡ 0) },
+    ghost home: { seat.me.0.out ≡ [] },
     ghost stands: { (seat.me.0.consumer.head ≡ head) × (seat.me.0.consumer.cleared ≡ head) },
     ghost whole: { (head % 8 ≡ 0) × (head ≤ max_position) },
     ghost room: { vec_len scratch ≡ seat.me.0.capacity / 8 },

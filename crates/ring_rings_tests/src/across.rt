@@ -4,7 +4,9 @@ use crate::bench::Said::{self, At, Done};
 use crate::bench::{Call, opened};
 use crate::play::{PLAY, Play, plays};
 use crate::script::Script;
-use ring_rings::{Action, ManyToOne, Standing, Stop};
+use ring_rings::{Action, ManyToOne, RingTable, SlotTable, Standing, Steps, Stop};
+use std::alloc::Global;
+use std::process::Abort;
 
 const WRITE: (Call<'static>, Said) = (Write(1, &[0; 16]), Done);
 
@@ -109,18 +111,24 @@ fn break_leaves_the_padding_behind_the_message(rt: HostRuntime) {
     plays(&rt, rt.alloc(), &[&BROKEN]);
 }
 
-#[test]
-fn positions_around_a_read_tell_empty_from_moving(rt: HostRuntime) {
-    let (ring, mut producer, mut consumer) = opened::<ManyToOne>(&rt, rt.alloc(), 0);
+/// Positions around a read distinguish an empty ring from one into which a message came after the read.
+fn tells_standings<B: Steps + Drop>(rt: &impl Abort, alloc: Global) {
+    let (ring, mut producer, mut consumer) = opened::<ManyToOne, B>(rt, alloc, 0);
     let mut count = Script::new(&[], &[(1, &[0; 8])]);
     let before = ring.positions(&mut producer);
     let read = ring.read(&mut consumer, 9, &mut count);
     let after = ring.positions(&mut producer);
     assert_eq!(rt; read.standing(before, after), Standing::Empty);
     ring.write_once(&mut producer, 1, &[0; 8])
-        .expect(&rt, "room");
+        .expect(rt, "room");
     let read = ring.read(&mut consumer, 9, &mut count);
     let later = ring.positions(&mut producer);
     assert_eq!(rt; read.standing(after, later), Standing::Moving);
     assert!(rt; count.is_done());
+}
+
+#[test]
+fn positions_around_a_read_tell_empty_from_moving(rt: HostRuntime) {
+    tells_standings::<RingTable>(&rt, rt.alloc());
+    tells_standings::<SlotTable>(&rt, rt.alloc());
 }

@@ -12,8 +12,10 @@ pub mod MemoryLemmas
 pub mod LoadLemmas
 pub mod ClaimLemmas
 pub mod StoreLemmas
+pub mod StoreBodies
 pub mod ConsumeLemmas
 pub mod ClearLemmas
+pub mod RecordLemmas
 pub mod ServiceLemmas
 pub mod ServeLemmas
 pub mod RestLemmas
@@ -21,6 +23,22 @@ pub mod OpenLemmas
 mod SplitSums
 pub mod SplitLemmas
 pub mod CloseLemmas
+pub mod WalkLemmas
+pub mod PictureWords
+pub mod CloseSlots
+pub mod ShelfLemmas
+pub mod CarryLemmas
+pub mod HeaderWords
+pub mod RangeLemmas
+pub mod FillLemmas
+pub mod PuttingLemmas
+pub mod BodyPlaces
+pub mod OutPlaces
+pub mod SlotLemmas
+pub mod OutLemmas
+pub mod HomeLemmas
 pub mod Calls
+pub mod SlotCalls
+pub mod SlotBodies
 pub mod HeaderCalls
 pub mod LawLemmas

@@ -1,9 +1,9 @@
 -- What the consumer learns by its steps: v is its view before, w after, n the number found.
-use Rattle.std.specs.Prelude.{◌≡◌, ◌≢◌, ℕ, ◌+◌, ◌*◌, ◌/◌, ◌%◌, ◌^◌, ◌≤◌, ◌<◌, ℤ, pos, ◌≤ℤ◌, FitsSigned, List, [], ◌∷◌, ◌++◌, length}
+use Rattle.std.specs.Prelude.{if◌then◌else◌, ◌==◌, ◌≡◌, ◌≢◌, ℕ, ◌+◌, ◌*◌, ◌/◌, ◌%◌, ◌^◌, ◌≤◌, ◌<◌, ℤ, pos, ◌≤ℤ◌, FitsSigned, List, [], ◌∷◌, ◌++◌, length}
 use Rattle.std.specs.Int.{w32}
 use mathlib.Core.Option.{some}
 use lib.ListN.{get_elem?}
-use Rattle.ring_layout.specs.History.{IsMessage}
+use Rattle.ring_layout.specs.History.{IsMessage, span}
 use Rattle.ring_layout.specs.Places.{index, max_position}
 use Rattle.ring_layout.specs.Headers.{header, padding_type}
 use Rattle.ring_table.specs.Staged.{PlacedMessage, body_word}
@@ -37,9 +37,17 @@ pub record FindsMessage (C scan : ℕ) (got : List PlacedMessage) (v : View) (n 
       (got ++ (record { place = scan; message = record { type_id = type_id; body = body } }) ∷ []) v
   pub inside : IsInside C scan (rounded len)
 
+-- the producer's part of the view is as it was, and the head
+pub record StaysAt (v w : View) : Type 0 where
+  pub producer : w.producer ≡ v.producer
+  pub out : w.out ≡ v.out
+  pub consumes : w.consumes ≡ v.consumes
+  pub head : w.consumer.head ≡ v.consumer.head
+
 -- what a header at the position `scan` shows a read that has come there and got these messages
 pub record LoadsHeader (C scan : ℕ) (got : List PlacedMessage) (v : View) (n : ℕ) (w : View) : Type 0 where
   pub capacity : w.capacity ≡ v.capacity
+  pub stays : StaysAt v w
   pub padding : (len : ℕ) → 0 < len → len < 2 ^ 31 → n ≡ header (pos len) padding_type
       → PassesPadding C scan got v n len w
   pub message : (len : ℕ) (type_id : ℤ) → 0 < len → len < 2 ^ 31 → FitsSigned w32 type_id → type_id ≢ padding_type
@@ -60,6 +68,26 @@ ClearsWord v w = w ≡ with_consumer (cleared_to (v.consumer.cleared + 8) v.cons
 pub record LoadsPassed (v : View) (n : ℕ) (w : View) : Type 0 where
   pub zero : n ≡ 0 → ClearsWord v w
   pub other : n ≢ 0 → w ≡ v
+
+-- the end of the record at the position p, of a message that was got, otherwise of the word there
+unfoldable pub record_end : ℕ → List PlacedMessage → ℕ
+record_end p [] = p + 8
+record_end p (m ∷ ms) = if m.place == p then p + span (length m.message.body) else record_end p ms
+
+-- the next record to clear has this many bytes
+pub record HasSpan (v : View) (bytes : ℕ) : Type 0 where
+  pub some : 8 ≤ bytes
+  pub ends : record_end v.consumer.cleared v.consumer.got ≡ v.consumer.cleared + bytes
+
+-- if bodies are elsewhere, the header of a message at the next word to clear has that record's length
+pub record LoadsRecord (v : View) (n : ℕ) (w : View) : Type 0 where
+  pub zero : n ≡ 0 → ClearsWord v w
+  pub other : n ≢ 0 → w ≡ v
+  pub message : n ≢ 0 → n < 2 ^ 63 → HasSpan v (rounded (n % 2 ^ 32))
+
+-- so only the header is cleared: the words after it are 0
+abbrev pub ClearsRecord : View → View → Type 0
+ClearsRecord v w = w ≡ with_consumer (cleared_to (record_end v.consumer.cleared v.consumer.got) v.consumer) v
 
 abbrev pub StoresHead : View → View → Type 0
 StoresHead v w = w ≡ with_consumer (stands_at v.consumer.scan v.consumer.got v.consumer) v
