@@ -7,6 +7,7 @@ use Rattle.ring_rings.specs.declared.fault.TryFault.{TryFault}
 use Rattle.ring_rings.specs.declared.ring.Producer.{Producer}
 use Rattle.ring_rings.specs.Claiming.{Refusing, Writing}
 use Rattle.ring_rings.specs.declared.ring.Ring.{Ring}
+use Rattle.ring_rings.specs.declared.steps.Steps.{Ghosts}
 use Rattle.ring_rings.specs.Seats.{view_of, IsProducerOf, MayClaim}
 use Rattle.ring_board.specs.declared.board.Board.{Board}
 use Rattle.ring_board.specs.declared.board.CopyReceiver.{CopyReceiver}
@@ -50,7 +51,7 @@ client_seat c = receiver_seat c.receiver
 
 -- its producer may claim in this ring, whose kind is for one producer or is not, and its receiver is this broadcast
 -- buffer's
-abbrev pub IsSeatedAt : {K : Type 0} → Type 0 → Ring K → Board → Client → Type 0
+abbrev pub IsSeatedAt : {K B : Type 0} {G : Ghosts B} → Type 0 → Ring K B G → Board → Client → Type 0
 IsSeatedAt is_for_one ring board c =
     IsProducerOf ring (producer_of c) × MayClaim is_for_one (producer_of c) × IsReceiverOf board (receiver_of c)
 

@@ -11,6 +11,7 @@ use Rattle.ring_table.specs.ProducerSteps.{EndBelow}
 use Rattle.ring_table.specs.Services.{once_below}
 use Rattle.ring_table.specs.Staged.{AreRising}
 use Rattle.ring_rings.specs.declared.ring.Ring.{Ring}
+use Rattle.ring_rings.specs.declared.steps.Steps.{Ghosts}
 use Rattle.ring_rings.specs.Closing.{AreOrdered}
 use Rattle.ring_rings.specs.declared.ring.Producer.{Producer}
 use Rattle.ring_rings.specs.Reading.{messages_of}
@@ -124,7 +125,7 @@ abbrev pub HasRisen : Producer → Type 0
 HasRisen p = AreRising (claims_of p) × EndBelow (seen_tail_of p) (claims_of p)
 
 -- a client's producer: one share of this ring, no open claim, claims whose places rise, and no other joined into it
-abbrev pub IsClientSeat : {K : Type 0} → Ring K → Producer → Type 0
+abbrev pub IsClientSeat : {K B : Type 0} {G : Ghosts B} → Ring K B G → Producer → Type 0
 IsClientSeat ring p =
     IsProducerOf ring p × (shares_of p ≡ 1) × (open_claims_of p ≡ 0) × HasRisen p × (services_of p ≡ [])
 
@@ -133,7 +134,7 @@ abbrev pub sent_by : Producer → ℕ
 sent_by p = length (claims_of p)
 
 -- a client at its seats
-abbrev pub IsClientOf : {K : Type 0} → Ring K → Board → StormClient → Type 0
+abbrev pub IsClientOf : {K B : Type 0} {G : Ghosts B} → Ring K B G → Board → StormClient → Type 0
 IsClientOf ring board c =
     IsClientSeat ring (producer_of c.client) × IsReceiverOf board (receiver_of c.client) × (c.index < 64)
 
@@ -172,7 +173,7 @@ HasCounters p c = (registry_of (manager_in c) ≡ storm_counters p (messages_of 
 
 -- producer and conductor belong to this ring, this board and these values, the counters are those of the messages
 -- taken, no other thread reads their values, and the producer drew no number
-abbrev pub IsHubOf : {K : Type 0} → StormPlan → Ring K → Board → CounterValues → Hub → Type 0
+abbrev pub IsHubOf : {K B : Type 0} {G : Ghosts B} → StormPlan → Ring K B G → Board → CounterValues → Hub → Type 0
 IsHubOf p ring board values hub = IsProducerOf ring hub.producer
     × IsConductorOf IsConsumerOf ring board values hub.conductor × HasCounters p hub.conductor
     × (draws_of hub.producer ≡ [])
@@ -195,7 +196,7 @@ IsDone p clients end = (all_commands p ≤ taken_by end.hub.conductor) × (end.s
 
 -- what the conductor's thread gives back: the conductor with the counters of the messages taken; it has joined no
 -- receiver, and if it is done it took all commands
-pub record HasConducted {K : Type 0} (p : StormPlan) (ring : Ring K) (board : Board) (values : CounterValues)
+pub record HasConducted {K B : Type 0} {G : Ghosts B} (p : StormPlan) (ring : Ring K B G) (board : Board) (values : CounterValues)
     (end : ConductorEnd) : Type 0 where
   pub conductor : IsConductorOf IsConsumerOf ring board values end.conductor
   pub counters : HasCounters p end.conductor
@@ -207,7 +208,7 @@ abbrev pub IsUnused : Hub → Type 0
 IsUnused hub = (claims_of hub.producer ≡ []) × (joined_by hub.conductor ≡ []) × (services_of hub.producer ≡ [])
 
 -- hub as it is before the first client: of this ring, this board and these values, and unused
-pub record IsFreshOf {K : Type 0} (p : StormPlan) (ring : Ring K) (board : Board) (values : CounterValues)
+pub record IsFreshOf {K B : Type 0} {G : Ghosts B} (p : StormPlan) (ring : Ring K B G) (board : Board) (values : CounterValues)
     (hub : Hub) : Type 0 where
   pub of : IsHubOf p ring board values hub
   pub unused : IsUnused hub
@@ -252,7 +253,7 @@ pub record TakesSeats (c : StormClient) (old new : Hub) : Type 0 where
 
 -- The end of a level: hub with the seats of this many clients, which sent no more commands and saw no more replies than
 -- the plan has for them; all of these, each in its turn, if nothing failed
-pub record IsEndOf {K : Type 0} (p : StormPlan) (ring : Ring K) (board : Board) (values : CounterValues)
+pub record IsEndOf {K B : Type 0} {G : Ghosts B} (p : StormPlan) (ring : Ring K B G) (board : Board) (values : CounterValues)
     (clients : ℕ) (end : LevelEnd) : Type 0 where
   pub hub : IsHubOf p ring board values end.hub
   pub sent : sent_by end.hub.producer ≤ clients * p.commands
@@ -267,7 +268,7 @@ IsEndAt s clients end = IsEndOf s.plan s.ring.now s.board.now s.values.now clien
 -- What is left of a storm, whether all is done or some gave up. Hub has all seats of this ring, this board and these
 -- values, with no more claims than all commands, and with it the conductor finished: the headline holds of it, and all
 -- that it hands on is handed on
-pub record HasFinished {K : Type 0} (p : StormPlan) (ring : Ring K) (board : Board) (values : CounterValues)
+pub record HasFinished {K B : Type 0} {G : Ghosts B} (p : StormPlan) (ring : Ring K B G) (board : Board) (values : CounterValues)
     (e : StormEnd) : Type 0 where
   pub hub : Hub
   pub end : IsEndOf p ring board values p.clients (record { hub = hub; seen = e.seen; failure = e.failure })

@@ -11,6 +11,7 @@ use Rattle.ring_table.specs.declared.claim.Stage.TheVariants.{Stored}
 use Rattle.ring_table.specs.Changes.{blank, changed, staged}
 use Rattle.ring_table.specs.ProducerSteps.{with_changed}
 use Rattle.ring_rings.specs.declared.ring.Ring.{Ring}
+use Rattle.ring_rings.specs.declared.steps.Steps.{Ghosts}
 use Rattle.ring_rings.specs.declared.ring.Producer.{Producer}
 use Rattle.ring_rings.specs.Bodies.{PutsBytes}
 use Rattle.ring_rings.specs.Seats.{view_of, IsOpenClaimOf, KeepsBoth, KeepsClaims, KeepsOthers, LiesApart}
@@ -116,7 +117,7 @@ module _ (P Q : ClaimAt → Type 0) (t : ClaimAt) (keeps : (u : ClaimAt) → P u
 
 -- Claims that are open -----------------------------------------------------------
 
-module _ {K : Type 0} (ring : Ring K) where
+module _ {K B : Type 0} {G : Ghosts B} (ring : Ring K B G) where
   pub still_open : (p q : Producer) (claims : List ClaimAt) → KeepsClaims ring p q → AreOpen ring p claims
       → AreOpen ring q claims
   still_open p q claims keeps are =
@@ -178,7 +179,7 @@ module _ {K : Type 0} (ring : Ring K) where
       }
 
   -- of a ring, what is open goes by the capacity alone
-  pub open_in : (same : Ring K) (p : Producer) (claims : List ClaimAt) → ring.capacity ≡ same.capacity
+  pub open_in : (same : Ring K B G) (p : Producer) (claims : List ClaimAt) → ring.capacity ≡ same.capacity
       → AreOpen ring p claims → AreOpen same p claims
   open_in same p claims cap are = record {
     each = All-weaker (IsOpenClaimOf ring p) (IsOpenClaimOf same p) (λ t is. record {

@@ -6,6 +6,7 @@ use Rattle.ring_table.specs.declared.claim.StagedClaim.{StagedClaim}
 use Rattle.ring_table.specs.declared.claim.Stage.TheVariants.{Stored}
 use Rattle.ring_table.specs.Changes.{changed, staged}
 use Rattle.ring_rings.specs.declared.ring.Ring.{Ring}
+use Rattle.ring_rings.specs.declared.steps.Steps.{Ghosts}
 use Rattle.ring_rings.specs.declared.ring.Producer.{Producer}
 use Rattle.ring_rings.specs.Seats.{IsOpenClaimOf}
 use Rattle.ring_handles.specs.declared.open_claims.OpenClaims.{OpenClaims}
@@ -72,7 +73,7 @@ AreApart [] = Unit {0}
 AreApart (t ∷ ts) = All (λ u. t.place ≢ u.place) ts × AreApart ts
 
 -- each is an open one of the producer's, and they lie at different places
-pub record AreOpen {K : Type 0} (ring : Ring K) (p : Producer) (claims : List ClaimAt) : Type 0 where
+pub record AreOpen {K B : Type 0} {G : Ghosts B} (ring : Ring K B G) (p : Producer) (claims : List ClaimAt) : Type 0 where
   pub each : All (IsOpenClaimOf ring p) claims
   pub apart : AreApart claims
 

@@ -9,6 +9,7 @@ use Rattle.ring_words.specs.Open.{ClaimAt}
 use Rattle.ring_rings.specs.Closing.{close_refusal_of}
 use Rattle.ring_rings.specs.declared.fault.CloseFault.{CloseFault}
 use Rattle.ring_rings.specs.declared.ring.Ring.{Ring}
+use Rattle.ring_rings.specs.declared.steps.Steps.{Ghosts}
 use Rattle.ring_rings.specs.declared.ring.Producer.{Producer}
 use Rattle.ring_rings.specs.declared.ring.Consumer.{Consumer}
 use Rattle.ring_rings.specs.Seats.{capacity_of, shares_of, view_of, IsConsumerOf, IsProducerOf}
@@ -70,10 +71,10 @@ pub record Side : Type 0 where
   pub claims : List ClaimAt
 
 -- the producer of a ring of this kind and number, with these open claims
-abbrev pub side : {K : Type 0} → Bool → Identity → Ring K → Producer → List ClaimAt → Side
-side many identity ring p claims = record {
+abbrev pub side : {K B : Type 0} {G : Ghosts B} → Bool → Identity → Ring K B G → Producer → List ClaimAt → Side
+side {K} {B} {G} many identity ring p claims = record {
   many = many;
-  table = ring.table.shared.table_id;
+  table = G.table_of ring.table;
   identity = identity;
   capacity = capacity_of ring;
   view = view_of p;

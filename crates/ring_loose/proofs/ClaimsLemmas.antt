@@ -16,6 +16,7 @@ use Rattle.ring_table.specs.OpenClaims.{one_if_open, open_count}
 use Rattle.ring_table.specs.Staged.{stage_state}
 use Rattle.ring_table.proofs.HistoryLemmas.{changed_at_place, changed_at_other}
 use Rattle.ring_rings.specs.declared.ring.Ring.{Ring}
+use Rattle.ring_rings.specs.declared.steps.Steps.{Ghosts}
 use Rattle.ring_rings.specs.declared.ring.Producer.{Producer}
 use Rattle.ring_rings.specs.Bodies.{put_at, PutsBytes}
 use Rattle.ring_rings.specs.Seats.{claims_of, view_of, IsNewClaimOf, IsOpenClaimOf}
@@ -111,7 +112,7 @@ none_counted (c ∷ cs) claims none all =
 
 -- Claims that are open -----------------------------------------------------------
 
-module _ {K : Type 0} (ring : Ring K) where
+module _ {K B : Type 0} {G : Ghosts B} (ring : Ring K B G) where
   -- a producer that has the same claims
   pub open_kept : (old new : Producer) → claims_of new ≡ claims_of old → (t : ClaimAt) → IsOpenClaimOf ring old t
       → IsOpenClaimOf ring new t

@@ -13,6 +13,7 @@ use Rattle.ring_table.specs.ProducerSteps.{with_changed}
 use Rattle.ring_table.specs.Views.{with_claims}
 use Rattle.ring_rings.specs.declared.fault.CloseFault.{CloseFault}
 use Rattle.ring_rings.specs.declared.ring.Ring.{Ring}
+use Rattle.ring_rings.specs.declared.steps.Steps.{Ghosts}
 use Rattle.ring_rings.specs.declared.ring.Producer.{Producer}
 use Rattle.ring_rings.specs.declared.ring.Consumer.{Consumer}
 use Rattle.ring_rings.specs.Seats.{view_of, IsProducerOf, KeepsOthers}
@@ -100,7 +101,7 @@ not_refused error open_claims shares result none all refused =
     (subst (λ n. IsRefusedAs error (close_refusal_of n shares) result) none refused)
 
 -- a step of the producer that leaves its shares and claims as they are
-pub same_seats : {K : Type 0} (ring : Ring K) (old new : Producer) (c : Consumer) (claims : List (Option ClaimAt))
+pub same_seats : {K B : Type 0} {G : Ghosts B} (ring : Ring K B G) (old new : Producer) (c : Consumer) (claims : List (Option ClaimAt))
     → AreSeats ring old c claims → IsProducerOf ring new → Keeps (view_of old) (view_of new)
     → AreSeats ring new c claims
 same_seats ring old new c claims seats is keeps =
@@ -113,7 +114,7 @@ same_seats ring old new c claims seats is keeps =
     }
 
 -- a claim that was held is settled
-pub settled_seats : {K : Type 0} (ring : Ring K) (old new : Producer) (c : Consumer)
+pub settled_seats : {K B : Type 0} {G : Ghosts B} (ring : Ring K B G) (old new : Producer) (c : Consumer)
     (claims left : List (Option ClaimAt)) (n : ℕ) (t : ClaimAt) (s : ClaimState) → s ≢ Open
     → AreSeats ring old c claims → Goes t claims n left
     → IsProducerOf ring new × KeepsOthers ring t.place old new

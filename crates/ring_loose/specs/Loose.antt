@@ -9,6 +9,7 @@ use Rattle.ring_table.specs.declared.view.View.{View}
 use Rattle.ring_table.specs.Changes.{changed, staged}
 use Rattle.ring_table.specs.Views.{beaten, with_claims, with_consumer}
 use Rattle.ring_rings.specs.declared.ring.Ring.{Ring}
+use Rattle.ring_rings.specs.declared.steps.Steps.{Ghosts}
 use Rattle.ring_rings.specs.declared.ring.Producer.{Producer}
 use Rattle.ring_rings.specs.declared.ring.Consumer.{Consumer}
 use Rattle.ring_rings.specs.Opening.{first_consumer, first_producer}
@@ -23,7 +24,7 @@ pub record Loose : Type 0 where
 
 -- the ring began at 0, the producer and the consumer are its own, the claims are the producer's open ones, and no other
 -- producer has a share
-pub record AreSeats {K : Type 0} (ring : Ring K) (p : Producer) (c : Consumer)
+pub record AreSeats {K B : Type 0} {G : Ghosts B} (ring : Ring K B G) (p : Producer) (c : Consumer)
     (claims : List (Option ClaimAt)) : Type 0 where
   pub start : start_of ring ≡ 0
   pub holder : IsHolderOf ring p claims

@@ -16,7 +16,7 @@ use Rattle.ring_table.specs.Services.{AreServed, once_below, times_drawn}
 use Rattle.ring_words.specs.Ring.{Has, IsRing, ring}
 use Rattle.ring_table.specs.declared.claim.StagedClaim.{StagedClaim}
 use Rattle.ring_table.specs.declared.view.View.{View}
-use Rattle.ring_table.specs.Staged.{AreAbove, ArePlaced, AreRising, claim_end, unplaced, staged_span}
+use Rattle.ring_table.specs.Staged.{in_words, AreAbove, ArePlaced, AreRising, claim_end, unplaced, staged_span}
 use Rattle.ring_table.specs.Closed.{IsClosed, LeavesRest, restarted}
 use Rattle.ring_table.specs.OpenClaims.{open_count}
 use Rattle.ring_table.specs.Views.{with_consumer_of}
@@ -68,7 +68,7 @@ module _ (C start : ℕ) (words : List ℕ) (v : View) (closed : IsClosed C star
   rest_is_ring : IsRing (ring C words)
   rest_is_ring =
       let m = closed.memory in
-      let bounds = head_bounds C start closed.lawful words v.consumer v.producer.claims m in
+      let bounds = head_bounds in_words C start closed.lawful words v.consumer v.producer.claims m in
       let above = bounds.1 in
       let aligned = bounds.2 in
       let head = m.head_is in
@@ -122,6 +122,16 @@ module _ (C start : ℕ) (words : List ℕ) (v : View) (closed : IsClosed C star
               closed.service.cache;
           unnamed = closed.service.unnamed;
         }
+
+-- what a producer into which the consumer was joined has of both
+pub none_open_too : (v p r : View) → v ≡ with_consumer_of p r → open_count p.producer.claims ≡ 0
+    → open_count v.producer.claims ≡ 0
+none_open_too v p r both none = ap (λ (u : View). open_count u.producer.claims) both ∙ none
+
+pub none_cleared_too : (v p r : View) → v ≡ with_consumer_of p r → r.consumer.cleared ≡ r.consumer.head
+    → v.consumer.cleared ≡ v.consumer.head
+none_cleared_too v p r both none =
+    ap (λ (u : View). u.consumer.cleared) both ∙ none ∙ sym (ap (λ (u : View). u.consumer.head) both)
 
 -- v is the view of a producer p that the consumer r was joined into, and the items are a copy of the closed table's
 -- words

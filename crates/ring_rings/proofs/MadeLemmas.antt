@@ -16,6 +16,7 @@ use Rattle.ring_words.specs.Open.{ClaimAt}
 use Rattle.ring_layout.specs.declared.admission.Admission.{Admission}
 use Rattle.ring_rings.specs.declared.ring.Producer.{Producer}
 use Rattle.ring_rings.specs.declared.ring.Ring.{Ring}
+use Rattle.ring_rings.specs.declared.steps.Steps.{Ghosts}
 use Rattle.ring_rings.specs.Claiming.{claim_behind, looked, record_behind}
 use Rattle.ring_rings.specs.Making.{IsJustMade, Makes}
 use Rattle.ring_rings.specs.Matching.{Matches}
@@ -36,13 +37,13 @@ has_more v w c place P more h = record {
 }
 
 -- an open claim is still one, if it is as before
-pub still_open : {K : Type 0} {ring : Ring K} {p q : Producer} {t : ClaimAt} → IsOpenClaimOf ring p t
+pub still_open : {K B : Type 0} {G : Ghosts B} {ring : Ring K B G} {p q : Producer} {t : ClaimAt} → IsOpenClaimOf ring p t
     → HasClaimAt q.seat.me.0 t.place (IsStagedOpen t.type_id t.len) → IsOpenClaimOf ring q t
 still_open h claim = record { index = h.index; message = h.message; limit = h.limit; claim = claim }
 
-pub keeps_claims : {K : Type 0} {ring : Ring K} {p q : Producer} (c : StagedClaim)
+pub keeps_claims : {K B : Type 0} {G : Ghosts B} {ring : Ring K B G} {p q : Producer} (c : StagedClaim)
     → q.seat.me.0.producer.claims ≡ p.seat.me.0.producer.claims ++ c ∷ [] → KeepsClaims ring p q
-keeps_claims {K} {ring} {p} {q} c more t h =
+keeps_claims {K} {B} {G} {ring} {p} {q} c more t h =
     still_open h (has_more p.seat.me.0 q.seat.me.0 c t.place (IsStagedOpen t.type_id t.len) more h.claim)
 
 module _ {C tail : ℕ} {type_id : ℤ} {len : ℕ} {front : List (ℕ × ℕ)} {v : View} {a : Admission} {w : View}
@@ -148,7 +149,7 @@ module _ {C tail : ℕ} {type_id : ℤ} {len : ℕ} {front : List (ℕ × ℕ)} 
         (written_matches known, (written_consumes ∙ produces.0, same ∙ produces.1))
 
 -- the claim is open in the hands of the producer that made it, and new
-pub made_new : {K : Type 0} {ring : Ring K} {p q : Producer} {tail : ℕ} {type_id : ℤ} {len : ℕ} {front : List (ℕ × ℕ)}
+pub made_new : {K B : Type 0} {G : Ghosts B} {ring : Ring K B G} {p q : Producer} {tail : ℕ} {type_id : ℤ} {len : ℕ} {front : List (ℕ × ℕ)}
     {a : Admission} → Makes ring.capacity tail type_id len front p.seat.me.0 a q.seat.me.0
     → IsNewClaimOf ring p q
     (record { place = a.place; index = a.place % ring.capacity + 8; type_id = type_id; len = len })

@@ -4,6 +4,7 @@ use Rattle.ring_table.specs.declared.view.View.{View}
 use Rattle.ring_table.specs.declared.view.Key.{Key}
 use Rattle.ring_table.specs.Views.{consumer_alone, first_view, without_consumer}
 use Rattle.ring_rings.specs.declared.ring.Ring.{Ring}
+use Rattle.ring_rings.specs.declared.steps.Steps.{Ghosts}
 use Rattle.ring_rings.specs.declared.ring.Producer.{Producer}
 use Rattle.ring_rings.specs.declared.ring.Consumer.{Consumer}
 use Rattle.ring_rings.specs.Seats.{consumer_view, view_of, IsConsumerOf, IsProducerOf}
@@ -20,8 +21,8 @@ first_producer C start = without_consumer (first_view (key_of C start))
 abbrev pub first_consumer : ℕ → ℕ → View
 first_consumer C start = consumer_alone (first_view (key_of C start))
 
-abbrev pub IsFirstProducer : {K : Type 0} → Ring K → ℕ → ℕ → Producer → Type 0
+abbrev pub IsFirstProducer : {K B : Type 0} {G : Ghosts B} → Ring K B G → ℕ → ℕ → Producer → Type 0
 IsFirstProducer ring C start p = IsProducerOf ring p × (view_of p ≡ first_producer C start)
 
-abbrev pub IsFirstConsumer : {K : Type 0} → Ring K → ℕ → ℕ → Consumer → Type 0
+abbrev pub IsFirstConsumer : {K B : Type 0} {G : Ghosts B} → Ring K B G → ℕ → ℕ → Consumer → Type 0
 IsFirstConsumer ring C start c = IsConsumerOf ring c × (consumer_view c ≡ first_consumer C start)

@@ -13,15 +13,16 @@ use Rattle.ring_table.specs.Staged.{AreRising}
 use Rattle.ring_table.specs.declared.view.View.{View}
 use Rattle.ring_rings.specs.Reading.{at_rest}
 use Rattle.ring_rings.specs.declared.ring.Ring.{Ring}
+use Rattle.ring_rings.specs.declared.steps.Steps.{Ghosts}
 use Rattle.ring_rings.specs.declared.ring.Producer.{Producer}
 use Rattle.ring_rings.specs.declared.ring.Consumer.{Consumer}
 
-abbrev pub capacity_of : {K : Type 0} → Ring K → ℕ
+abbrev pub capacity_of : {K B : Type 0} {G : Ghosts B} → Ring K B G → ℕ
 capacity_of ring = ring.capacity
 
 -- the position of the first claim
-abbrev pub start_of : {K : Type 0} → Ring K → ℕ
-start_of ring = ring.table.shared.key.start
+abbrev pub start_of : {K B : Type 0} {G : Ghosts B} → Ring K B G → ℕ
+start_of {K} {B} {G} ring = (G.key_of ring.table).start
 
 -- Producers ------------------------------------------------------------------
 
@@ -44,8 +45,8 @@ open_claims_of p = open_count p.seat.me.0.producer.claims
 abbrev pub seen_tail_of : Producer → ℕ
 seen_tail_of p = p.seat.me.0.producer.seen_tail
 
-pub record IsProducerOf {K : Type 0} (ring : Ring K) (p : Producer) : Type 0 where
-  pub table : p.seat.table_id ≡ ring.table.shared.table_id
+pub record IsProducerOf {K B : Type 0} {G : Ghosts B} (ring : Ring K B G) (p : Producer) : Type 0 where
+  pub table : p.seat.table_id ≡ G.table_of ring.table
   pub capacity : p.seat.me.0.capacity ≡ ring.capacity
 
 -- if the ring is for one producer, this one holds all shares
@@ -69,49 +70,49 @@ taken_of c = c.seat.me.0.consumer.taken
 abbrev pub head_of : Consumer → ℕ
 head_of c = c.seat.me.0.consumer.head
 
-pub record IsConsumerOf {K : Type 0} (ring : Ring K) (c : Consumer) : Type 0 where
-  pub table : c.seat.table_id ≡ ring.table.shared.table_id
+pub record IsConsumerOf {K B : Type 0} {G : Ghosts B} (ring : Ring K B G) (c : Consumer) : Type 0 where
+  pub table : c.seat.table_id ≡ G.table_of ring.table
   pub capacity : c.seat.me.0.capacity ≡ ring.capacity
 
 -- Claims -----------------------------------------------------------------------
 
 -- the claim in the producer's hands is one of its own, and open
-pub record IsOpenClaimOf {K : Type 0} (ring : Ring K) (p : Producer) (t : ClaimAt) : Type 0 where
+pub record IsOpenClaimOf {K B : Type 0} {G : Ghosts B} (ring : Ring K B G) (p : Producer) (t : ClaimAt) : Type 0 where
   pub index : t.index ≡ t.place % ring.capacity + 8
   pub message : IsMessage ring.capacity (blank t.type_id t.len)
   pub limit : t.place ≤ max_position
   pub claim : HasClaimAt p.seat.me.0 t.place (IsStagedOpen t.type_id t.len)
 
 -- what was open stays open
-abbrev pub KeepsClaims : {K : Type 0} → Ring K → Producer → Producer → Type 0
+abbrev pub KeepsClaims : {K B : Type 0} {G : Ghosts B} → Ring K B G → Producer → Producer → Type 0
 KeepsClaims ring old new = (t : ClaimAt) → IsOpenClaimOf ring old t → IsOpenClaimOf ring new t
 
 -- what a producer holds stays: its open claims and its shares
-pub record KeepsHoldings {K : Type 0} (ring : Ring K) (old new : Producer) : Type 0 where
+pub record KeepsHoldings {K B : Type 0} {G : Ghosts B} (ring : Ring K B G) (old new : Producer) : Type 0 where
   pub claims : KeepsClaims ring old new
   pub shares : shares_of new ≡ shares_of old
 
 -- and no claim more is open
-pub record OpensNone {K : Type 0} (ring : Ring K) (old new : Producer) : Type 0 where
+pub record OpensNone {K B : Type 0} {G : Ghosts B} (ring : Ring K B G) (old new : Producer) : Type 0 where
   pub holdings : KeepsHoldings ring old new
   pub open_claims : open_claims_of new ≡ open_claims_of old
 
 -- claims are at different places, and what was open stays open, but at this place
-pub record KeepsOthers {K : Type 0} (ring : Ring K) (place : ℕ) (old new : Producer) : Type 0 where
+pub record KeepsOthers {K B : Type 0} {G : Ghosts B} (ring : Ring K B G) (place : ℕ) (old new : Producer) : Type 0 where
   pub rising : AreRising (claims_of old)
   pub claims : (t : ClaimAt) → IsOpenClaimOf ring old t → t.place ≢ place → IsOpenClaimOf ring new t
 
 -- a claim is at a place without an open one of the producer
-abbrev pub LiesApart : {K : Type 0} → Ring K → Producer → ClaimAt → Type 0
+abbrev pub LiesApart : {K B : Type 0} {G : Ghosts B} → Ring K B G → Producer → ClaimAt → Type 0
 LiesApart ring p new = (t : ClaimAt) → IsOpenClaimOf ring p t → t.place ≢ new.place
 
 -- a claim that was opened is apart from those that were open before
-pub record IsNewClaimOf {K : Type 0} (ring : Ring K) (old new : Producer) (t : ClaimAt) : Type 0 where
+pub record IsNewClaimOf {K B : Type 0} {G : Ghosts B} (ring : Ring K B G) (old new : Producer) (t : ClaimAt) : Type 0 where
   pub is_open : IsOpenClaimOf ring new t
   pub apart : LiesApart ring old t
 
 -- what was open of either of two producers is open in the one that has both, at different places
-pub record KeepsBoth {K : Type 0} (ring : Ring K) (p q joined : Producer) : Type 0 where
+pub record KeepsBoth {K B : Type 0} {G : Ghosts B} (ring : Ring K B G) (p q joined : Producer) : Type 0 where
   pub first : KeepsClaims ring p joined
   pub second : KeepsClaims ring q joined
   pub apart : (t u : ClaimAt) → IsOpenClaimOf ring p t → IsOpenClaimOf ring q u → t.place ≢ u.place

@@ -1,6 +1,5 @@
 //! How a ring is closed.
-ghost use Rattle.std.specs.Prelude.{◌≡◌, IfOk, OnOk, vec_len};
-ghost use Rattle.std.specs.Slots.{slots_items, slots_len, IsFull};
+ghost use Rattle.std.specs.Prelude.{◌≡◌, IfOk, OnOk};
 ghost use Rattle.ring_layout.specs.Refusals.{all_shares};
 ghost use Rattle.ring_rings.specs.Closing.{close_refusal_of, kept_open, HandsOut, IsRefusedAs, Serves};
 ghost use Rattle.ring_rings.specs.Seats.{capacity_of, consumer_view, open_claims_of, shares_of, start_of, view_of};
@@ -8,21 +7,9 @@ ghost use Rattle.ring_rings.specs.Seats.{IsConsumerOf, IsProducerOf};
 
 use crate::fault::CloseFault;
 use crate::ring::{CloseRefused, Consumer, Producer, Ring};
-use atomic_table::Closed;
+use crate::steps::Steps;
 use ring_layout::ALL_SHARES;
-use ring_table::{Wanted, close, join_consumer};
 use ring_words::SoloRing;
-use std::alloc::Global;
-
-/// Copies the words of a table that was closed.
-fn copy_words(closed: &Closed<Wanted, Global>, words: &mut Vec<u64>)
-    requires { IsFull closed.now.words × (slots_len closed.now.words ≡ vec_len words.old) }
-    ensures { words.new.items ≡ slots_items closed.now.words }
-{
-    for i in 0..words.len() {
-        words[i] = closed.word(i);
-    }
-}
 
 /// Tests whether a ring may be closed by this producer.
 fn test_close(producer: &Producer) -> Result<(), CloseFault>
@@ -43,7 +30,7 @@ fn test_close(producer: &Producer) -> Result<(), CloseFault>
     Ok(())
 }
 
-impl<K> Ring<K> {
+impl<K, B: Steps> Ring<K, B> {
     /// Takes the ring apart and returns what is in it as a ring of one owner: what was committed and not read, and the
     /// trailer's words. Returns, in this order: `ClaimsOpen` if claims of this producer are open; `ProducersOut` if
     /// shares are with other producers. After an error everything comes back unchanged.
@@ -84,14 +71,12 @@ impl<K> Ring<K> {
         } = consumer;
         let Ring {
             table,
-            room: mut words,
+            room,
             capacity,
             kind: _,
         } = self;
-        join_consumer(&table.shared, &mut seat, reader);
-        let closed = close(table, seat);
-        copy_words(&closed, &mut words);
-        closed.free();
+        table.join_consumer(&mut seat, reader);
+        let words = table.close(seat, room);
         Ok(SoloRing::from_words(capacity, words, scratch))
     }
 }

@@ -8,6 +8,7 @@ ghost use Rattle.ring_rings.specs.Seats.{MayClaim, OpensNone};
 use crate::claim::Claim;
 use crate::fault::TryFault;
 use crate::ring::{ManyToOne, OneToOne, Producer, Ring};
+use crate::steps::Steps;
 
 /// A kind of ring: `OneToOne` or `ManyToOne`. `claims`, `writes` and `refuses` state what its calls do.
 pub trait Kind: Sized {
@@ -24,8 +25,8 @@ pub trait Kind: Sized {
     ghost refuses: { Refusing };
 
     /// Makes one try to claim, as `OneToOneRing::claim` or `ManyToOneRing::claim_once` does. It never waits.
-    fn claim_once(
-        ring: &Ring<Self>,
+    fn claim_once<B: Steps>(
+        ring: &Ring<Self, B>,
         producer: &mut Producer,
         type_id: i32,
         len: usize,
@@ -41,8 +42,8 @@ pub trait Kind: Sized {
         ensures holdings { KeepsHoldings ring.now producer.old producer.new };
 
     /// Makes one try to write, as `OneToOneRing::write` or `ManyToOneRing::write_once` does. It never waits.
-    fn write_once(
-        ring: &Ring<Self>,
+    fn write_once<B: Steps>(
+        ring: &Ring<Self, B>,
         producer: &mut Producer,
         type_id: i32,
         body: &[u8],
@@ -67,8 +68,8 @@ impl Kind for OneToOne {
 
     ghost refuses = { RefusesTryAlone };
 
-    fn claim_once(
-        ring: &Ring<Self>,
+    fn claim_once<B: Steps>(
+        ring: &Ring<Self, B>,
         producer: &mut Producer,
         type_id: i32,
         len: usize,
@@ -80,8 +81,8 @@ impl Kind for OneToOne {
     }
 
     #[inline(always)]
-    fn write_once(
-        ring: &Ring<Self>,
+    fn write_once<B: Steps>(
+        ring: &Ring<Self, B>,
         producer: &mut Producer,
         type_id: i32,
         body: &[u8],
@@ -102,8 +103,8 @@ impl Kind for ManyToOne {
 
     ghost refuses = { RefusesTry };
 
-    fn claim_once(
-        ring: &Ring<Self>,
+    fn claim_once<B: Steps>(
+        ring: &Ring<Self, B>,
         producer: &mut Producer,
         type_id: i32,
         len: usize,
@@ -112,8 +113,8 @@ impl Kind for ManyToOne {
     }
 
     #[inline(always)]
-    fn write_once(
-        ring: &Ring<Self>,
+    fn write_once<B: Steps>(
+        ring: &Ring<Self, B>,
         producer: &mut Producer,
         type_id: i32,
         body: &[u8],

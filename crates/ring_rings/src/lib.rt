@@ -5,6 +5,7 @@
 //!   `admission`, `room`, `claim` (one try), `headers`, `body` and `settle`. `service`: ids, heartbeats and positions.
 //! - `consumer`: `read` has the calls, `turn` one turn of a read, made of `find`, `load` and `pass`. `heartbeat`.
 //! - `kind`: how the kinds claim, one as the other. `source`: what a conductor needs of a ring.
+//! - `steps`: the steps as a trait, so that bodies may lie in words (`words`) or elsewhere.
 //! - `claim`, `fault`: an open claim, and why calls refuse.
 #![tactic(auto)]
 
@@ -17,6 +18,8 @@ mod open;
 mod producer;
 mod ring;
 mod source;
+mod steps;
+mod words;
 
 pub use claim::Claim;
 pub use fault::{CloseFault, TryFault};
@@ -25,5 +28,7 @@ pub use ring::{
     CloseRefused, Consumer, ManyToOne, ManyToOneRing, OneToOne, OneToOneRing, Producer, Ring,
 };
 pub use ring_layout::{MakeFault, NoShares};
+pub use ring_table::RingTable;
 pub use ring_words::{Action, ClaimFault, Handler, Positions, PutRange, ReadEnd, Standing, Stop};
 pub use source::CommandSource;
+pub use steps::Steps;

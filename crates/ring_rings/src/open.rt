@@ -6,13 +6,14 @@ ghost use Rattle.ring_rings.specs.Seats.{capacity_of, start_of};
 ghost use Rattle.ring_rings.specs.Opening.{IsFirstConsumer, IsFirstProducer};
 
 use crate::ring::{Consumer, Producer, Ring};
+use crate::steps::Steps;
 use ring_layout::ring_buffer_descriptor::TRAILER_WORDS;
 use ring_layout::{ALL_SHARES, MakeFault, check_ring, max_message};
-use ring_table::{Key, open, split_consumer};
+use ring_table::Key;
 use std::alloc::{AllocError, Global};
 use std::marker::PhantomData;
 
-impl<K> Ring<K> {
+impl<K, B: Steps> Ring<K, B> {
     /// Makes an empty ring that starts at position 0, with a producer that holds all shares. Returns the errors of
     /// `new_at`.
     pub fn new(alloc: Global, capacity: u32) -> Result<(Self, Producer, Consumer), MakeFault>
@@ -60,9 +61,9 @@ impl<K> Ring<K> {
             capacity: u64::from(capacity),
             start,
         };
-        let (table, mut seat) = open(alloc, key)?;
+        let (table, mut seat) = B::open(alloc, key)?;
         let consumer = Consumer {
-            seat: split_consumer(&table.shared, &mut seat),
+            seat: table.split_consumer(&mut seat),
             head: start,
             scratch,
         };

@@ -5,6 +5,7 @@ ghost use Rattle.ring_layout.specs.Layout.{ring_words};
 ghost use Rattle.ring_rings.specs.Matching.{Matches, matches_prop};
 
 use crate::fault::CloseFault;
+use crate::steps::Steps;
 use ring_table::{RingSeat, RingTable};
 use std::marker::PhantomData;
 
@@ -14,16 +15,17 @@ pub struct OneToOne;
 /// The kind of a ring that any number of producers write.
 pub struct ManyToOne;
 
-/// A ring of messages between threads, shared by reference. It has one consumer, and producers as its kind says.
+/// A ring of messages between threads, shared by reference. It has one consumer, and producers as its kind says. `B` is
+/// its table, which says where the bodies of messages lie: in atomic words in a `RingTable`.
 #[derive(Drop)]
-pub struct Ring<K> {
-    pub(crate) table: RingTable,
+pub struct Ring<K, B: Steps = RingTable> {
+    pub(crate) table: B,
     // Room for the words that `close` hands on.
     pub(crate) room: Vec<u64>,
     pub(crate) capacity: u32,
     pub(crate) kind: PhantomData<K>,
-    ghost key: { table.shared.key.capacity ≡ capacity },
-    ghost wide: { (table.shared.table_id.words ≡ ring_words capacity) × (table.shared.table_id.slots ≡ 0)
+    ghost key: { (B.key_of table).capacity ≡ capacity },
+    ghost wide: { ((B.table_of table).words ≡ ring_words capacity) × ((B.table_of table).slots ≡ B.slots_for capacity)
         × (vec_len room ≡ ring_words capacity) },
     ghost lawful: { IsCapacity capacity },
 }
@@ -47,6 +49,7 @@ pub struct Producer {
     pub(crate) own_tail: u64,
     ghost known: { Matches seat.me.0 shares open_claims own_tail } by { matches_prop _ _ _ _ _ _ },
     ghost produces: { (seat.me.0.consumes ≡ false) × (seat.me.1 ≡ []) },
+    ghost home: { seat.me.0.out ≡ [] },
 }
 
 /// Reads a ring. It is used by one thread at a time, and may move between threads. If it is dropped, the ring fills up
@@ -57,6 +60,7 @@ pub struct Consumer {
     pub(crate) head: u64,
     pub(crate) scratch: Vec<u8>,
     ghost consumes: { (seat.me.0.consumes ≡ true) × (seat.me.1 ≡ []) × (seat.me.0.producer.shares ≡ 0) },
+    ghost home: { seat.me.0.out ≡ [] },
     ghost stands: { (seat.me.0.consumer.head ≡ head) × (seat.me.0.consumer.cleared ≡ head) },
     ghost whole: { (head % 8 ≡ 0) × (head ≤ max_position) },
     ghost room: { vec_len scratch ≡ seat.me.0.capacity / 8 },

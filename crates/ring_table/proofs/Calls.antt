@@ -1,27 +1,94 @@
 -- The steps as the functions call them: at the word that the code computes, under the capacity that the caller has.
-use Rattle.std.proofs.Common.{◌≡◌, ℕ, ◌+◌, ◌/◌, ◌<◌, ℤ, sym, ap, ◌∙◌, subst, arith}
+use Rattle.std.proofs.Common.{◌≡◌, ℕ, ◌+◌, ◌/◌, ◌≤◌, ◌<◌, ℤ, List, true, eqb, sym, refl, ap, ◌∙◌, subst, arith}
 use Rattle.atomic_table.specs.Seated.{TableId}
-use Rattle.atomic_table.specs.Table.{Allows}
+use mathlib.Core.Option.{some}
+use lib.ListN.{get_elem?}
+use Rattle.atomic_table.specs.Table.{State, Allows}
 use Rattle.atomic_table.specs.declared.shared.Seat.{Seat}
 use Rattle.ring_layout.specs.declared.message.ClaimState.{ClaimState}
 use Rattle.ring_layout.specs.declared.message.ClaimState.TheVariants.{Open}
 use Rattle.ring_layout.specs.Headers.{header_of}
 use Rattle.ring_layout.specs.Places.{index}
 use Rattle.ring_layout.specs.Layout.{ring_words}
-use Rattle.ring_table.specs.Staged.{StagedClaim, Stage, Stored, AreRising}
-use Rattle.ring_table.specs.Changes.{changed, staged}
-use Rattle.ring_table.specs.Views.{Key, View, Wanted, with_claims}
+use Rattle.ring_table.specs.Staged.{PlacedMessage, Bodies, in_words, elsewhere, StagedClaim, Stage, Stored, IsStored, AreRising}
+use Rattle.ring_table.specs.Changes.{changed, staged, moved_claim}
+use Rattle.ring_table.specs.Views.{Key, View, ProducerView, ConsumerView, with_claims, with_claim, with_consumer, stands_at}
+use Rattle.ring_table.specs.ConsumerSteps.{StaysAt}
+use Rattle.ring_layout.specs.Places.{next_place}
+use Rattle.ring_layout.specs.History.{span}
 use Rattle.ring_table.specs.ProducerSteps.{Mine, HasClaimAt, Changes, IsStagedOpen, StoresSettled, with_changed}
 use Rattle.ring_table.specs.Seats.{IsSeatOf, IsSameSeat}
 use Rattle.ring_table.proofs.StagedPlaces.{capacity_aligned}
 use Rattle.ring_table.proofs.LoadLemmas.{Ok}
 use Rattle.ring_table.proofs.StoreLemmas.{settles}
+use Rattle.ring_table.proofs.ShelfLemmas.{CarriesOn, CarriesIn}
+use Rattle.ring_table.proofs.CarryLemmas.{Holds, lift, carries_same, carries_on, carries_claim, carries_changed, one_claim}
 use Rattle.std.proofs.lemmas.Nat.{mod_below}
 
+-- the view is of the same ring, and has the same slots out
+pub record IsOf (v w : View) : Type 0 where
+  pub capacity : w.capacity ≡ v.capacity
+  pub out : w.out ≡ v.out
+
+pub of_as : {v w x : View} → w ≡ x → x.capacity ≡ v.capacity → x.out ≡ v.out → IsOf v w
+of_as is capacity out = record {
+  capacity = ap (λ (z : View). z.capacity) is ∙ capacity;
+  out = ap (λ (z : View). z.out) is ∙ out;
+}
+
 -- what a step leaves of its seat
-pub same_seat : {old new : Seat Wanted View} → new.table_id ≡ old.table_id → new.id ≡ old.id → new.me.1 ≡ old.me.1
-    → new.me.0.capacity ≡ old.me.0.capacity → IsSameSeat old new
-same_seat table id slots capacity = record { table = table; id = id; slots = slots; capacity = capacity }
+pub same_seat : {old new : Seat ℕ View} → new.table_id ≡ old.table_id → new.id ≡ old.id → new.me.1 ≡ old.me.1
+    → IsOf old.me.0 new.me.0 → IsSameSeat old new
+same_seat table id slots view =
+    record { table = table; id = id; slots = slots; capacity = view.capacity; out = view.out }
+
+-- what a step leaves for the shelf: the new view has the same slots out, and no more claims
+pub record Leaves (B : Bodies) (v w : View) : Type 0 where
+  pub out : w.out ≡ v.out
+  pub carries : CarriesIn B v w
+
+in_any : (B : Bodies) (v w : View) → CarriesOn v w → CarriesIn B v w
+in_any in_words v w c = tt
+in_any elsewhere v w c = c
+
+pub leaves_as : (B : Bodies) {v w x : View} → w ≡ x → x.out ≡ v.out → CarriesOn v x → Leaves B v w
+leaves_as B {v} {w} {x} is out c = record {
+  out = ap (λ (z : View). z.out) is ∙ out;
+  carries = in_any B v w (subst (CarriesOn v) (sym is) c);
+}
+
+-- claims, kind and head are as they were
+pub leaves_same : (B : Bodies) {v w x : View} → w ≡ x → x.out ≡ v.out → x.producer.claims ≡ v.producer.claims
+    → x.consumes ≡ v.consumes → x.consumer.head ≡ v.consumer.head → Leaves B v w
+leaves_same B is out claims kind head = leaves_as B is out (carries_same claims kind head)
+
+-- a read goes on, and its head stays
+pub leaves_at : (B : Bodies) {v w : View} → StaysAt v w → Leaves B v w
+leaves_at B {v} {w} s = record {
+  out = s.out;
+  carries = in_any B v w (carries_same (ap (λ (p : ProducerView). p.claims) s.producer) s.consumes s.head);
+}
+
+-- a claim is made
+pub leaves_claim : (B : Bodies) {v w : View} (C e new n : ℕ) (type_id : ℤ)
+    → w ≡ with_claim (moved_claim C e type_id n) new v → Leaves B v w
+leaves_claim B {v} {w} C e new n type_id is = leaves_as B is refl
+    (carries_claim v (moved_claim C e type_id n) (eqb e (next_place C e (span n))) new refl)
+
+-- the head is stored at q, up to which the words are cleared
+pub head_rises : (B : Bodies) (C start id : ℕ) (v : View) (s : State ℕ View) → Ok B C start s
+    → get_elem? s.views id ≡ some v → v.consumes ≡ true → (q : ℕ) (got : List PlacedMessage)
+    → v.consumer.cleared ≤ q → CarriesOn v (with_consumer (stands_at q got v.consumer) v)
+head_rises B C start id v s r at consumes q got above =
+    let mine = ((r.seated.each id v at).consumes consumes).1 in
+    let heads : v.consumer.head ≡ r.consumer.head = ap (λ (z : ConsumerView). z.head) mine in
+    let cleared : v.consumer.cleared ≡ r.consumer.cleared = ap (λ (z : ConsumerView). z.cleared) mine in
+    let from = r.memory.clears_from in
+    carries_on refl refl (omega arith)
+
+-- bodies in words ask nothing
+pub leaves_words : {v w x : View} → w ≡ x → x.out ≡ v.out → Leaves in_words v w
+leaves_words is out = record { out = ap (λ (z : View). z.out) is ∙ out; carries = tt }
 
 -- what a store did to a claim that was named by its place
 pub after_change : (t : Stage) (at : StagedClaim → ℕ) (f : StagedClaim → StagedClaim) (capacity i place : ℕ)
@@ -32,35 +99,46 @@ after_change t at f capacity i place v w P h cap stage is told =
     told h.nth h.claim h.there stage (ap (λ c. index c (at h.claim)) cap ∙ sym is)
     ∙ ap (λ p. with_claims (changed p f v.producer.claims) v) h.at_place
 
-module _ {id : TableId} {key : Key} {capacity : ℕ} {seat : Seat Wanted View} (s : IsSeatOf id key capacity seat) where
+module _ (B : Bodies) {id : TableId} {key : Key} {capacity : ℕ} {seat : Seat ℕ View}
+    (s : IsSeatOf id key capacity seat) where
   -- a ring of the capacity C lets the word i become f of itself, and `told` holds of it, the view, the number found and
   -- the view after
   abbrev pub MayStep : ℕ → ℕ → (ℕ → ℕ) → (ℕ → Mine → ℕ → Mine → Type 0) → Type 0
-  MayStep C i f told = Allows (Ok C key.start) id.slots seat.id seat.me i f (told i seat.me)
+  MayStep C i f told = Allows (Ok B C key.start) id.slots seat.id seat.me i f (told i seat.me)
 
   -- what a step asks of the table
   abbrev pub Asks : ℕ → (ℕ → ℕ) → (ℕ → Mine → ℕ → Mine → Type 0) → Type 0
-  Asks i f told = (seat.table_id ≡ id) × (i < id.words) × MayStep key.capacity i f told
+  Asks i f told = (seat.table_id ≡ id) × (i < id.words)
+      × Allows (Holds B key.capacity key.start) id.slots seat.id seat.me i f (told i seat.me)
 
-  at_word : (i j : ℕ) → i < id.words → i ≡ j → (f : ℕ → ℕ) (told : ℕ → Mine → ℕ → Mine → Type 0)
+  -- it takes and gives no slots, and what it leaves for the shelf
+  abbrev pub Spares : ℕ → (ℕ → Mine → ℕ → Mine → Type 0) → Type 0
+  Spares i told = (n : ℕ) (me' : Mine) → told i seat.me n me' → (s : State ℕ View)
+      → Ok B key.capacity key.start s → get_elem? s.views seat.id ≡ some seat.me.0
+      → (me'.1 ≡ seat.me.1) × Leaves B seat.me.0 me'.0
+
+  at_word : (i j : ℕ) → i < id.words → i ≡ j → (f : ℕ → ℕ) (told : ℕ → Mine → ℕ → Mine → Type 0) → Spares i told
       → MayStep capacity j f told → Asks i f told
-  at_word i j inside is f told allows = (
+  at_word i j inside is f told spares allows = (
     s.table_is,
     inside,
-    subst (λ (z : ℕ × ℕ). MayStep z.0 z.1 f told) (λ k. (sym s.key_is k, sym is k)) allows,
+    lift B key.capacity key.start id.slots seat.id seat.me i f (told i seat.me) s.home
+        (λ n me' t s r at. let l = spares n me' t s r at in (l.0, l.1.out, l.1.carries))
+        (subst (λ (z : ℕ × ℕ). MayStep z.0 z.1 f told) (λ k. (sym s.key_is k, sym is k)) allows),
   )
 
   -- at a word of the trailer
   pub trailer_step : (i word : ℕ) → word < 96 → i ≡ capacity / 8 + word
-      → (f : ℕ → ℕ) (told : ℕ → Mine → ℕ → Mine → Type 0) → MayStep capacity (capacity / 8 + word) f told
-      → Asks i f told
+      → (f : ℕ → ℕ) (told : ℕ → Mine → ℕ → Mine → Type 0) → Spares i told
+      → MayStep capacity (capacity / 8 + word) f told → Asks i f told
   trailer_step i word inside is =
       let wide : id.words ≡ ring_words capacity = s.words_are in
       at_word i (capacity / 8 + word) (omega arith) is
 
   -- at a record's word, whose position is p in the code and q in the lemma
   pub record_step : (i p q : ℕ) → i ≡ index capacity p → q ≡ p
-      → (f : ℕ → ℕ) (told : ℕ → Mine → ℕ → Mine → Type 0) → MayStep capacity (index capacity q) f told → Asks i f told
+      → (f : ℕ → ℕ) (told : ℕ → Mine → ℕ → Mine → Type 0) → Spares i told
+      → MayStep capacity (index capacity q) f told → Asks i f told
   record_step i p q is at =
       let wide : id.words ≡ ring_words capacity = s.words_are in
       let least = s.lawful.least in
@@ -70,15 +148,25 @@ module _ {id : TableId} {key : Key} {capacity : ℕ} {seat : Seat Wanted View} (
 
   module _ (u : ClaimState) {type_id : ℤ} {n place i : ℕ}
       (h : HasClaimAt seat.me.0 place (IsStagedOpen type_id n)) (is : i ≡ index capacity place) where
-    -- the header that settles a claim is stored
-    pub settled_step : (value : ℕ) → value ≡ header_of (record { message = h.claim.message; state = u })
-        → Asks i (λ _. value)
-        (λ k me _ me'. (me'.1 ≡ me.1) × StoresSettled u k me.0 me'.0 × AreRising me.0.producer.claims)
-    settled_step value value_is = record_step i place h.claim.place is h.at_place (λ _. value)
-        (λ k me _ me'. (me'.1 ≡ me.1) × StoresSettled u k me.0 me'.0 × AreRising me.0.producer.claims)
-        (settles capacity key.start u id.slots seat.id seat.me s.view_is h.nth h.claim value h.there h.holds.stage
-        value_is)
-
     pub settled_view : (w : View) → StoresSettled u i seat.me.0 w → w ≡ with_changed place (staged (Stored u)) seat.me.0
     settled_view w = after_change (Stored Open) (λ c. c.place) (staged (Stored u)) capacity i place seat.me.0 w
         (IsStagedOpen type_id n) h s.view_is h.holds.stage (is ∙ ap (index capacity) (sym h.at_place))
+
+    settled_claims : AreRising seat.me.0.producer.claims
+        → CarriesOn seat.me.0 (with_changed place (staged (Stored u)) seat.me.0)
+    settled_claims rising = carries_changed seat.me.0 place (staged (Stored u)) (λ k d has at _.
+        let one : h.claim ≡ d = one_claim seat.me.0.producer.claims h.nth k h.claim d rising h.there has
+        (h.at_place ∙ sym at) in record {
+          stored = subst (λ (z : StagedClaim). IsStored z.stage) one (subst IsStored (sym h.holds.stage) tt);
+          place = refl;
+          body = refl;
+        })
+
+    -- the header that settles a claim is stored
+    pub settled_step : (value : ℕ) → value ≡ header_of (record { message = h.claim.message; state = u })
+        → Asks i (λ _. value) (λ k me _ me'. (me'.1 ≡ me.1) × StoresSettled u k me.0 me'.0 × AreRising me.0.producer.claims)
+    settled_step value value_is = record_step i place h.claim.place is h.at_place (λ _. value)
+        (λ k me _ me'. (me'.1 ≡ me.1) × StoresSettled u k me.0 me'.0 × AreRising me.0.producer.claims)
+        (λ _ me' t _ _ _. (t.0, leaves_as B (settled_view me'.0 t.1) refl (settled_claims t.2)))
+        (settles B capacity key.start u id.slots seat.id seat.me s.view_is h.nth h.claim value h.there h.holds.stage
+        value_is)

@@ -1,4 +1,5 @@
 -- The consumer clears what it has passed, and stores the head.
+use Rattle.ring_table.specs.Staged.{Bodies}
 use Rattle.std.proofs.Common.{◌≡◌, ℕ, ◌+◌, ◌-◌, ◌/◌, ◌≤◌, ◌<◌, List, [], ◌∷◌, ◌++◌, cond, ltb, true, set, get_or, slice_index, sym, refl, ap, ◌∙◌, subst, ⊎_elim, lt-ltb, le-ltb, length-set, get_or-set_other, get_or-set_same, arith}
 use mathlib.Core.Option.{some}
 use mathlib.Core.Logic.{dite}
@@ -44,14 +45,14 @@ unfolding last_or
 last_is d [] m = refl
 last_is d (x ∷ xs) m = last_is x xs m
 
-one_end : (g g' : List PlacedMessage) (m m' : PlacedMessage) → g ++ m ∷ [] ≡ g' ++ m' ∷ [] → (g ≡ g') × (m ≡ m')
+pub one_end : (g g' : List PlacedMessage) (m m' : PlacedMessage) → g ++ m ∷ [] ≡ g' ++ m' ∷ [] → (g ≡ g') × (m ≡ m')
 one_end g g' m m' e = (
   sym (front_is g m) ∙ (ap drop_last e ∙ front_is g' m'),
   sym (last_is m g m)
       ∙ (ap (last_or m) e ∙ last_is m g' m'),
 )
 
-module _ (C start : ℕ) where
+module _ (B : Bodies) (C start : ℕ) where
   same_shown : (p cleared x : ℕ) → (p < cleared + 8 → p < cleared)
       → cond (ltb p cleared) 0 x ≡ cond (ltb p (cleared + 8)) 0 x
   same_shown p cleared x back = ⊎_elim
@@ -63,9 +64,9 @@ module _ (C start : ℕ) where
       (cases_lt p cleared)
 
   -- the next word that the read has passed becomes 0
-  clears_at : (s : State Wanted View) (r : Ok C start s) (id : ℕ) (v : View) → get_elem? s.views id ≡ some v
+  clears_at : (s : State ℕ View) (r : Ok B C start s) (id : ℕ) (v : View) → get_elem? s.views id ≡ some v
       → v.consumes ≡ true → v.consumer.cleared < v.consumer.scan
-      → Kept C start (set s.words (index C v.consumer.cleared) 0)
+      → Kept B C start (set s.words (index C v.consumer.cleared) 0)
       (set s.views id (with_consumer (cleared_to (v.consumer.cleared + 8) v.consumer) v))
   clears_at s r id v at consumes more =
       let mine = ((r.seated.each id v at).consumes consumes).1 in
@@ -84,22 +85,22 @@ module _ (C start : ℕ) where
       let below_top = bounds.1 in
       let scan8 = reach_aligned C r.consumer.scan start (all_of h) r.consumer.got (omega arith)
       (capacity_aligned C law.capacity) (start_aligned C start law) m.placed m.passed in
-      let inside = index_inside C start law q in
+      let inside = index_inside B C start law q in
       let wide = m.wide in
       let now : ConsumerView = cleared_to (r.consumer.cleared + 8) r.consumer in
       let next : ConsumerView → ConsumerView = λ z. cleared_to (z.cleared + 8) z in
-      subst (λ (c : ConsumerView). Kept C start (set s.words (index C q) 0) (set s.views id (with_consumer c v)))
+      subst (λ (c : ConsumerView). Kept B C start (set s.words (index C q) 0) (set s.views id (with_consumer c v)))
       (ap next (sym mine))
-      (consumed C start s.words s.views r id v at consumes (index C q) 0 now v.log
+      (consumed B C start s.words s.views r id v at consumes (index C q) 0 now v.log
       (record {
         wide = length-set s.words (index C q) 0 ∙ m.wide;
         placed = m.placed;
         tail_is = get_or-set_other s.words (index C q) (tail_index C) 0 0
-            (not_inside C start law q (tail_index C) (omega arith)) ∙ m.tail_is;
+            (not_inside B C start law q (tail_index C) (omega arith)) ∙ m.tail_is;
         limit = m.limit;
         room = m.room;
         head_is = get_or-set_other s.words (index C q) (head_index C) 0 0
-            (not_inside C start law q (head_index C) (omega arith)) ∙ m.head_is;
+            (not_inside B C start law q (head_index C) (omega arith)) ∙ m.head_is;
         took = m.took;
         passed = m.passed;
         clears_from = omega arith;
@@ -108,24 +109,24 @@ module _ (C start : ℕ) where
         shows = λ p p8 p0 p1. dite (ℕ_discrete p q)
             (λ e. ap (λ k. get_or (set s.words (index C q) 0) (index C k) 0) e
             ∙ get_or-set_same s.words (index C q) 0 0 (omega arith)
-            ∙ sym (ap (λ b. cond b 0 (staged_word_at (all_of h) p))
+            ∙ sym (ap (λ b. cond b 0 (staged_word_at B (all_of h) p))
             (lt-ltb p (r.consumer.cleared + 8) (omega arith))))
             (λ ne. get_or-set_other s.words (index C q) (index C p) 0 0
-            (λ e. ne (one_position C start law head p q (record { whole = p8; from = p0; below = p1 })
+            (λ e. ne (one_position B C start law head p q (record { whole = p8; from = p0; below = p1 })
             (record { whole = omega arith; from = omega arith; below = omega arith }) e))
-            ∙ m.shows p p8 p0 p1 ∙ same_shown p r.consumer.cleared (staged_word_at (all_of h) p)
+            ∙ m.shows p p8 p0 p1 ∙ same_shown p r.consumer.cleared (staged_word_at B (all_of h) p)
             (λ x. omega arith));
       })
       (record {
         cache = λ e. omega arith;
         correlation = λ e. omega arith;
         heartbeat = λ e. omega arith;
-        unnamed = λ j un. not_inside C start law q j un.behind;
+        unnamed = λ j un. not_inside B C start law q j un.behind;
       })
       (record { rises = omega arith; same = refl }))
 
   pub clears_word : (slots id : ℕ) (me : Mine) → me.0.consumes ≡ true → me.0.consumer.cleared < me.0.consumer.scan
-      → Allows (Ok C start) slots id me (index C me.0.consumer.cleared) (λ _. 0)
+      → Allows (Ok B C start) slots id me (index C me.0.consumer.cleared) (λ _. 0)
       (λ _ me'. (me'.1 ≡ me.1) × ClearsWord me.0 me'.0)
   clears_word slots id me consumes more s r wide at small = (
     with_consumer (cleared_to (me.0.consumer.cleared + 8) me.0.consumer) me.0,
@@ -136,7 +137,7 @@ module _ (C start : ℕ) where
   )
 
   pub loads_passed : (slots id : ℕ) (me : Mine) → me.0.consumes ≡ true → me.0.consumer.cleared < me.0.consumer.scan
-      → Allows (Ok C start) slots id me (index C me.0.consumer.cleared) (λ n. n)
+      → Allows (Ok B C start) slots id me (index C me.0.consumer.cleared) (λ n. n)
       (λ n me'. (me'.1 ≡ me.1) × LoadsPassed me.0 n me'.0)
   loads_passed slots id me consumes more s r wide at small =
       let v : View = me.0 in
@@ -144,14 +145,14 @@ module _ (C start : ℕ) where
       let n : ℕ = slice_index s.words i in
       let own = r.seated.each id v at in
       let on : View = with_consumer (cleared_to (v.consumer.cleared + 8) v.consumer) v in
-      let step : May C start s i id me (λ me'. (me'.1 ≡ me.1) × LoadsPassed v n me'.0) n =
+      let step : May B C start s i id me (λ me'. (me'.1 ≡ me.1) × LoadsPassed v n me'.0) n =
       dite (ℕ_discrete n 0)
       (λ zero.
       let told : LoadsPassed v n on = record { zero = λ _. refl; other = λ no. absurd (no zero) } in (
         on,
         keeps,
         tt,
-        subst (λ x. Kept C start (set s.words i x) (set s.views id on)) (sym zero)
+        subst (λ x. Kept B C start (set s.words i x) (set s.views id on)) (sym zero)
             (clears_at s r id v at consumes more),
         (refl, told),
       ))
@@ -160,15 +161,15 @@ module _ (C start : ℕ) where
         v,
         keeps,
         tt,
-        sees C start s.words s.views r id i v at v.producer.seen_tail v.producer.seen_head v.log
+        sees B C start s.words s.views r id i v at v.producer.seen_tail v.producer.seen_head v.log
             (omega arith) own.tail_seen own.head_seen,
         (refl, told),
       )) in step
 
   -- the head goes to q, which was reached with the messages got and up to which the words are cleared
-  stores_head_at : (q : ℕ) (got : List PlacedMessage) (s : State Wanted View) (r : Ok C start s) (id : ℕ) (v : View)
+  stores_head_at : (q : ℕ) (got : List PlacedMessage) (s : State ℕ View) (r : Ok B C start s) (id : ℕ) (v : View)
       → get_elem? s.views id ≡ some v → v.consumes ≡ true → Reaches q start (all_of r.hist) got → r.consumer.cleared ≡ q
-      → Kept C start (set s.words (head_index C) q) (set s.views id (with_consumer (stands_at q got v.consumer) v))
+      → Kept B C start (set s.words (head_index C) q) (set s.views id (with_consumer (stands_at q got v.consumer) v))
   stores_head_at q got s r id v at consumes reaches all =
       let h : OwnedHistory = r.hist in
       let law = r.lawful in
@@ -185,9 +186,9 @@ module _ (C start : ℕ) where
       let bounds = reach_bounds C q start (all_of h) got m.placed reaches in
       let below_top = bounds.1 in
       let now : ConsumerView = stands_at q got r.consumer in
-      subst (λ (c : ConsumerView). Kept C start (set s.words i q) (set s.views id (with_consumer c v)))
+      subst (λ (c : ConsumerView). Kept B C start (set s.words i q) (set s.views id (with_consumer c v)))
       (ap (stands_at q got) (sym mine))
-      (consumed C start s.words s.views r id v at consumes i q now v.log
+      (consumed B C start s.words s.views r id v at consumes i q now v.log
       (record {
         wide = length-set s.words i q ∙ m.wide;
         placed = m.placed;
@@ -201,10 +202,10 @@ module _ (C start : ℕ) where
         clears_to = omega arith;
         clears_words = omega arith;
         shows = λ p p8 p0 p1. get_or-set_other s.words i (index C p) q 0
-            (λ e. not_inside C start law p i (omega arith) (sym e))
+            (λ e. not_inside B C start law p i (omega arith) (sym e))
             ∙ ⊎_elim
             (λ (near : p < head + C). m.shows p p8 (omega arith) near
-            ∙ ap (λ b. cond b 0 (staged_word_at (all_of h) p)) (le-ltb p r.consumer.cleared (omega arith)))
+            ∙ ap (λ b. cond b 0 (staged_word_at B (all_of h) p)) (le-ltb p r.consumer.cleared (omega arith)))
             -- one lap on from words that were cleared
             (λ (far : head + C ≤ p).
             let back : ℕ = p - C in
@@ -213,10 +214,10 @@ module _ (C start : ℕ) where
             ap (λ z. get_or s.words (index C z) 0) (sym lap)
             ∙ ap (λ (z : ℕ). get_or s.words (z / 8) 0) (add-mod_right back C)
             ∙ m.shows back (omega arith) (omega arith) (omega arith)
-            ∙ ap (λ z. cond z 0 (staged_word_at (all_of h) back)) (lt-ltb back r.consumer.cleared (omega arith))
-            ∙ sym (nothing_behind C start (all_of h) p m.placed (omega arith)))
+            ∙ ap (λ z. cond z 0 (staged_word_at B (all_of h) back)) (lt-ltb back r.consumer.cleared (omega arith))
+            ∙ sym (nothing_behind B C start (all_of h) p m.placed (omega arith)))
             (cases_lt p (head + C))
-            ∙ sym (ap (λ b. cond b 0 (staged_word_at (all_of h) p)) (le-ltb p q p0));
+            ∙ sym (ap (λ b. cond b 0 (staged_word_at B (all_of h) p)) (le-ltb p q p0));
       })
       (record {
         cache = λ e. omega arith;
@@ -228,7 +229,7 @@ module _ (C start : ℕ) where
 
   pub stores_head : (slots id : ℕ) (me : Mine) (head : ℕ) → me.0.consumes ≡ true → me.0.consumer.scan ≡ head
       → me.0.consumer.cleared ≡ head
-      → Allows (Ok C start) slots id me (head_index C) (λ _. head) (λ _ me'. (me'.1 ≡ me.1) × StoresHead me.0 me'.0)
+      → Allows (Ok B C start) slots id me (head_index C) (λ _. head) (λ _ me'. (me'.1 ≡ me.1) × StoresHead me.0 me'.0)
   stores_head slots id me head consumes scan all s r wide at small =
       let v : View = me.0 in
       let mine = ((r.seated.each id v at).consumes consumes).1 in
@@ -237,7 +238,7 @@ module _ (C start : ℕ) where
         w,
         keeps,
         tt,
-        subst (λ q. Kept C start (set s.words (head_index C) q) (set s.views id w)) scan
+        subst (λ q. Kept B C start (set s.words (head_index C) q) (set s.views id w)) scan
             (stores_head_at v.consumer.scan v.consumer.got s r id v at consumes
             (subst (λ (z : ConsumerView). Reaches z.scan start (all_of r.hist) z.got) (sym mine) r.memory.passed)
             (sym cleared ∙ all ∙ sym scan)),
@@ -247,7 +248,7 @@ module _ (C start : ℕ) where
   pub stores_head_before : (slots id : ℕ) (me : Mine) (head : ℕ) (front : List PlacedMessage) (last : PlacedMessage)
       → me.0.consumes ≡ true → me.0.consumer.got ≡ front ++ last ∷ [] → last.place ≡ head
       → me.0.consumer.cleared ≡ head
-      → Allows (Ok C start) slots id me (head_index C) (λ _. head)
+      → Allows (Ok B C start) slots id me (head_index C) (λ _. head)
       (λ _ me'. (me'.1 ≡ me.1) × StoresHeadBefore me.0 me'.0)
   stores_head_before slots id me head front last consumes got place all s r wide at small =
       let v : View = me.0 in
@@ -259,7 +260,7 @@ module _ (C start : ℕ) where
         w,
         keeps,
         tt,
-        subst (λ q. Kept C start (set s.words (head_index C) q) (set s.views id w)) place
+        subst (λ q. Kept B C start (set s.words (head_index C) q) (set s.views id w)) place
             (stores_head_at last.place front s r id v at consumes
             (back_before_last v.consumer.scan start (all_of r.hist) front last
             (subst (Reaches v.consumer.scan start (all_of r.hist)) got reaches)) (sym cleared ∙ all ∙ sym place)),

@@ -1,4 +1,5 @@
 -- What the last state of a closed ring says.
+use Rattle.ring_table.specs.Staged.{in_words}
 use Rattle.std.proofs.Common.{◌≡◌, ◌≢◌, ℕ, ◌≤◌, List, ◌∷◌, cond, true, sym, ap, ◌∙◌, subst, ⊎_elim, length, le-ltb, arith}
 use mathlib.Core.Option.{some}
 use lib.ListN.{get_elem?}
@@ -17,7 +18,7 @@ use Rattle.ring_layout.specs.Refusals.{all_shares}
 use Rattle.ring_table.proofs.ListLemmas.{there_or_past}
 use Rattle.ring_table.proofs.StepLemmas.{others_poor, sole_sees_top}
 
-pub closes : (C start : ℕ) (words : List ℕ) (views : List View) → Kept C start words views → (id : ℕ) (v : View)
+pub closes : (C start : ℕ) (words : List ℕ) (views : List View) → Kept in_words C start words views → (id : ℕ) (v : View)
     → get_elem? views id ≡ some v → v.producer.shares ≡ all_shares → v.consumes ≡ true → IsClosed C start words v
 closes C start words views r id v at all consumes =
     let own = r.seated.each id v at in
@@ -31,7 +32,7 @@ closes C start words views r id v at all consumes =
     record {
       lawful = r.lawful;
       drawn = r.drawn;
-      memory = subst (λ (z : List StagedClaim × ConsumerView). IsMemory C start words z.0 z.1)
+      memory = subst (λ (z : List StagedClaim × ConsumerView). IsMemory in_words C start words z.0 z.1)
           (λ i. (sym whole i, sym mine i)) r.memory;
       service = subst (λ (z : ConsumerView). IsService C words z r.drawn) (sym mine) r.service;
       once = λ x. sym (total-sole (λ (z : View). times_drawn x z.producer) views id v at
@@ -60,7 +61,7 @@ leaves_rest C start words v closed stored none_cleared =
       placed = t.placed;
       end_is = m.tail_is ∙ sym t.ends ∙ sym (end_of-claims_of C head left t.placed) ∙ ap (end_of C head) same;
       picture = λ p p8 p0 p1.
-          m.shows p p8 p0 p1 ∙ ap (λ b. cond b 0 (staged_word_at v.producer.claims p))
+          m.shows p p8 p0 p1 ∙ ap (λ b. cond b 0 (staged_word_at in_words v.producer.claims p))
           (le-ltb p v.consumer.cleared (omega arith))
           ∙ t.words p p0 ∙ staged_word_at-claims_of C head left p t.placed left_stored
           ∙ ap (λ l. word_at C head l p) same;

@@ -1,4 +1,6 @@
 -- The consumer's loads keep the rule, and what a step of it owes.
+use Rattle.ring_table.specs.Staged.{in_words}
+use Rattle.ring_table.specs.Staged.{Bodies}
 use Rattle.std.proofs.Common.{◌≡◌, ℕ, ◌+◌, ◌-◌, ◌/◌, ◌%◌, ◌^◌, ◌≤◌, ◌<◌, ℤ, pos, negsuc, ◌≤ℤ◌, FitsSigned, List, [], ◌∷◌, ◌++◌, cond, true, set, get_or, slice_index, sym, refl, ap, ◌∙◌, subst, ⊎_elim, le-ltb, arith}
 use mathlib.Core.Option.{some}
 use mathlib.Core.Logic.{dite}
@@ -42,12 +44,12 @@ not_positive : (len : ℤ) → FitsSigned w32 len → len ≤ℤ pos 0
 not_positive (pos n) fits le t = let low = t.0 in omega (arith, ints)
 not_positive (negsuc n) fits le t = let high = t.1 in omega (arith, fits.sfits)
 
-module _ (C start : ℕ) where
+module _ (B : Bodies) (C start : ℕ) where
   -- the consumer steps: one word changes, and the consumer is at `now`
-  pub consumed : (words : List ℕ) (views : List View) (r : Kept C start words views) (id : ℕ) (v : View)
+  pub consumed : (words : List ℕ) (views : List View) (r : Kept B C start words views) (id : ℕ) (v : View)
       → get_elem? views id ≡ some v → v.consumes ≡ true → (i value : ℕ) (now : ConsumerView) (log : List (ℕ × ℕ))
-      → IsMemory C start (set words i value) (all_of r.hist) now → IsNoService C i → GoesOn r.consumer now
-      → Kept C start (set words i value) (set views id (record v { consumer = now; log = log }))
+      → IsMemory B C start (set words i value) (all_of r.hist) now → IsNoService C i → GoesOn r.consumer now
+      → Kept B C start (set words i value) (set views id (record v { consumer = now; log = log }))
   consumed words views r id v at consumes i value now log m away on =
       let rises = on.rises in
       let top : ℕ = staged_end start (all_of r.hist) in
@@ -56,9 +58,9 @@ module _ (C start : ℕ) where
       let w : View = record v { consumer = now; log = log } in
       let served = λ (j : ℕ) (u : View) (k : Knows top r.hist r.reader r.consumer r.drawn j u).
       subst (λ l. AreServed r.drawn l (u.producer.service ∷ u.producer.joined)) (sym on.same) k.served in
-      becomes C start words views r id v at (set words i value) r.hist now r.drawn w (record {
+      becomes B C start words views r id v at (set words i value) r.hist now r.drawn w (record {
         memory = m;
-        service = service_elsewhere C start r.lawful words r.consumer r.drawn r.service i value away now on;
+        service = service_elsewhere B C start r.lawful words r.consumer r.drawn r.service i value away now on;
         steps = record {
           own = knows_on own refl rises (served id v own) (λ _. (mine.0, refl));
           others = λ j u ne k.
@@ -72,20 +74,20 @@ module _ (C start : ℕ) where
       })
 
   -- the read comes to q
-  scans : (s : State Wanted View) (r : Ok C start s) (id : ℕ) (v : View) → get_elem? s.views id ≡ some v
+  scans : (s : State ℕ View) (r : Ok B C start s) (id : ℕ) (v : View) → get_elem? s.views id ≡ some v
       → v.consumes ≡ true → (q : ℕ) (got : List PlacedMessage) → Reaches q start (all_of r.hist) got
       → r.consumer.cleared ≤ q → (p n : ℕ)
-      → Kept C start (set s.words (index C p) (slice_index s.words (index C p)))
+      → Kept B C start (set s.words (index C p) (slice_index s.words (index C p)))
       (set s.views id (with_scan (index C p) n q got v))
   scans s r id v at consumes q got reaches le p n =
       let m = r.memory in
       let mine = ((r.seated.each id v at).consumes consumes).1 in
-      let inside = index_inside C start r.lawful p in
+      let inside = index_inside B C start r.lawful p in
       let now : ConsumerView = scanned q got r.consumer in
-      subst (λ (c : ConsumerView). Kept C start (set s.words (index C p) (slice_index s.words (index C p)))
+      subst (λ (c : ConsumerView). Kept B C start (set s.words (index C p) (slice_index s.words (index C p)))
       (set s.views id (with_consumer c (logged (index C p) n v)))) (ap (scanned q got) (sym mine))
       (consumed s.words s.views r id v at consumes (index C p) (slice_index s.words (index C p)) now _
-      (subst (λ l. IsMemory C start l (all_of r.hist) now) (sym (set-get_or s.words (index C p) 0)) (record {
+      (subst (λ l. IsMemory B C start l (all_of r.hist) now) (sym (set-get_or s.words (index C p) 0)) (record {
         wide = m.wide;
         placed = m.placed;
         tail_is = m.tail_is;
@@ -103,15 +105,15 @@ module _ (C start : ℕ) where
         cache = λ e. omega arith;
         correlation = λ e. omega arith;
         heartbeat = λ e. omega arith;
-        unnamed = λ j un. not_inside C start r.lawful p j un.behind;
+        unnamed = λ j un. not_inside B C start r.lawful p j un.behind;
       })
       (record { rises = omega arith; same = refl }))
 
   -- a load of a header at the position q, which the head or the read has reached with the messages got
   loads_header : (q : ℕ) (got : List PlacedMessage) (slots id : ℕ) (me : Mine) → me.0.capacity ≡ C
-      → me.0.consumes ≡ true → (s : State Wanted View) (r : Ok C start s) → get_elem? s.views id ≡ some me.0
+      → me.0.consumes ≡ true → (s : State ℕ View) (r : Ok B C start s) → get_elem? s.views id ≡ some me.0
       → Reaches q start (all_of r.hist) got → (r.consumer.cleared ≤ q) × (q < r.consumer.head + C)
-      → May C start s (index C q) id me (λ me'. (me'.1 ≡ me.1)
+      → May B C start s (index C q) id me (λ me'. (me'.1 ≡ me.1)
       × LoadsHeader me.0.capacity q got me.0 (slice_index s.words (index C q)) me'.0
       × Logs (index C q) (slice_index s.words (index C q)) me.0 me'.0) (slice_index s.words (index C q))
   loads_header q got slots id me cap consumes s r at reaches ahead =
@@ -130,26 +132,27 @@ module _ (C start : ℕ) where
       let start8 = start_aligned C start law in
       let q8 : q % 8 ≡ 0 = reach_aligned C q start (all_of h) got (omega arith)
       (capacity_aligned C law.capacity) start8 m.placed reaches in
-      let is : staged_word_at (all_of h) q ≡ n =
-      sym (m.shows q q8 (omega arith) near ∙ ap (λ b. cond b 0 (staged_word_at (all_of h) q))
+      let is : staged_word_at B (all_of h) q ≡ n =
+      sym (m.shows q q8 (omega arith) near ∙ ap (λ b. cond b 0 (staged_word_at B (all_of h) q))
       (le-ltb q r.consumer.cleared le)) in
       let now = λ (to : ℕ) (g : List PlacedMessage). with_scan (index C q) n to g v in
       let Told : View → Type 0 = LoadsHeader me.0.capacity q got v n in
       let no_length = λ (none : ¬ ((0 < low) × (low < 2 ^ 31))).
       let told : Told (now q got) = record {
         capacity = refl;
+        stays = record { producer = refl; out = refl; consumes = refl; head = refl };
         padding = λ len some small e. let t = halves len padding_type small e in let len_is =
             t.0 in absurd (none (omega arith, omega arith));
         message = λ len type_id some small fits other e. let t = halves len type_id small e in let len_is =
             t.0 in absurd (none (omega arith, omega arith));
         unpublished = λ len type_id _ _ _ _. ap (λ c. with_scan (index c q) n q got v) (sym cap);
       } in
-      let step : May C start s (index C q) id me
+      let step : May B C start s (index C q) id me
       (λ me'. (me'.1 ≡ me.1) × Told me'.0 × Logs (index C q) n me.0 me'.0) n =
       (now q got, keeps, tt, scans s r id v at consumes q got reaches le q n, (refl, told, refl)) in step in
       ⊎_elim (λ (lo : 0 < low). ⊎_elim (λ (hi : low < 2 ^ 31).
       let t : Leads C q start (all_of h) got n =
-      leads C q start (all_of h) got n law.capacity (record { whole = start8; placed = m.placed }) reaches is
+      leads B C q start (all_of h) got n law.capacity (record { whole = start8; placed = m.placed }) reaches is
       (record { above = lo; below = hi }) in
       let far : ℕ = q + rounded low in
       let positive = λ (len type_id : ℤ) (fits : FitsSigned w32 len) (le : len ≤ℤ pos 0) (e : n ≡ header len type_id).
@@ -163,6 +166,7 @@ module _ (C start : ℕ) where
       let below = bounds.1 in
       let told : Told (now far got) = record {
         capacity = refl;
+        stays = record { producer = refl; out = refl; consumes = refl; head = refl };
         padding = λ len some small e.
             let halves_are = halves len padding_type small e in
             record {
@@ -182,6 +186,7 @@ module _ (C start : ℕ) where
       let below = bounds.1 in
       let told : Told (now far all) = record {
         capacity = refl;
+        stays = record { producer = refl; out = refl; consumes = refl; head = refl };
         padding = λ len some small e. let halves_are = halves len padding_type small e in absurd (other halves_are.1);
         message = λ len type_id some small fits not_pad e.
             let halves_are = halves len type_id small e in
@@ -206,7 +211,7 @@ module _ (C start : ℕ) where
 
   pub loads_first : (slots id : ℕ) (me : Mine) → me.0.capacity ≡ C → me.0.consumes ≡ true
       → me.0.consumer.cleared ≡ me.0.consumer.head
-      → Allows (Ok C start) slots id me (index C me.0.consumer.head) (λ n. n)
+      → Allows (Ok B C start) slots id me (index C me.0.consumer.head) (λ n. n)
       (λ n me'. (me'.1 ≡ me.1) × LoadsHeader me.0.capacity me.0.consumer.head me.0.consumer.taken me.0 n me'.0
       × Logs (index C me.0.consumer.head) n me.0 me'.0)
   loads_first slots id me cap consumes none_cleared s r wide at small =
@@ -220,7 +225,7 @@ module _ (C start : ℕ) where
 
   pub loads_next : (slots id : ℕ) (me : Mine) → me.0.capacity ≡ C → me.0.consumes ≡ true
       → me.0.consumer.scan < me.0.consumer.head + C
-      → Allows (Ok C start) slots id me (index C me.0.consumer.scan) (λ n. n)
+      → Allows (Ok B C start) slots id me (index C me.0.consumer.scan) (λ n. n)
       (λ n me'. (me'.1 ≡ me.1) × LoadsHeader me.0.capacity me.0.consumer.scan me.0.consumer.got me.0 n me'.0
       × Logs (index C me.0.consumer.scan) n me.0 me'.0)
   loads_next slots id me cap consumes near s r wide at small =
@@ -232,8 +237,9 @@ module _ (C start : ℕ) where
       (subst (λ (z : ConsumerView). Reaches z.scan start (all_of r.hist) z.got) (sym mine) r.memory.passed)
       (omega arith, omega arith)
 
+module _ (C start : ℕ) where
   pub loads_body : (slots id i : ℕ) (me : Mine) → me.0.capacity ≡ C → me.0.consumes ≡ true
-      → Allows (Ok C start) slots id me i (λ n. n)
+      → Allows (Ok in_words C start) slots id me i (λ n. n)
       (λ n me'. (me'.1 ≡ me.1) × (me'.0 ≡ logged i n me.0) × LoadsBody i me.0 n)
   loads_body slots id i me cap consumes s r wide at small =
       let v : View = me.0 in
@@ -253,7 +259,7 @@ module _ (C start : ℕ) where
         logged i n v,
         keeps,
         tt,
-        sees C start s.words s.views r id i v at v.producer.seen_tail v.producer.seen_head _
+        sees in_words C start s.words s.views r id i v at v.producer.seen_tail v.producer.seen_head _
             (omega arith) own.tail_seen own.head_seen,
         (
           refl,
@@ -267,7 +273,7 @@ module _ (C start : ℕ) where
               let place8 = b.aligned in
               ap (λ z. get_or s.words z 0) (sym same ∙ ap (λ z. index z p) cap)
               ∙ m.shows p (omega arith) (omega arith) (omega arith)
-              ∙ ap (λ z. cond z 0 (staged_word_at (all_of h) p)) (le-ltb p r.consumer.cleared (omega arith))
+              ∙ ap (λ z. cond z 0 (staged_word_at in_words (all_of h) p)) (le-ltb p r.consumer.cleared (omega arith))
               ∙ b.word,
         ),
       )

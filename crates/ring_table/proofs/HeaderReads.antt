@@ -1,4 +1,5 @@
 -- A header of positive length leads a read on.
+use Rattle.ring_table.specs.Staged.{Bodies}
 use Rattle.std.proofs.Common.{◌≡◌, ◌≢◌, ℕ, zero, suc, ◌+◌, ◌-◌, ◌/◌, ◌%◌, ◌^◌, ◌≤◌, ◌<◌, ℤ, ◌≤ℤ◌, pos, negsuc, neg_ℤ, FitsSigned, List, [], ◌∷◌, ◌++◌, cond, sym, refl, ap, ◌∙◌, subst, inl, inr, ⊎_elim, length, lt-ltb, le-ltb, append_assoc, arith}
 use Rattle.std.specs.Int.{cast_unsigned, w32}
 use Rattle.std.proofs.lemmas.Int.{ints}
@@ -203,16 +204,16 @@ at_padding C s e c cs w big pad eq plus = by_stage c.stage refl eq
     by_stage Padded is eq' = stored eq' (λ moved. cc)
     by_stage (Stored t) is eq' = stored eq' (λ moved. cc)
 
-here : (c : StagedClaim) (cs : List StagedClaim) (p : ℕ) → p < claim_end c → staged_word_at (c ∷ cs) p ≡ staged_word c p
-here c cs p lt = ap (λ b. cond b (staged_word c p) (staged_word_at cs p)) (lt-ltb p (claim_end c) lt)
+here : (B : Bodies) → (c : StagedClaim) (cs : List StagedClaim) (p : ℕ) → p < claim_end c → staged_word_at B (c ∷ cs) p ≡ staged_word B c p
+here B c cs p lt = ap (λ b. cond b (staged_word B c p) (staged_word_at B cs p)) (lt-ltb p (claim_end c) lt)
 
-pub leads : (C s e : ℕ) (cs : List StagedClaim) (got : List PlacedMessage) (w : ℕ) → IsCapacity C → StandFrom C e cs
-    → Reaches s e cs got → staged_word_at cs s ≡ w → HasLength w → Leads C s e cs got w
-leads C s e [] got w cap stand r is plus =
+pub leads : (B : Bodies) → (C s e : ℕ) (cs : List StagedClaim) (got : List PlacedMessage) (w : ℕ) → IsCapacity C → StandFrom C e cs
+    → Reaches s e cs got → staged_word_at B cs s ≡ w → HasLength w → Leads C s e cs got w
+leads B C s e [] got w cap stand r is plus =
     let none : 0 ≡ w = is in
     let lo = plus.above in
     absurd (omega arith)
-leads C s e (c ∷ cs) got w cap stand r is plus =
+leads B C s e (c ∷ cs) got w cap stand r is plus =
     let e8 = stand.whole in
     let h = stand.placed in
     let least = cap.least in
@@ -234,7 +235,7 @@ leads C s e (c ∷ cs) got w cap stand r is plus =
     (record {
       place = at;
       stage = refl;
-      word = sym is ∙ here c cs s (omega arith) ∙ staged_word-header c s at;
+      word = sym is ∙ here B c cs s (omega arith) ∙ staged_word-header B c s at;
     }) plus in
     ⊎_elim (λ alt.
     let at_e : s ≡ e = alt.0 in
@@ -252,15 +253,15 @@ leads C s e (c ∷ cs) got w cap stand r is plus =
       whole = omega arith;
       inner = omega arith;
     })
-    (sym is ∙ here c cs s (omega arith) ∙ staged_word-padding c s (omega arith) (omega arith)) plus)
+    (sym is ∙ here B c cs s (omega arith) ∙ staged_word-padding B c s (omega arith) (omega arith)) plus)
     (next_cases C e a)))
     (⊎_elim (λ alt. subst (λ g. Leads C s e (c ∷ cs) g w) (sym alt.2) (now_at_place alt.0))
     (λ alt.
     let later : List PlacedMessage = alt.1.0 in
     let bounds = reach_bounds C s (claim_end c) cs later h.1 alt.1.2 in
     let above = bounds.0 in
-    let t = leads C s (claim_end c) cs later w cap (record { whole = aligned.1; placed = h.1 }) alt.1.2
-    (sym (ap (λ b. cond b (staged_word c s) (staged_word_at cs s)) (le-ltb s (claim_end c) above)) ∙ is) plus in
+    let t = leads B C s (claim_end c) cs later w cap (record { whole = aligned.1; placed = h.1 }) alt.1.2
+    (sym (ap (λ b. cond b (staged_word B c s) (staged_word_at B cs s)) (le-ltb s (claim_end c) above)) ∙ is) plus in
     record {
       padding = λ pad. inr (inr (alt.0, (later, alt.1.1, t.padding pad)));
       message = λ other.

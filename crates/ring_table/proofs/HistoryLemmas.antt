@@ -1,4 +1,5 @@
 -- A history with one claim more, and with one claim changed.
+use Rattle.ring_table.specs.Staged.{Bodies}
 use Rattle.std.proofs.Common.{◌≡◌, ◌≢◌, ℕ, zero, suc, ◌+◌, List, [], ◌∷◌, ◌++◌, Bool, true, false, cond, eqb, ltb, true≢false, sym, refl, ap, ◌∙◌, subst, eq-eqb, ne_eqb}
 use mathlib.Core.Option.{some, some-injective, some-ne-none}
 use mathlib.Core.Logic.{dite}
@@ -23,15 +24,15 @@ pub placed_append : (C e : ℕ) (h : OwnedHistory) (x : ℕ × StagedClaim) → 
 placed_append C e [] x h lies = (lies, tt)
 placed_append C e (y ∷ ys) x h lies = (h.0, placed_append C (claim_end y.1) ys x h.1 lies)
 
-pub staged_word_at-append : (h : OwnedHistory) (x : ℕ × StagedClaim) (p : ℕ) → staged_word x.1 p ≡ 0
-    → staged_word_at (all_of (h ++ x ∷ [])) p ≡ staged_word_at (all_of h) p
-staged_word_at-append [] x p none = both (ltb p (claim_end x.1)) (staged_word x.1 p) none
+pub staged_word_at-append : (B : Bodies) → (h : OwnedHistory) (x : ℕ × StagedClaim) (p : ℕ) → staged_word B x.1 p ≡ 0
+    → staged_word_at B (all_of (h ++ x ∷ [])) p ≡ staged_word_at B (all_of h) p
+staged_word_at-append B [] x p none = both (ltb p (claim_end x.1)) (staged_word B x.1 p) none
   where
     both : (b : Bool) (m : ℕ) → m ≡ 0 → cond b m 0 ≡ 0
     both true m e = e
     both false m e = refl
-staged_word_at-append (y ∷ ys) x p none =
-    ap (λ k. cond (ltb p (claim_end y.1)) (staged_word y.1 p) k) (staged_word_at-append ys x p none)
+staged_word_at-append B (y ∷ ys) x p none =
+    ap (λ k. cond (ltb p (claim_end y.1)) (staged_word B y.1 p) k) (staged_word_at-append B ys x p none)
 
 pub owned_by-append : (id : ℕ) (h : OwnedHistory) (c : StagedClaim)
     → owned_by id (h ++ (id, c) ∷ []) ≡ owned_by id h ++ c ∷ []
@@ -159,13 +160,13 @@ module _ (id p : ℕ) (f : StagedClaim → StagedClaim) where
         )
 
     -- the word at q stays if those of the changed claims stay
-    pub staged_word_at-edited : (q : ℕ) (h : OwnedHistory) → MayReplaceAt C p f h
+    pub staged_word_at-edited : (B : Bodies) → (q : ℕ) (h : OwnedHistory) → MayReplaceAt C p f h
         → ((i : ℕ) (x : ℕ × StagedClaim) → get_elem? h i ≡ some x → x.1.place ≡ p
-        → staged_word (f x.1) q ≡ staged_word x.1 q)
-        → staged_word_at (all_of (edited id p f h)) q ≡ staged_word_at (all_of h) q
-    staged_word_at-edited q [] may same = refl
-    staged_word_at-edited q (x ∷ xs) may same =
+        → staged_word B (f x.1) q ≡ staged_word B x.1 q)
+        → staged_word_at B (all_of (edited id p f h)) q ≡ staged_word_at B (all_of h) q
+    staged_word_at-edited B q [] may same = refl
+    staged_word_at-edited B q (x ∷ xs) may same =
         let end = claim_end-edited x (may 0 x refl) in
-        let word = edited_one_cases (λ d. staged_word d q ≡ staged_word x.1 q) x (λ _ e. same 0 x refl e) refl in
-        let rest = staged_word_at-edited q xs (λ i. may (suc i)) (λ i. same (suc i)) in
+        let word = edited_one_cases (λ d. staged_word B d q ≡ staged_word B x.1 q) x (λ _ e. same 0 x refl e) refl in
+        let rest = staged_word_at-edited B q xs (λ i. may (suc i)) (λ i. same (suc i)) in
         λ i. cond (ltb q (end i)) (word i) (rest i)

@@ -99,7 +99,7 @@ changed_none p f [] above = refl
 changed_none p f (c ∷ cs) above =
     let first = above.0 in λ i. changed_at_other p f c (λ e. omega arith) i ∷ changed_none p f cs above.1 i
 
-above_at : (p : ℕ) (cs : List StagedClaim) (k : ℕ) (c : StagedClaim) → AreAbove p cs → get_elem? cs k ≡ some c
+pub above_at : (p : ℕ) (cs : List StagedClaim) (k : ℕ) (c : StagedClaim) → AreAbove p cs → get_elem? cs k ≡ some c
     → p < c.place
 above_at p [] k c above e = absurd (some-ne-none c (sym e))
 above_at p (d ∷ ds) zero c above e = subst (λ (z : StagedClaim). p < z.place) (some-injective d c e) above.0

@@ -21,6 +21,16 @@ pub mod OpenLemmas
 mod SplitSums
 pub mod SplitLemmas
 pub mod CloseLemmas
+pub mod ShelfLemmas
+pub mod CarryLemmas
+pub mod HeaderWords
+pub mod RangeLemmas
+pub mod FillLemmas
+pub mod BodyPlaces
+pub mod SlotLemmas
+pub mod OutLemmas
 pub mod Calls
+pub mod SlotCalls
+pub mod SlotBodies
 pub mod HeaderCalls
 pub mod LawLemmas

@@ -1,4 +1,6 @@
 -- A producer's loads keep the rule.
+use Rattle.ring_table.specs.Staged.{in_words}
+use Rattle.ring_table.specs.Staged.{Bodies}
 use Rattle.std.proofs.Common.{◌≡◌, ℕ, ◌+◌, ◌%◌, ◌≤◌, List, cond, set, get_or, slice_index, sym, refl, ap, ◌∙◌, subst, length, le-ltb, arith}
 use mathlib.Core.Option.{some}
 use lib.ListN.{get_elem?}
@@ -13,7 +15,7 @@ use Rattle.ring_table.specs.Views.{Logs, View, Wanted, logged, with_producer, wi
 use Rattle.ring_table.specs.Rule.{Knows, Kept, shares_of}
 use Rattle.ring_table.specs.ProducerSteps.{Mine, IsPosition, EndBelow, LoadsTail, LoadsHead, HasClaim, LoadsOwn}
 use Rattle.ring_table.proofs.StagedPlaces.{capacity_aligned, start_aligned, lies_in, LiesIn, end_aligned, places_aligned, word_of_claim}
-use Rattle.ring_table.proofs.StagedWords.{staged_word-stored}
+use Rattle.ring_table.proofs.StagedWords.{staged_word-in_words}
 use Rattle.ring_table.proofs.HistoryLemmas.{owned_at}
 use Rattle.ring_table.proofs.OwnerLemmas.{rising_owned_by}
 use Rattle.ring_table.proofs.ReachLemmas.{not_passed}
@@ -23,27 +25,27 @@ use Rattle.ring_table.proofs.KnowLemmas.{knows_seeing}
 use Rattle.ring_table.proofs.StepLemmas.{sole_sees_top, sees_top_after, becomes}
 use Rattle.ring_table.proofs.MemoryLemmas.{head_bounds}
 
-module _ (C start : ℕ) where
-  abbrev pub Ok : State Wanted View → Type 0
-  Ok s = Kept C start s.words s.views
+module _ (B : Bodies) (C start : ℕ) where
+  abbrev pub Ok : State ℕ View → Type 0
+  Ok s = Kept B C start s.words s.views
 
   -- what a step may do with the number found there
-  abbrev pub May : State Wanted View → ℕ → ℕ → Mine → (Mine → Type 0) → ℕ → Type 0
-  May s i id me then value = (w : View) × (a : Act Wanted) × Valid s.homes me.1 a × Ok (stepped s i value id me.1 w a)
+  abbrev pub May : State ℕ View → ℕ → ℕ → Mine → (Mine → Type 0) → ℕ → Type 0
+  May s i id me then value = (w : View) × (a : Act ℕ) × Valid s.homes me.1 a × Ok (stepped s i value id me.1 w a)
       × then (w, carried_after me.1 a)
 
   -- the words stay, and one view changes
-  pub looked : (words : List ℕ) (views : List View) (r : Kept C start words views) (id i : ℕ) (v w : View)
+  pub looked : (words : List ℕ) (views : List View) (r : Kept B C start words views) (id i : ℕ) (v w : View)
       → get_elem? views id ≡ some v
       → Knows (staged_end start (all_of r.hist)) r.hist r.reader r.consumer r.drawn id w
       → w.producer.shares ≡ v.producer.shares → v.producer.seen_tail ≤ w.producer.seen_tail
       → ((x : ℕ) → times_drawn x w.producer ≡ times_drawn x v.producer)
-      → Kept C start (set words i (slice_index words i)) (set views id w)
+      → Kept B C start (set words i (slice_index words i)) (set views id w)
   looked words views r id i v w at knows rich later drawn =
       let top : ℕ = staged_end start (all_of r.hist) in
       let seen = knows.tail_seen in
-      subst (λ l. Kept C start l (set views id w)) (sym (set-get_or words i 0))
-      (becomes C start words views r id v at words r.hist r.consumer r.drawn w (record {
+      subst (λ l. Kept B C start l (set views id w)) (sym (set-get_or words i 0))
+      (becomes B C start words views r id v at words r.hist r.consumer r.drawn w (record {
         memory = r.memory;
         service = r.service;
         steps = record {
@@ -58,16 +60,16 @@ module _ (C start : ℕ) where
       }))
 
   -- a seat loads, and sees a later tail or head
-  pub sees : (words : List ℕ) (views : List View) (r : Kept C start words views) (id i : ℕ) (v : View)
+  pub sees : (words : List ℕ) (views : List View) (r : Kept B C start words views) (id i : ℕ) (v : View)
       → get_elem? views id ≡ some v → (tail head : ℕ) (log : List (ℕ × ℕ)) → v.producer.seen_tail ≤ tail
       → tail ≤ staged_end start (all_of r.hist) → head ≤ r.consumer.head
-      → Kept C start (set words i (slice_index words i))
+      → Kept B C start (set words i (slice_index words i))
       (set views id (record v { producer = record v.producer { seen_tail = tail; seen_head = head }; log = log }))
   sees words views r id i v at tail head log later t h =
       looked words views r id i v _ at (knows_seeing (r.seated.each id v at) tail head log t h) refl later (λ x. refl)
 
   -- the claims of a view end at or below the tail
-  pub end_below : (words : List ℕ) (views : List View) (r : Kept C start words views) (id : ℕ) (v : View)
+  pub end_below : (words : List ℕ) (views : List View) (r : Kept B C start words views) (id : ℕ) (v : View)
       → get_elem? views id ≡ some v → (old : ℕ) → old ≡ staged_end start (all_of r.hist)
       → EndBelow old v.producer.claims
   end_below words views r id v at old old_is k c has =
@@ -76,7 +78,7 @@ module _ (C start : ℕ) where
       omega arith
 
   -- the tail is a position
-  pub tail_position : (s : State Wanted View) → Ok s → IsPosition (slice_index s.words (tail_index C))
+  pub tail_position : (s : State ℕ View) → Ok s → IsPosition (slice_index s.words (tail_index C))
   tail_position s r =
       let least = r.lawful.capacity.least in
       let is = r.memory.tail_is in
@@ -96,7 +98,7 @@ module _ (C start : ℕ) where
       let k = r.seated.each id v at in
       let tail_seen = k.tail_seen in
       let head_seen = k.head_seen in
-      let bounds = head_bounds C start r.lawful s.words r.consumer (all_of r.hist) r.memory in
+      let bounds = head_bounds B C start r.lawful s.words r.consumer (all_of r.hist) r.memory in
       let head_below = bounds.1 in (
         logged (tail_index C) n (with_producer (with_tail n v.producer) v),
         keeps,
@@ -130,7 +132,7 @@ module _ (C start : ℕ) where
       let k = r.seated.each id v at in
       let tail_seen = k.tail_seen in
       let head_seen = k.head_seen in
-      let bounds = head_bounds C start r.lawful s.words r.consumer (all_of r.hist) r.memory in
+      let bounds = head_bounds B C start r.lawful s.words r.consumer (all_of r.hist) r.memory in
       let head_below = bounds.1 in
       let aligned = bounds.2 in
       let limit = r.memory.limit in
@@ -159,7 +161,7 @@ module _ (C start : ℕ) where
     pub unsettled : IsSettled c.stage → ⊥
 
   -- the place of such a claim
-  pub record Stands (words : List ℕ) (views : List View) (r : Kept C start words views) (id : ℕ)
+  pub record Stands (words : List ℕ) (views : List View) (r : Kept B C start words views) (id : ℕ)
       (c : StagedClaim) : Type 0 where
     pub nth : ℕ
     pub there : get_elem? r.hist nth ≡ some (id, c)
@@ -169,7 +171,7 @@ module _ (C start : ℕ) where
     pub from_aligned : c.from % 8 ≡ 0
     pub place_aligned : c.place % 8 ≡ 0
 
-  pub stands : (words : List ℕ) (views : List View) (r : Kept C start words views) (id : ℕ) (v : View) (k : ℕ)
+  pub stands : (words : List ℕ) (views : List View) (r : Kept B C start words views) (id : ℕ) (v : View) (k : ℕ)
       (c : StagedClaim) → HasUnsettled views id v k c → Stands words views r id c
   stands words views r id v k c has =
       let least = r.lawful.capacity.least in
@@ -189,8 +191,9 @@ module _ (C start : ℕ) where
         place_aligned = aligned.1;
       }
 
+module _ (C start : ℕ) where
   pub loads_own : (slots id i : ℕ) (me : Mine) → me.0.capacity ≡ C
-      → Allows Ok slots id me i (λ n. n) (λ n me'. (me'.1 ≡ me.1) × (me'.0 ≡ logged i n me.0) × LoadsOwn i me.0 n
+      → Allows (Ok in_words C start) slots id me i (λ n. n) (λ n me'. (me'.1 ≡ me.1) × (me'.0 ≡ logged i n me.0) × LoadsOwn i me.0 n
       × AreRising me.0.producer.claims)
   loads_own slots id i me cap s r wide at small =
       let v : View = me.0 in
@@ -201,13 +204,13 @@ module _ (C start : ℕ) where
         logged i n v,
         keeps,
         tt,
-        sees s.words s.views r id i v at v.producer.seen_tail v.producer.seen_head _
+        sees in_words C start s.words s.views r id i v at v.producer.seen_tail v.producer.seen_head _
             (omega arith) k.tail_seen k.head_seen,
         (
           refl,
           refl,
           (λ nth c o has is_open o8 lt same.
-              let st = stands s.words s.views r id v nth c
+              let st = stands in_words C start s.words s.views r id v nth c
               (record { seat = at; claim = has; unsettled = λ z. subst IsSettled is_open z }) in
               let padded = st.lies.padded in
               let below = st.lies.below in
@@ -220,9 +223,9 @@ module _ (C start : ℕ) where
               let len : ℕ = length c.message.body in (
                 ap (λ z. get_or s.words z 0) (sym same ∙ ap (λ z. index z p) cap)
                     ∙ m.shows p (omega arith) (omega arith) (omega arith)
-                    ∙ ap (λ b. cond b 0 (staged_word_at (all_of h) p)) (le-ltb p r.consumer.cleared (omega arith))
-                    ∙ word_of_claim C start h st.nth (id, c) p m.placed st.there (omega arith) (omega arith)
-                    ∙ staged_word-stored c p o (subst IsStored (sym is_open) tt) refl,
+                    ∙ ap (λ b. cond b 0 (staged_word_at in_words (all_of h) p)) (le-ltb p r.consumer.cleared (omega arith))
+                    ∙ word_of_claim in_words C start h st.nth (id, c) p m.placed st.there (omega arith) (omega arith)
+                    ∙ staged_word-in_words c p o (subst IsStored (sym is_open) tt) refl,
                 st.lies.message.bytes,
               )),
           subst AreRising (sym k.claims) (rising_owned_by C start id h m.placed),

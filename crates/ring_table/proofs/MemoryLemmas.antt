@@ -1,4 +1,5 @@
 -- The words as one of them changes.
+use Rattle.ring_table.specs.Staged.{Bodies}
 use Rattle.std.proofs.Common.{◌≡◌, ◌≢◌, ℕ, ◌+◌, ◌/◌, ◌%◌, ◌≤◌, ◌<◌, List, [], ◌∷◌, ◌++◌, cond, ltb, set, get_or, sym, ap, ◌∙◌, subst, length, le-ltb, length-set, get_or-set_other, get_or-set_same, arith}
 use mathlib.Core.Option.{some}
 use mathlib.Core.Logic.{dite}
@@ -29,21 +30,21 @@ pub record GoesOn (old new : ConsumerView) : Type 0 where
   pub same : new.heartbeats ≡ old.heartbeats
 
 -- of the seat's claims at the place p, which are not settled, the word at q is `value` once they are f of themselves
-pub record EditsWord (C : ℕ) (h : OwnedHistory) (id p : ℕ) (f : StagedClaim → StagedClaim) (q value : ℕ)
+pub record EditsWord (B : Bodies) (C : ℕ) (h : OwnedHistory) (id p : ℕ) (f : StagedClaim → StagedClaim) (q value : ℕ)
     : Type 0 where
   pub may : MayReplaceAt C p f h
   pub unsettled : Unsettled p f h
-  pub word : staged_word_at (all_of (edited id p f h)) q ≡ value
+  pub word : staged_word_at B (all_of (edited id p f h)) q ≡ value
   pub others : (i : ℕ) (x : ℕ × StagedClaim) → get_elem? h i ≡ some x → x.1.place ≡ p → (r : ℕ) → r % 8 ≡ 0 → r ≢ q
-      → staged_word (f x.1) r ≡ staged_word x.1 r
+      → staged_word B (f x.1) r ≡ staged_word B x.1 r
 
 -- a claim that shows nothing yet is after a history, and ends at `new`
-pub record JoinsSilent (C start : ℕ) (h : OwnedHistory) (x : ℕ × StagedClaim) (new : ℕ) : Type 0 where
+pub record JoinsSilent (B : Bodies) (C start : ℕ) (h : OwnedHistory) (x : ℕ × StagedClaim) (new : ℕ) : Type 0 where
   pub lies : LiesAfter C (staged_end start (all_of h)) x.1
   pub ends : new ≡ claim_end x.1
-  pub silent : (p : ℕ) → p % 8 ≡ 0 → staged_word x.1 p ≡ 0
+  pub silent : (p : ℕ) → p % 8 ≡ 0 → staged_word B x.1 p ≡ 0
 
-module _ (C start : ℕ) (law : IsLawful C start) where
+module _ (B : Bodies) (C start : ℕ) (law : IsLawful C start) where
   pub index_inside : (p : ℕ) → index C p < C / 8
   index_inside p =
       let least = law.capacity.least in
@@ -63,7 +64,7 @@ module _ (C start : ℕ) (law : IsLawful C start) where
 
   module _ (words : List ℕ) (consumer : ConsumerView) where
     -- bounds of the head
-    pub head_bounds : (cs : List StagedClaim) → IsMemory C start words cs consumer
+    pub head_bounds : (cs : List StagedClaim) → IsMemory B C start words cs consumer
         → (start ≤ consumer.head) × (consumer.head ≤ staged_end start cs) × (consumer.head % 8 ≡ 0)
     head_bounds cs m =
         let least = law.capacity.least in
@@ -75,9 +76,9 @@ module _ (C start : ℕ) (law : IsLawful C start) where
         )
 
     -- a word that is neither a record's nor the tail nor the head
-    pub memory_elsewhere : (cs : List StagedClaim) → IsMemory C start words cs consumer → (i value : ℕ) → C / 8 ≤ i
+    pub memory_elsewhere : (cs : List StagedClaim) → IsMemory B C start words cs consumer → (i value : ℕ) → C / 8 ≤ i
         → i ≢ tail_index C → i ≢ head_index C → (beats : List ℕ)
-        → IsMemory C start (set words i value) cs (record consumer { heartbeats = beats })
+        → IsMemory B C start (set words i value) cs (record consumer { heartbeats = beats })
     memory_elsewhere cs m i value far not_tail not_head beats = record {
       wide = length-set words i value ∙ m.wide;
       placed = m.placed;
@@ -112,10 +113,10 @@ module _ (C start : ℕ) (law : IsLawful C start) where
         }
 
     -- a store into the claims at the place p, which are not settled, at the position q of their words
-    pub memory_edited : (h : OwnedHistory) → IsMemory C start words (all_of h) consumer
+    pub memory_edited : (h : OwnedHistory) → IsMemory B C start words (all_of h) consumer
         → (id p : ℕ) (f : StagedClaim → StagedClaim) (q value : ℕ) → q % 8 ≡ 0 → consumer.scan ≤ q
-        → q < consumer.head + C → EditsWord C h id p f q value
-        → IsMemory C start (set words (index C q) value) (all_of (edited id p f h)) consumer
+        → q < consumer.head + C → EditsWord B C h id p f q value
+        → IsMemory B C start (set words (index C q) value) (all_of (edited id p f h)) consumer
     memory_edited h m id p f q value q8 low near edit =
         let may = edit.may in
         let un = edit.unsettled in
@@ -144,12 +145,12 @@ module _ (C start : ℕ) (law : IsLawful C start) where
           shows = λ r r8 r0 r1. dite (ℕ_discrete r q)
               (λ e. ap (λ k. get_or (set words (index C q) value) (index C k) 0) e
               ∙ get_or-set_same words (index C q) value 0 (omega arith)
-              ∙ sym (ap (λ b. cond b 0 (staged_word_at (all_of h') r)) (le-ltb r consumer.cleared (omega arith))
-              ∙ ap (staged_word_at (all_of h')) e ∙ edit.word))
+              ∙ sym (ap (λ t. cond t 0 (staged_word_at B (all_of h') r)) (le-ltb r consumer.cleared (omega arith))
+              ∙ ap (staged_word_at B (all_of h')) e ∙ edit.word))
               (λ ne. get_or-set_other words (index C q) (index C r) value 0
               (λ e. ne (one_position head r q (record { whole = r8; from = r0; below = r1 })
               (record { whole = q8; from = omega arith; below = near }) e)) ∙ m.shows r r8 r0 r1
-              ∙ sym (ap (λ k. shown_word_of k r) (staged_word_at-edited id p f C r h may
+              ∙ sym (ap (λ k. shown_word_of k r) (staged_word_at-edited id p f C B r h may
               (λ i x at e. edit.others i x at e r r8 ne))));
         }
       where
@@ -157,9 +158,9 @@ module _ (C start : ℕ) (law : IsLawful C start) where
         shown_word_of word p = cond (ltb p consumer.cleared) 0 word
 
     -- the tail moves, and a claim that shows nothing yet joins the history
-    pub memory_appended : (h : OwnedHistory) → IsMemory C start words (all_of h) consumer
-        → (x : ℕ × StagedClaim) (new : ℕ) → JoinsSilent C start h x new → new ≤ max_position → new ≤ consumer.head + C
-        → IsMemory C start (set words (tail_index C) new) (all_of (h ++ x ∷ [])) consumer
+    pub memory_appended : (h : OwnedHistory) → IsMemory B C start words (all_of h) consumer
+        → (x : ℕ × StagedClaim) (new : ℕ) → JoinsSilent B C start h x new → new ≤ max_position → new ≤ consumer.head + C
+        → IsMemory B C start (set words (tail_index C) new) (all_of (h ++ x ∷ [])) consumer
     memory_appended h m x new joins limit room =
         let tops : staged_end start (all_of (h ++ x ∷ [])) ≡ new = staged_end-append start h x ∙ sym joins.ends in
         let wide = m.wide in
@@ -178,5 +179,5 @@ module _ (C start : ℕ) (law : IsLawful C start) where
           clears_words = m.clears_words;
           shows = λ p p8 p0 p1. get_or-set_other words (tail_index C) (index C p) new 0
               (λ e. not_inside p (tail_index C) (omega arith) (sym e)) ∙ m.shows p p8 p0 p1
-              ∙ ap (λ k. cond (ltb p consumer.cleared) 0 k) (sym (staged_word_at-append h x p (joins.silent p p8)));
+              ∙ ap (λ k. cond (ltb p consumer.cleared) 0 k) (sym (staged_word_at-append B h x p (joins.silent p p8)));
         }

@@ -1,4 +1,5 @@
 -- What a read has passed stays passed.
+use Rattle.ring_table.specs.Staged.{in_words}
 use Rattle.std.proofs.Common.{◌≡◌, ◌≢◌, ℕ, zero, suc, ◌+◌, ◌%◌, ◌≤◌, ◌<◌, ◌⊎◌, List, [], ◌∷◌, ◌++◌, cond, sym, refl, ap, ◌∙◌, subst, inl, inr, ⊎_elim, length, lt-ltb, le-ltb, arith}
 use mathlib.Core.Option.{some, some-injective, some-ne-none}
 use lib.ListN.{get_elem?}
@@ -9,7 +10,7 @@ use Rattle.ring_table.specs.Staged.{StagedClaim, PlacedMessage, Stage, Moved, Pa
 use Rattle.ring_table.specs.Owners.{OwnedHistory, all_of, edited_one, edited}
 use Rattle.ring_table.specs.Passing.{IsSettled, placed_message, shown_at, Reaches}
 use Rattle.ring_table.proofs.StagedPlaces.{StandFrom, end_le, lies_in, claim_aligned}
-use Rattle.ring_table.proofs.StagedWords.{staged_word-stored}
+use Rattle.ring_table.proofs.StagedWords.{staged_word-in_words}
 use Rattle.ring_table.proofs.HistoryLemmas.{MayReplaceAt, edited_one_cases, claim_end-edited}
 
 pub reach_bounds : (C s e : ℕ) (cs : List StagedClaim) (got : List PlacedMessage) → ArePlaced C e cs
@@ -90,7 +91,7 @@ not_passed C s e (y ∷ ys) got (suc i) x h r at un =
 
 -- ---- messages
 
-shown_cases : (t : Stage) (m0 m : PlacedMessage) (got later : List PlacedMessage) (k : ℕ) → got ≡ shown_at t m0 ++ later
+pub shown_cases : (t : Stage) (m0 m : PlacedMessage) (got later : List PlacedMessage) (k : ℕ) → got ≡ shown_at t m0 ++ later
     → get_elem? got k ≡ some m → (m0 ≡ m) ⊎ ((k' : ℕ) × (get_elem? later k' ≡ some m))
 shown_cases Moved m0 m got later k e at = inr (k, subst (λ l. get_elem? l k ≡ some m) e at)
 shown_cases Padded m0 m got later k e at = inr (k, subst (λ l. get_elem? l k ≡ some m) e at)
@@ -100,7 +101,7 @@ shown_cases (Stored Committed) m0 m got later zero e at =
     inl (some-injective m0 m (subst (λ l. get_elem? l 0 ≡ some m) e at))
 shown_cases (Stored Committed) m0 m got later (suc k) e at = inr (k, subst (λ l. get_elem? l (suc k) ≡ some m) e at)
 
-none_of : {A : Type 0} (got : List PlacedMessage) (k : ℕ) (m : PlacedMessage) → got ≡ [] → get_elem? got k ≡ some m → A
+pub none_of : {A : Type 0} (got : List PlacedMessage) (k : ℕ) (m : PlacedMessage) → got ≡ [] → get_elem? got k ≡ some m → A
 none_of got k m e at = absurd (some-ne-none m (sym (subst (λ l. get_elem? l k ≡ some m) e at)))
 
 -- a settled claim's header is stored
@@ -114,7 +115,7 @@ pub record ShowsBody (s e : ℕ) (cs : List StagedClaim) (m : PlacedMessage) (at
   pub above : e ≤ m.place
   pub below : m.place + 8 + at < s
   pub aligned : m.place % 8 ≡ 0
-  pub word : staged_word_at cs (m.place + 8 + at) ≡ body_word m.message.body at
+  pub word : staged_word_at in_words cs (m.place + 8 + at) ≡ body_word m.message.body at
 
 pub shows_body : (C s e : ℕ) (cs : List StagedClaim) (got : List PlacedMessage) (k : ℕ) (m : PlacedMessage) (at : ℕ)
     → IsLap C → StandFrom C e cs → Reaches s e cs got → get_elem? got k ≡ some m → at < length m.message.body
@@ -140,8 +141,8 @@ shows_body C s e (c ∷ cs) got k m at lap stand r g lt =
       above = omega arith;
       below = omega arith;
       aligned = aligned.0;
-      word = ap (λ b. cond b (staged_word c q) (staged_word_at cs q)) (lt-ltb q (claim_end c) (omega arith))
-          ∙ staged_word-stored c q at (stored_of c.stage a.0) refl;
+      word = ap (λ b. cond b (staged_word in_words c q) (staged_word_at in_words cs q)) (lt-ltb q (claim_end c) (omega arith))
+          ∙ staged_word-in_words c q at (stored_of c.stage a.0) refl;
     }) lt)
     (λ (t : (k' : ℕ) × (get_elem? a.1.0 k' ≡ some m)).
     let q : ℕ = m.place + 8 + at in
@@ -152,7 +153,7 @@ shows_body C s e (c ∷ cs) got k m at lap stand r g lt =
       above = omega arith;
       below = v.below;
       aligned = v.aligned;
-      word = ap (λ b. cond b (staged_word c q) (staged_word_at cs q)) (le-ltb q (claim_end c) (omega arith)) ∙ v.word;
+      word = ap (λ b. cond b (staged_word in_words c q) (staged_word_at in_words cs q)) (le-ltb q (claim_end c) (omega arith)) ∙ v.word;
     })
     (shown_cases c.stage (placed_message c) m got a.1.0 k a.1.1 g))) r
 

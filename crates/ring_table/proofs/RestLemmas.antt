@@ -1,4 +1,5 @@
 -- What a read leaves is a history of its own, from the place of the read.
+use Rattle.ring_table.specs.Staged.{in_words}
 use Rattle.std.proofs.Common.{◌≡◌, ℕ, ◌+◌, ◌-◌, ◌≤◌, ◌<◌, List, [], ◌∷◌, ◌++◌, cond, ltb, sym, refl, ap, ◌∙◌, inl, inr, ⊎_elim, length, lt-ltb, le-ltb, arith}
 use mathlib.Core.Logic.{dite}
 use native.Mathlib.Decide.{ℕ_discrete}
@@ -31,12 +32,12 @@ stored_record Moved word stored = absurd stored
 stored_record Padded word stored = absurd stored
 stored_record (Stored s) word stored = refl
 
-here : (c : StagedClaim) (cs : List StagedClaim) (p : ℕ) → p < claim_end c → staged_word_at (c ∷ cs) p ≡ staged_word c p
-here c cs p lt = ap (λ b. cond b (staged_word c p) (staged_word_at cs p)) (lt-ltb p (claim_end c) lt)
+here : (c : StagedClaim) (cs : List StagedClaim) (p : ℕ) → p < claim_end c → staged_word_at in_words (c ∷ cs) p ≡ staged_word in_words c p
+here c cs p lt = ap (λ b. cond b (staged_word in_words c p) (staged_word_at in_words cs p)) (lt-ltb p (claim_end c) lt)
 
 -- if all headers are stored, the two pictures are one
 pub staged_word_at-claims_of : (C e : ℕ) (cs : List StagedClaim) (p : ℕ) → ArePlaced C e cs → AreStored cs
-    → staged_word_at cs p ≡ word_at C e (unplaced cs) p
+    → staged_word_at in_words cs p ≡ word_at C e (unplaced cs) p
 unfolding word_at
 staged_word_at-claims_of C e [] p placed stored = refl
 staged_word_at-claims_of C e (c ∷ cs) p placed stored =
@@ -44,27 +45,27 @@ staged_word_at-claims_of C e (c ∷ cs) p placed stored =
     let place : ℕ = next_place C e (staged_span c) in
     let place_is : c.place ≡ place = placed.0.place in
     let rest : unplaced (c ∷ cs) ≡ claim_of c ∷ unplaced cs = refl in
-    elim (cases_lt p c.place) as (λ _. staged_word_at (c ∷ cs) p ≡ word_at C e (claim_of c ∷ unplaced cs) p) [
+    elim (cases_lt p c.place) as (λ _. staged_word_at in_words (c ∷ cs) p ≡ word_at C e (claim_of c ∷ unplaced cs) p) [
       | inl in_padding ↦ here c cs p (omega arith) ∙ dite (ℕ_discrete p c.from)
           (λ same.
           let there : p ≡ e = same ∙ from_is in
-          staged_word-padding c p same in_padding ∙ stored_padding c.stage (padding_header (c.place - c.from)) stored.0
+          staged_word-padding in_words c p same in_padding ∙ stored_padding c.stage (padding_header (c.place - c.from)) stored.0
           ∙ (λ i. padding_header (place_is i - from_is i))
           ∙ sym (ap (word_at C e (claim_of c ∷ unplaced cs)) there
           ∙ word_at_padding_header C e (claim_of c) (unplaced cs) (omega arith)))
-          (λ other. staged_word-padding_behind c p other in_padding
+          (λ other. staged_word-padding_behind in_words c p other in_padding
           ∙ sym (word_at_padding C e p (claim_of c) (unplaced cs) (omega arith)
           (λ same. other (same ∙ sym from_is))))
       | inr behind_padding ↦
-          elim (cases_lt p (claim_end c)) as (λ _. staged_word_at (c ∷ cs) p
+          elim (cases_lt p (claim_end c)) as (λ _. staged_word_at in_words (c ∷ cs) p
           ≡ word_at C e (claim_of c ∷ unplaced cs) p) [
             | inl in_record ↦
-                here c cs p in_record ∙ staged_word-record c p behind_padding
+                here c cs p in_record ∙ staged_word-record in_words c p behind_padding
                 ∙ stored_record c.stage (claim_word (claim_of c) (p - c.place)) stored.0
                 ∙ ap (λ k. claim_word (claim_of c) (p - k)) place_is
                 ∙ sym (word_at_record C e p (claim_of c) (unplaced cs) (omega arith) (omega arith))
             | inr behind ↦
-                ap (λ b. cond b (staged_word c p) (staged_word_at cs p)) (le-ltb p (claim_end c) behind)
+                ap (λ b. cond b (staged_word in_words c p) (staged_word_at in_words cs p)) (le-ltb p (claim_end c) behind)
                 ∙ staged_word_at-claims_of C (claim_end c) cs p placed.1 stored.1
                 ∙ ap (λ k. word_at C (k + staged_span c) (unplaced cs) p) place_is
                 ∙ sym (word_at_rest C e p (claim_of c) (unplaced cs) (omega arith))
@@ -81,7 +82,7 @@ pub record Splits (C s e : ℕ) (cs : List StagedClaim) (got : List PlacedMessag
   pub messages : got ≡ placed_committed_of taken
   pub placed : ArePlaced C s (restarted s rest)
   pub ends : staged_end s (restarted s rest) ≡ staged_end e cs
-  pub words : (p : ℕ) → s ≤ p → staged_word_at cs p ≡ staged_word_at (restarted s rest) p
+  pub words : (p : ℕ) → s ≤ p → staged_word_at in_words cs p ≡ staged_word_at in_words (restarted s rest) p
 
 pub splits : (C s e : ℕ) (cs : List StagedClaim) (got : List PlacedMessage) → 128 ≤ C → ArePlaced C e cs
     → Reaches s e cs got → Splits C s e cs got
@@ -102,7 +103,7 @@ splits C s e (c ∷ cs) got big placed r =
     let short = lies.message.short in
     let n : ℕ = length c.message.body in
     let d : StagedClaim = record { from = s; place = c.place; message = c.message; stage = c.stage } in
-    let left : got ≡ [] → c.place ≡ next_place C s a → ((p : ℕ) → s ≤ p → staged_word c p ≡ staged_word d p)
+    let left : got ≡ [] → c.place ≡ next_place C s a → ((p : ℕ) → s ≤ p → staged_word in_words c p ≡ staged_word in_words d p)
     → Splits C s e (c ∷ cs) got =
     λ none place plain. record {
       taken = [];
@@ -112,7 +113,7 @@ splits C s e (c ∷ cs) got big placed r =
       messages = none;
       placed = (record { from = refl; place = place; message = lies.message }, placed.1);
       ends = refl;
-      words = λ p le. ap (λ k. cond (ltb p (claim_end c)) k (staged_word_at cs p)) (plain p le);
+      words = λ p le. ap (λ k. cond (ltb p (claim_end c)) k (staged_word_at in_words cs p)) (plain p le);
     } in
     ⊎_elim
     (λ alt.
@@ -120,14 +121,14 @@ splits C s e (c ∷ cs) got big placed r =
     let same : c ≡ d =
     λ i. record { from = (lies.from ∙ sym at) i; place = c.place; message = c.message; stage = c.stage } in
     left alt.1 (lies.place ∙ ap (λ k. next_place C k a) (sym at))
-    (λ p le. ap (λ (x : StagedClaim). staged_word x p) same))
+    (λ p le. ap (λ (x : StagedClaim). staged_word in_words x p) same))
     (⊎_elim
     (λ alt.
     let at : s ≡ c.place = alt.0 in
     left alt.2
     (lies.place ∙ sym (next_fixed C e a (omega arith) (omega arith))
     ∙ ap (λ k. next_place C k a) (sym (at ∙ lies.place)))
-    (λ p le. staged_word-record c p (omega arith) ∙ sym (staged_word-record d p (omega arith))))
+    (λ p le. staged_word-record in_words c p (omega arith) ∙ sym (staged_word-record in_words d p (omega arith))))
     (λ alt.
     let later : List PlacedMessage = alt.1.0 in
     let bounds = reach_bounds C s (claim_end c) cs later placed.1 alt.1.2 in
@@ -141,7 +142,7 @@ splits C s e (c ∷ cs) got big placed r =
       messages = alt.1.1 ∙ ap (λ l. shown_at c.stage (placed_message c) ++ l) t.messages;
       placed = t.placed;
       ends = t.ends;
-      words = λ p le. ap (λ b. cond b (staged_word c p) (staged_word_at cs p)) (le-ltb p (claim_end c) (omega arith))
+      words = λ p le. ap (λ b. cond b (staged_word in_words c p) (staged_word_at in_words cs p)) (le-ltb p (claim_end c) (omega arith))
           ∙ t.words p le;
     })) r
 

@@ -1,4 +1,5 @@
 -- The steps on the head cache, the correlation counter and the heartbeat keep the rule.
+use Rattle.ring_table.specs.Staged.{Bodies}
 use Rattle.std.proofs.Common.{◌≡◌, ℕ, ◌+◌, ◌%◌, ◌^◌, ◌≤◌, ◌<◌, List, [], ◌∷◌, ◌++◌, true, set, get_or, slice_index, sym, refl, ap, ◌∙◌, subst, length, length-append, get_or-set_other, get_or-set_same, max, arith}
 use mathlib.Core.Option.{some}
 use Rattle.atomic_table.specs.Table.{keeps, Allows}
@@ -16,9 +17,9 @@ use Rattle.ring_table.proofs.MemoryLemmas.{head_bounds, memory_elsewhere}
 use Rattle.ring_table.proofs.ServiceLemmas.{rising_append, times_drawn-more, heartbeats_append, served_draw_more, served_heartbeat_more}
 use Rattle.ring_table.proofs.LoadLemmas.{Ok, looked, sees}
 
-module _ (C start : ℕ) where
+module _ (B : Bodies) (C start : ℕ) where
   pub loads_cache : (slots id : ℕ) (me : Mine) → me.0.capacity ≡ C
-      → Allows (Ok C start) slots id me (head_cache_index C) (λ n. n)
+      → Allows (Ok B C start) slots id me (head_cache_index C) (λ n. n)
       (λ n me'. (me'.1 ≡ me.1) × LoadsCache me.0.capacity me.0 n me'.0 × Logs (head_cache_index C) n me.0 me'.0)
   loads_cache slots id me cap s r wide at small =
       let v : View = me.0 in
@@ -27,12 +28,12 @@ module _ (C start : ℕ) where
       let k = r.seated.each id v at in
       let seen = k.head_seen in
       let limit = r.memory.limit in
-      let bounds = head_bounds C start r.lawful s.words r.consumer (all_of r.hist) r.memory in
+      let bounds = head_bounds B C start r.lawful s.words r.consumer (all_of r.hist) r.memory in
       let below = bounds.1 in (
         logged (head_cache_index C) n (with_producer (with_head (max v.producer.seen_head n) v.producer) v),
         keeps,
         tt,
-        sees C start s.words s.views r id (head_cache_index C) v at v.producer.seen_tail (max v.producer.seen_head n) _
+        sees B C start s.words s.views r id (head_cache_index C) v at v.producer.seen_tail (max v.producer.seen_head n) _
             (omega arith) k.tail_seen (omega arith),
         (
           refl,
@@ -48,7 +49,7 @@ module _ (C start : ℕ) where
       )
 
   pub stores_cache : (slots id value : ℕ) (me : Mine) → value ≤ me.0.producer.seen_head
-      → Allows (Ok C start) slots id me (head_cache_index C) (λ _. value) (λ _ me'. (me'.1 ≡ me.1) × (me'.0 ≡ me.0))
+      → Allows (Ok B C start) slots id me (head_cache_index C) (λ _. value) (λ _ me'. (me'.1 ≡ me.1) × (me'.0 ≡ me.0))
   stores_cache slots id value me le s r wide at small =
       let v : View = me.0 in
       let i : ℕ = head_cache_index C in
@@ -58,13 +59,13 @@ module _ (C start : ℕ) where
         v,
         keeps,
         tt,
-        subst (Kept C start (set s.words i value)) (sym (set_again s.views id v at)) (record {
+        subst (Kept B C start (set s.words i value)) (sym (set_again s.views id v at)) (record {
           lawful = r.lawful;
           hist = r.hist;
           reader = r.reader;
           consumer = r.consumer;
           drawn = r.drawn;
-          memory = memory_elsewhere C start r.lawful s.words r.consumer (all_of r.hist) r.memory i value (omega arith)
+          memory = memory_elsewhere B C start r.lawful s.words r.consumer (all_of r.hist) r.memory i value (omega arith)
               (λ e. omega arith) (λ e. omega arith) r.consumer.heartbeats;
           service = record {
             cache = omega arith;
@@ -80,7 +81,7 @@ module _ (C start : ℕ) where
       )
 
   pub draws_id : (slots id : ℕ) (me : Mine) → 0 < me.0.producer.shares
-      → Allows (Ok C start) slots id me (correlation_index C) (λ n. (n + 1) % 2 ^ 64)
+      → Allows (Ok B C start) slots id me (correlation_index C) (λ n. (n + 1) % 2 ^ 64)
       (λ n me'. (me'.1 ≡ me.1) × DrawsId me.0 n me'.0)
   draws_id slots id me rich s r wide at small =
       let v : View = me.0 in
@@ -100,8 +101,8 @@ module _ (C start : ℕ) where
         w,
         keeps,
         tt,
-        becomes C start s.words s.views r id v at (set s.words i value) r.hist r.consumer (k + 1) w (record {
-          memory = memory_elsewhere C start r.lawful s.words r.consumer (all_of r.hist) r.memory i value (omega arith)
+        becomes B C start s.words s.views r id v at (set s.words i value) r.hist r.consumer (k + 1) w (record {
+          memory = memory_elsewhere B C start r.lawful s.words r.consumer (all_of r.hist) r.memory i value (omega arith)
               (λ e. omega arith) (λ e. omega arith) r.consumer.heartbeats;
           service = record {
             cache = omega arith;
@@ -133,7 +134,7 @@ module _ (C start : ℕ) where
       )
 
   pub loads_heartbeat : (slots id : ℕ) (me : Mine) → me.0.capacity ≡ C → 0 < me.0.producer.shares
-      → Allows (Ok C start) slots id me (heartbeat_index C) (λ n. n)
+      → Allows (Ok B C start) slots id me (heartbeat_index C) (λ n. n)
       (λ n me'. (me'.1 ≡ me.1) × LoadsHeartbeat me.0.capacity me.0 n me'.0 × Logs (heartbeat_index C) n me.0 me'.0)
   loads_heartbeat slots id me cap rich s r wide at small =
       let v : View = me.0 in
@@ -145,7 +146,7 @@ module _ (C start : ℕ) where
         w,
         keeps,
         tt,
-        looked C start s.words s.views r id i v w at
+        looked B C start s.words s.views r id i v w at
             (knows_served own r.drawn v.producer.shares w.producer.service w.log rich (
               record {
                 draws = own.served.0.draws;
@@ -167,7 +168,7 @@ module _ (C start : ℕ) where
       )
 
   pub stores_heartbeat : (slots id value : ℕ) (me : Mine) → me.0.consumes ≡ true
-      → Allows (Ok C start) slots id me (heartbeat_index C) (λ _. value)
+      → Allows (Ok B C start) slots id me (heartbeat_index C) (λ _. value)
       (λ _ me'. (me'.1 ≡ me.1) × (me'.0 ≡ with_consumer (beaten value me.0.consumer) me.0))
   stores_heartbeat slots id value me consumes s r wide at small =
       let v : View = me.0 in
@@ -185,8 +186,8 @@ module _ (C start : ℕ) where
         w,
         keeps,
         tt,
-        becomes C start s.words s.views r id v at (set s.words i value) r.hist now r.drawn w (record {
-          memory = memory_elsewhere C start r.lawful s.words r.consumer (all_of r.hist) r.memory i value (omega arith)
+        becomes B C start s.words s.views r id v at (set s.words i value) r.hist now r.drawn w (record {
+          memory = memory_elsewhere B C start r.lawful s.words r.consumer (all_of r.hist) r.memory i value (omega arith)
               (λ e. omega arith) (λ e. omega arith) (old ++ value ∷ []);
           service = record {
             cache = omega arith;

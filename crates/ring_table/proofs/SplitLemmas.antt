@@ -1,4 +1,5 @@
 -- Seats that are cut in two, or put together.
+use Rattle.ring_table.specs.Staged.{Bodies}
 use Rattle.std.proofs.Common.{◌≡◌, ◌≢◌, ℕ, ◌+◌, ◌-◌, ◌≤◌, ◌<◌, List, [], ◌∷◌, ◌++◌, true, false, set, sym, refl, ap, ◌∙◌, subst, ⊎_elim, length, length-set, length-append, max, arith}
 use mathlib.Core.Option.{some}
 use mathlib.Core.Logic.{dite}
@@ -154,9 +155,9 @@ module _ (top : ℕ) (hist : OwnedHistory) (reader : ℕ) (consumer : ConsumerVi
             total-met f views id other v w both spent at there (meet.drawn x) refl ∙ s.once x;
       }
 
-module _ (C start : ℕ) where
-  reseat : (words : List ℕ) (views views' : List View) (r : Kept C start words views) (reader : ℕ)
-      → IsSeated (staged_end start (all_of r.hist)) r.hist reader r.consumer r.drawn views' → Kept C start words views'
+module _ (B : Bodies) (C start : ℕ) where
+  reseat : (words : List ℕ) (views views' : List View) (r : Kept B C start words views) (reader : ℕ)
+      → IsSeated (staged_end start (all_of r.hist)) r.hist reader r.consumer r.drawn views' → Kept B C start words views'
   reseat words views views' r reader seated =
       record {
         lawful = r.lawful;
@@ -171,7 +172,7 @@ module _ (C start : ℕ) where
       }
 
   pub splits_consumer : (id : ℕ) (v : View) → v.consumes ≡ true
-      → Splits (λ (s : State Wanted View). Kept C start s.words s.views) id v (without_consumer v) (consumer_alone v)
+      → Splits (λ (s : State ℕ View). Kept B C start s.words s.views) id v (without_consumer v) (consumer_alone v)
   splits_consumer id v consumes s r at =
       let own = r.seated.each id v at in
       let mine = own.consumes consumes in
@@ -190,7 +191,7 @@ module _ (C start : ℕ) where
       }))
 
   pub splits_producer : (id : ℕ) (v : View) → 1 < v.producer.shares
-      → Splits (λ (s : State Wanted View). Kept C start s.words s.views) id v (without_share v) (producer_alone v)
+      → Splits (λ (s : State ℕ View). Kept B C start s.words s.views) id v (without_share v) (producer_alone v)
   splits_producer id v rich s r at =
       let own = r.seated.each id v at in
       let shares : ℕ = v.producer.shares in
@@ -209,7 +210,7 @@ module _ (C start : ℕ) where
       }))
 
   pub joins_consumer : (id : ℕ) (v : View) (other : ℕ) (w : View) → w.consumes ≡ true → w.producer.shares ≡ 0
-      → Joins (λ (s : State Wanted View). Kept C start s.words s.views) id v other w (with_consumer_of v w) spent
+      → Joins (λ (s : State ℕ View). Kept B C start s.words s.views) id v other w (with_consumer_of v w) spent
   joins_consumer id v other w consumes poor s r at ne there =
       let top : ℕ = staged_end start (all_of r.hist) in
       let own = r.seated.each id v at in
@@ -237,7 +238,7 @@ module _ (C start : ℕ) where
       }))
 
   pub joins_producer : (id : ℕ) (v : View) (other : ℕ) (w : View) → w.consumes ≡ false → 0 < w.producer.shares
-      → Joins (λ (s : State Wanted View). Kept C start s.words s.views) id v other w (with_producer_of v w) spent
+      → Joins (λ (s : State ℕ View). Kept B C start s.words s.views) id v other w (with_producer_of v w) spent
   joins_producer id v other w consumes rich s r at ne there =
       let h : OwnedHistory = r.hist in
       let h' : OwnedHistory = handed_over other id h in
@@ -257,7 +258,7 @@ module _ (C start : ℕ) where
         reader = r.reader;
         consumer = r.consumer;
         drawn = r.drawn;
-        memory = subst (λ l. IsMemory C start s.words l r.consumer) (sym same) r.memory;
+        memory = subst (λ l. IsMemory B C start s.words l r.consumer) (sym same) r.memory;
         service = r.service;
         seated = met top h r.reader r.consumer r.drawn s.views r.seated id other v w (with_producer_of v w)
             (staged_end start (all_of h')) h' r.reader (record { one = at; apart = ne; two = there })

@@ -1,4 +1,5 @@
 -- The places of claims.
+use Rattle.ring_table.specs.Staged.{Bodies}
 use Rattle.std.proofs.Common.{◌≡◌, ℕ, zero, suc, ◌%◌, ◌≤◌, ◌<◌, List, [], ◌∷◌, cond, length, sym, refl, ap, ◌∙◌, subst, arith, lt-ltb, le-ltb}
 use mathlib.Core.Option.{some, some-injective, some-ne-none}
 use lib.ListN.{get_elem?}
@@ -67,28 +68,28 @@ lies_in C e (y ∷ ys) (suc i) x h at =
     }
 
 -- after the claims there is 0
-pub nothing_behind : (C e : ℕ) (cs : List StagedClaim) (p : ℕ) → ArePlaced C e cs → staged_end e cs ≤ p
-    → staged_word_at cs p ≡ 0
-nothing_behind C e [] p h le = refl
-nothing_behind C e (c ∷ cs) p h le =
+pub nothing_behind : (B : Bodies) → (C e : ℕ) (cs : List StagedClaim) (p : ℕ) → ArePlaced C e cs → staged_end e cs ≤ p
+    → staged_word_at B cs p ≡ 0
+nothing_behind B C e [] p h le = refl
+nothing_behind B C e (c ∷ cs) p h le =
     let far = end_le C (claim_end c) cs h.1 in
-    ap (λ b. cond b (staged_word c p) (staged_word_at cs p)) (le-ltb p (claim_end c) (omega arith))
-    ∙ nothing_behind C (claim_end c) cs p h.1 le
+    ap (λ b. cond b (staged_word B c p) (staged_word_at B cs p)) (le-ltb p (claim_end c) (omega arith))
+    ∙ nothing_behind B C (claim_end c) cs p h.1 le
 
 -- a word inside a claim is that claim's
-pub word_of_claim : (C e : ℕ) (h : OwnedHistory) (i : ℕ) (x : ℕ × StagedClaim) (p : ℕ) → ArePlaced C e (all_of h)
-    → get_elem? h i ≡ some x → x.1.from ≤ p → p < claim_end x.1 → staged_word_at (all_of h) p ≡ staged_word x.1 p
-word_of_claim C e [] i x p h at lo hi = absurd (some-ne-none x (sym at))
-word_of_claim C e (y ∷ ys) zero x p h at lo hi =
+pub word_of_claim : (B : Bodies) → (C e : ℕ) (h : OwnedHistory) (i : ℕ) (x : ℕ × StagedClaim) (p : ℕ) → ArePlaced C e (all_of h)
+    → get_elem? h i ≡ some x → x.1.from ≤ p → p < claim_end x.1 → staged_word_at B (all_of h) p ≡ staged_word B x.1 p
+word_of_claim B C e [] i x p h at lo hi = absurd (some-ne-none x (sym at))
+word_of_claim B C e (y ∷ ys) zero x p h at lo hi =
     let same : y ≡ x = some-injective y x at in
     let near : p < claim_end y.1 = subst (λ (z : ℕ × StagedClaim). p < claim_end z.1) (sym same) hi in
-    ap (λ b. cond b (staged_word y.1 p) (staged_word_at (all_of ys) p)) (lt-ltb p (claim_end y.1) near)
-    ∙ ap (λ (z : ℕ × StagedClaim). staged_word z.1 p) same
-word_of_claim C e (y ∷ ys) (suc i) x p h at lo hi =
+    ap (λ b. cond b (staged_word B y.1 p) (staged_word_at B (all_of ys) p)) (lt-ltb p (claim_end y.1) near)
+    ∙ ap (λ (z : ℕ × StagedClaim). staged_word B z.1 p) same
+word_of_claim B C e (y ∷ ys) (suc i) x p h at lo hi =
     let there = lies_in C (claim_end y.1) ys i x h.1 at in
     let above = there.above in
-    ap (λ b. cond b (staged_word y.1 p) (staged_word_at (all_of ys) p)) (le-ltb p (claim_end y.1) (omega arith))
-    ∙ word_of_claim C (claim_end y.1) ys i x p h.1 at lo hi
+    ap (λ b. cond b (staged_word B y.1 p) (staged_word_at B (all_of ys) p)) (le-ltb p (claim_end y.1) (omega arith))
+    ∙ word_of_claim B C (claim_end y.1) ys i x p h.1 at lo hi
 
 -- the claim of this number covers the position p
 pub record Covers (h : OwnedHistory) (i : ℕ) (x : ℕ × StagedClaim) (p : ℕ) : Type 0 where

@@ -1,4 +1,5 @@
 -- The views of all seats as one of them steps.
+use Rattle.ring_table.specs.Staged.{Bodies}
 use Rattle.std.proofs.Common.{◌≡◌, ◌≢◌, ℕ, ◌+◌, ◌≤◌, ◌<◌, List, set, sym, ap, ◌∙◌, subst, length, length-set, arith}
 use mathlib.Core.Option.{some, some-injective}
 use mathlib.Core.Logic.{dite}
@@ -116,18 +117,18 @@ module _ (top : ℕ) (hist : OwnedHistory) (reader : ℕ) (consumer : ConsumerVi
       }
 
 -- one seat steps, and so do the words
-pub record Becomes (C start : ℕ) (words : List ℕ) (views : List View) (r : Kept C start words views) (id : ℕ) (v : View)
+pub record Becomes (B : Bodies) (C start : ℕ) (words : List ℕ) (views : List View) (r : Kept B C start words views) (id : ℕ) (v : View)
     (words' : List ℕ) (hist' : OwnedHistory) (consumer' : ConsumerView) (n' : ℕ) (w : View) : Type 0 where
-  pub memory : IsMemory C start words' (all_of hist') consumer'
+  pub memory : IsMemory B C start words' (all_of hist') consumer'
   pub service : IsService C words' consumer' n'
   pub steps : Steps (staged_end start (all_of r.hist)) r.hist r.reader r.consumer r.drawn views id v
       (staged_end start (all_of hist')) hist' consumer' n' w
 
-pub becomes : (C start : ℕ) (words : List ℕ) (views : List View) (r : Kept C start words views) (id : ℕ) (v : View)
+pub becomes : (B : Bodies) → (C start : ℕ) (words : List ℕ) (views : List View) (r : Kept B C start words views) (id : ℕ) (v : View)
     → get_elem? views id ≡ some v
     → (words' : List ℕ) (hist' : OwnedHistory) (consumer' : ConsumerView) (n' : ℕ) (w : View)
-    → Becomes C start words views r id v words' hist' consumer' n' w → Kept C start words' (set views id w)
-becomes C start words views r id v at words' hist' consumer' n' w now = record {
+    → Becomes B C start words views r id v words' hist' consumer' n' w → Kept B C start words' (set views id w)
+becomes B C start words views r id v at words' hist' consumer' n' w now = record {
   lawful = r.lawful;
   hist = hist';
   reader = r.reader;

@@ -1,5 +1,7 @@
 -- A producer's stores into its claims keep the rule.
-use Rattle.std.proofs.Common.{◌≡◌, ◌≢◌, ℕ, zero, suc, ◌+◌, ◌-◌, ◌/◌, ◌%◌, ◌^◌, ◌≤◌, ◌<◌, ◌⊎◌, ℤ, pos, neg_ℤ, FitsSigned, List, set, sym, refl, ap, ◌∙◌, subst, inl, inr, ⊎_elim, length, arith}
+use Rattle.ring_table.specs.Staged.{Bodies, in_words, elsewhere}
+use Rattle.std.proofs.Common.{◌≡◌, ◌≢◌, ℕ, zero, suc, ◌+◌, ◌-◌, ◌/◌, ◌%◌, ◌^◌, ◌≤◌, ◌<◌, ◌⊎◌, ℤ, pos, neg_ℤ, FitsSigned, List, cond, set, slice_index, sym, refl, ap, ◌∙◌, subst, inl, inr, ⊎_elim, length, le-ltb, arith}
+use Rattle.std.specs.Prelude.{All}
 use mathlib.Core.Option.{some}
 use mathlib.Core.Logic.{dite}
 use native.Mathlib.Decide.{ℕ_discrete}
@@ -7,15 +9,16 @@ use lib.ListN.{get_elem?}
 use Rattle.std.specs.Int.{cast_signed, w32}
 use Rattle.std.proofs.lemmas.List.{length-replicate}
 use Rattle.std.proofs.lemmas.Int.{ints}
-use Rattle.atomic_table.specs.Table.{keeps, Allows}
+use Rattle.atomic_table.specs.Table.{keeps, stepped, Allows}
 use Rattle.ring_layout.specs.declared.message.ClaimState.{ClaimState}
 use Rattle.ring_layout.specs.declared.message.ClaimState.TheVariants.{Open}
 use Rattle.ring_layout.specs.History.{IsMessage, span}
 use Rattle.ring_layout.specs.Places.{index}
 use Rattle.ring_layout.specs.Headers.{header_of, open_header, padding_header}
+use Rattle.ring_layout.proofs.PlaceLemmas.{span_bounds}
 use Rattle.ring_layout.proofs.HeaderLemmas.{len_of-header, type_of-header, fits_neg}
 use Rattle.ring_table.specs.Staged.{StagedClaim, Stage, Moved, Padded, Stored, claim_of, claim_end, staged_span, masked_padding, masked_record, staged_word, staged_word_at, staged_end, AreRising, IsStored}
-use Rattle.ring_table.specs.Changes.{blank, staged, with_header, with_body_word, changed}
+use Rattle.ring_table.specs.Changes.{blank, staged, with_body, with_header, with_body_word, changed}
 use Rattle.ring_table.specs.Owners.{OwnedHistory, all_of, edited_one, edited}
 use Rattle.ring_table.specs.Passing.{IsSettled}
 use Rattle.ring_table.specs.Views.{View, with_claims}
@@ -23,7 +26,7 @@ use Rattle.ring_table.specs.Rule.{Kept}
 use Rattle.ring_table.specs.ProducerSteps.{Mine, HasClaim, Changes, StoresPadding, StoresClaimed, StoresSettled, StoresBody, IsWordOfBody}
 use Rattle.ring_table.proofs.StagedPlaces.{word_of_claim, one_at_place, one_at_position}
 use Rattle.ring_table.proofs.BodyWords.{length-with_word, body_word-with_word, bytes_of-with_word}
-use Rattle.ring_table.proofs.StagedWords.{staged_word-header, staged_word-padding, staged_word-stored, staged_word-staged, staged_word-opened, staged_word-written}
+use Rattle.ring_table.proofs.StagedWords.{header_of-with_body, staged_word-header, staged_word-padding, staged_word-with_body, staged_word-in_words, staged_word-staged, staged_word-opened, staged_word-written}
 use Rattle.ring_table.proofs.HistoryLemmas.{MayReplace, MayReplaceAt, owned_by-edited, owned_by-edited_other, edited_one_here, get-edited, staged_end-edited, placed_edited}
 use Rattle.ring_table.proofs.OwnerLemmas.{rising_owned_by}
 use Rattle.ring_table.proofs.ReachLemmas.{Unsettled}
@@ -31,42 +34,21 @@ use Rattle.ring_table.proofs.KnowLemmas.{knows_after}
 use Rattle.ring_table.proofs.StepLemmas.{sees_top_after, becomes}
 use Rattle.ring_table.proofs.MemoryLemmas.{memory_edited, service_elsewhere, one_position, index_inside}
 use Rattle.ring_table.proofs.LoadLemmas.{HasUnsettled, Ok, stands}
-
-one_negated : (m n : ℕ) → neg_ℤ (pos m) ≡ neg_ℤ (pos n) → m ≡ n
-one_negated zero zero e = refl
-one_negated zero (suc n) e = absurd (omega (arith, ints))
-one_negated (suc m) zero e = absurd (omega (arith, ints))
-one_negated (suc m) (suc n) e = omega (arith, ints)
-
--- a claimed header says type id and length
-one_length : (type_id : ℤ) (n : ℕ) (type_id' : ℤ) (n' : ℕ) → 8 + n < 2 ^ 31 → 8 + n' < 2 ^ 31
-    → open_header type_id n ≡ open_header type_id' n' → n ≡ n'
-one_length type_id n type_id' n' small small' same =
-    let e = one_negated (8 + n) (8 + n') (sym (len_of-header (neg_ℤ (pos (8 + n))) type_id (fits_neg (8 + n) small))
-    ∙ ap (λ w. cast_signed w32 (w % 2 ^ 32)) same
-    ∙ len_of-header (neg_ℤ (pos (8 + n'))) type_id' (fits_neg (8 + n') small')) in
-    omega arith
-
-one_type : (type_id : ℤ) (n : ℕ) (type_id' : ℤ) (n' : ℕ) → FitsSigned w32 type_id → 8 + n < 2 ^ 31
-    → FitsSigned w32 type_id' → 8 + n' < 2 ^ 31 → open_header type_id n ≡ open_header type_id' n' → type_id ≡ type_id'
-one_type type_id n type_id' n' fits small fits' small' same =
-    sym (type_of-header (neg_ℤ (pos (8 + n))) type_id (fits_neg (8 + n) small) fits)
-    ∙ ap (λ w. cast_signed w32 (w / 2 ^ 32)) same
-    ∙ type_of-header (neg_ℤ (pos (8 + n'))) type_id' (fits_neg (8 + n') small') fits'
+use Rattle.ring_table.proofs.HeaderWords.{one_type, one_length}
 
 -- a word of a claim's record is at q, or one of the padding before it while only the tail was moved
-record IsWordOf (c : StagedClaim) (q : ℕ) : Type 0 where
+pub record IsWordOf (c : StagedClaim) (q : ℕ) : Type 0 where
   pub whole : q % 8 ≡ 0
   pub from : c.from ≤ q
   pub below : q < claim_end c
   pub late : (c.place ≤ q) ⊎ (c.stage ≡ Moved)
 
 -- a claim d may be in the place of c once the word at q has this value, and no other word changes
-record Rewords (C : ℕ) (c d : StagedClaim) (q value : ℕ) : Type 0 where
+record Rewords (B : Bodies) (C : ℕ) (c d : StagedClaim) (q value : ℕ) : Type 0 where
   pub may : MayReplace C c d
   pub goes : c.stage ≢ Moved → d.stage ≢ Moved
-  pub word : staged_word d q ≡ value
-  pub others : (p : ℕ) → p % 8 ≡ 0 → p ≢ q → staged_word d p ≡ staged_word c p
+  pub word : staged_word B d q ≡ value
+  pub others : (p : ℕ) → p % 8 ≡ 0 → p ≢ q → staged_word B d p ≡ staged_word B c p
 
 -- a message of this type id and length has the span of the claim
 pub record FillsClaim (C : ℕ) (c : StagedClaim) (type_id : ℤ) (n : ℕ) : Type 0 where
@@ -81,12 +63,12 @@ record MayFollow (t u : Stage) : Type 0 where
   pub paddings : (word : ℕ) → masked_padding u word ≡ masked_padding t word
   pub records : (word : ℕ) → masked_record u word ≡ masked_record t word
 
-module _ (C start : ℕ) where
+module _ (B : Bodies) (C start : ℕ) where
   -- a word of an own claim that is not settled is stored
-  edits : (words : List ℕ) (views : List View) (r : Kept C start words views) (id : ℕ) (v : View) (k : ℕ)
-      (c : StagedClaim) → HasUnsettled C start views id v k c → (f : StagedClaim → StagedClaim) (q value : ℕ)
-      → IsWordOf c q → Rewords C c (f c) q value
-      → Kept C start (set words (index C q) value) (set views id (with_claims (changed c.place f v.producer.claims) v))
+  edits : (words : List ℕ) (views : List View) (r : Kept B C start words views) (id : ℕ) (v : View) (k : ℕ)
+      (c : StagedClaim) → HasUnsettled B C start views id v k c → (f : StagedClaim → StagedClaim) (q value : ℕ)
+      → IsWordOf c q → Rewords B C c (f c) q value
+      → Kept B C start (set words (index C q) value) (set views id (with_claims (changed c.place f v.producer.claims) v))
   edits words views r id v k c has f q value is edit =
       let at = has.seat in
       let may = edit.may in
@@ -94,7 +76,7 @@ module _ (C start : ℕ) where
       let p : ℕ = c.place in
       let h' : OwnedHistory = edited id p f h in
       let w : View = with_claims (changed p f v.producer.claims) v in
-      let st = stands C start words views r id v k c has in
+      let st = stands B C start words views r id v k c has in
       let lo = is.from in
       let hi = is.below in
       let below = st.lies.below in
@@ -116,22 +98,22 @@ module _ (C start : ℕ) where
       let tops : staged_end start (all_of h') ≡ top = staged_end-edited id p f C start h may_all in
       let placed' = placed_edited id p f C start h may_all m.placed in
       let is_here = edited_one_here id p f c refl in
-      let word_now : staged_word_at (all_of h') q ≡ value =
-      word_of_claim C start h' st.nth (edited_one id p f (id, c)) q placed'
+      let word_now : staged_word_at B (all_of h') q ≡ value =
+      word_of_claim B C start h' st.nth (edited_one id p f (id, c)) q placed'
       (get-edited id p f h st.nth (id, c) st.there)
       (subst (λ (z : StagedClaim). z.from ≤ q) (sym is_here) (let same = may.from in omega arith))
       (subst (λ (z : StagedClaim). q < claim_end z) (sym is_here)
       (let place = may.place in let long = may.same_span in omega arith))
-      ∙ ap (λ (z : StagedClaim). staged_word z q) is_here ∙ edit.word in
-      let inside = index_inside C start r.lawful q in
-      becomes C start words views r id v at (set words (index C q) value) h' r.consumer r.drawn w (record {
-        memory = memory_edited C start r.lawful words r.consumer h m id p f q value is.whole low (omega arith) (record {
+      ∙ ap (λ (z : StagedClaim). staged_word B z q) is_here ∙ edit.word in
+      let inside = index_inside B C start r.lawful q in
+      becomes B C start words views r id v at (set words (index C q) value) h' r.consumer r.drawn w (record {
+        memory = memory_edited B C start r.lawful words r.consumer h m id p f q value is.whole low (omega arith) (record {
           may = may_all;
           unsettled = un_all;
           word = word_now;
-          others = only (λ d. (i : ℕ) → i % 8 ≡ 0 → i ≢ q → staged_word (f d) i ≡ staged_word d i) edit.others;
+          others = only (λ d. (i : ℕ) → i % 8 ≡ 0 → i ≢ q → staged_word B (f d) i ≡ staged_word B d i) edit.others;
         });
-        service = service_elsewhere C start r.lawful words r.consumer r.drawn r.service (index C q) value (record {
+        service = service_elsewhere B C start r.lawful words r.consumer r.drawn r.service (index C q) value (record {
           cache = λ e. omega arith;
           correlation = λ e. omega arith;
           heartbeat = λ e. omega arith;
@@ -160,18 +142,18 @@ module _ (C start : ℕ) where
         };
       })
 
-  rising : (words : List ℕ) (views : List View) (r : Kept C start words views) (id : ℕ) (v : View)
+  pub rising : (words : List ℕ) (views : List View) (r : Kept B C start words views) (id : ℕ) (v : View)
       → get_elem? views id ≡ some v → AreRising v.producer.claims
   rising words views r id v at =
       subst AreRising (sym (r.seated.each id v at).claims) (rising_owned_by C start id r.hist r.memory.placed)
 
   -- two claims of a view that are not settled and have a word with one index at positions of theirs are at one place
-  same_place : (words : List ℕ) (views : List View) (r : Kept C start words views) (id : ℕ) (v : View) (k k' : ℕ)
-      (c c' : StagedClaim) → HasUnsettled C start views id v k c → HasUnsettled C start views id v k' c' → (q q' : ℕ)
+  pub same_place : (words : List ℕ) (views : List View) (r : Kept B C start words views) (id : ℕ) (v : View) (k k' : ℕ)
+      (c c' : StagedClaim) → HasUnsettled B C start views id v k c → HasUnsettled B C start views id v k' c' → (q q' : ℕ)
       → IsWordOf c q → IsWordOf c' q' → index C q' ≡ index C q → (c'.place ≡ c.place) × (q' ≡ q)
   same_place words views r id v k k' c c' has has' q q' is is' same =
-      let st = stands C start words views r id v k c has in
-      let st' = stands C start words views r id v k' c' has' in
+      let st = stands B C start words views r id v k c has in
+      let st' = stands B C start words views r id v k' c' has' in
       let lo = is.from in
       let hi = is.below in
       let lo' = is'.from in
@@ -188,7 +170,7 @@ module _ (C start : ℕ) where
       (λ (a : c.stage ≡ Moved). let padding = st.padding_behind a in omega arith) is.late in
       let low' : r.consumer.scan ≤ q' = ⊎_elim (λ (a : c'.place ≤ q'). omega arith)
       (λ (a : c'.stage ≡ Moved). let padding = st'.padding_behind a in omega arith) is'.late in
-      let one : q' ≡ q = one_position C start r.lawful r.consumer.head q' q
+      let one : q' ≡ q = one_position B C start r.lawful r.consumer.head q' q
       (record { whole = is'.whole; from = omega arith; below = omega arith })
       (record { whole = is.whole; from = omega arith; below = omega arith }) same in (
         ap (λ (z : ℕ × StagedClaim). z.1.place)
@@ -199,23 +181,23 @@ module _ (C start : ℕ) where
       )
 
   -- the header of a claim that is not settled is a word of its record
-  header_lies : (words : List ℕ) (views : List View) (r : Kept C start words views) (id : ℕ) (v : View) (k : ℕ)
-      (c : StagedClaim) → HasUnsettled C start views id v k c → IsWordOf c c.place
+  pub header_lies : (words : List ℕ) (views : List View) (r : Kept B C start words views) (id : ℕ) (v : View) (k : ℕ)
+      (c : StagedClaim) → HasUnsettled B C start views id v k c → IsWordOf c c.place
   header_lies words views r id v k c has =
-      let st = stands C start words views r id v k c has in
+      let st = stands B C start words views r id v k c has in
       let padded = st.lies.padded in
       record { whole = st.place_aligned; from = padded; below = omega arith; late = inl (omega arith) }
 
   -- the header of a claim at the stage t is stored, and it is f of the claim from then on
   header_step : (t : Stage) → (IsSettled t → ⊥) → (f : StagedClaim → StagedClaim) → (slots id : ℕ) (me : Mine)
       → me.0.capacity ≡ C → (k : ℕ) (c : StagedClaim) (value : ℕ) → HasClaim me.0 k c → c.stage ≡ t
-      → (c.place % 8 ≡ 0 → Rewords C c (f c) c.place value)
-      → Allows (Ok C start) slots id me (index C c.place) (λ _. value)
+      → (c.place % 8 ≡ 0 → Rewords B C c (f c) c.place value)
+      → Allows (Ok B C start) slots id me (index C c.place) (λ _. value)
       (λ _ me'. (me'.1 ≡ me.1) × Changes t (λ d. d.place) f (index C c.place) me.0 me'.0
       × AreRising me.0.producer.claims)
   header_step t un f slots id me cap k c value has is edit s r wide at small =
       let v : View = me.0 in
-      let mine : HasUnsettled C start s.views id v k c =
+      let mine : HasUnsettled B C start s.views id v k c =
       record { seat = at; claim = has; unsettled = λ z. un (subst IsSettled is z) } in
       let header = header_lies s.words s.views r id v k c mine in (
         with_claims (changed c.place f v.producer.claims) v,
@@ -225,7 +207,7 @@ module _ (C start : ℕ) where
         (
           refl,
           (λ k' c' has' is' same.
-              let other : HasUnsettled C start s.views id v k' c' =
+              let other : HasUnsettled B C start s.views id v k' c' =
               record { seat = at; claim = has'; unsettled = λ z. un (subst IsSettled is' z) } in
               ap (λ p. with_claims (changed p f v.producer.claims) v)
               (sym (same_place s.words s.views r id v k k' c c' mine other c.place c'.place header
@@ -238,15 +220,15 @@ module _ (C start : ℕ) where
   stage_step : (t u : Stage) → MayFollow t u → (slots id : ℕ) (me : Mine) → me.0.capacity ≡ C
       → (k : ℕ) (c : StagedClaim) (value : ℕ) → HasClaim me.0 k c → c.stage ≡ t
       → value ≡ masked_record u (header_of (claim_of (staged u c)))
-      → Allows (Ok C start) slots id me (index C c.place) (λ _. value)
+      → Allows (Ok B C start) slots id me (index C c.place) (λ _. value)
       (λ _ me'. (me'.1 ≡ me.1) × Changes t (λ d. d.place) (staged u) (index C c.place) me.0 me'.0
       × AreRising me.0.producer.claims)
   stage_step t u on slots id me cap k c value has is value_is =
       header_step t on.unsettled (staged u) slots id me cap k c value has is (λ place8. record {
         may = record { from = refl; place = refl; same_span = refl; message = λ m. m };
         goes = λ _. on.stays;
-        word = staged_word-header (staged u c) c.place refl ∙ sym value_is;
-        others = λ p p8 ne. staged_word-staged c u p p8 place8 ne
+        word = staged_word-header B (staged u c) c.place refl ∙ sym value_is;
+        others = λ p p8 ne. staged_word-staged B c u p p8 place8 ne
             (λ word. on.records word ∙ ap (λ z. masked_record z word) (sym is))
             (λ _. on.paddings (padding_header (c.place - c.from))
             ∙ ap (λ z. masked_padding z (padding_header (c.place - c.from))) (sym is));
@@ -254,20 +236,20 @@ module _ (C start : ℕ) where
 
   pub settles : (u : ClaimState) (slots id : ℕ) (me : Mine) → me.0.capacity ≡ C → (k : ℕ) (c : StagedClaim) (value : ℕ)
       → HasClaim me.0 k c → c.stage ≡ Stored Open → value ≡ header_of (record { message = c.message; state = u })
-      → Allows (Ok C start) slots id me (index C c.place) (λ _. value)
+      → Allows (Ok B C start) slots id me (index C c.place) (λ _. value)
       (λ _ me'. (me'.1 ≡ me.1) × StoresSettled u (index C c.place) me.0 me'.0 × AreRising me.0.producer.claims)
   settles u = stage_step (Stored Open) (Stored u)
       (record { unsettled = λ z. z; stays = λ e. cc; paddings = λ _. refl; records = λ _. refl })
 
   pub pads : (slots id : ℕ) (me : Mine) → me.0.capacity ≡ C → (k : ℕ) (c : StagedClaim) (value : ℕ) → HasClaim me.0 k c
       → c.stage ≡ Moved → c.from < c.place → value ≡ padding_header (c.place - c.from)
-      → Allows (Ok C start) slots id me (index C c.from) (λ _. value)
+      → Allows (Ok B C start) slots id me (index C c.from) (λ _. value)
       (λ _ me'. (me'.1 ≡ me.1) × StoresPadding (index C c.from) me.0 me'.0 × AreRising me.0.producer.claims)
   pads slots id me cap k c value has is wraps value_is s r wide at small =
       let v : View = me.0 in
-      let mine : HasUnsettled C start s.views id v k c =
+      let mine : HasUnsettled B C start s.views id v k c =
       record { seat = at; claim = has; unsettled = λ z. subst IsSettled is z } in
-      let st = stands C start s.words s.views r id v k c mine in
+      let st = stands B C start s.words s.views r id v k c mine in
       let place8 = st.place_aligned in
       let padding : IsWordOf c c.from =
       record { whole = st.from_aligned; from = omega arith; below = omega arith; late = inr is } in (
@@ -277,19 +259,19 @@ module _ (C start : ℕ) where
         edits s.words s.views r id v k c mine (staged Padded) c.from value padding (record {
           may = record { from = refl; place = refl; same_span = refl; message = λ m. m };
           goes = λ _ e. cc;
-          word = staged_word-padding (staged Padded c) c.from refl wraps ∙ sym value_is;
+          word = staged_word-padding B (staged Padded c) c.from refl wraps ∙ sym value_is;
           others = λ p p8 ne. dite (ℕ_discrete p c.place)
-              (λ e. staged_word-header (staged Padded c) p e
-              ∙ sym (staged_word-header c p e ∙ ap (λ z. masked_record z (header_of (claim_of c))) is))
-              (λ other. staged_word-staged c Padded p p8 place8 other
+              (λ e. staged_word-header B (staged Padded c) p e
+              ∙ sym (staged_word-header B c p e ∙ ap (λ z. masked_record z (header_of (claim_of c))) is))
+              (λ other. staged_word-staged B c Padded p p8 place8 other
               (λ word. ap (λ z. masked_record z word) (sym is)) (λ e. absurd (ne e)));
         }),
         (
           refl,
           (λ k' c' has' is' same.
-              let other : HasUnsettled C start s.views id v k' c' =
+              let other : HasUnsettled B C start s.views id v k' c' =
               record { seat = at; claim = has'; unsettled = λ z. subst IsSettled is' z } in
-              let st' = stands C start s.words s.views r id v k' c' other in
+              let st' = stands B C start s.words s.views r id v k' c' other in
               let padded' = st'.lies.padded in
               ap (λ p. with_claims (changed p (staged Padded) v.producer.claims) v)
               (sym (same_place s.words s.views r id v k k' c c' mine other c.from c'.from padding
@@ -302,7 +284,7 @@ module _ (C start : ℕ) where
   -- the claimed header fixes type id and length
   pub opens : (slots id : ℕ) (me : Mine) → me.0.capacity ≡ C → (k : ℕ) (c : StagedClaim) (type_id : ℤ) (n value : ℕ)
       → value ≡ open_header type_id n → HasClaim me.0 k c → c.stage ≡ Padded → FillsClaim C c type_id n
-      → Allows (Ok C start) slots id me (index C c.place) (λ _. value)
+      → Allows (Ok B C start) slots id me (index C c.place) (λ _. value)
       (λ _ me'. (me'.1 ≡ me.1) × StoresClaimed (index C c.place) value me.0 me'.0 × AreRising me.0.producer.claims)
   opens slots id me cap k c type_id n value value_is has is fills s r wide at small =
       let big = fills.most in
@@ -312,9 +294,9 @@ module _ (C start : ℕ) where
       let t = header_step Padded (λ z. z) (with_header type_id n) slots id me cap k c value has is (λ place8. record {
         may = record { from = refl; place = refl; same_span = ap span zeros ∙ fills.span_is; message = λ _. lawful };
         goes = λ _ e. cc;
-        word = staged_word-header (with_header type_id n c) c.place refl ∙ ap (open_header type_id) zeros
+        word = staged_word-header B (with_header type_id n c) c.place refl ∙ ap (open_header type_id) zeros
             ∙ sym value_is;
-        others = λ p p8 ne. staged_word-opened c type_id n p p8 place8 ne is;
+        others = λ p p8 ne. staged_word-opened B c type_id n p p8 place8 ne is;
       }) s r wide at small in (
         t.0,
         t.1,
@@ -332,16 +314,73 @@ module _ (C start : ℕ) where
         ),
       )
 
+-- where bodies lie elsewhere, an own open claim may have another body of the same length, since no word shows it. The
+-- step loads the claim's header
+module _ (C start : ℕ) where
+  pub gives_body : (slots id : ℕ) (me : Mine) → me.0.capacity ≡ C → (k : ℕ) (c : StagedClaim) (body : List ℕ)
+      → HasClaim me.0 k c → c.stage ≡ Stored Open → length body ≡ length c.message.body → All (λ b. b < 256) body
+      → Allows (Ok elsewhere C start) slots id me (index C c.place) (λ n. n)
+      (λ _ me'. (me'.1 ≡ me.1)
+      × Changes (Stored Open) (λ d. d.place) (with_body body) (index C c.place) me.0 me'.0
+      × AreRising me.0.producer.claims)
+  gives_body slots id me cap k c body has is long bytes s r wide at small =
+      let v : View = me.0 in
+      let mine : HasUnsettled elsewhere C start s.views id v k c =
+      record { seat = at; claim = has; unsettled = λ z. subst IsSettled is z } in
+      let st = stands elsewhere C start s.words s.views r id v k c mine in
+      let m = r.memory in
+      let padded = st.lies.padded in
+      let below = st.lies.below in
+      let behind = st.behind_scan in
+      let place8 = st.place_aligned in
+      let from = m.clears_from in
+      let to = m.clears_to in
+      let room = m.room in
+      let p : ℕ = c.place in
+      let value : ℕ = header_of (claim_of c) in
+      let bounds = span_bounds (length c.message.body) in
+      let found : slice_index s.words (index C p) ≡ value =
+      m.shows p place8 (omega arith) (omega arith)
+      ∙ ap (λ t. cond t 0 (staged_word_at elsewhere (all_of r.hist) p)) (le-ltb p r.consumer.cleared (omega arith))
+      ∙ word_of_claim elsewhere C start r.hist st.nth (id, c) p m.placed st.there (omega arith) (omega arith)
+      ∙ staged_word-header elsewhere c p refl
+      ∙ ap (λ t. masked_record t value) is in
+      let t = header_step elsewhere C start (Stored Open) (λ z. z) (with_body body) slots id me cap k c value has is
+      (λ p8. record {
+        may = record {
+          from = refl;
+          place = refl;
+          same_span = ap span long;
+          message = λ l. record {
+            type_id = l.type_id;
+            type_fits = l.type_fits;
+            short = (let short = l.short in omega arith);
+            bytes = bytes;
+          };
+        };
+        goes = λ stays. stays;
+        word = staged_word-header elsewhere (with_body body c) p refl
+            ∙ ap (masked_record c.stage) (header_of-with_body c body long) ∙ ap (λ t. masked_record t value) is;
+        others = λ q q8 ne. staged_word-with_body c body q q8 p8 ne;
+      }) s r wide at small in (
+        t.0,
+        t.1,
+        t.2,
+        subst (λ (n : ℕ). Ok elsewhere C start (stepped s (index C p) n id me.1 t.0 t.1)) (sym found) t.3,
+        t.4,
+      )
+
+module _ (C start : ℕ) where
   pub puts : (slots id : ℕ) (me : Mine) → me.0.capacity ≡ C → (k : ℕ) (c : StagedClaim) (o value : ℕ)
       → HasClaim me.0 k c → IsWordOfBody o value c → value < 2 ^ 64
-      → Allows (Ok C start) slots id me (index C (c.place + 8 + o)) (λ _. value)
+      → Allows (Ok in_words C start) slots id me (index C (c.place + 8 + o)) (λ _. value)
       (λ _ me'. (me'.1 ≡ me.1) × StoresBody (index C (c.place + 8 + o)) value me.0 me'.0
       × AreRising me.0.producer.claims)
   puts slots id me cap k c o value has takes below_64 s r wide at small =
       let v : View = me.0 in
-      let mine : HasUnsettled C start s.views id v k c =
+      let mine : HasUnsettled in_words C start s.views id v k c =
       record { seat = at; claim = has; unsettled = λ z. subst IsSettled takes.stage z } in
-      let st = stands C start s.words s.views r id v k c mine in
+      let st = stands in_words C start s.words s.views r id v k c mine in
       let padded = st.lies.padded in
       let place8 = st.place_aligned in
       let q : ℕ = c.place + 8 + o in
@@ -354,7 +393,7 @@ module _ (C start : ℕ) where
         with_claims (changed c.place (with_body_word o value) v.producer.claims) v,
         keeps,
         tt,
-        edits s.words s.views r id v k c mine (with_body_word o value) q value word (record {
+        edits in_words C start s.words s.views r id v k c mine (with_body_word o value) q value word (record {
           may = record {
             from = refl;
             place = refl;
@@ -367,27 +406,27 @@ module _ (C start : ℕ) where
             };
           };
           goes = λ stays. stays;
-          word = staged_word-stored (with_body_word o value c) q o (subst IsStored (sym takes.stage) tt) refl
+          word = staged_word-in_words (with_body_word o value c) q o (subst IsStored (sym takes.stage) tt) refl
               ∙ body_word-with_word c.message.body o value lt below_64 takes.zeros;
-          others = λ p p8 ne. staged_word-written c o value p (omega arith) place8 o8 p8 ne;
+          others = λ p p8 ne. staged_word-written in_words c o value p (omega arith) place8 o8 p8 ne;
         }),
         (
           refl,
           (λ k' c' o' has' is' o8' lt' same.
-              let other : HasUnsettled C start s.views id v k' c' =
+              let other : HasUnsettled in_words C start s.views id v k' c' =
               record { seat = at; claim = has'; unsettled = λ z. subst IsSettled is' z } in
-              let st' = stands C start s.words s.views r id v k' c' other in
+              let st' = stands in_words C start s.words s.views r id v k' c' other in
               let padded' = st'.lies.padded in
               let place8' = st'.place_aligned in
               let n' : ℕ = length c'.message.body in
               let q' : ℕ = c'.place + 8 + o' in
-              let one = same_place s.words s.views r id v k k' c c' mine other q q' word
+              let one = same_place in_words C start s.words s.views r id v k k' c c' mine other q q' word
               (record { whole = omega arith; from = omega arith; below = omega arith; late = inl (omega arith) })
               (ap (λ z. index z q') (sym cap) ∙ same) in
               let places : c'.place ≡ c.place = one.0 in
               let positions : q' ≡ q = one.1 in
               let offsets : o ≡ o' = omega arith in
               λ i. with_claims (changed (sym places i) (with_body_word (offsets i) value) v.producer.claims) v),
-          rising s.words s.views r id v at,
+          rising in_words C start s.words s.views r id v at,
         ),
       )

@@ -3,7 +3,7 @@ use Rattle.std.specs.Prelude.{◌≡◌, ℕ, ◌/◌, ◌<◌, List, [], ◌∷
 use Rattle.ring_layout.specs.Places.{end_of}
 use Rattle.ring_layout.specs.Layout.{ring_words, tail_index, head_cache_index, head_index, correlation_index, heartbeat_index, IsUnnamed}
 use Rattle.ring_layout.specs.Picture.{IsPicture}
-use Rattle.ring_table.specs.Staged.{StagedClaim, unplaced, ArePlaced, staged_end}
+use Rattle.ring_table.specs.Staged.{in_words, StagedClaim, unplaced, ArePlaced, staged_end}
 use Rattle.ring_table.specs.Passing.{AreSettled, placed_committed_of}
 use Rattle.ring_table.specs.Services.{times_drawn, once_below, AreServed}
 use Rattle.ring_table.specs.Views.{View}
@@ -24,7 +24,7 @@ pub record IsFresh (C start : ℕ) (words : List ℕ) : Type 0 where
 pub record IsClosed (C start : ℕ) (words : List ℕ) (v : View) : Type 0 where
   pub lawful : IsLawful C start
   pub drawn : ℕ
-  pub memory : IsMemory C start words v.producer.claims v.consumer
+  pub memory : IsMemory in_words C start words v.producer.claims v.consumer
   pub service : IsService C words v.consumer drawn
   pub once : (x : ℕ) → times_drawn x v.producer ≡ once_below x drawn
   pub served : AreServed drawn v.consumer.heartbeats (v.producer.service ∷ v.producer.joined)

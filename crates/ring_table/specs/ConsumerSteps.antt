@@ -37,9 +37,17 @@ pub record FindsMessage (C scan : ℕ) (got : List PlacedMessage) (v : View) (n 
       (got ++ (record { place = scan; message = record { type_id = type_id; body = body } }) ∷ []) v
   pub inside : IsInside C scan (rounded len)
 
+-- the producer's part of the view is as it was, and the head
+pub record StaysAt (v w : View) : Type 0 where
+  pub producer : w.producer ≡ v.producer
+  pub out : w.out ≡ v.out
+  pub consumes : w.consumes ≡ v.consumes
+  pub head : w.consumer.head ≡ v.consumer.head
+
 -- what a header at the position `scan` shows a read that has come there and got these messages
 pub record LoadsHeader (C scan : ℕ) (got : List PlacedMessage) (v : View) (n : ℕ) (w : View) : Type 0 where
   pub capacity : w.capacity ≡ v.capacity
+  pub stays : StaysAt v w
   pub padding : (len : ℕ) → 0 < len → len < 2 ^ 31 → n ≡ header (pos len) padding_type
       → PassesPadding C scan got v n len w
   pub message : (len : ℕ) (type_id : ℤ) → 0 < len → len < 2 ^ 31 → FitsSigned w32 type_id → type_id ≢ padding_type

@@ -4,6 +4,7 @@ pub mod Owners
 pub mod Passing
 pub mod Services
 pub mod Views
+pub mod Shelf
 pub mod Rule
 pub mod Seats
 pub mod Closed
@@ -11,3 +12,6 @@ pub mod OpenClaims
 pub mod ProducerSteps
 pub mod ConsumerSteps
 pub mod ServiceSteps
+pub mod Ranges
+pub mod SlotSteps
+pub mod Filling

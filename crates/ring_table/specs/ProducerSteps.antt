@@ -17,7 +17,7 @@ use Rattle.ring_table.specs.Views.{View, Wanted, logged, with_producer, with_tai
 
 -- a seat's view with its slots, which a ring does not use
 abbrev pub Mine : Type 0
-Mine = Me Wanted View
+Mine = Me ℕ View
 
 pub record IsPosition (n : ℕ) : Type 0 where
   pub aligned : n % 8 ≡ 0

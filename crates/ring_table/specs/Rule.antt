@@ -1,16 +1,17 @@
 -- The rule of a shared ring, which holds between any two steps.
 use Rattle.std.specs.Prelude.{◌≡◌, ℕ, ◌+◌, ◌%◌, ◌^◌, ◌≤◌, ◌<◌, List, [], ◌∷◌, true, length, slice_index, if◌then◌else◌, nat_lt}
-use mathlib.Core.Option.{some}
+use mathlib.Core.Option.{Option, some}
 use lib.ListN.{get_elem?}
 use Rattle.ring_layout.specs.Places.{IsCapacity, index, max_position}
 use Rattle.ring_layout.specs.Layout.{ring_words, tail_index, head_cache_index, head_index, correlation_index, heartbeat_index, IsUnnamed}
-use Rattle.ring_table.specs.Staged.{StagedClaim, ArePlaced, staged_end, staged_word_at}
+use Rattle.ring_table.specs.Staged.{Bodies, StagedClaim, ArePlaced, staged_end, staged_word_at}
 use Rattle.ring_table.specs.Owners.{OwnedHistory, all_of, owned_by}
 use Rattle.ring_table.specs.Passing.{Reaches}
 use Rattle.ring_layout.specs.Lists.{total}
 use Rattle.ring_layout.specs.Refusals.{all_shares}
 use Rattle.ring_table.specs.Services.{times_drawn, once_below, AreServed}
 use Rattle.ring_table.specs.Views.{Key, ProducerView, ConsumerView, View}
+use Rattle.ring_table.specs.Shelf.{HasShelf}
 
 -- a capacity and a start that a ring may have
 pub record IsLawful (C start : ℕ) : Type 0 where
@@ -18,11 +19,12 @@ pub record IsLawful (C start : ℕ) : Type 0 where
   pub start_is : start % C ≡ 0
 
 -- the word at the position p, which is 0 below what a running read has cleared
-abbrev pub shown_word : ℕ → List StagedClaim → ℕ → ℕ
-shown_word cleared claims p = if nat_lt p cleared then 0 else staged_word_at claims p
+abbrev pub shown_word : Bodies → ℕ → List StagedClaim → ℕ → ℕ
+shown_word B cleared claims p = if nat_lt p cleared then 0 else staged_word_at B claims p
 
 -- The records, the tail and the head: the words show one history of claims, of which the consumer has passed the first
-pub record IsMemory (C start : ℕ) (words : List ℕ) (claims : List StagedClaim) (consumer : ConsumerView) : Type 0 where
+pub record IsMemory (B : Bodies) (C start : ℕ) (words : List ℕ) (claims : List StagedClaim)
+    (consumer : ConsumerView) : Type 0 where
   pub wide : length words ≡ ring_words C
   pub placed : ArePlaced C start claims
   pub tail_is : slice_index words (tail_index C) ≡ staged_end start claims
@@ -35,7 +37,7 @@ pub record IsMemory (C start : ℕ) (words : List ℕ) (claims : List StagedClai
   pub clears_to : consumer.cleared ≤ consumer.scan
   pub clears_words : consumer.cleared % 8 ≡ 0
   pub shows : (p : ℕ) → p % 8 ≡ 0 → consumer.head ≤ p → p < consumer.head + C
-      → slice_index words (index C p) ≡ shown_word consumer.cleared claims p
+      → slice_index words (index C p) ≡ shown_word B consumer.cleared claims p
 
 -- the head cache, the correlation counter, which n ids were drawn from, and the heartbeat. The trailer's other words
 -- are 0
@@ -83,15 +85,16 @@ pub record IsSeated (top : ℕ) (hist : OwnedHistory) (reader : ℕ) (consumer :
 
 -- There is one history of claims with their owners, one consumer and a number of draws: the words show them, and each
 -- view is its seat's part
-pub record Kept (C start : ℕ) (words : List ℕ) (views : List View) : Type 0 where
+pub record Kept (B : Bodies) (C start : ℕ) (words : List ℕ) (views : List View) : Type 0 where
   pub lawful : IsLawful C start
   pub hist : OwnedHistory
   pub reader : ℕ
   pub consumer : ConsumerView
   pub drawn : ℕ
-  pub memory : IsMemory C start words (all_of hist) consumer
+  pub memory : IsMemory B C start words (all_of hist) consumer
   pub service : IsService C words consumer drawn
   pub seated : IsSeated (staged_end start (all_of hist)) hist reader consumer drawn views
 
-abbrev pub Keeps : Key → List ℕ → List View → Type 0
-Keeps k = Kept k.capacity k.start
+-- the rule: that, and what the slots have
+abbrev pub Keeps : Bodies → Key → List ℕ → List (Option ℕ) → List View → Type 0
+Keeps B k words homes views = Kept B k.capacity k.start words views × HasShelf B k.capacity homes views

@@ -6,8 +6,7 @@ use Rattle.ring_layout.specs.declared.message.ClaimState.{ClaimState}
 use Rattle.ring_layout.specs.declared.message.ClaimState.TheVariants.{Open}
 use Rattle.ring_layout.specs.History.{IsMessage, span}
 use Rattle.ring_layout.specs.Places.{next_place}
-use Rattle.ring_layout.specs.Headers.{padding_header}
-use Rattle.ring_layout.specs.Picture.{claim_word}
+use Rattle.ring_layout.specs.Headers.{header_of, padding_header}
 pub use Rattle.ring_table.specs.declared.claim.StagedClaim.{StagedClaim}
 pub use Rattle.ring_table.specs.declared.claim.PlacedMessage.{PlacedMessage}
 pub use Rattle.ring_table.specs.declared.claim.Stage.{Stage}
@@ -46,20 +45,34 @@ masked_record Moved word = 0
 masked_record Padded word = 0
 masked_record (Stored s) word = word
 
+-- where the bodies of messages lie: in words of their records, or elsewhere
+pub data Bodies : Type 0 where
+  in_words : Bodies
+  elsewhere : Bodies
+
+-- the word that a record has from the byte `at` of its body on
+abbrev pub part_word : Bodies → List ℕ → ℕ → ℕ
+part_word in_words body at = from_le_bytes w64 (drop at body)
+part_word elsewhere body at = 0
+
+-- the word of a claim k bytes from its place: the header, then those of its body, if they lie there
+abbrev pub record_word : Bodies → Claim → ℕ → ℕ
+record_word B c k = if k == 0 then header_of c else part_word B c.message.body (k - 8)
+
 -- the word of a claim, or of the padding before it, at the position p
-unfoldable pub staged_word : StagedClaim → ℕ → ℕ
-staged_word c p =
+unfoldable pub staged_word : Bodies → StagedClaim → ℕ → ℕ
+staged_word B c p =
     if nat_lt p c.place then (if p == c.from then masked_padding c.stage (padding_header (c.place - c.from)) else 0)
-    else masked_record c.stage (claim_word (claim_of c) (p - c.place))
+    else masked_record c.stage (record_word B (claim_of c) (p - c.place))
 
 -- the word of a body from the offset `at` on
 unfoldable pub body_word : List ℕ → ℕ → ℕ
 body_word body at = from_le_bytes w64 (drop at body)
 
 -- the word at position p of claims that are one after the other, 0 after them
-abbrev pub staged_word_at : List StagedClaim → ℕ → ℕ
-staged_word_at [] p = 0
-staged_word_at (c ∷ cs) p = if nat_lt p (claim_end c) then staged_word c p else staged_word_at cs p
+abbrev pub staged_word_at : Bodies → List StagedClaim → ℕ → ℕ
+staged_word_at B [] p = 0
+staged_word_at B (c ∷ cs) p = if nat_lt p (claim_end c) then staged_word B c p else staged_word_at B cs p
 
 -- a valid claim that comes after the end e
 pub record LiesAfter (C e : ℕ) (c : StagedClaim) : Type 0 where

@@ -34,6 +34,7 @@ first_view k = record {
   capacity = k.capacity;
   log = [];
   producer = new_producer all_shares k.start k.start;
+  out = [];
   consumes =
       true;
   consumer = consumer_from k.start;
@@ -109,7 +110,7 @@ without_consumer v = record v { consumes = false; consumer = no_consumer }
 -- a seat of its own, with this many shares, which has seen what this one has
 abbrev pub alone : ℕ → View → View
 alone shares v =
-    record v { log = []; producer = new_producer shares v.producer.seen_tail v.producer.seen_head }
+    record v { log = []; producer = new_producer shares v.producer.seen_tail v.producer.seen_head; out = [] }
 
 abbrev pub consumer_alone : View → View
 consumer_alone v = alone 0 v
@@ -141,4 +142,5 @@ with_producer_of v w = with_producer (both_producers v.producer w.producer) v
 
 -- a seat that was joined into another has nothing
 abbrev pub spent : View
-spent = record { capacity = 0; log = []; producer = new_producer 0 0 0; consumes = false; consumer = no_consumer }
+spent =
+    record { capacity = 0; log = []; producer = new_producer 0 0 0; out = []; consumes = false; consumer = no_consumer }

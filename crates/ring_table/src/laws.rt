@@ -5,7 +5,7 @@ ghost use lib.ListN.{get_elem?};
 ghost use Rattle.ring_layout.specs.Places.{end_of};
 ghost use Rattle.ring_layout.specs.Picture.{word_at};
 ghost use Rattle.ring_table.specs.Staged.{ArePlaced, AreRising, AreStored, StagedClaim};
-ghost use Rattle.ring_table.specs.Staged.{unplaced, staged_end, staged_word_at, stage_state};
+ghost use Rattle.ring_table.specs.Staged.{in_words, unplaced, staged_end, staged_word_at, stage_state};
 ghost use Rattle.ring_table.specs.Changes.{changed};
 ghost use Rattle.ring_table.specs.Owners.{interleaved};
 ghost use Rattle.ring_table.specs.Passing.{AreSettled};
@@ -16,7 +16,7 @@ ghost use Rattle.ring_table.specs.OpenClaims.{AreBelow, one_if_open, open_count}
 /// both end at one position.
 pub fn stored_claims_show_one_picture()
     ensures word { (capacity e : ℕ) (cs : List StagedClaim) (p : ℕ) → ArePlaced capacity e cs → AreStored cs
-        → staged_word_at cs p ≡ word_at capacity e (unplaced cs) p }
+        → staged_word_at in_words cs p ≡ word_at capacity e (unplaced cs) p }
     ensures end { (capacity e : ℕ) (cs : List StagedClaim) → ArePlaced capacity e cs
         → staged_end e cs ≡ end_of capacity e (unplaced cs) }
 {}

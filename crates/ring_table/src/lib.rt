@@ -1,23 +1,29 @@
 //! The rule of a shared ring, and a small function for each kind of step.
 //!
-//! - `view`, `claim`: what each seat knows. `rule`: what holds between any two steps.
+//! - `view`, `claim`: what each seat knows. `rule`: what holds between any two steps. `mode`: where bodies lie.
 //! - `plays`: what each kind of step says, by role. `steps`: a function for each kind, in files of the same names.
 //! - `table`: a ring's table, from its making to its close. `laws`: what follows from the rule.
 #![tactic(auto)]
 
+mod bodies;
 mod claim;
 mod laws;
+mod mode;
 mod plays;
 mod rule;
 mod steps;
 mod table;
 mod view;
 
+pub use bodies::{
+    copy_slots, fill_slots, fill_zeros, read_slots, store_claimed_slots, write_slots,
+};
 pub use claim::{PlacedMessage, Stage, StagedClaim};
 pub use laws::{
     last_claim_stands_last, newest_claim_changes_alone, open_claims_are_counted,
     stored_claims_show_one_picture,
 };
+pub use mode::{InSlots, InWords, Mode};
 pub use rule::RingRule;
 pub use steps::consumer::{
     clear_word, load_body_word, load_first_header, load_next_header, load_passed_word, store_head,
@@ -31,6 +37,7 @@ pub use steps::seats::{join_consumer, join_producer, split_consumer, split_produ
 pub use steps::service::{
     draw_correlation_id, load_cache, load_heartbeat, store_cache, store_heartbeat,
 };
+pub use steps::slots::{give_body, lend_body, open_body, return_body, take_body};
 pub use steps::{RingSeat, SharedRing};
-pub use table::{RingTable, close, open};
+pub use table::{RingTable, SlotTable, close, open, open_slots};
 pub use view::{ConsumerView, Key, ProducerView, Service, View, Wanted};

@@ -1,15 +1,20 @@
 //! The rule that holds between any two steps.
-use crate::view::{Key, View, Wanted};
+use crate::mode::Mode;
+use crate::view::{Key, View};
 use atomic_table::TableRule;
+use std::marker::PhantomData;
 
-/// There is one history of claims. The words show it, and each seat's view is its part of it.
-pub struct RingRule;
+/// There is one history of claims. The words show it, and each seat's view is its part of it. If bodies lie in slots,
+/// those at home have them.
+pub struct RingRule<M> {
+    pub mode: PhantomData<M>,
+}
 
-impl TableRule<Wanted, View, Key> for RingRule {
+impl<M: Mode> TableRule<u64, View, Key> for RingRule<M> {
     ghost use Rattle.ring_table.specs.Rule.{Keeps};
     ghost use Rattle.ring_table.specs.Views.{first_view};
 
-    ghost holds = { λ key s. Keeps key s.words s.views };
+    ghost holds = { λ key s. Keeps M.bodies key s.words s.homes s.views };
 
     ghost first = { first_view };
 }

@@ -3,18 +3,19 @@ pub mod consumer;
 pub mod producer;
 pub mod seats;
 pub mod service;
+pub mod slots;
 
 ghost use Rattle.std.specs.Prelude.{◌≡◌, ◌+◌, ◌/◌, ◌<◌};
 
 use crate::rule::RingRule;
-use crate::view::{Key, View, Wanted};
+use crate::view::{Key, View};
 use atomic_table::{Seat, Shared};
 
-/// The words of a ring, as threads share them.
-pub type SharedRing = Shared<Wanted, View, Key, RingRule>;
+/// The words and slots of a ring, as threads share them.
+pub type SharedRing<M> = Shared<u64, View, Key, RingRule<M>>;
 
 /// A seat at a ring's table: a producer's or the consumer's. It has no bytes.
-pub type RingSeat = Seat<Wanted, View>;
+pub type RingSeat = Seat<u64, View>;
 
 /// The index of a word of the trailer, from the trailer's start.
 fn trailer_word(capacity: u32, word: usize) -> usize

@@ -1,5 +1,5 @@
 //! A ring's table, from its making to its close.
-ghost use Rattle.std.specs.Prelude.{◌≡◌, ◌%◌, ◌≤◌, [], IfOk, true};
+ghost use Rattle.std.specs.Prelude.{◌≡◌, ◌%◌, ◌/◌, ◌≤◌, [], replicate, IfOk, true};
 ghost use Rattle.std.specs.Slots.{slots_items, slots_len, IsFull};
 ghost use Rattle.ring_layout.specs.Layout.{ring_words};
 ghost use Rattle.ring_layout.specs.Places.{max_position};
@@ -9,17 +9,21 @@ ghost use Rattle.ring_table.specs.Views.{first_view};
 ghost use Rattle.ring_table.specs.Closed.{IsClosed, IsFresh, LeavesRest};
 ghost use Rattle.ring_table.specs.OpenClaims.{open_count};
 
+use crate::mode::{InSlots, InWords};
 use crate::rule::RingRule;
 use crate::steps::RingSeat;
-use crate::view::{Key, View, Wanted};
-use atomic_table::{Closed, Table};
+use crate::view::{Key, View};
+use atomic_table::{Closed, Refused, Table};
 use ring_layout::ring_buffer_descriptor::{
     HEAD_CACHE_POSITION_WORD, HEAD_POSITION_WORD, TAIL_POSITION_WORD, TRAILER_WORDS,
 };
 use std::alloc::{AllocError, Global};
 
-/// A ring with its memory. Its field `shared` is what threads share.
-pub type RingTable = Table<Wanted, View, Key, RingRule, Global>;
+/// A ring with its memory, whose bodies lie in words. Its field `shared` is what threads share.
+pub type RingTable = Table<u64, View, Key, RingRule<InWords>, Global>;
+
+/// A ring with its memory, whose bodies lie in slots, one for each word of the records.
+pub type SlotTable = Table<u64, View, Key, RingRule<InSlots>, Global>;
 
 fn fresh_words(alloc: Global, key: Key) -> Result<Vec<u64>, AllocError>
     requires { IsLawful key.capacity key.start }
@@ -48,8 +52,32 @@ pub fn open(alloc: Global, key: Key) -> Result<(RingTable, RingSeat), AllocError
     Table::of_words(alloc, words.as_slice(), &key)
 }
 
+fn zeros(alloc: Global, count: usize) -> Result<Vec<u64>, AllocError>
+    ensures { IfOk result (λ v. v.items ≡ replicate count 0) }
+{
+    vec![in alloc; 0u64; count]
+}
+
+/// The same with bodies in slots.
+pub fn open_slots(alloc: Global, key: Key) -> Result<(SlotTable, RingSeat), AllocError>
+    requires lawful { IsLawful key.capacity key.start }
+    requires limit { key.start ≤ max_position }
+    ensures words { IfOk result (λ t. t.0.shared.table_id.words ≡ ring_words key.capacity) }
+    ensures slots { IfOk result (λ t. t.0.shared.table_id.slots ≡ key.capacity / 8) }
+    ensures key { IfOk result (λ t. t.0.shared.key ≡ key) }
+    ensures seat { IfOk result (λ t. t.1.table_id ≡ t.0.shared.table_id) }
+    ensures view { IfOk result (λ t. t.1.me ≡ (first_view key, [])) }
+{
+    let words = fresh_words(alloc, key)?;
+    let slots = zeros(alloc, key.capacity as usize / 8)?;
+    match Table::new(alloc, words.as_slice(), slots, &key) {
+        Ok(made) => Ok(made),
+        Err(Refused { slots: _ }) => Err(AllocError),
+    }
+}
+
 /// The words of a ring, once all producers and the consumer were joined into this seat.
-pub fn close(table: RingTable, seat: RingSeat) -> Closed<Wanted, Global>
+pub fn close(table: RingTable, seat: RingSeat) -> Closed<u64, Global>
     requires table { seat.table_id ≡ table.shared.table_id }
     requires shares { seat.me.0.producer.shares ≡ all_shares }
     requires consumes { seat.me.0.consumes ≡ true }

@@ -11,7 +11,7 @@ pub struct Key {
     pub start: u64,
 }
 
-/// What a producer is about to claim, which the compare-exchange of the tail announces to the rule.
+/// What a producer is about to claim. The compare-exchange of the tail announces its header to the rule.
 #[derive(Clone, Copy)]
 pub struct Wanted {
     pub type_id: i32,
@@ -62,6 +62,8 @@ pub struct View {
     /// Word and value of each load, but for those of words to be cleared.
     pub log: LinkedList<(u64, u64)>,
     pub producer: ProducerView,
+    /// The message whose body the seat has out of its slots: one, or none.
+    pub out: LinkedList<PlacedMessage>,
     /// Whether the seat is the consumer's. If it is not, `consumer` says nothing.
     pub consumes: bool,
     pub consumer: ConsumerView,

@@ -5,9 +5,10 @@ ghost use Rattle.ring_table.specs.Seats.{IsSameSeat};
 ghost use Rattle.ring_rings.specs.ReadingSteps.{Finds, HasCome, IsAt, IsReaderSeatOf, OnlyScans};
 
 use super::load::load_header;
+use crate::steps::Steps;
 use ring_layout::record_descriptor::{HEADER_LENGTH, PADDING_MSG_TYPE_ID};
 use ring_layout::unpack_header;
-use ring_table::{RingSeat, SharedRing};
+use ring_table::RingSeat;
 
 /// The record or padding that a header describes.
 #[derive(Clone, Copy)]
@@ -21,14 +22,14 @@ pub(crate) enum Found {
 }
 
 /// Loads the header at `scan`, and moves past its record if that is settled.
-pub(super) fn find(
-    ring: &SharedRing,
+pub(super) fn find<B: Steps>(
+    ring: &B,
     seat: &mut RingSeat,
     capacity: u32,
     head: u64,
     scan: u64,
 ) -> Found
-    requires seat { IsReaderSeatOf ring.now.table_id ring.now.key capacity seat.old }
+    requires seat { IsReaderSeatOf (B.table_of ring.now) (B.key_of ring.now) capacity seat.old }
     requires stands { (seat.old.me.0.consumer.head ≡ head) × (seat.old.me.0.consumer.cleared ≡ head) }
     requires at { HasCome scan seat.old.me.0 }
     requires near { scan < head + capacity }

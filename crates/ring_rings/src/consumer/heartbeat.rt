@@ -5,9 +5,9 @@ ghost use Rattle.ring_table.specs.Views.{with_beat};
 ghost use Rattle.ring_rings.specs.Seats.{IsConsumerOf, consumer_view};
 
 use crate::ring::{Consumer, Ring};
-use ring_table::store_heartbeat;
+use crate::steps::Steps;
 
-impl<K> Ring<K> {
+impl<K, B: Steps> Ring<K, B> {
     /// Stores the consumer's heartbeat, which producers load. It is 0 until the first is stored.
     pub fn set_heartbeat(&self, consumer: &mut Consumer, value: u64)
         requires { IsConsumerOf self.now consumer.old }
@@ -15,6 +15,7 @@ impl<K> Ring<K> {
         ensures seat { IsSameSeat consumer.old.seat consumer.new.seat }
         ensures view { consumer_view consumer.new ≡ with_beat value (consumer_view consumer.old) }
     {
-        store_heartbeat(&self.table.shared, &mut consumer.seat, self.capacity, value);
+        self.table
+            .store_heartbeat(&mut consumer.seat, self.capacity, value);
     }
 }

@@ -7,19 +7,20 @@ ghost use Rattle.ring_table.specs.ConsumerSteps.{LoadsHeader};
 ghost use Rattle.ring_rings.specs.ReadingSteps.{CopiesBody, CopiesWord, HasBodyAt, HasCome, HasGotLast, IsAt};
 ghost use Rattle.ring_rings.specs.ReadingSteps.{IsReaderSeatOf, OnlyLoads};
 
+use crate::steps::Steps;
 use ring_layout::record_descriptor::HEADER_LENGTH;
 use ring_layout::{put_word, word_index};
-use ring_table::{RingSeat, SharedRing, load_body_word, load_first_header, load_next_header};
+use ring_table::{InWords, RingSeat, SharedRing, load_body_word};
 
 /// Loads the header at `scan`, to which a read has come.
-pub(super) fn load_header(
-    ring: &SharedRing,
+pub(super) fn load_header<B: Steps>(
+    ring: &B,
     seat: &mut RingSeat,
     capacity: u32,
     head: u64,
     scan: u64,
 ) -> u64
-    requires seat { IsReaderSeatOf ring.now.table_id ring.now.key capacity seat.old }
+    requires seat { IsReaderSeatOf (B.table_of ring.now) (B.key_of ring.now) capacity seat.old }
     requires stands { (seat.old.me.0.consumer.head ≡ head) × (seat.old.me.0.consumer.cleared ≡ head) }
     requires at { HasCome scan seat.old.me.0 }
     requires near { scan < head + capacity }
@@ -28,16 +29,16 @@ pub(super) fn load_header(
         → LoadsHeader capacity scan got seat.old.me.0 result seat.new.me.0 }
 {
     if scan == head {
-        load_first_header(ring, seat, capacity, head)
+        ring.load_first_header(seat, capacity, head)
     } else {
-        load_next_header(ring, seat, capacity, scan)
+        ring.load_next_header(seat, capacity, scan)
     }
 }
 
 /// Copies the word number `k` of the body at `place` to its room in the scratch. Its first word has the index `first`.
 #[inline(always)]
 fn load_word(
-    ring: &SharedRing,
+    ring: &SharedRing<InWords>,
     seat: &mut RingSeat,
     capacity: u32,
     place: u64,
@@ -60,8 +61,8 @@ fn load_word(
 }
 
 /// Copies the body of the message that the read got last to the front of the scratch.
-pub(super) fn load_body(
-    ring: &SharedRing,
+pub(crate) fn load_body(
+    ring: &SharedRing<InWords>,
     seat: &mut RingSeat,
     capacity: u32,
     place: u64,

@@ -10,14 +10,19 @@ ghost use Rattle.ring_rings.specs.ReadingSteps.{HasCome, IsInBlock, IsLeft, IsRe
 ghost use Rattle.ring_rings.specs.ReadingSteps.{SettlesAll, SettlesBefore};
 
 use crate::ring::{Consumer, Ring};
+use crate::steps::Steps;
 use ring_layout::word_index;
-use ring_table::{
-    RingSeat, SharedRing, clear_word, load_passed_word, store_head, store_head_before,
-};
+use ring_table::{Mode, RingSeat, SharedRing, clear_word, load_passed_word};
 
 /// Clears the next word that the read has passed. Its index in the buffer is `target`.
 #[inline(always)]
-fn pass_word(ring: &SharedRing, seat: &mut RingSeat, capacity: u32, cleared: u64, target: usize)
+fn pass_word<M: Mode>(
+    ring: &SharedRing<M>,
+    seat: &mut RingSeat,
+    capacity: u32,
+    cleared: u64,
+    target: usize,
+)
     requires seat { IsReaderSeatOf ring.now.table_id ring.now.key capacity seat.old }
     requires target { target ≡ index capacity cleared }
     requires cleared { seat.old.me.0.consumer.cleared ≡ cleared }
@@ -33,7 +38,13 @@ fn pass_word(ring: &SharedRing, seat: &mut RingSeat, capacity: u32, cleared: u64
 
 /// Clears the words that the read has passed, from the head up to the position `to`.
 #[inline(always)]
-fn clear_up(ring: &SharedRing, seat: &mut RingSeat, capacity: u32, head: u64, to: u64)
+pub(crate) fn clear_up<M: Mode>(
+    ring: &SharedRing<M>,
+    seat: &mut RingSeat,
+    capacity: u32,
+    head: u64,
+    to: u64,
+)
     requires seat { IsReaderSeatOf ring.now.table_id ring.now.key capacity seat.old }
     requires cleared { seat.old.me.0.consumer.cleared ≡ head }
     requires passed { (head ≤ to) × (to ≤ seat.old.me.0.consumer.scan) }
@@ -58,7 +69,7 @@ fn clear_up(ring: &SharedRing, seat: &mut RingSeat, capacity: u32, head: u64, to
     }
 }
 
-impl<K> Ring<K> {
+impl<K, B: Steps> Ring<K, B> {
     /// Clears all that the read has passed, up to `scan`, and stores the head there. Does nothing if the head is there.
     #[inline(always)]
     pub(super) fn move_head(&self, consumer: &mut Consumer, scan: u64)
@@ -70,14 +81,10 @@ impl<K> Ring<K> {
         ensures settles { SettlesAll scan (seat_view consumer.old) (seat_view consumer.new) }
     {
         if consumer.head < scan {
-            clear_up(
-                &self.table.shared,
-                &mut consumer.seat,
-                self.capacity,
-                consumer.head,
-                scan,
-            );
-            store_head(&self.table.shared, &mut consumer.seat, self.capacity, scan);
+            self.table
+                .clear_up(&mut consumer.seat, self.capacity, consumer.head, scan);
+            self.table
+                .store_head(&mut consumer.seat, self.capacity, scan);
             consumer.head = scan;
         }
     }
@@ -93,14 +100,10 @@ impl<K> Ring<K> {
         ensures settles { SettlesBefore place (seat_view consumer.old) (seat_view consumer.new) }
     {
         if consumer.head < place {
-            clear_up(
-                &self.table.shared,
-                &mut consumer.seat,
-                self.capacity,
-                consumer.head,
-                place,
-            );
-            store_head_before(&self.table.shared, &mut consumer.seat, self.capacity, place);
+            self.table
+                .clear_up(&mut consumer.seat, self.capacity, consumer.head, place);
+            self.table
+                .store_head_before(&mut consumer.seat, self.capacity, place);
             consumer.head = place;
         }
     }

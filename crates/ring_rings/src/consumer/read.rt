@@ -10,10 +10,11 @@ ghost use Rattle.ring_rings.specs.ReadingSteps.{Ended, HasCome, MayMoveTo, Settl
 
 use crate::consumer::turn::Turn;
 use crate::ring::{Consumer, Ring};
+use crate::steps::Steps;
 use ring_layout::byte_index;
 use ring_words::{Action, Handler, ReadEnd, Stop};
 
-impl<K> Ring<K> {
+impl<K, B: Steps> Ring<K, B> {
     /// Tests whether a read came from `start` to the end of the buffer.
     fn is_block_end(&self, start: u64, scan: u64) -> bool
         ensures { result ≡ (nat_lt start scan && scan % capacity_of self.now == 0) }

@@ -11,16 +11,15 @@ ghost use Rattle.ring_rings.specs.Bodies.{loaded, put_at, HasRoom, IsFreshClaim,
 ghost use Rattle.ring_rings.specs.Claiming.{record_behind};
 ghost use Rattle.ring_rings.specs.Making.{HasJustMade, IsJustMade};
 
+use crate::steps::Steps;
 use ring_layout::{first_word, put_bytes_word, word_index};
-use ring_table::{
-    RingSeat, SharedRing, Wanted, load_own_word, store_body_word, store_committed_header,
-};
+use ring_table::{InWords, RingSeat, SharedRing, Wanted, load_own_word, store_body_word};
 
 /// Stores a word of the newest claim's body, which is 0 so far from the byte offset `at` on. Its index in the buffer is
 /// `target`.
 #[inline(always)]
 fn store_fresh_word(
-    words: &SharedRing,
+    words: &SharedRing<InWords>,
     seat: &mut RingSeat,
     capacity: u32,
     place: u64,
@@ -44,7 +43,7 @@ fn store_fresh_word(
 /// Stores a whole body into the newest claim, which has its length and zeros for its bytes.
 #[inline(always)]
 pub(crate) fn store_body(
-    words: &SharedRing,
+    words: &SharedRing<InWords>,
     seat: &mut RingSeat,
     capacity: u32,
     place: u64,
@@ -75,15 +74,15 @@ pub(crate) fn store_body(
 
 /// Stores the body of the claim that was just made, and commits it.
 #[inline(always)]
-pub(crate) fn store_message(
-    words: &SharedRing,
+pub(crate) fn store_message<B: Steps>(
+    words: &B,
     seat: &mut RingSeat,
     capacity: u32,
     place: u64,
     wanted: Wanted,
     body: &[u8],
 )
-    requires seat { IsSeatOf words.now.table_id words.now.key capacity seat.old }
+    requires seat { IsSeatOf (B.table_of words.now) (B.key_of words.now) capacity seat.old }
     requires message { IsMessage capacity (blank wanted.type_id wanted.len) }
     requires place { place ≤ max_position }
     requires len { length body.now ≡ wanted.len }
@@ -93,14 +92,14 @@ pub(crate) fn store_message(
         → IsJustMade capacity tail wanted.type_id wanted.len place cs seat.old.me.0
         → seat.new.me.0 ≡ with_claims (cs ++ record_behind capacity tail wanted.type_id body.now ∷ []) seat.old.me.0 }
 {
-    store_body(words, seat, capacity, place, body);
-    store_committed_header(words, seat, capacity, place, wanted);
+    words.store_body(seat, capacity, place, body);
+    words.store_committed_header(seat, capacity, place, wanted);
 }
 
 /// The word of an open claim's body with these bytes in place of its own from byte `at` on. The word is loaded if the
 /// bytes are not all of it.
 fn merged_word(
-    words: &SharedRing,
+    words: &SharedRing<InWords>,
     seat: &mut RingSeat,
     capacity: u32,
     position: u64,
@@ -122,7 +121,7 @@ fn merged_word(
 
 /// Puts bytes into an open claim, from the byte `offset` of its body on.
 pub(crate) fn put_bytes(
-    words: &SharedRing,
+    words: &SharedRing<InWords>,
     seat: &mut RingSeat,
     capacity: u32,
     place: u64,

@@ -10,20 +10,21 @@ use crate::fault::TryFault;
 use crate::producer::admission::{admit, test_request};
 use crate::producer::headers::store_headers;
 use crate::producer::room::{Shortage, find_room, find_room_alone};
+use crate::steps::Steps;
 use ring_layout::Admission;
-use ring_table::{RingSeat, SharedRing, Wanted, load_tail, move_tail, store_tail};
+use ring_table::{RingSeat, Wanted};
 use ring_words::ClaimFault;
 
 /// The claim of the only producer, whose own tail is the ring's.
 #[inline(always)]
-pub(crate) fn claim_alone(
-    words: &SharedRing,
+pub(crate) fn claim_alone<B: Steps>(
+    words: &B,
     seat: &mut RingSeat,
     capacity: u32,
     tail: u64,
     wanted: Wanted,
 ) -> Result<Admission, ClaimFault>
-    requires seat { IsSeatOf words.now.table_id words.now.key capacity seat.old }
+    requires seat { IsSeatOf (B.table_of words.now) (B.key_of words.now) capacity seat.old }
     requires sole { seat.old.me.0.producer.shares ≡ all_shares }
     requires tail { (seat.old.me.0.producer.seen_tail ≡ tail) × (tail % 8 ≡ 0) × (tail ≤ max_position) }
     ensures seat { IsSameSeat seat.old seat.new }
@@ -36,20 +37,20 @@ pub(crate) fn claim_alone(
     if let Err(head) = find_room_alone(words, seat, capacity, admission) {
         return Err(ClaimFault::InsufficientCapacity { tail, head });
     }
-    store_tail(words, seat, capacity, admission.end, wanted);
+    words.store_tail(seat, capacity, admission.end, wanted);
     store_headers(words, seat, capacity, admission, wanted);
     Ok(admission)
 }
 
 /// One try of a claim, by one of many producers.
 #[inline(always)]
-pub(crate) fn try_claim(
-    words: &SharedRing,
+pub(crate) fn try_claim<B: Steps>(
+    words: &B,
     seat: &mut RingSeat,
     capacity: u32,
     wanted: Wanted,
 ) -> Result<Admission, TryFault>
-    requires seat { IsSeatOf words.now.table_id words.now.key capacity seat.old }
+    requires seat { IsSeatOf (B.table_of words.now) (B.key_of words.now) capacity seat.old }
     requires share { 0 < seat.old.me.0.producer.shares }
     ensures seat { IsSameSeat seat.old seat.new }
     ensures told { MatchResult result
@@ -60,7 +61,7 @@ pub(crate) fn try_claim(
         → seat.new.me.0.producer.seen_tail ≡ seat.old.me.0.producer.seen_tail) }
 {
     test_request(capacity, wanted)?;
-    let tail = load_tail(words, seat, capacity);
+    let tail = words.load_tail(seat, capacity);
     let admission = admit(capacity, tail, wanted)?;
     match find_room(words, seat, capacity, admission) {
         Ok(()) => {}
@@ -69,7 +70,7 @@ pub(crate) fn try_claim(
         }
         Err(Shortage::Passed { seen }) => return Err(TryFault::Contended { tail, seen }),
     }
-    let seen = move_tail(words, seat, capacity, tail, admission.end, wanted);
+    let seen = words.move_tail(seat, capacity, tail, admission.end, wanted);
     if seen != tail {
         return Err(TryFault::Contended { tail, seen });
     }

@@ -8,12 +8,13 @@ ghost use Rattle.ring_table.specs.Seats.{IsSameSeat, IsSeatOf};
 ghost use Rattle.ring_table.specs.Views.{with_claims};
 ghost use Rattle.ring_rings.specs.Making.{HasNewest, IsNewest};
 
+use crate::steps::Steps;
 use ring_layout::Admission;
-use ring_table::{RingSeat, SharedRing, Wanted, store_claimed_header, store_padding_header};
+use ring_table::{RingSeat, Wanted};
 
 /// Stores the header of the padding before the newest claim, if there is any.
-fn store_padding(words: &SharedRing, seat: &mut RingSeat, capacity: u32, tail: u64, place: u64)
-    requires seat { IsSeatOf words.now.table_id words.now.key capacity seat.old }
+fn store_padding<B: Steps>(words: &B, seat: &mut RingSeat, capacity: u32, tail: u64, place: u64)
+    requires seat { IsSeatOf (B.table_of words.now) (B.key_of words.now) capacity seat.old }
     requires near { (tail ≤ place) × (place ≤ tail + capacity) }
     requires newest { (len : ℕ) × HasNewest tail place len seat.old.me.0 }
     ensures seat { IsSameSeat seat.old seat.new }
@@ -21,19 +22,19 @@ fn store_padding(words: &SharedRing, seat: &mut RingSeat, capacity: u32, tail: u
         → seat.new.me.0 ≡ with_claims (cs ++ staged Padded c ∷ []) seat.old.me.0 }
 {
     if place > tail {
-        store_padding_header(words, seat, capacity, tail, place);
+        words.store_padding_header(seat, capacity, tail, place);
     }
 }
 
 /// Stores the headers of the newest claim, which is open from then on.
-pub(crate) fn store_headers(
-    words: &SharedRing,
+pub(crate) fn store_headers<B: Steps>(
+    words: &B,
     seat: &mut RingSeat,
     capacity: u32,
     admission: Admission,
     wanted: Wanted,
 )
-    requires seat { IsSeatOf words.now.table_id words.now.key capacity seat.old }
+    requires seat { IsSeatOf (B.table_of words.now) (B.key_of words.now) capacity seat.old }
     requires message { IsMessage capacity (blank wanted.type_id wanted.len) }
     requires near { (admission.tail ≤ admission.place) × (admission.place ≤ admission.tail + capacity) }
     requires newest { HasNewest admission.tail admission.place wanted.len seat.old.me.0 }
@@ -48,5 +49,5 @@ pub(crate) fn store_headers(
 {
     let Admission { tail, place, .. } = admission;
     store_padding(words, seat, capacity, tail, place);
-    store_claimed_header(words, seat, capacity, place, wanted);
+    words.store_claimed_header(seat, capacity, place, wanted);
 }

@@ -12,10 +12,11 @@ use crate::fault::TryFault;
 use crate::producer::body::store_message;
 use crate::producer::claim::try_claim;
 use crate::ring::{ManyToOne, Producer, Ring};
+use crate::steps::Steps;
 use ring_layout::{NoShares, has_spare_share};
-use ring_table::{Wanted, join_producer, load_tail, split_producer};
+use ring_table::Wanted;
 
-impl Ring<ManyToOne> {
+impl<B: Steps> Ring<ManyToOne, B> {
     /// Makes one try to claim room for a message of `len` bytes, which are 0 until they are `put`. Several claims may
     /// be open at once. It never waits.
     ///
@@ -40,12 +41,7 @@ impl Ring<ManyToOne> {
         ensures claims { KeepsClaims self.now producer.old producer.new }
     {
         let wanted = Wanted { type_id, len };
-        let admission = try_claim(
-            &self.table.shared,
-            &mut producer.seat,
-            self.capacity,
-            wanted,
-        )?;
+        let admission = try_claim(&self.table, &mut producer.seat, self.capacity, wanted)?;
         producer.own_tail = admission.end;
         producer.open_claims += 1;
         Ok(Claim::new(self.capacity, admission.place, wanted))
@@ -72,7 +68,7 @@ impl Ring<ManyToOne> {
             type_id,
             len: body.len(),
         };
-        let words = &self.table.shared;
+        let words = &self.table;
         let admission = try_claim(words, &mut producer.seat, self.capacity, wanted)?;
         store_message(
             words,
@@ -101,7 +97,7 @@ impl Ring<ManyToOne> {
         if !has_spare_share(producer.shares) {
             return Err(NoShares);
         }
-        let seat = split_producer(&self.table.shared, &mut producer.seat);
+        let seat = self.table.split_producer(&mut producer.seat);
         producer.shares -= 1;
         Ok(Producer {
             seat,
@@ -128,8 +124,8 @@ impl Ring<ManyToOne> {
             open_claims,
             own_tail: _,
         } = other;
-        join_producer(&self.table.shared, &mut producer.seat, seat);
-        producer.own_tail = load_tail(&self.table.shared, &mut producer.seat, self.capacity);
+        self.table.join_producer(&mut producer.seat, seat);
+        producer.own_tail = self.table.load_tail(&mut producer.seat, self.capacity);
         producer.shares += shares;
         producer.open_claims += open_claims;
     }

@@ -9,10 +9,11 @@ use crate::claim::Claim;
 use crate::producer::body::store_message;
 use crate::producer::claim::claim_alone;
 use crate::ring::{OneToOne, Producer, Ring};
+use crate::steps::Steps;
 use ring_table::Wanted;
 use ring_words::ClaimFault;
 
-impl Ring<OneToOne> {
+impl<B: Steps> Ring<OneToOne, B> {
     /// Claims room for a message of `len` bytes, which are 0 until they are `put`. Several claims may be open at once.
     ///
     /// Returns, in this order: `BadType` if the type id is below 1; `TooLong` if the body would have more than an
@@ -36,13 +37,7 @@ impl Ring<OneToOne> {
     {
         let wanted = Wanted { type_id, len };
         let tail = producer.own_tail;
-        let admission = claim_alone(
-            &self.table.shared,
-            &mut producer.seat,
-            self.capacity,
-            tail,
-            wanted,
-        )?;
+        let admission = claim_alone(&self.table, &mut producer.seat, self.capacity, tail, wanted)?;
         producer.own_tail = admission.end;
         producer.open_claims += 1;
         Ok(Claim::new(self.capacity, admission.place, wanted))
@@ -70,7 +65,7 @@ impl Ring<OneToOne> {
             type_id,
             len: body.len(),
         };
-        let (words, tail) = (&self.table.shared, producer.own_tail);
+        let (words, tail) = (&self.table, producer.own_tail);
         let admission = claim_alone(words, &mut producer.seat, self.capacity, tail, wanted)?;
         store_message(
             words,

@@ -11,23 +11,23 @@ ghost use Rattle.ring_rings.specs.Bodies.{PutsBytes};
 ghost use Rattle.ring_rings.specs.Seats.{view_of, IsOpenClaimOf, IsProducerOf, KeepsOthers};
 
 use crate::claim::Claim;
-use crate::producer::body::put_bytes;
 use crate::ring::{Producer, Ring};
+use crate::steps::Steps;
 use ring_layout::ClaimState;
-use ring_table::{RingSeat, SharedRing, Wanted, store_aborted_header, store_committed_header};
+use ring_table::{RingSeat, Wanted};
 use ring_words::PutRange;
 
 /// Stores the header of an open claim, which is committed or aborted from then on.
 #[inline]
-fn store_settled_header(
-    words: &SharedRing,
+fn store_settled_header<B: Steps>(
+    words: &B,
     seat: &mut RingSeat,
     capacity: u32,
     place: u64,
     wanted: Wanted,
     state: ClaimState,
 )
-    requires seat { IsSeatOf words.now.table_id words.now.key capacity seat.old }
+    requires seat { IsSeatOf (B.table_of words.now) (B.key_of words.now) capacity seat.old }
     requires message { IsMessage capacity (blank wanted.type_id wanted.len) }
     requires claim { HasClaimAt seat.old.me.0 place (IsStagedOpen wanted.type_id wanted.len) }
     requires settled { state ≢ Open }
@@ -36,14 +36,14 @@ fn store_settled_header(
     ensures rising { AreRising seat.old.me.0.producer.claims }
 {
     match state {
-        ClaimState::Aborted => store_aborted_header(words, seat, capacity, place, wanted),
+        ClaimState::Aborted => words.store_aborted_header(seat, capacity, place, wanted),
         ClaimState::Committed | ClaimState::Open => {
-            store_committed_header(words, seat, capacity, place, wanted);
+            words.store_committed_header(seat, capacity, place, wanted);
         }
     }
 }
 
-impl<K> Ring<K> {
+impl<K, B: Steps> Ring<K, B> {
     /// Puts bytes into an open claim, from the byte `offset` of its body on. It refuses bytes that are not inside
     /// the body, and then nothing is changed.
     pub fn put(
@@ -67,8 +67,7 @@ impl<K> Ring<K> {
         if offset > len || bytes.len() > len - offset {
             return Err(PutRange);
         }
-        put_bytes(
-            &self.table.shared,
+        self.table.put_bytes(
             &mut producer.seat,
             self.capacity,
             claim.place(),
@@ -94,7 +93,7 @@ impl<K> Ring<K> {
             len: claim.len(),
         };
         store_settled_header(
-            &self.table.shared,
+            &self.table,
             &mut producer.seat,
             self.capacity,
             claim.place(),

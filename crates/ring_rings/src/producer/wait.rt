@@ -6,11 +6,12 @@ ghost use Rattle.ring_rings.specs.Seats.{capacity_of, view_of, IsNewClaimOf, IsP
 use crate::claim::Claim;
 use crate::fault::TryFault;
 use crate::ring::{ManyToOne, Producer, Ring};
+use crate::steps::Steps;
 use crossbeam_utils::Backoff;
 use ring_words::ClaimFault;
 use std::sync::Wait;
 
-impl Ring<ManyToOne> {
+impl<B: Steps> Ring<ManyToOne, B> {
     /// Claims as `claim_once` does, and tries again while that is `Contended`. So it may wait.
     pub fn claim<R: Wait>(
         &self,

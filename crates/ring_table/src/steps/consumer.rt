@@ -6,6 +6,7 @@ ghost use Rattle.ring_table.specs.ConsumerSteps.{ClearsWord, LoadsBody, LoadsHea
 ghost use Rattle.ring_table.specs.ConsumerSteps.{StandsBefore, StoresHead, StoresHeadBefore};
 ghost use Rattle.ring_table.specs.Seats.{IsSameSeat, IsSeatOf};
 
+use crate::mode::{InWords, Mode};
 use crate::plays::consumer::{
     ClearWord, LoadBody, LoadFirstHeader, LoadNextHeader, LoadPassed, StoreHead, StoreHeadBefore,
 };
@@ -14,8 +15,8 @@ use ring_layout::ring_buffer_descriptor::HEAD_POSITION_WORD;
 use ring_layout::word_index;
 
 /// Loads the header at the head, as a read begins. What an earlier read got beyond the head is forgotten.
-pub fn load_first_header(
-    ring: &SharedRing,
+pub fn load_first_header<M: Mode>(
+    ring: &SharedRing<M>,
     consumer: &mut RingSeat,
     capacity: u32,
     head: u64,
@@ -32,7 +33,12 @@ pub fn load_first_header(
 }
 
 /// Loads the header that the running read has reached.
-pub fn load_next_header(ring: &SharedRing, consumer: &mut RingSeat, capacity: u32, scan: u64) -> u64
+pub fn load_next_header<M: Mode>(
+    ring: &SharedRing<M>,
+    consumer: &mut RingSeat,
+    capacity: u32,
+    scan: u64,
+) -> u64
     requires seat { IsSeatOf ring.now.table_id ring.now.key capacity consumer.old }
     requires consumes { consumer.old.me.0.consumes ≡ true }
     requires scan { consumer.old.me.0.consumer.scan ≡ scan }
@@ -46,7 +52,7 @@ pub fn load_next_header(ring: &SharedRing, consumer: &mut RingSeat, capacity: u3
 /// Loads the word at a position, which says what a message that the running read has got has there. Its index in the
 /// buffer is `target`.
 pub fn load_body_word(
-    ring: &SharedRing,
+    ring: &SharedRing<InWords>,
     consumer: &mut RingSeat,
     capacity: u32,
     position: u64,
@@ -64,8 +70,8 @@ pub fn load_body_word(
 
 /// Loads the next word that the read has passed and not yet cleared. If it is 0 it counts as cleared, since no other
 /// thread stores to it. Its index in the buffer is `target`.
-pub fn load_passed_word(
-    ring: &SharedRing,
+pub fn load_passed_word<M: Mode>(
+    ring: &SharedRing<M>,
     consumer: &mut RingSeat,
     capacity: u32,
     cleared: u64,
@@ -83,8 +89,8 @@ pub fn load_passed_word(
 }
 
 /// Sets the next word that the read has passed to 0. Its index in the buffer is `target`.
-pub fn clear_word(
-    ring: &SharedRing,
+pub fn clear_word<M: Mode>(
+    ring: &SharedRing<M>,
     consumer: &mut RingSeat,
     capacity: u32,
     cleared: u64,
@@ -102,7 +108,7 @@ pub fn clear_word(
 }
 
 /// Stores the head after all that the read has passed, which is cleared.
-pub fn store_head(ring: &SharedRing, consumer: &mut RingSeat, capacity: u32, head: u64)
+pub fn store_head<M: Mode>(ring: &SharedRing<M>, consumer: &mut RingSeat, capacity: u32, head: u64)
     requires seat { IsSeatOf ring.now.table_id ring.now.key capacity consumer.old }
     requires consumes { consumer.old.me.0.consumes ≡ true }
     requires scan { consumer.old.me.0.consumer.scan ≡ head }
@@ -114,7 +120,12 @@ pub fn store_head(ring: &SharedRing, consumer: &mut RingSeat, capacity: u32, hea
 }
 
 /// Stores the head before the last message that the read has got, which stays in the ring.
-pub fn store_head_before(ring: &SharedRing, consumer: &mut RingSeat, capacity: u32, head: u64)
+pub fn store_head_before<M: Mode>(
+    ring: &SharedRing<M>,
+    consumer: &mut RingSeat,
+    capacity: u32,
+    head: u64,
+)
     requires seat { IsSeatOf ring.now.table_id ring.now.key capacity consumer.old }
     requires consumes { consumer.old.me.0.consumes ≡ true }
     requires last { StandsBefore head consumer.old.me.0 }

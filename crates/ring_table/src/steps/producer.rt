@@ -11,6 +11,7 @@ ghost use Rattle.ring_table.specs.ProducerSteps.{HasClaimAt, IsClaimable, IsStag
 ghost use Rattle.ring_table.specs.ProducerSteps.{LoadsHead, LoadsOwn, LoadsTail, MovesOwnTail, MovesTail, with_changed};
 ghost use Rattle.ring_table.specs.Seats.{IsSameSeat, IsSeatOf};
 
+use crate::mode::{InWords, Mode};
 use crate::plays::producer::{
     LoadHead, LoadOwn, LoadTail, MoveOwnTail, MoveTail, StoreAborted, StoreBody, StoreClaimed,
     StoreCommitted, StorePadding,
@@ -21,7 +22,7 @@ use ring_layout::ring_buffer_descriptor::{HEAD_POSITION_WORD, TAIL_POSITION_WORD
 use ring_layout::{aborted_header, committed_header, open_header, padding_header, word_index};
 
 /// Loads the tail, in bytes. A producer that has all shares finds the tail that it has seen.
-pub fn load_tail(ring: &SharedRing, producer: &mut RingSeat, capacity: u32) -> u64
+pub fn load_tail<M: Mode>(ring: &SharedRing<M>, producer: &mut RingSeat, capacity: u32) -> u64
     requires { IsSeatOf ring.now.table_id ring.now.key capacity producer.old }
     ensures seat { IsSameSeat producer.old producer.new }
     ensures told { LoadsTail capacity producer.old.me.0 result producer.new.me.0 }
@@ -30,7 +31,7 @@ pub fn load_tail(ring: &SharedRing, producer: &mut RingSeat, capacity: u32) -> u
 }
 
 /// Loads the head, in bytes.
-pub fn load_head(ring: &SharedRing, producer: &mut RingSeat, capacity: u32) -> u64
+pub fn load_head<M: Mode>(ring: &SharedRing<M>, producer: &mut RingSeat, capacity: u32) -> u64
     requires { IsSeatOf ring.now.table_id ring.now.key capacity producer.old }
     ensures seat { IsSameSeat producer.old producer.new }
     ensures told { LoadsHead capacity producer.old.me.0 result producer.new.me.0 }
@@ -39,8 +40,8 @@ pub fn load_head(ring: &SharedRing, producer: &mut RingSeat, capacity: u32) -> u
 }
 
 /// Moves the tail from `old` to `new` if it is still `old`, which makes a claim of `wanted`. Returns the tail found.
-pub fn move_tail(
-    ring: &SharedRing,
+pub fn move_tail<M: Mode>(
+    ring: &SharedRing<M>,
     producer: &mut RingSeat,
     capacity: u32,
     old: u64,
@@ -54,13 +55,14 @@ pub fn move_tail(
     ensures told { MovesTail capacity old new wanted producer.old.me.0 result producer.new.me.0 }
 {
     let tail = trailer_word(capacity, TAIL_POSITION_WORD);
-    ring.compare_exchange_with::<MoveTail>(producer, tail, old, new, &wanted)
+    let said = open_header(wanted.type_id, wanted.len);
+    ring.compare_exchange_with::<MoveTail>(producer, tail, old, new, &said)
 }
 
 /// Moves the tail of a sole producer to `new`, which makes a claim of some type id and length with the right span. The
 /// claimed header fixes both.
-pub fn store_tail(
-    ring: &SharedRing,
+pub fn store_tail<M: Mode>(
+    ring: &SharedRing<M>,
     producer: &mut RingSeat,
     capacity: u32,
     new: u64,
@@ -77,8 +79,8 @@ pub fn store_tail(
 }
 
 /// Stores the header of the padding that is from `from` up to the claim's place, both in bytes.
-pub fn store_padding_header(
-    ring: &SharedRing,
+pub fn store_padding_header<M: Mode>(
+    ring: &SharedRing<M>,
     producer: &mut RingSeat,
     capacity: u32,
     from: u64,
@@ -98,7 +100,7 @@ pub fn store_padding_header(
 /// Stores the header of a claim of `len` bytes, its length negated. The claim is open from then on, with zeros for its
 /// bytes.
 pub fn store_claimed_header(
-    ring: &SharedRing,
+    ring: &SharedRing<InWords>,
     producer: &mut RingSeat,
     capacity: u32,
     place: u64,
@@ -116,8 +118,8 @@ pub fn store_claimed_header(
 }
 
 /// Stores the header of a claim that is committed.
-pub fn store_committed_header(
-    ring: &SharedRing,
+pub fn store_committed_header<M: Mode>(
+    ring: &SharedRing<M>,
     producer: &mut RingSeat,
     capacity: u32,
     place: u64,
@@ -135,8 +137,8 @@ pub fn store_committed_header(
 }
 
 /// Stores the header of a claim that is aborted: the type id of padding.
-pub fn store_aborted_header(
-    ring: &SharedRing,
+pub fn store_aborted_header<M: Mode>(
+    ring: &SharedRing<M>,
     producer: &mut RingSeat,
     capacity: u32,
     place: u64,
@@ -156,7 +158,7 @@ pub fn store_aborted_header(
 /// Stores the word of an open claim's body at the byte offset `at`, a multiple of 8. Its index in the buffer is
 /// `target`.
 pub fn store_body_word(
-    ring: &SharedRing,
+    ring: &SharedRing<InWords>,
     producer: &mut RingSeat,
     capacity: u32,
     place: u64,
@@ -176,7 +178,7 @@ pub fn store_body_word(
 
 /// Loads the word at a position, which says what the producer's own open claim has there.
 pub fn load_own_word(
-    ring: &SharedRing,
+    ring: &SharedRing<InWords>,
     producer: &mut RingSeat,
     capacity: u32,
     position: u64,

@@ -4,13 +4,15 @@ ghost use Rattle.ring_table.specs.Views.{consumer_alone, with_consumer_of, witho
 ghost use Rattle.ring_table.specs.Views.{producer_alone, with_producer_of, without_share};
 ghost use Rattle.ring_table.specs.Seats.{IsSameSeat};
 
+use crate::mode::Mode;
 use crate::plays::seats::{OneProducer, TheConsumer};
 use crate::steps::{RingSeat, SharedRing};
 
 /// Gives the consumer's part to a seat of its own.
-pub fn split_consumer(ring: &SharedRing, seat: &mut RingSeat) -> RingSeat
+pub fn split_consumer<M: Mode>(ring: &SharedRing<M>, seat: &mut RingSeat) -> RingSeat
     requires table { seat.old.table_id ≡ ring.now.table_id }
     requires words { 0 < ring.now.table_id.words }
+    requires home { seat.old.me.0.out ≡ [] }
     requires consumes { seat.old.me.0.consumes ≡ true }
     ensures seat { IsSameSeat seat.old seat.new }
     ensures left { seat.new.me.0 ≡ without_consumer seat.old.me.0 }
@@ -20,9 +22,10 @@ pub fn split_consumer(ring: &SharedRing, seat: &mut RingSeat) -> RingSeat
 }
 
 /// Makes a new producer with one of this one's shares, no claims, no draws and no heartbeats read.
-pub fn split_producer(ring: &SharedRing, producer: &mut RingSeat) -> RingSeat
+pub fn split_producer<M: Mode>(ring: &SharedRing<M>, producer: &mut RingSeat) -> RingSeat
     requires table { producer.old.table_id ≡ ring.now.table_id }
     requires words { 0 < ring.now.table_id.words }
+    requires home { producer.old.me.0.out ≡ [] }
     requires shares { 1 < producer.old.me.0.producer.shares }
     ensures seat { IsSameSeat producer.old producer.new }
     ensures left { producer.new.me.0 ≡ without_share producer.old.me.0 }
@@ -32,10 +35,10 @@ pub fn split_producer(ring: &SharedRing, producer: &mut RingSeat) -> RingSeat
 }
 
 /// Joins the consumer into a producer, which has its part from then on.
-pub fn join_consumer(ring: &SharedRing, producer: &mut RingSeat, consumer: RingSeat)
+pub fn join_consumer<M: Mode>(ring: &SharedRing<M>, producer: &mut RingSeat, consumer: RingSeat)
     requires table { (producer.old.table_id ≡ ring.now.table_id) × (consumer.table_id ≡ ring.now.table_id) }
     requires words { 0 < ring.now.table_id.words }
-    requires slots { consumer.me.1 ≡ [] }
+    requires slots { (producer.old.me.0.out ≡ []) × (consumer.me.1 ≡ []) × (consumer.me.0.out ≡ []) }
     requires consumes { consumer.me.0.consumes ≡ true }
     requires no_share { consumer.me.0.producer.shares ≡ 0 }
     ensures seat { IsSameSeat producer.old producer.new }
@@ -46,10 +49,10 @@ pub fn join_consumer(ring: &SharedRing, producer: &mut RingSeat, consumer: RingS
 
 /// Joins another producer into this one: its claims are put among this one's by rising place, its shares are added, and
 /// its draws and heartbeats are beside this one's.
-pub fn join_producer(ring: &SharedRing, producer: &mut RingSeat, other: RingSeat)
+pub fn join_producer<M: Mode>(ring: &SharedRing<M>, producer: &mut RingSeat, other: RingSeat)
     requires table { (producer.old.table_id ≡ ring.now.table_id) × (other.table_id ≡ ring.now.table_id) }
     requires words { 0 < ring.now.table_id.words }
-    requires slots { other.me.1 ≡ [] }
+    requires slots { (producer.old.me.0.out ≡ []) × (other.me.1 ≡ []) × (other.me.0.out ≡ []) }
     requires produces { other.me.0.consumes ≡ false }
     requires share { 0 < other.me.0.producer.shares }
     ensures seat { IsSameSeat producer.old producer.new }

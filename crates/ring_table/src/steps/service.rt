@@ -4,6 +4,7 @@ ghost use Rattle.ring_table.specs.Views.{with_beat};
 ghost use Rattle.ring_table.specs.ServiceSteps.{DrawsId, LoadsCache, LoadsHeartbeat};
 ghost use Rattle.ring_table.specs.Seats.{IsSameSeat, IsSeatOf};
 
+use crate::mode::Mode;
 use crate::plays::service::{DrawId, LoadCache, LoadHeartbeat, StoreCache, StoreHeartbeat};
 use crate::steps::{RingSeat, SharedRing, trailer_word};
 use ring_layout::ring_buffer_descriptor::{
@@ -12,7 +13,7 @@ use ring_layout::ring_buffer_descriptor::{
 
 /// Loads the cached head, in bytes. It may be older than a head that this producer has seen, and is never above the
 /// head.
-pub fn load_cache(ring: &SharedRing, producer: &mut RingSeat, capacity: u32) -> u64
+pub fn load_cache<M: Mode>(ring: &SharedRing<M>, producer: &mut RingSeat, capacity: u32) -> u64
     requires { IsSeatOf ring.now.table_id ring.now.key capacity producer.old }
     ensures seat { IsSameSeat producer.old producer.new }
     ensures told { LoadsCache capacity producer.old.me.0 result producer.new.me.0 }
@@ -21,7 +22,7 @@ pub fn load_cache(ring: &SharedRing, producer: &mut RingSeat, capacity: u32) -> 
 }
 
 /// Stores a head that this producer has seen, or an older one, into the cache.
-pub fn store_cache(ring: &SharedRing, producer: &mut RingSeat, capacity: u32, head: u64)
+pub fn store_cache<M: Mode>(ring: &SharedRing<M>, producer: &mut RingSeat, capacity: u32, head: u64)
     requires seat { IsSeatOf ring.now.table_id ring.now.key capacity producer.old }
     requires seen { head ≤ producer.old.me.0.producer.seen_head }
     ensures seat { IsSameSeat producer.old producer.new }
@@ -35,7 +36,11 @@ pub fn store_cache(ring: &SharedRing, producer: &mut RingSeat, capacity: u32, he
 }
 
 /// Draws the next correlation id by a fetch-and-add of 1.
-pub fn draw_correlation_id(ring: &SharedRing, producer: &mut RingSeat, capacity: u32) -> u64
+pub fn draw_correlation_id<M: Mode>(
+    ring: &SharedRing<M>,
+    producer: &mut RingSeat,
+    capacity: u32,
+) -> u64
     requires seat { IsSeatOf ring.now.table_id ring.now.key capacity producer.old }
     requires share { 0 < producer.old.me.0.producer.shares }
     ensures seat { IsSameSeat producer.old producer.new }
@@ -49,7 +54,7 @@ pub fn draw_correlation_id(ring: &SharedRing, producer: &mut RingSeat, capacity:
 }
 
 /// Loads the heartbeat: 0, or a value that the consumer stored, not before any that this producer read.
-pub fn load_heartbeat(ring: &SharedRing, producer: &mut RingSeat, capacity: u32) -> u64
+pub fn load_heartbeat<M: Mode>(ring: &SharedRing<M>, producer: &mut RingSeat, capacity: u32) -> u64
     requires seat { IsSeatOf ring.now.table_id ring.now.key capacity producer.old }
     requires share { 0 < producer.old.me.0.producer.shares }
     ensures seat { IsSameSeat producer.old producer.new }
@@ -59,7 +64,12 @@ pub fn load_heartbeat(ring: &SharedRing, producer: &mut RingSeat, capacity: u32)
 }
 
 /// Stores the consumer's heartbeat.
-pub fn store_heartbeat(ring: &SharedRing, consumer: &mut RingSeat, capacity: u32, value: u64)
+pub fn store_heartbeat<M: Mode>(
+    ring: &SharedRing<M>,
+    consumer: &mut RingSeat,
+    capacity: u32,
+    value: u64,
+)
     requires seat { IsSeatOf ring.now.table_id ring.now.key capacity consumer.old }
     requires consumes { consumer.old.me.0.consumes ≡ true }
     ensures seat { IsSameSeat consumer.old consumer.new }

@@ -10,6 +10,7 @@ use Rattle.ring_conductor.specs.Asking.{services_of}
 use Rattle.ring_conductor.specs.Finishing.{claims_in, joined_by, replies_of, services_in}
 use Rattle.ring_conductor.specs.Storming.{HasFinished, IsBoardFor, IsReportBy, IsReportFrom, storm_counters}
 use Rattle.ring_rings.specs.declared.ring.Ring.{Ring}
+use Rattle.ring_rings.specs.declared.steps.Steps.{Ghosts}
 use Rattle.ring_board.specs.declared.board.Board.{Board}
 use Rattle.ring_counters.specs.declared.values.seats.CounterValues.{CounterValues}
 use Rattle.ring_rings.specs.Reading.{messages_of}
@@ -22,7 +23,7 @@ use Rattle.ring_conductor.proofs.StormLemmas.{handed_at, reported, storm_count}
 use Rattle.ring_conductor.proofs.storming.storm.Goals as goal
 
 -- the counters are what the messages taken make of fresh ones
-counted : {K : Type 0} {p : StormPlan} {ring : Ring K} {board : Board} {values : CounterValues} {end : StormEnd}
+counted : {K B : Type 0} {G : Ghosts B} {p : StormPlan} {ring : Ring K B G} {board : Board} {values : CounterValues} {end : StormEnd}
     (e : HasFinished p ring board values end)
     → registry_of end.finished.counters ≡ storm_counters p (messages_of (received_of e.hub.conductor))
 counted e = ap (λ (m : CountersManager). registry_of m) e.hands_on.counters ∙ e.end.hub.2.0

@@ -10,7 +10,7 @@ returns-clause-closed c =
     let C : ℕ = c.args.table.shared.key.capacity in
     let start : ℕ = c.args.table.shared.key.start in
     subst (λ (ws : List ℕ). IsClosed C start ws c.args.seat.me.0) final.2
-    (closes C start final.0.words final.0.views final.1.0 _ _ final.1.1 c.requires.shares c.requires.consumes)
+    (closes C start final.0.words final.0.views final.1.0.0 _ _ final.1.1 c.requires.shares c.requires.consumes)
 
 pub returns-clause-rest : goal.returns-clause-rest
 returns-clause-rest c = λ none_left none_cleared.

@@ -27,7 +27,7 @@ loop-done-init c =
     (overwritten_nothing c.args.offset d.message.body)) in
     record {
       most = omega arith;
-      seat = record { table = refl; id = refl; slots = refl; capacity = refl };
+      seat = record { table = refl; id = refl; slots = refl; capacity = refl; out = refl };
       loads = [];
       view = sym (ap (λ (l : List StagedClaim). with_claims l (loaded [] v0)) same
           ∙ ap (λ (l : List (ℕ × ℕ)). record v0 { log = l }) (append-nil v0.log));
@@ -108,6 +108,7 @@ loop-done-preserved c =
         id = e.seat.id ∙ r.id ∙ was.id;
         slots = e.seat.slots
             ∙ r.slots ∙ was.slots;
+        out = e.seat.out ∙ r.out ∙ was.out;
         capacity = e.seat.capacity ∙ r.capacity ∙ was.capacity;
       };
       loads = inv.loads ++ mw.view.0;

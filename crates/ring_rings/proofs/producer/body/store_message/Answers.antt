@@ -36,7 +36,7 @@ just_made C tail type_id len place body cs v same made =
     }
 
 pub store_body-requires-clause-fresh : goal.store_body-requires-clause-fresh
-store_body-requires-clause-fresh c =
+store_body-requires-clause-fresh g c =
     let m = c.requires.made in (
       m.others,
       claim_behind c.args.capacity m.tail c.args.wanted.type_id c.args.wanted.len,
@@ -46,7 +46,7 @@ store_body-requires-clause-fresh c =
     )
 
 pub store_committed_header-requires-clause-claim : goal.store_committed_header-requires-clause-claim
-store_committed_header-requires-clause-claim c =
+store_committed_header-requires-clause-claim g c =
     let m = c.requires.made in
     let body : List ℕ = c.args.body.now in
     let len : ℕ = c.args.wanted.len in
@@ -65,7 +65,7 @@ store_committed_header-requires-clause-claim c =
     })
 
 pub returns-clause-stored : goal.returns-clause-stored
-returns-clause-stored c tail cs made =
+returns-clause-stored g c tail cs made =
     let C : ℕ = c.args.capacity in
     let body : List ℕ = c.args.body.now in
     let len : ℕ = c.args.wanted.len in
@@ -95,7 +95,7 @@ returns-clause-stored c tail cs made =
     ∙ ap (λ (d : StagedClaim). with_claims (cs ++ d ∷ []) v) is
 
 pub store_body-requires-clause-inside : goal.store_body-requires-clause-inside
-store_body-requires-clause-inside c =
+store_body-requires-clause-inside g c =
     let C : ℕ = c.args.capacity in
     let len : ℕ = c.args.wanted.len in
     let m = c.requires.made in

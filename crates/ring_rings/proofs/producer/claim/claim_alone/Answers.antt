@@ -4,7 +4,7 @@ use Rattle.ring_rings.proofs.RefusalLemmas.{refusal_is, refused_at_once}
 use Rattle.ring_rings.proofs.producer.claim.claim_alone.Goals as goal
 
 pub returns-in_err-test_request-clause-told : goal.returns-in_err-test_request-clause-told
-returns-in_err-test_request-clause-told c =
+returns-in_err-test_request-clause-told g c =
     let fault = c.in_err-test_request.field-0.0 in
     let refused = refused_at_once c.args.capacity c.args.seat.now.me.0.producer.seen_tail c.args.wanted.type_id
     c.args.wanted.len fault
@@ -13,7 +13,7 @@ returns-in_err-test_request-clause-told c =
     rw t.1 (inl (rw t.2 refused, refl))
 
 pub returns-in_err-admission-clause-told : goal.returns-in_err-admission-clause-told
-returns-in_err-admission-clause-told c =
+returns-in_err-admission-clause-told g c =
     let fault = c.in_err-admission.field-0.0 in
     let refused = refusal_is _ c.admit.result fault c.admit.ensures.refused c.in_err-admission.was in
     let t = err_from_is_err_and c.from_residual-in_err-admission.result c.from_residual-in_err-admission.ensures.1 in

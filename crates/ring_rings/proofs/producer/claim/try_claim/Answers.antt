@@ -7,14 +7,14 @@ use Rattle.ring_rings.proofs.RefusalLemmas.{refusal_is}
 use Rattle.ring_rings.proofs.producer.claim.try_claim.Goals as goal
 
 pub returns-in_err-test_request-clause-told : goal.returns-in_err-test_request-clause-told
-returns-in_err-test_request-clause-told c =
+returns-in_err-test_request-clause-told g c =
     let fault = c.in_err-test_request.field-0.0 in
     let refused = refusal_is _ c.test_request.result fault c.test_request.ensures c.in_err-test_request.was in
     let t = err_from_is_err_and c.from_residual.result c.from_residual.ensures.1 in
     rw t.1 (rw t.2 (inl (refused, refl)))
 
 pub returns-in_err-admission-clause-told : goal.returns-in_err-admission-clause-told
-returns-in_err-admission-clause-told c =
+returns-in_err-admission-clause-told g c =
     let fault = c.in_err-admission.field-0.0 in
     let refused = refusal_is _ c.admit.result fault c.admit.ensures.refused c.in_err-admission.was in
     let t = err_from_is_err_and c.from_residual-in_err-admission.result c.from_residual-in_err-admission.ensures.1 in
@@ -28,7 +28,7 @@ returns-in_err-admission-clause-told c =
     })))
 
 pub returns-in-Err-Full-clause-told : goal.returns-in-Err-Full-clause-told
-returns-in-Err-Full-clause-told c =
+returns-in-Err-Full-clause-told g c =
     let a = c.in_ok-admission.admission in
     let before : View = c.load_tail-tail.new.producer.me.0 in
     let after : View = c.find_room.new.seat.me.0 in
@@ -42,7 +42,7 @@ returns-in-Err-Full-clause-told c =
     (subst (λ t. FindsNoRoom c.args.capacity t a.end c.in-Err-Full.head before after) admitted.tail_is found))))
 
 pub returns-in-Err-Passed-clause-told : goal.returns-in-Err-Passed-clause-told
-returns-in-Err-Passed-clause-told c =
+returns-in-Err-Passed-clause-told g c =
     let a = c.in_ok-admission.admission in
     let before : View = c.load_tail-tail.new.producer.me.0 in
     let after : View = c.find_room.new.seat.me.0 in
@@ -56,7 +56,7 @@ returns-in-Err-Passed-clause-told c =
     (subst (λ t. FindsPassed c.args.capacity t a.end c.in-Err-Passed.seen before after) admitted.tail_is found))
 
 pub returns-then-seen-tail-clause-told : goal.returns-then-seen-tail-clause-told
-returns-then-seen-tail-clause-told c =
+returns-then-seen-tail-clause-told g c =
     let a = c.in_ok-admission.admission in
     let before : View = c.load_tail-tail.new.producer.me.0 in
     let after : View = c.find_room.new.seat.me.0 in

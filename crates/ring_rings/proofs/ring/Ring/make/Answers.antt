@@ -23,4 +23,5 @@ invariant_of-producer g c =
         limit = start.1;
       });
       produces = (ap (λ (v : View). v.consumes) e.left, e.seat.slots ∙ ap (λ (m : Mine). m.1) view);
+      home = e.seat.out ∙ ap (λ (m : Mine). m.0.out) view;
     }

@@ -37,6 +37,7 @@ invariant_of-producer g c =
         limit = p.known.limit;
       };
       produces = (ap (λ (v : View). v.consumes) put.view ∙ p.produces.0, c.put_bytes.ensures.seat.slots ∙ p.produces.1);
+      home = c.put_bytes.ensures.seat.out ∙ p.home;
     }
 
 pub returns-clause-claim : goal.returns-clause-claim

@@ -26,6 +26,7 @@ invariant_of-producer g c =
           c.args.claim.type_id c.args.claim.len c.args.state p.known c.requires.claim.claim c.place.ensures e.rising
           e.view (none_open c.args.state c.requires.settled);
       produces = (ap (λ (v : View). v.consumes) e.view ∙ p.produces.0, e.seat.slots ∙ p.produces.1);
+      home = e.seat.out ∙ p.home;
     }
 
 pub returns-clause-others : goal.returns-clause-others

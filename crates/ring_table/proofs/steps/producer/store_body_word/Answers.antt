@@ -1,10 +1,11 @@
-use Rattle.std.proofs.Common.{◌≡◌, ◌+◌, sym, ap, ◌∙◌, arith}
+use Rattle.ring_table.specs.Staged.{in_words}
+use Rattle.std.proofs.Common.{◌≡◌, ◌+◌, sym, ap, ◌∙◌, arith, refl}
 use Rattle.ring_layout.specs.Places.{index}
 use Rattle.ring_table.specs.Staged.{AreRising}
 use Rattle.ring_table.specs.Changes.{changed, with_body_word}
 use Rattle.ring_table.specs.Views.{View, with_claims}
 use Rattle.ring_table.specs.ProducerSteps.{StoresBody}
-use Rattle.ring_table.proofs.Calls.{same_seat, record_step}
+use Rattle.ring_table.proofs.Calls.{same_seat, record_step, of_as, leaves_words}
 use Rattle.ring_table.proofs.StoreLemmas.{puts}
 use Rattle.ring_table.proofs.steps.producer.store_body_word.Goals as goal
 
@@ -12,9 +13,14 @@ pub store-requires : goal.store-requires
 store-requires c =
     let s = c.requires.seat in
     let h = c.requires.claim in
-    record_step s _ (c.args.place + 8 + c.args.at) _ c.requires.target (ap (λ p. p + 8 + c.args.at) h.at_place)
+    record_step in_words s _ (c.args.place + 8 + c.args.at) _ c.requires.target (ap (λ p. p + 8 + c.args.at) h.at_place)
     (λ _. c.args.word)
     (λ i me _ me'. (me'.1 ≡ me.1) × StoresBody i c.args.word me.0 me'.0 × AreRising me.0.producer.claims)
+    (λ _ w t _ _ _. (
+      t.0,
+      leaves_words (t.1 h.nth h.claim c.args.at h.there h.holds.stage h.holds.aligned h.holds.inside
+          ((λ i. index (s.view_is i) (h.at_place i + 8 + c.args.at)) ∙ sym c.requires.target)) refl,
+    ))
     (puts c.args.capacity c.args.ring.now.key.start _ _ c.args.producer.now.me s.view_is h.nth h.claim c.args.at
     c.args.word h.there h.holds (omega arith))
 
@@ -30,4 +36,4 @@ returns-clause-view c =
 pub returns-clause-seat : goal.returns-clause-seat
 returns-clause-seat c =
     let h = c.store.ensures in
-    same_seat h.0 h.1 h.2.0 (ap (λ (v : View). v.capacity) (returns-clause-view c))
+    same_seat h.0 h.1 h.2.0 (of_as (returns-clause-view c) refl refl)

@@ -1,11 +1,12 @@
-use Rattle.std.proofs.Common.{◌≡◌, ℕ, ◌+◌, ◌^◌, ◌<◌, sym, ap, ◌∙◌, arith}
+use Rattle.ring_table.specs.Staged.{in_words}
+use Rattle.std.proofs.Common.{◌≡◌, ℕ, ◌+◌, ◌^◌, ◌<◌, sym, ap, ◌∙◌, arith, refl}
 use Rattle.std.proofs.lemmas.List.{length-replicate}
 use Rattle.ring_layout.specs.Places.{index}
 use Rattle.ring_table.specs.Staged.{Padded, AreRising}
 use Rattle.ring_table.specs.Changes.{with_header}
 use Rattle.ring_table.specs.Views.{View}
 use Rattle.ring_table.specs.ProducerSteps.{StoresClaimed}
-use Rattle.ring_table.proofs.Calls.{same_seat, record_step, after_change}
+use Rattle.ring_table.proofs.Calls.{same_seat, record_step, after_change, of_as, leaves_words}
 use Rattle.ring_table.proofs.HeaderCalls.{packs_open}
 use Rattle.ring_table.proofs.StoreLemmas.{opens}
 use Rattle.ring_table.proofs.steps.producer.store_claimed_header.Goals as goal
@@ -14,12 +15,23 @@ pub store-requires : goal.store-requires
 store-requires c =
     let s = c.requires.seat in
     let h = c.requires.claim in
+    let big = s.lawful.most in
+    let short = c.requires.message.short in
+    let zeros = length-replicate {A = ℕ} c.args.wanted.len 0 in
+    let small : 8 + c.args.wanted.len < 2 ^ 31 = omega arith in
     let value : ℕ = c.open_header-header.result in
     let value_is = packs_open value c.args.wanted.len c.args.wanted.type_id c.requires.message.type_fits
     c.open_header-header.ensures in
-    record_step s _ c.args.place _ c.word_index.ensures h.at_place (λ _. value)
+    record_step in_words s _ c.args.place _ c.word_index.ensures h.at_place (λ _. value)
     (λ i me _ me'. (me'.1 ≡ me.1) × StoresClaimed i value me.0 me'.0 × AreRising me.0.producer.claims)
-    (opens c.args.capacity c.args.ring.now.key.start _ _ c.args.producer.now.me s.view_is h.nth h.claim
+    (λ _ me' t _ _ _. (
+      t.0,
+      leaves_words (after_change Padded (λ c. c.place)
+          (with_header c.args.wanted.type_id c.args.wanted.len) c.args.capacity _ c.args.place c.args.producer.now.me.0 me'.0 _ h
+          s.view_is h.holds.stage (c.word_index.ensures ∙ ap (index c.args.capacity) (sym h.at_place))
+          (t.1 c.args.wanted.type_id c.args.wanted.len c.requires.message.type_fits small value_is)) refl,
+    ))
+    (opens in_words c.args.capacity c.args.ring.now.key.start _ _ c.args.producer.now.me s.view_is h.nth h.claim
     c.args.wanted.type_id c.args.wanted.len value value_is h.there h.holds.stage
     (record { most = s.lawful.most; span_is = h.holds.same_span; lawful = c.requires.message }))
 
@@ -42,4 +54,4 @@ returns-clause-view c =
 pub returns-clause-seat : goal.returns-clause-seat
 returns-clause-seat c =
     let h = c.store.ensures in
-    same_seat h.0 h.1 h.2.0 (ap (λ (v : View). v.capacity) (returns-clause-view c))
+    same_seat h.0 h.1 h.2.0 (of_as (returns-clause-view c) refl refl)

@@ -1,20 +1,26 @@
 use Rattle.std.proofs.Common.{ap}
 use Rattle.ring_table.specs.ProducerSteps.{Mine}
 use Rattle.ring_table.proofs.Calls.{same_seat}
+use Rattle.ring_table.proofs.CarryLemmas.{lift_consumer_join}
 use Rattle.ring_table.proofs.SplitLemmas.{joins_consumer}
 use Rattle.ring_table.proofs.steps.seats.join_consumer.Goals as goal
 
 pub join_seat-requires : goal.join_seat-requires
-join_seat-requires c = (
+join_seat-requires g c = (
   c.requires.table.0,
   c.requires.table.1,
-  c.requires.slots,
+  c.requires.slots.1,
   c.requires.words,
-  joins_consumer
-      c.args.ring.now.key.capacity c.args.ring.now.key.start _ _ _ _ c.requires.consumes c.requires.no_share,
+  lift_consumer_join g.M.Mode.bodies c.args.ring.now.key.capacity c.args.ring.now.key.start _ _ c.requires.slots.0 _ _ c.requires.slots.2
+      c.requires.consumes
+      (joins_consumer g.M.Mode.bodies
+      c.args.ring.now.key.capacity c.args.ring.now.key.start _ _ _ _ c.requires.consumes c.requires.no_share),
 )
 
 pub returns-clause-seat : goal.returns-clause-seat
-returns-clause-seat c =
+returns-clause-seat g c =
     let h = c.join_seat.ensures in
-    same_seat h.0 h.1 (ap (λ (m : Mine). m.1) h.2) (ap (λ (m : Mine). m.0.capacity) h.2)
+    same_seat h.0 h.1 (ap (λ (m : Mine). m.1) h.2) (record {
+      capacity = ap (λ (m : Mine). m.0.capacity) h.2;
+      out = ap (λ (m : Mine). m.0.out) h.2;
+    })

@@ -1,0 +1,495 @@
+-- The steps that take a body's slots and give them back keep the rule.
+use Rattle.std.proofs.Common.{◌≡◌, ◌≢◌, ℕ, ℤ, zero, suc, ◌+◌, ◌*◌, ◌/◌, ◌%◌, ◌^◌, ◌≤◌, ◌<◌, ◌⊎◌, FitsSigned, List, [], ◌∷◌, ◌++◌, Bool, true, false, cond, eqb, set, map, slice_index, sym, refl, ap, ◌∙◌, subst, inl, inr, ⊎_elim, length, append-nil, eq-eqb, ne_eqb, arith}
+use Rattle.std.specs.Prelude.{All}
+use Rattle.std.specs.Int.{w32}
+use mathlib.Core.Option.{Option, some, some-injective, some-ne-none}
+use mathlib.Core.Logic.{dite}
+use native.Mathlib.Decide.{ℕ_discrete}
+use lib.ListN.{get_elem?}
+use Rattle.std.proofs.lemmas.List.{length-map, length-replicate, set-get_or}
+use Rattle.atomic_table.specs.Table.{State, Allows, homes_after, carried_after}
+use Rattle.atomic_table.proofs.Lists.{at_set, set_here}
+use Rattle.ring_layout.specs.declared.message.ClaimState.TheVariants.{Open}
+use Rattle.ring_layout.specs.Headers.{open_header}
+use Rattle.ring_layout.specs.Places.{index}
+use Rattle.ring_layout.proofs.ListLemmas.{at_below}
+use Rattle.ring_table.specs.Staged.{Bodies, elsewhere, StagedClaim, PlacedMessage, Padded, Stored, IsStored, AreRising, staged_end, body_word}
+use Rattle.ring_table.specs.Changes.{blank, changed, changed_at, with_body, with_header}
+use Rattle.ring_table.specs.Owners.{OwnedHistory, all_of, owned_by}
+use Rattle.ring_table.specs.Passing.{IsSettled, placed_message}
+use Rattle.ring_table.specs.Views.{View, with_claims}
+use Rattle.ring_table.specs.ProducerSteps.{Mine, HasClaim, with_changed}
+use Rattle.ring_table.specs.Rule.{Kept}
+use Rattle.ring_table.specs.Ranges.{numbered, values_of, takes_from, gives_first, laid}
+use Rattle.ring_table.specs.Shelf.{IsClaimOf, IsShelf}
+use Rattle.ring_table.specs.SlotSteps.{words_of, AreWordsOf, HasSlots, HasBody, with_out, OpensBody, TakesBody, GivesBody, LendsBody, ReturnsBody, body_loads}
+use Rattle.ring_table.proofs.RangeLemmas.{values_numbered, carried_takes, valid_takes, carried_gives, valid_gives, homes_gives}
+use Rattle.ring_table.proofs.ListLemmas.{there_or_past}
+use Rattle.ring_table.proofs.HistoryLemmas.{changed_at_place, changed_at_other, changed_there}
+use Rattle.ring_table.proofs.StagedPlaces.{one_at_place}
+use Rattle.ring_table.proofs.ReachLemmas.{stored_of}
+use Rattle.ring_table.proofs.KnowLemmas.{knows_on}
+use Rattle.ring_table.proofs.StepLemmas.{sees_top_after, becomes}
+use Rattle.ring_table.proofs.HeaderWords.{one_type, one_length}
+use Rattle.ring_table.proofs.LoadLemmas.{Ok, HasUnsettled}
+use Rattle.ring_table.proofs.StoreLemmas.{FillsClaim, opens, gives_body, rising, same_place, header_lies}
+use Rattle.ring_table.proofs.ClearLemmas.{one_end}
+use Rattle.ring_table.proofs.CarryLemmas.{Holds, was_changed, one_claim}
+use Rattle.ring_table.proofs.FillLemmas.{same_body}
+use Rattle.ring_table.proofs.BodyPlaces.{BodyIn, Lies, WasPassed, body_index, gathered}
+use Rattle.ring_table.proofs.SlotLemmas.{own_lies, got_lies, in_history, none_at_own, none_at_got, all_home, reads_from, takes_shelf, gives_shelf, one_out}
+
+-- ---- views and lists
+
+set_twice : (views : List View) (id : ℕ) (v w : View) → set (set views id v) id w ≡ set views id w
+set_twice [] id v w = refl
+set_twice (x ∷ xs) zero v w = refl
+set_twice (x ∷ xs) (suc id) v w = ap (λ l. x ∷ l) (set_twice xs id v w)
+
+-- a claim of the history is its owner's
+has_owned : (h : OwnedHistory) (n j : ℕ) (c : StagedClaim) → get_elem? h n ≡ some (j, c)
+    → (k : ℕ) × (get_elem? (owned_by j h) k ≡ some c)
+has_owned [] n j c e = absurd (some-ne-none (j, c) (sym e))
+has_owned (x ∷ xs) zero j c e =
+    let is : x ≡ (j, c) = some-injective x (j, c) e in (
+      0,
+      ap (λ b. get_elem? (cond b (x.1 ∷ owned_by j xs) (owned_by j xs)) 0)
+          (eq-eqb x.0 j (ap (λ (z : ℕ × StagedClaim). z.0) is))
+          ∙ ap (λ (z : ℕ × StagedClaim). some z.1) is,
+    )
+has_owned (x ∷ xs) (suc n) j c e =
+    let t = has_owned xs n j c e in
+    dite (ℕ_discrete x.0 j)
+    (λ own. (
+      suc t.0,
+      ap (λ b. get_elem? (cond b (x.1 ∷ owned_by j xs) (owned_by j xs)) (suc t.0))
+          (eq-eqb x.0 j own) ∙ t.1,
+    ))
+    (λ other. (
+      t.0,
+      ap (λ b. get_elem? (cond b (x.1 ∷ owned_by j xs) (owned_by j xs)) t.0)
+          (ne_eqb x.0 j other) ∙ t.1,
+    ))
+
+-- claims of a view that has them as before
+same_claims : (views : List View) (id : ℕ) (v w : View) (c : StagedClaim) → get_elem? views id ≡ some v
+    → w.producer.claims ≡ v.producer.claims → IsClaimOf (set views id w) c → IsClaimOf views c
+same_claims views id v w c at claims of = ⊎_elim
+    (λ (t : (of.seat ≡ id) × (w ≡ of.view)). record {
+      seat = id;
+      view = v;
+      nth = of.nth;
+      there = at;
+      has = subst (λ l. get_elem? l of.nth ≡ some c) (ap (λ (z : View). z.producer.claims) (sym t.1) ∙ claims) of.has;
+      stored = of.stored;
+    })
+    (λ (t : (of.seat ≢ id) × (get_elem? views of.seat ≡ some of.view)). record {
+      seat = of.seat;
+      view = of.view;
+      nth = of.nth;
+      there = t.1;
+      has = of.has;
+      stored = of.stored;
+    })
+    (at_set views id of.seat w of.view of.there)
+
+-- one view has another body out
+pub outed : (B : Bodies) (C start : ℕ) (words : List ℕ) (views : List View) (r : Kept B C start words views) (id : ℕ)
+    (v : View) → get_elem? views id ≡ some v → (ms : List PlacedMessage) (log : List (ℕ × ℕ))
+    → Kept B C start words (set views id (record v { out = ms; log = log }))
+outed B C start words views r id v at ms log =
+    let top : ℕ = staged_end start (all_of r.hist) in
+    let k = r.seated.each id v at in
+    becomes B C start words views r id v at words r.hist r.consumer r.drawn (record v { out = ms; log = log }) (record {
+      memory = r.memory;
+      service = r.service;
+      steps = record {
+        own = knows_on k refl (omega arith) k.served k.consumes;
+        others = λ j u ne knows. knows;
+        shares = refl;
+        outside = λ j ne. refl;
+        latest = sees_top_after views id v (record v { out = ms; log = log }) top top at (λ rich. rich) refl (λ e. e) r.seated.latest;
+        drawn = λ x. refl;
+      };
+    })
+
+-- the values of slots that were taken are the body's words
+has_body : (C i : ℕ) (body ys : List ℕ) (homes : List (Option ℕ)) (carried : List (ℕ × ℕ)) → carried ≡ []
+    → length ys ≡ words_of (length body)
+    → ((j y : ℕ) → j < words_of (length body) → get_elem? ys j ≡ some y → body_word body (8 * j) ≡ y)
+    → HasBody i body (carried_after carried (takes_from i ys))
+has_body C i body ys homes carried none count words = record {
+  values = ys;
+  held_is = carried_takes carried i ys ∙ ap (λ l. numbered i ys ++ l) none ∙ append-nil (numbered i ys);
+  words = λ j y e. let less = at_below ys j y e in words j y (omega arith) e;
+  count = count;
+}
+
+module _ (C start : ℕ) where
+  -- the rule after a load and a take or a give
+  loaded : (s : State ℕ View) (i : ℕ) (views : List View) → Kept elsewhere C start s.words views
+      → Kept elsewhere C start (set s.words i (slice_index s.words i)) views
+  loaded s i views k = subst (λ l. Kept elsewhere C start l views) (sym (set-get_or s.words i 0)) k
+
+  -- the own claim at this word
+  own_claim : (s : State ℕ View) (r : Ok elsewhere C start s) (id : ℕ) (v : View) → get_elem? s.views id ≡ some v
+      → v.capacity ≡ C → (k : ℕ) (c : StagedClaim) → HasClaim v k c → (IsSettled c.stage → ⊥)
+      → (k' : ℕ) (c' : StagedClaim) → HasClaim v k' c' → (IsSettled c'.stage → ⊥)
+      → index v.capacity c'.place ≡ index C c.place → c ≡ c'
+  own_claim s r id v at cap k c has un k' c' has' un' same =
+      let mine : HasUnsettled elsewhere C start s.views id v k c =
+      record { seat = at; claim = has; unsettled = un } in
+      let other : HasUnsettled elsewhere C start s.views id v k' c' =
+      record { seat = at; claim = has'; unsettled = un' } in
+      let places = (same_place elsewhere C start s.words s.views r id v k k' c c' mine other c.place c'.place
+      (header_lies elsewhere C start s.words s.views r id v k c mine)
+      (header_lies elsewhere C start s.words s.views r id v k' c' other)
+      (ap (λ z. index z c'.place) (sym cap) ∙ same)).0 in
+      one_claim v.producer.claims k k' c c' (rising elsewhere C start s.words s.views r id v at) has has' (sym places)
+
+  pub takes_body : (slots id : ℕ) (me : Mine) → me.0.capacity ≡ C → me.0.out ≡ [] → me.1 ≡ [] → (k : ℕ)
+      (c : StagedClaim) → HasClaim me.0 k c → c.stage ≡ Stored Open
+      → Allows (Holds elsewhere C start) slots id me (index C c.place) (λ n. n)
+      (λ n me'. TakesBody (index C c.place) me me' × AreRising me.0.producer.claims)
+  takes_body slots id me cap none empty k c has is s r wide at small =
+      let v : View = me.0 in
+      let un : IsSettled c.stage → ⊥ = λ z. subst IsSettled is z in
+      let l = own_lies C start s.words s.homes s.views r.0 r.1 id v k c at has un in
+      let alone = none_at_own C start s.words s.homes s.views r.0 r.1 id v k c at none has un in
+      let n : ℕ = length c.message.body in
+      let i : ℕ = index C c.place in
+      let home = all_home C start s.words s.homes s.views r.0 r.1 c.place n l alone in
+      let right : (j y : ℕ) → j < words_of n → get_elem? s.homes (i + 1 + j) ≡ some (some y)
+      → body_word c.message.body (8 * j) ≡ y = λ j y less e.
+      sym (r.1.exact c (record {
+        seat = id;
+        view = v;
+        nth = k;
+        there = at;
+        has = has;
+        stored = subst IsStored (sym is) tt;
+      }) (reads_from C start s.words s.homes s.views r.0 r.1 c.place l.body.from) (8 * j) y (omega arith) (omega arith)
+      (ap (get_elem? s.homes) (body_index C r.0.consumer.head c.place n j l.body less) ∙ e)) in
+      let ys = gathered s.homes (i + 1) (words_of n) home in
+      let m : PlacedMessage = placed_message c in
+      let w : View = with_out (m ∷ []) v in
+      let body : HasBody (i + 1) c.message.body (carried_after me.1 (takes_from (i + 1) ys.0)) =
+      has_body C (i + 1) c.message.body ys.0 s.homes me.1 empty ys.1
+      (λ j y less e. right j y less (ys.2 j y e)) in (
+        w,
+        takes_from (i + 1) ys.0,
+        valid_takes s.homes me.1 (i + 1) ys.0 ys.2,
+        (
+          loaded s i (set s.views id w) (outed elsewhere C start s.words s.views r.0 id v at (m ∷ []) v.log),
+          takes_shelf C start s.words s.homes s.views r.0 r.1 id v w at refl refl m me.1 ys.0 (record {
+            was = none;
+            now = refl;
+            kind = inl (record { nth = k; claim = c; there = has; stage = is; place = refl; long = refl });
+            claims = λ k' c' has' stored. inr has';
+          }) l.body ys.1,
+        ),
+        (
+          λ k' c' has' is' same.
+              let one : c ≡ c' = own_claim s r.0 id v at cap k c has un k' c' has' (λ z. subst IsSettled is' z) same in (
+                (λ x. with_out (placed_message (one x) ∷ []) v),
+                subst (λ (z : StagedClaim). HasBody (i + 1) z.message.body (carried_after me.1
+                    (takes_from (i + 1) ys.0))) one body,
+              ),
+          rising elsewhere C start s.words s.views r.0 id v at,
+        ),
+      )
+
+  pub lends_body : (slots id : ℕ) (me : Mine) → me.0.capacity ≡ C → me.0.out ≡ [] → me.1 ≡ [] → me.0.consumes ≡ true
+      → (front : List PlacedMessage) (m : PlacedMessage) → me.0.consumer.got ≡ front ++ m ∷ []
+      → me.0.consumer.cleared ≤ m.place
+      → Allows (Holds elsewhere C start) slots id me (index C m.place) (λ n. n)
+      (λ n me'. LendsBody (index C m.place) me me')
+  lends_body slots id me cap none empty consumes front m got ahead s r wide at small =
+      let v : View = me.0 in
+      let g = got_lies C start s.words s.homes s.views r.0 r.1 id v front m at consumes got ahead in
+      let p = g.passed in
+      let l = g.lies in
+      let alone = none_at_got C start s.words s.homes s.views r.0 r.1 id v m at none consumes p in
+      let n : ℕ = length m.message.body in
+      let i : ℕ = index C m.place in
+      let home = all_home C start s.words s.homes s.views r.0 r.1 m.place n l alone in
+      let owner = has_owned r.0.hist p.nth p.owned.0 p.owned.1 p.there in
+      let of : IsClaimOf s.views p.owned.1 = ⊎_elim
+      (λ (t : (u : View) × (get_elem? s.views p.owned.0 ≡ some u)). record {
+        seat = p.owned.0;
+        view = t.0;
+        nth = owner.0;
+        there = t.1;
+        has = subst (λ h. get_elem? h owner.0 ≡ some p.owned.1) (sym (r.0.seated.each p.owned.0 t.0 t.1).claims) owner.1;
+        stored = stored_of p.owned.1.stage p.settled;
+      })
+      (λ (past : length s.views ≤ p.owned.0). absurd (some-ne-none p.owned.1
+      (sym owner.1 ∙ ap (λ h. get_elem? h owner.0) (r.0.seated.nobody p.owned.0 past))))
+      (there_or_past s.views p.owned.0) in
+      let right : (j y : ℕ) → j < words_of n → get_elem? s.homes (i + 1 + j) ≡ some (some y)
+      → body_word m.message.body (8 * j) ≡ y = λ j y less e.
+      let long : length p.owned.1.message.body ≡ n = ap (λ (z : PlacedMessage). length z.message.body) p.is in
+      let place : p.owned.1.place ≡ m.place = ap (λ (z : PlacedMessage). z.place) p.is in
+      ap (λ (z : PlacedMessage). body_word z.message.body (8 * j)) (sym p.is)
+      ∙ sym (r.1.exact p.owned.1 of (reads_from C start s.words s.homes s.views r.0 r.1 p.owned.1.place
+      (let from = l.body.from in omega arith)) (8 * j) y (omega arith) (omega arith)
+      (ap (get_elem? s.homes) (ap (λ q. index C (q + 8 + 8 * j)) place
+      ∙ body_index C r.0.consumer.head m.place n j l.body less) ∙ e)) in
+      let ys = gathered s.homes (i + 1) (words_of n) home in
+      let w : View = with_out (m ∷ []) v in
+      let body : HasBody (i + 1) m.message.body (carried_after me.1 (takes_from (i + 1) ys.0)) =
+      has_body C (i + 1) m.message.body ys.0 s.homes me.1 empty ys.1
+      (λ j y less e. right j y less (ys.2 j y e)) in (
+        w,
+        takes_from (i + 1) ys.0,
+        valid_takes s.homes me.1 (i + 1) ys.0 ys.2,
+        (
+          loaded s i (set s.views id w) (outed elsewhere C start s.words s.views r.0 id v at (m ∷ []) v.log),
+          takes_shelf C start s.words s.homes s.views r.0 r.1 id v w at refl refl m me.1 ys.0 (record {
+            was = none;
+            now = refl;
+            kind = inr (record { consumes = consumes; front = front; got = got; ahead = ahead });
+            claims = λ k' c' has' stored. inr has';
+          }) l.body ys.1,
+        ),
+        λ front' m' got'.
+            let same = one_end front front' m m' (sym got ∙ got') in (
+              (λ x. with_out (same.1 x ∷ []) v),
+              subst (λ (z : PlacedMessage). HasBody (i + 1) z.message.body (carried_after me.1
+                  (takes_from (i + 1) ys.0))) same.1 body,
+            ),
+      )
+
+  pub returns_body : (slots id : ℕ) (me : Mine) → me.0.capacity ≡ C → me.0.consumes ≡ true
+      → (front : List PlacedMessage) (m : PlacedMessage) → me.0.consumer.got ≡ front ++ m ∷ []
+      → me.0.consumer.cleared ≤ m.place → me.0.out ≡ m ∷ [] → HasBody (index C m.place + 1) m.message.body me.1
+      → Allows (Holds elsewhere C start) slots id me (index C m.place) (λ n. n) (λ n me'. ReturnsBody me me')
+  returns_body slots id me cap consumes front m got ahead out has s r wide at small =
+      let v : View = me.0 in
+      let g = got_lies C start s.words s.homes s.views r.0 r.1 id v front m at consumes got ahead in
+      let p = g.passed in
+      let l = g.lies in
+      let i : ℕ = index C m.place in
+      let ws : List ℕ = has.values in
+      let carried : me.1 ≡ numbered (i + 1) ws ++ [] = has.held_is ∙ sym (append-nil (numbered (i + 1) ws)) in
+      let homes_are : homes_after s.homes me.1 (gives_first ws) ≡ laid (i + 1) (map some ws) s.homes =
+      ap (λ h. homes_after s.homes h (gives_first ws)) carried ∙ homes_gives s.homes (i + 1) ws [] in
+      let loads : List (ℕ × ℕ) = v.log ++ body_loads C m (words_of (length m.message.body)) in
+      let w : View = record v { out = []; log = loads } in (
+        w,
+        gives_first ws,
+        valid_gives s.homes me.1 ws,
+        (
+          loaded s i (set s.views id w) (outed elsewhere C start s.words s.views r.0 id v at [] loads),
+          subst (λ hs. IsShelf C hs (set s.views id w)) (sym homes_are)
+              (gives_shelf C start s.words s.homes s.views r.0 r.1 id v w at refl refl m ws (record {
+                was = out;
+                now = refl;
+                old = λ k c has_it stored ne. has_it;
+                right = λ c of same.
+                    let have : IsClaimOf s.views c = same_claims s.views id v w c at refl of in
+                    let h = in_history C start s.words s.homes s.views r.0 r.1 have.seat have.view have.nth c
+                    have.there have.has in
+                    let place : p.owned.1.place ≡ m.place = ap (λ (z : PlacedMessage). z.place) p.is in
+                    let one : (have.seat, c) ≡ p.owned =
+                    one_at_place C start r.0.hist h.nth p.nth (have.seat, c) p.owned r.0.memory.placed h.there p.there
+                    (same ∙ sym place) in
+                    let bodies : m.message.body ≡ c.message.body =
+                    ap (λ (z : PlacedMessage). z.message.body) (sym p.is)
+                    ∙ ap (λ (z : ℕ × StagedClaim). z.1.message.body) (sym one) in
+                    (subst (λ b. AreWordsOf b ws) bodies has.words, ap length (sym bodies));
+              }) l has.count),
+        ),
+        (
+          ap (λ h. carried_after h (gives_first ws)) carried ∙ carried_gives (i + 1) ws [],
+          λ m' out'.
+              let one : m ≡ m' = one_out m m' v.out out out' in
+              λ x. record v {
+                out = [];
+                log = v.log ++ body_loads (sym cap x) (one x) (words_of (length (one x).message.body));
+              },
+        ),
+      )
+
+  pub gives_it : (slots id : ℕ) (me : Mine) → me.0.capacity ≡ C → (k : ℕ) (c : StagedClaim) (m : PlacedMessage)
+      (body : List ℕ) → HasClaim me.0 k c → c.stage ≡ Stored Open → me.0.out ≡ m ∷ [] → c.place ≡ m.place
+      → length c.message.body ≡ length m.message.body → length body ≡ length c.message.body
+      → All (λ b. b < 256) body → HasBody (index C c.place + 1) body me.1
+      → Allows (Holds elsewhere C start) slots id me (index C c.place) (λ n. n)
+      (λ n me'. GivesBody me me' × AreRising me.0.producer.claims)
+  gives_it slots id me cap k c m body has is out places longs long bytes held s r wide at small =
+      let v : View = me.0 in
+      let un : IsSettled c.stage → ⊥ = λ z. subst IsSettled is z in
+      let l = own_lies C start s.words s.homes s.views r.0 r.1 id v k c at has un in
+      let l_m : Lies C r.0.consumer.head r.0.hist m.place (length m.message.body) =
+      subst (λ (z : ℕ × ℕ). Lies C r.0.consumer.head r.0.hist z.0 z.1) (λ x. (places x, longs x)) l in
+      let i : ℕ = index C c.place in
+      let ws : List ℕ = held.values in
+      let carried : me.1 ≡ numbered (i + 1) ws ++ [] = held.held_is ∙ sym (append-nil (numbered (i + 1) ws)) in
+      let homes_are : homes_after s.homes me.1 (gives_first ws) ≡ laid (index C m.place + 1) (map some ws) s.homes =
+      ap (λ h. homes_after s.homes h (gives_first ws)) carried ∙ homes_gives s.homes (i + 1) ws []
+      ∙ ap (λ p. laid (index C p + 1) (map some ws) s.homes) places in
+      let rises = rising elsewhere C start s.words s.views r.0 id v at in
+      let f : StagedClaim → StagedClaim = with_body body in
+      let mid : View = with_claims (changed c.place f v.producer.claims) v in
+      let w : View = with_out [] mid in
+      let t = gives_body C start slots id me cap k c body has is long bytes s r.0 wide at small in
+      let mid_is : t.0 ≡ mid = t.4.1 k c has is (ap (λ z. index z c.place) cap) in
+      let kept : Kept elsewhere C start (set s.words i (slice_index s.words i)) (set s.views id mid) =
+      subst (λ (z : View). Kept elsewhere C start (set s.words i (slice_index s.words i)) (set s.views id z)) mid_is t.3
+      in
+      let kept_out : Kept elsewhere C start (set s.words i (slice_index s.words i)) (set s.views id w) =
+      subst (λ l. Kept elsewhere C start (set s.words i (slice_index s.words i)) l) (set_twice s.views id mid w)
+      (outed elsewhere C start (set s.words i (slice_index s.words i)) (set s.views id mid) kept id mid
+      (set_here s.views id mid (at_below s.views id v at)) [] mid.log) in
+      let own : (k' : ℕ) (c' : StagedClaim) → HasClaim w k' c' → c'.place ≡ m.place → c' ≡ f c = λ k' c' has' same.
+      let d = was_changed c.place f v.producer.claims k' c' has' in
+      dite (ℕ_discrete d.0.place c.place)
+      (λ here.
+      let one : c ≡ d.0 = one_claim v.producer.claims k k' c d.0 rises has d.1 (sym here) in
+      sym d.2 ∙ changed_at_place c.place f d.0 here ∙ ap f (sym one))
+      (λ there. absurd (there (ap (λ (z : StagedClaim). z.place)
+      (sym (changed_at_other c.place f d.0 there) ∙ d.2) ∙ same ∙ sym places))) in (
+        w,
+        gives_first ws,
+        valid_gives s.homes me.1 ws,
+        (
+          kept_out,
+          subst (λ hs. IsShelf C hs (set s.views id w)) (sym homes_are)
+              (gives_shelf C start s.words s.homes s.views r.0 r.1 id v w at refl refl m ws (record {
+                was = out;
+                now = refl;
+                old = λ k' c' has' stored ne.
+                    let d = was_changed c.place f v.producer.claims k' c' has' in
+                    dite (ℕ_discrete d.0.place c.place)
+                    (λ here. absurd (ne (ap (λ (z : StagedClaim). z.place)
+                    (sym d.2 ∙ changed_at_place c.place f d.0 here) ∙ here ∙ places)))
+                    (λ there. d.1 ∙ ap some (sym (changed_at_other c.place f d.0 there) ∙ d.2));
+                right = λ c' of same. ⊎_elim
+                    (λ (t : (of.seat ≡ id) × (w ≡ of.view)).
+                    let one : c' ≡ f c = own of.nth c' (subst (λ (z : View). HasClaim z of.nth c') (sym t.1) of.has) same
+                    in (
+                      subst (λ (z : StagedClaim). AreWordsOf z.message.body ws) (sym one) held.words,
+                      ap (λ (z : StagedClaim). length z.message.body) one ∙ long ∙ longs,
+                    ))
+                    (λ (t : (of.seat ≢ id) × (get_elem? s.views of.seat ≡ some of.view)).
+                    let h = in_history C start s.words s.homes s.views r.0 r.1 of.seat of.view of.nth c' t.1 of.has in
+                    let mine = in_history C start s.words s.homes s.views r.0 r.1 id v k c at has in
+                    let one : (of.seat, c') ≡ (id, c) =
+                    one_at_place C start r.0.hist h.nth mine.nth (of.seat, c') (id, c) r.0.memory.placed h.there
+                    mine.there (same ∙ sym places) in
+                    absurd (t.0 (ap (λ (z : ℕ × StagedClaim). z.0) one)))
+                    (at_set s.views id of.seat w of.view of.there);
+              }) l_m (held.count ∙ ap words_of (long ∙ longs))),
+        ),
+        (
+          (
+            ap (λ h. carried_after h (gives_first ws)) carried ∙ carried_gives (i + 1) ws [],
+            λ m' i' body' out' long' bytes' held'.
+                let messages : m ≡ m' = one_out m m' v.out out out' in
+                let slots_are : numbered (i + 1) ws ≡ numbered i' held'.values = sym held.held_is ∙ held'.held_is in
+                let values : ws ≡ held'.values = sym (values_numbered (i + 1) ws) ∙ ap values_of slots_are
+                ∙ values_numbered i' held'.values in
+                let lengths : length body ≡ length body' =
+                long ∙ longs ∙ ap (λ (z : PlacedMessage). length z.message.body) messages ∙ sym long' in
+                let equal : body ≡ body' = same_body body body' ws lengths bytes bytes' held.words
+                (subst (AreWordsOf body') (sym values) held'.words) held.count in
+                λ x. with_out [] (with_changed ((places ∙ ap (λ (z : PlacedMessage). z.place) messages) x)
+                (with_body (equal x)) v),
+          ),
+          rises,
+        ),
+      )
+
+  pub opens_body : (slots id : ℕ) (me : Mine) → me.0.capacity ≡ C → me.0.out ≡ [] → me.1 ≡ [] → (k : ℕ)
+      (c : StagedClaim) (type_id : ℤ) (n value : ℕ) → value ≡ open_header type_id n → HasClaim me.0 k c
+      → c.stage ≡ Padded → FillsClaim C c type_id n
+      → Allows (Holds elsewhere C start) slots id me (index C c.place) (λ _. value)
+      (λ _ me'. OpensBody (index C c.place) value me me' × AreRising me.0.producer.claims)
+  opens_body slots id me cap none empty k c type_id n value value_is has is fills s r wide at small =
+      let v : View = me.0 in
+      let un : IsSettled c.stage → ⊥ = λ z. subst IsSettled is z in
+      let l = own_lies C start s.words s.homes s.views r.0 r.1 id v k c at has un in
+      let alone = none_at_own C start s.words s.homes s.views r.0 r.1 id v k c at none has un in
+      let i : ℕ = index C c.place in
+      let b = l.body in
+      let from = b.from in
+      let to = b.to in
+      let within = b.within in
+      let same_span = fills.span_is in
+      let big = fills.most in
+      let lawful = fills.lawful in
+      let zeros : length (blank type_id n).body ≡ n = length-replicate n 0 in
+      let short : n ≤ C / 8 = omega (arith, lawful.short) in
+      let count : words_of (length c.message.body) ≡ words_of n = omega arith in
+      let ys = gathered s.homes (i + 1) (words_of (length c.message.body))
+      (all_home C start s.words s.homes s.views r.0 r.1 c.place (length c.message.body) l alone) in
+      let m : PlacedMessage = record { place = c.place; message = blank type_id n } in
+      let f : StagedClaim → StagedClaim = with_header type_id n in
+      let mid : View = with_claims (changed c.place f v.producer.claims) v in
+      let w : View = with_out (m ∷ []) mid in
+      let t = opens elsewhere C start slots id me cap k c type_id n value value_is has is fills s r.0 wide at small in
+      let mid_is : t.0 ≡ mid = t.4.1 type_id n lawful.type_fits (omega arith) value_is k c has is
+      (ap (λ z. index z c.place) cap) in
+      let kept : Kept elsewhere C start (set s.words i value) (set s.views id mid) =
+      subst (λ (z : View). Kept elsewhere C start (set s.words i value) (set s.views id z)) mid_is t.3 in
+      let kept_out : Kept elsewhere C start (set s.words i value) (set s.views id w) =
+      subst (λ l. Kept elsewhere C start (set s.words i value) l) (set_twice s.views id mid w)
+      (outed elsewhere C start (set s.words i value) (set s.views id mid) kept id mid
+      (set_here s.views id mid (at_below s.views id v at)) (m ∷ []) mid.log) in (
+        w,
+        takes_from (i + 1) ys.0,
+        valid_takes s.homes me.1 (i + 1) ys.0 ys.2,
+        (
+          kept_out,
+          takes_shelf C start s.words s.homes s.views r.0 r.1 id v w at refl refl m me.1 ys.0 (record {
+            was = none;
+            now = refl;
+            kind = inl (record {
+              nth = k;
+              claim = f c;
+              there = changed_there c.place f v.producer.claims k c has refl;
+              stage = refl;
+              place = refl;
+              long = refl;
+            });
+            claims = λ k' c' has' stored.
+                let d = was_changed c.place f v.producer.claims k' c' has' in
+                dite (ℕ_discrete d.0.place c.place)
+                (λ here.
+                let new : f d.0 ≡ c' = sym (changed_at_place c.place f d.0 here) ∙ d.2 in
+                inl (
+                  ap (λ (z : StagedClaim). z.place) (sym new) ∙ here,
+                  ap (λ (z : StagedClaim). length z.message.body) (sym new),
+                ))
+                (λ there. inr (d.1 ∙ ap some (sym (changed_at_other c.place f d.0 there) ∙ d.2)));
+          }) (record {
+            some = b.some;
+            whole = b.whole;
+            place8 = b.place8;
+            from = b.from;
+            to = omega arith;
+            within = omega arith;
+          }) (ys.1 ∙ omega arith),
+        ),
+        (
+          λ type_id' n' fits' small' same.
+              let same' = sym value_is ∙ same in
+              let types : type_id ≡ type_id' =
+              one_type type_id n type_id' n' lawful.type_fits (omega arith) fits' small' same' in
+              let lengths : n ≡ n' = one_length type_id n type_id' n' (omega arith) small' same' in (
+                record {
+                  values = ys.0;
+                  held_is = carried_takes me.1 (i + 1) ys.0 ∙ ap (λ h. numbered (i + 1) ys.0 ++ h) empty
+                      ∙ append-nil (numbered (i + 1) ys.0);
+                  count = ys.1 ∙ count ∙ ap words_of lengths;
+                },
+                λ k' c' has' is' here.
+                    let one : c ≡ c' = own_claim s r.0 id v at cap k c has un k' c' has'
+                    (λ z. subst IsSettled is' z) here in
+                    λ x. with_out ((record { place = (one x).place; message = blank (types x) (lengths x) }) ∷ [])
+                    (with_changed (one x).place (with_header (types x) (lengths x)) v),
+              ),
+          rising elsewhere C start s.words s.views r.0 id v at,
+        ),
+      )

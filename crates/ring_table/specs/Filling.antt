@@ -1,0 +1,36 @@
+-- How far a body is in its slots.
+use Rattle.std.specs.Prelude.{◌≡◌, ℕ, ◌+◌, ◌*◌, ◌<◌, List, ◌++◌, All, length, slice_index}
+use Rattle.atomic_table.specs.declared.shared.Seat.{Seat}
+use Rattle.ring_table.specs.Views.{View}
+use Rattle.ring_table.specs.Ranges.{numbered}
+use Rattle.ring_table.specs.SlotSteps.{AreWordsOf}
+
+-- k of n slots have the words of the body, and went behind the others
+pub record Filling (first k n : ℕ) (body : List ℕ) (held : List (ℕ × ℕ)) : Type 0 where
+  pub left : List ℕ
+  pub done : List ℕ
+  pub held_is : held ≡ numbered (first + k) left ++ numbered first done
+  pub gone : length done ≡ k
+  pub count : length left + k ≡ n
+  pub words : AreWordsOf body done
+
+-- the bytes of the body lie in front
+abbrev pub Begins : List ℕ → List ℕ → Type 0
+Begins body bytes = (j : ℕ) → j < length body → slice_index bytes j ≡ slice_index body j
+
+-- k of n slots were copied, and went behind the others
+pub record Copying (first k n : ℕ) (scratch : List ℕ) (before held : List (ℕ × ℕ)) : Type 0 where
+  pub left : List ℕ
+  pub done : List ℕ
+  pub held_is : held ≡ numbered (first + k) left ++ numbered first done
+  pub before_is : before ≡ numbered first (done ++ left)
+  pub gone : length done ≡ k
+  pub count : length left + k ≡ n
+  pub copies : (body : List ℕ) → AreWordsOf body (done ++ left) → All (λ b. b < 256) body → (j : ℕ) → j < length body → j < 8 * k
+      → slice_index scratch j ≡ slice_index body j
+
+-- the same seat with the same view
+pub record IsSameTable (old new : Seat ℕ View) : Type 0 where
+  pub table : new.table_id ≡ old.table_id
+  pub id : new.id ≡ old.id
+  pub view : new.me.0 ≡ old.me.0

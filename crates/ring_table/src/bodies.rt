@@ -1,0 +1,181 @@
+//! Whole bodies in slots, which a seat has out: written, set to 0, and copied.
+ghost use Rattle.std.specs.Prelude.{◌≡◌, ◌+◌, ◌*◌, ◌/◌, ◌^◌, ◌≤◌, ◌<◌, [], ◌∷◌, ◌++◌, All, List, ℕ, length, replicate, true};
+ghost use Rattle.ring_table.specs.Filling.{Begins, Filling, IsSameTable};
+ghost use Rattle.ring_layout.specs.History.{IsMessage};
+ghost use Rattle.ring_table.specs.declared.claim.PlacedMessage.{PlacedMessage};
+ghost use Rattle.ring_table.specs.Changes.{blank, with_body, with_header};
+ghost use Rattle.ring_table.specs.ProducerSteps.{with_changed, HasClaimAt, NeedsHeader};
+ghost use Rattle.ring_table.specs.Seats.{IsSameSeat, IsSeatOf};
+ghost use Rattle.ring_table.specs.SlotSteps.{body_loads, words_of, HasBody, HasLast, HasSlots, IsOpenOf};
+ghost use Rattle.ring_table.specs.Staged.{body_word, AreRising};
+
+use crate::mode::InSlots;
+use crate::steps::slots::{give_body, lend_body, open_body, return_body, take_body};
+use crate::steps::{RingSeat, SharedRing};
+use crate::view::Wanted;
+use ring_layout::{first_word, put_word, word_index};
+
+/// Puts a word into the slot taken last, which goes behind the others.
+#[inline(always)]
+fn put_slot(
+    ring: &SharedRing<InSlots>,
+    seat: &mut RingSeat,
+    first: usize,
+    k: usize,
+    count: usize,
+    word: u64,
+)
+    requires seat { seat.old.table_id ≡ ring.now.table_id }
+    requires small { first + k < 2 ^ 60 }
+    requires filling { (body : List ℕ) × Filling first k count body seat.old.me.1 }
+    requires more { k < count }
+    ensures seat { IsSameTable seat.old seat.new }
+    ensures filling { (body : List ℕ) → Filling first k count body seat.old.me.1 → word ≡ body_word body (8 * k)
+        → Filling first (k + 1) count body seat.new.me.1 }
+{
+    ring.exchange(seat, first + k, word);
+    seat.turn();
+}
+
+/// Puts the words of a body into its slots, which are all that the seat has.
+#[inline(always)]
+pub fn fill_slots(ring: &SharedRing<InSlots>, seat: &mut RingSeat, first: usize, body: &[u8])
+    requires seat { seat.old.table_id ≡ ring.now.table_id }
+    requires small { first + length body.now < 2 ^ 59 }
+    requires has { HasSlots first (words_of (length body.now)) seat.old.me.1 }
+    ensures seat { IsSameTable seat.old seat.new }
+    ensures has { HasBody first body.now seat.new.me.1 }
+{
+    let count = body.len().div_ceil(8);
+    let whole = body.len() / 8;
+    for k in 0..whole {
+        let word = first_word(&body[8 * k..8 * k + 8]);
+        put_slot(ring, seat, first, k, count, word);
+    }
+    if 8 * whole < body.len() {
+        let word = first_word(&body[8 * whole..body.len()]);
+        put_slot(ring, seat, first, whole, count, word);
+    }
+}
+
+/// Sets the slots of a body of `len` bytes to 0, which are all that the seat has.
+#[inline(always)]
+pub fn fill_zeros(ring: &SharedRing<InSlots>, seat: &mut RingSeat, first: usize, len: usize)
+    requires seat { seat.old.table_id ≡ ring.now.table_id }
+    requires small { first + len < 2 ^ 59 }
+    requires has { HasSlots first (words_of len) seat.old.me.1 }
+    ensures seat { IsSameTable seat.old seat.new }
+    ensures has { HasBody first (replicate len 0) seat.new.me.1 }
+{
+    let count = len.div_ceil(8);
+    for k in 0..count {
+        put_slot(ring, seat, first, k, count, 0);
+    }
+}
+
+/// Reads the slot taken last, which goes behind the others.
+#[inline(always)]
+fn look_slot(ring: &SharedRing<InSlots>, seat: &mut RingSeat, slot: usize) -> u64
+    requires seat { seat.old.table_id ≡ ring.now.table_id }
+    requires front { (old : ℕ) × (rest : List (ℕ × ℕ)) × (seat.old.me.1 ≡ (slot, old) ∷ rest) }
+    ensures seat { IsSameTable seat.old seat.new }
+    ensures keeps { (old : ℕ) (rest : List (ℕ × ℕ)) → seat.old.me.1 ≡ (slot, old) ∷ rest
+        → (result ≡ old) × (seat.new.me.1 ≡ rest ++ (slot, old) ∷ []) }
+{
+    let word = *seat.slot_mut(ring, slot);
+    seat.turn();
+    word
+}
+
+/// Copies a body from its slots, which are all that the seat has, to the front of the scratch.
+#[inline(always)]
+pub fn copy_slots(
+    ring: &SharedRing<InSlots>,
+    seat: &mut RingSeat,
+    first: usize,
+    count: usize,
+    scratch: &mut [u8],
+)
+    requires seat { seat.old.table_id ≡ ring.now.table_id }
+    requires small { first + count < 2 ^ 59 }
+    requires room { 8 * count ≤ length scratch.old }
+    requires has { HasSlots first count seat.old.me.1 }
+    ensures seat { IsSameTable seat.old seat.new }
+    ensures same { seat.new.me.1 ≡ seat.old.me.1 }
+    ensures copies { (body : List ℕ) → HasBody first body seat.old.me.1 → All (λ b. b < 256) body
+        → Begins body scratch.new }
+{
+    for k in 0..count {
+        let word = look_slot(ring, seat, first + k);
+        put_word(scratch, 8 * k, word);
+    }
+}
+
+/// Stores the header of a claim of `len` bytes, its length negated, and sets its slots to 0. The claim is open from then
+/// on, with zeros for its bytes.
+pub fn store_claimed_slots(
+    ring: &SharedRing<InSlots>,
+    producer: &mut RingSeat,
+    capacity: u32,
+    place: u64,
+    wanted: Wanted,
+)
+    requires seat { IsSeatOf ring.now.table_id ring.now.key capacity producer.old }
+    requires message { IsMessage capacity (blank wanted.type_id wanted.len) }
+    requires claim { HasClaimAt producer.old.me.0 place (NeedsHeader wanted.len) }
+    ensures seat { IsSameSeat producer.old producer.new }
+    ensures view { producer.new.me.0 ≡ with_changed place (with_header wanted.type_id wanted.len) producer.old.me.0 }
+    ensures rising { AreRising producer.old.me.0.producer.claims }
+{
+    open_body(ring, producer, capacity, place, wanted);
+    fill_zeros(ring, producer, word_index(capacity, place) + 1, wanted.len);
+    give_body(ring, producer, capacity, place);
+}
+
+/// Writes a whole body into the slots of an own open claim, which has it from then on.
+pub fn write_slots(
+    ring: &SharedRing<InSlots>,
+    producer: &mut RingSeat,
+    capacity: u32,
+    place: u64,
+    body: &[u8],
+)
+    requires seat { IsSeatOf ring.now.table_id ring.now.key capacity producer.old }
+    requires claim { HasClaimAt producer.old.me.0 place (IsOpenOf (length body.now)) }
+    requires small { length body.now < 2 ^ 58 }
+    ensures seat { IsSameSeat producer.old producer.new }
+    ensures view { producer.new.me.0 ≡ with_changed place (with_body body.now) producer.old.me.0 }
+    ensures rising { AreRising producer.old.me.0.producer.claims }
+{
+    take_body(ring, producer, capacity, place);
+    fill_slots(ring, producer, word_index(capacity, place) + 1, body);
+    give_body(ring, producer, capacity, place);
+}
+
+/// Copies the body of the message that the read got last, of `len` bytes, to the front of the scratch. The log gets its
+/// words as if each was loaded.
+pub fn read_slots(
+    ring: &SharedRing<InSlots>,
+    consumer: &mut RingSeat,
+    capacity: u32,
+    place: u64,
+    len: usize,
+    scratch: &mut [u8],
+)
+    requires seat { IsSeatOf ring.now.table_id ring.now.key capacity consumer.old }
+    requires consumes { consumer.old.me.0.consumes ≡ true }
+    requires last { (last : HasLast place consumer.old.me.0) × (length last.message.message.body ≡ len) }
+    requires room { (len < 2 ^ 58) × (8 * words_of len ≤ length scratch.old) }
+    ensures seat { IsSameSeat consumer.old consumer.new }
+    ensures view { (m : PlacedMessage) (front : List PlacedMessage) → consumer.old.me.0.consumer.got ≡ front ++ m ∷ []
+        → consumer.new.me.0 ≡ record consumer.old.me.0 {
+          log = consumer.old.me.0.log ++ body_loads capacity m (words_of (length m.message.body));
+        } }
+    ensures copies { (m : PlacedMessage) (front : List PlacedMessage) → consumer.old.me.0.consumer.got ≡ front ++ m ∷ []
+        → All (λ b. b < 256) m.message.body → Begins m.message.body scratch.new }
+{
+    lend_body(ring, consumer, capacity, place);
+    let first = word_index(capacity, place) + 1;
+    copy_slots(ring, consumer, first, len.div_ceil(8), scratch);
+    return_body(ring, consumer, capacity, place);
+}

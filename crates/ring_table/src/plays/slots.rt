@@ -1,0 +1,36 @@
+//! What the steps on slots say.
+ghost use Rattle.ring_table.specs.Staged.{AreRising};
+ghost use Rattle.ring_table.specs.SlotSteps.{GivesBody, LendsBody, OpensBody, ReturnsBody, TakesBody};
+
+use crate::view::View;
+use atomic_table::Play;
+
+pub struct OpenBody;
+
+impl Play<u64, View> for OpenBody {
+    ghost then = { λ st me n me'. OpensBody st.word st.first me me' × AreRising me.0.producer.claims };
+}
+
+pub struct TakeBody;
+
+impl Play<u64, View> for TakeBody {
+    ghost then = { λ st me n me'. TakesBody st.word me me' × AreRising me.0.producer.claims };
+}
+
+pub struct GiveBody;
+
+impl Play<u64, View> for GiveBody {
+    ghost then = { λ st me n me'. GivesBody me me' × AreRising me.0.producer.claims };
+}
+
+pub struct LendBody;
+
+impl Play<u64, View> for LendBody {
+    ghost then = { λ st me n me'. LendsBody st.word me me' };
+}
+
+pub struct ReturnBody;
+
+impl Play<u64, View> for ReturnBody {
+    ghost then = { λ st me n me'. ReturnsBody me me' };
+}

@@ -1,0 +1,84 @@
+//! The steps that take the slots of a body and give them back, if bodies lie in slots. Between them the seat reads and
+//! writes the slots as plain memory.
+ghost use Rattle.std.specs.Prelude.{◌≡◌, ◌+◌, ◌/◌, [], ◌∷◌, List, ℕ, true};
+ghost use Rattle.ring_layout.specs.History.{IsMessage};
+ghost use Rattle.ring_layout.specs.Places.{index};
+ghost use Rattle.ring_table.specs.Staged.{AreRising};
+ghost use Rattle.ring_table.specs.Changes.{blank, with_header};
+ghost use Rattle.ring_table.specs.ProducerSteps.{with_changed, HasClaimAt, NeedsHeader};
+ghost use Rattle.ring_table.specs.Seats.{IsSeatOf};
+ghost use Rattle.ring_table.specs.SlotSteps.{with_out, words_of, GivesBody, HasLast, HasSlots, IsHolderOf, IsLent};
+ghost use Rattle.ring_table.specs.SlotSteps.{IsOpen, IsSameHolder, IsTaken, LendsBody, ReturnsBody, TakesBody};
+
+use crate::mode::InSlots;
+use crate::plays::slots::{GiveBody, LendBody, OpenBody, ReturnBody, TakeBody};
+use crate::steps::{RingSeat, SharedRing};
+use crate::view::Wanted;
+use ring_layout::{open_header, word_index};
+
+/// Stores the header of a claim of `len` bytes, its length negated, and takes the slots of its body. The claim is open
+/// from then on.
+pub fn open_body(
+    ring: &SharedRing<InSlots>,
+    producer: &mut RingSeat,
+    capacity: u32,
+    place: u64,
+    wanted: Wanted,
+)
+    requires seat { IsSeatOf ring.now.table_id ring.now.key capacity producer.old }
+    requires message { IsMessage capacity (blank wanted.type_id wanted.len) }
+    requires claim { HasClaimAt producer.old.me.0 place (NeedsHeader wanted.len) }
+    ensures seat { IsSameHolder producer.old producer.new }
+    ensures slots { HasSlots (index capacity place + 1) (words_of wanted.len) producer.new.me.1 }
+    ensures view { producer.new.me.0
+        ≡ with_out ((record { place = place; message = blank wanted.type_id wanted.len }) ∷ [])
+        (with_changed place (with_header wanted.type_id wanted.len) producer.old.me.0) }
+    ensures rising { AreRising producer.old.me.0.producer.claims }
+{
+    let header = open_header(wanted.type_id, wanted.len);
+    ring.store::<OpenBody>(producer, word_index(capacity, place), header);
+}
+
+/// Takes the slots of an own open claim, which have the words of its body.
+pub fn take_body(ring: &SharedRing<InSlots>, producer: &mut RingSeat, capacity: u32, place: u64)
+    requires seat { IsSeatOf ring.now.table_id ring.now.key capacity producer.old }
+    requires claim { HasClaimAt producer.old.me.0 place IsOpen }
+    ensures seat { IsSameHolder producer.old producer.new }
+    ensures takes { TakesBody (index capacity place) producer.old.me producer.new.me }
+    ensures rising { AreRising producer.old.me.0.producer.claims }
+{
+    ring.load::<TakeBody>(producer, word_index(capacity, place));
+}
+
+/// Gives the slots of an own open claim back with the words of a body, which is the claim's from then on.
+pub fn give_body(ring: &SharedRing<InSlots>, producer: &mut RingSeat, capacity: u32, place: u64)
+    requires seat { IsHolderOf ring.now.table_id ring.now.key capacity producer.old }
+    requires body { (body : List ℕ) × IsTaken capacity place body producer.old.me }
+    ensures seat { IsSameHolder producer.old producer.new }
+    ensures gives { GivesBody producer.old.me producer.new.me }
+    ensures rising { AreRising producer.old.me.0.producer.claims }
+{
+    ring.load::<GiveBody>(producer, word_index(capacity, place));
+}
+
+/// Takes the slots of the message that the read got last, which have the words of its body.
+pub fn lend_body(ring: &SharedRing<InSlots>, consumer: &mut RingSeat, capacity: u32, place: u64)
+    requires seat { IsSeatOf ring.now.table_id ring.now.key capacity consumer.old }
+    requires consumes { consumer.old.me.0.consumes ≡ true }
+    requires last { HasLast place consumer.old.me.0 }
+    ensures seat { IsSameHolder consumer.old consumer.new }
+    ensures lends { LendsBody (index capacity place) consumer.old.me consumer.new.me }
+{
+    ring.load::<LendBody>(consumer, word_index(capacity, place));
+}
+
+/// Gives the slots of that message back, as they were.
+pub fn return_body(ring: &SharedRing<InSlots>, consumer: &mut RingSeat, capacity: u32, place: u64)
+    requires seat { IsHolderOf ring.now.table_id ring.now.key capacity consumer.old }
+    requires consumes { consumer.old.me.0.consumes ≡ true }
+    requires last { IsLent capacity place consumer.old.me }
+    ensures seat { IsSameHolder consumer.old consumer.new }
+    ensures returns { ReturnsBody consumer.old.me consumer.new.me }
+{
+    ring.load::<ReturnBody>(consumer, word_index(capacity, place));
+}
