@@ -64,7 +64,7 @@ shown_padding elsewhere n small =
     cond-true _ (w + 2 ^ 32) w (eq-eqb (w / 2 ^ 32) (2 ^ 32 - 2) high) ∙ up
 
 -- what a type id of a message is as bits
-type_below : (type_id : ℤ) → pos 1 ≤ℤ type_id → FitsSigned w32 type_id → cast_unsigned w32 type_id < 2 ^ 31
+pub type_below : (type_id : ℤ) → pos 1 ≤ℤ type_id → FitsSigned w32 type_id → cast_unsigned w32 type_id < 2 ^ 31
 type_below (pos n) one fits = omega (arith, fits.sfits)
 type_below (negsuc n) one fits = absurd (omega (arith, ints))
 

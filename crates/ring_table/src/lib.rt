@@ -9,6 +9,7 @@ mod bodies;
 mod claim;
 mod laws;
 mod mode;
+mod picture;
 mod plays;
 mod rule;
 mod steps;
@@ -24,6 +25,7 @@ pub use laws::{
     stored_claims_show_one_picture,
 };
 pub use mode::{InSlots, InWords, Mode};
+pub use picture::{close_slots, copy_words};
 pub use rule::RingRule;
 pub use steps::consumer::{
     clear_word, load_body_word, load_first_header, load_next_header, load_passed_word, store_head,
