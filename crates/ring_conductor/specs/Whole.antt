@@ -8,11 +8,12 @@ use Rattle.ring_table.specs.declared.claim.Stage.TheVariants.{Stored}
 use Rattle.ring_rings.specs.Closing.{AreOrdered}
 use Rattle.ring_rings.specs.Reading.{messages_of}
 use Rattle.ring_board.specs.declared.shared.view.Joined.{Joined}
-use Rattle.ring_board.specs.declared.shared.view.Taken.{Taken}
 use Rattle.ring_board.specs.Closing.{closed_words, IsClosed}
 use Rattle.ring_board.specs.Records.{last_of}
+use Rattle.ring_board.specs.Rule.{opening_view}
 use Rattle.ring_board.specs.Runs.{AreAllRuns}
-use Rattle.ring_board.specs.Views.{Sat}
+use Rattle.ring_board.specs.Seats.{receiver_seat, receiver_view, subscribed_at}
+use Rattle.ring_board.specs.Views.{Sat, as_joined, newcomer}
 use Rattle.ring_counters.specs.Manager.{registry_of, writes_of}
 use Rattle.ring_protocol.specs.Command.{Instruction, Allocate, Set, spelling_of, type_id_of}
 use Rattle.ring_conductor.specs.declared.client.Polled.{Polled}
@@ -38,13 +39,11 @@ first_command = Allocate 0 (pos 1) [] (codes "requests")
 abbrev pub second_command : Instruction
 second_command = Set 1 0 (pos 7)
 
--- the first poll for the reply to the command with this correlation id returned this, and left these copies
-pub record IsFirstPoll (correlation : ℕ) (polled : Polled) (copies : List Taken) : Type 0 where
+-- the first poll of a new receiver, for the reply to the command with this correlation id, returned this and left it so
+pub record IsFirstPoll (correlation : ℕ) (polled : Polled) (after : Sat) : Type 0 where
   pub before : Sat
-  pub after : Sat
+  pub new : before.0 ≡ newcomer (opening_view 256 0)
   pub heard : IsHeard correlation before after polled
-  pub none : before.0.copies ≡ []
-  pub left : after.0.copies ≡ copies
 
 -- The claims are the two commands and nothing else, one after another from the ring's start. Some messages were
 -- received at the moment `early` and others at the moment `late`; these, followed by what still is in the ring, are the
@@ -67,11 +66,10 @@ pub record Concludes (early late : ℕ) (w : WholeRun) : Type 0 where
         replies = messages_in (replies_in w.finished);
       }
   pub board : IsClosed 256 0 (replies_in w.finished) (closed_words w.finished.board)
-  pub client : Joined
   pub listener : Joined
-  pub joined : joined_in w.finished ≡ client ∷ listener ∷ []
-  pub client_from : client.from ≡ 0
-  pub client_polled : IsFirstPoll 0 w.polled client.copies
+  pub joined : joined_in w.finished ≡ as_joined (receiver_view w.receiver.value) ∷ listener ∷ []
+  pub client_from : subscribed_at w.receiver.value ≡ 0
+  pub client_polled : IsFirstPoll 0 w.polled (receiver_seat w.receiver.value)
   pub listener_from : listener.from ≡ last_of 0 (take (length first) (replies_in w.finished))
   pub listener_none : listener.copies ≡ []
   pub runs : AreAllRuns (replies_in w.finished) (joined_in w.finished)

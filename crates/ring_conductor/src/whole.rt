@@ -7,10 +7,11 @@ use crate::client::request::Request;
 use crate::client::{Client, Polled, SendFault};
 use crate::conductor::Conductor;
 use crate::finishing::{Finished, finish};
-use ring_board::Board;
+use ring_board::{Board, CopyReceiver};
 use ring_counters::CountersManager;
 use ring_rings::ManyToOneRing;
 use std::alloc::Global;
+use std::snapshot::Snapshot;
 use thiserror::Error;
 
 /// What `whole_run` returns.
@@ -19,6 +20,8 @@ pub struct WholeRun {
     pub finished: Finished,
     /// What the client's poll for the reply to its first command returned.
     pub polled: Polled,
+    /// The client's receiver after that poll, for contracts: it has no bytes.
+    pub receiver: Snapshot<CopyReceiver>,
 }
 
 /// Why `whole_run` did not come to its end.
@@ -75,10 +78,15 @@ pub fn whole_run(alloc: Global, early: u64, late: u64) -> Result<WholeRun, Whole
 
     let polled = client.poll(&board, asked);
     let (producer, receiver) = client.into_parts();
+    let named = Snapshot::of(&receiver);
     conductor.join_receiver(&board, receiver);
     conductor.join_receiver(&board, listener);
     match finish(ring, board, values, conductor, producer) {
-        Ok(finished) => Ok(WholeRun { finished, polled }),
+        Ok(finished) => Ok(WholeRun {
+            finished,
+            polled,
+            receiver: named,
+        }),
         Err(_refused) => unreachable!(),
     }
 }

@@ -4,7 +4,11 @@ use std::test::Fail;
 
 #[test]
 fn one_run_takes_all_and_leaves_its_counter(rt: HostRuntime) -> Result<(), Fail> {
-    let WholeRun { finished, polled } = whole_run(rt.alloc(), 100, 200)?;
+    let WholeRun {
+        finished,
+        polled,
+        ..
+    } = whole_run(rt.alloc(), 100, 200)?;
     let reply = Reply::Allocated {
         correlation: 0,
         id: 0,

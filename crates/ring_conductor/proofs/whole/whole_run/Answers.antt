@@ -1,4 +1,4 @@
-use Rattle.std.proofs.Common.{◌≡◌, ◌∙◌, ◌++◌, length, map, refl, sym, ap, subst, arith}
+use Rattle.std.proofs.Common.{◌≡◌, ◌∙◌, [], ◌∷◌, ◌++◌, length, map, refl, sym, ap, subst, arith}
 use Rattle.ring_table.specs.declared.view.View.{View}
 use Rattle.ring_table.specs.OpenClaims.{open_count}
 use Rattle.ring_table.specs.Services.{times_drawn}
@@ -13,8 +13,8 @@ use Rattle.ring_board.specs.declared.shared.view.View.{View as BoardView}
 use Rattle.ring_board.specs.Closing.{closed_words, IsClosed}
 use Rattle.ring_board.specs.Records.{last_of}
 use Rattle.ring_board.specs.Runs.{AreAllRuns}
-use Rattle.ring_board.specs.Seats.{capacity_of as board_capacity_of, heard_by, receiver_seat, receiver_view, shares_of as board_shares_of, transmitted, view_of as transmitter_view}
-use Rattle.ring_board.specs.Views.{Sat, as_joined}
+use Rattle.ring_board.specs.Seats.{capacity_of as board_capacity_of, heard_by, receiver_seat, receiver_view, shares_of as board_shares_of, subscribed_at, transmitted, view_of as transmitter_view}
+use Rattle.ring_board.specs.Views.{Sat, as_joined, newcomer}
 use Rattle.ring_counters.specs.declared.manager.CountersManager.{CountersManager}
 use Rattle.ring_counters.specs.Manager.{registry_of, writes_of}
 use Rattle.ring_conductor.specs.declared.conductor.Conductor.{Conductor}
@@ -103,7 +103,7 @@ returns c =
     (ap (λ (v : View). v.producer.claims) made) (ap (λ (v : View). v.producer.service.draws) made)
     (ap (λ (v : View). v.producer.joined) made) c.in_ok-asked.ensures.sent.1 c.in_ok-send.ensures.sent.1
     (λ x. ap (λ (v : View). times_drawn x v.producer) (sym is) ∙ e.hands_on.services.once x) in
-    let client = as_joined (receiver_view c.into_parts-producer.result.1) in
+    let named_r = c.of-named.ensures in
     let listener = as_joined (receiver_view c.in-Ok-subscribe-2.listener) in
     let joined = ap (λ (x : Conductor). joined_by x) named_c ∙ two_joined _ _ _ _ _ heard
     c.join_receiver.ensures.joined.heard c.join_receiver-2.ensures.joined.heard in
@@ -140,19 +140,19 @@ returns c =
           (subst (λ n. IsClosed n 0 sent (closed_words f.board)) c.in-Ok-new.ensures.board.0
           (subst (λ n. IsClosed (board_capacity_of board) n sent (closed_words f.board))
           c.in-Ok-new.ensures.board.1 e.hands_on.replies.1));
-      client = client;
       listener = listener;
-      joined = joined;
-      client_from = ap (λ (m : Sat). m.0.from) gone ∙ (heard_from _ _ _ _ c.poll-polled.ensures.heard
+      joined = joined ∙ ap (λ (r : CopyReceiver). as_joined (receiver_view r) ∷ listener ∷ []) (sym named_r);
+      client_from = ap (λ (r : CopyReceiver). subscribed_at r) named_r ∙ (ap (λ (m : Sat). m.0.from) gone ∙ (heard_from _ _ _ _ c.poll-polled.ensures.heard
           ∙ (ap (λ (m : Sat). m.0.from) came ∙ (ap (λ (v : BoardView). v.from) fresh
-          ∙ ap (λ (v : BoardView). last_of v.start v.sent) made_board)));
+          ∙ ap (λ (v : BoardView). last_of v.start v.sent) made_board))));
       client_polled = record {
         before = client_seat c.send-2.new.self;
-        after = client_seat c.poll-polled.new.self;
-        heard = subst (λ n. IsHeard n (client_seat c.send-2.new.self) (client_seat c.poll-polled.new.self)
-            c.poll-polled.result) two.0 c.poll-polled.ensures.heard;
-        none = ap (λ (m : Sat). m.0.copies) came ∙ ap (λ (v : BoardView). v.copies) fresh;
-        left = ap (λ (m : Sat). m.0.copies) (sym gone);
+        new = ap (λ (m : Sat). m.0) came ∙ (fresh ∙ ap newcomer made_board);
+        heard = subst (λ (r : CopyReceiver). IsHeard 0 (client_seat c.send-2.new.self) (receiver_seat r)
+            c.poll-polled.result) (sym named_r)
+            (subst (λ m. IsHeard 0 (client_seat c.send-2.new.self) m c.poll-polled.result) (sym gone)
+            (subst (λ n. IsHeard n (client_seat c.send-2.new.self) (client_seat c.poll-polled.new.self)
+            c.poll-polled.result) two.0 c.poll-polled.ensures.heard));
       };
       listener_from = ap (λ (v : BoardView). v.from) newest ∙ (λ i. last_of (starts i) (first_sent i));
       listener_none = ap (λ (v : BoardView). v.copies) newest;
