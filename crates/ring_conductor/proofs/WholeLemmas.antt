@@ -17,7 +17,7 @@ use Rattle.ring_conductor.specs.Account.{Account, account_of}
 use Rattle.ring_conductor.specs.Asking.{Sends, asked}
 use Rattle.ring_conductor.specs.Fold.{Ledger, at_moment, fold_of}
 use Rattle.ring_conductor.specs.Turns.{drawn_in}
-use Rattle.ring_conductor.specs.Whole.{committed, settled_message, with_listener}
+use Rattle.ring_conductor.specs.Whole.{committed, settled_message}
 use Rattle.ring_conductor.proofs.AccountLemmas.{account_in, account_of-append, same_fold}
 use Rattle.ring_conductor.proofs.DrawLemmas.{all_drawn, drawn_below, same_one}
 use Rattle.ring_conductor.proofs.FinishLemmas.{messages_of-append}
@@ -86,22 +86,22 @@ two_sent C drawn r q v w u a b no_claims no_draws alone s t once =
 
 -- The end ------------------------------------------------------------------------
 
-pub two_reads : (r s t first others : List PlacedMessage) → r ≡ [] → s ≡ r ++ first → t ≡ s ++ others
-    → messages_of t ≡ messages_of first ++ messages_of others
-two_reads r s t first others none one two = ap messages_of (two ∙ ap (λ l. l ++ others) (one ∙ ap (λ l. l ++ first) none))
+pub two_reads : (r s t u first others : List PlacedMessage) → r ≡ [] → s ≡ r ++ first → t ≡ s → u ≡ t ++ others
+    → messages_of u ≡ messages_of first ++ messages_of others
+two_reads r s t u first others none one same two =
+    ap messages_of (two ∙ ap (λ l. l ++ others) (same ∙ (one ∙ ap (λ l. l ++ first) none)))
     ∙ messages_of-append first others
 
--- a listener changes nothing of the account
-pub two_folds : (l k i : Ledger) (a : Account) (early late : ℕ) (first others : List Message) → account_in l ≡ a
-    → k ≡ fold_of l (at_moment early first) → i ≡ fold_of (with_listener k) (at_moment late others)
+pub two_folds : (l k j i : Ledger) (a : Account) (early late : ℕ) (first others : List Message) → account_in l ≡ a
+    → k ≡ fold_of l (at_moment early first)
+    → account_in j ≡ account_in k → i ≡ fold_of j (at_moment late others)
     → account_of a (at_moment early first ++ at_moment late others) ≡ account_in i
-two_folds l k i a early late first others start one two =
+two_folds l k j i a early late first others start one same two =
     let p = at_moment early first in
     let q = at_moment late others in
-    let after : account_of a p ≡ account_in k =
-    ap (λ x. account_of x p) (sym start) ∙ (sym (same_fold l p) ∙ sym (ap account_in one)) in
-    account_of-append a p q ∙ (ap (λ x. account_of x q) after
-    ∙ (sym (same_fold (with_listener k) q) ∙ sym (ap account_in two)))
+    let after : account_of a p ≡ account_in j =
+    ap (λ x. account_of x p) (sym start) ∙ (sym (same_fold l p) ∙ (sym (ap account_in one) ∙ sym same)) in
+    account_of-append a p q ∙ (ap (λ x. account_of x q) after ∙ (sym (same_fold j q) ∙ sym (ap account_in two)))
 
 pub two_joined : {A : Type 0} (l m n : List A) (a b : A) → l ≡ [] → m ≡ l ++ a ∷ [] → n ≡ m ++ b ∷ []
     → n ≡ a ∷ b ∷ []

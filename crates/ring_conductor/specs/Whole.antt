@@ -46,10 +46,6 @@ second_command = Set 1 0 (pos 7)
 abbrev pub opening_ledger : Ledger
 opening_ledger = record { registry = fresh_registry 4 50; writes = []; board = fewer (opening_view 256 0) }
 
--- the ledger with one receiver more out
-abbrev pub with_listener : Ledger → Ledger
-with_listener l = record l { board = fewer l.board }
-
 -- The parties once the client has sent its first command. The conductor is new, and has never worked. One receiver is
 -- out: the client's, which subscribed at the start and has loaded nothing
 pub record HaveBegun (p : Parties) : Type 0 where
@@ -58,28 +54,29 @@ pub record HaveBegun (p : Parties) : Type 0 where
   pub ledger : ledger_of p.conductor ≡ opening_ledger
   pub receiver : receiver_view (receiver_of p.client) ≡ newcomer (opening_view 256 0)
 
--- The conductor worked once, at the moment `early`, and the client did nothing
-pub record IsFirstCycle (early : ℕ) (old new : Parties) (done : Work) : Type 0 where
-  pub works : Works early 0xffff_ffff (ring_view old.conductor) (ring_view new.conductor) (ledger_of old.conductor)
+-- the conductor worked once, at this moment, and the client did nothing
+pub record IsCycle (now : ℕ) (old new : Parties) (done : Work) : Type 0 where
+  pub works : Works now 0xffff_ffff (ring_view old.conductor) (ring_view new.conductor) (ledger_of old.conductor)
       (ledger_of new.conductor) done
   pub client : new.client ≡ old.client
 
--- One receiver more went out, and the conductor worked once, at the moment `late`. The client's receiver loaded nothing
-pub record IsSecondCycle (late : ℕ) (old new : Parties) (done : Work) : Type 0 where
-  pub works : Works late 0xffff_ffff (ring_view old.conductor) (ring_view new.conductor)
-      (with_listener (ledger_of old.conductor)) (ledger_of new.conductor) done
+-- one receiver more went out; the conductor did not work, and the client's receiver loaded nothing
+pub record GoesOn (old new : Parties) : Type 0 where
+  pub conductor : KeepsTheRest old.conductor new.conductor
+  pub board : board_view new.conductor ≡ fewer (board_view old.conductor)
   pub receiver : receiver_of new.client ≡ receiver_of old.client
 
--- The claims are the two commands and nothing else, one after another from the ring's start. One was sent before the
--- first cycle, and the other between the two. What the cycles took, followed by what still is in the ring, is the
+-- The claims are the two commands and nothing else, one after another from the ring's start. The first was sent before
+-- the first cycle, and the other between the two. What the cycles took, followed by what still is in the ring, is the
 -- committed messages, each whole and once. It makes of four fresh counters these counters, all value writes, and the
 -- replies, which the closed broadcast buffer has. Two receivers were joined: the client's, which subscribed at the start
--- and polled once, after both cycles, and a listener, which subscribed after the first cycle and received nothing. What
--- they copied are runs of all replies
+-- and polled once, after both cycles, and a listener, which subscribed between them and received nothing. What they
+-- copied are runs of all replies
 pub record Concludes (early late : ℕ) (w : WholeRun) : Type 0 where
   pub begun : HaveBegun w.begun.value
-  pub first : IsFirstCycle early w.begun.value w.halfway.value w.first
-  pub second : IsSecondCycle late w.halfway.value w.worked.value w.second
+  pub first : IsCycle early w.begun.value w.halfway.value w.first
+  pub between : GoesOn w.halfway.value w.resumed.value
+  pub second : IsCycle late w.resumed.value w.worked.value w.second
   pub producer : w.finished.producer.value ≡ producer_of w.worked.value.client
   pub conductor : KeepsTheRest w.worked.value.conductor w.finished.conductor.value
   pub claims : map settled_message (claims_in w.finished) ≡ committed first_command ∷ committed second_command ∷ []

@@ -33,10 +33,12 @@ pub struct WholeRun {
     pub second: Work,
     /// What the client's poll for the reply to its first command returned.
     pub polled: Polled,
-    /// The parties after the first command was sent.
+    /// The parties once the first command was sent.
     pub begun: Snapshot<Parties>,
     /// The parties after the work at the moment `early`.
     pub halfway: Snapshot<Parties>,
+    /// The parties once the listener had subscribed, and the second command was sent.
+    pub resumed: Snapshot<Parties>,
     /// The parties after the work at the moment `late`.
     pub worked: Snapshot<Parties>,
     /// The client's receiver after the poll.
@@ -60,8 +62,8 @@ pub enum WholeFault {
 /// 2^62.
 ///
 /// It is there to be read. Its contract states for this one run what `finish` states to each caller, and names what
-/// happened: what the client had sent and the conductor had done after each cycle, where the receivers subscribed, and
-/// what each received.
+/// happened: what the client sent and the conductor did, in which order, when the receivers subscribed, and what each
+/// received.
 ///
 /// Returns `OutOfMemory` if memory runs out, and `NotSent` if the ring refuses a command.
 pub fn whole_run(alloc: Global, early: u64, late: u64) -> Result<WholeRun, WholeFault>
@@ -98,6 +100,7 @@ pub fn whole_run(alloc: Global, early: u64, late: u64) -> Result<WholeRun, Whole
         return Err(WholeFault::OutOfMemory);
     };
     both.client.send(&ring, Request::Set { id: 0, value: 7 })?;
+    let resumed = Snapshot::of(&both);
     let second = both.conductor.do_work(&ring, &board, &values, late, limit);
     let worked = Snapshot::of(&both);
 
@@ -114,6 +117,7 @@ pub fn whole_run(alloc: Global, early: u64, late: u64) -> Result<WholeRun, Whole
             polled,
             begun,
             halfway,
+            resumed,
             worked,
             receiver: heard,
         }),

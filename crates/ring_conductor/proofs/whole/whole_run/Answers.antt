@@ -21,10 +21,9 @@ use Rattle.ring_conductor.specs.declared.whole.Parties.{Parties}
 use Rattle.ring_conductor.specs.declared.whole.WholeRun.{WholeRun}
 use Rattle.ring_conductor.specs.Account.{fresh_account}
 use Rattle.ring_conductor.specs.Asking.{IsHeard, client_seat, client_view}
-use Rattle.ring_conductor.specs.Conducting.{KeepsTheRest, Works, consumer_of, ledger_of, manager_in, received_of, ring_view, transmitter_of}
+use Rattle.ring_conductor.specs.Conducting.{KeepsTheRest, consumer_of, ledger_of, manager_in, received_of, transmitter_of}
 use Rattle.ring_conductor.specs.Finishing.{IsWhole, joined_by, replies_of}
-use Rattle.ring_conductor.specs.Fold.{Ledger}
-use Rattle.ring_conductor.specs.Whole.{Concludes, opening_ledger, settled_message, with_listener}
+use Rattle.ring_conductor.specs.Whole.{Concludes, opening_ledger, settled_message}
 use Rattle.ring_conductor.proofs.AccountLemmas.{account_as, account_in}
 use Rattle.ring_conductor.proofs.StormLemmas.{work_shares}
 use Rattle.ring_conductor.proofs.WholeLemmas.{never_refused, two_folds, two_joined, two_reads, two_sent}
@@ -65,6 +64,7 @@ returns c =
     let f = c.in-Ok-finish.finished in
     let begun : Parties = record { conductor = c.subscribe.new.self; client = c.send.new.self } in
     let halfway : Parties = record { conductor = c.do_work-first.new.self; client = c.send.new.self } in
+    let resumed : Parties = record { conductor = c.subscribe-2.new.self; client = c.send-2.new.self } in
     let worked : Parties = record { conductor = c.do_work-second.new.self; client = c.send-2.new.self } in
     -- what was made
     let counters_made = c.in-Ok-subscribe.ensures.others.counters ∙ c.new-conductor.ensures.counters in
@@ -80,15 +80,7 @@ returns c =
     -- the two cycles
     let early = c.do_work-first.ensures.works in
     let listening = c.in-Ok-subscribe-2.ensures in
-    let ledger_on : ledger_of c.subscribe-2.new.self ≡ with_listener (ledger_of halfway.conductor) =
-    λ i. record {
-      registry = registry_of (listening.others.counters i);
-      writes = writes_of (listening.others.counters i);
-      board = listening.fewer i;
-    } in
-    let late = subst (λ (x : View × Ledger). Works c.args.late 0xffff_ffff x.0 (ring_view worked.conductor) x.1
-    (ledger_of worked.conductor) c.do_work-second.result)
-    (λ i. (consumer_view (listening.others.consumer i), ledger_on i)) c.do_work-second.ensures.works in
+    let late = c.do_work-second.ensures.works in
     let left : KeepsTheRest worked.conductor end = record {
       consumer = c.join_receiver-2.ensures.others.consumer ∙ c.join_receiver.ensures.others.consumer;
       counters = c.join_receiver-2.ensures.others.counters ∙ c.join_receiver.ensures.others.counters;
@@ -98,11 +90,15 @@ returns c =
     let received_now = ap (λ (x : Conductor). received_of x) named_c in
     let sent_now = ap (λ (x : Conductor). replies_of x) named_c in
     let taken = ap (λ (x : Consumer). messages_of (taken_of x)) left.consumer
-    ∙ two_reads _ _ _ early.messages late.messages (ap (λ (v : View). v.consumer.taken) ring_made) early.received
-    late.received in
+    ∙ two_reads _ _ _ _ early.messages late.messages (ap (λ (v : View). v.consumer.taken) ring_made) early.received
+    (ap (λ (x : Consumer). taken_of x) listening.others.consumer) late.received in
     let counters_end = sym (e.hands_on.counters ∙ left.counters) in
     let sent_end = sym (ap (λ (v : BoardView). v.sent) c.join_receiver-2.ensures.joined.view
     ∙ ap (λ (v : BoardView). v.sent) c.join_receiver.ensures.joined.view) in
+    let same = account_as (ledger_of resumed.conductor)
+    (ap (λ (m : CountersManager). registry_of m) listening.others.counters)
+    (ap (λ (m : CountersManager). writes_of m) listening.others.counters)
+    (ap (λ (v : BoardView). v.sent) listening.fewer) in
     let out = account_as (ledger_of worked.conductor) (ap (λ (m : CountersManager). registry_of m) counters_end)
     (ap (λ (m : CountersManager). writes_of m) counters_end) (sent_end ∙ sym sent_now) in
     -- the client
@@ -120,17 +116,18 @@ returns c =
     ∙ (c.do_work-first.ensures.heard ∙ ap (λ (v : BoardView). v.heard) board_made)) in
     let joined = two_joined _ _ _ _ _ heard c.join_receiver.ensures.joined.heard
     c.join_receiver-2.ensures.joined.heard in
-    let run = λ (b h w : Parties) (x : CopyReceiver). let it : WholeRun = record {
+    let run = λ (b h s w : Parties) (x : CopyReceiver). let it : WholeRun = record {
       finished = f;
       first = c.do_work-first.result;
       second = c.do_work-second.result;
       polled = c.poll-polled.result;
       begun = record c.of-begun.result { value = b };
       halfway = record c.of-halfway.result { value = h };
+      resumed = record c.of-resumed.result { value = s };
       worked = record c.of-worked.result { value = w };
       receiver = record c.of-heard.result { value = x };
     } in it in
-    let concludes : Concludes c.args.early c.args.late (run begun halfway worked r) = record {
+    let concludes : Concludes c.args.early c.args.late (run begun halfway resumed worked r) = record {
       begun = record {
         sent = two.1;
         ring = ring_made;
@@ -140,7 +137,12 @@ returns c =
             ∙ (c.in-Ok-subscribe.ensures.receiver.1 ∙ ap newcomer made_board);
       };
       first = record { works = early; client = refl };
-      second = record { works = late; receiver = c.send-2.ensures.receiver };
+      between = record {
+        conductor = listening.others;
+        board = listening.fewer;
+        receiver = c.send-2.ensures.receiver;
+      };
+      second = record { works = late; client = refl };
       producer = named_p ∙ last;
       conductor = record {
         consumer = ap (λ (x : Conductor). consumer_of x) named_c ∙ left.consumer;
@@ -155,9 +157,9 @@ returns c =
       counted = e.hands_on.received ∙ sym (ap length received_now);
       whole = subst (λ (x : Producer). IsWhole (claims_of x) (received_of f.conductor.value) f.rest) (sym named_p)
           (subst (λ (x : Conductor). IsWhole cs (received_of x) f.rest) (sym named_c) e.headline.whole);
-      folded = two_folds (ledger_of begun.conductor) (ledger_of halfway.conductor) (ledger_of worked.conductor)
-          (fresh_account 4 50) c.args.early c.args.late (messages_of early.messages) (messages_of late.messages)
-          (ap account_in ledger_made) early.folded late.folded ∙ out;
+      folded = two_folds (ledger_of begun.conductor) (ledger_of halfway.conductor) (ledger_of resumed.conductor)
+          (ledger_of worked.conductor) (fresh_account 4 50) c.args.early c.args.late (messages_of early.messages)
+          (messages_of late.messages) (ap account_in ledger_made) early.folded same late.folded ∙ out;
       board = subst (λ l. IsClosed 256 0 l (closed_words f.board)) (sym sent_now)
           (subst (λ n. IsClosed n 0 sent (closed_words f.board)) c.in-Ok-new.ensures.board.0
           (subst (λ n. IsClosed (board_capacity_of board) n sent (closed_words f.board))
@@ -169,7 +171,11 @@ returns c =
           ∙ (joined ∙ ap (λ (v : BoardView). as_joined (receiver_view r) ∷ as_joined v ∷ []) listening.receiver.1);
       runs = subst (λ (x : Conductor). AreAllRuns (replies_of x) (joined_by x)) (sym named_c) e.headline.runs;
     } in
-    subst (λ (x : Parties × Parties × Parties × CopyReceiver). Concludes c.args.early c.args.late
-    (run x.0 x.1 x.2 x.3))
-    (λ i. (sym c.of-begun.ensures i, sym c.of-halfway.ensures i, sym c.of-worked.ensures i, sym c.of-heard.ensures i))
-    concludes
+    subst (λ (x : Parties × Parties × Parties × Parties × CopyReceiver). Concludes c.args.early c.args.late
+    (run x.0 x.1 x.2 x.3 x.4)) (λ i. (
+      sym c.of-begun.ensures i,
+      sym c.of-halfway.ensures i,
+      sym c.of-resumed.ensures i,
+      sym c.of-worked.ensures i,
+      sym c.of-heard.ensures i,
+    )) concludes
