@@ -4,6 +4,7 @@ pub mod RefusalLemmas
 pub mod CountLemmas
 pub mod RisingLemmas
 pub mod MadeLemmas
+pub mod MoveLemmas
 pub mod CloseLemmas
 pub mod JoinLemmas
 pub mod PutLemmas

@@ -1,16 +1,20 @@
 -- What follows from a claim that was made.
-use Rattle.std.proofs.Common.{◌≡◌, ◌≢◌, ℕ, ◌+◌, ◌%◌, ◌^◌, ◌<◌, ◌≤◌, ℤ, List, [], ◌∷◌, ◌++◌, false, length, refl, sym, ap, ◌∙◌, subst, arith}
+use Rattle.std.proofs.Common.{◌≡◌, ◌≢◌, ℕ, ◌+◌, ◌%◌, ◌^◌, ◌<◌, ◌≤◌, ℤ, List, [], ◌∷◌, ◌++◌, false, length, refl, sym, ap, ◌∙◌, ◌==◌, subst, arith}
 use Rattle.std.proofs.lemmas.List.{length-replicate}
 use lib.ListN.{get_elem?}
 use Rattle.atomic_table.proofs.Lists.{at_longer}
 use Rattle.ring_table.specs.declared.claim.StagedClaim.{StagedClaim}
+use Rattle.ring_layout.specs.declared.message.ClaimState.TheVariants.{Committed}
+use Rattle.ring_table.specs.declared.claim.Stage.TheVariants.{Stored}
 use Rattle.ring_table.specs.declared.view.View.{View}
+use Rattle.ring_rings.specs.Bodies.{recorded}
 use Rattle.ring_layout.specs.History.{span}
-use Rattle.ring_layout.specs.Places.{end_after}
+use Rattle.ring_layout.specs.Places.{end_after, next_place}
 use Rattle.ring_layout.proofs.PlaceLemmas.{next_le}
 use Rattle.ring_table.specs.OpenClaims.{one_if_open, open_count}
 use Rattle.ring_table.specs.Views.{with_claim, with_claims}
-use Rattle.ring_table.specs.Staged.{AreRising, AreStored, IsStored, stage_state}
+use Rattle.ring_table.specs.Changes.{fresh_stage}
+use Rattle.ring_table.specs.Staged.{AreRising, AreStored, IsStored, stage_state, staged_span}
 use Rattle.ring_table.specs.ProducerSteps.{HasClaimAt, IsStagedOpen}
 use Rattle.ring_words.specs.Open.{ClaimAt}
 use Rattle.ring_layout.specs.declared.admission.Admission.{Admission}
@@ -18,11 +22,11 @@ use Rattle.ring_rings.specs.declared.ring.Producer.{Producer}
 use Rattle.ring_rings.specs.declared.ring.Ring.{Ring}
 use Rattle.ring_rings.specs.declared.steps.Steps.{Ghosts}
 use Rattle.ring_rings.specs.Claiming.{claim_behind, looked, record_behind}
-use Rattle.ring_rings.specs.Making.{IsJustMade, Makes}
+use Rattle.ring_rings.specs.Making.{IsNewest, Makes, Moves}
 use Rattle.ring_rings.specs.Matching.{Matches}
 use Rattle.ring_rings.specs.Seats.{IsNewClaimOf, IsOpenClaimOf, KeepsClaims}
 use Rattle.ring_rings.proofs.CountLemmas.{open_count-more, open_few, stored_more}
-use Rattle.ring_rings.proofs.NewestLemmas.{has_last}
+use Rattle.ring_rings.proofs.NewestLemmas.{has_last, rising_few}
 use Rattle.ring_rings.proofs.RisingLemmas.{rising_more}
 
 -- a claim stays if others come after it
@@ -111,9 +115,6 @@ module _ {C tail : ℕ} {type_id : ℤ} {len : ℕ} {front : List (ℕ × ℕ)} 
       let on = next_le C tail (span len) in
       omega arith
 
-  pub just_made : IsJustMade C tail type_id len a.place v.producer.claims w
-  just_made = record { claims = made_claims; behind = made.behind; place_is = made.admitted.place }
-
   -- its body is stored, and it is committed
   module _ (body : List ℕ) (len_is : length body ≡ len) (u : View)
       (stored : u ≡ with_claims (v.producer.claims ++ record_behind C tail type_id body ∷ []) w) where
@@ -147,6 +148,60 @@ module _ {C tail : ℕ} {type_id : ℤ} {len : ℕ} {front : List (ℕ × ℕ)} 
         → Matches u shares open_claims a.end × ((u.consumes ≡ false) × (slots' ≡ []))
     written_seat known produces same =
         (written_matches known, (written_consumes ∙ produces.0, same ∙ produces.1))
+
+-- the tail is moved, and no header is stored yet
+module _ {C tail : ℕ} {type_id : ℤ} {len : ℕ} {front : List (ℕ × ℕ)} {v : View} {a : Admission} {w : View}
+    (m : Moves C tail type_id len front v a w) where
+  pub moved_newest : IsNewest a.tail a.place len v.producer.claims m.claim w
+  moved_newest =
+      let is = m.is_moved in
+      let place : next_place C tail (span is.some_len) ≡ a.place =
+      ap (next_place C tail) is.same ∙ sym m.admitted.place in
+      subst (λ (t : ℕ). IsNewest t a.place len v.producer.claims m.claim w) (sym m.admitted.tail_is)
+      (record {
+        claims = ap (λ (u : View). u.producer.claims) m.view;
+        behind = m.behind;
+        from_is = ap (λ (c : StagedClaim). c.from) is.is;
+        place_is = ap (λ (c : StagedClaim). c.place) is.is ∙ place;
+        stage_is = ap (λ (c : StagedClaim). c.stage) is.is ∙ ap (λ (p : ℕ). fresh_stage (tail == p)) place;
+        span_is = sym is.same ∙ ap span (sym (length-replicate is.some_len 0))
+            ∙ ap staged_span (sym is.is);
+      })
+
+  -- once its header and its body are stored, it is the record behind the tail
+  pub moved_recorded : (body : List ℕ) → length body ≡ len → (u : View)
+      → u ≡ with_claims (v.producer.claims ++ recorded type_id body m.claim ∷ []) w
+      → u ≡ with_claims (v.producer.claims ++ record_behind C tail type_id body ∷ []) w
+  moved_recorded body long u stored =
+      let is = m.is_moved in
+      let same : recorded type_id body m.claim ≡ record_behind C tail type_id body =
+      ap (recorded type_id body) is.is
+      ∙ ap (λ (n : ℕ). record {
+        from = tail;
+        place = next_place C tail n;
+        message = record { type_id = type_id; body = body };
+        stage = Stored Committed;
+      }) (is.same ∙ ap span (sym long)) in
+      stored ∙ ap (λ (c : StagedClaim). with_claims (v.producer.claims ++ c ∷ []) w) same
+
+  -- what is known once its header is
+  pub moved_made : AreRising v.producer.claims
+      → Makes C tail type_id len front v a (with_claims (v.producer.claims ++ claim_behind C tail type_id len ∷ []) w)
+  moved_made rising = record {
+    refusal = m.refusal;
+    admitted = m.admitted;
+    whole = m.whole;
+    loads = m.loads;
+    room = m.room;
+    head = m.head;
+    view = ap (with_claims (v.producer.claims ++ claim_behind C tail type_id len ∷ [])) m.view;
+    few = (let at = m.admitted.place in
+        let few = rising_few v.producer.claims (claim_behind C tail type_id len)
+        (rising_more tail v.producer.claims (claim_behind C tail type_id len) rising m.behind
+        (next_le C tail (span len))) in
+        omega arith);
+    behind = m.behind;
+  }
 
 -- the claim is open in the hands of the producer that made it, and new
 pub made_new : {K B : Type 0} {G : Ghosts B} {ring : Ring K B G} {p q : Producer} {tail : ℕ} {type_id : ℤ} {len : ℕ} {front : List (ℕ × ℕ)}

@@ -6,7 +6,7 @@ use Rattle.ring_layout.specs.Places.{next_place, end_after, max_position}
 use Rattle.ring_table.specs.declared.claim.StagedClaim.{StagedClaim}
 use Rattle.ring_table.specs.declared.view.View.{View}
 use Rattle.ring_table.specs.Staged.{staged_span}
-use Rattle.ring_table.specs.Changes.{blank, fresh_stage}
+use Rattle.ring_table.specs.Changes.{blank, fresh_stage, moved_claim}
 use Rattle.ring_table.specs.ProducerSteps.{EndBelow}
 use Rattle.ring_table.specs.Views.{with_claim}
 use Rattle.ring_layout.specs.declared.admission.Admission.{Admission}
@@ -67,6 +67,33 @@ pub record Makes (C tail : ℕ) (type_id : ℤ) (len : ℕ) (front : List (ℕ �
   pub few : length v.producer.claims ≤ a.place
   pub behind : EndBelow tail v.producer.claims
 
+-- a claim whose tail is moved, and whose header is not stored: its type id and length may be provisional, with the span
+-- of len bytes
+pub record IsMovedClaim (C tail len : ℕ) (c : StagedClaim) : Type 0 where
+  pub type_id : ℤ
+  pub some_len : ℕ
+  pub same : span some_len ≡ span len
+  pub is : c ≡ moved_claim C tail type_id some_len
+
+-- the tail is moved, and the claim has no header yet
+pub record Moves (C tail : ℕ) (type_id : ℤ) (len : ℕ) (front : List (ℕ × ℕ)) (v : View) (a : Admission)
+    (w : View) : Type 0 where
+  pub refusal : tail_refusal_of C tail type_id len ≡ None
+  pub admitted : GoesBehind C tail type_id len a
+  pub whole : a.end % 8 ≡ 0
+  pub loads : List (ℕ × ℕ)
+  pub room : SeesRoom C tail (end_after C tail (span len)) loads
+  pub head : ℕ
+  pub claim : StagedClaim
+  pub is_moved : IsMovedClaim C tail len claim
+  pub view : w ≡ with_claim claim (end_after C tail (span len)) (looked (front ++ loads) tail head v)
+  pub behind : EndBelow tail v.producer.claims
+
+-- after a tail that was loaded
+abbrev pub MovesBehind : ℕ → ℤ → ℕ → View → Admission → View → Type 0
+MovesBehind C type_id len v a w =
+    Moves C a.tail type_id len ((tail_index C, a.tail) ∷ []) v a w × (v.producer.seen_tail ≤ a.tail)
+
 -- it is made after a tail that was loaded
 abbrev pub MakesBehind : ℕ → ℤ → ℕ → View → Admission → View → Type 0
 MakesBehind C type_id len v a w =
@@ -86,14 +113,3 @@ pub record HasNewest (tail place len : ℕ) (v : View) : Type 0 where
   pub others : List StagedClaim
   pub claim : StagedClaim
   pub newest : IsNewest tail place len others claim v
-
--- the last claim of the view was just made after the tail, and is open
-pub record IsJustMade (C tail : ℕ) (type_id : ℤ) (len place : ℕ) (cs : List StagedClaim) (v : View) : Type 0 where
-  pub claims : v.producer.claims ≡ cs ++ claim_behind C tail type_id len ∷ []
-  pub behind : EndBelow tail cs
-  pub place_is : place ≡ next_place C tail (span len)
-
-pub record HasJustMade (C : ℕ) (type_id : ℤ) (len place : ℕ) (v : View) : Type 0 where
-  pub tail : ℕ
-  pub others : List StagedClaim
-  pub made : IsJustMade C tail type_id len place others v

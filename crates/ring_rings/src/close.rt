@@ -7,7 +7,7 @@ ghost use Rattle.ring_rings.specs.Seats.{IsConsumerOf, IsProducerOf};
 
 use crate::fault::CloseFault;
 use crate::ring::{CloseRefused, Consumer, Producer, Ring};
-use crate::steps::Steps;
+use crate::steps::Closes;
 use ring_layout::ALL_SHARES;
 use ring_words::SoloRing;
 
@@ -30,7 +30,7 @@ fn test_close(producer: &Producer) -> Result<(), CloseFault>
     Ok(())
 }
 
-impl<K, B: Steps> Ring<K, B> {
+impl<K, B: Closes> Ring<K, B> {
     /// Takes the ring apart and returns what is in it as a ring of one owner: what was committed and not read, and the
     /// trailer's words. Returns, in this order: `ClaimsOpen` if claims of this producer are open; `ProducersOut` if
     /// shares are with other producers. After an error everything comes back unchanged.

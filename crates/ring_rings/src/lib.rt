@@ -5,7 +5,7 @@
 //!   `admission`, `room`, `claim` (one try), `headers`, `body` and `settle`. `service`: ids, heartbeats and positions.
 //! - `consumer`: `read` has the calls, `turn` one turn of a read, made of `find`, `load` and `pass`. `heartbeat`.
 //! - `kind`: how the kinds claim, one as the other. `source`: what a conductor needs of a ring.
-//! - `steps`: the steps as a trait, so that bodies may lie in words (`words`) or elsewhere.
+//! - `steps`: the steps as a trait, so that bodies may lie in words (`words`) or in slots (`slots`).
 //! - `claim`, `fault`: an open claim, and why calls refuse.
 #![tactic(auto)]
 
@@ -17,6 +17,7 @@ mod kind;
 mod open;
 mod producer;
 mod ring;
+mod slots;
 mod source;
 mod steps;
 mod words;
@@ -28,7 +29,7 @@ pub use ring::{
     CloseRefused, Consumer, ManyToOne, ManyToOneRing, OneToOne, OneToOneRing, Producer, Ring,
 };
 pub use ring_layout::{MakeFault, NoShares};
-pub use ring_table::RingTable;
+pub use ring_table::{RingTable, SlotTable};
 pub use ring_words::{Action, ClaimFault, Handler, Positions, PutRange, ReadEnd, Standing, Stop};
 pub use source::CommandSource;
-pub use steps::Steps;
+pub use steps::{Closes, Steps};

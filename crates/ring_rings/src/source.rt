@@ -10,7 +10,7 @@ ghost use Rattle.ring_rings.specs.Seats.{capacity_of, consumer_view, head_of, op
 ghost use Rattle.ring_rings.specs.Seats.{view_of, IsConsumerOf, IsProducerOf};
 
 use crate::ring::{CloseRefused, Consumer, Producer, Ring};
-use crate::steps::Steps;
+use crate::steps::Closes;
 use ring_words::{Handler, ReadEnd, SoloRing, Stop};
 
 /// A ring that commands are read from: of one producer or of many.
@@ -60,7 +60,7 @@ pub trait CommandSource: Sized {
         ensures service { IfOk result (Serves (bytes self) (view_of producer) (consumer_view consumer)) };
 }
 
-impl<K, B: Steps> CommandSource for Ring<K, B> {
+impl<K, B: Closes> CommandSource for Ring<K, B> {
     ghost bytes = { capacity_of };
 
     ghost start = { start_of };

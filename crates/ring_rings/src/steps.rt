@@ -20,11 +20,12 @@ ghost use Rattle.ring_table.specs.ProducerSteps.{LoadsHead, LoadsTail, MovesOwnT
 ghost use Rattle.ring_table.specs.Rule.{IsLawful};
 ghost use Rattle.ring_table.specs.Seats.{IsSameSeat, IsSeatOf};
 ghost use Rattle.ring_table.specs.ServiceSteps.{DrawsId, LoadsCache, LoadsHeartbeat};
+ghost use Rattle.ring_table.specs.SlotSteps.{IsOpenOf};
 ghost use Rattle.ring_table.specs.Staged.{AreRising};
 ghost use Rattle.ring_table.specs.Views.{cleared_to, consumer_alone, first_view, producer_alone, with_beat, with_claims};
 ghost use Rattle.ring_table.specs.Views.{with_consumer, with_consumer_of, with_producer_of, without_consumer, without_share};
-ghost use Rattle.ring_rings.specs.Bodies.{put_at, HasRoom, IsFreshClaim, PutsBytes};
-ghost use Rattle.ring_rings.specs.ReadingSteps.{CopiesBody, HasBodyAt, HasGotLast, IsInBlock, IsReaderSeatOf, OnlyLoads};
+ghost use Rattle.ring_rings.specs.Bodies.{recorded, HasPaddedLast, IsPaddedLast, PutsBytes};
+ghost use Rattle.ring_rings.specs.ReadingSteps.{CopiesBody, HasBodyAt, HasGotLast, HasLastAt, IsInBlock, IsReaderSeatOf, OnlyLoads};
 
 use ring_table::{Key, RingSeat, Wanted};
 use std::alloc::{AllocError, Global};
@@ -50,17 +51,6 @@ pub trait Steps: Sized {
         ensures key { IfOk result (λ t. key_of t.0 ≡ key) }
         ensures seat { IfOk result (λ t. t.1.table_id ≡ table_of t.0) }
         ensures view { IfOk result (λ t. t.1.me ≡ (first_view key, [])) };
-
-    /// The words of a ring in its format, in `room`, once all producers and the consumer were joined into this seat.
-    fn close(self, seat: RingSeat, room: Vec<u64>) -> Vec<u64>
-        requires table { (seat.table_id ≡ table_of self)
-            × ((table_of self).slots ≡ slots_for (key_of self).capacity) }
-        requires room { vec_len room ≡ (table_of self).words }
-        requires all { (seat.me.0.producer.shares ≡ all_shares) × (seat.me.0.consumes ≡ true) }
-        requires settled { (open_count seat.me.0.producer.claims ≡ 0)
-            × (seat.me.0.consumer.cleared ≡ seat.me.0.consumer.head) }
-        ensures closed { IsClosed (key_of self).capacity (key_of self).start result.items seat.me.0 }
-        ensures rest { LeavesRest (key_of self).capacity result.items seat.me.0 };
 
     /// Gives the consumer's part to a seat of its own.
     fn split_consumer(&self, seat: &mut RingSeat) -> RingSeat
@@ -200,24 +190,39 @@ pub trait Steps: Sized {
         ensures view { producer.new.me.0 ≡ with_changed place (with_header wanted.type_id wanted.len) producer.old.me.0 }
         ensures rising { AreRising producer.old.me.0.producer.claims };
 
-    /// Stores a whole body into the newest claim, which has its length and zeros for its bytes.
-    fn store_body(&self, seat: &mut RingSeat, capacity: u32, place: u64, body: &[u8])
+    /// Stores the header and the whole body of the newest claim, and commits it.
+    fn store_record(
+        &self,
+        seat: &mut RingSeat,
+        capacity: u32,
+        place: u64,
+        wanted: Wanted,
+        body: &[u8],
+    )
         requires seat { IsSeatOf (table_of self.now) (key_of self.now) capacity seat.old }
-        requires place { place ≤ max_position }
-        requires fresh { (cs : List StagedClaim) × (c : StagedClaim)
-            × IsFreshClaim place (length body.now) cs c seat.old.me.0 }
-        requires inside { place % capacity + 8 + length body.now ≤ capacity }
+        requires message { IsMessage capacity (blank wanted.type_id wanted.len) }
+        requires len { length body.now ≡ wanted.len }
+        requires inside { (place ≤ max_position) × (place % capacity + 8 + length body.now ≤ capacity) }
+        requires last { HasPaddedLast place wanted.len seat.old.me.0 }
         ensures seat { IsSameSeat seat.old seat.new }
         ensures stored { (cs : List StagedClaim) (c : StagedClaim)
-            → IsFreshClaim place (length body.now) cs c seat.old.me.0
-            → seat.new.me.0 ≡ with_claims (cs ++ put_at 0 body.now c ∷ []) seat.old.me.0 };
+            → IsPaddedLast place wanted.len cs c seat.old.me.0
+            → seat.new.me.0 ≡ with_claims (cs ++ recorded wanted.type_id body.now c ∷ []) seat.old.me.0 };
 
-    /// Puts bytes into an open claim, from the byte `offset` of its body on.
-    fn put_bytes(&self, seat: &mut RingSeat, capacity: u32, place: u64, offset: usize, bytes: &[u8])
+    /// Puts bytes into an open claim of `len` bytes, from the byte `offset` of its body on.
+    fn put_bytes(
+        &self,
+        seat: &mut RingSeat,
+        capacity: u32,
+        place: u64,
+        len: usize,
+        offset: usize,
+        bytes: &[u8],
+    )
         requires seat { IsSeatOf (table_of self.now) (key_of self.now) capacity seat.old }
         requires place { place ≤ max_position }
-        requires claim { HasClaimAt seat.old.me.0 place (HasRoom (offset + length bytes.now)) }
-        requires short { offset + length bytes.now ≤ capacity }
+        requires claim { HasClaimAt seat.old.me.0 place (IsOpenOf len) }
+        requires short { (offset + length bytes.now ≤ len) × (len ≤ capacity) }
         ensures seat { IsSameSeat seat.old seat.new }
         ensures put { PutsBytes place offset bytes.now seat.old.me.0 seat.new.me.0 };
 
@@ -281,6 +286,7 @@ pub trait Steps: Sized {
     )
         requires seat { IsReaderSeatOf (table_of self.now) (key_of self.now) capacity seat.old }
         requires body { HasBodyAt capacity seat.old.me.0.consumer.cleared place len }
+        requires last { HasLastAt place len seat.old.me.0 }
         requires room { length scratch.old ≡ capacity / 8 }
         ensures seat { IsSameSeat seat.old seat.new }
         ensures rest { OnlyLoads seat.old.me.0 seat.new.me.0 }
@@ -313,4 +319,18 @@ pub trait Steps: Sized {
         requires last { StandsBefore head consumer.old.me.0 }
         ensures seat { IsSameSeat consumer.old consumer.new }
         ensures told { StoresHeadBefore consumer.old.me.0 consumer.new.me.0 };
+}
+
+/// A ring's table that can be taken apart.
+pub trait Closes: Steps {
+    /// The words of a ring in its format, in `room`, once all producers and the consumer were joined into this seat.
+    fn close(self, seat: RingSeat, room: Vec<u64>) -> Vec<u64>
+        requires table { (seat.table_id ≡ Self.table_of self)
+            × ((Self.table_of self).slots ≡ Self.slots_for (Self.key_of self).capacity) }
+        requires room { vec_len room ≡ (Self.table_of self).words }
+        requires all { (seat.me.0.producer.shares ≡ all_shares) × (seat.me.0.consumes ≡ true) }
+        requires settled { (open_count seat.me.0.producer.claims ≡ 0)
+            × (seat.me.0.consumer.cleared ≡ seat.me.0.consumer.head) }
+        ensures closed { IsClosed (Self.key_of self).capacity (Self.key_of self).start result.items seat.me.0 }
+        ensures rest { LeavesRest (Self.key_of self).capacity result.items seat.me.0 };
 }

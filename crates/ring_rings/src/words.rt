@@ -4,8 +4,8 @@ ghost use Rattle.std.specs.Slots.{slots_items, slots_len, IsFull};
 
 use crate::consumer::load::load_body;
 use crate::consumer::pass::clear_up;
-use crate::producer::body::{put_bytes, store_body};
-use crate::steps::Steps;
+use crate::producer::body::{put_bytes, store_record};
+use crate::steps::{Closes, Steps};
 use atomic_table::Closed;
 use ring_table::{
     Key, RingSeat, RingTable, Wanted, close, draw_correlation_id, join_consumer, join_producer,
@@ -37,14 +37,6 @@ impl Steps for RingTable {
 
     fn open(alloc: Global, key: Key) -> Result<(Self, RingSeat), AllocError> {
         open(alloc, key)
-    }
-
-    fn close(self, seat: RingSeat, room: Vec<u64>) -> Vec<u64> {
-        let mut words = room;
-        let closed = close(self, seat);
-        copy_words(&closed, &mut words);
-        closed.free();
-        words
     }
 
     fn split_consumer(&self, seat: &mut RingSeat) -> RingSeat {
@@ -132,8 +124,15 @@ impl Steps for RingTable {
     }
 
     #[inline(always)]
-    fn store_body(&self, seat: &mut RingSeat, capacity: u32, place: u64, body: &[u8]) {
-        store_body(&self.shared, seat, capacity, place, body);
+    fn store_record(
+        &self,
+        seat: &mut RingSeat,
+        capacity: u32,
+        place: u64,
+        wanted: Wanted,
+        body: &[u8],
+    ) {
+        store_record(&self.shared, seat, capacity, place, wanted, body);
     }
 
     #[inline(always)]
@@ -142,6 +141,7 @@ impl Steps for RingTable {
         seat: &mut RingSeat,
         capacity: u32,
         place: u64,
+        _len: usize,
         offset: usize,
         bytes: &[u8],
     ) {
@@ -205,5 +205,15 @@ impl Steps for RingTable {
     #[inline(always)]
     fn store_head_before(&self, consumer: &mut RingSeat, capacity: u32, head: u64) {
         store_head_before(&self.shared, consumer, capacity, head);
+    }
+}
+
+impl Closes for RingTable {
+    fn close(self, seat: RingSeat, room: Vec<u64>) -> Vec<u64> {
+        let mut words = room;
+        let closed = close(self, seat);
+        copy_words(&closed, &mut words);
+        closed.free();
+        words
     }
 }

@@ -28,7 +28,7 @@ fill_start first n body held h =
       words = λ i y e'. absurd (some-ne-none y (sym e'));
     }
 
-none_of : (l : List ℕ) → length l ≡ 0 → l ≡ []
+pub none_of : (l : List ℕ) → length l ≡ 0 → l ≡ []
 none_of [] e = refl
 none_of (x ∷ xs) e = absurd (omega arith)
 
@@ -59,7 +59,7 @@ get_more [] a (suc i) y e = absurd (some-ne-none y (sym e))
 get_more (x ∷ xs) a zero y e = inl e
 get_more (x ∷ xs) a (suc i) y e = ⊎_elim (λ t. inl t) (λ (t : (i ≡ length xs) × (a ≡ y)). let z = t.0 in inr (omega arith, t.1)) (get_more xs a i y e)
 
-words_more : (body done : List ℕ) (w : ℕ) → AreWordsOf body done → w ≡ body_word body (8 * length done) → AreWordsOf body (done ++ w ∷ [])
+pub words_more : (body done : List ℕ) (w : ℕ) → AreWordsOf body done → w ≡ body_word body (8 * length done) → AreWordsOf body (done ++ w ∷ [])
 words_more body done w each last i y e = ⊎_elim (λ t. each i y t)
     (λ (t : (i ≡ length done) × (w ≡ y)). ap (λ z. body_word body (8 * z)) t.0 ∙ sym last ∙ t.1) (get_more done w i y e)
 
@@ -83,7 +83,7 @@ fill_more first k n w body held held' less t w_is told =
       words = words_more body t.done w t.words (w_is ∙ ap (λ z. body_word body (8 * z)) (sym t.gone));
     }
 
-all_small : (xs : List ℕ) → All (λ b. b < 256) xs → (j : ℕ) → slice_index xs j < 256
+pub all_small : (xs : List ℕ) → All (λ b. b < 256) xs → (j : ℕ) → slice_index xs j < 256
 all_small xs k j = ⊎_elim (λ (h : j < length xs). All-get_or (λ b. b < 256) xs j 0 h k)
     (λ (h : length xs ≤ j). let none = get_or-past xs j h in omega arith) (cases_lt j (length xs))
   where

@@ -26,6 +26,7 @@ pub mod CarryLemmas
 pub mod HeaderWords
 pub mod RangeLemmas
 pub mod FillLemmas
+pub mod PuttingLemmas
 pub mod BodyPlaces
 pub mod SlotLemmas
 pub mod OutLemmas

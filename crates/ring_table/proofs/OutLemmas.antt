@@ -31,7 +31,7 @@ use Rattle.ring_table.proofs.ReachLemmas.{stored_of}
 use Rattle.ring_table.proofs.KnowLemmas.{knows_on}
 use Rattle.ring_table.proofs.StepLemmas.{sees_top_after, becomes}
 use Rattle.ring_table.proofs.HeaderWords.{one_type, one_length}
-use Rattle.ring_table.proofs.LoadLemmas.{Ok, HasUnsettled}
+use Rattle.ring_table.proofs.LoadLemmas.{Ok, HasUnsettled, stands}
 use Rattle.ring_table.proofs.StoreLemmas.{FillsClaim, opens, gives_body, rising, same_place, header_lies}
 use Rattle.ring_table.proofs.ClearLemmas.{one_end}
 use Rattle.ring_table.proofs.CarryLemmas.{Holds, was_changed, one_claim}
@@ -194,6 +194,9 @@ module _ (C start : ℕ) where
                 (λ x. with_out (placed_message (one x) ∷ []) v),
                 subst (λ (z : StagedClaim). HasBody (i + 1) z.message.body (carried_after me.1
                     (takes_from (i + 1) ys.0))) one body,
+                subst (λ (z : StagedClaim). All (λ b. b < 256) z.message.body) one
+                    (stands elsewhere C start s.words s.views r.0 id v k c
+                    (record { seat = at; claim = has; unsettled = un })).lies.message.bytes,
               ),
           rising elsewhere C start s.words s.views r.0 id v at,
         ),

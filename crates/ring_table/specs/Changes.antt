@@ -28,6 +28,11 @@ staged t c = record { from = c.from; place = c.place; message = c.message; stage
 abbrev pub with_header : ℤ → ℕ → StagedClaim → StagedClaim
 with_header type_id n c = record { from = c.from; place = c.place; message = blank type_id n; stage = Stored Open }
 
+-- and it has this body
+abbrev pub with_message : ℤ → List ℕ → StagedClaim → StagedClaim
+with_message type_id body c =
+    record { from = c.from; place = c.place; message = record { type_id = type_id; body = body }; stage = Stored Open }
+
 -- the body with the bytes of a word in place of its own from `at` on, as far as it goes
 abbrev pub with_word : ℕ → ℕ → List ℕ → List ℕ
 with_word at word body = overwritten at (take (length body - at) (to_le_bytes w64 word)) body

@@ -3,7 +3,10 @@ use Rattle.std.specs.Prelude.{◌≡◌, ℕ, ◌+◌, ◌*◌, ◌<◌, List, �
 use Rattle.atomic_table.specs.declared.shared.Seat.{Seat}
 use Rattle.ring_table.specs.Views.{View}
 use Rattle.ring_table.specs.Ranges.{numbered}
-use Rattle.ring_table.specs.SlotSteps.{AreWordsOf}
+use Rattle.ring_table.specs.SlotSteps.{AreWordsOf, HasBody}
+use Rattle.ring_table.specs.Staged.{body_word}
+use mathlib.Core.Option.{some}
+use lib.ListN.{get_elem?}
 
 -- k of n slots have the words of the body, and went behind the others
 pub record Filling (first k n : ℕ) (body : List ℕ) (held : List (ℕ × ℕ)) : Type 0 where
@@ -34,3 +37,19 @@ pub record IsSameTable (old new : Seat ℕ View) : Type 0 where
   pub table : new.table_id ≡ old.table_id
   pub id : new.id ≡ old.id
   pub view : new.me.0 ≡ old.me.0
+
+-- the slots have the words of this body of n bytes
+pub record Takes (first n : ℕ) (body : List ℕ) (held : List (ℕ × ℕ)) : Type 0 where
+  pub has : HasBody first body held
+  pub bytes : All (λ b. b < 256) body
+  pub long : length body ≡ n
+
+-- k of n slots have the words of the body `new` and went behind the others, which have those of `old`
+pub record Putting (first k n : ℕ) (old new : List ℕ) (held : List (ℕ × ℕ)) : Type 0 where
+  pub left : List ℕ
+  pub done : List ℕ
+  pub held_is : held ≡ numbered (first + k) left ++ numbered first done
+  pub gone : length done ≡ k
+  pub count : length left + k ≡ n
+  pub rest : (i y : ℕ) → get_elem? left i ≡ some y → body_word old (8 * (k + i)) ≡ y
+  pub words : AreWordsOf new done

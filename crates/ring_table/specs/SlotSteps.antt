@@ -54,6 +54,7 @@ abbrev pub TakesBody : ℕ → Mine → Mine → Type 0
 TakesBody word me me' = (k : ℕ) (c : StagedClaim) → HasClaim me.0 k c → c.stage ≡ Stored Open
     → index me.0.capacity c.place ≡ word
     → (me'.0 ≡ with_out (placed_message c ∷ []) me.0) × HasBody (word + 1) c.message.body me'.1
+    × All (λ b. b < 256) c.message.body
 
 -- the own open claim whose body is out gets the body whose words the slots have, and they go home
 abbrev pub GivesBody : Mine → Mine → Type 0

@@ -3,14 +3,14 @@ ghost use Rattle.std.specs.Prelude.{◌≡◌, ◌+◌, ◌*◌, ◌/◌, ◌^�
 ghost use Rattle.ring_table.specs.Filling.{Begins, Filling, IsSameTable};
 ghost use Rattle.ring_layout.specs.History.{IsMessage};
 ghost use Rattle.ring_table.specs.declared.claim.PlacedMessage.{PlacedMessage};
-ghost use Rattle.ring_table.specs.Changes.{blank, with_body, with_header};
+ghost use Rattle.ring_table.specs.Changes.{blank, with_header, with_message};
 ghost use Rattle.ring_table.specs.ProducerSteps.{with_changed, HasClaimAt, NeedsHeader};
 ghost use Rattle.ring_table.specs.Seats.{IsSameSeat, IsSeatOf};
-ghost use Rattle.ring_table.specs.SlotSteps.{body_loads, words_of, HasBody, HasLast, HasSlots, IsOpenOf};
+ghost use Rattle.ring_table.specs.SlotSteps.{body_loads, words_of, HasBody, HasLast, HasSlots};
 ghost use Rattle.ring_table.specs.Staged.{body_word, AreRising};
 
 use crate::mode::InSlots;
-use crate::steps::slots::{give_body, lend_body, open_body, return_body, take_body};
+use crate::steps::slots::{give_body, lend_body, open_body, return_body};
 use crate::steps::{RingSeat, SharedRing};
 use crate::view::Wanted;
 use ring_layout::{first_word, put_word, word_index};
@@ -75,7 +75,7 @@ pub fn fill_zeros(ring: &SharedRing<InSlots>, seat: &mut RingSeat, first: usize,
 
 /// Reads the slot taken last, which goes behind the others.
 #[inline(always)]
-fn look_slot(ring: &SharedRing<InSlots>, seat: &mut RingSeat, slot: usize) -> u64
+pub(crate) fn look_slot(ring: &SharedRing<InSlots>, seat: &mut RingSeat, slot: usize) -> u64
     requires seat { seat.old.table_id ≡ ring.now.table_id }
     requires front { (old : ℕ) × (rest : List (ℕ × ℕ)) × (seat.old.me.1 ≡ (slot, old) ∷ rest) }
     ensures seat { IsSameTable seat.old seat.new }
@@ -132,28 +132,34 @@ pub fn store_claimed_slots(
     give_body(ring, producer, capacity, place);
 }
 
-/// Writes a whole body into the slots of an own open claim, which has it from then on.
+/// Stores the header of a claim, its length negated, and writes its whole body into its slots. The claim is open from then
+/// on, and has this body.
+#[inline(always)]
 pub fn write_slots(
     ring: &SharedRing<InSlots>,
     producer: &mut RingSeat,
     capacity: u32,
     place: u64,
+    wanted: Wanted,
     body: &[u8],
 )
     requires seat { IsSeatOf ring.now.table_id ring.now.key capacity producer.old }
-    requires claim { HasClaimAt producer.old.me.0 place (IsOpenOf (length body.now)) }
-    requires small { length body.now < 2 ^ 58 }
+    requires message { IsMessage capacity (blank wanted.type_id wanted.len) }
+    requires len { length body.now ≡ wanted.len }
+    requires claim { HasClaimAt producer.old.me.0 place (NeedsHeader wanted.len) }
     ensures seat { IsSameSeat producer.old producer.new }
-    ensures view { producer.new.me.0 ≡ with_changed place (with_body body.now) producer.old.me.0 }
+    ensures view { producer.new.me.0
+        ≡ with_changed place (with_message wanted.type_id body.now) producer.old.me.0 }
     ensures rising { AreRising producer.old.me.0.producer.claims }
 {
-    take_body(ring, producer, capacity, place);
+    open_body(ring, producer, capacity, place, wanted);
     fill_slots(ring, producer, word_index(capacity, place) + 1, body);
     give_body(ring, producer, capacity, place);
 }
 
 /// Copies the body of the message that the read got last, of `len` bytes, to the front of the scratch. The log gets its
 /// words as if each was loaded.
+#[inline(always)]
 pub fn read_slots(
     ring: &SharedRing<InSlots>,
     consumer: &mut RingSeat,

@@ -1,6 +1,7 @@
 //! The rule of a shared ring, and a small function for each kind of step.
 //!
 //! - `view`, `claim`: what each seat knows. `rule`: what holds between any two steps. `mode`: where bodies lie.
+//! - `bodies`, `putting`: whole bodies and bytes in slots.
 //! - `plays`: what each kind of step says, by role. `steps`: a function for each kind, in files of the same names.
 //! - `table`: a ring's table, from its making to its close. `laws`: what follows from the rule.
 #![tactic(auto)]
@@ -10,6 +11,7 @@ mod claim;
 mod laws;
 mod mode;
 mod plays;
+mod putting;
 mod rule;
 mod steps;
 mod table;
@@ -24,6 +26,7 @@ pub use laws::{
     stored_claims_show_one_picture,
 };
 pub use mode::{InSlots, InWords, Mode};
+pub use putting::put_slots;
 pub use rule::RingRule;
 pub use steps::consumer::{
     clear_word, load_body_word, load_first_header, load_next_header, load_passed_word, store_head,

@@ -1,4 +1,4 @@
-//! Bytes put into the body of an open claim, a word at a time.
+//! Bytes put into the body of an open claim whose ring has them in words.
 ghost use Rattle.std.specs.Prelude.{◌≡◌, ℕ, ◌+◌, ◌%◌, ◌<◌, ◌≤◌, List, [], ◌∷◌, ◌++◌, length};
 ghost use Rattle.ring_layout.specs.History.{IsMessage};
 ghost use Rattle.ring_layout.specs.Places.{index, max_position};
@@ -7,13 +7,14 @@ ghost use Rattle.ring_table.specs.Changes.{blank, with_body_word};
 ghost use Rattle.ring_table.specs.ProducerSteps.{HasClaimAt};
 ghost use Rattle.ring_table.specs.Seats.{IsSameSeat, IsSeatOf};
 ghost use Rattle.ring_table.specs.Views.{with_claims};
-ghost use Rattle.ring_rings.specs.Bodies.{loaded, put_at, HasRoom, IsFreshClaim, MergesWord, PutsBytes, TakesFresh};
-ghost use Rattle.ring_rings.specs.Claiming.{record_behind};
-ghost use Rattle.ring_rings.specs.Making.{HasJustMade, IsJustMade};
+ghost use Rattle.ring_rings.specs.Bodies.{loaded, put_at, recorded, HasPaddedLast, HasRoom, IsFreshClaim};
+ghost use Rattle.ring_rings.specs.Bodies.{IsPaddedLast, MergesWord, PutsBytes, TakesFresh};
 
-use crate::steps::Steps;
 use ring_layout::{first_word, put_bytes_word, word_index};
-use ring_table::{InWords, RingSeat, SharedRing, Wanted, load_own_word, store_body_word};
+use ring_table::{
+    InWords, RingSeat, SharedRing, Wanted, load_own_word, store_body_word, store_claimed_header,
+    store_committed_header,
+};
 
 /// Stores a word of the newest claim's body, which is 0 so far from the byte offset `at` on. Its index in the buffer is
 /// `target`.
@@ -42,7 +43,7 @@ fn store_fresh_word(
 
 /// Stores a whole body into the newest claim, which has its length and zeros for its bytes.
 #[inline(always)]
-pub(crate) fn store_body(
+fn store_body(
     words: &SharedRing<InWords>,
     seat: &mut RingSeat,
     capacity: u32,
@@ -72,28 +73,28 @@ pub(crate) fn store_body(
     }
 }
 
-/// Stores the body of the claim that was just made, and commits it.
+/// Stores the header and the whole body of the newest claim, and commits it.
 #[inline(always)]
-pub(crate) fn store_message<B: Steps>(
-    words: &B,
+pub(crate) fn store_record(
+    words: &SharedRing<InWords>,
     seat: &mut RingSeat,
     capacity: u32,
     place: u64,
     wanted: Wanted,
     body: &[u8],
 )
-    requires seat { IsSeatOf (B.table_of words.now) (B.key_of words.now) capacity seat.old }
+    requires seat { IsSeatOf words.now.table_id words.now.key capacity seat.old }
     requires message { IsMessage capacity (blank wanted.type_id wanted.len) }
-    requires place { place ≤ max_position }
     requires len { length body.now ≡ wanted.len }
-    requires made { HasJustMade capacity wanted.type_id wanted.len place seat.old.me.0 }
+    requires inside { (place ≤ max_position) × (place % capacity + 8 + length body.now ≤ capacity) }
+    requires last { HasPaddedLast place wanted.len seat.old.me.0 }
     ensures seat { IsSameSeat seat.old seat.new }
-    ensures stored { (tail : ℕ) (cs : List StagedClaim)
-        → IsJustMade capacity tail wanted.type_id wanted.len place cs seat.old.me.0
-        → seat.new.me.0 ≡ with_claims (cs ++ record_behind capacity tail wanted.type_id body.now ∷ []) seat.old.me.0 }
+    ensures stored { (cs : List StagedClaim) (c : StagedClaim) → IsPaddedLast place wanted.len cs c seat.old.me.0
+        → seat.new.me.0 ≡ with_claims (cs ++ recorded wanted.type_id body.now c ∷ []) seat.old.me.0 }
 {
-    words.store_body(seat, capacity, place, body);
-    words.store_committed_header(seat, capacity, place, wanted);
+    store_claimed_header(words, seat, capacity, place, wanted);
+    store_body(words, seat, capacity, place, body);
+    store_committed_header(words, seat, capacity, place, wanted);
 }
 
 /// The word of an open claim's body with these bytes in place of its own from byte `at` on. The word is loaded if the

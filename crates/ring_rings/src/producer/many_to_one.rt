@@ -9,8 +9,8 @@ ghost use Rattle.ring_rings.specs.Seats.{IsNewClaimOf, IsProducerOf, KeepsBoth, 
 
 use crate::claim::Claim;
 use crate::fault::TryFault;
-use crate::producer::body::store_message;
-use crate::producer::claim::try_claim;
+use crate::producer::claim::{try_claim, try_move};
+use crate::producer::headers::store_whole;
 use crate::ring::{ManyToOne, Producer, Ring};
 use crate::steps::Steps;
 use ring_layout::{NoShares, has_spare_share};
@@ -68,16 +68,9 @@ impl<B: Steps> Ring<ManyToOne, B> {
             type_id,
             len: body.len(),
         };
-        let words = &self.table;
-        let admission = try_claim(words, &mut producer.seat, self.capacity, wanted)?;
-        store_message(
-            words,
-            &mut producer.seat,
-            self.capacity,
-            admission.place,
-            wanted,
-            body,
-        );
+        let (words, seat) = (&self.table, &mut producer.seat);
+        let admission = try_move(words, seat, self.capacity, wanted)?;
+        store_whole(words, seat, self.capacity, admission, wanted, body);
         producer.own_tail = admission.end;
         Ok(())
     }

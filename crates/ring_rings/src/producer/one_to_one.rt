@@ -6,8 +6,8 @@ ghost use Rattle.ring_rings.specs.Seats.{capacity_of, shares_of, view_of};
 ghost use Rattle.ring_rings.specs.Seats.{IsNewClaimOf, IsProducerOf, KeepsClaims};
 
 use crate::claim::Claim;
-use crate::producer::body::store_message;
-use crate::producer::claim::claim_alone;
+use crate::producer::claim::{claim_alone, move_alone};
+use crate::producer::headers::store_whole;
 use crate::ring::{OneToOne, Producer, Ring};
 use crate::steps::Steps;
 use ring_table::Wanted;
@@ -66,15 +66,9 @@ impl<B: Steps> Ring<OneToOne, B> {
             len: body.len(),
         };
         let (words, tail) = (&self.table, producer.own_tail);
-        let admission = claim_alone(words, &mut producer.seat, self.capacity, tail, wanted)?;
-        store_message(
-            words,
-            &mut producer.seat,
-            self.capacity,
-            admission.place,
-            wanted,
-            body,
-        );
+        let seat = &mut producer.seat;
+        let admission = move_alone(words, seat, self.capacity, tail, wanted)?;
+        store_whole(words, seat, self.capacity, admission, wanted, body);
         producer.own_tail = admission.end;
         Ok(())
     }

@@ -71,6 +71,7 @@ impl<K, B: Steps> Ring<K, B> {
             &mut producer.seat,
             self.capacity,
             claim.place(),
+            len,
             offset,
             bytes,
         );

@@ -5,7 +5,7 @@ use Rattle.ring_table.specs.ProducerSteps.{HasClaim, with_changed}
 use Rattle.ring_table.specs.SlotSteps.{HasBody, with_out}
 use Rattle.ring_table.specs.Views.{View, with_claims}
 use Rattle.ring_table.proofs.HistoryLemmas.{changed_there}
-use Rattle.ring_table.proofs.SlotBodies.{body_given, zeros_again}
+use Rattle.ring_table.proofs.SlotBodies.{body_given, header_and_body}
 use Rattle.ring_table.proofs.bodies.store_claimed_slots.Goals as goal
 
 pub give_body-requires-clause-body : goal.give_body-requires-clause-body
@@ -46,7 +46,7 @@ returns-clause-view c =
     body_given (with_changed c.args.place f v) c.give_body.new.producer.me.0 m c.args.place zeros c.requires.seat.home
     refl (given ∙ ap (λ (z : View). with_out [] (with_changed c.args.place (with_body zeros) z)) same)
     ∙ ap (λ (cs : List StagedClaim). with_claims cs v)
-    (zeros_again c.args.place c.args.wanted.type_id n v.producer.claims)
+    (header_and_body c.args.place c.args.wanted.type_id n zeros v.producer.claims)
 
 pub returns-clause-seat : goal.returns-clause-seat
 returns-clause-seat c =

@@ -1,21 +1,54 @@
-use Rattle.std.proofs.Common.{refl, ◌∙◌}
-use Rattle.ring_rings.proofs.MadeLemmas.{just_made, keeps_claims, written_claims, written_seat}
+use Rattle.std.proofs.Common.{◌≡◌, ℕ, ◌%◌, length, refl, ap, ◌∙◌, arith, rules}
+use Rattle.ring_layout.specs.History.{span}
+use Rattle.ring_layout.specs.Places.{next_place}
+use Rattle.ring_layout.proofs.CapacityLemmas.{capacity_blocks}
+use Rattle.ring_layout.proofs.PlaceLemmas.{next_within, span_bounds}
+use Rattle.std.proofs.lemmas.List.{length-replicate}
+use Rattle.ring_rings.proofs.MadeLemmas.{keeps_claims, moved_made, moved_newest, moved_recorded, written_claims, written_seat, written_view}
 use Rattle.ring_rings.proofs.producer.one_to_one.Ring+OneToOne+B.write.Goals as goal
+
+pub store_whole-requires-clause-inside : goal.store_whole-requires-clause-inside
+store_whole-requires-clause-inside g c =
+    let C : ℕ = c.args.self.now.capacity in
+    let len : ℕ = length c.args.body.now in
+    let admitted = c.in_ok-admission.ensures.told.admitted in
+    let tail : ℕ = c.args.producer.now.own_tail in
+    let lawful = c.args.self.now.lawful in
+    let bounds = span_bounds len in
+    let short = admitted.message.short in
+    let zeros = length-replicate {A = ℕ} len 0 in
+    let within = next_within C tail (span len) (omega (arith, lawful.least))
+    (omega (arith, lawful.least, capacity_blocks C lawful, short, zeros, bounds.2)) in
+    let same : c.in_ok-admission.admission.place % C ≡ next_place C tail (span len) % C =
+    ap (λ (n : ℕ). n % C) admitted.place in
+    omega (arith, within, same, bounds.1)
 
 pub invariant_of-producer-2 : goal.invariant_of-producer-2
 invariant_of-producer-2 g c =
-    let told = c.in_ok-admission.ensures.told in
-    let seat = written_seat told c.args.body.now refl c.store_message.new.seat.me.0
-    (c.store_message.ensures.stored _ _ (just_made told)) c.args.producer.now.known c.args.producer.now.produces
-    (c.store_message.ensures.seat.slots ∙ c.in_ok-admission.ensures.seat.slots) in
+    let moved = c.in_ok-admission.ensures.told in
+    let known = c.args.producer.now.known in
+    let seat = written_seat (moved_made moved known.rising) c.args.body.now refl
+    c.store_whole.new.seat.me.0 (moved_recorded moved c.args.body.now refl
+    c.store_whole.new.seat.me.0 (c.store_whole.ensures.stored _ _ (moved_newest moved))) known
+    c.args.producer.now.produces
+    (c.store_whole.ensures.seat.slots ∙ c.in_ok-admission.ensures.seat.slots) in
     record {
       known = seat.0;
       produces = seat.1;
-      home = c.store_message.ensures.seat.out ∙ c.in_ok-admission.ensures.seat.out ∙ c.args.producer.now.home;
+      home = c.store_whole.ensures.seat.out ∙ c.in_ok-admission.ensures.seat.out ∙ c.args.producer.now.home;
     }
+
+pub returns-clause-written : goal.returns-clause-written
+returns-clause-written g c =
+    let moved = c.in_ok-admission.ensures.told in
+    let view = written_view (moved_made moved c.args.producer.now.known.rising) c.args.body.now refl
+    c.store_whole.new.seat.me.0 (moved_recorded moved c.args.body.now refl
+    c.store_whole.new.seat.me.0 (c.store_whole.ensures.stored _ _ (moved_newest moved))) in
+    search rules
 
 pub returns-clause-claims : goal.returns-clause-claims
 returns-clause-claims g c =
-    let told = c.in_ok-admission.ensures.told in
-    let stored = c.store_message.ensures.stored _ _ (just_made told) in
-    keeps_claims _ (written_claims told c.args.body.now refl c.store_message.new.seat.me.0 stored)
+    let moved = c.in_ok-admission.ensures.told in
+    keeps_claims _ (written_claims (moved_made moved c.args.producer.now.known.rising) c.args.body.now refl
+    c.store_whole.new.seat.me.0 (moved_recorded moved c.args.body.now refl
+    c.store_whole.new.seat.me.0 (c.store_whole.ensures.stored _ _ (moved_newest moved))))
