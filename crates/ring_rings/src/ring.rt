@@ -6,7 +6,7 @@ ghost use Rattle.ring_rings.specs.Matching.{Matches, matches_prop};
 
 use crate::fault::CloseFault;
 use crate::steps::Steps;
-use ring_table::{RingSeat, RingTable};
+use ring_table::{RingSeat, RingTable, SlotTable};
 use std::marker::PhantomData;
 
 /// The kind of a ring that one producer writes.
@@ -16,7 +16,9 @@ pub struct OneToOne;
 pub struct ManyToOne;
 
 /// A ring of messages between threads, shared by reference. It has one consumer, and producers as its kind says. `B` is
-/// its table, which says where the bodies of messages lie: in atomic words in a `RingTable`.
+/// its table, which says where the bodies of messages lie: in a `RingTable` in atomic words, as the format has them; in a
+/// `SlotTable` in plain memory, which costs a fraction of the time and as much memory again. All calls and their
+/// contracts are the same.
 #[derive(Drop)]
 pub struct Ring<K, B: Steps = RingTable> {
     pub(crate) table: B,
@@ -35,6 +37,15 @@ pub type OneToOneRing = Ring<OneToOne>;
 
 /// A ring with any number of producers, which move the tail by a compare-exchange.
 pub type ManyToOneRing = Ring<ManyToOne>;
+
+/// A ring whose bodies lie in plain memory.
+pub type PlainRing<K> = Ring<K, SlotTable>;
+
+/// A `OneToOneRing` whose bodies lie in plain memory.
+pub type PlainOneToOneRing = PlainRing<OneToOne>;
+
+/// A `ManyToOneRing` whose bodies lie in plain memory.
+pub type PlainManyToOneRing = PlainRing<ManyToOne>;
 
 /// Writes into a ring. It is used by one thread at a time, and may move between threads.
 ///
