@@ -1,13 +1,14 @@
 -- The loops that put bytes into the slots of a body.
-use Rattle.std.proofs.Common.{◌≡◌, ℕ, zero, suc, ◌+◌, ◌-◌, ◌*◌, ◌<◌, ◌≤◌, ◌⊎◌, inl, inr, List, [], ◌∷◌, ◌++◌, All, drop, take, slice_index, length, length-append, sym, refl, ap, ◌∙◌, append-nil, arith}
-use mathlib.Core.Option.{some, some-ne-none}
+use Rattle.std.proofs.Common.{◌≡◌, ℕ, suc, ◌+◌, ◌-◌, ◌*◌, ◌<◌, ◌≤◌, ◌⊎◌, inl, inr, List, [], ◌∷◌, ◌++◌, All, drop, slice_index, length, length-append, sym, refl, ap, ◌∙◌, append-nil, arith}
+use mathlib.Core.Option.{some-ne-none}
 use lib.ListN.{get_elem?}
 use Rattle.std.specs.List.{slice_range}
 use Rattle.std.specs.Int.{from_le_bytes, to_le_bytes, w64}
 use Rattle.std.proofs.lemmas.Bool.{cases_lt}
+use Rattle.std.proofs.lemmas.List.Elements.{All-from_get_or}
 use Rattle.std.proofs.lemmas.List.{get_or-drop, get_or-take, length-drop, length-take-le}
 use Rattle.ring_layout.specs.History.{overwritten}
-use Rattle.ring_layout.proofs.WordBytes.{from_le_bytes-same, length-overwritten, overwritten_before, overwritten_behind, overwritten_inside, overwritten_word, overwritten_word_apart}
+use Rattle.ring_layout.proofs.WordBytes.{from_le_bytes-same, overwritten_before, overwritten_behind, overwritten_inside, overwritten_word, overwritten_word_apart}
 use Rattle.ring_table.specs.Filling.{Putting, Takes}
 use Rattle.ring_table.specs.Ranges.{numbered}
 use Rattle.ring_table.specs.SlotSteps.{HasBody, words_of}
@@ -55,10 +56,16 @@ module _ (first n : ℕ) (old new : List ℕ) where
         let some = first_of_some t.left (omega arith) in
         let long : length t.left ≡ suc (length some.1) = ap length some.2 in
         let more : length (t.done ++ w ∷ []) ≡ length t.done + 1 = length-append t.done (w ∷ []) in
+        let here : k ≡ k + 0 = omega arith in
+        let word : some.0 ≡ body_word old (8 * k) =
+        sym (ap (λ z. body_word old (8 * z)) here ∙ t.rest 0 some.0 (ap (λ l. get_elem? l 0) some.2)) in
         record {
           left = some.1;
           done = t.done ++ w ∷ [];
-          held_is = told put_front.0 put_front.1 ∙ turned_on first k some.1 t.done w t.gone;
+          held_is = told (numbered (suc (first + k)) some.1 ++ numbered first t.done)
+              (t.held_is ∙ ap (λ l. numbered (first + k) l ++ numbered first t.done) some.2
+              ∙ ap (λ y. (first + k, y) ∷ numbered (suc (first + k)) some.1 ++ numbered first t.done) word)
+              ∙ turned_on first k some.1 t.done w t.gone;
           gone = omega arith;
           count = omega arith;
           rest = λ i y e.
@@ -152,12 +159,18 @@ module _ (offset : ℕ) (bytes old : List ℕ) (room : offset + length bytes ≤
         (λ i lt. get_or-drop (8 * k) (overwritten (8 * k + at) chunk old) i 0 ∙ same_byte at at_is i lt
         ∙ sym (get_or-drop (8 * k) (overwritten offset bytes old) i 0))
 
--- eight bytes are the whole word
-pub whole_word : (bytes : List ℕ) (at word : ℕ) → length bytes ≡ 8 → at + length bytes ≤ 8
-    → from_le_bytes w64 bytes ≡ from_le_bytes w64 (overwritten at bytes (to_le_bytes w64 word))
-whole_word bytes at word long fits =
-    let eight : length (to_le_bytes w64 word) ≡ 8 = refl in
-    from_le_bytes-same bytes (overwritten at bytes (to_le_bytes w64 word)) (λ i lt.
-    let there : i - at ≡ i = omega arith in
-    sym (overwritten_inside at bytes (to_le_bytes w64 word) i (omega arith) (omega arith) (omega arith)
-    ∙ ap (slice_index bytes) there))
+-- and they are bytes
+pub small_put : (offset : ℕ) (bytes old : List ℕ) → offset + length bytes ≤ length old
+    → ((j : ℕ) → slice_index bytes j < 256) → All (λ b. b < 256) old → All (λ b. b < 256) (overwritten offset bytes old)
+small_put offset bytes old room small_bytes small =
+    All-from_get_or (λ b. b < 256) (overwritten offset bytes old) 0 (λ j _.
+    let P : Type 0 = slice_index (overwritten offset bytes old) j < 256 in
+    let byte = all_small old small j in
+    elim (cases_lt j offset) as (λ _. P) [
+      | inl before ↦ (let e = overwritten_before offset bytes old j room before in omega arith)
+      | inr from ↦ elim (cases_lt j (offset + length bytes)) as (λ _. P) [
+        | inl inside ↦ (let e = overwritten_inside offset bytes old j room from inside in
+            let b = small_bytes (j - offset) in omega arith)
+        | inr behind ↦ (let e = overwritten_behind offset bytes old j room behind in omega arith)
+      ]
+    ])
