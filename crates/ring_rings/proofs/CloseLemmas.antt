@@ -25,11 +25,6 @@ use Rattle.ring_table.proofs.RestLemmas.{claims_of-restarted}
 use Rattle.ring_rings.specs.Closing.{HandsOut, Serves}
 use Rattle.ring_rings.specs.Reading.{at_rest}
 
-pub read_at : (l : List ℕ) (i a : ℕ) → get_elem? l i ≡ some a → get_or l i 0 ≡ a
-read_at [] i a e = absurd (some-ne-none a (sym e))
-read_at (x ∷ xs) zero a e = some-injective x a e
-read_at (x ∷ xs) (suc i) a e = read_at xs i a e
-
 placed_lawful : (C e : ℕ) (cs : List StagedClaim) → ArePlaced C e cs
     → All (λ (c : Claim). IsMessage C c.message) (unplaced cs)
 placed_lawful C e [] placed = All-nil (λ (c : Claim). IsMessage C c.message)

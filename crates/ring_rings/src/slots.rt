@@ -14,13 +14,13 @@ ghost use Rattle.ring_rings.specs.Bodies.{recorded, HasPaddedLast, IsPaddedLast,
 ghost use Rattle.ring_rings.specs.ReadingSteps.{CopiesBody, HasBodyAt, HasGotLast, HasLastAt, IsReaderSeatOf, OnlyLoads};
 
 use crate::consumer::pass::clear_up;
-use crate::steps::Steps;
+use crate::steps::{Closes, Steps};
 use ring_table::{
-    InSlots, Key, RingSeat, SharedRing, SlotTable, Wanted, draw_correlation_id, join_consumer,
-    join_producer, load_cache, load_first_header, load_head, load_heartbeat, load_next_header,
-    load_tail, move_tail, open_slots, put_slots, read_slots, split_consumer, split_producer,
-    store_aborted_header, store_cache, store_claimed_slots, store_committed_header, store_head,
-    store_head_before, store_heartbeat, store_padding_header, store_tail, write_slots,
+    InSlots, Key, RingSeat, SharedRing, SlotTable, Wanted, close_slots, draw_correlation_id,
+    join_consumer, join_producer, load_cache, load_first_header, load_head, load_heartbeat,
+    load_next_header, load_tail, move_tail, open_slots, put_slots, read_slots, split_consumer,
+    split_producer, store_aborted_header, store_cache, store_claimed_slots, store_committed_header,
+    store_head, store_head_before, store_heartbeat, store_padding_header, store_tail, write_slots,
 };
 use std::alloc::{AllocError, Global};
 
@@ -266,5 +266,11 @@ impl Steps for SlotTable {
     #[inline(always)]
     fn store_head_before(&self, consumer: &mut RingSeat, capacity: u32, head: u64) {
         store_head_before(&self.shared, consumer, capacity, head);
+    }
+}
+
+impl Closes for SlotTable {
+    fn close(self, seat: RingSeat, room: Vec<u64>) -> Vec<u64> {
+        close_slots(self, seat, room)
     }
 }

@@ -329,6 +329,7 @@ pub trait Closes: Steps {
             × ((Self.table_of self).slots ≡ Self.slots_for (Self.key_of self).capacity) }
         requires room { vec_len room ≡ (Self.table_of self).words }
         requires all { (seat.me.0.producer.shares ≡ all_shares) × (seat.me.0.consumes ≡ true) }
+        requires home { seat.me.0.out ≡ [] }
         requires settled { (open_count seat.me.0.producer.claims ≡ 0)
             × (seat.me.0.consumer.cleared ≡ seat.me.0.consumer.head) }
         ensures closed { IsClosed (Self.key_of self).capacity (Self.key_of self).start result.items seat.me.0 }

@@ -1,30 +1,16 @@
 //! The steps of a ring whose bodies lie in words, one atomic word for eight bytes, as the ring's format has it.
-ghost use Rattle.std.specs.Prelude.{◌≡◌, vec_len};
-ghost use Rattle.std.specs.Slots.{slots_items, slots_len, IsFull};
-
 use crate::consumer::load::load_body;
 use crate::consumer::pass::clear_up;
 use crate::producer::body::{put_bytes, store_record};
 use crate::steps::{Closes, Steps};
-use atomic_table::Closed;
 use ring_table::{
-    Key, RingSeat, RingTable, Wanted, close, draw_correlation_id, join_consumer, join_producer,
-    load_cache, load_first_header, load_head, load_heartbeat, load_next_header, load_tail,
-    move_tail, open, split_consumer, split_producer, store_aborted_header, store_cache,
+    Key, RingSeat, RingTable, Wanted, close, copy_words, draw_correlation_id, join_consumer,
+    join_producer, load_cache, load_first_header, load_head, load_heartbeat, load_next_header,
+    load_tail, move_tail, open, split_consumer, split_producer, store_aborted_header, store_cache,
     store_claimed_header, store_committed_header, store_head, store_head_before, store_heartbeat,
     store_padding_header, store_tail,
 };
 use std::alloc::{AllocError, Global};
-
-/// Copies the words of a table that was closed.
-fn copy_words(closed: &Closed<u64, Global>, words: &mut Vec<u64>)
-    requires { IsFull closed.now.words × (slots_len closed.now.words ≡ vec_len words.old) }
-    ensures { words.new.items ≡ slots_items closed.now.words }
-{
-    for i in 0..words.len() {
-        words[i] = closed.word(i);
-    }
-}
 
 impl Steps for RingTable {
     ghost use Rattle.std.specs.Prelude.{◌≡◌};

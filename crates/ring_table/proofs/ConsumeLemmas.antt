@@ -1,6 +1,6 @@
 -- The consumer's loads keep the rule, and what a step of it owes.
 use Rattle.ring_table.specs.Staged.{in_words}
-use Rattle.ring_table.specs.Staged.{Bodies}
+use Rattle.ring_table.specs.Staged.{Bodies, shown_header}
 use Rattle.std.proofs.Common.{◌≡◌, ℕ, ◌+◌, ◌-◌, ◌/◌, ◌%◌, ◌^◌, ◌≤◌, ◌<◌, ℤ, pos, negsuc, ◌≤ℤ◌, FitsSigned, List, [], ◌∷◌, ◌++◌, cond, true, set, get_or, slice_index, sym, refl, ap, ◌∙◌, subst, ⊎_elim, le-ltb, arith}
 use mathlib.Core.Option.{some}
 use mathlib.Core.Logic.{dite}
@@ -23,7 +23,7 @@ use Rattle.ring_table.specs.ProducerSteps.{Mine}
 use Rattle.ring_table.specs.ConsumerSteps.{with_scan, rounded, IsInside, LoadsHeader, LoadsBody}
 use Rattle.ring_table.proofs.StagedPlaces.{capacity_aligned, start_aligned}
 use Rattle.ring_table.proofs.ReachLemmas.{reach_bounds, reach_aligned, shows_body}
-use Rattle.ring_table.proofs.HeaderReads.{low_half, halves, Leads, leads}
+use Rattle.ring_table.proofs.HeaderReads.{low_half, halves, shown_low, Leads, leads}
 use Rattle.std.proofs.lemmas.List.{set-get_or}
 use Rattle.ring_table.proofs.KnowLemmas.{knows_on}
 use Rattle.ring_table.proofs.StepLemmas.{sees_top_after, becomes}
@@ -114,14 +114,16 @@ module _ (B : Bodies) (C start : ℕ) where
       → me.0.consumes ≡ true → (s : State ℕ View) (r : Ok B C start s) → get_elem? s.views id ≡ some me.0
       → Reaches q start (all_of r.hist) got → (r.consumer.cleared ≤ q) × (q < r.consumer.head + C)
       → May B C start s (index C q) id me (λ me'. (me'.1 ≡ me.1)
-      × LoadsHeader me.0.capacity q got me.0 (slice_index s.words (index C q)) me'.0
-      × Logs (index C q) (slice_index s.words (index C q)) me.0 me'.0) (slice_index s.words (index C q))
+      × LoadsHeader me.0.capacity q got me.0 (shown_header B (slice_index s.words (index C q))) me'.0
+      × Logs (index C q) (shown_header B (slice_index s.words (index C q))) me.0 me'.0) (slice_index s.words (index C q))
   loads_header q got slots id me cap consumes s r at reaches ahead =
       let le = ahead.0 in
       let near = ahead.1 in
       let v : View = me.0 in
-      let n : ℕ = slice_index s.words (index C q) in
+      let w : ℕ = slice_index s.words (index C q) in
+      let n : ℕ = shown_header B w in
       let low : ℕ = n % 2 ^ 32 in
+      let low_is : low ≡ w % 2 ^ 32 = shown_low B w in
       let high : ℕ = n / 2 ^ 32 in
       let h : OwnedHistory = r.hist in
       let m = r.memory in
@@ -132,7 +134,7 @@ module _ (B : Bodies) (C start : ℕ) where
       let start8 = start_aligned C start law in
       let q8 : q % 8 ≡ 0 = reach_aligned C q start (all_of h) got (omega arith)
       (capacity_aligned C law.capacity) start8 m.placed reaches in
-      let is : staged_word_at B (all_of h) q ≡ n =
+      let is : staged_word_at B (all_of h) q ≡ w =
       sym (m.shows q q8 (omega arith) near ∙ ap (λ b. cond b 0 (staged_word_at B (all_of h) q))
       (le-ltb q r.consumer.cleared le)) in
       let now = λ (to : ℕ) (g : List PlacedMessage). with_scan (index C q) n to g v in
@@ -148,12 +150,12 @@ module _ (B : Bodies) (C start : ℕ) where
         unpublished = λ len type_id _ _ _ _. ap (λ c. with_scan (index c q) n q got v) (sym cap);
       } in
       let step : May B C start s (index C q) id me
-      (λ me'. (me'.1 ≡ me.1) × Told me'.0 × Logs (index C q) n me.0 me'.0) n =
+      (λ me'. (me'.1 ≡ me.1) × Told me'.0 × Logs (index C q) n me.0 me'.0) w =
       (now q got, keeps, tt, scans s r id v at consumes q got reaches le q n, (refl, told, refl)) in step in
       ⊎_elim (λ (lo : 0 < low). ⊎_elim (λ (hi : low < 2 ^ 31).
       let t : Leads C q start (all_of h) got n =
-      leads B C q start (all_of h) got n law.capacity (record { whole = start8; placed = m.placed }) reaches is
-      (record { above = lo; below = hi }) in
+      leads B C q start (all_of h) got w law.capacity (record { whole = start8; placed = m.placed }) reaches is
+      (record { above = omega arith; below = omega arith }) in
       let far : ℕ = q + rounded low in
       let positive = λ (len type_id : ℤ) (fits : FitsSigned w32 len) (le : len ≤ℤ pos 0) (e : n ≡ header len type_id).
       let bits : low ≡ cast_unsigned w32 len = ap (λ k. k % 2 ^ 32) e ∙ low_half len type_id fits in
@@ -212,8 +214,9 @@ module _ (B : Bodies) (C start : ℕ) where
   pub loads_first : (slots id : ℕ) (me : Mine) → me.0.capacity ≡ C → me.0.consumes ≡ true
       → me.0.consumer.cleared ≡ me.0.consumer.head
       → Allows (Ok B C start) slots id me (index C me.0.consumer.head) (λ n. n)
-      (λ n me'. (me'.1 ≡ me.1) × LoadsHeader me.0.capacity me.0.consumer.head me.0.consumer.taken me.0 n me'.0
-      × Logs (index C me.0.consumer.head) n me.0 me'.0)
+      (λ n me'. (me'.1 ≡ me.1)
+      × LoadsHeader me.0.capacity me.0.consumer.head me.0.consumer.taken me.0 (shown_header B n) me'.0
+      × Logs (index C me.0.consumer.head) (shown_header B n) me.0 me'.0)
   loads_first slots id me cap consumes none_cleared s r wide at small =
       let mine = ((r.seated.each id me.0 at).consumes consumes).1 in
       let heads : me.0.consumer.head ≡ r.consumer.head = ap (λ (z : ConsumerView). z.head) mine in
@@ -226,8 +229,9 @@ module _ (B : Bodies) (C start : ℕ) where
   pub loads_next : (slots id : ℕ) (me : Mine) → me.0.capacity ≡ C → me.0.consumes ≡ true
       → me.0.consumer.scan < me.0.consumer.head + C
       → Allows (Ok B C start) slots id me (index C me.0.consumer.scan) (λ n. n)
-      (λ n me'. (me'.1 ≡ me.1) × LoadsHeader me.0.capacity me.0.consumer.scan me.0.consumer.got me.0 n me'.0
-      × Logs (index C me.0.consumer.scan) n me.0 me'.0)
+      (λ n me'. (me'.1 ≡ me.1)
+      × LoadsHeader me.0.capacity me.0.consumer.scan me.0.consumer.got me.0 (shown_header B n) me'.0
+      × Logs (index C me.0.consumer.scan) (shown_header B n) me.0 me'.0)
   loads_next slots id me cap consumes near s r wide at small =
       let mine = ((r.seated.each id me.0 at).consumes consumes).1 in
       let heads : me.0.consumer.head ≡ r.consumer.head = ap (λ (z : ConsumerView). z.head) mine in

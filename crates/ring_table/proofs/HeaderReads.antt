@@ -1,7 +1,10 @@
 -- A header of positive length leads a read on.
-use Rattle.ring_table.specs.Staged.{Bodies}
-use Rattle.std.proofs.Common.{◌≡◌, ◌≢◌, ℕ, zero, suc, ◌+◌, ◌-◌, ◌/◌, ◌%◌, ◌^◌, ◌≤◌, ◌<◌, ℤ, ◌≤ℤ◌, pos, negsuc, neg_ℤ, FitsSigned, List, [], ◌∷◌, ◌++◌, cond, sym, refl, ap, ◌∙◌, subst, inl, inr, ⊎_elim, length, lt-ltb, le-ltb, append_assoc, arith}
+use Rattle.ring_table.specs.Staged.{Bodies, in_words, elsewhere, padding_mark, padding_word, shown_header}
+use Rattle.std.proofs.Common.{◌≡◌, ◌≢◌, ℕ, zero, suc, ◌+◌, ◌-◌, ◌*◌, ◌/◌, ◌%◌, ◌^◌, ◌≤◌, ◌<◌, ℤ, ◌≤ℤ◌, pos, negsuc, neg_ℤ, FitsSigned, List, [], ◌∷◌, ◌++◌, cond, sym, refl, ap, ◌∙◌, subst, inl, inr, ⊎_elim, length, lt-ltb, le-ltb, append_assoc, eq-eqb, ne_eqb, arith}
 use Rattle.std.specs.Int.{cast_unsigned, w32}
+use Rattle.std.proofs.lemmas.Bool.{cond-true, cond-false}
+use mathlib.Core.Logic.{dite}
+use native.Mathlib.Decide.{ℕ_discrete}
 use Rattle.std.proofs.lemmas.Int.{ints}
 use Rattle.std.proofs.lemmas.Nat.{mod_low, shr_high, mod_below}
 use Rattle.ring_layout.specs.declared.message.Message.{Message}
@@ -38,8 +41,30 @@ pub negated_above : (n : ℕ) → 0 < n → n < 2 ^ 31 → 2 ^ 31 ≤ cast_unsig
 negated_above zero some small = absurd (omega arith)
 negated_above (suc n) some small = omega arith
 
+-- a header as the formats have it: of the same length, and with the same type id if it is no padding's
+pub shown_low : (B : Bodies) (w : ℕ) → shown_header B w % 2 ^ 32 ≡ w % 2 ^ 32
+shown_low in_words w = refl
+shown_low elsewhere w = dite (ℕ_discrete (w / 2 ^ 32) (2 ^ 32 - 2))
+    (λ e. ap (λ k. k % 2 ^ 32) (cond-true _ (w + 2 ^ 32) w (eq-eqb (w / 2 ^ 32) (2 ^ 32 - 2) e)) ∙ omega arith)
+    (λ ne. ap (λ k. k % 2 ^ 32) (cond-false _ (w + 2 ^ 32) w (ne_eqb (w / 2 ^ 32) (2 ^ 32 - 2) ne)))
+
+pub shown_other : (B : Bodies) (w : ℕ) → w / 2 ^ 32 ≢ 2 ^ 32 - 2 → shown_header B w ≡ w
+shown_other in_words w other = refl
+shown_other elsewhere w other = cond-false _ (w + 2 ^ 32) w (ne_eqb (w / 2 ^ 32) (2 ^ 32 - 2) other)
+
+pub shown_padding : (B : Bodies) (n : ℕ) → n < 2 ^ 31 → shown_header B (padding_word B n) ≡ padding_header n
+shown_padding in_words n small = refl
+shown_padding elsewhere n small =
+    let w : ℕ = header (pos n) padding_mark in
+    let high : w / 2 ^ 32 ≡ 2 ^ 32 - 2 = high_half (pos n) padding_mark (fits_pos n small) in
+    let low : ℕ = cast_unsigned w32 (pos n) in
+    let is : w ≡ (2 ^ 32 - 2) * 2 ^ 32 + low = refl in
+    let shown : padding_header n ≡ (2 ^ 32 - 1) * 2 ^ 32 + low = refl in
+    let up : w + 2 ^ 32 ≡ padding_header n = omega arith in
+    cond-true _ (w + 2 ^ 32) w (eq-eqb (w / 2 ^ 32) (2 ^ 32 - 2) high) ∙ up
+
 -- what a type id of a message is as bits
-type_below : (type_id : ℤ) → pos 1 ≤ℤ type_id → FitsSigned w32 type_id → cast_unsigned w32 type_id < 2 ^ 31
+pub type_below : (type_id : ℤ) → pos 1 ≤ℤ type_id → FitsSigned w32 type_id → cast_unsigned w32 type_id < 2 ^ 31
 type_below (pos n) one fits = omega (arith, fits.sfits)
 type_below (negsuc n) one fits = absurd (omega (arith, ints))
 
@@ -89,13 +114,14 @@ leads_to_end C s c w type_id big m at is =
     record { len = len; bits = both.1; goes = omega arith }
 
 -- the header at the place of the claim
-at_header : (C s e : ℕ) (c : StagedClaim) (cs : List StagedClaim) (t : Stage) (w : ℕ) → C ≤ 2 ^ 24
-    → IsMessage C c.message → s % C + staged_span c ≤ C → IsHeaderAt c t s w → HasLength w → Leads C s e (c ∷ cs) [] w
-at_header C s e c cs Moved w big m inner h plus =
+at_header : (B : Bodies) (C s e : ℕ) (c : StagedClaim) (cs : List StagedClaim) (t : Stage) (w : ℕ) → C ≤ 2 ^ 24
+    → IsMessage C c.message → s % C + staged_span c ≤ C → IsHeaderAt c t s w → HasLength w
+    → Leads C s e (c ∷ cs) [] (shown_header B w)
+at_header B C s e c cs Moved w big m inner h plus =
     let eq = h.word in let lo = plus.above in absurd (omega arith)
-at_header C s e c cs Padded w big m inner h plus =
+at_header B C s e c cs Padded w big m inner h plus =
     let eq = h.word in let lo = plus.above in absurd (omega arith)
-at_header C s e c cs (Stored Open) w big m inner h plus =
+at_header B C s e c cs (Stored Open) w big m inner h plus =
     let eq = h.word in
     let hi = plus.below in
     let n : ℕ = length c.message.body in
@@ -104,14 +130,14 @@ at_header C s e c cs (Stored Open) w big m inner h plus =
     ap (λ k. k % 2 ^ 32) eq ∙ low_half (neg_ℤ (pos (8 + n))) c.message.type_id (fits_neg (8 + n) (omega arith)) in
     let far = negated_above (8 + n) (omega arith) (omega arith) in
     absurd (omega arith)
-at_header C s e c cs (Stored Committed) w big m inner h plus =
+at_header B C s e c cs (Stored Committed) w big m inner h plus =
     let at = h.place in
     let is = h.stage in
     let t = leads_to_end C s c w c.message.type_id big m at h.word in
     let goes = t.goes in
     let bits = t.bits in
     let type_bits = type_below c.message.type_id m.type_id m.type_fits in
-    record {
+    subst (Leads C s e (c ∷ cs) []) (sym (shown_other B w (λ mark. omega arith))) (record {
       padding = λ pad. absurd (omega arith);
       message = λ _. record {
         message = c.message;
@@ -132,12 +158,13 @@ at_header C s e c cs (Stored Committed) w big m inner h plus =
             )));
       };
       within = omega arith;
-    }
-at_header C s e c cs (Stored Aborted) w big m inner h plus =
+    })
+at_header B C s e c cs (Stored Aborted) w big m inner h plus =
     let is = h.stage in
     let t = leads_to_end C s c w padding_type big m h.place h.word in
     let goes = t.goes in
-    record {
+    let bits : w / 2 ^ 32 ≡ 2 ^ 32 - 1 = t.bits in
+    subst (Leads C s e (c ∷ cs) []) (sym (shown_other B w (λ mark. omega arith))) (record {
       padding = λ _. subst (λ k. Reaches k e (c ∷ cs) []) (sym goes)
           (inr (inr (
             subst IsSettled (sym is) tt,
@@ -150,7 +177,7 @@ at_header C s e c cs (Stored Aborted) w big m inner h plus =
           )));
       message = λ other. absurd (other t.bits);
       within = omega arith;
-    }
+    })
 
 -- the padding from s up to the place of the claim is whole words, and does not cross the end of the buffer
 record IsPaddingAt (C : ℕ) (c : StagedClaim) (s : ℕ) : Type 0 where
@@ -161,9 +188,10 @@ record IsPaddingAt (C : ℕ) (c : StagedClaim) (s : ℕ) : Type 0 where
   pub inner : s % C + (c.place - s) ≤ C
 
 -- the padding's header before the claim
-at_padding : (C s e : ℕ) (c : StagedClaim) (cs : List StagedClaim) (w : ℕ) → C ≤ 2 ^ 24 → IsPaddingAt C c s
-    → w ≡ masked_padding c.stage (padding_header (c.place - c.from)) → HasLength w → Leads C s e (c ∷ cs) [] w
-at_padding C s e c cs w big pad eq plus = by_stage c.stage refl eq
+at_padding : (B : Bodies) (C s e : ℕ) (c : StagedClaim) (cs : List StagedClaim) (w : ℕ) → C ≤ 2 ^ 24 → IsPaddingAt C c s
+    → w ≡ masked_padding c.stage (padding_word B (c.place - c.from)) → HasLength w
+    → Leads C s e (c ∷ cs) [] (shown_header B w)
+at_padding B C s e c cs w big pad eq plus = by_stage c.stage refl eq
   where
     at : s ≡ c.from
     at = pad.from
@@ -186,20 +214,22 @@ at_padding C s e c cs w big pad eq plus = by_stage c.stage refl eq
     hi : w % 2 ^ 32 < 2 ^ 31
     hi = plus.below
 
-    stored : w ≡ padding_header (c.place - c.from) → c.stage ≢ Moved → Leads C s e (c ∷ cs) [] w
+    stored : w ≡ padding_word B (c.place - c.from) → c.stage ≢ Moved → Leads C s e (c ∷ cs) [] (shown_header B w)
     stored is moved =
         let n : ℕ = c.place - c.from in
-        let both = halves n padding_type (omega arith) is in
-        let len : w % 2 ^ 32 ≡ n = both.0 in
-        let goes : s + rounded (w % 2 ^ 32) ≡ c.place = omega arith in
+        let u : ℕ = shown_header B w in
+        let u_is : u ≡ padding_header n = ap (shown_header B) is ∙ shown_padding B n (omega arith) in
+        let both = halves n padding_type (omega arith) u_is in
+        let len : u % 2 ^ 32 ≡ n = both.0 in
+        let goes : s + rounded (u % 2 ^ 32) ≡ c.place = omega arith in
         record {
           padding = λ _. inr (inl (goes, moved, refl));
           message = λ other. absurd (other both.1);
           within = omega arith;
         }
 
-    by_stage : (t : Stage) → c.stage ≡ t → w ≡ masked_padding t (padding_header (c.place - c.from))
-        → Leads C s e (c ∷ cs) [] w
+    by_stage : (t : Stage) → c.stage ≡ t → w ≡ masked_padding t (padding_word B (c.place - c.from))
+        → Leads C s e (c ∷ cs) [] (shown_header B w)
     by_stage Moved is eq' = absurd (omega arith)
     by_stage Padded is eq' = stored eq' (λ moved. cc)
     by_stage (Stored t) is eq' = stored eq' (λ moved. cc)
@@ -208,7 +238,7 @@ here : (B : Bodies) → (c : StagedClaim) (cs : List StagedClaim) (p : ℕ) → 
 here B c cs p lt = ap (λ b. cond b (staged_word B c p) (staged_word_at B cs p)) (lt-ltb p (claim_end c) lt)
 
 pub leads : (B : Bodies) → (C s e : ℕ) (cs : List StagedClaim) (got : List PlacedMessage) (w : ℕ) → IsCapacity C → StandFrom C e cs
-    → Reaches s e cs got → staged_word_at B cs s ≡ w → HasLength w → Leads C s e cs got w
+    → Reaches s e cs got → staged_word_at B cs s ≡ w → HasLength w → Leads C s e cs got (shown_header B w)
 leads B C s e [] got w cap stand r is plus =
     let none : 0 ≡ w = is in
     let lo = plus.above in
@@ -230,7 +260,7 @@ leads B C s e (c ∷ cs) got w cap stand r is plus =
     let e_low = mod_below e C (omega arith) in
     let e_mod = mod_aligned C e c8 e8 in
     let now_at_place = λ (at : s ≡ place).
-    at_header C s e c cs c.stage w most h.0.message
+    at_header B C s e c cs c.stage w most h.0.message
     (subst (λ k. k % C + a ≤ C) (sym (at ∙ place_is)) (next_within C e a (omega arith) (omega arith)))
     (record {
       place = at;
@@ -239,13 +269,13 @@ leads B C s e (c ∷ cs) got w cap stand r is plus =
     }) plus in
     ⊎_elim (λ alt.
     let at_e : s ≡ e = alt.0 in
-    subst (λ g. Leads C s e (c ∷ cs) g w) (sym alt.1)
+    subst (λ g. Leads C s e (c ∷ cs) g (shown_header B w)) (sym alt.1)
     (⊎_elim
     (λ t. let stays : next_place C e a ≡ e = t.1 in now_at_place (omega arith))
     (λ t.
     let wraps : next_place C e a ≡ e + room C e = t.1 in
     let same_mod : s % C ≡ e % C = ap (λ k. k % C) at_e in
-    at_padding C s e c cs w most
+    at_padding B C s e c cs w most
     (record {
       from = omega arith;
       some = omega arith;
@@ -255,7 +285,7 @@ leads B C s e (c ∷ cs) got w cap stand r is plus =
     })
     (sym is ∙ here B c cs s (omega arith) ∙ staged_word-padding B c s (omega arith) (omega arith)) plus)
     (next_cases C e a)))
-    (⊎_elim (λ alt. subst (λ g. Leads C s e (c ∷ cs) g w) (sym alt.2) (now_at_place alt.0))
+    (⊎_elim (λ alt. subst (λ g. Leads C s e (c ∷ cs) g (shown_header B w)) (sym alt.2) (now_at_place alt.0))
     (λ alt.
     let later : List PlacedMessage = alt.1.0 in
     let bounds = reach_bounds C s (claim_end c) cs later h.1 alt.1.2 in

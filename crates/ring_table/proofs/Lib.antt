@@ -21,6 +21,9 @@ pub mod OpenLemmas
 mod SplitSums
 pub mod SplitLemmas
 pub mod CloseLemmas
+pub mod WalkLemmas
+pub mod PictureWords
+pub mod CloseSlots
 pub mod ShelfLemmas
 pub mod CarryLemmas
 pub mod HeaderWords

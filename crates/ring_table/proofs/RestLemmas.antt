@@ -22,12 +22,12 @@ end_of-claims_of C e [] placed = refl
 end_of-claims_of C e (c ∷ cs) placed = ap (λ k. end_of C (k + staged_span c) (unplaced cs)) (sym placed.0.place)
     ∙ end_of-claims_of C (claim_end c) cs placed.1
 
-stored_padding : (t : Stage) (word : ℕ) → IsStored t → masked_padding t word ≡ word
+pub stored_padding : (t : Stage) (word : ℕ) → IsStored t → masked_padding t word ≡ word
 stored_padding Moved word stored = absurd stored
 stored_padding Padded word stored = absurd stored
 stored_padding (Stored s) word stored = refl
 
-stored_record : (t : Stage) (word : ℕ) → IsStored t → masked_record t word ≡ word
+pub stored_record : (t : Stage) (word : ℕ) → IsStored t → masked_record t word ≡ word
 stored_record Moved word stored = absurd stored
 stored_record Padded word stored = absurd stored
 stored_record (Stored s) word stored = refl

@@ -116,7 +116,7 @@ fed_same views id u at out = record {
   out = out;
 }
 
-nothing_out : (C i : ℕ) (v : View) → v.out ≡ [] → IsOut C i v → ⊥
+pub nothing_out : (C i : ℕ) (v : View) → v.out ≡ [] → IsOut C i v → ⊥
 nothing_out C i v none o = some-ne-none o.message (ap (λ (l : List PlacedMessage). get_elem? l 0) (sym o.out_is ∙ none))
 
 -- a seat that has nothing out is none of those that have

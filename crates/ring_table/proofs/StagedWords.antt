@@ -10,8 +10,8 @@ use Rattle.ring_layout.specs.declared.message.ClaimState.{ClaimState}
 use Rattle.ring_layout.specs.declared.message.ClaimState.TheVariants.{Open, Committed, Aborted}
 use Rattle.ring_layout.specs.History.{span}
 use Rattle.ring_layout.specs.Places.{next_place}
-use Rattle.ring_layout.specs.Headers.{header, header_of, padding_header, padding_type}
-use Rattle.ring_table.specs.Staged.{StagedClaim, Stage, Moved, Padded, Stored, claim_of, stage_state, masked_padding, masked_record, part_word, record_word, staged_word, body_word, in_words, elsewhere, IsStored}
+use Rattle.ring_layout.specs.Headers.{header, header_of, padding_type}
+use Rattle.ring_table.specs.Staged.{StagedClaim, Stage, Moved, Padded, Stored, claim_of, stage_state, masked_padding, masked_record, padding_word, part_word, record_word, staged_word, body_word, in_words, elsewhere, IsStored}
 use Rattle.ring_table.specs.Changes.{moved_claim, fresh_stage, staged, with_header, with_body, with_body_word, with_word}
 use Rattle.ring_table.proofs.BodyWords.{length-with_word, body_word-with_word_other, body_word-zeros}
 
@@ -24,7 +24,7 @@ staged_word-header B c p e =
     ∙ ap (masked_record c.stage) (cond-true _ _ _ (eq-eqb (p - c.place) 0 none))
 
 pub staged_word-padding : (B : Bodies) → (c : StagedClaim) (p : ℕ) → p ≡ c.from → p < c.place
-    → staged_word B c p ≡ masked_padding c.stage (padding_header (c.place - c.from))
+    → staged_word B c p ≡ masked_padding c.stage (padding_word B (c.place - c.from))
 unfolding staged_word
 staged_word-padding B c p e lt = cond-true _ _ _ (lt-ltb p c.place lt) ∙ cond-true _ _ _ (eq-eqb p c.from e)
 
@@ -74,7 +74,7 @@ staged_word-fresh B C e type_id n p =
     elim (cases_lt p place) as (λ _. staged_word B c p ≡ 0) [
       | inl in_padding ↦ dite (ℕ_discrete p e)
           (λ at_it. staged_word-padding B c p at_it in_padding
-          ∙ no_padding (eqb e place) (padding_header (place - e)) (ne_eqb e place (λ none. omega arith)))
+          ∙ no_padding (eqb e place) (padding_word B (place - e)) (ne_eqb e place (λ none. omega arith)))
           (λ behind. staged_word-padding_behind B c p behind in_padding)
       | inr in_record ↦ cond-false _ _ _ (le-ltb p place in_record)
           ∙ no_record (eqb e place) (record_word B (claim_of c) (p - place))
@@ -90,11 +90,11 @@ staged_word-fresh B C e type_id n p =
 
 -- what two claims at one place show at a position other than the header's and the padding's
 same_padding : (B : Bodies) → (c d : StagedClaim) (p : ℕ) → d.from ≡ c.from → d.place ≡ c.place → p < c.place
-    → (p ≡ c.from → masked_padding d.stage (padding_header (c.place - c.from))
-    ≡ masked_padding c.stage (padding_header (c.place - c.from))) → staged_word B d p ≡ staged_word B c p
+    → (p ≡ c.from → masked_padding d.stage (padding_word B (c.place - c.from))
+    ≡ masked_padding c.stage (padding_word B (c.place - c.from))) → staged_word B d p ≡ staged_word B c p
 same_padding B c d p from place lt same = dite (ℕ_discrete p c.from)
     (λ at_it. staged_word-padding B d p (at_it ∙ sym from) (omega arith)
-    ∙ (λ i. masked_padding d.stage (padding_header (place i - from i))) ∙ same at_it
+    ∙ (λ i. masked_padding d.stage (padding_word B (place i - from i))) ∙ same at_it
     ∙ sym (staged_word-padding B c p at_it lt))
     (λ else_at. staged_word-padding_behind B d p (λ is. else_at (is ∙ from)) (omega arith)
     ∙ sym (staged_word-padding_behind B c p else_at lt))
@@ -102,8 +102,8 @@ same_padding B c d p from place lt same = dite (ℕ_discrete p c.from)
 -- another stage shows the same in the body, and in the padding if the padding's header is as before
 pub staged_word-staged : (B : Bodies) → (c : StagedClaim) (t : Stage) (p : ℕ) → p % 8 ≡ 0 → c.place % 8 ≡ 0 → p ≢ c.place
     → ((word : ℕ) → masked_record t word ≡ masked_record c.stage word)
-    → (p ≡ c.from → masked_padding t (padding_header (c.place - c.from))
-    ≡ masked_padding c.stage (padding_header (c.place - c.from))) → staged_word B (staged t c) p ≡ staged_word B c p
+    → (p ≡ c.from → masked_padding t (padding_word B (c.place - c.from))
+    ≡ masked_padding c.stage (padding_word B (c.place - c.from))) → staged_word B (staged t c) p ≡ staged_word B c p
 staged_word-staged B c t p p8 place8 ne masks pads =
     elim (cases_lt p c.place) as (λ _. staged_word B (staged t c) p ≡ staged_word B c p) [
       | inl in_padding ↦ same_padding B c (staged t c) p refl refl in_padding pads
@@ -130,7 +130,7 @@ pub staged_word-opened : (B : Bodies) → (c : StagedClaim) (type_id : ℤ) (n p
 staged_word-opened B c type_id n p p8 place8 ne is =
     elim (cases_lt p c.place) as (λ _. staged_word B (with_header type_id n c) p ≡ staged_word B c p) [
       | inl in_padding ↦ same_padding B c (with_header type_id n c) p refl refl in_padding
-          (λ _. ap (λ t. masked_padding t (padding_header (c.place - c.from))) (sym is))
+          (λ _. ap (λ t. masked_padding t (padding_word B (c.place - c.from))) (sym is))
       | inr in_record ↦
           let at : ℕ = p - c.place - 8 in
           staged_word-body B (with_header type_id n c) p at (omega arith) ∙ part_word-zeros B n at

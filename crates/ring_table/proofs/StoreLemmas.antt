@@ -14,10 +14,10 @@ use Rattle.ring_layout.specs.declared.message.ClaimState.{ClaimState}
 use Rattle.ring_layout.specs.declared.message.ClaimState.TheVariants.{Open}
 use Rattle.ring_layout.specs.History.{IsMessage, span}
 use Rattle.ring_layout.specs.Places.{index}
-use Rattle.ring_layout.specs.Headers.{header_of, open_header, padding_header}
+use Rattle.ring_layout.specs.Headers.{header_of, open_header}
 use Rattle.ring_layout.proofs.PlaceLemmas.{span_bounds}
 use Rattle.ring_layout.proofs.HeaderLemmas.{len_of-header, type_of-header, fits_neg}
-use Rattle.ring_table.specs.Staged.{StagedClaim, Stage, Moved, Padded, Stored, claim_of, claim_end, staged_span, masked_padding, masked_record, staged_word, staged_word_at, staged_end, AreRising, IsStored}
+use Rattle.ring_table.specs.Staged.{StagedClaim, Stage, Moved, Padded, Stored, claim_of, claim_end, staged_span, masked_padding, masked_record, padding_word, staged_word, staged_word_at, staged_end, AreRising, IsStored}
 use Rattle.ring_table.specs.Changes.{blank, staged, with_body, with_header, with_body_word, changed}
 use Rattle.ring_table.specs.Owners.{OwnedHistory, all_of, edited_one, edited}
 use Rattle.ring_table.specs.Passing.{IsSettled}
@@ -230,8 +230,8 @@ module _ (B : Bodies) (C start : ℕ) where
         word = staged_word-header B (staged u c) c.place refl ∙ sym value_is;
         others = λ p p8 ne. staged_word-staged B c u p p8 place8 ne
             (λ word. on.records word ∙ ap (λ z. masked_record z word) (sym is))
-            (λ _. on.paddings (padding_header (c.place - c.from))
-            ∙ ap (λ z. masked_padding z (padding_header (c.place - c.from))) (sym is));
+            (λ _. on.paddings (padding_word B (c.place - c.from))
+            ∙ ap (λ z. masked_padding z (padding_word B (c.place - c.from))) (sym is));
       })
 
   pub settles : (u : ClaimState) (slots id : ℕ) (me : Mine) → me.0.capacity ≡ C → (k : ℕ) (c : StagedClaim) (value : ℕ)
@@ -242,7 +242,7 @@ module _ (B : Bodies) (C start : ℕ) where
       (record { unsettled = λ z. z; stays = λ e. cc; paddings = λ _. refl; records = λ _. refl })
 
   pub pads : (slots id : ℕ) (me : Mine) → me.0.capacity ≡ C → (k : ℕ) (c : StagedClaim) (value : ℕ) → HasClaim me.0 k c
-      → c.stage ≡ Moved → c.from < c.place → value ≡ padding_header (c.place - c.from)
+      → c.stage ≡ Moved → c.from < c.place → value ≡ padding_word B (c.place - c.from)
       → Allows (Ok B C start) slots id me (index C c.from) (λ _. value)
       (λ _ me'. (me'.1 ≡ me.1) × StoresPadding (index C c.from) me.0 me'.0 × AreRising me.0.producer.claims)
   pads slots id me cap k c value has is wraps value_is s r wide at small =

@@ -15,3 +15,4 @@ pub mod ServiceSteps
 pub mod Ranges
 pub mod SlotSteps
 pub mod Filling
+pub mod Walk

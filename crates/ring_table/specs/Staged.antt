@@ -1,12 +1,12 @@
 -- Claims whose headers may not be stored yet, and the words that they make.
-use Rattle.std.specs.Prelude.{◌≡◌, ℕ, ◌+◌, ◌-◌, ◌<◌, List, [], ◌∷◌, length, drop, if◌then◌else◌, nat_lt, ◌==◌, ⊤}
+use Rattle.std.specs.Prelude.{◌≡◌, ℕ, ◌+◌, ◌-◌, ◌/◌, ◌^◌, ◌<◌, ℤ, pos, negsuc, List, [], ◌∷◌, length, drop, if◌then◌else◌, nat_lt, ◌==◌, ⊤}
 use Rattle.std.specs.Int.{from_le_bytes, w64}
 use Rattle.ring_layout.specs.declared.message.Claim.{Claim}
 use Rattle.ring_layout.specs.declared.message.ClaimState.{ClaimState}
 use Rattle.ring_layout.specs.declared.message.ClaimState.TheVariants.{Open}
 use Rattle.ring_layout.specs.History.{IsMessage, span}
 use Rattle.ring_layout.specs.Places.{next_place}
-use Rattle.ring_layout.specs.Headers.{header_of, padding_header}
+use Rattle.ring_layout.specs.Headers.{header, header_of, padding_header}
 pub use Rattle.ring_table.specs.declared.claim.StagedClaim.{StagedClaim}
 pub use Rattle.ring_table.specs.declared.claim.PlacedMessage.{PlacedMessage}
 pub use Rattle.ring_table.specs.declared.claim.Stage.{Stage}
@@ -50,6 +50,21 @@ pub data Bodies : Type 0 where
   in_words : Bodies
   elsewhere : Bodies
 
+-- the type id of padding in the words of a ring whose bodies lie elsewhere. In the formats it is that of aborted
+-- records, whose bodies a closed ring shows
+abbrev pub padding_mark : ℤ
+padding_mark = negsuc 1
+
+-- the header of n bytes of padding, as the words have it
+abbrev pub padding_word : Bodies → ℕ → ℕ
+padding_word in_words n = padding_header n
+padding_word elsewhere n = header (pos n) padding_mark
+
+-- a header of the words as the formats have it
+abbrev pub shown_header : Bodies → ℕ → ℕ
+shown_header in_words w = w
+shown_header elsewhere w = if w / 2 ^ 32 == 2 ^ 32 - 2 then w + 2 ^ 32 else w
+
 -- the word that a record has from the byte `at` of its body on
 abbrev pub part_word : Bodies → List ℕ → ℕ → ℕ
 part_word in_words body at = from_le_bytes w64 (drop at body)
@@ -62,7 +77,7 @@ record_word B c k = if k == 0 then header_of c else part_word B c.message.body (
 -- the word of a claim, or of the padding before it, at the position p
 unfoldable pub staged_word : Bodies → StagedClaim → ℕ → ℕ
 staged_word B c p =
-    if nat_lt p c.place then (if p == c.from then masked_padding c.stage (padding_header (c.place - c.from)) else 0)
+    if nat_lt p c.place then (if p == c.from then masked_padding c.stage (padding_word B (c.place - c.from)) else 0)
     else masked_record c.stage (record_word B (claim_of c) (p - c.place))
 
 -- the word of a body from the offset `at` on

@@ -10,6 +10,7 @@ mod bodies;
 mod claim;
 mod laws;
 mod mode;
+mod picture;
 mod plays;
 mod putting;
 mod rule;
@@ -26,6 +27,7 @@ pub use laws::{
     stored_claims_show_one_picture,
 };
 pub use mode::{InSlots, InWords, Mode};
+pub use picture::{close_slots, copy_words};
 pub use putting::put_slots;
 pub use rule::RingRule;
 pub use steps::consumer::{

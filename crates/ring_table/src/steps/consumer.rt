@@ -29,7 +29,7 @@ pub fn load_first_header<M: Mode>(
     ensures told { LoadsHeader capacity head consumer.old.me.0.consumer.taken
         consumer.old.me.0 result consumer.new.me.0 }
 {
-    ring.load::<LoadFirstHeader>(consumer, word_index(capacity, head))
+    M::formatted(ring.load::<LoadFirstHeader<M>>(consumer, word_index(capacity, head)))
 }
 
 /// Loads the header that the running read has reached.
@@ -46,7 +46,7 @@ pub fn load_next_header<M: Mode>(
     ensures seat { IsSameSeat consumer.old consumer.new }
     ensures told { LoadsHeader capacity scan consumer.old.me.0.consumer.got consumer.old.me.0 result consumer.new.me.0 }
 {
-    ring.load::<LoadNextHeader>(consumer, word_index(capacity, scan))
+    M::formatted(ring.load::<LoadNextHeader<M>>(consumer, word_index(capacity, scan)))
 }
 
 /// Loads the word at a position, which says what a message that the running read has got has there. Its index in the

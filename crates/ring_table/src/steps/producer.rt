@@ -19,7 +19,7 @@ use crate::plays::producer::{
 use crate::steps::{RingSeat, SharedRing, trailer_word};
 use crate::view::Wanted;
 use ring_layout::ring_buffer_descriptor::{HEAD_POSITION_WORD, TAIL_POSITION_WORD};
-use ring_layout::{aborted_header, committed_header, open_header, padding_header, word_index};
+use ring_layout::{aborted_header, committed_header, open_header, word_index};
 
 /// Loads the tail, in bytes. A producer that has all shares finds the tail that it has seen.
 pub fn load_tail<M: Mode>(ring: &SharedRing<M>, producer: &mut RingSeat, capacity: u32) -> u64
@@ -93,7 +93,7 @@ pub fn store_padding_header<M: Mode>(
     ensures view { producer.new.me.0 ≡ with_changed place (staged Padded) producer.old.me.0 }
     ensures rising { AreRising producer.old.me.0.producer.claims }
 {
-    let header = padding_header(place - from);
+    let header = M::padding(place - from);
     ring.store::<StorePadding>(producer, word_index(capacity, from), header);
 }
 

@@ -1,6 +1,7 @@
 use Rattle.std.proofs.Common.{ℕ, List, subst}
 use Rattle.ring_table.specs.Closed.{IsClosed}
-use Rattle.ring_table.proofs.CloseLemmas.{closes, leaves_rest}
+use Rattle.ring_table.specs.Staged.{in_words}
+use Rattle.ring_table.proofs.CloseLemmas.{closed_words, closes, leaves_rest}
 use Rattle.ring_table.proofs.LawLemmas.{none_open}
 use Rattle.ring_table.proofs.table.close.Goals as goal
 
@@ -10,7 +11,8 @@ returns-clause-closed c =
     let C : ℕ = c.args.table.shared.key.capacity in
     let start : ℕ = c.args.table.shared.key.start in
     subst (λ (ws : List ℕ). IsClosed C start ws c.args.seat.me.0) final.2
-    (closes C start final.0.words final.0.views final.1.0.0 _ _ final.1.1 c.requires.shares c.requires.consumes)
+    (closed_words C start final.0.words c.args.seat.me.0 (closes in_words C start final.0.words final.0.views
+    final.1.0.0 _ _ final.1.1 c.requires.shares c.requires.consumes))
 
 pub returns-clause-rest : goal.returns-clause-rest
 returns-clause-rest c = λ none_left none_cleared.

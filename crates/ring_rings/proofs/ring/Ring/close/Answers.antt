@@ -10,6 +10,9 @@ close-words-requires-clause-settled g c = (
       c.join_consumer.ensures.view (c.args.consumer.stands.1 ∙ sym c.args.consumer.stands.0),
 )
 
+pub close-words-requires-clause-home : goal.close-words-requires-clause-home
+close-words-requires-clause-home g c = c.join_consumer.ensures.seat.out ∙ c.args.producer.home
+
 pub from_words-requires-clause-ring : goal.from_words-requires-clause-ring
 from_words-requires-clause-ring g c =
     closes_to_ring (g.B.Steps.key_of c.args.self.table).capacity c.args.self.capacity (g.B.Steps.key_of c.args.self.table).start

@@ -1,4 +1,5 @@
-use Rattle.std.proofs.Common.{◌≡◌, ℕ, subst, arith}
+use Rattle.std.proofs.Common.{◌≡◌, ℕ, sym, subst, arith}
+use Rattle.ring_table.specs.Staged.{shown_header}
 use Rattle.ring_table.specs.Views.{Logs}
 use Rattle.ring_table.specs.ProducerSteps.{Mine}
 use Rattle.ring_table.specs.ConsumerSteps.{LoadsHeader}
@@ -11,8 +12,9 @@ load-requires g c =
     let s = c.requires.seat in
     let at = c.requires.scan in
     record_step g.M.Mode.bodies s _ c.args.scan _ c.word_index.ensures at (λ n. n)
-    (λ k me n me'. (me'.1 ≡ me.1) × LoadsHeader me.0.capacity me.0.consumer.scan me.0.consumer.got me.0 n me'.0
-    × Logs k n me.0 me'.0)
+    (λ k me n me'. (me'.1 ≡ me.1)
+    × LoadsHeader me.0.capacity me.0.consumer.scan me.0.consumer.got me.0 (shown_header g.M.Mode.bodies n) me'.0
+    × Logs k (shown_header g.M.Mode.bodies n) me.0 me'.0)
     (λ _ _ t _ _ _. (t.0, leaves_at g.M.Mode.bodies t.1.stays))
     (loads_next g.M.Mode.bodies c.args.capacity c.args.ring.now.key.start _ _ c.args.consumer.now.me s.view_is c.requires.consumes
     (let near = c.requires.near in omega arith))
@@ -20,8 +22,8 @@ load-requires g c =
 pub returns-clause-told : goal.returns-clause-told
 returns-clause-told g c =
     let me : Mine = c.args.consumer.now.me in
-    subst (λ (z : ℕ × ℕ). LoadsHeader z.0 z.1 me.0.consumer.got me.0 c.load.result c.load.new.seat.me.0)
-    (λ i. (c.requires.seat.view_is i, c.requires.scan i)) c.load.ensures.2.1
+    subst (λ (z : ℕ × ℕ × ℕ). LoadsHeader z.0 z.1 me.0.consumer.got me.0 z.2 c.load.new.seat.me.0)
+    (λ i. (c.requires.seat.view_is i, c.requires.scan i, sym c.formatted.ensures i)) c.load.ensures.2.1
 
 pub returns-clause-seat : goal.returns-clause-seat
 returns-clause-seat g c = let h = c.load.ensures in same_seat h.0 h.1 h.2.0

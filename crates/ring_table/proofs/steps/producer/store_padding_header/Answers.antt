@@ -1,7 +1,6 @@
 use Rattle.std.proofs.Common.{◌≡◌, ℕ, ◌-◌, ◌<◌, sym, ap, ◌∙◌, subst, refl}
-use Rattle.ring_layout.specs.Headers.{padding_header}
 use Rattle.ring_layout.specs.Places.{index}
-use Rattle.ring_table.specs.Staged.{Moved, Padded, AreRising}
+use Rattle.ring_table.specs.Staged.{Moved, Padded, AreRising, padding_word}
 use Rattle.ring_table.specs.Changes.{staged}
 use Rattle.ring_table.specs.Views.{View}
 use Rattle.ring_table.specs.ProducerSteps.{StoresPadding}
@@ -18,7 +17,7 @@ store-requires g c =
     c.requires.seat.view_is h.holds.stage (c.word_index.ensures ∙ ap (index c.args.capacity) (sym h.holds.from_is)) told) in
     let s = c.requires.seat in
     let h = c.requires.claim in
-    let value : ℕ = c.padding_header-header.result in
+    let value : ℕ = c.padding-header.result in
     record_step g.M.Mode.bodies s _ c.args.from _ c.word_index.ensures h.holds.from_is (λ _. value)
     (λ i me _ me'. (me'.1 ≡ me.1) × StoresPadding i me.0 me'.0 × AreRising me.0.producer.claims)
     (λ _ me' t _ _ _. (
@@ -29,7 +28,7 @@ store-requires g c =
     (pads g.M.Mode.bodies c.args.capacity c.args.ring.now.key.start _ _ c.args.producer.now.me s.view_is h.nth h.claim value h.there
     h.holds.stage
     (subst (λ (z : ℕ × ℕ). z.0 < z.1) (λ i. (sym h.holds.from_is i, h.claim.place)) h.holds.some_padding)
-    (c.padding_header-header.ensures ∙ λ i. padding_header (sym h.at_place i - sym h.holds.from_is i)))
+    (c.padding-header.ensures ∙ λ i. padding_word g.M.Mode.bodies (sym h.at_place i - sym h.holds.from_is i)))
 
 pub returns-clause-view : goal.returns-clause-view
 returns-clause-view g c =

@@ -1,6 +1,6 @@
 use Rattle.std.proofs.Common.{◌≡◌, ◌≢◌, length, sym, ◌∙◌, arith, below_more, get_or-set_other, get_or-set_same}
-use Rattle.ring_rings.proofs.CloseLemmas.{read_at}
-use Rattle.ring_rings.proofs.words.copy_words.Goals as goal
+use Rattle.ring_table.proofs.PictureWords.{read_at}
+use Rattle.ring_table.proofs.picture.copy_words.Goals as goal
 
 pub loop-i-preserved : goal.loop-i-preserved
 loop-i-preserved c =

@@ -1,7 +1,7 @@
 use Rattle.std.proofs.Common.{◌≡◌, ℕ, ◌<◌, slice_index}
 use Rattle.std.specs.Prelude.{vec_len}
 use Rattle.std.specs.Slots.{slots_items}
-use Rattle.ring_rings.proofs.words.copy_words.Given as goal
+use Rattle.ring_table.proofs.picture.copy_words.Given as goal
 
 abbrev pub invariant-loop-i : goal.invariant-loop-i
 invariant-loop-i l = record {

@@ -1,0 +1,114 @@
+//! The words of a closed ring whose bodies lie in slots, in the ring's format.
+ghost use Rattle.std.specs.Prelude.{◌≡◌, ◌+◌, ◌/◌, ◌%◌, ◌^◌, ◌≤◌, ◌<◌, [], length, vec_len, true};
+ghost use Rattle.std.specs.Slots.{slots_items, slots_len, IsFull};
+ghost use Rattle.ring_layout.specs.Layout.{ring_words};
+ghost use Rattle.ring_layout.specs.Refusals.{all_shares};
+ghost use Rattle.ring_table.specs.Closed.{IsClosed, LeavesRest};
+ghost use Rattle.ring_table.specs.OpenClaims.{open_count};
+ghost use Rattle.ring_table.specs.Owners.{all_of};
+ghost use Rattle.ring_table.specs.Staged.{staged_end};
+ghost use Rattle.ring_table.specs.Walk.{IsCopied, Parts, Walked};
+
+use crate::mode::{InSlots, Mode};
+use crate::steps::RingSeat;
+use crate::table::SlotTable;
+use atomic_table::Closed;
+use ring_layout::ring_buffer_descriptor::{HEAD_POSITION_WORD, TAIL_POSITION_WORD, TRAILER_WORDS};
+use ring_layout::{align8, word_index};
+use std::alloc::Global;
+
+/// Copies the words of a table that was closed.
+pub fn copy_words(closed: &Closed<u64, Global>, words: &mut Vec<u64>)
+    requires { IsFull closed.now.words × (slots_len closed.now.words ≡ vec_len words.old) }
+    ensures { words.new.items ≡ slots_items closed.now.words }
+{
+    for i in 0..words.len() {
+        words[i] = closed.word(i);
+    }
+}
+
+/// Copies `count` slots, from `first` on, into the words of the same indices.
+fn copy_range(closed: &Closed<u64, Global>, words: &mut Vec<u64>, first: usize, count: usize)
+    requires full { IsFull closed.now.slots }
+    requires slots { first + count ≤ slots_len closed.now.slots }
+    requires words { first + count ≤ vec_len words.old }
+    ensures { IsCopied first count (slots_items closed.now.slots) words.old.items words.new.items }
+{
+    for k in first..first + count {
+        words[k] = *closed.slots.get(k);
+    }
+}
+
+/// Adds the body of the record at a position, or gives the padding there its header in the format. Returns the position
+/// after it.
+fn show_record(closed: &Closed<u64, Global>, words: &mut Vec<u64>, capacity: u32, at: u64) -> u64
+    requires slots { IsFull closed.now.slots × (slots_len closed.now.slots ≡ capacity / 8) }
+    requires words { vec_len words.old ≡ ring_words capacity }
+    requires walk { (t : Parts capacity (slots_items closed.now.words) (slots_items closed.now.slots))
+        × Walked capacity t at words.old.items × (at < staged_end t.start (all_of t.hist)) }
+    ensures rises { at < result }
+    ensures words { vec_len words.new ≡ vec_len words.old }
+    ensures walks { (t : Parts capacity (slots_items closed.now.words) (slots_items closed.now.slots))
+        → Walked capacity t at words.old.items → at < staged_end t.start (all_of t.hist)
+        → Walked capacity t result words.new.items }
+{
+    let index = word_index(capacity, at);
+    let header = words[index];
+    let shown = InSlots::formatted(header);
+    let bytes = align8(shown % 0x1_0000_0000);
+    if shown == header {
+        copy_range(closed, words, index + 1, bytes as usize / 8 - 1);
+    } else {
+        words[index] = shown;
+    }
+    at + bytes
+}
+
+/// Adds the bodies to the words of a table that was closed, which show headers alone.
+fn show_bodies(closed: &Closed<u64, Global>, words: &mut Vec<u64>, capacity: u32)
+    requires slots { IsFull closed.now.slots × (slots_len closed.now.slots ≡ capacity / 8) }
+    requires words { (vec_len words.old ≡ ring_words capacity) × (words.old.items ≡ slots_items closed.now.words) }
+    requires parts { Parts capacity (slots_items closed.now.words) (slots_items closed.now.slots) }
+    ensures { (t : Parts capacity (slots_items closed.now.words) (slots_items closed.now.slots))
+        → Walked capacity t (staged_end t.start (all_of t.hist)) words.new.items }
+{
+    let tail = words[capacity as usize / 8 + TAIL_POSITION_WORD];
+    let mut at = words[capacity as usize / 8 + HEAD_POSITION_WORD];
+    while at < tail {
+        at = show_record(closed, words, capacity, at);
+    }
+}
+
+/// Frees a table that was closed, with its slots.
+fn free_slots(mut closed: Closed<u64, Global>)
+    requires { IsFull closed.slots }
+{
+    let mut i = 0;
+    while i < closed.slot_count() {
+        closed.take(i);
+        i += 1;
+    }
+    closed.free();
+}
+
+/// The words of a ring whose bodies lie in slots, once all producers and the consumer were joined into this seat, no
+/// claim is open, and no read is running. They are those of a ring whose bodies lie in words, and are in `room`.
+pub fn close_slots(table: SlotTable, seat: RingSeat, room: Vec<u64>) -> Vec<u64>
+    requires table { (seat.table_id ≡ table.shared.table_id)
+        × (table.shared.table_id.slots ≡ table.shared.key.capacity / 8) }
+    requires room { vec_len room ≡ table.shared.table_id.words }
+    requires all { (seat.me.0.producer.shares ≡ all_shares) × (seat.me.0.consumes ≡ true) }
+    requires home { seat.me.0.out ≡ [] }
+    requires settled { (open_count seat.me.0.producer.claims ≡ 0)
+        × (seat.me.0.consumer.cleared ≡ seat.me.0.consumer.head) }
+    ensures closed { IsClosed table.shared.key.capacity table.shared.key.start result.items seat.me.0 }
+    ensures rest { LeavesRest table.shared.key.capacity result.items seat.me.0 }
+{
+    let mut words = room;
+    let closed = table.close_with(seat);
+    copy_words(&closed, &mut words);
+    let capacity = ((words.len() - TRAILER_WORDS) * 8) as u32;
+    show_bodies(&closed, &mut words, capacity);
+    free_slots(closed);
+    words
+}
