@@ -2,16 +2,19 @@
 ghost use Rattle.std.specs.Prelude.{◌≡◌, ◌≢◌, false, true};
 ghost use Rattle.ring_handles.specs.Side.{is_many};
 
-use ring_rings::{ManyToOneRing, OneToOneRing};
+use ring_rings::{PlainManyToOneRing, PlainOneToOneRing, Ring, SlotTable};
 use std::sync::Arc;
+
+/// A ring of some kind that handles share. Its bodies lie in plain memory, since no handle shows the memory.
+pub(crate) type PlainRing<K> = Ring<K, SlotTable>;
 
 /// A ring that handles share.
 #[derive(Drop)]
 pub enum AnyRing {
     /// Any number of producers write it.
-    Many(Arc<ManyToOneRing>),
+    Many(Arc<PlainManyToOneRing>),
     /// One producer writes it.
-    One(Arc<OneToOneRing>),
+    One(Arc<PlainOneToOneRing>),
 }
 
 impl AnyRing {
