@@ -286,7 +286,9 @@ pub fn run_trips<R: Clock + Threads + Sync>(
         Contender::OneToOne => run_kind::<R, OneToOne, RingTable>(rt, alloc, capacity, times),
         Contender::ManyToOne => run_kind::<R, ManyToOne, RingTable>(rt, alloc, capacity, times),
         Contender::PlainOneToOne => run_kind::<R, OneToOne, SlotTable>(rt, alloc, capacity, times),
-        Contender::PlainManyToOne => run_kind::<R, ManyToOne, SlotTable>(rt, alloc, capacity, times),
+        Contender::PlainManyToOne => run_kind::<R, ManyToOne, SlotTable>(
+            rt, alloc, capacity, times,
+        ),
         _ => Err(Fault::NO_CONTENDER),
     }
 }
