@@ -18,8 +18,8 @@ sys.dont_write_bytecode = True
 sys.path.insert(0, os.path.dirname(os.path.abspath(__file__)))
 import pictures
 import results
-from rows import (C_LENGTH_ROWS, C_ROWS, CURVES, LENGTH_ROWS, OTHER_ROWS, PERCENTILES, README_ROWS, SECTIONS, USER_QUEUES,
-                  USER_ROWS, twin_of)
+from rows import (C_LENGTH_ROWS, C_ROWS, CURVES, FORM_ROWS, LENGTH_ROWS, OTHER_ROWS, PERCENTILES, README_ROWS, SECTIONS,
+                  USER_QUEUES, USER_ROWS, twin_of)
 
 TOP = os.path.dirname(os.path.dirname(os.path.abspath(__file__)))
 NONE = "–"
@@ -61,11 +61,6 @@ def about(run, what):
     return textwrap.fill(words, 120).split("\n")
 
 
-def has_plain(run):
-    """Whether rings with plain bodies were measured."""
-    return any(row["contender"].startswith("plain-") for row in run.rows)
-
-
 def measured(run, rows):
     """The rows that have a figure."""
     return [row for row in rows if run.ns(row[1], row[2], *row[-3:]) is not None]
@@ -84,9 +79,9 @@ def user_cells(runs, row):
     twin = twin_of(ours) + "-ar"
     cells = [label, number(runs["sets"].ns(workload, ours, size, threads, metric)),
              times(runs["sets"].against(twin, workload, ours, size, threads, metric))]
-    if has_plain(runs["sets"]):
-        plain = ours.replace("ours", "plain")
-        cells.append(times(runs["sets"].against(twin, workload, plain, size, threads, metric)))
+    in_words = ours.replace("plain", "ours")
+    found = in_words != ours and runs["sets"].against(twin, workload, in_words, size, threads, metric)
+    cells.append(times(found))
     for name, _ in USER_QUEUES:
         keys = [(workload, queue, size, threads, metric) for queue in queues.get(name, ())]
         cells.append(times(of_queue(runs, twin, *keys)))
@@ -99,19 +94,25 @@ def users(runs):
     if "queues" in runs:
         yield from about(runs["queues"], "Queues")
         yield ""
-    plain = ["plain bodies"] if has_plain(runs["sets"]) else []
-    yield from table(["times `ar`", "ours, ns", "ours", *plain, *(title for _, title in USER_QUEUES)],
+    yield from table(["times `ar`", "ours, ns", "ours", "bodies in words", *(title for _, title in USER_QUEUES)],
                      [user_cells(runs, row) for row in USER_ROWS])
+
+
+def by_length(run, rows):
+    """Rows of label, workload, ours, what it is compared with, and lengths."""
+    for label, workload, ours, twin, sizes in rows:
+        yield [label] + [times(run.against(twin, workload, ours, size, 1, "ns")) if size in sizes else NONE
+                         for size in (8, 32, 128, 1024)]
+
+
+def forms(runs):
+    yield from table(["", "8 bytes", "32", "128", "1,024"], by_length(runs["sets"], FORM_ROWS))
 
 
 def limit(runs):
     run = runs["sets"]
-    lines = []
-    for label, workload, ours, sizes in LENGTH_ROWS:
-        twin = twin_of(ours) + "-sc"
-        lines.append([label] + [times(run.against(twin, workload, ours, size, 1, "ns")) if size in sizes else NONE
-                                for size in (8, 32, 128, 1024)])
-    yield from table(["times `sc`", "8 bytes", "32", "128", "1,024"], lines)
+    rows = [(label, workload, ours, twin_of(ours) + "-sc", sizes) for label, workload, ours, sizes in LENGTH_ROWS]
+    yield from table(["times `sc`", "8 bytes", "32", "128", "1,024"], by_length(run, rows))
     yield ""
     lines = []
     for label, workload, ours, size, threads, metric in OTHER_ROWS:
@@ -123,11 +124,8 @@ def limit(runs):
 
 def from_c(runs):
     """Calls of felter.h in times the plain calls, by the length of a body."""
-    run, lines = runs.get("felter", runs["sets"]), []
-    for label, workload, mine, plain, sizes in C_LENGTH_ROWS:
-        lines.append([label] + [times(run.against(plain, workload, mine, size, 1, "ns")) if size in sizes else NONE
-                                for size in (8, 32, 128, 1024)])
-    yield from table(["times the plain calls", "8 bytes", "32", "128", "1,024"], lines)
+    run = runs.get("felter", runs["sets"])
+    yield from table(["times the calls in Rattle", "8 bytes", "32", "128", "1,024"], by_length(run, C_LENGTH_ROWS))
 
 
 def readme(runs):
@@ -163,7 +161,7 @@ def all_rows(runs):
     if run is not runs["sets"]:
         yield from about(run, "Machine")
         yield ""
-    yield from table(["", "from C", "plain", "from C / plain", "from C / `sc`", "from C / `ar`"],
+    yield from table(["", "from C", "in Rattle", "from C / in Rattle", "from C / `sc`", "from C / `ar`"],
                      [c_cells(run, row) for row in measured(run, C_ROWS)])
 
 
@@ -219,7 +217,8 @@ def made(runs):
     """Each file that is written whole, and what comes between two marks of a page: {path: text or [(mark, lines)]}."""
     files = {"bench/RESULTS.md": "\n".join(all_rows(runs)) + "\n",
              "docs/performance/ratios.svg": ratio_picture(runs),
-             "docs/PERFORMANCE.md": [("users", users(runs)), ("limit", limit(runs)), ("c", from_c(runs))],
+             "docs/PERFORMANCE.md": [("users", users(runs)), ("forms", forms(runs)), ("limit", limit(runs)),
+                                     ("c", from_c(runs))],
              "README.md": [("performance", readme(runs))]}
     for name, panels in CURVES.items():
         files[f"docs/performance/{name}.svg"] = pictures.curves([curve(runs["sets"], *panel) for panel in panels])

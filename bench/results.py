@@ -58,7 +58,7 @@ def against_twins(sets, key):
     workload, contender, size, threads, metric = key
     found = {}
     for other in {it[1] for values in sets for it in values if it[0] == workload}:
-        if other == contender or not other.endswith(TWINS) and not other.startswith("ours"):
+        if other == contender or not other.endswith(TWINS) and not other.startswith(("ours", "plain")):
             continue
         every = ratios(sets, key, (workload, other, size, threads, metric))
         rounds = [ratio for it in every for ratio in it]

@@ -1,8 +1,8 @@
 """Which figures the page, its pictures and README show."""
 import points
 
-RINGS = (("one owner", "ours-solo"), ("one-to-one", "ours-o2o"), ("many-to-one", "ours-m2o"),
-         ("one-to-one, plain bodies", "plain-o2o"), ("many-to-one, plain bodies", "plain-m2o"))
+RINGS = (("one owner", "ours-solo"), ("one-to-one", "plain-o2o"), ("many-to-one", "plain-m2o"),
+         ("one-to-one, bodies in words", "ours-o2o"), ("many-to-one, bodies in words", "ours-m2o"))
 SIZES = (8, 32, 128, 1024)
 COMMAND = points.COMMAND
 
@@ -24,7 +24,8 @@ SECTIONS = (
     ("One producer thread, one consumer thread: ns a message", of_sizes(RINGS[1:], "pair", SIZES)),
     ("Several producers, one consumer: ns a message",
      [(f"{threads} producers, {size} bytes{said}", "producers", ours, size, threads, "ns")
-      for said, ours in (("", "ours-m2o"), (", plain bodies", "plain-m2o")) for threads in (2, 4) for size in (8, 64)]),
+      for said, ours in (("", "plain-m2o"), (", bodies in words", "ours-m2o"))
+      for threads in (2, 4) for size in (8, 64)]),
     ("A command to the conductor and its reply back: ns",
      [(f"{name}, {said}", "trips", ours, COMMAND, 1, metric) for name, ours in RINGS[1:]
       for said, metric in (("mean", "mean"), *((f"p{part:g}", metric) for metric, part in points.PERCENTILES))]),
@@ -38,6 +39,12 @@ SECTIONS = (
      [(f"{n} client{'' if n == 1 else 's'}{said}", "storm", "ours-storm", COMMAND, n, metric)
       for said, metric in (("", "ns"), (", whole call", "whole")) for n in (1, 2, 4, 16, 64)]),
 )
+
+# The rings whose bodies lie in plain memory, by length: against acquire and release, and against the limit.
+FORM_ROWS = tuple((f"{threads}, {said}: times `{twin}`", workload, ours, f"{twin_of(ours)}-{twin}", SIZES)
+                  for threads, workload in (("one thread", "batches"), ("two threads", "pair"))
+                  for twin in ("ar", "pb")
+                  for said, ours in (("one-to-one", "plain-o2o"), ("many-to-one", "plain-m2o")))
 
 # The table against the limit: by length, and then all else.
 LENGTH_ROWS = (
@@ -69,26 +76,26 @@ OF_MANY = dict(OF_ONE, jctools=["jctools-mpsc"], disruptor=["disruptor-mp"])
 BROADCAST = {"disruptor": ["disruptor-lossless"], "tokio": ["tokio-broadcast"]}
 # Label, (workload, bytes, threads, metric), ours, and the contenders of each column.
 USER_ROWS = (
-    *((f"one thread, {size:,} bytes", ("batches", size, 1, "ns"), "ours-o2o", OF_ONE) for size in (8, 128, 1024)),
-    *((f"two threads, {size:,} bytes", ("pair", size, 1, "ns"), "ours-o2o", OF_ONE) for size in (8, 128, 1024)),
-    *((f"{n} producers, {size} bytes", ("producers", size, n, "ns"), "ours-m2o", OF_MANY)
+    *((f"one thread, {size:,} bytes", ("batches", size, 1, "ns"), "plain-o2o", OF_ONE) for size in (8, 128, 1024)),
+    *((f"two threads, {size:,} bytes", ("pair", size, 1, "ns"), "plain-o2o", OF_ONE) for size in (8, 128, 1024)),
+    *((f"{n} producers, {size} bytes", ("producers", size, n, "ns"), "plain-m2o", OF_MANY)
       for n in (2, 4) for size in (8, 64)),
-    ("command and reply, p50", ("trips", COMMAND, 1, "p50"), "ours-o2o", OF_ONE),
+    ("command and reply, p50", ("trips", COMMAND, 1, "p50"), "plain-o2o", OF_ONE),
     *((f"broadcast, {size:,} bytes", ("broadcast", size, 2, "ns"), "ours-board", BROADCAST) for size in (64, 1024)),
 )
 # README's rows: the last two are the queue of Rust and that of Java.
 README_ROWS = (
-    ("one thread, 8 bytes", ("batches", 8, 1, "ns"), "ours-o2o", ("crossbeam-array", "jctools-spsc")),
-    ("two threads, 128 bytes", ("pair", 128, 1, "ns"), "ours-o2o", ("crossbeam-array", "jctools-spsc")),
-    ("two threads, 1,024 bytes", ("pair", 1024, 1, "ns"), "ours-o2o", ("crossbeam-array", "jctools-spsc")),
-    ("four producers, 64 bytes", ("producers", 64, 4, "ns"), "ours-m2o", ("crossbeam-array", "jctools-mpsc")),
-    ("a command and its reply, median", ("trips", COMMAND, 1, "p50"), "ours-o2o", ("crossbeam-array", "jctools-spsc")),
+    ("one thread, 8 bytes", ("batches", 8, 1, "ns"), "plain-o2o", ("crossbeam-array", "jctools-spsc")),
+    ("one thread, 1,024 bytes", ("batches", 1024, 1, "ns"), "plain-o2o", ("crossbeam-array", "jctools-spsc")),
+    ("two threads, 1,024 bytes", ("pair", 1024, 1, "ns"), "plain-o2o", ("crossbeam-array", "jctools-spsc")),
+    ("four producers, 64 bytes", ("producers", 64, 4, "ns"), "plain-m2o", ("crossbeam-array", "jctools-mpsc")),
+    ("a command and its reply, median", ("trips", COMMAND, 1, "p50"), "plain-o2o", ("crossbeam-array", "jctools-spsc")),
     ("a broadcast of 64 bytes, two receivers", ("broadcast", 64, 2, "ns"), "ours-board",
      ("tokio-broadcast", "disruptor-lossless")),
 )
 
 # Through felter.h: label, workload, contender, the plain calls, bytes, threads, metric.
-C_RINGS = tuple((f"{name}, {said}", f"felter-{ring}{ending}", f"ours-{ring}")
+C_RINGS = tuple((f"{name}, {said}", f"felter-{ring}{ending}", f"plain-{ring}")
                 for name, ring in (("one-to-one", "o2o"), ("many-to-one", "m2o"))
                 for said, ending in (("read", ""), ("read in batches", "-batch")))
 C_ROWS = (
@@ -97,18 +104,18 @@ C_ROWS = (
       for size in SIZES),
     *((f"4 producers, {name}, {size:,} bytes", "producers", c, plain, size, 4, "ns") for name, c, plain in C_RINGS[2:]
       for size in (8, 64)),
-    *((f"a command and its reply, {said}", "trips", "felter-m2o", "ours-m2o", COMMAND, 1, said)
+    *((f"a command and its reply, {said}", "trips", "felter-m2o", "plain-m2o", COMMAND, 1, said)
       for said in ("mean", "p50", "p99")),
 )
 # The same in a table by length.
-C_LENGTH_ROWS = tuple((f"{threads}, {said}", workload, f"felter-m2o{ending}", "ours-m2o", SIZES)
+C_LENGTH_ROWS = tuple((f"{threads}, {said}", workload, f"felter-m2o{ending}", "plain-m2o", SIZES)
                       for threads, workload in (("one thread", "batches"), ("two threads", "pair"))
                       for said, ending in (("one message a read", ""), ("read in batches", "-batch")))
 
 # Curves: of each picture its panels, (title, what x is, ticks, lines), a line being (name, colour, dash, [(x, key)]).
 PERCENTILES = points.PERCENTILES
-WHO = (("ours", "ours", "ours-m2o"), ("plain", "C", "plain-m2o"), ("sc", "sc", "m2o-sc"), ("pb", "pb", "m2o-pb"),
-       ("ar", "ar", "m2o-ar"))
+WHO = (("ours", "ours", "plain-m2o"), ("bodies in words", "C", "ours-m2o"), ("sc", "sc", "m2o-sc"),
+       ("pb", "pb", "m2o-pb"), ("ar", "ar", "m2o-ar"))
 STORMS = (("ours", "ours", "ours-storm"), ("sc", "sc", "storm-sc"), ("pb", "pb", "storm-pb"), ("ar", "ar", "storm-ar"))
 
 
