@@ -9,7 +9,7 @@ use crate::conductor::{Conductor, Work};
 use crate::finishing::{Finished, finish};
 use ring_board::{Board, CopyReceiver};
 use ring_counters::CountersManager;
-use ring_rings::ManyToOneRing;
+use ring_rings::{Closes, ManyToOne, Ring, RingTable};
 use std::alloc::Global;
 use std::snapshot::Snapshot;
 use thiserror::Error;
@@ -70,7 +70,19 @@ pub fn whole_run(alloc: Global, early: u64, late: u64) -> Result<WholeRun, Whole
     requires moments { (early ≤ 2 ^ 62) × (late ≤ 2 ^ 62) }
     ensures { IfOk result (Concludes early late) }
 {
-    let Ok((ring, producer, consumer)) = ManyToOneRing::new(alloc, 1024) else {
+    whole_run_over::<RingTable>(alloc, early, late)
+}
+
+/// `whole_run` over a ring of either form: with a `SlotTable` bodies lie in plain memory.
+pub fn whole_run_over<B: Closes + Drop>(
+    alloc: Global,
+    early: u64,
+    late: u64,
+) -> Result<WholeRun, WholeFault>
+    requires moments { (early ≤ 2 ^ 62) × (late ≤ 2 ^ 62) }
+    ensures { IfOk result (Concludes early late) }
+{
+    let Ok((ring, producer, consumer)) = Ring::<ManyToOne, B>::new(alloc, 1024) else {
         return Err(WholeFault::OutOfMemory);
     };
     let Ok((board, transmitter)) = Board::new(alloc, 256) else {

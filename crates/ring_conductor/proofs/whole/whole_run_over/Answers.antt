@@ -27,10 +27,10 @@ use Rattle.ring_conductor.specs.Whole.{Concludes, opening_ledger, settled_messag
 use Rattle.ring_conductor.proofs.AccountLemmas.{account_as, account_in}
 use Rattle.ring_conductor.proofs.StormLemmas.{work_shares}
 use Rattle.ring_conductor.proofs.WholeLemmas.{never_refused, two_folds, two_joined, two_reads, two_sent}
-use Rattle.ring_conductor.proofs.whole.whole_run.Goals as goal
+use Rattle.ring_conductor.proofs.whole.whole_run_over.Goals as goal
 
 pub unreachable-requires : goal.unreachable-requires
-unreachable-requires c =
+unreachable-requires g c =
     let is = c.into_parts-producer.ensures.producer ∙ c.poll-polled.ensures.producer in
     let shares = ap (λ (p : Producer). shares_of p) is
     ∙ (c.send-2.ensures.holdings.holdings.shares ∙ (c.send.ensures.holdings.holdings.shares
@@ -52,7 +52,7 @@ unreachable-requires c =
     (omega (arith, made, one, first, two, second, back, all)) c.finish.ensures.refused c.in-Err.is
 
 pub returns : goal.returns
-returns c =
+returns g c =
     let e = c.in-Ok-finish.ensures in
     let ring = c.in-Ok.ring in
     let board = c.in-Ok-new.board in
