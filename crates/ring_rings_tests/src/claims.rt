@@ -75,10 +75,7 @@ fn claims_are_settled_in_any_order(rt: HostRuntime) {
 }
 
 /// What is read when the first of two claims was aborted, and the second one committed.
-fn aborts_the_first<K: Kind, B: Steps + Drop>(
-    rt: &impl process::Abort,
-    alloc: Global,
-) -> ReadEnd {
+fn aborts_the_first<K: Kind, B: Steps + Drop>(rt: &impl process::Abort, alloc: Global) -> ReadEnd {
     let mut script = Script::new(&[], &[(2, &[])]);
     let (ring, mut producer, mut consumer) = opened::<K, B>(rt, alloc, 0);
     let first = claimed(rt, &ring, &mut producer, 1, 0);
@@ -177,10 +174,7 @@ fn others_and_reads<K: Kind, B: Steps + Drop>(
 fn a_claim_is_shown_when_it_is_committed(rt: HostRuntime) {
     let (rt, alloc) = (&rt, rt.alloc());
     let none = end(0, 0, Stop::Unpublished);
-    let want = (
-        [1, 16, 0, 0],
-        [none, none, end(1, 16, Stop::Unpublished)],
-    );
+    let want = ([1, 16, 0, 0], [none, none, end(1, 16, Stop::Unpublished)]);
     let all = [
         others_and_reads::<OneToOne, RingTable>(rt, alloc),
         others_and_reads::<OneToOne, SlotTable>(rt, alloc),

@@ -57,7 +57,7 @@ fn closed_late<K: Kind, B: Closes + Drop>(
 #[test]
 fn closes_when_a_claim_is_settled(rt: HostRuntime) {
     let (rt, alloc) = (&rt, rt.alloc());
-    let mut script = Script::new(&[], &[(1, &[]); 4]);
+    let mut script = Script::new(&[], &[(1, &[]), (1, &[]), (1, &[]), (1, &[])]);
     for (commits, messages) in [(true, 1), (false, 0)] {
         let all = [
             closed_late::<OneToOne, RingTable>(rt, alloc, commits, &mut script),
