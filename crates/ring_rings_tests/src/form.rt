@@ -1,6 +1,6 @@
 //! A ring of either form on which random calls are made.
-ghost use Rattle.std.specs.Prelude.{◌≢◌, ◌≡◌, IfSome, None};
-ghost use Rattle.ring_rings.specs.Seats.{IsConsumerOf, IsOpenClaimOf, IsProducerOf, MayClaim};
+ghost use Rattle.std.specs.Prelude.{◌≡◌, ◌≢◌, IfSome, Some};
+ghost use Rattle.ring_rings.specs.Seats.{IsConsumerOf, IsProducerOf, KeepsHoldings};
 
 use crate::dice::{Dice, LONGEST};
 use ring_rings::{
@@ -9,6 +9,7 @@ use ring_rings::{
 };
 use ring_words::SoloRing;
 use std::alloc::Global;
+use std::marker::Model;
 use std::process::Abort;
 
 /// What a call answers.
@@ -79,13 +80,19 @@ pub struct Form<K: Kind, B: Steps> {
     consumer: Consumer,
     dice: Dice,
     pub answers: Vec<Answer>,
-    ghost writes: { IsProducerOf ring producer },
-    ghost may_claim: { MayClaim K.is_for_one producer },
-    ghost first_open: { IfSome first (IsOpenClaimOf ring producer) },
-    ghost second_open: { IfSome second (IsOpenClaimOf ring producer) },
-    ghost other_open: { IfSome other (λ o. IsProducerOf ring o.producer
-        × IfSome o.first (IsOpenClaimOf ring o.producer) × IfSome o.second (IsOpenClaimOf ring o.producer)) },
-    ghost reads: { IsConsumerOf ring consumer },
+}
+
+impl<K: Kind, B: Steps> Model for Form<K, B> {
+    ghost use Rattle.std.specs.Prelude.{ℕ, IfSome};
+    ghost use Rattle.ring_rings.specs.Seats.{capacity_of, IsConsumerOf, MayClaim};
+    ghost use Rattle.ring_rings_tests.specs.Held.{Holds};
+
+    ghost Value = { ℕ };
+
+    ghost view = { λ f. capacity_of f.ring };
+
+    ghost invariant = { λ f. Holds f.ring f.producer f.first f.second × MayClaim K.is_for_one f.producer
+        × IfSome f.other (λ o. Holds f.ring o.producer o.first o.second) × IsConsumerOf f.ring f.consumer };
 }
 
 /// A claim that is not at this place.
@@ -106,6 +113,38 @@ fn tell(answers: &mut Vec<Answer>, answer: Answer) {
 /// The first bytes.
 fn front(bytes: &[u8], len: usize) -> &[u8] {
     &bytes[..len.min(bytes.len())]
+}
+
+/// One of the three reads.
+fn read_by<K, B: Steps>(
+    ring: &Ring<K, B>,
+    consumer: &mut Consumer,
+    how: u32,
+    limit: u32,
+    summer: &mut Summer,
+) -> ReadEnd
+    requires { IsConsumerOf ring.now consumer.old }
+    ensures { IsConsumerOf ring.now consumer.new }
+{
+    match how {
+        0 => ring.read(consumer, limit, summer),
+        1 => ring.read_across(consumer, limit, summer),
+        _ => ring.controlled_read(consumer, limit, summer),
+    }
+}
+
+/// One of the calls that change nothing in the ring's buffer.
+fn asked<K, B: Steps>(ring: &Ring<K, B>, producer: &mut Producer, how: u32) -> Answer
+    requires { IsProducerOf ring.now producer.old }
+    ensures producer { IsProducerOf ring.now producer.new }
+    ensures holdings { KeepsHoldings ring.now producer.old producer.new }
+{
+    match how {
+        0 => Answer::At(ring.positions(producer)),
+        1 => Answer::Number(ring.next_correlation_id(producer)),
+        2 => Answer::Number(ring.heartbeat(producer)),
+        _ => Answer::Holds(producer.shares(), producer.open_claims()),
+    }
 }
 
 impl<K: Kind, B: Steps> Form<K, B> {
@@ -210,25 +249,12 @@ impl<K: Kind, B: Steps> Form<K, B> {
             dice: Dice(self.dice.roll()),
             sum: 0,
         };
-        let end = match how {
-            0 => self.ring.read(&mut self.consumer, limit, &mut summer),
-            1 => self
-                .ring
-                .read_across(&mut self.consumer, limit, &mut summer),
-            _ => self
-                .ring
-                .controlled_read(&mut self.consumer, limit, &mut summer),
-        };
+        let end = read_by(&self.ring, &mut self.consumer, how, limit, &mut summer);
         tell(&mut self.answers, Answer::Read(end, summer.sum));
     }
 
-    fn serve(&mut self, how: u32) {
-        let answer = match how {
-            0 => Answer::At(self.ring.positions(&mut self.producer)),
-            1 => Answer::Number(self.ring.next_correlation_id(&mut self.producer)),
-            2 => Answer::Number(self.ring.heartbeat(&mut self.producer)),
-            _ => Answer::Holds(self.producer.shares(), self.producer.open_claims()),
-        };
+    fn ask(&mut self, how: u32) {
+        let answer = asked(&self.ring, &mut self.producer, how);
         tell(&mut self.answers, answer);
     }
 
@@ -312,7 +338,7 @@ impl<K: Team, B: Steps + Drop> Form<K, B> {
             8 | 9 => self.settle(),
             10 => self.turn(),
             11..=14 => self.read(how),
-            15 => self.serve(how),
+            15 => self.ask(how),
             16 => self.beat(),
             _ if how == 0 => K::join(self),
             _ => K::swap(self),

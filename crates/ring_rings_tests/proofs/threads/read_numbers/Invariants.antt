@@ -2,4 +2,4 @@ use Rattle.ring_rings.specs.Seats.{IsConsumerOf}
 use Rattle.ring_rings_tests.proofs.threads.read_numbers.Given as goal
 
 abbrev pub invariant-turns : goal.invariant-turns
-invariant-turns l = IsConsumerOf l.ring l.consumer
+invariant-turns g l = IsConsumerOf l.ring l.consumer

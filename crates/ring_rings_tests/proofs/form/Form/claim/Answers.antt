@@ -1,0 +1,17 @@
+use Rattle.std.proofs.Common.{◌∙◌}
+use Rattle.std.proofs.lemmas.Option.{IfSome_then}
+use Rattle.ring_rings_tests.proofs.form.Form.claim.Goals as goal
+
+pub invariant_of-self-in-Ok : goal.invariant_of-self-in-Ok
+invariant_of-self-in-Ok g c =
+    let was = c.self-3.invariant in
+    let made = c.claim_once.ensures in (
+      record {
+        producer = made.producer;
+        first = c.in-Ok.ensures.opened.is_open;
+        second = IfSome_then c.self-3.inside.second was.0.second made.holdings.claims;
+      },
+      (λ one. made.holdings.shares ∙ was.1 one),
+      was.2,
+      was.3,
+    )
