@@ -7,7 +7,9 @@ use crate::message::{Body, Sum, TYPE_ID};
 use crate::request::{Contender, Request, Workload};
 use crate::sample::Sample;
 use crate::task::{Task, time};
-use ring_rings::{Consumer, Kind, ManyToOne, OneToOne, Producer, Ring};
+use ring_rings::{
+    Consumer, Kind, ManyToOne, OneToOne, Producer, Ring, RingTable, SlotTable, Steps,
+};
 use ring_words::SoloRing;
 use std::alloc::Global;
 use std::rt::Clock;
@@ -48,14 +50,14 @@ impl Lane for SoloRing {
 
 /// A shared ring with all its seats.
 #[derive(Drop)]
-struct Seated<K> {
-    ring: Ring<K>,
+struct Seated<K, B: Steps> {
+    ring: Ring<K, B>,
     producer: Producer,
     consumer: Consumer,
 }
 
-impl<K: Kind> Seated<K> {
-    fn open(alloc: Global, capacity: u32) -> Result<Seated<K>, Fault>
+impl<K: Kind, B: Steps> Seated<K, B> {
+    fn open(alloc: Global, capacity: u32) -> Result<Seated<K, B>, Fault>
         ensures { IfOk result (λ s. IsProducerOf s.ring s.producer × MayClaim K.is_for_one s.producer
             × IsConsumerOf s.ring s.consumer) }
     {
@@ -68,7 +70,7 @@ impl<K: Kind> Seated<K> {
     }
 }
 
-impl<K: Kind> Lane for Seated<K> {
+impl<K: Kind, B: Steps> Lane for Seated<K, B> {
     ghost whole = { λ s. IsProducerOf s.ring s.producer × MayClaim K.is_for_one s.producer
         × IsConsumerOf s.ring s.consumer };
 
@@ -154,14 +156,14 @@ fn body_of(alloc: Global, request: &Request) -> Result<Body, Fault> {
     }
 }
 
-fn run_seated<K: Kind, R: Clock>(
+fn run_seated<K: Kind, B: Steps + Drop, R: Clock>(
     rt: &R,
     alloc: Global,
     request: &Request,
     times: u64,
 ) -> Result<Sample, Fault> {
     let body = body_of(alloc, request)?;
-    let lane = Seated::<K>::open(alloc, request.capacity)?;
+    let lane = Seated::<K, B>::open(alloc, request.capacity)?;
     run_lane(rt, lane, body, times)
 }
 
@@ -186,8 +188,12 @@ pub fn run_batches<R: Clock>(
 ) -> Result<Sample, Fault> {
     match request.contender {
         Contender::Solo => run_solo(rt, alloc, request, times),
-        Contender::OneToOne => run_seated::<OneToOne, R>(rt, alloc, request, times),
-        Contender::ManyToOne => run_seated::<ManyToOne, R>(rt, alloc, request, times),
+        Contender::OneToOne => run_seated::<OneToOne, RingTable, R>(rt, alloc, request, times),
+        Contender::ManyToOne => run_seated::<ManyToOne, RingTable, R>(rt, alloc, request, times),
+        Contender::PlainOneToOne => run_seated::<OneToOne, SlotTable, R>(rt, alloc, request, times),
+        Contender::PlainManyToOne => {
+            run_seated::<ManyToOne, SlotTable, R>(rt, alloc, request, times)
+        }
         _ => Err(Fault::NO_CONTENDER),
     }
 }

@@ -9,7 +9,8 @@ use crate::request::{Contender, Request, Workload};
 use crate::rest::{Rest, TRIES};
 use crate::sample::{Sample, nanos_since};
 use ring_rings::{
-    ClaimFault, Consumer, Kind, ManyToOne, ManyToOneRing, OneToOne, Producer, Ring, TryFault,
+    ClaimFault, Consumer, Kind, ManyToOne, OneToOne, Producer, Ring, RingTable, SlotTable, Steps,
+    TryFault,
 };
 use std::alloc::Global;
 use std::hint::spin_loop;
@@ -32,7 +33,11 @@ struct Load {
 
 /// Writes a message, and waits while there is no room. `REFUSED` if such a message is never taken, `STUCK` if there was
 /// no room for a long time.
-fn send<K: Kind>(ring: &Ring<K>, producer: &mut Producer, body: &[u8]) -> Result<(), Fault>
+fn send<K: Kind, B: Steps>(
+    ring: &Ring<K, B>,
+    producer: &mut Producer,
+    body: &[u8],
+) -> Result<(), Fault>
     requires producer { IsProducerOf ring.now producer.old }
     requires sole { MayClaim K.is_for_one producer.old }
     ensures producer { IsProducerOf ring.now producer.new }
@@ -51,9 +56,9 @@ fn send<K: Kind>(ring: &Ring<K>, producer: &mut Producer, body: &[u8]) -> Result
 }
 
 /// Sends all messages of a producer.
-fn produce<K: Kind, R: Wait>(
+fn produce<K: Kind, B: Steps, R: Wait>(
     rt: &R,
-    ring: &Ring<K>,
+    ring: &Ring<K, B>,
     load: Load,
     start: &Barrier,
     messages: u64,
@@ -77,9 +82,9 @@ fn produce<K: Kind, R: Wait>(
 }
 
 /// Sends all messages of all producers, each on a thread of its own.
-fn produce_all<K: Kind + Sync, R: Threads + Sync + Wait>(
+fn produce_all<K: Kind + Sync, B: Steps + Sync, R: Threads + Sync + Wait>(
     rt: &R,
-    ring: &Ring<K>,
+    ring: &Ring<K, B>,
     loads: Vec<Load>,
     start: &Barrier,
     messages: u64,
@@ -100,7 +105,7 @@ fn produce_all<K: Kind + Sync, R: Threads + Sync + Wait>(
 }
 
 /// Reads until this many messages have come.
-fn take_all<K>(ring: &Ring<K>, mut consumer: Consumer, messages: u64) -> Tally
+fn take_all<K, B: Steps>(ring: &Ring<K, B>, mut consumer: Consumer, messages: u64) -> Tally
     requires { IsConsumerOf ring.now consumer }
 {
     let mut tally = Tally::new();
@@ -119,9 +124,9 @@ fn take_all<K>(ring: &Ring<K>, mut consumer: Consumer, messages: u64) -> Tally
 }
 
 /// Takes all messages, and measures the time from when all threads are there.
-fn consume<K, R: Clock + Wait>(
+fn consume<K, B: Steps, R: Clock + Wait>(
     rt: &R,
-    ring: &Ring<K>,
+    ring: &Ring<K, B>,
     consumer: Consumer,
     start: &Barrier,
     messages: u64,
@@ -137,9 +142,9 @@ fn consume<K, R: Clock + Wait>(
 }
 
 /// The producers, each of which sends this many messages, and the consumer.
-fn run_all<K: Kind + Sync, R: Clock + Threads + Sync + Wait>(
+fn run_all<K: Kind + Sync, B: Steps + Sync, R: Clock + Threads + Sync + Wait>(
     rt: &R,
-    ring: &Ring<K>,
+    ring: &Ring<K, B>,
     loads: Vec<Load>,
     consumer: Consumer,
     messages: u64,
@@ -166,9 +171,9 @@ fn run_all<K: Kind + Sync, R: Clock + Threads + Sync + Wait>(
 }
 
 /// Splits off a producer for each load, one less than there are producers.
-fn loads_of(
+fn loads_of<B: Steps>(
     alloc: Global,
-    ring: &ManyToOneRing,
+    ring: &Ring<ManyToOne, B>,
     mut producer: Producer,
     size: usize,
     producers: u32,
@@ -189,14 +194,14 @@ fn loads_of(
 }
 
 /// One producer and the consumer of a ring of one producer.
-fn run_one_to_one<R: Clock + Threads + Sync + Wait>(
+fn run_one_to_one<B: Steps + Drop + Sync, R: Clock + Threads + Sync + Wait>(
     rt: &R,
     alloc: Global,
     request: &Request,
     messages: u64,
 ) -> Result<Sample, Fault> {
     let body = Body::new(alloc, request.size)?;
-    let (ring, producer, consumer) = Ring::<OneToOne>::new(alloc, request.capacity)?;
+    let (ring, producer, consumer) = Ring::<OneToOne, B>::new(alloc, request.capacity)?;
     let load = Load {
         producer,
         body,
@@ -206,17 +211,34 @@ fn run_one_to_one<R: Clock + Threads + Sync + Wait>(
     run_all(rt, &ring, loads, consumer, messages)
 }
 
-/// Some producers and the consumer of a ring of many producers.
-fn run_many_to_one<R: Clock + Threads + Sync + Wait>(
+/// Some producers, each of which sends this many messages, and the consumer of a ring of many producers.
+fn run_producers<B: Steps + Drop + Sync, R: Clock + Threads + Sync + Wait>(
     rt: &R,
     alloc: Global,
     request: &Request,
     messages: u64,
     producers: u32,
 ) -> Result<Sample, Fault> {
-    let (ring, producer, consumer) = ManyToOneRing::new(alloc, request.capacity)?;
+    let (ring, producer, consumer) = Ring::<ManyToOne, B>::new(alloc, request.capacity)?;
     let loads = loads_of(alloc, &ring, producer, request.size, producers)?;
     run_all(rt, &ring, loads, consumer, messages)
+}
+
+/// A ring of many producers with as many as a request asks for, one if it asks for a pair.
+fn run_many_to_one<B: Steps + Drop + Sync, R: Clock + Threads + Sync + Wait>(
+    rt: &R,
+    alloc: Global,
+    request: &Request,
+    times: u64,
+) -> Result<Sample, Fault> {
+    match (request.workload, request.threads) {
+        (Workload::Pair, _) => run_producers::<B, R>(rt, alloc, request, times, 1),
+        (_, producers @ 1..=64) => {
+            let each = (times / u64::from(producers)).saturating_add(1);
+            run_producers::<B, R>(rt, alloc, request, each, producers)
+        }
+        _ => Err(Fault::NO_CONTENDER),
+    }
 }
 
 /// Sends this many messages, or some more, from the producers to the consumer. `NO_CONTENDER` if no such ring takes
@@ -228,13 +250,11 @@ pub fn run_flow<R: Clock + Threads + Sync + Wait>(
     request: &Request,
     times: u64,
 ) -> Result<Sample, Fault> {
-    match (request.workload, request.contender, request.threads) {
-        (Workload::Pair, Contender::OneToOne, _) => run_one_to_one(rt, alloc, request, times),
-        (Workload::Pair, _, _) => run_many_to_one(rt, alloc, request, times, 1),
-        (_, _, producers @ 1..=64) => {
-            let each = (times / u64::from(producers)).saturating_add(1);
-            run_many_to_one(rt, alloc, request, each, producers)
-        }
+    match request.contender {
+        Contender::OneToOne => run_one_to_one::<RingTable, R>(rt, alloc, request, times),
+        Contender::ManyToOne => run_many_to_one::<RingTable, R>(rt, alloc, request, times),
+        Contender::PlainOneToOne => run_one_to_one::<SlotTable, R>(rt, alloc, request, times),
+        Contender::PlainManyToOne => run_many_to_one::<SlotTable, R>(rt, alloc, request, times),
         _ => Err(Fault::NO_CONTENDER),
     }
 }

@@ -60,6 +60,10 @@ pub enum Contender {
     OneToOne,
     /// The ring of many producers.
     ManyToOne,
+    /// The ring of one producer with bodies in plain memory.
+    PlainOneToOne,
+    /// The ring of many producers with bodies in plain memory.
+    PlainManyToOne,
     /// The broadcast buffer.
     Board,
     /// Counters and their manager.
@@ -75,6 +79,8 @@ impl Contender {
             Contender::Solo => "ours-solo",
             Contender::OneToOne => "ours-o2o",
             Contender::ManyToOne => "ours-m2o",
+            Contender::PlainOneToOne => "plain-o2o",
+            Contender::PlainManyToOne => "plain-m2o",
             Contender::Board => "ours-board",
             Contender::Counters => "ours-counters",
             Contender::Storm => "ours-storm",
@@ -83,18 +89,27 @@ impl Contender {
 }
 
 /// Who takes part in which workload.
-pub const ENTRIES: [(Workload, Contender); 14] = [
+pub const ENTRIES: [(Workload, Contender); 23] = [
     (Workload::Batches, Contender::Solo),
     (Workload::Batches, Contender::OneToOne),
     (Workload::Batches, Contender::ManyToOne),
+    (Workload::Batches, Contender::PlainOneToOne),
+    (Workload::Batches, Contender::PlainManyToOne),
     (Workload::Sparse, Contender::Solo),
     (Workload::Sparse, Contender::OneToOne),
     (Workload::Sparse, Contender::ManyToOne),
+    (Workload::Sparse, Contender::PlainOneToOne),
+    (Workload::Sparse, Contender::PlainManyToOne),
     (Workload::Pair, Contender::OneToOne),
     (Workload::Pair, Contender::ManyToOne),
+    (Workload::Pair, Contender::PlainOneToOne),
+    (Workload::Pair, Contender::PlainManyToOne),
     (Workload::Crowd, Contender::ManyToOne),
+    (Workload::Crowd, Contender::PlainManyToOne),
     (Workload::Trips, Contender::OneToOne),
     (Workload::Trips, Contender::ManyToOne),
+    (Workload::Trips, Contender::PlainOneToOne),
+    (Workload::Trips, Contender::PlainManyToOne),
     (Workload::Broadcast, Contender::Board),
     (Workload::Counters, Contender::Counters),
     (Workload::Storm, Contender::Storm),

@@ -14,7 +14,7 @@ use ring_board::Board;
 use ring_conductor::Request::{Allocate, Set};
 use ring_conductor::{Client, Conductor, Polled, Reply};
 use ring_counters::{CounterValues, CountersManager};
-use ring_rings::{Kind, ManyToOne, OneToOne, Ring};
+use ring_rings::{Closes, Kind, ManyToOne, OneToOne, Ring, RingTable, SlotTable};
 use std::alloc::Global;
 use std::rt::Clock;
 use std::sync::atomic::{AtomicBool, Ordering};
@@ -29,9 +29,9 @@ const COUNTERS: u32 = 16;
 
 /// A client that sends commands, one after another, and waits for each reply.
 #[derive(Drop)]
-struct Caller<'a, K, R> {
+struct Caller<'a, K, B: Closes, R> {
     rt: &'a R,
-    ring: &'a Ring<K>,
+    ring: &'a Ring<K, B>,
     board: &'a Board,
     client: Client,
     /// When the last reply came.
@@ -59,7 +59,12 @@ fn receive(board: &Board, client: &mut Client, correlation: u64) -> Result<Reply
 }
 
 /// Sets the counter 0, and waits for the reply.
-fn set<K: Kind>(ring: &Ring<K>, board: &Board, client: &mut Client, value: i64) -> Result<(), Fault>
+fn set<K: Kind, B: Closes>(
+    ring: &Ring<K, B>,
+    board: &Board,
+    client: &mut Client,
+    value: i64,
+) -> Result<(), Fault>
     requires { IsSeatedAt K.is_for_one ring.now board.now client.old }
     ensures { IsSeatedAt K.is_for_one ring.now board.now client.new }
 {
@@ -70,7 +75,7 @@ fn set<K: Kind>(ring: &Ring<K>, board: &Board, client: &mut Client, value: i64) 
     }
 }
 
-impl<'a, K: Kind, R: Clock> Task for Caller<'a, K, R> {
+impl<'a, K: Kind, B: Closes, R: Clock> Task for Caller<'a, K, B, R> {
     ghost is_ready = { λ s. IsSeatedAt K.is_for_one s.ring.now s.board.now s.client };
 
     fn step(&mut self, number: u64) -> Result<(), Fault> {
@@ -90,21 +95,21 @@ impl<'a, K: Kind, R: Clock> Task for Caller<'a, K, R> {
 
 /// What client and conductor share, and the two.
 #[derive(Drop)]
-struct Service<K> {
-    ring: Ring<K>,
+struct Service<K, B: Closes> {
+    ring: Ring<K, B>,
     board: Board,
     values: CounterValues,
     conductor: Conductor,
     client: Client,
 }
 
-impl<K: Kind> Service<K> {
+impl<K: Kind, B: Closes + Drop> Service<K, B> {
     /// A ring and a board of this capacity, with a conductor and a client.
-    fn open(alloc: Global, capacity: u32) -> Result<Service<K>, Fault>
+    fn open(alloc: Global, capacity: u32) -> Result<Service<K, B>, Fault>
         ensures conductor { IfOk result (λ s. IsConductorOf IsConsumerOf s.ring s.board s.values s.conductor) }
         ensures client { IfOk result (λ s. IsSeatedAt K.is_for_one s.ring s.board s.client) }
     {
-        let (ring, producer, consumer) = Ring::<K>::new(alloc, capacity)?;
+        let (ring, producer, consumer) = Ring::<K, B>::new(alloc, capacity)?;
         let (board, transmitter) = Board::new(alloc, capacity)?;
         let (values, counters) = CountersManager::new(alloc, COUNTERS, 0)?;
         let mut conductor = Conductor::new(consumer, transmitter, counters);
@@ -143,8 +148,8 @@ impl<K: Kind> Service<K> {
 }
 
 /// Works until it is stopped.
-fn conduct<K>(
-    ring: &Ring<K>,
+fn conduct<K, B: Closes>(
+    ring: &Ring<K, B>,
     board: &Board,
     values: &CounterValues,
     mut conductor: Conductor,
@@ -194,9 +199,9 @@ fn sample_of(nanos: u64, mut trips: Vec<u32>) -> Result<Sample, Fault> {
 }
 
 /// Sends all commands, and then says the conductor to stop.
-fn call_all<R: Clock, K: Kind>(
+fn call_all<R: Clock, K: Kind, B: Closes>(
     rt: &R,
-    mut caller: Caller<'_, K, R>,
+    mut caller: Caller<'_, K, B, R>,
     stop: &AtomicBool,
     times: u64,
 ) -> Result<Sample, Fault>
@@ -216,9 +221,9 @@ fn check_last(conductor: &Conductor, times: u64) -> Result<(), Fault> {
 }
 
 /// A client and the conductor, each on a thread.
-fn run_service<R: Clock + Threads + Sync, K: Kind + Sync>(
+fn run_service<R: Clock + Threads + Sync, K: Kind + Sync, B: Closes + Drop + Sync>(
     rt: &R,
-    service: Service<K>,
+    service: Service<K, B>,
     trips: Vec<u32>,
     times: u64,
 ) -> Result<Sample, Fault>
@@ -255,14 +260,14 @@ fn run_service<R: Clock + Threads + Sync, K: Kind + Sync>(
     check_last(&conductor, times).and(sample)
 }
 
-fn run_kind<R: Clock + Threads + Sync, K: Kind + Sync>(
+fn run_kind<R: Clock + Threads + Sync, K: Kind + Sync, B: Closes + Drop + Sync>(
     rt: &R,
     alloc: Global,
     capacity: u32,
     times: u64,
 ) -> Result<Sample, Fault> {
     let trips = Vec::with_capacity(alloc, times.min(1 << 24) as usize)?;
-    let mut service = Service::<K>::open(alloc, capacity)?;
+    let mut service = Service::<K, B>::open(alloc, capacity)?;
     service.allocate()?;
     run_service(rt, service, trips, times)
 }
@@ -276,9 +281,14 @@ pub fn run_trips<R: Clock + Threads + Sync>(
     request: &Request,
     times: u64,
 ) -> Result<Sample, Fault> {
+    let capacity = request.capacity;
     match request.contender {
-        Contender::OneToOne => run_kind::<R, OneToOne>(rt, alloc, request.capacity, times),
-        Contender::ManyToOne => run_kind::<R, ManyToOne>(rt, alloc, request.capacity, times),
+        Contender::OneToOne => run_kind::<R, OneToOne, RingTable>(rt, alloc, capacity, times),
+        Contender::ManyToOne => run_kind::<R, ManyToOne, RingTable>(rt, alloc, capacity, times),
+        Contender::PlainOneToOne => run_kind::<R, OneToOne, SlotTable>(rt, alloc, capacity, times),
+        Contender::PlainManyToOne => run_kind::<R, ManyToOne, SlotTable>(
+            rt, alloc, capacity, times,
+        ),
         _ => Err(Fault::NO_CONTENDER),
     }
 }

@@ -1,8 +1,6 @@
 -- One run: two commands sent, two calls of `do_work`, and listeners coming and going between them.
-use Rattle.std.proofs.Common.{◌≡◌, ◌∙◌, ℕ, ◌+◌, ◌<◌, List, [], ◌∷◌, ◌++◌, length, map, take, length-append, Result, Err, IsOk, refl, sym, ap, subst, true≢false, arith}
-use Rattle.std.proofs.lemmas.List.{take-append-le, take_all}
+use Rattle.std.proofs.Common.{◌≡◌, ◌∙◌, ℕ, ◌<◌, List, [], ◌∷◌, ◌++◌, length, map, Result, Err, IsOk, refl, sym, ap, subst, true≢false, arith}
 use Rattle.ring_layout.specs.declared.message.Message.{Message}
-use Rattle.ring_layout.specs.Lists.{Begins}
 use Rattle.ring_layout.specs.Refusals.{all_shares}
 use Rattle.ring_table.specs.declared.claim.PlacedMessage.{PlacedMessage}
 use Rattle.ring_table.specs.declared.view.Service.{Service}
@@ -11,20 +9,13 @@ use Rattle.ring_table.specs.Services.{AreRisingBelow, once_below, times, times_d
 use Rattle.ring_rings.specs.Claiming.{Writes, record_behind}
 use Rattle.ring_rings.specs.Closing.{IsRefusedAs}
 use Rattle.ring_rings.specs.Reading.{messages_of}
-use Rattle.ring_board.specs.declared.shared.view.Record.{Record}
-use Rattle.ring_board.specs.Seats.{next_record}
-use Rattle.ring_board.specs.Views.{Sat}
 use Rattle.ring_protocol.specs.Command.{spelling_of, type_id_of}
-use Rattle.ring_protocol.specs.Reply.{spelling_of as reply_spelling, type_id_of as reply_type}
 use Rattle.ring_conductor.specs.declared.client.request.Request.{Request}
-use Rattle.ring_conductor.specs.declared.client.Polled.{Polled}
-use Rattle.ring_conductor.specs.declared.client.Polled.TheVariants.{Answered, Another, NoReply, Nothing, Lapped}
 use Rattle.ring_conductor.specs.declared.finishing.fault.FinishFault.{FinishFault}
 use Rattle.ring_conductor.specs.Finishing.{finish_refusal_of}
 use Rattle.ring_conductor.specs.Account.{Account, account_of}
-use Rattle.ring_conductor.specs.Applied.{applied}
-use Rattle.ring_conductor.specs.Asking.{IsHeard, Sends, asked}
-use Rattle.ring_conductor.specs.Fold.{Ledger, at_moment, fold_of, served}
+use Rattle.ring_conductor.specs.Asking.{Sends, asked}
+use Rattle.ring_conductor.specs.Fold.{Ledger, at_moment, fold_of}
 use Rattle.ring_conductor.specs.Turns.{drawn_in}
 use Rattle.ring_conductor.specs.Whole.{committed, settled_message}
 use Rattle.ring_conductor.proofs.AccountLemmas.{account_in, account_of-append, same_fold}
@@ -62,12 +53,14 @@ two_ids n m drawn s draws rising once =
     let m_below = drawn_below drawn (s ∷ []) once m (omega arith) in
     (omega arith, omega arith)
 
--- two commands were sent by the only producer of a ring, which drew no other id: they are its claims
+-- two commands were sent by the only producer of a ring, which drew no other id: the first is its claim, and then both
+-- are
 pub two_sent : (C drawn : ℕ) (r q : Request) (v w u : View) (a b : ℕ) → v.producer.claims ≡ []
     → v.producer.service.draws ≡ [] → v.producer.joined ≡ []
     → Sends Writes C r v a w → Sends Writes C q w b u
     → ((x : ℕ) → times_drawn x u.producer ≡ once_below x drawn)
-    → (a ≡ 0) × (map settled_message u.producer.claims ≡ committed (asked r 0) ∷ committed (asked q 1) ∷ [])
+    → (a ≡ 0) × (map settled_message w.producer.claims ≡ committed (asked r 0) ∷ [])
+    × (map settled_message u.producer.claims ≡ committed (asked r 0) ∷ committed (asked q 1) ∷ [])
 two_sent C drawn r q v w u a b no_claims no_draws alone s t once =
     let one = one_draw C r v a w s ∙ ap (λ l. l ++ s.draws.number ∷ []) no_draws in
     let two = one_draw C q w b u t ∙ ap (λ l. l ++ t.draws.number ∷ []) one in
@@ -82,43 +75,14 @@ two_sent C drawn r q v w u a b no_claims no_draws alone s t once =
     let second_id = t.draws.id in
     let a_is : a ≡ 0 = omega arith in
     let b_is : b ≡ 1 = omega arith in
+    let claim = one_claim C r v a w s ∙ ap
+    (λ l. l ++ record_behind C s.sent.tail (type_id_of (asked r a)) (spelling_of (asked r a)) ∷ []) no_claims in
     let claims = one_claim C q w b u t ∙ ap
-    (λ l. l ++ record_behind C t.sent.tail (type_id_of (asked q b)) (spelling_of (asked q b)) ∷ [])
-    (one_claim C r v a w s ∙ ap
-    (λ l. l ++ record_behind C s.sent.tail (type_id_of (asked r a)) (spelling_of (asked r a)) ∷ []) no_claims) in
-    (a_is, ap (map settled_message) claims ∙ (λ i. committed (asked r (a_is i)) ∷ committed (asked q (b_is i)) ∷ []))
-
--- Receiving ----------------------------------------------------------------------
-
-pub heard_from : (correlation : ℕ) (m n : Sat) (p : Polled) → IsHeard correlation m n p → n.0.from ≡ m.0.from
-heard_from correlation m n (Answered r) h = ap (λ (x : Sat). x.0.from) h.0.copied.1
-heard_from correlation m n (Another r) h = ap (λ (x : Sat). x.0.from) h.0.copied.1
-heard_from correlation m n NoReply h = ap (λ (x : Sat). x.0.from) h.copied.1
-heard_from correlation m n Nothing h = ap (λ (x : Sat). x.0.from) h.1
-heard_from correlation m n (Lapped l) h = ap (λ (x : Sat). x.0.from) h.7
-
--- as many replies more as messages
-sent_more : (l : Ledger) (now : ℕ) (ms : List Message)
-    → length (fold_of l (at_moment now ms)).board.sent ≡ length l.board.sent + length ms
-sent_more l now [] = omega arith
-sent_more l now (m ∷ ms) =
-    let others = sent_more (served l now m) now ms in
-    let here = length-append l.board.sent (next_record l.board.capacity l.board.at
-    (reply_type (applied now l.registry m).reply) (reply_spelling (applied now l.registry m).reply) ∷ []) in
-    omega arith
-
--- the replies to the first messages are the first of all replies
-pub first_replies : (l k : Ledger) (now : ℕ) (ms : List Message) (old all : List Record)
-    → k ≡ fold_of l (at_moment now ms) → l.board.sent ≡ [] → k.board.sent ≡ old → Begins old all
-    → old ≡ take (length ms) all
-first_replies l k now ms old all folded none is more =
-    let sent = ap (λ (x : Ledger). length x.board.sent) folded in
-    let many = sent_more l now ms in
-    let empty = ap length none in
-    let same = ap length is in
-    let count : length ms ≡ length old = omega arith in
-    sym (ap (take (length ms)) more.1 ∙ (ap (λ n. take n (old ++ more.0)) count
-    ∙ (take-append-le (length old) old more.0 (omega arith) ∙ take_all (length old) old (omega arith))))
+    (λ l. l ++ record_behind C t.sent.tail (type_id_of (asked q b)) (spelling_of (asked q b)) ∷ []) claim in (
+      a_is,
+      ap (map settled_message) claim ∙ (λ i. committed (asked r (a_is i)) ∷ []),
+      ap (map settled_message) claims ∙ (λ i. committed (asked r (a_is i)) ∷ committed (asked q (b_is i)) ∷ []),
+    )
 
 -- The end ------------------------------------------------------------------------
 

@@ -1,26 +1,30 @@
 -- The headline about what one run hands out.
-use Rattle.std.specs.Prelude.{◌≡◌, ℕ, pos, List, [], ◌∷◌, ◌++◌, codes, length, map, take}
+use Rattle.std.specs.Prelude.{◌≡◌, ℕ, pos, [], ◌∷◌, ◌++◌, codes, length, map}
 use Rattle.ring_layout.specs.declared.message.ClaimState.TheVariants.{Committed}
 use Rattle.ring_layout.specs.declared.message.Message.{Message}
 use Rattle.ring_table.specs.declared.claim.StagedClaim.{StagedClaim}
 use Rattle.ring_table.specs.declared.claim.Stage.{Stage}
 use Rattle.ring_table.specs.declared.claim.Stage.TheVariants.{Stored}
 use Rattle.ring_rings.specs.Closing.{AreOrdered}
+use Rattle.ring_rings.specs.Opening.{first_consumer}
 use Rattle.ring_rings.specs.Reading.{messages_of}
-use Rattle.ring_board.specs.declared.shared.view.Joined.{Joined}
-use Rattle.ring_board.specs.declared.shared.view.Taken.{Taken}
+use Rattle.ring_rings.specs.Seats.{claims_of}
 use Rattle.ring_board.specs.Closing.{closed_words, IsClosed}
-use Rattle.ring_board.specs.Records.{last_of}
+use Rattle.ring_board.specs.Rule.{opening_view}
 use Rattle.ring_board.specs.Runs.{AreAllRuns}
-use Rattle.ring_board.specs.Views.{Sat}
+use Rattle.ring_board.specs.Seats.{receiver_seat, receiver_view}
+use Rattle.ring_board.specs.Views.{as_joined, fewer, newcomer}
 use Rattle.ring_counters.specs.Manager.{registry_of, writes_of}
+use Rattle.ring_counters.specs.Registry.{fresh_registry}
 use Rattle.ring_protocol.specs.Command.{Instruction, Allocate, Set, spelling_of, type_id_of}
-use Rattle.ring_conductor.specs.declared.client.Polled.{Polled}
+use Rattle.ring_conductor.specs.declared.conductor.Work.{Work}
+use Rattle.ring_conductor.specs.declared.whole.Parties.{Parties}
 use Rattle.ring_conductor.specs.declared.whole.WholeRun.{WholeRun}
 use Rattle.ring_conductor.specs.Account.{account_of, fresh_account, messages_in}
-use Rattle.ring_conductor.specs.Asking.{IsHeard}
+use Rattle.ring_conductor.specs.Asking.{IsHeard, client_seat, producer_of, receiver_of}
+use Rattle.ring_conductor.specs.Conducting.{KeepsTheRest, Works, board_view, ledger_of, ring_view}
 use Rattle.ring_conductor.specs.Finishing.{IsWhole, claims_in, joined_in, received_in, replies_in}
-use Rattle.ring_conductor.specs.Fold.{at_moment}
+use Rattle.ring_conductor.specs.Fold.{Ledger, at_moment}
 
 -- the claim's message, and how far it has come
 abbrev pub settled_message : StagedClaim → Message × Stage
@@ -38,40 +42,58 @@ first_command = Allocate 0 (pos 1) [] (codes "requests")
 abbrev pub second_command : Instruction
 second_command = Set 1 0 (pos 7)
 
--- the first poll for the reply to the command with this correlation id returned this, and left these copies
-pub record IsFirstPoll (correlation : ℕ) (polled : Polled) (copies : List Taken) : Type 0 where
-  pub before : Sat
-  pub after : Sat
-  pub heard : IsHeard correlation before after polled
-  pub none : before.0.copies ≡ []
-  pub left : after.0.copies ≡ copies
+-- the ledger of the new conductor, with the client's receiver out
+abbrev pub opening_ledger : Ledger
+opening_ledger = record { registry = fresh_registry 4 50; writes = []; board = fewer (opening_view 256 0) }
 
--- The claims are the two commands and nothing else, one after another from the ring's start. Some messages were
--- received at the moment `early` and others at the moment `late`; these, followed by what still is in the ring, are the
--- committed messages, each whole and once. What was received makes of four fresh counters these counters, all value
--- writes, and the replies, which the closed broadcast buffer has. Two receivers were joined: the client's, which
--- subscribed before any reply and polled once, and a listener, which subscribed after the replies to the first messages
--- and received nothing. What they copied are runs of all replies
+-- The parties once the client has sent its first command. The conductor is new, and has never worked. One receiver is
+-- out: the client's, which subscribed at the start and has loaded nothing
+pub record HaveBegun (p : Parties) : Type 0 where
+  pub sent : map settled_message (claims_of (producer_of p.client)) ≡ committed first_command ∷ []
+  pub ring : ring_view p.conductor ≡ first_consumer 1024 0
+  pub ledger : ledger_of p.conductor ≡ opening_ledger
+  pub receiver : receiver_view (receiver_of p.client) ≡ newcomer (opening_view 256 0)
+
+-- the conductor worked once, at this moment, and the client did nothing
+pub record IsCycle (now : ℕ) (old new : Parties) (done : Work) : Type 0 where
+  pub works : Works now 0xffff_ffff (ring_view old.conductor) (ring_view new.conductor) (ledger_of old.conductor)
+      (ledger_of new.conductor) done
+  pub client : new.client ≡ old.client
+
+-- one receiver more went out; the conductor did not work, and the client's receiver loaded nothing
+pub record GoesOn (old new : Parties) : Type 0 where
+  pub conductor : KeepsTheRest old.conductor new.conductor
+  pub board : board_view new.conductor ≡ fewer (board_view old.conductor)
+  pub receiver : receiver_of new.client ≡ receiver_of old.client
+
+-- The claims are the two commands and nothing else, one after another from the ring's start. The first was sent before
+-- the first cycle, and the other between the two. What the cycles took, followed by what still is in the ring, is the
+-- committed messages, each whole and once. It makes of four fresh counters these counters, all value writes, and the
+-- replies, which the closed broadcast buffer has. Two receivers were joined: the client's, which subscribed at the start
+-- and polled once, after both cycles, and a listener, which subscribed between them and received nothing. What they
+-- copied are runs of all replies
 pub record Concludes (early late : ℕ) (w : WholeRun) : Type 0 where
+  pub begun : HaveBegun w.begun.value
+  pub first : IsCycle early w.begun.value w.halfway.value w.first
+  pub between : GoesOn w.halfway.value w.resumed.value
+  pub second : IsCycle late w.resumed.value w.worked.value w.second
+  pub producer : w.finished.producer.value ≡ producer_of w.worked.value.client
+  pub conductor : KeepsTheRest w.worked.value.conductor w.finished.conductor.value
   pub claims : map settled_message (claims_in w.finished) ≡ committed first_command ∷ committed second_command ∷ []
   pub ordered : AreOrdered 1024 0 (claims_in w.finished)
-  pub first : List Message
-  pub others : List Message
-  pub received : messages_of (received_in w.finished) ≡ first ++ others
+  pub received : messages_of (received_in w.finished)
+      ≡ messages_of first.works.messages ++ messages_of second.works.messages
   pub counted : w.finished.received ≡ length (received_in w.finished)
   pub whole : IsWhole (claims_in w.finished) (received_in w.finished) w.finished.rest
-  pub folded : account_of (fresh_account 4 50) (at_moment early first ++ at_moment late others)
+  pub folded : account_of (fresh_account 4 50) (at_moment early (messages_of first.works.messages)
+      ++ at_moment late (messages_of second.works.messages))
       ≡ record {
         registry = registry_of w.finished.counters;
         writes = writes_of w.finished.counters;
         replies = messages_in (replies_in w.finished);
       }
   pub board : IsClosed 256 0 (replies_in w.finished) (closed_words w.finished.board)
-  pub client : Joined
-  pub listener : Joined
-  pub joined : joined_in w.finished ≡ client ∷ listener ∷ []
-  pub client_from : client.from ≡ 0
-  pub client_polled : IsFirstPoll 0 w.polled client.copies
-  pub listener_from : listener.from ≡ last_of 0 (take (length first) (replies_in w.finished))
-  pub listener_none : listener.copies ≡ []
+  pub polled : IsHeard 0 (client_seat w.worked.value.client) (receiver_seat w.receiver.value) w.polled
+  pub joined : joined_in w.finished ≡ as_joined (receiver_view w.receiver.value)
+      ∷ as_joined (newcomer (board_view w.halfway.value.conductor)) ∷ []
   pub runs : AreAllRuns (replies_in w.finished) (joined_in w.finished)

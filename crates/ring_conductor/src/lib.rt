@@ -28,4 +28,4 @@ pub use ring_protocol::{
     encode_reply, longest_command, one_command, one_reply, reply_round_trip, reply_type_ids,
 };
 pub use storming::{Gate, OpenGate, StormFault, StormPlan, StormReport, storm};
-pub use whole::{WholeFault, WholeRun, whole_run};
+pub use whole::{Parties, WholeFault, WholeRun, whole_run};

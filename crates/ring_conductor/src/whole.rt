@@ -5,20 +5,44 @@ ghost use Rattle.ring_conductor.specs.Whole.{Concludes};
 
 use crate::client::request::Request;
 use crate::client::{Client, Polled, SendFault};
-use crate::conductor::Conductor;
+use crate::conductor::{Conductor, Work};
 use crate::finishing::{Finished, finish};
-use ring_board::Board;
+use ring_board::{Board, CopyReceiver};
 use ring_counters::CountersManager;
 use ring_rings::ManyToOneRing;
 use std::alloc::Global;
+use std::snapshot::Snapshot;
 use thiserror::Error;
 
+/// The two parties of a run, at one moment.
+#[derive(Drop)]
+pub struct Parties {
+    pub conductor: Conductor,
+    pub client: Client,
+}
+
 /// What `whole_run` returns.
+///
+/// Its snapshots are for contracts, and have no bytes.
 #[derive(Drop)]
 pub struct WholeRun {
     pub finished: Finished,
+    /// What the conductor's work at the moment `early` returned.
+    pub first: Work,
+    /// What its work at the moment `late` returned.
+    pub second: Work,
     /// What the client's poll for the reply to its first command returned.
     pub polled: Polled,
+    /// The parties once the first command was sent.
+    pub begun: Snapshot<Parties>,
+    /// The parties after the work at the moment `early`.
+    pub halfway: Snapshot<Parties>,
+    /// The parties once the listener had subscribed, and the second command was sent.
+    pub resumed: Snapshot<Parties>,
+    /// The parties after the work at the moment `late`.
+    pub worked: Snapshot<Parties>,
+    /// The client's receiver after the poll.
+    pub receiver: Snapshot<CopyReceiver>,
 }
 
 /// Why `whole_run` did not come to its end.
@@ -38,7 +62,8 @@ pub enum WholeFault {
 /// 2^62.
 ///
 /// It is there to be read. Its contract states for this one run what `finish` states to each caller, and names what
-/// happened: which commands were sent, at which moments they were applied, and which receivers were joined.
+/// happened: what the client sent and the conductor did, in which order, when the receivers subscribed, and what each
+/// received.
 ///
 /// Returns `OutOfMemory` if memory runs out, and `NotSent` if the ring refuses a command.
 pub fn whole_run(alloc: Global, early: u64, late: u64) -> Result<WholeRun, WholeFault>
@@ -58,27 +83,44 @@ pub fn whole_run(alloc: Global, early: u64, late: u64) -> Result<WholeRun, Whole
     let Ok(receiver) = conductor.subscribe(alloc, &board) else {
         return Err(WholeFault::OutOfMemory);
     };
-    let mut client = Client::new(producer, receiver);
+    let client = Client::new(producer, receiver);
+    let mut both = Parties { conductor, client };
     let allocate = Request::Allocate {
         type_id: 1,
         key: &[],
         label: b"requests",
     };
-    let asked = client.send(&ring, allocate)?;
-    conductor.do_work(&ring, &board, &values, early, u32::MAX);
+    let asked = both.client.send(&ring, allocate)?;
+    let begun = Snapshot::of(&both);
+    let limit = u32::MAX;
+    let first = both.conductor.do_work(&ring, &board, &values, early, limit);
+    let halfway = Snapshot::of(&both);
 
-    let Ok(listener) = conductor.subscribe(alloc, &board) else {
+    let Ok(listener) = both.conductor.subscribe(alloc, &board) else {
         return Err(WholeFault::OutOfMemory);
     };
-    client.send(&ring, Request::Set { id: 0, value: 7 })?;
-    conductor.do_work(&ring, &board, &values, late, u32::MAX);
+    both.client.send(&ring, Request::Set { id: 0, value: 7 })?;
+    let resumed = Snapshot::of(&both);
+    let second = both.conductor.do_work(&ring, &board, &values, late, limit);
+    let worked = Snapshot::of(&both);
 
-    let polled = client.poll(&board, asked);
-    let (producer, receiver) = client.into_parts();
-    conductor.join_receiver(&board, receiver);
-    conductor.join_receiver(&board, listener);
-    match finish(ring, board, values, conductor, producer) {
-        Ok(finished) => Ok(WholeRun { finished, polled }),
+    let polled = both.client.poll(&board, asked);
+    let (producer, receiver) = both.client.into_parts();
+    let heard = Snapshot::of(&receiver);
+    both.conductor.join_receiver(&board, receiver);
+    both.conductor.join_receiver(&board, listener);
+    match finish(ring, board, values, both.conductor, producer) {
+        Ok(finished) => Ok(WholeRun {
+            finished,
+            first,
+            second,
+            polled,
+            begun,
+            halfway,
+            resumed,
+            worked,
+            receiver: heard,
+        }),
         Err(_refused) => unreachable!(),
     }
 }

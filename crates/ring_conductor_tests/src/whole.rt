@@ -1,10 +1,22 @@
 //! One run of the whole, as a user sees what comes out.
-use ring_conductor::{Polled, Reply, WholeRun, whole_run};
+use ring_conductor::{Polled, Reply, WholeRun, Work, WorkStop, whole_run};
 use std::test::Fail;
 
 #[test]
 fn one_run_takes_all_and_leaves_its_counter(rt: HostRuntime) -> Result<(), Fail> {
-    let WholeRun { finished, polled } = whole_run(rt.alloc(), 100, 200)?;
+    let WholeRun {
+        finished,
+        first,
+        second,
+        polled,
+        ..
+    } = whole_run(rt.alloc(), 100, 200)?;
+    let one = Work {
+        messages: 1,
+        stopped: WorkStop::Unpublished,
+    };
+    assert_eq!(rt; first, one);
+    assert_eq!(rt; second, one);
     let reply = Reply::Allocated {
         correlation: 0,
         id: 0,

@@ -14,7 +14,7 @@ use client::Caller;
 use ring_board::Board;
 use ring_conductor::{Client, Conductor, Finished, finish};
 use ring_counters::{CounterInfo, CountersManager, ValueReader};
-use ring_rings::{ManyToOneRing, Producer};
+use ring_rings::{PlainManyToOneRing, Producer};
 use service::{COUNTERS, conduct, watch};
 use shared::Shared;
 use std::alloc::Global;
@@ -48,7 +48,7 @@ fn open(alloc: Global) -> anyhow::Result<Opened>
 {
     let (values, counters) = CountersManager::new(alloc, COUNTERS, 0)?;
     let (board, transmitter) = Board::new(alloc, BOARD)?;
-    let (ring, producer, consumer) = ManyToOneRing::new(alloc, RING)?;
+    let (ring, producer, consumer) = PlainManyToOneRing::new(alloc, RING)?;
     let stop = AtomicBool::new(false);
     Ok(Opened {
         shared: Shared {

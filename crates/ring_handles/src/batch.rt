@@ -9,7 +9,7 @@ use crate::code::{DONE, NO_MESSAGE, SHORT_BUFFER};
 use crate::consumer::ConsumerSide;
 use crate::copying::copy_at;
 use crate::ring::on_ring;
-use ring_rings::{Action, Consumer, Handler, ReadEnd, Ring, Stop};
+use ring_rings::{Action, Consumer, Handler, PlainRing, ReadEnd, Stop};
 
 /// Lays messages into a buffer, as long as there is room.
 #[derive(Drop)]
@@ -57,7 +57,7 @@ impl Handler for Laying<'_> {
 
 /// Lays up to `limit` messages, as far as the end of the ring's buffer.
 fn lay_some<K>(
-    ring: &Ring<K>,
+    ring: &PlainRing<K>,
     consumer: &mut Consumer,
     limit: u32,
     laying: &mut Laying<'_>,
@@ -77,7 +77,7 @@ fn lay_some<K>(
 
 /// Lays up to `limit` messages into a buffer, and reports how many and the bytes that they take, and why it stopped.
 fn lay_into<K>(
-    ring: &Ring<K>,
+    ring: &PlainRing<K>,
     consumer: &mut Consumer,
     limit: u32,
     count: &mut u32,

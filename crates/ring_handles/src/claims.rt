@@ -11,11 +11,11 @@ ghost use Rattle.ring_handles.specs.declared.identity.Identity.{Identity};
 use crate::code::{DONE, NO_CLAIM, OUT_OF_MEMORY, PUT_RANGE};
 use crate::open_claims::OpenClaims;
 use ring_layout::ClaimState;
-use ring_rings::{Kind, Producer, Ring};
+use ring_rings::{Kind, PlainRing, Producer};
 
 /// Claims room in a ring, and keeps the claim. The room to keep it is made first.
 pub(crate) fn claim_in<K: Kind>(
-    ring: &Ring<K>,
+    ring: &PlainRing<K>,
     producer: &mut Producer,
     claims: &mut OpenClaims,
     type_id: i32,
@@ -48,7 +48,7 @@ pub(crate) fn claim_in<K: Kind>(
 
 /// Puts bytes into the claim of this number.
 pub(crate) fn put_in<K>(
-    ring: &Ring<K>,
+    ring: &PlainRing<K>,
     producer: &mut Producer,
     claims: &mut OpenClaims,
     number: u64,
@@ -78,7 +78,7 @@ pub(crate) fn put_in<K>(
 
 /// Commits or aborts the claim of this number.
 pub(crate) fn settle_in<K>(
-    ring: &Ring<K>,
+    ring: &PlainRing<K>,
     producer: &mut Producer,
     claims: &mut OpenClaims,
     number: u64,
@@ -107,7 +107,7 @@ pub(crate) fn settle_in<K>(
 }
 
 /// Aborts all claims, the youngest first.
-pub(crate) fn abort_all<K>(ring: &Ring<K>, producer: &mut Producer, claims: &mut OpenClaims)
+pub(crate) fn abort_all<K>(ring: &PlainRing<K>, producer: &mut Producer, claims: &mut OpenClaims)
     requires producer { IsProducerOf ring.now producer.old }
     requires claims { AreOpen ring.now producer.old (claims_in claims.old) }
     ensures producer { IsProducerOf ring.now producer.new }

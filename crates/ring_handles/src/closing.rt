@@ -10,7 +10,7 @@ use crate::consumer::ConsumerSide;
 use crate::producer::ProducerSide;
 use crate::ring::AnyRing;
 use ring_layout::ALL_SHARES;
-use ring_rings::{Consumer, Producer, Ring};
+use ring_rings::{Consumer, PlainRing, Producer};
 use std::sync::Arc;
 
 /// Tests whether a producer has all shares and no open claim.
@@ -27,7 +27,7 @@ fn test_last(producer: &Producer) -> Result<(), i32>
 }
 
 /// Takes a ring apart, and returns the number of messages that were still in it.
-fn end<K>(ring: Ring<K>, producer: Producer, consumer: Consumer) -> u64
+fn end<K>(ring: PlainRing<K>, producer: Producer, consumer: Consumer) -> u64
     requires producer { IsProducerOf ring producer }
     requires consumer { IsConsumerOf ring consumer }
     requires ready { close_refusal (view_of producer) ≡ None }

@@ -7,7 +7,7 @@ use crate::code::{DONE, NO_MESSAGE};
 use crate::copying::Copying;
 use crate::identity::Identity;
 use crate::ring::{AnyRing, on_ring};
-use ring_rings::{Consumer, Producer, Ring, Stop};
+use ring_rings::{Consumer, PlainRing, Producer, Stop};
 use std::marker::Model;
 
 /// A consumer, with the ring that it reads.
@@ -42,7 +42,7 @@ impl Model for ConsumerSide {
 }
 
 /// Reads up to one message, as far as the end of the ring's buffer, and reports why it stopped.
-fn take_one<K>(ring: &Ring<K>, consumer: &mut Consumer, copying: &mut Copying<'_>) -> Stop
+fn take_one<K>(ring: &PlainRing<K>, consumer: &mut Consumer, copying: &mut Copying<'_>) -> Stop
     requires consumer { IsConsumerOf ring.now consumer.old }
     requires waits { copying.old.code ≡ pos 105 }
     ensures consumer { IsConsumerOf ring.now consumer.new }
@@ -57,7 +57,7 @@ fn take_one<K>(ring: &Ring<K>, consumer: &mut Consumer, copying: &mut Copying<'_
 
 /// Reads up to one message into a buffer, and reports its type id and length, and why it stopped.
 fn read_into<K>(
-    ring: &Ring<K>,
+    ring: &PlainRing<K>,
     consumer: &mut Consumer,
     type_id: &mut i32,
     len: &mut usize,

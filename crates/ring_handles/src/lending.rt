@@ -5,7 +5,7 @@ ghost use Rattle.ring_handles.specs.Serving.{board_in, conductor_of, values_in, 
 use crate::identity::Identity;
 use ring_board::Board;
 use ring_counters::CounterValues;
-use ring_rings::ManyToOneRing;
+use ring_rings::PlainManyToOneRing;
 use std::sync::Arc;
 
 /// What the handles of one conductor share: the ring of its commands, the broadcast buffer of its replies, and the
@@ -14,7 +14,7 @@ use std::sync::Arc;
 pub struct Shared {
     /// The conductor's.
     pub(crate) identity: Identity,
-    pub(crate) ring: ManyToOneRing,
+    pub(crate) ring: PlainManyToOneRing,
     pub(crate) board: Board,
     pub(crate) values: CounterValues,
 }

@@ -21,7 +21,7 @@ use crate::producer::ProducerSide;
 use crate::ring::AnyRing;
 use ring_board::Board;
 use ring_counters::CountersManager;
-use ring_rings::{Consumer, ManyToOneRing, OneToOneRing, Producer};
+use ring_rings::{Consumer, PlainManyToOneRing, PlainOneToOneRing, Producer};
 use std::alloc::Global;
 use std::sync::Arc;
 
@@ -102,7 +102,7 @@ pub fn open_many_to_one(
     ensures code { MatchResult result (λ _. IsMakeCode capacity start (pos 0))
         (λ code. IsMakeCode capacity start code × (code ≢ pos 0)) }
 {
-    let (ring, producer, consumer) = match ManyToOneRing::new_at(alloc, capacity, start) {
+    let (ring, producer, consumer) = match PlainManyToOneRing::new_at(alloc, capacity, start) {
         Ok(made) => made,
         Err(fault) => return Err(fault.code()),
     };
@@ -123,7 +123,7 @@ pub fn open_one_to_one(
     ensures code { MatchResult result (λ _. IsMakeCode capacity start (pos 0))
         (λ code. IsMakeCode capacity start code × (code ≢ pos 0)) }
 {
-    let (ring, producer, consumer) = match OneToOneRing::new_at(alloc, capacity, start) {
+    let (ring, producer, consumer) = match PlainOneToOneRing::new_at(alloc, capacity, start) {
         Ok(made) => made,
         Err(fault) => return Err(fault.code()),
     };

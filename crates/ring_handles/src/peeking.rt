@@ -8,7 +8,7 @@ use crate::code::{DONE, NO_MESSAGE, SHORT_BUFFER};
 use crate::consumer::ConsumerSide;
 use crate::copying::copy_at;
 use crate::ring::on_ring;
-use ring_rings::{Action, Consumer, Handler, Ring, Stop};
+use ring_rings::{Action, Consumer, Handler, PlainRing, Stop};
 
 /// Copies one message, if the buffer has room for it, and leaves it in the ring.
 #[derive(Drop)]
@@ -51,7 +51,7 @@ impl Handler for Taking {
 }
 
 /// Copies up to one message, as far as the end of the ring's buffer, and reports why it stopped.
-fn peek_one<K>(ring: &Ring<K>, consumer: &mut Consumer, peeking: &mut Peeking<'_>) -> Stop
+fn peek_one<K>(ring: &PlainRing<K>, consumer: &mut Consumer, peeking: &mut Peeking<'_>) -> Stop
     requires consumer { IsConsumerOf ring.now consumer.old }
     requires waits { peeking.old.code ≡ pos 105 }
     ensures consumer { IsConsumerOf ring.now consumer.new }
@@ -67,7 +67,7 @@ fn peek_one<K>(ring: &Ring<K>, consumer: &mut Consumer, peeking: &mut Peeking<'_
 
 /// Copies up to one message into a buffer, and reports its type id and length, and why it stopped.
 fn peek_into<K>(
-    ring: &Ring<K>,
+    ring: &PlainRing<K>,
     consumer: &mut Consumer,
     type_id: &mut i32,
     len: &mut usize,
@@ -92,7 +92,7 @@ fn peek_into<K>(
 }
 
 /// Takes up to one message, as far as the end of the ring's buffer, and reports why it stopped.
-fn take_next<K>(ring: &Ring<K>, consumer: &mut Consumer, taking: &mut Taking) -> Stop
+fn take_next<K>(ring: &PlainRing<K>, consumer: &mut Consumer, taking: &mut Taking) -> Stop
     requires consumer { IsConsumerOf ring.now consumer.old }
     requires waits { taking.old.code ≡ pos 105 }
     ensures consumer { IsConsumerOf ring.now consumer.new }
@@ -104,7 +104,7 @@ fn take_next<K>(ring: &Ring<K>, consumer: &mut Consumer, taking: &mut Taking) ->
 }
 
 /// The same, and returns its code.
-fn take_from<K>(ring: &Ring<K>, consumer: &mut Consumer) -> (i32, Stop)
+fn take_from<K>(ring: &PlainRing<K>, consumer: &mut Consumer) -> (i32, Stop)
     requires { IsConsumerOf ring.now consumer.old }
     ensures consumer { IsConsumerOf ring.now consumer.new }
     ensures reads { ReadsOn (consumer_view consumer.old) (consumer_view consumer.new) }

@@ -13,7 +13,7 @@ use crate::identity::Identity;
 use crate::open_claims::OpenClaims;
 use crate::ring::{AnyRing, on_ring};
 use ring_layout::ClaimState;
-use ring_rings::{Kind, Producer, Ring};
+use ring_rings::{Kind, PlainRing, Producer};
 use std::alloc::Global;
 use std::marker::Model;
 use std::sync::Arc;
@@ -41,7 +41,7 @@ impl Model for ProducerSide {
 }
 
 /// Writes a message into a ring, by one try.
-fn write_in<K: Kind>(ring: &Ring<K>, producer: &mut Producer, type_id: i32, body: &[u8]) -> i32
+fn write_in<K: Kind>(ring: &PlainRing<K>, producer: &mut Producer, type_id: i32, body: &[u8]) -> i32
     requires producer { IsProducerOf ring.now producer.old }
     requires sole { MayClaim K.is_for_one producer.old }
     ensures producer { IsProducerOf ring.now producer.new }

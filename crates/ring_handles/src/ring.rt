@@ -2,16 +2,16 @@
 ghost use Rattle.std.specs.Prelude.{◌≡◌, ◌≢◌, false, true};
 ghost use Rattle.ring_handles.specs.Side.{is_many};
 
-use ring_rings::{ManyToOneRing, OneToOneRing};
+use ring_rings::{PlainManyToOneRing, PlainOneToOneRing};
 use std::sync::Arc;
 
 /// A ring that handles share.
 #[derive(Drop)]
 pub enum AnyRing {
     /// Any number of producers write it.
-    Many(Arc<ManyToOneRing>),
+    Many(Arc<PlainManyToOneRing>),
     /// One producer writes it.
-    One(Arc<OneToOneRing>),
+    One(Arc<PlainOneToOneRing>),
 }
 
 impl AnyRing {

@@ -5,7 +5,7 @@ ghost use Rattle.std.specs.Prelude.{◌≡◌};
 ghost use Rattle.ring_rings.specs.Seats.{all_shares, shares_of, IsConsumerOf, IsProducerOf};
 
 use crossbeam_utils::Backoff;
-use ring_rings::{Action, ClaimFault, Consumer, Handler, OneToOneRing, Producer};
+use ring_rings::{Action, ClaimFault, Consumer, Handler, PlainOneToOneRing, Producer};
 use std::sync::Wait;
 use std::thread::join;
 
@@ -36,7 +36,7 @@ impl Handler for Sum {
 }
 
 /// Writes all numbers, and waits while the ring is full. The producer comes back, so that the ring can be closed.
-fn write_numbers<R: Wait>(rt: &R, ring: &OneToOneRing, mut producer: Producer) -> Producer
+fn write_numbers<R: Wait>(rt: &R, ring: &PlainOneToOneRing, mut producer: Producer) -> Producer
     // The producer is one of this ring, and the only one.
     requires producer { IsProducerOf ring.now producer }
     requires sole { shares_of producer ≡ all_shares }
@@ -62,7 +62,11 @@ fn write_numbers<R: Wait>(rt: &R, ring: &OneToOneRing, mut producer: Producer) -
 }
 
 /// Reads until all numbers have come.
-fn read_numbers<R: Wait>(rt: &R, ring: &OneToOneRing, mut consumer: Consumer) -> (Consumer, Sum)
+fn read_numbers<R: Wait>(
+    rt: &R,
+    ring: &PlainOneToOneRing,
+    mut consumer: Consumer,
+) -> (Consumer, Sum)
     requires { IsConsumerOf ring.now consumer }
     ensures { IsConsumerOf ring.now result.0 }
 {
@@ -84,7 +88,7 @@ fn read_numbers<R: Wait>(rt: &R, ring: &OneToOneRing, mut consumer: Consumer) ->
 }
 
 fn main(rt: HostRuntime) -> anyhow::Result<()> {
-    let (ring, producer, consumer) = OneToOneRing::new(rt.alloc(), 128)?;
+    let (ring, producer, consumer) = PlainOneToOneRing::new(rt.alloc(), 128)?;
     let (shared, rt_of_both) = (&ring, &rt);
     let (producer, (consumer, sum)) = join(
         &rt,

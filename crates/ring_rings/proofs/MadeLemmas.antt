@@ -168,7 +168,7 @@ module _ {C tail : ℕ} {type_id : ℤ} {len : ℕ} {front : List (ℕ × ℕ)} 
             ∙ ap staged_span (sym is.is);
       })
 
-  -- once its header and its body are stored, it is the record behind the tail
+  -- once its header and its body are stored, it is the record after the tail
   pub moved_recorded : (body : List ℕ) → length body ≡ len → (u : View)
       → u ≡ with_claims (v.producer.claims ++ recorded type_id body m.claim ∷ []) w
       → u ≡ with_claims (v.producer.claims ++ record_behind C tail type_id body ∷ []) w

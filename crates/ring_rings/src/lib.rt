@@ -26,7 +26,8 @@ pub use claim::Claim;
 pub use fault::{CloseFault, TryFault};
 pub use kind::Kind;
 pub use ring::{
-    CloseRefused, Consumer, ManyToOne, ManyToOneRing, OneToOne, OneToOneRing, Producer, Ring,
+    CloseRefused, Consumer, ManyToOne, ManyToOneRing, OneToOne, OneToOneRing, PlainManyToOneRing,
+    PlainOneToOneRing, PlainRing, Producer, Ring,
 };
 pub use ring_layout::{MakeFault, NoShares};
 pub use ring_table::{RingTable, SlotTable};

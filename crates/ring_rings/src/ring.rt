@@ -6,7 +6,7 @@ ghost use Rattle.ring_rings.specs.Matching.{Matches, matches_prop};
 
 use crate::fault::CloseFault;
 use crate::steps::Steps;
-use ring_table::{RingSeat, RingTable};
+use ring_table::{RingSeat, RingTable, SlotTable};
 use std::marker::PhantomData;
 
 /// The kind of a ring that one producer writes.
@@ -16,7 +16,8 @@ pub struct OneToOne;
 pub struct ManyToOne;
 
 /// A ring of messages between threads, shared by reference. It has one consumer, and producers as its kind says. `B` is
-/// its table, which says where the bodies of messages lie: in atomic words in a `RingTable`.
+/// its table, which says where the bodies of messages lie: in atomic words in a `RingTable`, in plain memory in a
+/// `SlotTable`. The calls and what they do are the same.
 #[derive(Drop)]
 pub struct Ring<K, B: Steps = RingTable> {
     pub(crate) table: B,
@@ -31,10 +32,27 @@ pub struct Ring<K, B: Steps = RingTable> {
 }
 
 /// A ring with one producer, which moves the tail by a store.
+///
+/// Its memory has the format of a ring at all times, bodies included. So a body costs an atomic step for each eight
+/// bytes, and one more to clear them. Take it if something else reads the memory by the format, and otherwise a
+/// `PlainOneToOneRing`.
 pub type OneToOneRing = Ring<OneToOne>;
 
-/// A ring with any number of producers, which move the tail by a compare-exchange.
+/// A ring with any number of producers, which move the tail by a compare-exchange. Its memory is that of a
+/// `OneToOneRing`.
 pub type ManyToOneRing = Ring<ManyToOne>;
+
+/// A ring whose bodies lie in plain memory, which one thread at a time reads and writes.
+pub type PlainRing<K> = Ring<K, SlotTable>;
+
+/// A ring with one producer whose bodies lie in plain memory.
+///
+/// It has the calls of a `OneToOneRing`, and a body costs about what copying it costs. It takes the memory of its buffer
+/// once more, since headers and bodies lie apart, and has the format of a ring only once it is closed.
+pub type PlainOneToOneRing = PlainRing<OneToOne>;
+
+/// A ring with any number of producers whose bodies lie in plain memory, as in a `PlainOneToOneRing`.
+pub type PlainManyToOneRing = PlainRing<ManyToOne>;
 
 /// Writes into a ring. It is used by one thread at a time, and may move between threads.
 ///

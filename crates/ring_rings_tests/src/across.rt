@@ -4,7 +4,9 @@ use crate::bench::Said::{self, At, Done};
 use crate::bench::{Call, opened};
 use crate::play::{PLAY, Play, plays};
 use crate::script::Script;
-use ring_rings::{Action, ManyToOne, Standing, Stop};
+use ring_rings::{Action, ManyToOne, RingTable, SlotTable, Standing, Steps, Stop};
+use std::alloc::Global;
+use std::process::Abort;
 
 const WRITE: (Call<'static>, Said) = (Write(1, &[0; 16]), Done);
 
@@ -109,18 +111,24 @@ fn break_leaves_the_padding_behind_the_message(rt: HostRuntime) {
     plays(&rt, rt.alloc(), &[&BROKEN]);
 }
 
-#[test]
-fn positions_around_a_read_tell_empty_from_moving(rt: HostRuntime) {
-    let (ring, mut producer, mut consumer) = opened::<ManyToOne>(&rt, rt.alloc(), 0);
+/// What positions around a read tell: of an empty ring, and of one into which a message comes after the read.
+fn standings<B: Steps + Drop>(rt: &impl Abort, alloc: Global) -> [Standing; 2] {
+    let (ring, mut producer, mut consumer) = opened::<ManyToOne, B>(rt, alloc, 0);
     let mut count = Script::new(&[], &[(1, &[0; 8])]);
     let before = ring.positions(&mut producer);
-    let read = ring.read(&mut consumer, 9, &mut count);
+    let empty = ring.read(&mut consumer, 9, &mut count);
     let after = ring.positions(&mut producer);
-    assert_eq!(rt; read.standing(before, after), Standing::Empty);
     ring.write_once(&mut producer, 1, &[0; 8])
-        .expect(&rt, "room");
-    let read = ring.read(&mut consumer, 9, &mut count);
+        .expect(rt, "room");
+    let moving = ring.read(&mut consumer, 9, &mut count);
     let later = ring.positions(&mut producer);
-    assert_eq!(rt; read.standing(after, later), Standing::Moving);
     assert!(rt; count.is_done());
+    [empty.standing(before, after), moving.standing(after, later)]
+}
+
+#[test]
+fn positions_around_a_read_tell_empty_from_moving(rt: HostRuntime) {
+    let words = standings::<RingTable>(&rt, rt.alloc());
+    let slots = standings::<SlotTable>(&rt, rt.alloc());
+    assert_eq!(rt; [words, slots], [[Standing::Empty, Standing::Moving]; 2]);
 }

@@ -1,10 +1,11 @@
-//! A ring of either kind with its sole producer and its consumer.
+//! A ring of either kind and over either table with its sole producer and its consumer.
 ghost use Rattle.std.specs.Prelude.{◌≡◌};
 ghost use Rattle.ring_rings.specs.Seats.{all_shares, shares_of, IsConsumerOf, IsOpenClaimOf, IsProducerOf};
 
 use crate::script::Script;
 use ring_rings::{
-    Claim, ClaimFault, Consumer, Kind, Positions, Producer, ReadEnd, Ring, Stop, TryFault,
+    Claim, ClaimFault, Closes, Consumer, Kind, Positions, Producer, ReadEnd, Ring, Steps, Stop,
+    TryFault,
 };
 use ring_words::SoloRing;
 use std::alloc::Global;
@@ -50,8 +51,8 @@ pub enum Said {
 
 /// A ring with all its seats on which the ring's calls are made with them.
 #[derive(Drop)]
-pub struct Bench<K> {
-    pub ring: Ring<K>,
+pub struct Bench<K, B: Steps> {
+    pub ring: Ring<K, B>,
     pub producer: Producer,
     pub consumer: Consumer,
     ghost writes: { IsProducerOf ring producer },
@@ -60,7 +61,12 @@ pub struct Bench<K> {
 }
 
 /// Puts bytes into a claim, and tests whether those fit that should, and no others.
-fn fill<K>(ring: &Ring<K>, producer: &mut Producer, claim: &mut Claim, fills: &[Fill<'_>]) -> bool
+fn fill<K, B: Steps>(
+    ring: &Ring<K, B>,
+    producer: &mut Producer,
+    claim: &mut Claim,
+    fills: &[Fill<'_>],
+) -> bool
     requires producer { IsProducerOf ring.now producer.old }
     requires sole { shares_of producer.old ≡ all_shares }
     requires claim { IsOpenClaimOf ring.now producer.old claim.old }
@@ -87,7 +93,11 @@ fn read(end: ReadEnd) -> Said {
 }
 
 /// A ring of 128 bytes with its seats, which begins at this position.
-pub fn opened<K>(rt: &impl Abort, alloc: Global, start: u64) -> (Ring<K>, Producer, Consumer)
+pub fn opened<K, B: Steps>(
+    rt: &impl Abort,
+    alloc: Global,
+    start: u64,
+) -> (Ring<K, B>, Producer, Consumer)
     ensures producer { IsProducerOf result.0 result.1 }
     ensures sole { shares_of result.1 ≡ all_shares }
     ensures consumer { IsConsumerOf result.0 result.2 }
@@ -95,7 +105,7 @@ pub fn opened<K>(rt: &impl Abort, alloc: Global, start: u64) -> (Ring<K>, Produc
     Ring::new_at(alloc, 128, start).expect(rt, "a ring")
 }
 
-impl<K: Kind> Bench<K> {
+impl<K: Kind, B: Closes + Drop> Bench<K, B> {
     /// A ring of 128 bytes that begins at this position.
     pub fn new(rt: &impl Abort, alloc: Global, start: u64) -> Self {
         let (ring, producer, consumer) = opened(rt, alloc, start);

@@ -6,7 +6,9 @@ use crate::bench::Said::{self, Done, Made};
 use crate::bench::{Fill, opened};
 use crate::play::{PLAY, Play, plays};
 use crate::script::{BODY, Message, Script, end};
-use ring_rings::{Claim, Kind, ManyToOne, OneToOne, Producer, ReadEnd, Ring, Stop};
+use ring_rings::{
+    Claim, Kind, ManyToOne, OneToOne, Producer, ReadEnd, Ring, RingTable, SlotTable, Steps, Stop,
+};
 use std::alloc::Global;
 use std::process;
 
@@ -21,9 +23,9 @@ const OUTSIDE: [Fill<'static>; 3] = [
 ];
 
 /// Claims room in a ring that has some.
-pub fn claimed<K: Kind>(
+pub fn claimed<K: Kind, B: Steps>(
     rt: &impl process::Abort,
-    ring: &Ring<K>,
+    ring: &Ring<K, B>,
     producer: &mut Producer,
     type_id: i32,
     len: usize,
@@ -39,53 +41,63 @@ pub fn claimed<K: Kind>(
 
 /// Place and index of the second of two claims, and what is read when it was committed, and then when the first one
 /// was.
-fn settles_the_second_first<K: Kind>(
+fn settles_the_second_first<K: Kind, B: Steps + Drop>(
     rt: &impl process::Abort,
     alloc: Global,
-    script: &mut Script<'_>,
 ) -> ((u64, u32), [ReadEnd; 2]) {
-    let (ring, mut producer, mut consumer) = opened::<K>(rt, alloc, 0);
+    let mut script = Script::new(&[], &[(1, &[]), (2, &[])]);
+    let (ring, mut producer, mut consumer) = opened::<K, B>(rt, alloc, 0);
     let first = claimed(rt, &ring, &mut producer, 1, 0);
     let second = claimed(rt, &ring, &mut producer, 2, 0);
     let lies = (second.place(), second.index());
     ring.commit(&mut producer, second);
-    let before = ring.read(&mut consumer, 9, script);
+    let before = ring.read(&mut consumer, 9, &mut script);
     ring.commit(&mut producer, first);
-    (lies, [before, ring.read(&mut consumer, 9, script)])
+    let after = ring.read(&mut consumer, 9, &mut script);
+    assert!(rt; script.is_done());
+    (lies, [before, after])
 }
 
 #[test]
 fn claims_are_settled_in_any_order(rt: HostRuntime) {
-    let mut script = Script::new(&[], &[(1, &[]), (2, &[]), (1, &[]), (2, &[])]);
-    let none = end(0, 0, Stop::Unpublished);
-    let both = end(2, 16, Stop::Unpublished);
-    let one = settles_the_second_first::<OneToOne>(&rt, rt.alloc(), &mut script);
-    let many = settles_the_second_first::<ManyToOne>(&rt, rt.alloc(), &mut script);
-    assert_eq!(rt; [one, many], [((8, 16), [none, both]); 2]);
-    assert!(rt; script.is_done());
+    let (rt, alloc) = (&rt, rt.alloc());
+    let want = (
+        (8, 16),
+        [end(0, 0, Stop::Unpublished), end(2, 16, Stop::Unpublished)],
+    );
+    let all = [
+        settles_the_second_first::<OneToOne, RingTable>(rt, alloc),
+        settles_the_second_first::<OneToOne, SlotTable>(rt, alloc),
+        settles_the_second_first::<ManyToOne, RingTable>(rt, alloc),
+        settles_the_second_first::<ManyToOne, SlotTable>(rt, alloc),
+    ];
+    assert_eq!(rt; all, [want; 4]);
 }
 
 /// What is read when the first of two claims was aborted, and the second one committed.
-fn aborts_the_first<K: Kind>(
-    rt: &impl process::Abort,
-    alloc: Global,
-    script: &mut Script<'_>,
-) -> ReadEnd {
-    let (ring, mut producer, mut consumer) = opened::<K>(rt, alloc, 0);
+fn aborts_the_first<K: Kind, B: Steps + Drop>(rt: &impl process::Abort, alloc: Global) -> ReadEnd {
+    let mut script = Script::new(&[], &[(2, &[])]);
+    let (ring, mut producer, mut consumer) = opened::<K, B>(rt, alloc, 0);
     let first = claimed(rt, &ring, &mut producer, 1, 0);
     let second = claimed(rt, &ring, &mut producer, 2, 0);
     ring.abort(&mut producer, first);
     ring.commit(&mut producer, second);
-    ring.read(&mut consumer, 9, script)
+    let read = ring.read(&mut consumer, 9, &mut script);
+    assert!(rt; script.is_done());
+    read
 }
 
 #[test]
 fn passes_an_aborted_claim(rt: HostRuntime) {
-    let mut script = Script::new(&[], &[(2, &[]), (2, &[])]);
-    let one = aborts_the_first::<OneToOne>(&rt, rt.alloc(), &mut script);
-    let many = aborts_the_first::<ManyToOne>(&rt, rt.alloc(), &mut script);
-    assert_eq!(rt; [one, many], [end(1, 16, Stop::Unpublished); 2]);
-    assert!(rt; script.is_done());
+    let (rt, alloc) = (&rt, rt.alloc());
+    let want = end(1, 16, Stop::Unpublished);
+    let all = [
+        aborts_the_first::<OneToOne, RingTable>(rt, alloc),
+        aborts_the_first::<OneToOne, SlotTable>(rt, alloc),
+        aborts_the_first::<ManyToOne, RingTable>(rt, alloc),
+        aborts_the_first::<ManyToOne, SlotTable>(rt, alloc),
+    ];
+    assert_eq!(rt; all, [want; 4]);
 }
 
 static INSIDE: Play<'static> = Play {
@@ -133,12 +145,14 @@ fn puts_bytes_into_a_claim(rt: HostRuntime) {
 
 /// What other calls answer while a claim is open, and what reads find before it is filled, before it is committed, and
 /// then: the number of open claims, a tail, an id, a heartbeat, and the messages of each read.
-fn others_and_reads<K: Kind>(
+fn others_and_reads<K: Kind, B: Steps + Drop>(
     rt: &impl process::Abort,
     alloc: Global,
-    script: &mut Script<'_>,
 ) -> ([u64; 4], [ReadEnd; 3]) {
-    let (ring, mut producer, mut consumer) = opened::<K>(rt, alloc, 0);
+    let eight = [0, 1, 2, 3, 4, 5, 6, 7];
+    let shown: [Message<'_>; 1] = [(1, &eight)];
+    let mut script = Script::new(&[], &shown);
+    let (ring, mut producer, mut consumer) = opened::<K, B>(rt, alloc, 0);
     let mut claim = claimed(rt, &ring, &mut producer, 1, 8);
     let others = [
         producer.open_claims(),
@@ -146,24 +160,26 @@ fn others_and_reads<K: Kind>(
         ring.next_correlation_id(&mut producer),
         ring.heartbeat(&mut producer),
     ];
-    let empty = ring.read(&mut consumer, 9, script);
-    ring.put(&mut producer, &mut claim, 0, &[0, 1, 2, 3, 4, 5, 6, 7])
+    let empty = ring.read(&mut consumer, 9, &mut script);
+    ring.put(&mut producer, &mut claim, 0, &eight)
         .expect(rt, "room");
-    let filled = ring.read(&mut consumer, 9, script);
+    let filled = ring.read(&mut consumer, 9, &mut script);
     ring.commit(&mut producer, claim);
-    let committed = ring.read(&mut consumer, 9, script);
+    let committed = ring.read(&mut consumer, 9, &mut script);
+    assert!(rt; script.is_done());
     (others, [empty, filled, committed])
 }
 
 #[test]
 fn a_claim_is_shown_when_it_is_committed(rt: HostRuntime) {
-    let eight = [0, 1, 2, 3, 4, 5, 6, 7];
-    let shown: [Message<'_>; 2] = [(1, &eight), (1, &eight)];
-    let mut script = Script::new(&[], &shown);
+    let (rt, alloc) = (&rt, rt.alloc());
     let none = end(0, 0, Stop::Unpublished);
-    let reads = [none, none, end(1, 16, Stop::Unpublished)];
-    let one = others_and_reads::<OneToOne>(&rt, rt.alloc(), &mut script);
-    let many = others_and_reads::<ManyToOne>(&rt, rt.alloc(), &mut script);
-    assert_eq!(rt; [one, many], [([1, 16, 0, 0], reads); 2]);
-    assert!(rt; script.is_done());
+    let want = ([1, 16, 0, 0], [none, none, end(1, 16, Stop::Unpublished)]);
+    let all = [
+        others_and_reads::<OneToOne, RingTable>(rt, alloc),
+        others_and_reads::<OneToOne, SlotTable>(rt, alloc),
+        others_and_reads::<ManyToOne, RingTable>(rt, alloc),
+        others_and_reads::<ManyToOne, SlotTable>(rt, alloc),
+    ];
+    assert_eq!(rt; all, [want; 4]);
 }

@@ -8,20 +8,20 @@ use crate::claims::claimed;
 use crate::play::{PLAY, Play, plays};
 use crate::script::{Script, end};
 use ring_rings::{
-    Action, ClaimFault, CloseFault, CloseRefused, Consumer, Kind, ManyToOne, ManyToOneRing,
-    NoShares, OneToOne, Producer, ReadEnd, Ring, Stop, TryFault,
+    Action, ClaimFault, CloseFault, CloseRefused, Closes, Consumer, Kind, ManyToOne, NoShares,
+    OneToOne, Producer, ReadEnd, Ring, RingTable, SlotTable, Steps, Stop, TryFault,
 };
 use std::alloc::Global;
 use std::process;
 
 /// All of a ring that does not close, for this reason.
-fn refused<K>(
+fn refused<K, B: Closes + Drop>(
     rt: &impl process::Abort,
-    ring: Ring<K>,
+    ring: Ring<K, B>,
     producer: Producer,
     consumer: Consumer,
     reason: CloseFault,
-) -> CloseRefused<Ring<K>>
+) -> CloseRefused<Ring<K, B>>
     requires producer { IsProducerOf ring producer }
     requires consumer { IsConsumerOf ring consumer }
     ensures ring { result.ring ≡ ring }
@@ -34,13 +34,13 @@ fn refused<K>(
 }
 
 /// What is left of a ring that does not close while a claim is open, and does when that is settled.
-fn closed_late<K: Kind>(
+fn closed_late<K: Kind, B: Closes + Drop>(
     rt: &impl process::Abort,
     alloc: Global,
     commits: bool,
     script: &mut Script<'_>,
 ) -> ReadEnd {
-    let (ring, mut producer, consumer) = opened::<K>(rt, alloc, 0);
+    let (ring, mut producer, consumer) = opened::<K, B>(rt, alloc, 0);
     let claim = claimed(rt, &ring, &mut producer, 1, 0);
     let open = CloseFault::ClaimsOpen { claims: 1 };
     let back = refused(rt, ring, producer, consumer, open);
@@ -56,11 +56,16 @@ fn closed_late<K: Kind>(
 
 #[test]
 fn closes_when_a_claim_is_settled(rt: HostRuntime) {
-    let mut script = Script::new(&[], &[(1, &[]), (1, &[])]);
+    let (rt, alloc) = (&rt, rt.alloc());
+    let mut script = Script::new(&[], &[(1, &[]), (1, &[]), (1, &[]), (1, &[])]);
     for (commits, messages) in [(true, 1), (false, 0)] {
-        let one = closed_late::<OneToOne>(&rt, rt.alloc(), commits, &mut script);
-        let many = closed_late::<ManyToOne>(&rt, rt.alloc(), commits, &mut script);
-        assert_eq!(rt; [one, many], [end(messages, 8, Stop::Unpublished); 2]);
+        let all = [
+            closed_late::<OneToOne, RingTable>(rt, alloc, commits, &mut script),
+            closed_late::<OneToOne, SlotTable>(rt, alloc, commits, &mut script),
+            closed_late::<ManyToOne, RingTable>(rt, alloc, commits, &mut script),
+            closed_late::<ManyToOne, SlotTable>(rt, alloc, commits, &mut script),
+        ];
+        assert_eq!(rt; all, [end(messages, 8, Stop::Unpublished); 4]);
     }
     assert!(rt; script.is_done());
 }
@@ -172,46 +177,66 @@ fn leaves_these_words(rt: HostRuntime) {
     plays(&rt, rt.alloc(), &[&CACHED, &LEFT, &ZERO_WORD, &ABORTED]);
 }
 
-/// Shares are counted by producers.
-#[test]
-fn a_producer_of_one_share_does_not_split(rt: HostRuntime) {
-    let (ring, mut first, _consumer) = opened::<ManyToOne>(&rt, rt.alloc(), 0);
+/// Shares are counted by producers, and one share is not split.
+fn counts_shares<B: Steps + Drop>(rt: &impl process::Abort, alloc: Global) {
+    let (ring, mut first, _consumer) = opened::<ManyToOne, B>(rt, alloc, 0);
     assert_eq!(rt; first.shares(), 65536);
-    let mut second = ring.split(&mut first).expect(&rt, "a producer");
+    let mut second = ring.split(&mut first).expect(rt, "a producer");
     assert_eq!(rt; (first.shares(), second.shares()), (65535, 1));
     assert_eq!(rt; ring.split(&mut second).err(), Some(NoShares));
 }
 
-/// Claims are tested before shares.
 #[test]
-fn closes_when_all_shares_are_back(rt: HostRuntime) {
-    let (ring, mut first, consumer) = opened::<ManyToOne>(&rt, rt.alloc(), 0);
-    let second = ring.split(&mut first).expect(&rt, "a producer");
-    let claim = claimed(&rt, &ring, &mut first, 1, 0);
+fn a_producer_of_one_share_does_not_split(rt: HostRuntime) {
+    counts_shares::<RingTable>(&rt, rt.alloc());
+    counts_shares::<SlotTable>(&rt, rt.alloc());
+}
+
+/// Claims are tested before shares.
+fn closes_last<B: Closes + Drop>(rt: &impl process::Abort, alloc: Global) {
+    let (ring, mut first, consumer) = opened::<ManyToOne, B>(rt, alloc, 0);
+    let second = ring.split(&mut first).expect(rt, "a producer");
+    let claim = claimed(rt, &ring, &mut first, 1, 0);
     let open = CloseFault::ClaimsOpen { claims: 1 };
-    let mut back = refused(&rt, ring, first, consumer, open);
+    let mut back = refused(rt, ring, first, consumer, open);
     back.ring.abort(&mut back.producer, claim);
     let out = CloseFault::ProducersOut { shares: 1 };
-    let mut back = refused(&rt, back.ring, back.producer, back.consumer, out);
+    let mut back = refused(rt, back.ring, back.producer, back.consumer, out);
     back.ring.join(&mut back.producer, second);
     assert_eq!(rt; back.producer.shares(), 65536);
     assert!(rt; back.ring.close(back.producer, back.consumer).is_ok());
 }
 
 #[test]
-fn splits_until_one_share_is_left(rt: HostRuntime) {
-    let (ring, mut first, consumer) = opened::<ManyToOne>(&rt, rt.alloc(), 0);
+fn closes_when_all_shares_are_back(rt: HostRuntime) {
+    closes_last::<RingTable>(&rt, rt.alloc());
+    closes_last::<SlotTable>(&rt, rt.alloc());
+}
+
+fn splits_all<B: Closes + Drop>(rt: &impl process::Abort, alloc: Global) {
+    let (ring, mut first, consumer) = opened::<ManyToOne, B>(rt, alloc, 0);
     for _ in 0..65535 {
         assert!(rt; ring.split(&mut first).is_ok());
     }
     assert_eq!(rt; first.shares(), 1);
     assert_eq!(rt; ring.split(&mut first).err(), Some(NoShares));
     let out = CloseFault::ProducersOut { shares: 65535 };
-    refused(&rt, ring, first, consumer, out);
+    refused(rt, ring, first, consumer, out);
+}
+
+#[test]
+fn splits_until_one_share_is_left(rt: HostRuntime) {
+    splits_all::<RingTable>(&rt, rt.alloc());
+    splits_all::<SlotTable>(&rt, rt.alloc());
 }
 
 /// Writes empty messages until the ring is full, which holds this many, and tests that no more are written.
-pub fn fill_up(rt: &impl process::Abort, ring: &ManyToOneRing, producer: &mut Producer, count: u32)
+pub fn fill_up<B: Steps>(
+    rt: &impl process::Abort,
+    ring: &Ring<ManyToOne, B>,
+    producer: &mut Producer,
+    count: u32,
+)
     requires { IsProducerOf ring.now producer.old }
     ensures { IsProducerOf ring.now producer.new }
 {
@@ -222,15 +247,21 @@ pub fn fill_up(rt: &impl process::Abort, ring: &ManyToOneRing, producer: &mut Pr
     assert_eq!(rt; ring.write_once(producer, 1, &[]), Err(full));
 }
 
-#[test]
-fn a_lost_producer_keeps_the_ring_open(rt: HostRuntime) {
-    let (ring, mut first, mut consumer) = opened::<ManyToOne>(&rt, rt.alloc(), 0);
-    let mut second = ring.split(&mut first).expect(&rt, "a producer");
-    let _kept_aside = claimed(&rt, &ring, &mut second, 1, 0);
-    fill_up(&rt, &ring, &mut first, 15);
+/// A producer is lost with a claim of its own.
+fn loses_a_producer<B: Closes + Drop>(rt: &impl process::Abort, alloc: Global) {
+    let (ring, mut first, mut consumer) = opened::<ManyToOne, B>(rt, alloc, 0);
+    let mut second = ring.split(&mut first).expect(rt, "a producer");
+    let _kept_aside = claimed(rt, &ring, &mut second, 1, 0);
+    fill_up(rt, &ring, &mut first, 15);
     let read = ring.read(&mut consumer, 9, &mut Script::new(&[], &[]));
     assert_eq!(rt; read, end(0, 0, Stop::Unpublished));
     let out = CloseFault::ProducersOut { shares: 1 };
-    let back = refused(&rt, ring, first, consumer, out);
-    refused(&rt, back.ring, back.producer, back.consumer, out);
+    let back = refused(rt, ring, first, consumer, out);
+    refused(rt, back.ring, back.producer, back.consumer, out);
+}
+
+#[test]
+fn a_lost_producer_keeps_the_ring_open(rt: HostRuntime) {
+    loses_a_producer::<RingTable>(&rt, rt.alloc());
+    loses_a_producer::<SlotTable>(&rt, rt.alloc());
 }

@@ -2,14 +2,16 @@
 use crate::bench::opened;
 use crate::claims::claimed;
 use crate::script::{Script, end};
-use ring_rings::{ManyToOne, Stop};
+use ring_rings::{ManyToOne, RingTable, SlotTable, Steps, Stop};
+use std::alloc::Global;
+use std::process::Abort;
 
-#[test]
-fn open_claims_of_both_are_settled_after_a_join(rt: HostRuntime) {
-    let (ring, mut one, mut consumer) = opened::<ManyToOne>(&rt, rt.alloc(), 0);
-    let mut two = ring.split(&mut one).expect(&rt, "a producer");
-    let first = claimed(&rt, &ring, &mut one, 1, 8);
-    let second = claimed(&rt, &ring, &mut two, 2, 8);
+/// Two producers are joined, each with an open claim, and then both claims are settled.
+fn joins_with_claims<B: Steps + Drop>(rt: &impl Abort, alloc: Global) {
+    let (ring, mut one, mut consumer) = opened::<ManyToOne, B>(rt, alloc, 0);
+    let mut two = ring.split(&mut one).expect(rt, "a producer");
+    let first = claimed(rt, &ring, &mut one, 1, 8);
+    let second = claimed(rt, &ring, &mut two, 2, 8);
     let alone = one.open_claims();
     ring.join(&mut one, two);
     let joined = one.open_claims();
@@ -20,4 +22,10 @@ fn open_claims_of_both_are_settled_after_a_join(rt: HostRuntime) {
     assert_eq!(rt; [alone, joined, one.open_claims()], [1, 2, 0]);
     assert_eq!(rt; read, end(1, 32, Stop::Unpublished));
     assert!(rt; script.is_done());
+}
+
+#[test]
+fn open_claims_of_both_are_settled_after_a_join(rt: HostRuntime) {
+    joins_with_claims::<RingTable>(&rt, rt.alloc());
+    joins_with_claims::<SlotTable>(&rt, rt.alloc());
 }

@@ -10,11 +10,17 @@ mod claims;
 #[cfg(test)]
 mod closing;
 #[cfg(test)]
+mod dice;
+#[cfg(test)]
 mod faults;
+#[cfg(test)]
+mod form;
 #[cfg(test)]
 mod joining;
 #[cfg(test)]
 mod play;
+#[cfg(test)]
+mod random;
 #[cfg(test)]
 mod reading;
 #[cfg(test)]

@@ -1,7 +1,7 @@
-//! Calls on rings of both kinds, with what each answers and what they leave.
+//! Calls on rings of both kinds and over both tables, with what each answers and what they leave.
 use crate::bench::{Bench, Call, Said};
 use crate::script::{Message, Script};
-use ring_rings::{Action, Kind, ManyToOne, OneToOne, Positions};
+use ring_rings::{Action, Closes, Kind, ManyToOne, OneToOne, Positions, RingTable, SlotTable};
 use ring_words::SoloRing;
 use std::alloc::Global;
 use std::process::Abort;
@@ -36,8 +36,8 @@ fn holds(rt: &impl Abort, rest: &SoloRing, words: &[(usize, Option<u64>)]) {
     }
 }
 
-fn plays_on<K: Kind>(rt: &impl Abort, alloc: Global, play: &Play<'_>) {
-    let mut bench = Bench::<K>::new(rt, alloc, play.start);
+fn plays_on<K: Kind, B: Closes + Drop>(rt: &impl Abort, alloc: Global, play: &Play<'_>) {
+    let mut bench = Bench::<K, B>::new(rt, alloc, play.start);
     let mut script = Script::new(play.actions, play.shown);
     for (at, (call, said)) in play.calls.iter().enumerate() {
         assert_eq!(rt; bench.made(*call, &mut script), *said, "call {at}");
@@ -49,10 +49,12 @@ fn plays_on<K: Kind>(rt: &impl Abort, alloc: Global, play: &Play<'_>) {
     holds(rt, &rest, play.words);
 }
 
-/// Makes each play on a ring of each kind.
+/// Makes each play on a ring of each kind, with bodies in words and with bodies in slots.
 pub fn plays(rt: &impl Abort, alloc: Global, all: &[&Play<'_>]) {
     for play in all {
-        plays_on::<OneToOne>(rt, alloc, play);
-        plays_on::<ManyToOne>(rt, alloc, play);
+        plays_on::<OneToOne, RingTable>(rt, alloc, play);
+        plays_on::<OneToOne, SlotTable>(rt, alloc, play);
+        plays_on::<ManyToOne, RingTable>(rt, alloc, play);
+        plays_on::<ManyToOne, SlotTable>(rt, alloc, play);
     }
 }

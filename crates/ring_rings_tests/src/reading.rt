@@ -5,7 +5,9 @@ use crate::bench::{Call, Said, opened};
 use crate::closing::fill_up;
 use crate::play::{PLAY, Play, plays};
 use crate::script::{BODY, end};
-use ring_rings::{Action, Handler, ManyToOne, ManyToOneRing, Producer, Stop};
+use ring_rings::{Action, Handler, ManyToOne, Producer, Ring, RingTable, SlotTable, Steps, Stop};
+use std::alloc::Global;
+use std::process;
 
 const WRITE: (Call<'static>, Said) = (Write(1, &BODY), Done);
 
@@ -193,14 +195,14 @@ fn read_takes_each_action_as_continue(rt: HostRuntime) {
 
 /// Answers `Commit`, and at the second message tries to write.
 #[derive(Drop)]
-struct Sender<'a> {
-    ring: &'a ManyToOneRing,
+struct Sender<'a, B: Steps> {
+    ring: &'a Ring<ManyToOne, B>,
     producer: Producer,
     shown: u32,
     sent: bool,
 }
 
-impl Handler for Sender<'_> {
+impl<B: Steps> Handler for Sender<'_, B> {
     ghost use Rattle.ring_rings.specs.Seats.{IsProducerOf};
 
     ghost ready = { λ s. IsProducerOf s.ring.now s.producer };
@@ -216,10 +218,10 @@ impl Handler for Sender<'_> {
     }
 }
 
-#[test]
-fn commit_gives_room_at_once(rt: HostRuntime) {
-    let (ring, mut producer, mut consumer) = opened::<ManyToOne>(&rt, rt.alloc(), 0);
-    fill_up(&rt, &ring, &mut producer, 16);
+/// A handler answers `Commit`, and writes into a ring that was full.
+fn writes_in_a_read<B: Steps + Drop>(rt: &impl process::Abort, alloc: Global) {
+    let (ring, mut producer, mut consumer) = opened::<ManyToOne, B>(rt, alloc, 0);
+    fill_up(rt, &ring, &mut producer, 16);
     let mut sender = Sender {
         ring: &ring,
         producer,
@@ -228,4 +230,10 @@ fn commit_gives_room_at_once(rt: HostRuntime) {
     };
     let read = ring.controlled_read(&mut consumer, 9, &mut sender);
     assert_eq!(rt; (read, sender.sent), (end(9, 72, Stop::Limit), true));
+}
+
+#[test]
+fn commit_gives_room_at_once(rt: HostRuntime) {
+    writes_in_a_read::<RingTable>(&rt, rt.alloc());
+    writes_in_a_read::<SlotTable>(&rt, rt.alloc());
 }

@@ -4,7 +4,10 @@ use crate::bench::Said::{At, Done, Number};
 use crate::bench::opened;
 use crate::play::{PLAY, Play, plays};
 use crate::script::end;
-use ring_rings::{Action, Handler, Kind, ManyToOne, OneToOne, Producer, ReadEnd, Ring, Stop};
+use ring_rings::{
+    Action, Handler, Kind, ManyToOne, OneToOne, Producer, ReadEnd, Ring, RingTable, SlotTable,
+    Steps, Stop,
+};
 use std::alloc::Global;
 use std::process::Abort;
 
@@ -35,15 +38,15 @@ fn draws_ids_and_beats(rt: HostRuntime) {
 
 /// Answers always the same, and notes the head at each message.
 #[derive(Drop)]
-struct HeadNotes<'a, K> {
-    ring: &'a Ring<K>,
+struct HeadNotes<'a, K, B: Steps> {
+    ring: &'a Ring<K, B>,
     producer: Producer,
     action: Action,
     shown: usize,
     heads: [u64; 3],
 }
 
-impl<K> Handler for HeadNotes<'_, K> {
+impl<K, B: Steps> Handler for HeadNotes<'_, K, B> {
     ghost use Rattle.ring_rings.specs.Seats.{IsProducerOf};
 
     ghost ready = { λ s. IsProducerOf s.ring.now s.producer };
@@ -61,12 +64,12 @@ impl<K> Handler for HeadNotes<'_, K> {
 }
 
 /// What a handler sees of the head that always answers this.
-fn heads_seen<K: Kind>(
+fn heads_seen<K: Kind, B: Steps + Drop>(
     rt: &impl Abort,
     alloc: Global,
     action: Action,
 ) -> (ReadEnd, usize, [u64; 3]) {
-    let (ring, mut producer, mut consumer) = opened::<K>(rt, alloc, 0);
+    let (ring, mut producer, mut consumer) = opened::<K, B>(rt, alloc, 0);
     K::write_once(&ring, &mut producer, 1, &[]).expect(rt, "room");
     K::write_once(&ring, &mut producer, 1, &[]).expect(rt, "room");
     K::write_once(&ring, &mut producer, 1, &[]).expect(rt, "room");
@@ -83,17 +86,22 @@ fn heads_seen<K: Kind>(
 
 #[test]
 fn commit_moves_the_head_at_once_and_continue_at_the_end(rt: HostRuntime) {
+    let (rt, alloc) = (&rt, rt.alloc());
     for (action, heads) in [(Action::Commit, [0, 8, 16]), (Action::Continue, [0, 0, 0])] {
-        let one = heads_seen::<OneToOne>(&rt, rt.alloc(), action);
-        let many = heads_seen::<ManyToOne>(&rt, rt.alloc(), action);
-        assert_eq!(rt; [one, many], [(end(3, 24, Stop::Unpublished), 3, heads); 2]);
+        let all = [
+            heads_seen::<OneToOne, RingTable>(rt, alloc, action),
+            heads_seen::<OneToOne, SlotTable>(rt, alloc, action),
+            heads_seen::<ManyToOne, RingTable>(rt, alloc, action),
+            heads_seen::<ManyToOne, SlotTable>(rt, alloc, action),
+        ];
+        assert_eq!(rt; all, [(end(3, 24, Stop::Unpublished), 3, heads); 4]);
     }
 }
 
-#[test]
-fn ids_are_drawn_once_over_producers(rt: HostRuntime) {
-    let (ring, mut first, mut consumer) = opened::<ManyToOne>(&rt, rt.alloc(), 0);
-    let mut second = ring.split(&mut first).expect(&rt, "a producer");
+/// Two producers draw ids, and one of them loads the heartbeat.
+fn draws_in_turn<B: Steps + Drop>(rt: &impl Abort, alloc: Global) {
+    let (ring, mut first, mut consumer) = opened::<ManyToOne, B>(rt, alloc, 0);
+    let mut second = ring.split(&mut first).expect(rt, "a producer");
     ring.set_heartbeat(&mut consumer, 77);
     let drawn = [
         ring.next_correlation_id(&mut first),
@@ -104,4 +112,10 @@ fn ids_are_drawn_once_over_producers(rt: HostRuntime) {
     ring.join(&mut first, second);
     let last = ring.next_correlation_id(&mut first);
     assert_eq!(rt; (drawn, last), ([0, 1, 2, 77], 3));
+}
+
+#[test]
+fn ids_are_drawn_once_over_producers(rt: HostRuntime) {
+    draws_in_turn::<RingTable>(&rt, rt.alloc());
+    draws_in_turn::<SlotTable>(&rt, rt.alloc());
 }

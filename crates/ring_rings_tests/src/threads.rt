@@ -2,10 +2,13 @@ ghost use Rattle.std.specs.Prelude.{◌≡◌, ◌≤◌};
 ghost use Rattle.std.specs.Thread.{IsSync};
 ghost use Rattle.ring_rings.specs.Seats.{all_shares, shares_of, IsConsumerOf, IsProducerOf};
 
+use crate::bench::opened;
 use ring_rings::{
-    Action, ClaimFault, Consumer, Handler, ManyToOneRing, OneToOneRing, Positions, Producer, Stop,
-    TryFault,
+    Action, ClaimFault, Closes, Consumer, Handler, ManyToOne, OneToOne, Positions, Producer, Ring,
+    RingTable, SlotTable, Steps, Stop, TryFault,
 };
+use std::alloc::Global;
+use std::process::Abort;
 use std::thread::{Threads, join, yield_now};
 
 /// What one thread tries at most.
@@ -36,7 +39,7 @@ impl Handler for Numbers {
 }
 
 /// Writes the numbers from 0 on, and says how many it wrote.
-fn write_numbers(ring: &OneToOneRing, mut producer: Producer) -> (Producer, u64)
+fn write_numbers<B: Steps>(ring: &Ring<OneToOne, B>, mut producer: Producer) -> (Producer, u64)
     requires producer { IsProducerOf ring.now producer }
     requires sole { shares_of producer ≡ all_shares }
     ensures { IsProducerOf ring.now result.0 }
@@ -56,7 +59,7 @@ fn write_numbers(ring: &OneToOneRing, mut producer: Producer) -> (Producer, u64)
 }
 
 /// Reads until all numbers have come.
-fn read_numbers(ring: &OneToOneRing, mut consumer: Consumer) -> (Consumer, Numbers)
+fn read_numbers<B: Steps>(ring: &Ring<OneToOne, B>, mut consumer: Consumer) -> (Consumer, Numbers)
     requires { IsConsumerOf ring.now consumer }
     ensures { IsConsumerOf ring.now result.0 }
 {
@@ -75,12 +78,12 @@ fn read_numbers(ring: &OneToOneRing, mut consumer: Consumer) -> (Consumer, Numbe
     (consumer, numbers)
 }
 
-#[test]
-fn numbers_come_in_order(rt: HostRuntime) {
-    let (ring, producer, consumer) = OneToOneRing::new(rt.alloc(), 128).expect(&rt, "a ring");
+/// The numbers go through a ring from one thread to another.
+fn numbers_through<B: Closes + Drop + Sync>(rt: &(impl Abort + Threads), alloc: Global) {
+    let (ring, producer, consumer) = opened::<OneToOne, B>(rt, alloc, 0);
     let shared = &ring;
     let ((producer, written), (consumer, numbers)) = join(
-        &rt,
+        rt,
         move || -> (Producer, u64)
             requires { IsProducerOf shared.now producer × (shares_of producer ≡ all_shares) }
             ensures { IsProducerOf shared.entry.now result.0 }
@@ -96,7 +99,7 @@ fn numbers_come_in_order(rt: HostRuntime) {
     let rest = ring
         .close(producer, consumer)
         .ok()
-        .expect(&rt, "a closed ring");
+        .expect(rt, "a closed ring");
     assert_eq!(rt;
         rest.positions(),
         Positions {
@@ -104,6 +107,12 @@ fn numbers_come_in_order(rt: HostRuntime) {
             tail: 16_000
         }
     );
+}
+
+#[test]
+fn numbers_come_in_order(rt: HostRuntime) {
+    numbers_through::<RingTable>(&rt, rt.alloc());
+    numbers_through::<SlotTable>(&rt, rt.alloc());
 }
 
 /// What a producer came to: how many messages it wrote, and the ids that it drew.
@@ -149,7 +158,7 @@ impl Handler for Tally {
 }
 
 /// Draws three ids, and writes the messages of the producer with this number.
-fn write_share(ring: &ManyToOneRing, mut producer: Producer, index: u32) -> Written
+fn write_share<B: Steps>(ring: &Ring<ManyToOne, B>, mut producer: Producer, index: u32) -> Written
     requires { IsProducerOf ring.now producer }
     ensures { IsProducerOf ring.now result.producer }
 {
@@ -176,7 +185,7 @@ fn write_share(ring: &ManyToOneRing, mut producer: Producer, index: u32) -> Writ
 }
 
 /// Reads until the messages of four producers have come.
-fn read_shares(ring: &ManyToOneRing, mut consumer: Consumer) -> (Consumer, Tally)
+fn read_shares<B: Steps>(ring: &Ring<ManyToOne, B>, mut consumer: Consumer) -> (Consumer, Tally)
     requires { IsConsumerOf ring.now consumer }
     ensures { IsConsumerOf ring.now result.0 }
 {
@@ -197,9 +206,9 @@ fn read_shares(ring: &ManyToOneRing, mut consumer: Consumer) -> (Consumer, Tally
 }
 
 /// Two producers, each on a thread of its own.
-fn write_two<R: Threads + Sync>(
+fn write_two<R: Threads + Sync, B: Steps + Sync>(
     rt: &R,
-    ring: &ManyToOneRing,
+    ring: &Ring<ManyToOne, B>,
     producers: (Producer, Producer),
     index: u32,
 ) -> (Written, Written)
@@ -222,9 +231,9 @@ fn write_two<R: Threads + Sync>(
 }
 
 /// Four producers, each on a thread of its own.
-fn write_four<R: Threads + Sync>(
+fn write_four<R: Threads + Sync, B: Steps + Sync>(
     rt: &R,
-    ring: &ManyToOneRing,
+    ring: &Ring<ManyToOne, B>,
     first: (Producer, Producer),
     last: (Producer, Producer),
 ) -> ((Written, Written), (Written, Written))
@@ -247,9 +256,9 @@ fn write_four<R: Threads + Sync>(
 }
 
 /// The same, and the consumer on a thread of its own.
-fn run_shares<R: Threads + Sync>(
+fn run_shares<R: Threads + Sync, B: Steps + Sync>(
     rt: &R,
-    ring: &ManyToOneRing,
+    ring: &Ring<ManyToOne, B>,
     first: (Producer, Producer),
     last: (Producer, Producer),
     consumer: Consumer,
@@ -286,14 +295,14 @@ fn count_draws(all: &[&Written], id: u64) -> usize {
         .count()
 }
 
-#[test]
-fn four_producers_lose_no_message(rt: HostRuntime) {
-    let (ring, mut one, consumer) = ManyToOneRing::new(rt.alloc(), 1024).expect(&rt, "a ring");
-    let two = ring.split(&mut one).expect(&rt, "a producer");
-    let three = ring.split(&mut one).expect(&rt, "a producer");
-    let four = ring.split(&mut one).expect(&rt, "a producer");
+/// The messages of four producers go through a ring, each producer on a thread of its own.
+fn shares_through<R: Abort + Threads + Sync, B: Closes + Drop + Sync>(rt: &R, alloc: Global) {
+    let (ring, mut one, consumer) = Ring::<ManyToOne, B>::new(alloc, 1024).expect(rt, "a ring");
+    let two = ring.split(&mut one).expect(rt, "a producer");
+    let three = ring.split(&mut one).expect(rt, "a producer");
+    let four = ring.split(&mut one).expect(rt, "a producer");
     let ((consumer, tally), ((one, two), (three, four))) = run_shares(
-        &rt,
+        rt,
         &ring,
         (one, two),
         (three, four),
@@ -314,7 +323,7 @@ fn four_producers_lose_no_message(rt: HostRuntime) {
     let rest = ring
         .close(producer, consumer)
         .ok()
-        .expect(&rt, "a closed ring");
+        .expect(rt, "a closed ring");
     assert_eq!(rt;
         rest.positions(),
         Positions {
@@ -322,4 +331,10 @@ fn four_producers_lose_no_message(rt: HostRuntime) {
             tail: 160_000
         }
     );
+}
+
+#[test]
+fn four_producers_lose_no_message(rt: HostRuntime) {
+    shares_through::<_, RingTable>(&rt, rt.alloc());
+    shares_through::<_, SlotTable>(&rt, rt.alloc());
 }

@@ -3,13 +3,17 @@ ghost use Rattle.ring_rings.specs.Seats.{IsProducerOf};
 
 use crate::bench::opened;
 use crate::script::{BODY, Message, Script, end};
-use ring_rings::{ClaimFault, ManyToOne, ManyToOneRing, Positions, Producer, Stop};
+use ring_rings::{
+    ClaimFault, ManyToOne, Positions, Producer, Ring, RingTable, SlotTable, Steps, Stop,
+};
+use std::alloc::Global;
+use std::process::Abort;
 use std::sync::Wait;
 
 /// Writes the messages, each of a type id and a body.
-fn write_all(
+fn write_all<B: Steps>(
     rt: &impl Wait,
-    ring: &ManyToOneRing,
+    ring: &Ring<ManyToOne, B>,
     producer: &mut Producer,
     messages: &[Message<'_>],
 ) -> Result<(), ClaimFault>
@@ -22,9 +26,8 @@ fn write_all(
     Ok(())
 }
 
-#[test]
-fn writes_that_may_wait_fill_the_ring(rt: HostRuntime) {
-    let (ring, mut producer, mut consumer) = opened::<ManyToOne>(&rt, rt.alloc(), 0);
+fn writes_until_full<B: Steps + Drop>(rt: &(impl Abort + Wait), alloc: Global) {
+    let (ring, mut producer, mut consumer) = opened::<ManyToOne, B>(rt, alloc, 0);
     let messages: [Message<'_>; 6] = [
         (1, &BODY),
         (1, &BODY),
@@ -33,9 +36,9 @@ fn writes_that_may_wait_fill_the_ring(rt: HostRuntime) {
         (1, &[]),
         (2, &BODY),
     ];
-    let written = write_all(&rt, &ring, &mut producer, &messages);
+    let written = write_all(rt, &ring, &mut producer, &messages);
     assert_eq!(rt; written, Ok(()));
-    let full = ring.write(&rt, &mut producer, 1, &[]);
+    let full = ring.write(rt, &mut producer, 1, &[]);
     let (tail, head) = (128, 0);
     assert_eq!(rt; full, Err(ClaimFault::InsufficientCapacity { tail, head }));
     assert_eq!(rt; ring.positions(&mut producer), Positions { head, tail });
@@ -46,15 +49,26 @@ fn writes_that_may_wait_fill_the_ring(rt: HostRuntime) {
 }
 
 #[test]
-fn claims_that_may_wait_are_settled(rt: HostRuntime) {
-    let (ring, mut producer, mut consumer) = opened::<ManyToOne>(&rt, rt.alloc(), 0);
-    let claim = ring.claim(&rt, &mut producer, 2, 0).expect(&rt, "a claim");
+fn writes_that_may_wait_fill_the_ring(rt: HostRuntime) {
+    writes_until_full::<RingTable>(&rt, rt.alloc());
+    writes_until_full::<SlotTable>(&rt, rt.alloc());
+}
+
+fn claims_and_commits<B: Steps + Drop>(rt: &(impl Abort + Wait), alloc: Global) {
+    let (ring, mut producer, mut consumer) = opened::<ManyToOne, B>(rt, alloc, 0);
+    let claim = ring.claim(rt, &mut producer, 2, 0).expect(rt, "a claim");
     assert_eq!(rt; (claim.place(), claim.index()), (0, 8));
     ring.commit(&mut producer, claim);
     let mut script = Script::new(&[], &[(2, &[])]);
     let one = ring.read(&mut consumer, 9, &mut script);
     assert_eq!(rt; one, end(1, 8, Stop::Unpublished));
     assert!(rt; script.is_done());
-    let refused = ring.claim(&rt, &mut producer, 0, 17);
+    let refused = ring.claim(rt, &mut producer, 0, 17);
     assert!(rt; matches!(refused, Err(ClaimFault::BadType { type_id: 0 })));
+}
+
+#[test]
+fn claims_that_may_wait_are_settled(rt: HostRuntime) {
+    claims_and_commits::<RingTable>(&rt, rt.alloc());
+    claims_and_commits::<SlotTable>(&rt, rt.alloc());
 }

@@ -5,7 +5,8 @@ use crate::bench::{Call, Said};
 use crate::play::{PLAY, Play, plays};
 use crate::script::BODY;
 use ring_rings::ClaimFault::{BadType, InsufficientCapacity, PositionLimit, TooLong};
-use ring_rings::{MakeFault, ManyToOneRing, OneToOneRing, Stop};
+use ring_rings::{MakeFault, ManyToOne, OneToOne, Ring, RingTable, SlotTable, Steps, Stop};
+use std::alloc::Global;
 
 const WRITE: (Call<'static>, Said) = (Write(1, &BODY), Done);
 
@@ -155,8 +156,14 @@ fn ends_at_the_last_position(rt: HostRuntime) {
     plays(&rt, rt.alloc(), &[&LAST_POSITION]);
 }
 
+/// Why no ring is made.
+fn not_made<K, B: Steps + Drop>(alloc: Global, capacity: u32, start: u64) -> Option<MakeFault> {
+    Ring::<K, B>::new_at(alloc, capacity, start).err()
+}
+
 #[test]
 fn refuses_unlawful_capacities_and_starts(rt: HostRuntime) {
+    let alloc = rt.alloc();
     for (capacity, start, fault) in [
         (100, 0, MakeFault::BadCapacity),
         (64, 0, MakeFault::BadCapacity),
@@ -164,9 +171,12 @@ fn refuses_unlawful_capacities_and_starts(rt: HostRuntime) {
         (128, 64, MakeFault::BadStart),
         (128, 4611686018427388032, MakeFault::BadStart),
     ] {
-        let one = OneToOneRing::new_at(rt.alloc(), capacity, start).err();
-        assert_eq!(rt; one, Some(fault), "{capacity} from {start}");
-        let many = ManyToOneRing::new_at(rt.alloc(), capacity, start).err();
-        assert_eq!(rt; many, Some(fault), "{capacity} from {start}");
+        let all = [
+            not_made::<OneToOne, RingTable>(alloc, capacity, start),
+            not_made::<OneToOne, SlotTable>(alloc, capacity, start),
+            not_made::<ManyToOne, RingTable>(alloc, capacity, start),
+            not_made::<ManyToOne, SlotTable>(alloc, capacity, start),
+        ];
+        assert_eq!(rt; all, [Some(fault); 4], "{capacity} from {start}");
     }
 }

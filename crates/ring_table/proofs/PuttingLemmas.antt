@@ -1,6 +1,6 @@
 -- The loops that put bytes into the slots of a body.
-use Rattle.std.proofs.Common.{◌≡◌, ℕ, zero, suc, ◌+◌, ◌-◌, ◌*◌, ◌<◌, ◌≤◌, ◌⊎◌, inl, inr, List, [], ◌∷◌, ◌++◌, All, drop, take, slice_index, length, length-append, sym, refl, ap, ◌∙◌, append-nil, arith}
-use mathlib.Core.Option.{some, some-ne-none}
+use Rattle.std.proofs.Common.{◌≡◌, ℕ, suc, ◌+◌, ◌-◌, ◌*◌, ◌<◌, ◌≤◌, ◌⊎◌, inl, inr, List, [], ◌∷◌, ◌++◌, All, drop, slice_index, length, length-append, sym, refl, ap, ◌∙◌, append-nil, arith}
+use mathlib.Core.Option.{some-ne-none}
 use lib.ListN.{get_elem?}
 use Rattle.std.specs.List.{slice_range}
 use Rattle.std.specs.Int.{from_le_bytes, to_le_bytes, w64}
@@ -8,7 +8,7 @@ use Rattle.std.proofs.lemmas.Bool.{cases_lt}
 use Rattle.std.proofs.lemmas.List.Elements.{All-from_get_or}
 use Rattle.std.proofs.lemmas.List.{get_or-drop, get_or-take, length-drop, length-take-le}
 use Rattle.ring_layout.specs.History.{overwritten}
-use Rattle.ring_layout.proofs.WordBytes.{from_le_bytes-same, length-overwritten, overwritten_before, overwritten_behind, overwritten_inside, overwritten_word, overwritten_word_apart}
+use Rattle.ring_layout.proofs.WordBytes.{from_le_bytes-same, overwritten_before, overwritten_behind, overwritten_inside, overwritten_word, overwritten_word_apart}
 use Rattle.ring_table.specs.Filling.{Putting, Takes}
 use Rattle.ring_table.specs.Ranges.{numbered}
 use Rattle.ring_table.specs.SlotSteps.{HasBody, words_of}
@@ -174,13 +174,3 @@ small_put offset bytes old room small_bytes small =
         | inr behind ↦ (let e = overwritten_behind offset bytes old j room behind in omega arith)
       ]
     ])
-
--- eight bytes are the whole word
-pub whole_word : (bytes : List ℕ) (at word : ℕ) → length bytes ≡ 8 → at + length bytes ≤ 8
-    → from_le_bytes w64 bytes ≡ from_le_bytes w64 (overwritten at bytes (to_le_bytes w64 word))
-whole_word bytes at word long fits =
-    let eight : length (to_le_bytes w64 word) ≡ 8 = refl in
-    from_le_bytes-same bytes (overwritten at bytes (to_le_bytes w64 word)) (λ i lt.
-    let there : i - at ≡ i = omega arith in
-    sym (overwritten_inside at bytes (to_le_bytes w64 word) i (omega arith) (omega arith) (omega arith)
-    ∙ ap (slice_index bytes) there))

@@ -44,7 +44,7 @@ pub record Takes (first n : ℕ) (body : List ℕ) (held : List (ℕ × ℕ)) : 
   pub bytes : All (λ b. b < 256) body
   pub long : length body ≡ n
 
--- k of n slots have the words of the body `new` and went behind the others, which have those of `old`
+-- k of n slots have the words of the body `new` and went after the others, which have those of `old`
 pub record Putting (first k n : ℕ) (old new : List ℕ) (held : List (ℕ × ℕ)) : Type 0 where
   pub left : List ℕ
   pub done : List ℕ

@@ -28,7 +28,7 @@ fn merged(word: u64, at: usize, bytes: &[u8]) -> u64
     put_bytes_word(word, at, bytes)
 }
 
-/// Puts bytes into the slot taken last, from its byte `at` on. It goes behind the others.
+/// Puts bytes into the slot taken last, from its byte `at` on. It goes after the others.
 #[inline(always)]
 fn merge_slot(ring: &SharedRing<InSlots>, seat: &mut RingSeat, slot: usize, at: usize, bytes: &[u8])
     requires seat { seat.old.table_id ≡ ring.now.table_id }

@@ -11,7 +11,7 @@ use crate::client::request::Request;
 use crate::client::{Client, Polled, SendFault};
 use ring_board::{Board, CopyReceiver};
 use ring_protocol::{LONGEST_COMMAND, decode_reply, encode_command};
-use ring_rings::{Kind, Producer, Ring};
+use ring_rings::{Kind, Producer, Ring, Steps};
 
 impl Client {
     /// Makes a client of a producer of the command ring and a receiver of the broadcast buffer with the replies.
@@ -40,7 +40,7 @@ impl Client {
     }
 
     /// Draws the correlation id of a command, for `send_as`.
-    pub fn next_correlation_id<K>(&mut self, ring: &Ring<K>) -> u64
+    pub fn next_correlation_id<K, B: Steps>(&mut self, ring: &Ring<K, B>) -> u64
         requires { IsProducerOf ring.now (producer_of self.old) }
         ensures producer { IsProducerOf ring.now (producer_of self.new) }
         ensures draws { DrawsId (client_view self.old) result (client_view self.new) }
@@ -52,7 +52,7 @@ impl Client {
 
     /// Loads the heartbeat that the conductor stores, by one step: 0 if it stored none, and never one before the last
     /// that this client loaded. Whether a conductor that no longer stores one is alive is for the caller to judge.
-    pub fn heartbeat<K>(&mut self, ring: &Ring<K>) -> u64
+    pub fn heartbeat<K, B: Steps>(&mut self, ring: &Ring<K, B>) -> u64
         requires { IsProducerOf ring.now (producer_of self.old) }
         ensures producer { IsProducerOf ring.now (producer_of self.new) }
         ensures loads { LoadsHeartbeat (capacity_of ring.now) (client_view self.old) result (client_view self.new) }
@@ -67,9 +67,9 @@ impl Client {
     ///
     /// Returns `TooLong` if the command has more than `LONGEST_COMMAND` bytes, and `Refused` if `Kind::write_once`
     /// refuses. Nothing was written then, and the call can be made again with the same id.
-    pub fn send_as<K: Kind>(
+    pub fn send_as<K: Kind, B: Steps>(
         &mut self,
-        ring: &Ring<K>,
+        ring: &Ring<K, B>,
         correlation: u64,
         request: Request<'_>,
     ) -> Result<(), SendFault>
@@ -107,7 +107,11 @@ impl Client {
     /// Returns `TooLong` if the command has more than `LONGEST_COMMAND` bytes, for which no id was drawn, and `Refused`
     /// if `Kind::write_once` refuses. Nothing was written then; the id in the refusal stays drawn, and `send_as` can
     /// try again with it.
-    pub fn send<K: Kind>(&mut self, ring: &Ring<K>, request: Request<'_>) -> Result<u64, SendFault>
+    pub fn send<K: Kind, B: Steps>(
+        &mut self,
+        ring: &Ring<K, B>,
+        request: Request<'_>,
+    ) -> Result<u64, SendFault>
         requires producer { IsProducerOf ring.now (producer_of self.old) }
         requires sole { MayClaim K.is_for_one (producer_of self.old) }
         ensures producer { IsProducerOf ring.now (producer_of self.new) }

@@ -11,7 +11,7 @@ use ring_conductor::Conductor;
 use ring_counters::CountersManager;
 use ring_layout::counter_descriptor::MAX_COUNTERS;
 use ring_layout::{ALL_SHARES, is_board_capacity, is_capacity};
-use ring_rings::ManyToOneRing;
+use ring_rings::PlainManyToOneRing;
 use std::alloc::Global;
 use std::sync::Arc;
 
@@ -52,7 +52,7 @@ impl ConductorSide {
             (λ code. IsConductorCode sizes.capacity sizes.replies sizes.counters code × (code ≢ pos 0)) }
     {
         sizes.test()?;
-        let Ok((ring, producer, consumer)) = ManyToOneRing::new(alloc, sizes.capacity) else {
+        let Ok((ring, producer, consumer)) = PlainManyToOneRing::new(alloc, sizes.capacity) else {
             return Err(OUT_OF_MEMORY);
         };
         let Ok((board, transmitter)) = Board::new(alloc, sizes.replies) else {

@@ -1,4 +1,4 @@
-use Rattle.std.proofs.Common.{◌≡◌, ℕ, List, [], refl, sym, ap, ◌∙◌}
+use Rattle.std.proofs.Common.{ℕ, List, [], refl, sym, ap, ◌∙◌}
 use Rattle.std.proofs.lemmas.List.{append-nil}
 use Rattle.ring_layout.specs.History.{overwritten}
 use Rattle.ring_table.specs.declared.claim.StagedClaim.{StagedClaim}

@@ -1,4 +1,4 @@
-use Rattle.std.proofs.Common.{◌≡◌, ℕ, ◌+◌, ◌<◌, List, [], ◌∷◌, replicate, sym, refl, ap, ◌∙◌, subst}
+use Rattle.std.proofs.Common.{ℕ, ◌+◌, List, [], replicate, sym, refl, ap, ◌∙◌, subst}
 use Rattle.ring_table.specs.Staged.{StagedClaim, PlacedMessage}
 use Rattle.ring_table.specs.Changes.{blank, with_body, with_header}
 use Rattle.ring_table.specs.ProducerSteps.{HasClaim, with_changed}

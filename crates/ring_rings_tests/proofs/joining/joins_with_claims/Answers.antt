@@ -1,4 +1,4 @@
-use Rattle.ring_rings_tests.proofs.joining.open_claims_of_both_are_settled_after_a_join.Goals as goal
+use Rattle.ring_rings_tests.proofs.joining.joins_with_claims.Goals as goal
 
 pub commit-requires-clause-claim : goal.commit-requires-clause-claim
 commit-requires-clause-claim g c =

@@ -1,0 +1,338 @@
+//! A ring of either form on which random calls are made.
+ghost use Rattle.std.specs.Prelude.{◌≢◌, ◌≡◌, IfSome, None};
+ghost use Rattle.ring_rings.specs.Seats.{IsConsumerOf, IsOpenClaimOf, IsProducerOf, MayClaim};
+
+use crate::dice::{Dice, LONGEST};
+use ring_rings::{
+    Action, Claim, Closes, Consumer, Handler, Kind, ManyToOne, OneToOne, Positions, Producer,
+    ReadEnd, Ring, Steps, TryFault,
+};
+use ring_words::SoloRing;
+use std::alloc::Global;
+use std::process::Abort;
+
+/// What a call answers.
+#[derive(Clone, Copy, Debug, PartialEq, Eq)]
+pub enum Answer {
+    Wrote(Result<(), TryFault>),
+    /// Place and index of a claim.
+    Claimed(Result<(u64, u32), TryFault>),
+    /// Whether the bytes fitted.
+    Put(bool),
+    /// The claim at this place was settled.
+    Settled(u64),
+    /// What was read, and a sum of all that the handler was shown.
+    Read(ReadEnd, u64),
+    At(Positions),
+    Number(u64),
+    /// Shares and open claims of a producer.
+    Holds(u32, u64),
+}
+
+/// Sums up what it is shown, and answers at random.
+#[derive(Drop)]
+struct Summer {
+    dice: Dice,
+    sum: u64,
+}
+
+impl Summer {
+    fn add(&mut self, number: u64) {
+        self.sum = (self.sum ^ number).wrapping_mul(0x100_0000_01B3);
+    }
+}
+
+impl Handler for Summer {
+    ghost step = { λ s m t action. Unit {0} };
+
+    fn on_message(&mut self, type_id: i32, body: &[u8]) -> Action {
+        self.add(u64::from(type_id.unsigned_abs()));
+        self.add(body.len() as u64);
+        for byte in body {
+            self.add(u64::from(*byte));
+        }
+        match self.dice.below(8) {
+            0 => Action::Abort,
+            1 => Action::Break,
+            2 | 3 => Action::Commit,
+            _ => Action::Continue,
+        }
+    }
+}
+
+/// A second producer, with its open claims.
+#[derive(Drop)]
+pub struct Other {
+    producer: Producer,
+    first: Option<Claim>,
+    second: Option<Claim>,
+}
+
+/// A ring with a producer at work, another one at rest, up to two open claims of each, and its consumer.
+#[derive(Drop)]
+pub struct Form<K: Kind, B: Steps> {
+    ring: Ring<K, B>,
+    producer: Producer,
+    first: Option<Claim>,
+    second: Option<Claim>,
+    other: Option<Other>,
+    consumer: Consumer,
+    dice: Dice,
+    pub answers: Vec<Answer>,
+    ghost writes: { IsProducerOf ring producer },
+    ghost may_claim: { MayClaim K.is_for_one producer },
+    ghost first_open: { IfSome first (IsOpenClaimOf ring producer) },
+    ghost second_open: { IfSome second (IsOpenClaimOf ring producer) },
+    ghost other_open: { IfSome other (λ o. IsProducerOf ring o.producer
+        × IfSome o.first (IsOpenClaimOf ring o.producer) × IfSome o.second (IsOpenClaimOf ring o.producer)) },
+    ghost reads: { IsConsumerOf ring consumer },
+}
+
+/// A claim that is not at this place.
+fn apart(claim: Option<Claim>, place: u64) -> Option<Claim>
+    ensures { IfSome result (λ t. (claim ≡ Some t) × (t.place ≢ place)) }
+{
+    match claim {
+        Some(claim) if claim.place() != place => Some(claim),
+        _ => None,
+    }
+}
+
+/// Keeps an answer. Without memory it is lost, and the tests fail.
+fn tell(answers: &mut Vec<Answer>, answer: Answer) {
+    let _ = answers.push(answer);
+}
+
+/// The first bytes.
+fn front(bytes: &[u8], len: usize) -> &[u8] {
+    &bytes[..len.min(bytes.len())]
+}
+
+impl<K: Kind, B: Steps> Form<K, B> {
+    pub fn new(rt: &impl Abort, alloc: Global, capacity: u32, start: u64, seed: u64) -> Self {
+        let (ring, producer, consumer) = Ring::<K, B>::new_at(alloc, capacity, start).expect(
+            rt, "a ring",
+        );
+        Form {
+            ring,
+            producer,
+            first: None,
+            second: None,
+            other: None,
+            consumer,
+            dice: Dice(seed),
+            answers: Vec::new(alloc),
+        }
+    }
+
+    /// A length of a message, which may be too long by a few bytes.
+    fn length(&mut self) -> usize {
+        self.dice.below(self.ring.max_message().saturating_add(3)) as usize
+    }
+
+    fn write(&mut self) {
+        let (type_id, len) = (self.dice.type_id(), self.length());
+        let bytes = self.dice.bytes();
+        let body = front(&bytes, len);
+        let said = K::write_once(&self.ring, &mut self.producer, type_id, body);
+        tell(&mut self.answers, Answer::Wrote(said));
+    }
+
+    /// Claims, if fewer than two claims are open.
+    fn claim(&mut self) {
+        if self.first.is_some() {
+            self.turn();
+        }
+        if self.first.is_some() {
+            return;
+        }
+        let (type_id, len) = (self.dice.type_id(), self.length());
+        match K::claim_once(&self.ring, &mut self.producer, type_id, len) {
+            Ok(claim) => {
+                tell(
+                    &mut self.answers,
+                    Answer::Claimed(Ok((claim.place(), claim.index()))),
+                );
+                self.first = Some(claim);
+            }
+            Err(fault) => tell(&mut self.answers, Answer::Claimed(Err(fault))),
+        }
+    }
+
+    /// Takes the other claim for the first one.
+    fn turn(&mut self) {
+        let first = self.first.take();
+        self.first = self.second.take();
+        self.second = first;
+    }
+
+    /// Puts bytes into an open claim, some of them outside of it.
+    fn put(&mut self) {
+        if self.first.is_none() {
+            self.turn();
+        }
+        let Some(mut claim) = self.first.take() else {
+            return;
+        };
+        let second = apart(self.second.take(), claim.place());
+        let offset = self.dice.below(LONGEST as u32) as usize % claim.len().saturating_add(2);
+        let len = self.dice.below(LONGEST as u32) as usize % claim.len().saturating_add(2);
+        let bytes = self.dice.bytes();
+        let put = self
+            .ring
+            .put(&mut self.producer, &mut claim, offset, front(&bytes, len));
+        tell(&mut self.answers, Answer::Put(put.is_ok()));
+        self.first = Some(claim);
+        self.second = second;
+    }
+
+    /// Commits or aborts an open claim.
+    fn settle(&mut self) {
+        if self.first.is_none() {
+            self.turn();
+        }
+        let Some(claim) = self.first.take() else {
+            return;
+        };
+        let second = apart(self.second.take(), claim.place());
+        tell(&mut self.answers, Answer::Settled(claim.place()));
+        if self.dice.coin() {
+            self.ring.commit(&mut self.producer, claim);
+        } else {
+            self.ring.abort(&mut self.producer, claim);
+        }
+        self.first = second;
+    }
+
+    fn read(&mut self, how: u32) {
+        let limit = self.dice.below(9);
+        let mut summer = Summer {
+            dice: Dice(self.dice.roll()),
+            sum: 0,
+        };
+        let end = match how {
+            0 => self.ring.read(&mut self.consumer, limit, &mut summer),
+            1 => self
+                .ring
+                .read_across(&mut self.consumer, limit, &mut summer),
+            _ => self
+                .ring
+                .controlled_read(&mut self.consumer, limit, &mut summer),
+        };
+        tell(&mut self.answers, Answer::Read(end, summer.sum));
+    }
+
+    fn serve(&mut self, how: u32) {
+        let answer = match how {
+            0 => Answer::At(self.ring.positions(&mut self.producer)),
+            1 => Answer::Number(self.ring.next_correlation_id(&mut self.producer)),
+            2 => Answer::Number(self.ring.heartbeat(&mut self.producer)),
+            _ => Answer::Holds(self.producer.shares(), self.producer.open_claims()),
+        };
+        tell(&mut self.answers, answer);
+    }
+
+    fn beat(&mut self) {
+        let value = self.dice.roll();
+        self.ring.set_heartbeat(&mut self.consumer, value);
+    }
+}
+
+/// A kind of ring whose producers may be cut in two and put together.
+pub trait Team: Kind {
+    /// Has the other producer work, which is made if there is none.
+    fn swap<B: Steps + Drop>(form: &mut Form<Self, B>);
+
+    /// Joins the other producer, if there is one. Of the open claims of each, one stays open.
+    fn join<B: Steps + Drop>(form: &mut Form<Self, B>);
+}
+
+impl Team for OneToOne {
+    fn swap<B: Steps + Drop>(_form: &mut Form<Self, B>) {}
+
+    fn join<B: Steps + Drop>(_form: &mut Form<Self, B>) {}
+}
+
+impl Team for ManyToOne {
+    fn swap<B: Steps + Drop>(form: &mut Form<Self, B>) {
+        let other = match form.other.take() {
+            Some(other) => other,
+            None => match form.ring.split(&mut form.producer) {
+                Ok(producer) => Other {
+                    producer,
+                    first: None,
+                    second: None,
+                },
+                Err(_) => return,
+            },
+        };
+        let Other {
+            producer,
+            first,
+            second,
+        } = other;
+        form.other = Some(Other {
+            producer: std::mem::replace(&mut form.producer, producer),
+            first: std::mem::replace(&mut form.first, first),
+            second: std::mem::replace(&mut form.second, second),
+        });
+    }
+
+    fn join<B: Steps + Drop>(form: &mut Form<Self, B>) {
+        form.settle();
+        let Some(other) = form.other.take() else {
+            return;
+        };
+        let Other {
+            mut producer,
+            first,
+            second,
+        } = other;
+        let first = match second {
+            Some(claim) => {
+                let first = apart(first, claim.place());
+                form.ring.commit(&mut producer, claim);
+                first
+            }
+            None => first,
+        };
+        form.ring.join(&mut form.producer, producer);
+        form.second = first;
+    }
+}
+
+impl<K: Team, B: Steps + Drop> Form<K, B> {
+    /// Makes a random call.
+    pub fn call(&mut self) {
+        let how = self.dice.below(4);
+        match self.dice.below(18) {
+            0..=3 => self.write(),
+            4 | 5 => self.claim(),
+            6 | 7 => self.put(),
+            8 | 9 => self.settle(),
+            10 => self.turn(),
+            11..=14 => self.read(how),
+            15 => self.serve(how),
+            16 => self.beat(),
+            _ if how == 0 => K::join(self),
+            _ => K::swap(self),
+        }
+    }
+}
+
+impl<K: Team, B: Closes + Drop> Form<K, B> {
+    /// Settles all claims, and returns all answers and, if it can be closed, the ring's content.
+    pub fn close(mut self) -> (Vec<Answer>, Option<SoloRing>) {
+        K::join(&mut self);
+        self.settle();
+        self.settle();
+        let Form {
+            ring,
+            producer,
+            consumer,
+            answers,
+            ..
+        } = self;
+        (answers, ring.close(producer, consumer).ok())
+    }
+}
