@@ -12,6 +12,7 @@ pub mod MemoryLemmas
 pub mod LoadLemmas
 pub mod ClaimLemmas
 pub mod StoreLemmas
+pub mod StoreBodies
 pub mod ConsumeLemmas
 pub mod ClearLemmas
 pub mod ServiceLemmas
@@ -31,8 +32,10 @@ pub mod RangeLemmas
 pub mod FillLemmas
 pub mod PuttingLemmas
 pub mod BodyPlaces
+pub mod OutPlaces
 pub mod SlotLemmas
 pub mod OutLemmas
+pub mod HomeLemmas
 pub mod Calls
 pub mod SlotCalls
 pub mod SlotBodies

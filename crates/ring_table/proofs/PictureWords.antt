@@ -1,5 +1,5 @@
 -- Words that are copied.
-use Rattle.std.proofs.Common.{◌≡◌, ◌≢◌, ℕ, zero, suc, ◌+◌, ◌≤◌, ◌<◌, ◌⊎◌, List, [], ◌∷◌, set, get_or, slice_index, sym, refl, ap, ◌∙◌, inl, inr, ⊎_elim, length, length-set, get_or-set_other, get_or-set_same, arith}
+use Rattle.std.proofs.Common.{◌≡◌, ℕ, zero, suc, ◌+◌, ◌≤◌, ◌<◌, List, [], ◌∷◌, set, get_or, slice_index, sym, refl, ap, ◌∙◌, inl, inr, ⊎_elim, length, length-set, get_or-set_other, get_or-set_same, arith}
 use mathlib.Core.Option.{some, some-injective, some-ne-none}
 use lib.ListN.{get_elem?}
 use Rattle.std.proofs.lemmas.Bool.{cases_lt}

@@ -1,32 +1,26 @@
 -- A producer's stores into its claims keep the rule.
-use Rattle.ring_table.specs.Staged.{Bodies, in_words, elsewhere}
-use Rattle.std.proofs.Common.{◌≡◌, ◌≢◌, ℕ, zero, suc, ◌+◌, ◌-◌, ◌/◌, ◌%◌, ◌^◌, ◌≤◌, ◌<◌, ◌⊎◌, ℤ, pos, neg_ℤ, FitsSigned, List, cond, set, slice_index, sym, refl, ap, ◌∙◌, subst, inl, inr, ⊎_elim, length, le-ltb, arith}
-use Rattle.std.specs.Prelude.{All}
+use Rattle.ring_table.specs.Staged.{Bodies}
+use Rattle.std.proofs.Common.{◌≡◌, ◌≢◌, ℕ, ◌-◌, ◌/◌, ◌%◌, ◌^◌, ◌≤◌, ◌<◌, ◌⊎◌, ℤ, List, set, sym, refl, ap, ◌∙◌, subst, inl, inr, ⊎_elim, length, arith}
 use mathlib.Core.Option.{some}
 use mathlib.Core.Logic.{dite}
 use native.Mathlib.Decide.{ℕ_discrete}
 use lib.ListN.{get_elem?}
-use Rattle.std.specs.Int.{cast_signed, w32}
 use Rattle.std.proofs.lemmas.List.{length-replicate}
-use Rattle.std.proofs.lemmas.Int.{ints}
-use Rattle.atomic_table.specs.Table.{keeps, stepped, Allows}
+use Rattle.atomic_table.specs.Table.{keeps, Allows}
 use Rattle.ring_layout.specs.declared.message.ClaimState.{ClaimState}
 use Rattle.ring_layout.specs.declared.message.ClaimState.TheVariants.{Open}
 use Rattle.ring_layout.specs.History.{IsMessage, span}
 use Rattle.ring_layout.specs.Places.{index}
 use Rattle.ring_layout.specs.Headers.{header_of, open_header}
-use Rattle.ring_layout.proofs.PlaceLemmas.{span_bounds}
-use Rattle.ring_layout.proofs.HeaderLemmas.{len_of-header, type_of-header, fits_neg}
-use Rattle.ring_table.specs.Staged.{StagedClaim, Stage, Moved, Padded, Stored, claim_of, claim_end, staged_span, masked_padding, masked_record, padding_word, staged_word, staged_word_at, staged_end, AreRising, IsStored}
-use Rattle.ring_table.specs.Changes.{blank, staged, with_body, with_header, with_body_word, changed}
+use Rattle.ring_table.specs.Staged.{StagedClaim, Stage, Moved, Padded, Stored, claim_of, claim_end, staged_span, masked_padding, masked_record, padding_word, staged_word, staged_word_at, staged_end, AreRising}
+use Rattle.ring_table.specs.Changes.{blank, staged, with_header, changed}
 use Rattle.ring_table.specs.Owners.{OwnedHistory, all_of, edited_one, edited}
 use Rattle.ring_table.specs.Passing.{IsSettled}
 use Rattle.ring_table.specs.Views.{View, with_claims}
 use Rattle.ring_table.specs.Rule.{Kept}
-use Rattle.ring_table.specs.ProducerSteps.{Mine, HasClaim, Changes, StoresPadding, StoresClaimed, StoresSettled, StoresBody, IsWordOfBody}
+use Rattle.ring_table.specs.ProducerSteps.{Mine, HasClaim, Changes, StoresPadding, StoresClaimed, StoresSettled}
 use Rattle.ring_table.proofs.StagedPlaces.{word_of_claim, one_at_place, one_at_position}
-use Rattle.ring_table.proofs.BodyWords.{length-with_word, body_word-with_word, bytes_of-with_word}
-use Rattle.ring_table.proofs.StagedWords.{header_of-with_body, staged_word-header, staged_word-padding, staged_word-with_body, staged_word-in_words, staged_word-staged, staged_word-opened, staged_word-written}
+use Rattle.ring_table.proofs.StagedWords.{staged_word-header, staged_word-padding, staged_word-staged, staged_word-opened}
 use Rattle.ring_table.proofs.HistoryLemmas.{MayReplace, MayReplaceAt, owned_by-edited, owned_by-edited_other, edited_one_here, get-edited, staged_end-edited, placed_edited}
 use Rattle.ring_table.proofs.OwnerLemmas.{rising_owned_by}
 use Rattle.ring_table.proofs.ReachLemmas.{Unsettled}
@@ -44,7 +38,7 @@ pub record IsWordOf (c : StagedClaim) (q : ℕ) : Type 0 where
   pub late : (c.place ≤ q) ⊎ (c.stage ≡ Moved)
 
 -- a claim d may be in the place of c once the word at q has this value, and no other word changes
-record Rewords (B : Bodies) (C : ℕ) (c d : StagedClaim) (q value : ℕ) : Type 0 where
+pub record Rewords (B : Bodies) (C : ℕ) (c d : StagedClaim) (q value : ℕ) : Type 0 where
   pub may : MayReplace C c d
   pub goes : c.stage ≢ Moved → d.stage ≢ Moved
   pub word : staged_word B d q ≡ value
@@ -65,7 +59,7 @@ record MayFollow (t u : Stage) : Type 0 where
 
 module _ (B : Bodies) (C start : ℕ) where
   -- a word of an own claim that is not settled is stored
-  edits : (words : List ℕ) (views : List View) (r : Kept B C start words views) (id : ℕ) (v : View) (k : ℕ)
+  pub edits : (words : List ℕ) (views : List View) (r : Kept B C start words views) (id : ℕ) (v : View) (k : ℕ)
       (c : StagedClaim) → HasUnsettled B C start views id v k c → (f : StagedClaim → StagedClaim) (q value : ℕ)
       → IsWordOf c q → Rewords B C c (f c) q value
       → Kept B C start (set words (index C q) value) (set views id (with_claims (changed c.place f v.producer.claims) v))
@@ -189,7 +183,7 @@ module _ (B : Bodies) (C start : ℕ) where
       record { whole = st.place_aligned; from = padded; below = omega arith; late = inl (omega arith) }
 
   -- the header of a claim at the stage t is stored, and it is f of the claim from then on
-  header_step : (t : Stage) → (IsSettled t → ⊥) → (f : StagedClaim → StagedClaim) → (slots id : ℕ) (me : Mine)
+  pub header_step : (t : Stage) → (IsSettled t → ⊥) → (f : StagedClaim → StagedClaim) → (slots id : ℕ) (me : Mine)
       → me.0.capacity ≡ C → (k : ℕ) (c : StagedClaim) (value : ℕ) → HasClaim me.0 k c → c.stage ≡ t
       → (c.place % 8 ≡ 0 → Rewords B C c (f c) c.place value)
       → Allows (Ok B C start) slots id me (index C c.place) (λ _. value)
@@ -311,122 +305,5 @@ module _ (B : Bodies) (C start : ℕ) where
               subst (λ (z : ℤ × ℕ). Changes Padded (λ d. d.place) (with_header z.0 z.1) (index C c.place) me.0 t.0)
               (λ i. (types i, lengths i)) t.4.1),
           t.4.2,
-        ),
-      )
-
--- where bodies lie elsewhere, an own open claim may have another body of the same length, since no word shows it. The
--- step loads the claim's header
-module _ (C start : ℕ) where
-  pub gives_body : (slots id : ℕ) (me : Mine) → me.0.capacity ≡ C → (k : ℕ) (c : StagedClaim) (body : List ℕ)
-      → HasClaim me.0 k c → c.stage ≡ Stored Open → length body ≡ length c.message.body → All (λ b. b < 256) body
-      → Allows (Ok elsewhere C start) slots id me (index C c.place) (λ n. n)
-      (λ _ me'. (me'.1 ≡ me.1)
-      × Changes (Stored Open) (λ d. d.place) (with_body body) (index C c.place) me.0 me'.0
-      × AreRising me.0.producer.claims)
-  gives_body slots id me cap k c body has is long bytes s r wide at small =
-      let v : View = me.0 in
-      let mine : HasUnsettled elsewhere C start s.views id v k c =
-      record { seat = at; claim = has; unsettled = λ z. subst IsSettled is z } in
-      let st = stands elsewhere C start s.words s.views r id v k c mine in
-      let m = r.memory in
-      let padded = st.lies.padded in
-      let below = st.lies.below in
-      let behind = st.behind_scan in
-      let place8 = st.place_aligned in
-      let from = m.clears_from in
-      let to = m.clears_to in
-      let room = m.room in
-      let p : ℕ = c.place in
-      let value : ℕ = header_of (claim_of c) in
-      let bounds = span_bounds (length c.message.body) in
-      let found : slice_index s.words (index C p) ≡ value =
-      m.shows p place8 (omega arith) (omega arith)
-      ∙ ap (λ t. cond t 0 (staged_word_at elsewhere (all_of r.hist) p)) (le-ltb p r.consumer.cleared (omega arith))
-      ∙ word_of_claim elsewhere C start r.hist st.nth (id, c) p m.placed st.there (omega arith) (omega arith)
-      ∙ staged_word-header elsewhere c p refl
-      ∙ ap (λ t. masked_record t value) is in
-      let t = header_step elsewhere C start (Stored Open) (λ z. z) (with_body body) slots id me cap k c value has is
-      (λ p8. record {
-        may = record {
-          from = refl;
-          place = refl;
-          same_span = ap span long;
-          message = λ l. record {
-            type_id = l.type_id;
-            type_fits = l.type_fits;
-            short = (let short = l.short in omega arith);
-            bytes = bytes;
-          };
-        };
-        goes = λ stays. stays;
-        word = staged_word-header elsewhere (with_body body c) p refl
-            ∙ ap (masked_record c.stage) (header_of-with_body c body long) ∙ ap (λ t. masked_record t value) is;
-        others = λ q q8 ne. staged_word-with_body c body q q8 p8 ne;
-      }) s r wide at small in (
-        t.0,
-        t.1,
-        t.2,
-        subst (λ (n : ℕ). Ok elsewhere C start (stepped s (index C p) n id me.1 t.0 t.1)) (sym found) t.3,
-        t.4,
-      )
-
-module _ (C start : ℕ) where
-  pub puts : (slots id : ℕ) (me : Mine) → me.0.capacity ≡ C → (k : ℕ) (c : StagedClaim) (o value : ℕ)
-      → HasClaim me.0 k c → IsWordOfBody o value c → value < 2 ^ 64
-      → Allows (Ok in_words C start) slots id me (index C (c.place + 8 + o)) (λ _. value)
-      (λ _ me'. (me'.1 ≡ me.1) × StoresBody (index C (c.place + 8 + o)) value me.0 me'.0
-      × AreRising me.0.producer.claims)
-  puts slots id me cap k c o value has takes below_64 s r wide at small =
-      let v : View = me.0 in
-      let mine : HasUnsettled in_words C start s.views id v k c =
-      record { seat = at; claim = has; unsettled = λ z. subst IsSettled takes.stage z } in
-      let st = stands in_words C start s.words s.views r id v k c mine in
-      let padded = st.lies.padded in
-      let place8 = st.place_aligned in
-      let q : ℕ = c.place + 8 + o in
-      let n : ℕ = length c.message.body in
-      let o8 = takes.aligned in
-      let lt : o < n = takes.inside in
-      let long = length-with_word o value c.message.body (omega arith) in
-      let word : IsWordOf c q =
-      record { whole = omega arith; from = omega arith; below = omega arith; late = inl (omega arith) } in (
-        with_claims (changed c.place (with_body_word o value) v.producer.claims) v,
-        keeps,
-        tt,
-        edits in_words C start s.words s.views r id v k c mine (with_body_word o value) q value word (record {
-          may = record {
-            from = refl;
-            place = refl;
-            same_span = ap span long;
-            message = λ m. record {
-              type_id = m.type_id;
-              type_fits = m.type_fits;
-              short = (let short = m.short in omega arith);
-              bytes = bytes_of-with_word c.message.body o value m.bytes;
-            };
-          };
-          goes = λ stays. stays;
-          word = staged_word-in_words (with_body_word o value c) q o (subst IsStored (sym takes.stage) tt) refl
-              ∙ body_word-with_word c.message.body o value lt below_64 takes.zeros;
-          others = λ p p8 ne. staged_word-written in_words c o value p (omega arith) place8 o8 p8 ne;
-        }),
-        (
-          refl,
-          (λ k' c' o' has' is' o8' lt' same.
-              let other : HasUnsettled in_words C start s.views id v k' c' =
-              record { seat = at; claim = has'; unsettled = λ z. subst IsSettled is' z } in
-              let st' = stands in_words C start s.words s.views r id v k' c' other in
-              let padded' = st'.lies.padded in
-              let place8' = st'.place_aligned in
-              let n' : ℕ = length c'.message.body in
-              let q' : ℕ = c'.place + 8 + o' in
-              let one = same_place in_words C start s.words s.views r id v k k' c c' mine other q q' word
-              (record { whole = omega arith; from = omega arith; below = omega arith; late = inl (omega arith) })
-              (ap (λ z. index z q') (sym cap) ∙ same) in
-              let places : c'.place ≡ c.place = one.0 in
-              let positions : q' ≡ q = one.1 in
-              let offsets : o ≡ o' = omega arith in
-              λ i. with_claims (changed (sym places i) (with_body_word (offsets i) value) v.producer.claims) v),
-          rising in_words C start s.words s.views r id v at,
         ),
       )

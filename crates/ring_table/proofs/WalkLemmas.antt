@@ -1,8 +1,7 @@
 -- A walk over the headers of a closed ring.
-use Rattle.std.proofs.Common.{◌≡◌, ◌≢◌, ℕ, zero, suc, ◌+◌, ◌-◌, ◌*◌, ◌/◌, ◌%◌, ◌^◌, ◌≤◌, ◌<◌, ◌⊎◌, ℤ, pos, List, [], ◌∷◌, cond, set, get_or, slice_index, sym, refl, ap, ◌∙◌, subst, inl, inr, ⊎_elim, length, le-ltb, length-set, get_or-set_other, get_or-set_same, arith}
+use Rattle.std.proofs.Common.{◌≡◌, ◌≢◌, ℕ, suc, ◌+◌, ◌-◌, ◌*◌, ◌/◌, ◌%◌, ◌^◌, ◌≤◌, ◌<◌, ◌⊎◌, pos, List, [], ◌∷◌, cond, set, get_or, slice_index, sym, refl, ap, ◌∙◌, subst, inl, inr, ⊎_elim, length, le-ltb, length-set, get_or-set_other, get_or-set_same, arith}
 use mathlib.Core.Option.{some}
 use lib.ListN.{get_elem?}
-use Rattle.std.specs.Int.{cast_unsigned, w32}
 use Rattle.std.proofs.lemmas.Bool.{cases_lt}
 use Rattle.std.proofs.lemmas.Nat.{mod_below}
 use Rattle.ring_layout.specs.declared.message.ClaimState.TheVariants.{Open, Committed, Aborted}
@@ -12,11 +11,10 @@ use Rattle.ring_layout.specs.Places.{index, max_position, next_place, room}
 use Rattle.ring_layout.proofs.HeaderLemmas.{fits_pos}
 use Rattle.ring_layout.proofs.Laps.{LieInLap, mod_aligned, index_outside}
 use Rattle.ring_layout.proofs.PlaceLemmas.{next_cases, next_le, next_within}
-use Rattle.ring_table.specs.Staged.{in_words, elsewhere, padding_mark, padding_word, shown_header, PlacedMessage, StagedClaim, Stage, Moved, Padded, Stored, IsStored, claim_of, stage_state, staged_span, claim_end, masked_padding, masked_record, staged_word, staged_word_at, body_word, ArePlaced, staged_end}
+use Rattle.ring_table.specs.Staged.{in_words, elsewhere, padding_mark, padding_word, shown_header, PlacedMessage, StagedClaim, Stage, Moved, Padded, Stored, IsStored, claim_of, stage_state, staged_span, claim_end, staged_word_at, ArePlaced, staged_end}
 use Rattle.ring_table.specs.Owners.{OwnedHistory, all_of}
 use Rattle.ring_table.specs.Passing.{IsSettled, AreSettled, Reaches}
 use Rattle.ring_table.specs.ConsumerSteps.{rounded}
-use Rattle.ring_table.specs.SlotSteps.{words_of}
 use Rattle.ring_table.specs.Walk.{IsCopied, Parts, Stands, Walked}
 use Rattle.ring_table.proofs.BodyPlaces.{BodyIn, body_index}
 use Rattle.ring_table.proofs.HeaderReads.{high_half, halves, type_below, shown_other, shown_padding}

@@ -1,6 +1,5 @@
 use Rattle.std.proofs.Common.{◌≡◌, ℕ, ◌-◌, ◌*◌, List, length, sym, ap, ◌∙◌, subst}
-use Rattle.std.specs.Prelude.{vec_len}
-use Rattle.std.specs.Slots.{slots_items, slots_len, slots_counts}
+use Rattle.std.specs.Slots.{slots_items}
 use Rattle.ring_layout.specs.Layout.{ring_words}
 use Rattle.ring_table.specs.Closed.{IsClosed}
 use Rattle.ring_table.specs.Rule.{Kept}

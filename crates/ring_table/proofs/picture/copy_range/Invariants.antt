@@ -1,4 +1,4 @@
-use Rattle.std.proofs.Common.{◌≡◌, ◌-◌, ◌≤◌}
+use Rattle.std.proofs.Common.{◌-◌, ◌≤◌}
 use Rattle.std.specs.Slots.{slots_items}
 use Rattle.ring_table.specs.Walk.{IsCopied}
 use Rattle.ring_table.proofs.picture.copy_range.Given as goal

@@ -1,10 +1,10 @@
-use Rattle.std.proofs.Common.{◌≡◌, ℕ, ◌+◌, ◌-◌, ◌*◌, ◌/◌, ◌%◌, ◌^◌, ◌≤◌, ◌<◌, List, length, set, get_or, slice_index, sym, ap, ◌∙◌, subst, arith}
+use Rattle.std.proofs.Common.{◌≡◌, ℕ, List, length, slice_index, sym, ap, ◌∙◌, subst, arith}
 use Rattle.std.specs.Slots.{slots_items}
 use Rattle.atomic_table.proofs.Lists.{at_index}
 use Rattle.ring_layout.specs.Layout.{tail_index, head_index}
 use Rattle.ring_table.specs.Owners.{all_of}
 use Rattle.ring_table.specs.Staged.{staged_end}
-use Rattle.ring_table.specs.Walk.{Parts, Walked}
+use Rattle.ring_table.specs.Walk.{Walked}
 use Rattle.ring_table.proofs.PictureWords.{read_at}
 use Rattle.ring_table.proofs.WalkLemmas.{begins, stands_below}
 use Rattle.ring_table.proofs.picture.show_bodies.Goals as goal

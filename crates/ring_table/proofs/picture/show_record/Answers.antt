@@ -22,9 +22,9 @@ record Read (C at i w u n : ℕ) (made : List ℕ) : Type 0 where
   shown : u ≡ shown_header elsewhere w
   bytes : n ≡ (u % 2 ^ 32 + 7) / 8 * 8
 
-step : (C at i w u n : ℕ) (words slots made : List ℕ) (t : Parts C words slots) → Walked C t at made
+step : {C at i w u n : ℕ} {words slots made : List ℕ} (t : Parts C words slots) → Walked C t at made
     → at < staged_end t.start (all_of t.hist) → Read C at i w u n made → Goes C t at made w u n
-step C at i w u n words slots made t walked lt r =
+step {C} {at} {i} {w} {u} {n} {words} {slots} {made} t walked lt r =
     let least = t.lawful.capacity.least in
     let wide = r.wide in
     let low = mod_below at C (omega arith) in
@@ -37,11 +37,9 @@ step C at i w u n words slots made t walked lt r =
 pub overflow_sub-bytes : goal.overflow_sub-bytes
 overflow_sub-bytes c =
     let k = c.requires.walk in
-    let ok : c.args.words.now.len ≡ length c.args.words.now.items = c.args.words.now.ok.0 in
-    let g = step c.args.capacity c.args.at c.word_index-index.result c.index-header.result.now c.formatted-shown.result
-    c.align8-bytes.result _ _ c.args.words.now.items k.0 k.1 k.2 (record {
+    let g = step k.0 k.1 k.2 (record {
       i_is = c.word_index-index.ensures;
-      wide = sym ok ∙ c.requires.words;
+      wide = sym c.args.words.now.ok.0 ∙ c.requires.words;
       word = c.index-header.ensures;
       shown = c.formatted-shown.ensures;
       bytes = c.align8-bytes.ensures;
@@ -52,11 +50,9 @@ overflow_sub-bytes c =
 pub copy_range-requires-clause-slots : goal.copy_range-requires-clause-slots
 copy_range-requires-clause-slots c =
     let k = c.requires.walk in
-    let ok : c.args.words.now.len ≡ length c.args.words.now.items = c.args.words.now.ok.0 in
-    let g = step c.args.capacity c.args.at c.word_index-index.result c.index-header.result.now c.formatted-shown.result
-    c.align8-bytes.result _ _ c.args.words.now.items k.0 k.1 k.2 (record {
+    let g = step k.0 k.1 k.2 (record {
       i_is = c.word_index-index.ensures;
-      wide = sym ok ∙ c.requires.words;
+      wide = sym c.args.words.now.ok.0 ∙ c.requires.words;
       word = c.index-header.ensures;
       shown = c.formatted-shown.ensures;
       bytes = c.align8-bytes.ensures;
@@ -79,11 +75,9 @@ copy_range-requires-clause-words c =
 pub returns-clause-rises : goal.returns-clause-rises
 returns-clause-rises c =
     let k = c.requires.walk in
-    let ok : c.args.words.now.len ≡ length c.args.words.now.items = c.args.words.now.ok.0 in
-    let g = step c.args.capacity c.args.at c.word_index-index.result c.index-header.result.now c.formatted-shown.result
-    c.align8-bytes.result _ _ c.args.words.now.items k.0 k.1 k.2 (record {
+    let g = step k.0 k.1 k.2 (record {
       i_is = c.word_index-index.ensures;
-      wide = sym ok ∙ c.requires.words;
+      wide = sym c.args.words.now.ok.0 ∙ c.requires.words;
       word = c.index-header.ensures;
       shown = c.formatted-shown.ensures;
       bytes = c.align8-bytes.ensures;
@@ -94,13 +88,11 @@ returns-clause-rises c =
 pub returns-clause-walks : goal.returns-clause-walks
 returns-clause-walks c = λ t walked lt.
     let made : List ℕ = c.args.words.now.items in
-    let ok : c.args.words.now.len ≡ length made = c.args.words.now.ok.0 in
     let i_is = c.word_index-index.ensures in
     let n : ℕ = c.align8-bytes.result in
-    let g = step c.args.capacity c.args.at c.word_index-index.result c.index-header.result.now c.formatted-shown.result
-    n _ _ made t walked lt (record {
+    let g = step t walked lt (record {
       i_is = i_is;
-      wide = sym ok ∙ c.requires.words;
+      wide = sym c.args.words.now.ok.0 ∙ c.requires.words;
       word = c.index-header.ensures;
       shown = c.formatted-shown.ensures;
       bytes = c.align8-bytes.ensures;

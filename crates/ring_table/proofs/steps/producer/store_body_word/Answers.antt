@@ -6,7 +6,7 @@ use Rattle.ring_table.specs.Changes.{changed, with_body_word}
 use Rattle.ring_table.specs.Views.{View, with_claims}
 use Rattle.ring_table.specs.ProducerSteps.{StoresBody}
 use Rattle.ring_table.proofs.Calls.{same_seat, record_step, of_as, leaves_words}
-use Rattle.ring_table.proofs.StoreLemmas.{puts}
+use Rattle.ring_table.proofs.StoreBodies.{puts}
 use Rattle.ring_table.proofs.steps.producer.store_body_word.Goals as goal
 
 pub store-requires : goal.store-requires

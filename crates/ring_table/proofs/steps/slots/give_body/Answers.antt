@@ -4,7 +4,7 @@ use Rattle.ring_table.specs.Staged.{AreRising}
 use Rattle.ring_table.specs.SlotSteps.{GivesBody, HasBody}
 use Rattle.ring_table.specs.Views.{View}
 use Rattle.ring_table.proofs.SlotCalls.{slot_step, holder}
-use Rattle.ring_table.proofs.OutLemmas.{gives_it}
+use Rattle.ring_table.proofs.HomeLemmas.{gives_it}
 use Rattle.ring_table.proofs.steps.slots.give_body.Goals as goal
 
 pub load-requires : goal.load-requires

@@ -3,7 +3,7 @@ use Rattle.ring_layout.specs.Places.{index}
 use Rattle.ring_table.specs.SlotSteps.{HasBody, ReturnsBody}
 use Rattle.ring_table.specs.Views.{View}
 use Rattle.ring_table.proofs.SlotCalls.{slot_step, holder}
-use Rattle.ring_table.proofs.OutLemmas.{returns_body}
+use Rattle.ring_table.proofs.HomeLemmas.{returns_body}
 use Rattle.ring_table.proofs.steps.slots.return_body.Goals as goal
 
 pub load-requires : goal.load-requires

@@ -1,0 +1,196 @@
+-- The steps that give a body's slots back keep the rule.
+use Rattle.std.proofs.Common.{◌≡◌, ◌≢◌, ℕ, ◌+◌, ◌≤◌, ◌<◌, List, [], ◌∷◌, ◌++◌, true, set, map, slice_index, sym, refl, ap, ◌∙◌, subst, ⊎_elim, length, append-nil}
+use Rattle.std.specs.Prelude.{All}
+use mathlib.Core.Option.{some}
+use mathlib.Core.Logic.{dite}
+use native.Mathlib.Decide.{ℕ_discrete}
+use lib.ListN.{get_elem?}
+use Rattle.atomic_table.specs.Table.{Allows, homes_after, carried_after}
+use Rattle.atomic_table.proofs.Lists.{at_set, set_here}
+use Rattle.ring_layout.specs.declared.message.ClaimState.TheVariants.{Open}
+use Rattle.ring_layout.specs.Places.{index}
+use Rattle.ring_layout.proofs.ListLemmas.{at_below}
+use Rattle.ring_table.specs.Staged.{elsewhere, StagedClaim, PlacedMessage, Stored, AreRising}
+use Rattle.ring_table.specs.Changes.{changed, with_body}
+use Rattle.ring_table.specs.Passing.{IsSettled}
+use Rattle.ring_table.specs.Views.{View, with_claims}
+use Rattle.ring_table.specs.ProducerSteps.{Mine, HasClaim, with_changed}
+use Rattle.ring_table.specs.Rule.{Kept}
+use Rattle.ring_table.specs.Ranges.{numbered, values_of, gives_first, laid}
+use Rattle.ring_table.specs.Shelf.{IsClaimOf, IsShelf}
+use Rattle.ring_table.specs.SlotSteps.{words_of, AreWordsOf, HasBody, with_out, GivesBody, ReturnsBody, body_loads}
+use Rattle.ring_table.proofs.RangeLemmas.{values_numbered, carried_gives, valid_gives, homes_gives}
+use Rattle.ring_table.proofs.HistoryLemmas.{changed_at_place, changed_at_other}
+use Rattle.ring_table.proofs.StagedPlaces.{one_at_place}
+use Rattle.ring_table.proofs.StoreLemmas.{rising}
+use Rattle.ring_table.proofs.StoreBodies.{gives_body}
+use Rattle.ring_table.proofs.CarryLemmas.{Holds, was_changed, one_claim}
+use Rattle.ring_table.proofs.FillLemmas.{same_body}
+use Rattle.ring_table.proofs.BodyPlaces.{Lies}
+use Rattle.ring_table.proofs.OutPlaces.{own_lies, got_lies, in_history, one_out}
+use Rattle.ring_table.proofs.SlotLemmas.{gives_shelf}
+use Rattle.ring_table.proofs.OutLemmas.{set_twice, outed, loaded}
+
+-- claims of a view that has them as before
+same_claims : (views : List View) (id : ℕ) (v w : View) (c : StagedClaim) → get_elem? views id ≡ some v
+    → w.producer.claims ≡ v.producer.claims → IsClaimOf (set views id w) c → IsClaimOf views c
+same_claims views id v w c at claims of = ⊎_elim
+    (λ (t : (of.seat ≡ id) × (w ≡ of.view)). record {
+      seat = id;
+      view = v;
+      nth = of.nth;
+      there = at;
+      has = subst (λ l. get_elem? l of.nth ≡ some c) (ap (λ (z : View). z.producer.claims) (sym t.1) ∙ claims) of.has;
+      stored = of.stored;
+    })
+    (λ (t : (of.seat ≢ id) × (get_elem? views of.seat ≡ some of.view)). record {
+      seat = of.seat;
+      view = of.view;
+      nth = of.nth;
+      there = t.1;
+      has = of.has;
+      stored = of.stored;
+    })
+    (at_set views id of.seat w of.view of.there)
+
+module _ (C start : ℕ) where
+  pub returns_body : (slots id : ℕ) (me : Mine) → me.0.capacity ≡ C → me.0.consumes ≡ true
+      → (front : List PlacedMessage) (m : PlacedMessage) → me.0.consumer.got ≡ front ++ m ∷ []
+      → me.0.consumer.cleared ≤ m.place → me.0.out ≡ m ∷ [] → HasBody (index C m.place + 1) m.message.body me.1
+      → Allows (Holds elsewhere C start) slots id me (index C m.place) (λ n. n) (λ n me'. ReturnsBody me me')
+  returns_body slots id me cap consumes front m got ahead out has s r wide at small =
+      let v : View = me.0 in
+      let g = got_lies C start s.words s.homes s.views r.0 r.1 id v front m at consumes got ahead in
+      let p = g.passed in
+      let l = g.lies in
+      let i : ℕ = index C m.place in
+      let ws : List ℕ = has.values in
+      let carried : me.1 ≡ numbered (i + 1) ws ++ [] = has.held_is ∙ sym (append-nil (numbered (i + 1) ws)) in
+      let homes_are : homes_after s.homes me.1 (gives_first ws) ≡ laid (i + 1) (map some ws) s.homes =
+      ap (λ h. homes_after s.homes h (gives_first ws)) carried ∙ homes_gives s.homes (i + 1) ws [] in
+      let loads : List (ℕ × ℕ) = v.log ++ body_loads C m (words_of (length m.message.body)) in
+      let w : View = record v { out = []; log = loads } in (
+        w,
+        gives_first ws,
+        valid_gives s.homes me.1 ws,
+        (
+          loaded C start s i (set s.views id w) (outed elsewhere C start s.words s.views r.0 id v at [] loads),
+          subst (λ hs. IsShelf C hs (set s.views id w)) (sym homes_are)
+              (gives_shelf C start s.words s.homes s.views r.0 r.1 id v w at refl refl m ws (record {
+                was = out;
+                now = refl;
+                old = λ k c has_it stored ne. has_it;
+                right = λ c of same.
+                    let have : IsClaimOf s.views c = same_claims s.views id v w c at refl of in
+                    let h = in_history C start s.words s.homes s.views r.0 r.1 have.seat have.view have.nth c
+                    have.there have.has in
+                    let place : p.owned.1.place ≡ m.place = ap (λ (z : PlacedMessage). z.place) p.is in
+                    let one : (have.seat, c) ≡ p.owned =
+                    one_at_place C start r.0.hist h.nth p.nth (have.seat, c) p.owned r.0.memory.placed h.there p.there
+                    (same ∙ sym place) in
+                    let bodies : m.message.body ≡ c.message.body =
+                    ap (λ (z : PlacedMessage). z.message.body) (sym p.is)
+                    ∙ ap (λ (z : ℕ × StagedClaim). z.1.message.body) (sym one) in
+                    (subst (λ b. AreWordsOf b ws) bodies has.words, ap length (sym bodies));
+              }) l has.count),
+        ),
+        (
+          ap (λ h. carried_after h (gives_first ws)) carried ∙ carried_gives (i + 1) ws [],
+          λ m' out'.
+              let one : m ≡ m' = one_out m m' v.out out out' in
+              λ x. record v {
+                out = [];
+                log = v.log ++ body_loads (sym cap x) (one x) (words_of (length (one x).message.body));
+              },
+        ),
+      )
+
+  pub gives_it : (slots id : ℕ) (me : Mine) → me.0.capacity ≡ C → (k : ℕ) (c : StagedClaim) (m : PlacedMessage)
+      (body : List ℕ) → HasClaim me.0 k c → c.stage ≡ Stored Open → me.0.out ≡ m ∷ [] → c.place ≡ m.place
+      → length c.message.body ≡ length m.message.body → length body ≡ length c.message.body
+      → All (λ b. b < 256) body → HasBody (index C c.place + 1) body me.1
+      → Allows (Holds elsewhere C start) slots id me (index C c.place) (λ n. n)
+      (λ n me'. GivesBody me me' × AreRising me.0.producer.claims)
+  gives_it slots id me cap k c m body has is out places longs long bytes held s r wide at small =
+      let v : View = me.0 in
+      let un : IsSettled c.stage → ⊥ = λ z. subst IsSettled is z in
+      let l = own_lies C start s.words s.homes s.views r.0 r.1 id v k c at has un in
+      let l_m : Lies C r.0.consumer.head r.0.hist m.place (length m.message.body) =
+      subst (λ (z : ℕ × ℕ). Lies C r.0.consumer.head r.0.hist z.0 z.1) (λ x. (places x, longs x)) l in
+      let i : ℕ = index C c.place in
+      let ws : List ℕ = held.values in
+      let carried : me.1 ≡ numbered (i + 1) ws ++ [] = held.held_is ∙ sym (append-nil (numbered (i + 1) ws)) in
+      let homes_are : homes_after s.homes me.1 (gives_first ws) ≡ laid (index C m.place + 1) (map some ws) s.homes =
+      ap (λ h. homes_after s.homes h (gives_first ws)) carried ∙ homes_gives s.homes (i + 1) ws []
+      ∙ ap (λ p. laid (index C p + 1) (map some ws) s.homes) places in
+      let rises = rising elsewhere C start s.words s.views r.0 id v at in
+      let f : StagedClaim → StagedClaim = with_body body in
+      let mid : View = with_claims (changed c.place f v.producer.claims) v in
+      let w : View = with_out [] mid in
+      let t = gives_body C start slots id me cap k c body has is long bytes s r.0 wide at small in
+      let mid_is : t.0 ≡ mid = t.4.1 k c has is (ap (λ z. index z c.place) cap) in
+      let kept : Kept elsewhere C start (set s.words i (slice_index s.words i)) (set s.views id mid) =
+      subst (λ (z : View). Kept elsewhere C start (set s.words i (slice_index s.words i)) (set s.views id z)) mid_is t.3
+      in
+      let kept_out : Kept elsewhere C start (set s.words i (slice_index s.words i)) (set s.views id w) =
+      subst (λ l. Kept elsewhere C start (set s.words i (slice_index s.words i)) l) (set_twice s.views id mid w)
+      (outed elsewhere C start (set s.words i (slice_index s.words i)) (set s.views id mid) kept id mid
+      (set_here s.views id mid (at_below s.views id v at)) [] mid.log) in
+      let own : (k' : ℕ) (c' : StagedClaim) → HasClaim w k' c' → c'.place ≡ m.place → c' ≡ f c = λ k' c' has' same.
+      let d = was_changed c.place f v.producer.claims k' c' has' in
+      dite (ℕ_discrete d.0.place c.place)
+      (λ here.
+      let one : c ≡ d.0 = one_claim v.producer.claims k k' c d.0 rises has d.1 (sym here) in
+      sym d.2 ∙ changed_at_place c.place f d.0 here ∙ ap f (sym one))
+      (λ there. absurd (there (ap (λ (z : StagedClaim). z.place)
+      (sym (changed_at_other c.place f d.0 there) ∙ d.2) ∙ same ∙ sym places))) in (
+        w,
+        gives_first ws,
+        valid_gives s.homes me.1 ws,
+        (
+          kept_out,
+          subst (λ hs. IsShelf C hs (set s.views id w)) (sym homes_are)
+              (gives_shelf C start s.words s.homes s.views r.0 r.1 id v w at refl refl m ws (record {
+                was = out;
+                now = refl;
+                old = λ k' c' has' stored ne.
+                    let d = was_changed c.place f v.producer.claims k' c' has' in
+                    dite (ℕ_discrete d.0.place c.place)
+                    (λ here. absurd (ne (ap (λ (z : StagedClaim). z.place)
+                    (sym d.2 ∙ changed_at_place c.place f d.0 here) ∙ here ∙ places)))
+                    (λ there. d.1 ∙ ap some (sym (changed_at_other c.place f d.0 there) ∙ d.2));
+                right = λ c' of same. ⊎_elim
+                    (λ (t : (of.seat ≡ id) × (w ≡ of.view)).
+                    let one : c' ≡ f c = own of.nth c' (subst (λ (z : View). HasClaim z of.nth c') (sym t.1) of.has) same
+                    in (
+                      subst (λ (z : StagedClaim). AreWordsOf z.message.body ws) (sym one) held.words,
+                      ap (λ (z : StagedClaim). length z.message.body) one ∙ long ∙ longs,
+                    ))
+                    (λ (t : (of.seat ≢ id) × (get_elem? s.views of.seat ≡ some of.view)).
+                    let h = in_history C start s.words s.homes s.views r.0 r.1 of.seat of.view of.nth c' t.1 of.has in
+                    let mine = in_history C start s.words s.homes s.views r.0 r.1 id v k c at has in
+                    let one : (of.seat, c') ≡ (id, c) =
+                    one_at_place C start r.0.hist h.nth mine.nth (of.seat, c') (id, c) r.0.memory.placed h.there
+                    mine.there (same ∙ sym places) in
+                    absurd (t.0 (ap (λ (z : ℕ × StagedClaim). z.0) one)))
+                    (at_set s.views id of.seat w of.view of.there);
+              }) l_m (held.count ∙ ap words_of (long ∙ longs))),
+        ),
+        (
+          (
+            ap (λ h. carried_after h (gives_first ws)) carried ∙ carried_gives (i + 1) ws [],
+            λ m' i' body' out' long' bytes' held'.
+                let messages : m ≡ m' = one_out m m' v.out out out' in
+                let slots_are : numbered (i + 1) ws ≡ numbered i' held'.values = sym held.held_is ∙ held'.held_is in
+                let values : ws ≡ held'.values = sym (values_numbered (i + 1) ws) ∙ ap values_of slots_are
+                ∙ values_numbered i' held'.values in
+                let lengths : length body ≡ length body' =
+                long ∙ longs ∙ ap (λ (z : PlacedMessage). length z.message.body) messages ∙ sym long' in
+                let equal : body ≡ body' = same_body body body' ws lengths bytes bytes' held.words
+                (subst (AreWordsOf body') (sym values) held'.words) held.count in
+                λ x. with_out [] (with_changed ((places ∙ ap (λ (z : PlacedMessage). z.place) messages) x)
+                (with_body (equal x)) v),
+          ),
+          rises,
+        ),
+      )
