@@ -14,6 +14,7 @@ pub mod ClaimLemmas
 pub mod StoreLemmas
 pub mod ConsumeLemmas
 pub mod ClearLemmas
+pub mod RecordLemmas
 pub mod ServiceLemmas
 pub mod ServeLemmas
 pub mod RestLemmas
