@@ -1,6 +1,6 @@
 //! The steps of a ring whose bodies lie in slots, which one seat at a time reads and writes as plain memory. Headers and
 //! the trailer are words.
-ghost use Rattle.std.specs.Prelude.{◌≡◌, ℕ, ◌+◌, ◌/◌, ◌%◌, ◌≤◌, List, [], ◌∷◌, ◌++◌, length};
+ghost use Rattle.std.specs.Prelude.{◌≡◌, ℕ, ◌+◌, ◌/◌, ◌%◌, ◌≤◌, ◌<◌, List, [], ◌∷◌, ◌++◌, length};
 ghost use Rattle.ring_layout.specs.History.{IsMessage};
 ghost use Rattle.ring_layout.specs.Places.{max_position};
 ghost use Rattle.ring_table.specs.declared.claim.PlacedMessage.{PlacedMessage};
@@ -9,18 +9,19 @@ ghost use Rattle.ring_table.specs.Changes.{blank};
 ghost use Rattle.ring_table.specs.ProducerSteps.{HasClaimAt};
 ghost use Rattle.ring_table.specs.Seats.{IsSameSeat, IsSeatOf};
 ghost use Rattle.ring_table.specs.SlotSteps.{IsOpenOf};
-ghost use Rattle.ring_table.specs.Views.{with_claims};
+ghost use Rattle.ring_table.specs.Views.{cleared_to, with_claims, with_consumer};
 ghost use Rattle.ring_rings.specs.Bodies.{recorded, HasPaddedLast, IsPaddedLast, PutsBytes};
 ghost use Rattle.ring_rings.specs.ReadingSteps.{CopiesBody, HasBodyAt, HasGotLast, HasLastAt, IsReaderSeatOf, OnlyLoads};
 
-use crate::consumer::pass::clear_up;
 use crate::steps::{Closes, Steps};
+use ring_layout::{align8, word_index};
 use ring_table::{
-    InSlots, Key, RingSeat, SharedRing, SlotTable, Wanted, close_slots, draw_correlation_id,
-    join_consumer, join_producer, load_cache, load_first_header, load_head, load_heartbeat,
-    load_next_header, load_tail, move_tail, open_slots, put_slots, read_slots, split_consumer,
-    split_producer, store_aborted_header, store_cache, store_claimed_slots, store_committed_header,
-    store_head, store_head_before, store_heartbeat, store_padding_header, store_tail, write_slots,
+    InSlots, Key, RingSeat, SharedRing, SlotTable, Wanted, clear_record, clear_word, close_slots,
+    draw_correlation_id, join_consumer, join_producer, load_cache, load_first_header, load_head,
+    load_heartbeat, load_next_header, load_passed_header, load_tail, move_tail, open_slots,
+    put_slots, read_slots, split_consumer, split_producer, store_aborted_header, store_cache,
+    store_claimed_slots, store_committed_header, store_head, store_head_before, store_heartbeat,
+    store_padding_header, store_tail, write_slots,
 };
 use std::alloc::{AllocError, Global};
 
@@ -85,6 +86,64 @@ fn load_body(
         → CopiesBody capacity m seat.old.me.0 scratch.new seat.new.me.0 }
 {
     read_slots(slots, seat, capacity, place, len, scratch);
+}
+
+/// Clears what the read has passed from the position `at` on: a message's record that ends at or below `to`, or else one
+/// word. Returns where that ends.
+#[inline(always)]
+fn clear_next(
+    slots: &SharedRing<InSlots>,
+    seat: &mut RingSeat,
+    capacity: u32,
+    at: u64,
+    to: u64,
+) -> u64
+    requires seat { IsReaderSeatOf slots.now.table_id slots.now.key capacity seat.old }
+    requires cleared { seat.old.me.0.consumer.cleared ≡ at }
+    requires passed { (at < to) × (to ≤ seat.old.me.0.consumer.scan) }
+    requires whole { (at % 8 ≡ 0) × (to % 8 ≡ 0) }
+    ensures seat { IsSameSeat seat.old seat.new }
+    ensures view { seat.new.me.0 ≡ with_consumer (cleared_to result seat.old.me.0.consumer) seat.old.me.0 }
+    ensures end { (at < result) × (result ≤ to) × (result % 8 ≡ 0) }
+{
+    let target = word_index(capacity, at);
+    let header = load_passed_header(slots, seat, capacity, at, target);
+    if header == 0 {
+        return at + 8;
+    }
+    // The type id in the high half is below 0 in the headers of padding and of aborted records.
+    if header < 1 << 63 {
+        let bytes = align8(header % (1 << 32));
+        if bytes <= to - at {
+            clear_record(slots, seat, capacity, at, target);
+            return at + bytes;
+        }
+    }
+    clear_word(slots, seat, capacity, at, target);
+    at + 8
+}
+
+/// Clears all that the read has passed, from the head up to the position `to`. Of a message's record it stores to the
+/// header alone, and touches no other word.
+#[inline(always)]
+fn clear_records(
+    slots: &SharedRing<InSlots>,
+    seat: &mut RingSeat,
+    capacity: u32,
+    head: u64,
+    to: u64,
+)
+    requires seat { IsReaderSeatOf slots.now.table_id slots.now.key capacity seat.old }
+    requires cleared { seat.old.me.0.consumer.cleared ≡ head }
+    requires passed { (head ≤ to) × (to ≤ seat.old.me.0.consumer.scan) }
+    requires whole { (head % 8 ≡ 0) × (to % 8 ≡ 0) }
+    ensures seat { IsSameSeat seat.old seat.new }
+    ensures view { seat.new.me.0 ≡ with_consumer (cleared_to to seat.old.me.0.consumer) seat.old.me.0 }
+{
+    let mut at = head;
+    while at < to {
+        at = clear_next(slots, seat, capacity, at, to);
+    }
 }
 
 impl Steps for SlotTable {
@@ -255,7 +314,7 @@ impl Steps for SlotTable {
 
     #[inline(always)]
     fn clear_up(&self, seat: &mut RingSeat, capacity: u32, head: u64, to: u64) {
-        clear_up(&self.shared, seat, capacity, head, to);
+        clear_records(&self.shared, seat, capacity, head, to);
     }
 
     #[inline(always)]

@@ -1,6 +1,6 @@
 -- The consumer clears what it has passed, and stores the head.
 use Rattle.ring_table.specs.Staged.{Bodies}
-use Rattle.std.proofs.Common.{◌≡◌, ℕ, ◌+◌, ◌-◌, ◌/◌, ◌≤◌, ◌<◌, List, [], ◌∷◌, ◌++◌, cond, ltb, true, set, get_or, slice_index, sym, refl, ap, ◌∙◌, subst, ⊎_elim, lt-ltb, le-ltb, length-set, get_or-set_other, get_or-set_same, arith}
+use Rattle.std.proofs.Common.{◌≡◌, ℕ, ◌+◌, ◌-◌, ◌/◌, ◌%◌, ◌≤◌, ◌<◌, List, [], ◌∷◌, ◌++◌, cond, ltb, true, set, get_or, slice_index, sym, refl, ap, ◌∙◌, subst, ⊎_elim, lt-ltb, le-ltb, length-set, get_or-set_other, get_or-set_same, arith}
 use mathlib.Core.Option.{some}
 use mathlib.Core.Logic.{dite}
 use native.Mathlib.Decide.{ℕ_discrete}
@@ -13,7 +13,7 @@ use Rattle.ring_layout.specs.Layout.{tail_index, head_index}
 use Rattle.ring_table.specs.Staged.{PlacedMessage, staged_word_at}
 use Rattle.ring_table.specs.Owners.{OwnedHistory, all_of}
 use Rattle.ring_table.specs.Passing.{Reaches}
-use Rattle.ring_table.specs.Views.{ConsumerView, View, Wanted, with_consumer, cleared_to, stands_at}
+use Rattle.ring_table.specs.Views.{ConsumerView, View, with_consumer, cleared_to, stands_at}
 use Rattle.ring_table.specs.Rule.{Kept}
 use Rattle.ring_table.specs.ProducerSteps.{Mine}
 use Rattle.ring_table.specs.ConsumerSteps.{LoadsPassed, ClearsWord, StoresHead, StoresHeadBefore}
@@ -53,22 +53,31 @@ one_end g g' m m' e = (
 )
 
 module _ (B : Bodies) (C start : ℕ) where
-  same_shown : (p cleared x : ℕ) → (p < cleared + 8 → p < cleared)
-      → cond (ltb p cleared) 0 x ≡ cond (ltb p (cleared + 8)) 0 x
-  same_shown p cleared x back = ⊎_elim
-      (λ (a : p < cleared). ap (λ b. cond b 0 x) (lt-ltb p cleared a ∙ sym (lt-ltb p (cleared + 8) (omega arith))))
-      (λ (a : cleared ≤ p). ap (λ b. cond b 0 x)
-      (le-ltb p cleared a
-      ∙ sym (le-ltb p (cleared + 8) (let far : ¬ (p < cleared + 8) = λ z. let y =
-      back z in omega arith in omega arith))))
+  -- what is 0 shows the same once it is cleared
+  same_shown : (p cleared to x : ℕ) → cleared ≤ to → (cleared ≤ p → p < to → x ≡ 0)
+      → cond (ltb p cleared) 0 x ≡ cond (ltb p to) 0 x
+  same_shown p cleared to x on bare = ⊎_elim
+      (λ (a : p < cleared). ap (λ b. cond b 0 x) (lt-ltb p cleared a ∙ sym (lt-ltb p to (omega arith))))
+      (λ (a : cleared ≤ p). ap (λ b. cond b 0 x) (le-ltb p cleared a)
+      ∙ ⊎_elim
+      (λ (z : p < to). bare a z ∙ sym (ap (λ b. cond b 0 x) (lt-ltb p to z)))
+      (λ (z : to ≤ p). sym (ap (λ b. cond b 0 x) (le-ltb p to z)))
+      (cases_lt p to))
       (cases_lt p cleared)
 
-  -- the next word that the read has passed becomes 0
-  clears_at : (s : State ℕ View) (r : Ok B C start s) (id : ℕ) (v : View) → get_elem? s.views id ≡ some v
-      → v.consumes ≡ true → v.consumer.cleared < v.consumer.scan
+  -- the next words that the read has passed, up to a position, are those to clear, and only the first is not 0
+  pub record Sweeps (hist : OwnedHistory) (c : ConsumerView) (to : ℕ) : Type 0 where
+    pub on : c.cleared + 8 ≤ to
+    pub passed : to ≤ c.scan
+    pub whole : to % 8 ≡ 0
+    pub bare : (p : ℕ) → p % 8 ≡ 0 → c.cleared < p → p < to → staged_word_at B (all_of hist) p ≡ 0
+
+  -- that word becomes 0
+  pub sweeps_at : (s : State ℕ View) (r : Ok B C start s) (id : ℕ) (v : View) → get_elem? s.views id ≡ some v
+      → v.consumes ≡ true → (to : ℕ) → Sweeps r.hist r.consumer to
       → Kept B C start (set s.words (index C v.consumer.cleared) 0)
-      (set s.views id (with_consumer (cleared_to (v.consumer.cleared + 8) v.consumer) v))
-  clears_at s r id v at consumes more =
+      (set s.views id (with_consumer (cleared_to to v.consumer) v))
+  sweeps_at s r id v at consumes to sweep =
       let mine = ((r.seated.each id v at).consumes consumes).1 in
       let h : OwnedHistory = r.hist in
       let law = r.lawful in
@@ -77,20 +86,18 @@ module _ (B : Bodies) (C start : ℕ) where
       let q : ℕ = v.consumer.cleared in
       let head : ℕ = r.consumer.head in
       let q_is : q ≡ r.consumer.cleared = ap (λ (z : ConsumerView). z.cleared) mine in
-      let scan_is : v.consumer.scan ≡ r.consumer.scan = ap (λ (z : ConsumerView). z.scan) mine in
       let from = m.clears_from in
       let eight = m.clears_words in
       let room = m.room in
       let bounds = reach_bounds C r.consumer.scan start (all_of h) r.consumer.got m.placed m.passed in
       let below_top = bounds.1 in
-      let scan8 = reach_aligned C r.consumer.scan start (all_of h) r.consumer.got (omega arith)
-      (capacity_aligned C law.capacity) (start_aligned C start law) m.placed m.passed in
+      let on = sweep.on in
+      let passed = sweep.passed in
       let inside = index_inside B C start law q in
       let wide = m.wide in
-      let now : ConsumerView = cleared_to (r.consumer.cleared + 8) r.consumer in
-      let next : ConsumerView → ConsumerView = λ z. cleared_to (z.cleared + 8) z in
+      let now : ConsumerView = cleared_to to r.consumer in
       subst (λ (c : ConsumerView). Kept B C start (set s.words (index C q) 0) (set s.views id (with_consumer c v)))
-      (ap next (sym mine))
+      (ap (cleared_to to) (sym mine))
       (consumed B C start s.words s.views r id v at consumes (index C q) 0 now v.log
       (record {
         wide = length-set s.words (index C q) 0 ∙ m.wide;
@@ -104,18 +111,17 @@ module _ (B : Bodies) (C start : ℕ) where
         took = m.took;
         passed = m.passed;
         clears_from = omega arith;
-        clears_to = omega arith;
-        clears_words = omega arith;
+        clears_to = passed;
+        clears_words = sweep.whole;
         shows = λ p p8 p0 p1. dite (ℕ_discrete p q)
             (λ e. ap (λ k. get_or (set s.words (index C q) 0) (index C k) 0) e
             ∙ get_or-set_same s.words (index C q) 0 0 (omega arith)
-            ∙ sym (ap (λ b. cond b 0 (staged_word_at B (all_of h) p))
-            (lt-ltb p (r.consumer.cleared + 8) (omega arith))))
+            ∙ sym (ap (λ b. cond b 0 (staged_word_at B (all_of h) p)) (lt-ltb p to (omega arith))))
             (λ ne. get_or-set_other s.words (index C q) (index C p) 0 0
             (λ e. ne (one_position B C start law head p q (record { whole = p8; from = p0; below = p1 })
             (record { whole = omega arith; from = omega arith; below = omega arith }) e))
-            ∙ m.shows p p8 p0 p1 ∙ same_shown p r.consumer.cleared (staged_word_at B (all_of h) p)
-            (λ x. omega arith));
+            ∙ m.shows p p8 p0 p1 ∙ same_shown p r.consumer.cleared to (staged_word_at B (all_of h) p) (omega arith)
+            (λ lo hi. sweep.bare p p8 (omega arith) hi));
       })
       (record {
         cache = λ e. omega arith;
@@ -124,6 +130,28 @@ module _ (B : Bodies) (C start : ℕ) where
         unnamed = λ j un. not_inside B C start law q j un.behind;
       })
       (record { rises = omega arith; same = refl }))
+
+  -- the next word that the read has passed becomes 0
+  pub clears_at : (s : State ℕ View) (r : Ok B C start s) (id : ℕ) (v : View) → get_elem? s.views id ≡ some v
+      → v.consumes ≡ true → v.consumer.cleared < v.consumer.scan
+      → Kept B C start (set s.words (index C v.consumer.cleared) 0)
+      (set s.views id (with_consumer (cleared_to (v.consumer.cleared + 8) v.consumer) v))
+  clears_at s r id v at consumes more =
+      let mine = ((r.seated.each id v at).consumes consumes).1 in
+      let law = r.lawful in
+      let m = r.memory in
+      let least = law.capacity.least in
+      let eight = m.clears_words in
+      let q_is : v.consumer.cleared ≡ r.consumer.cleared = ap (λ (z : ConsumerView). z.cleared) mine in
+      let scan_is : v.consumer.scan ≡ r.consumer.scan = ap (λ (z : ConsumerView). z.scan) mine in
+      let scan8 = reach_aligned C r.consumer.scan start (all_of r.hist) r.consumer.got (omega arith)
+      (capacity_aligned C law.capacity) (start_aligned C start law) m.placed m.passed in
+      sweeps_at s r id v at consumes (v.consumer.cleared + 8) (record {
+        on = omega arith;
+        passed = omega arith;
+        whole = omega arith;
+        bare = λ p p8 lo hi. absurd (omega arith);
+      })
 
   pub clears_word : (slots id : ℕ) (me : Mine) → me.0.consumes ≡ true → me.0.consumer.cleared < me.0.consumer.scan
       → Allows (Ok B C start) slots id me (index C me.0.consumer.cleared) (λ _. 0)

@@ -42,7 +42,9 @@ pub use steps::seats::{join_consumer, join_producer, split_consumer, split_produ
 pub use steps::service::{
     draw_correlation_id, load_cache, load_heartbeat, store_cache, store_heartbeat,
 };
-pub use steps::slots::{give_body, lend_body, open_body, return_body, take_body};
+pub use steps::slots::{
+    clear_record, give_body, lend_body, load_passed_header, open_body, return_body, take_body,
+};
 pub use steps::{RingSeat, SharedRing};
 pub use table::{RingTable, SlotTable, close, open, open_slots};
 pub use view::{ConsumerView, Key, ProducerView, Service, View, Wanted};

@@ -1,5 +1,7 @@
 //! What the steps on slots say.
+ghost use Rattle.std.specs.Prelude.{◌≡◌};
 ghost use Rattle.ring_table.specs.Staged.{AreRising};
+ghost use Rattle.ring_table.specs.ConsumerSteps.{ClearsRecord, LoadsRecord};
 ghost use Rattle.ring_table.specs.SlotSteps.{GivesBody, LendsBody, OpensBody, ReturnsBody, TakesBody};
 
 use crate::view::View;
@@ -33,4 +35,16 @@ pub struct ReturnBody;
 
 impl Play<u64, View> for ReturnBody {
     ghost then = { λ st me n me'. ReturnsBody me me' };
+}
+
+pub struct LoadRecord;
+
+impl Play<u64, View> for LoadRecord {
+    ghost then = { λ st me n me'. (me'.1 ≡ me.1) × LoadsRecord me.0 n me'.0 };
+}
+
+pub struct ClearRecord;
+
+impl Play<u64, View> for ClearRecord {
+    ghost then = { λ st me n me'. (me'.1 ≡ me.1) × ClearsRecord me.0 me'.0 };
 }

@@ -1,17 +1,20 @@
-//! The steps that take the slots of a body and give them back, if bodies lie in slots. Between them the seat reads and
-//! writes the slots as plain memory.
-ghost use Rattle.std.specs.Prelude.{◌≡◌, ◌+◌, ◌/◌, [], ◌∷◌, List, ℕ, true};
+//! The steps of a ring whose bodies lie in slots. Some take the slots of a body and give them back: between them the
+//! seat reads and writes the slots as plain memory. The others clear a record whose header alone is not 0.
+ghost use Rattle.std.specs.Prelude.{◌≡◌, ◌+◌, ◌/◌, ◌<◌, [], ◌∷◌, List, ℕ, true};
 ghost use Rattle.ring_layout.specs.History.{IsMessage};
 ghost use Rattle.ring_layout.specs.Places.{index};
 ghost use Rattle.ring_table.specs.Staged.{AreRising};
 ghost use Rattle.ring_table.specs.Changes.{blank, with_header};
+ghost use Rattle.ring_table.specs.ConsumerSteps.{ClearsRecord, LoadsRecord};
 ghost use Rattle.ring_table.specs.ProducerSteps.{with_changed, HasClaimAt, NeedsHeader};
-ghost use Rattle.ring_table.specs.Seats.{IsSeatOf};
+ghost use Rattle.ring_table.specs.Seats.{IsSameSeat, IsSeatOf};
 ghost use Rattle.ring_table.specs.SlotSteps.{with_out, words_of, GivesBody, HasLast, HasSlots, IsHolderOf, IsLent};
 ghost use Rattle.ring_table.specs.SlotSteps.{IsOpen, IsSameHolder, IsTaken, LendsBody, ReturnsBody, TakesBody};
 
 use crate::mode::InSlots;
-use crate::plays::slots::{GiveBody, LendBody, OpenBody, ReturnBody, TakeBody};
+use crate::plays::slots::{
+    ClearRecord, GiveBody, LendBody, LoadRecord, OpenBody, ReturnBody, TakeBody,
+};
 use crate::steps::{RingSeat, SharedRing};
 use crate::view::Wanted;
 use ring_layout::{open_header, word_index};
@@ -81,4 +84,43 @@ pub fn return_body(ring: &SharedRing<InSlots>, consumer: &mut RingSeat, capacity
     ensures returns { ReturnsBody consumer.old.me consumer.new.me }
 {
     ring.load::<ReturnBody>(consumer, word_index(capacity, place));
+}
+
+/// Loads the next word that the read has passed and not yet cleared. If it is 0 it counts as cleared. If it is a message's
+/// header it says how long that record is. Its index in the buffer is `target`.
+pub fn load_passed_header(
+    ring: &SharedRing<InSlots>,
+    consumer: &mut RingSeat,
+    capacity: u32,
+    cleared: u64,
+    target: usize,
+) -> u64
+    requires seat { IsSeatOf ring.now.table_id ring.now.key capacity consumer.old }
+    requires target { target ≡ index capacity cleared }
+    requires consumes { consumer.old.me.0.consumes ≡ true }
+    requires cleared { consumer.old.me.0.consumer.cleared ≡ cleared }
+    requires passed { cleared < consumer.old.me.0.consumer.scan }
+    ensures seat { IsSameSeat consumer.old consumer.new }
+    ensures told { LoadsRecord consumer.old.me.0 result consumer.new.me.0 }
+{
+    ring.load::<LoadRecord>(consumer, target)
+}
+
+/// Sets that word to 0. If a message's record begins there it is cleared to its end, since its other words are 0.
+pub fn clear_record(
+    ring: &SharedRing<InSlots>,
+    consumer: &mut RingSeat,
+    capacity: u32,
+    cleared: u64,
+    target: usize,
+)
+    requires seat { IsSeatOf ring.now.table_id ring.now.key capacity consumer.old }
+    requires target { target ≡ index capacity cleared }
+    requires consumes { consumer.old.me.0.consumes ≡ true }
+    requires cleared { consumer.old.me.0.consumer.cleared ≡ cleared }
+    requires passed { cleared < consumer.old.me.0.consumer.scan }
+    ensures seat { IsSameSeat consumer.old consumer.new }
+    ensures told { ClearsRecord consumer.old.me.0 consumer.new.me.0 }
+{
+    ring.store::<ClearRecord>(consumer, target, 0);
 }

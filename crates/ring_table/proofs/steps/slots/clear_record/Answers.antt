@@ -1,0 +1,19 @@
+use Rattle.std.proofs.Common.{◌≡◌, arith, refl}
+use Rattle.ring_table.specs.Staged.{elsewhere}
+use Rattle.ring_table.specs.ConsumerSteps.{ClearsRecord}
+use Rattle.ring_table.proofs.Calls.{same_seat, record_step, leaves_same, of_as}
+use Rattle.ring_table.proofs.RecordLemmas.{clears_record}
+use Rattle.ring_table.proofs.steps.slots.clear_record.Goals as goal
+
+pub store-requires : goal.store-requires
+store-requires c =
+    let at = c.requires.cleared in
+    let passed = c.requires.passed in
+    record_step elsewhere c.requires.seat _ c.args.cleared _ c.requires.target at (λ _. 0)
+    (λ _ me _ me'. (me'.1 ≡ me.1) × ClearsRecord me.0 me'.0)
+    (λ _ _ t _ _ _. (t.0, leaves_same elsewhere t.1 refl refl refl refl))
+    (clears_record c.args.capacity c.args.ring.now.key.start _ _ c.args.consumer.now.me c.requires.consumes
+    (omega arith))
+
+pub returns-clause-seat : goal.returns-clause-seat
+returns-clause-seat c = let h = c.store.ensures in same_seat h.0 h.1 h.2.0 (of_as h.2.1 refl refl)
