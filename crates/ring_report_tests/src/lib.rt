@@ -1,8 +1,10 @@
-//! Tests of reports.
+//! Tests of snapshots and of their reports.
 #![tactic(auto)]
 
 #[cfg(test)]
 mod boards;
+#[cfg(test)]
+mod listing;
 #[cfg(test)]
 mod printing;
 #[cfg(test)]

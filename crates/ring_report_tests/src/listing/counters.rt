@@ -2,8 +2,8 @@
 ghost use Rattle.std.specs.Prelude.{◌<◌};
 ghost use Rattle.ring_counters.specs.Manager.{IsManagerOf};
 
-use crate::random::Numbers;
-use crate::words::{has_bytes, words_of};
+use crate::listing::random::Numbers;
+use crate::listing::words::{has_bytes, words_of};
 use ring_counters::{CounterValues, CountersManager, IdFault};
 use ring_snapshot::{
     Counter, CounterMetadata, CounterState, CounterValueWords, CountersFinding, CountersSnapshot,

@@ -1,6 +1,6 @@
 //! Rings whose bodies lie apart.
-use crate::random::Numbers;
-use crate::words::words_of;
+use crate::listing::random::Numbers;
+use crate::listing::words::words_of;
 use ring_snapshot::{RecordState, RingFinding, RingSnapshot, formatted_header, join_bodies};
 use ring_words::{Action, Handler, SoloRing};
 use std::alloc::Global;

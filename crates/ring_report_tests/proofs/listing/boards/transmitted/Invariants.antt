@@ -1,5 +1,5 @@
 use Rattle.ring_board.specs.Seats.{IsTransmitterOf}
-use Rattle.ring_snapshot_tests.proofs.boards.transmitted.Given as goal
+use Rattle.ring_report_tests.proofs.listing.boards.transmitted.Given as goal
 
 abbrev pub invariant-sends : goal.invariant-sends
 invariant-sends g l = IsTransmitterOf l.board l.transmitter

@@ -1,6 +1,6 @@
 //! What is listed of boards.
-use crate::random::Numbers;
-use crate::words::words_of;
+use crate::listing::random::Numbers;
+use crate::listing::words::words_of;
 use ring_board::{Board, ClosedBoard};
 use ring_snapshot::{BoardFinding, BoardRecord, BoardSnapshot};
 use std::alloc::Global;

@@ -1,6 +1,6 @@
 //! What is listed of rings.
-use crate::random::Numbers;
-use crate::words::{has_bytes, words_of};
+use crate::listing::random::Numbers;
+use crate::listing::words::{has_bytes, words_of};
 use ring_snapshot::{RecordState, RingFinding, RingSnapshot};
 use ring_words::{Action, Handler, SoloRing};
 use std::alloc::Global;

@@ -1,7 +1,7 @@
 //! What is found among words that look random.
-use crate::boards::transmitted;
-use crate::random::Numbers;
-use crate::words::words_of;
+use crate::listing::boards::transmitted;
+use crate::listing::random::Numbers;
+use crate::listing::words::words_of;
 use ring_counters::CountersManager;
 use ring_snapshot::{CounterMetadata, Words, next_board, next_counter, next_ring};
 use ring_words::SoloRing;
