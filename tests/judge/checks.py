@@ -12,8 +12,9 @@ import tempfile
 import threading
 import time
 
-from .attacks import Attack, put_attacks
-from .edits import read, replaced
+from .attacks import Attack
+from .copies import Trial
+from .edits import Edit, grouped, read
 from .log import Log
 
 TOP = os.path.dirname(os.path.dirname(os.path.dirname(os.path.realpath(__file__))))
@@ -59,21 +60,16 @@ class Run:
                     total.update(repr((os.path.relpath(f"{at}/{it}", TOP), read(f"{at}/{it}"))).encode())
         return f"{crate}-{total.hexdigest()}"
 
-    def copy(self, crate, edits, room):
-        """Copies the crate with these edits, and what was built of it and of those below. Returns its folder."""
-        own = f"{room}/crates/{crate}"
-        for it in self.all_below(crate):
-            for part in (*SOURCES, "out/incremental" if it == crate else "out/rlib"):
+    def copy(self, trial, room):
+        """Copies a crate, and what was built of it and of those below, for a trial. Returns its folder."""
+        own = f"{room}/crates/{trial.crate}"
+        for it in self.all_below(trial.crate):
+            for part in (*SOURCES, "out/incremental" if it == trial.crate else "out/rlib"):
                 if os.path.isdir(f"{TOP}/crates/{it}/{part}"):
                     shutil.copytree(f"{TOP}/crates/{it}/{part}", f"{room}/crates/{it}/{part}")
         with open(f"{room}/crates.txt", "w", encoding="utf-8") as it:
-            it.writelines(self.lines[name] for name in sorted(self.all_below(crate)))
-        for file in {change[0] for edit in edits for change in edit.changes}:
-            changes = [change[1:] for edit in edits for change in edit.changes if change[0] == file]
-            text = replaced(read(f"{own}/{file}"), changes)
-            with open(f"{own}/{file}", "w", encoding="utf-8") as it:
-                it.write(text)
-        put_attacks(own, [it for it in edits if isinstance(it, Attack)])
+            it.writelines(self.lines[name] for name in sorted(self.all_below(trial.crate)))
+        trial.put(own)
         return own
 
     def wait_for_memory(self):
@@ -83,28 +79,29 @@ class Run:
                 time.sleep(2)
             self.running += 1
 
-    def rt(self, crate, words, edits, label):
-        """Runs rt in a copy of the crate that has these edits, and keeps what a build made."""
+    def rt(self, trial, words, label):
+        """Runs rt in a copy of a crate for a trial, and keeps what a build made."""
+        crate, is_build = trial.crate, not trial.its
         self.wait_for_memory()
         try:
             with tempfile.TemporaryDirectory(prefix="wrong-bodies-") as room:
-                total = "" if edits else source_sum(crate)
-                own = self.copy(crate, edits, room)
+                total = source_sum(crate) if is_build else ""
+                own = self.copy(trial, room)
                 began = time.time()
                 log, seconds = self.ran(crate, words, own, f"{self.logs or room}/{crate}-{label}.log")
                 if log.status == -signal.SIGKILL:
                     # most likely for memory, which the others give back
                     log, more = self.ran(crate, words, own, f"{self.logs or room}/{crate}-{label}-again.log")
                     seconds += more
-                if not edits and log.status == 0:
+                if is_build and log.status == 0:
                     keep(crate, own, total)
         finally:
             self.running -= 1
         self.seconds[crate] += seconds
         spent = f"{seconds:.0f} s of processor, {time.time() - began:.0f} s"
-        print(f"{crate}: {label}: {len(edits)} tried, {spent}", flush=True)
+        print(f"{crate}: {label}: {len(trial.its)} tried, {spent}", flush=True)
         has_said = log.is_verdict or re.search(r"\berror(\[|:)", log.text)
-        if not has_said if edits else log.status:
+        if log.status if is_build else not has_said:
             sys.exit(f"{sys.argv[0]}: rt {words[0]} of {crate} ended with status {log.status}: {log.text[-600:]}")
         return log
 
@@ -118,48 +115,58 @@ class Run:
             return Log(crate, said.read(), os.waitstatus_to_exitcode(ended)), used.ru_utime + used.ru_stime
 
     def build(self, crate):
-        self.rt(crate, ["lib", "--jobs", "1"], [], "build")
+        self.rt(Trial(crate, []), ["lib", "--jobs", "1"], "build")
 
-    def judge(self, crate, edits, label):
-        """Settles these edits by as few checks as it takes."""
-        log = self.rt(crate, ["check", "--jobs", "1"], edits, label)
-        if len(edits) == 1:
-            edits[0].settle(*log.verdict_alone(edits[0]))
+    def judge(self, crate, its, label):
+        """Settles these edits and attacks by as few checks as it takes."""
+        trial = Trial(crate, its)
+        log = self.rt(trial, ["check", "--jobs", "1"], label)
+        if len(its) == 1 and isinstance(its[0], Edit) and not trial.copies:
+            its[0].settle(*log.verdict_alone(its[0]))
             return
-        for number, part in enumerate(self.parts_left(crate, edits, label, log)):
+        for number, part in enumerate(self.parts_left(trial, log, label)):
             self.judge(crate, part, f"{label}.{number}")
 
-    def judge_attacks(self, crate, attacks, label):
-        """Settles these attacks by one check, or each by one of its own if that gives no verdict."""
-        log = self.rt(crate, ["check", "--jobs", "1"], attacks, label)
-        for number, it in enumerate(attacks):
-            it.settle(*it.verdict_of(log))
-            if it.verdict == "undecided" and len(attacks) > 1:
-                self.judge_attacks(crate, [it], f"{label}.{number}")
-
-    def parts_left(self, crate, edits, label, log):
-        """Settles what a check of several edits decides, and returns the rest as it is tried next."""
-        halves = [edits[::2], edits[1::2]]
+    def parts_left(self, trial, log, label):
+        """Settles what a check decides, and returns the rest as it is tried next."""
         if not log.is_verdict:
-            # those of a function in which the front end names a line are tried apart
-            refused = log.lines_refused()
-            named = [it for it in edits if any(it.has_line(*line) for line in refused)]
-            others = [it for it in edits if it not in named]
-            if self.is_random and named:
-                for it in named:
-                    it.settle("bad", "it does not compile")
-                return [others] if others else []
-            return [*([it] for it in named), others] if named and others else halves
-        leaks = {*log.own} - {log.find(target) for it in edits for target in it.targets}
+            return self.parts_of_unread(trial, log)
+        targets = [target for it in trial.its for target in trial.targets(it)]
+        leaks = {*log.own} - {log.find(it) for it in targets}
         if leaks:
             why = f"{' '.join(sorted(leaks))}: {log.own[min(leaks)][0][:200]}"
-            print(f"{crate}: {label}: no edit changes what fails: {why}", flush=True)
-            return halves
-        for it in edits:
-            it.settle(*log.verdict(it))
-        undecided = [it for it in edits if it.verdict == "undecided"]
+            print(f"{trial.crate}: {label}: no edit changes what fails: {why}", flush=True)
+            return halves(trial)
+        for it in trial.its:
+            it.settle(*trial.verdict(it, log))
+        left = [it for it in trial.its if it.verdict == "undecided"]
+        for it in left:
+            if it in trial.copies:
+                it.apart()
+        left = [it for it in left if it.verdict == "undecided"]
         # (the functions that they call are whole again, but for their own edits)
-        return [undecided] if 0 < len(undecided) < len(edits) else [[it] for it in undecided]
+        return grouped(left) if len(left) < len(trial.its) or trial.copies else [[it] for it in left]
+
+    def parts_of_unread(self, trial, log):
+        """Returns the parts of a trial that the front end refuses: apart what it names, if it names any."""
+        lines = log.lines_refused()
+        named = [it for it in trial.its if any(trial.has_line(it, *line) for line in lines)]
+        others = [it for it in trial.its if it not in named]
+        if not named or not others and len(named) > 1 and not self.is_random:
+            return halves(trial)
+        for it in named:
+            it.apart()
+            if self.is_random:
+                it.settle("bad", "it does not compile")
+        return [*([it] for it in named if not it.verdict), *([others] if others else [])]
+
+
+def halves(trial):
+    """Returns both halves of a trial, or what it has alone, in its place if that was a copy."""
+    if len(trial.its) > 1:
+        return [trial.its[::2], trial.its[1::2]]
+    trial.its[0].apart()
+    return [it for it in [trial.its] if trial.copies and not it[0].verdict]
 
 
 def source_sum(crate):
