@@ -32,10 +32,11 @@ class Run:
     """The crates, and what the checks of this run took.
 
     is_random: the edits were written at random, and many do not compile. Those that the front end names are bad.
+    is_beside: it runs beside a check of all crates. Checks of edits get what that leaves of the processors.
     """
 
-    def __init__(self, logs=None, is_random=False):
-        self.logs, self.is_random, self.seconds = logs, is_random, collections.Counter()
+    def __init__(self, logs=None, is_random=False, is_beside=False):
+        self.logs, self.is_random, self.is_beside, self.seconds = logs, is_random, is_beside, collections.Counter()
         rows = [line for line in read(f"{TOP}/crates.txt").splitlines(True) if re.match(r"\w", line)]
         self.lines = {re.match(r"\w+", line)[0]: line for line in rows}
         self.starting, self.running = threading.Lock(), 0
@@ -102,25 +103,25 @@ class Run:
         print(f"{crate}: {label}: {len(trial.its)} tried, {spent}", flush=True)
         has_said = log.is_verdict or re.search(r"\berror(\[|:)", log.text)
         if log.status if is_build else not has_said:
-            sys.exit(f"{sys.argv[0]}: rt {words[0]} of {crate} ended with status {log.status}: {log.text[-600:]}")
+            sys.exit(f"{sys.argv[0]}: {' '.join(words)} of {crate} ended with status {log.status}: {log.text[-600:]}")
         return log
 
     def ran(self, crate, words, folder, path):
         """Runs rt in a folder. Returns what it said, and its seconds of processor."""
         with open(path, "w+", errors="replace", encoding="utf-8") as said:
             streams = {"stdin": subprocess.DEVNULL, "stdout": said, "stderr": subprocess.STDOUT}
-            done = subprocess.Popen(["rt", *words], cwd=folder, **streams)
+            done = subprocess.Popen(words, cwd=folder, **streams)
             _, ended, used = os.wait4(done.pid, 0)
             said.seek(0)
             return Log(crate, said.read(), os.waitstatus_to_exitcode(ended)), used.ru_utime + used.ru_stime
 
     def build(self, crate):
-        self.rt(Trial(crate, []), ["lib", "--jobs", "1"], "build")
+        self.rt(Trial(crate, []), ["rt", "lib", "--jobs", "1"], "build")
 
     def judge(self, crate, its, label):
         """Settles these edits and attacks by as few checks as it takes."""
         trial = Trial(crate, its)
-        log = self.rt(trial, ["check", "--jobs", "1"], label)
+        log = self.rt(trial, [*(["nice", "-n", "19"] if self.is_beside else []), "rt", "check", "--jobs", "1"], label)
         if len(its) == 1 and isinstance(its[0], Edit) and not trial.copies:
             its[0].settle(*log.verdict_alone(its[0]))
             return
@@ -198,7 +199,7 @@ def builds(run, crates):
     return tasks
 
 
-def in_turn(tasks, jobs):
+def in_turn(tasks, jobs, builds_at_once):
     """Makes calls, so many at once, each after those that it waits for, and first those that the most waits for.
 
     A task is the keys that it waits for, its seconds as far as they are known, a function and its arguments.
@@ -206,12 +207,17 @@ def in_turn(tasks, jobs):
     def after(key):
         return tasks[key][1] + max((after(it) for it in tasks if key in tasks[it][0]), default=0)
 
+    def may_begin(key):
+        others = [it for it in running.values() if it[1] == "build" == key[1]]
+        return ended.issuperset(tasks[key][0]) and len(running) < jobs and len(others) < builds_at_once
+
     left, running, ended = sorted(tasks, key=after, reverse=True), {}, set()
     with concurrent.futures.ThreadPoolExecutor(jobs) as pool:
         while left or running:
-            for key in [it for it in left if ended.issuperset(tasks[it][0])][: jobs - len(running)]:
-                left.remove(key)
-                running[pool.submit(*tasks[key][2:])] = key
+            for key in [*left]:
+                if may_begin(key):
+                    left.remove(key)
+                    running[pool.submit(*tasks[key][2:])] = key
             for it in concurrent.futures.wait(running, return_when=concurrent.futures.FIRST_COMPLETED).done:
                 it.result()
                 ended.add(running.pop(it))
