@@ -76,10 +76,13 @@ def put_proofs(crate, proved, copies):
         names = re.compile(rf"(\bRattle\.{crate}\.(?:proofs|specs\.contracts)\.{path and path + '[.]'}){plain}\b")
         for at, _, files in os.walk(to):
             for file in files:
-                text = names.sub(rf"\1{it.name}", read(f"{at}/{file}"))
+                text, count = names.subn(rf"\1{it.name}", read(f"{at}/{file}"))
                 text = re.sub(rf"(?<![\w.]){plain}_spec\b", f"{it.name}_spec", text)
                 with open(f"{at}/{file}", "w", encoding="utf-8") as out:
                     out.write(text)
+                if not count:
+                    # (whose goals it answers cannot be seen)
+                    named[it] = "?"
     return named
 
 
@@ -121,4 +124,5 @@ class Trial:
         right = log.find(copy.function)
         if right is None or self.given.get(copy) != (right if right in self.proved else None):
             return "undecided", "its copy has not the proof files of its function"
-        return log.verdict([copy.target])
+        verdict, why = log.verdict([copy.target])
+        return ("undecided", why) if verdict == "bad" else (verdict, why)

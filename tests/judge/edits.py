@@ -4,7 +4,7 @@ import os
 from .functions import HEAD, at_place, functions_of, line_of
 
 # How many edits and attacks one check judges at most.
-MOST = 60
+MOST = 80
 
 
 def read(path):
@@ -126,10 +126,11 @@ def grouped(its):
     alone = [[it] for it in its if it.is_shared]
     rest = [it for it in its if not it.is_shared]
     groups = [[] for _ in range(-(-len(rest) // MOST))]
-    for it in rest:
+    # (first what is changed in its place: as few checks as can be prove again what rests on that)
+    for it in sorted(rest, key=lambda it: not it.keys()):
         free = [of for of in groups if not any(other.keys() & it.keys() for other in of)]
         if not free:
             free = [[]]
             groups += free
-        min(free, key=len).append(it)
+        (free[0] if it.keys() else min(free, key=len)).append(it)
     return [*groups, *alone]
