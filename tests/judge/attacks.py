@@ -17,7 +17,7 @@ class Attack:
     """The text of a proof file whose lemma `attack` ends in a record, and the field of it that has no proof."""
 
     changes = additions = spans = targets = ()  # it changes no file of the crate
-    is_shared = False
+    is_shared = is_unchanged = False
 
     def __init__(self, crate, name, text):
         self.crate, self.name, self.text = crate, name, text
