@@ -92,7 +92,7 @@ def stored(top, crate, path):
 
 
 def unchanged(edit):
-    """Returns, of an edit that is tried on a copy of its function, one that copies this function and changes nothing."""
+    """Returns an edit that changes nothing, to be tried on a copy of the function that this edit changes."""
     it = Edit(edit.crate, f"copy of {edit.targets[0].name} in {edit.changes[-1][0]}")
     it.targets, it.spans, it.is_unchanged = edit.targets[:1], edit.spans[-1:], True
     it.changes = [(edit.changes[-1][0], edit.targets[0].begin, edit.targets[0].begin, "")]
