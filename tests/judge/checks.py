@@ -140,11 +140,9 @@ class Run:
             return halves(trial)
         for it in trial.its:
             it.settle(*trial.verdict(it, log))
-        left = [it for it in trial.its if it.verdict == "undecided"]
-        for it in left:
-            if it in trial.copies:
+            if it in trial.copies and it.verdict in ("undecided", *(() if self.is_random else ("bad",))):
                 it.apart()
-        left = [it for it in left if it.verdict == "undecided"]
+        left = [it for it in trial.its if it.verdict in ("undecided", None)]
         # (the functions that they call are whole again, but for their own edits)
         return grouped(left) if len(left) < len(trial.its) or trial.copies else [[it] for it in left]
 
@@ -166,8 +164,12 @@ def halves(trial):
     """Returns both halves of a trial, or what it has alone, in its place if that was a copy."""
     if len(trial.its) > 1:
         return [trial.its[::2], trial.its[1::2]]
-    trial.its[0].apart()
-    return [it for it in [trial.its] if trial.copies and not it[0].verdict]
+    alone = trial.its[0]
+    if trial.copies:
+        alone.apart()
+    else:
+        alone.settle("undecided", "its check gives no verdict")
+    return [] if alone.verdict else [trial.its]
 
 
 def source_sum(crate):

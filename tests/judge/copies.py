@@ -124,5 +124,4 @@ class Trial:
         right = log.find(copy.function)
         if right is None or self.given.get(copy) != (right if right in self.proved else None):
             return "undecided", "its copy has not the proof files of its function"
-        verdict, why = log.verdict([copy.target])
-        return ("undecided", why) if verdict == "bad" else (verdict, why)
+        return log.verdict([copy.target])

@@ -50,9 +50,8 @@ class Edit:
 
     def apart(self):
         """Has it tried in its place, since a copy told nothing. Of a copy that nothing changes that is the verdict."""
-        self.in_place = True
-        if self.is_unchanged:
-            self.settle("bad", self.why or "its copy does not compile")
+        self.in_place, self.verdict = True, "bad" if self.is_unchanged else None
+        self.why = self.why or "its copy does not compile"
 
     def replace(self, file, text, start, end, new):
         """Adds a stretch of a file, whose text this is."""
