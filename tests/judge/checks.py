@@ -201,20 +201,22 @@ def builds(run, crates):
     return tasks
 
 
-def in_turn(tasks, jobs, builds_at_once):
+def in_turn(tasks, jobs, is_beside=False):
     """Makes calls, so many at once, each after those that it waits for, and first those that the most waits for.
 
-    A task is the keys that it waits for, its seconds as far as they are known, a function and its arguments.
+    A task is the keys that it waits for, its seconds as far as they are known, a function and its arguments. Beside
+    another run builds go one after another, and wait for no other task.
     """
     def after(key):
         return tasks[key][1] + max((after(it) for it in tasks if key in tasks[it][0]), default=0)
 
     def may_begin(key):
-        others = [it for it in running.values() if it[1] == "build" == key[1]]
-        return ended.issuperset(tasks[key][0]) and len(running) < jobs and len(others) < builds_at_once
+        is_build = key[1] == "build"
+        others = [it for it in running.values() if not is_beside or (it[1] == "build") == is_build]
+        return ended.issuperset(tasks[key][0]) and len(others) < (1 if is_beside and is_build else jobs)
 
     left, running, ended = sorted(tasks, key=after, reverse=True), {}, set()
-    with concurrent.futures.ThreadPoolExecutor(jobs) as pool:
+    with concurrent.futures.ThreadPoolExecutor(jobs + 1) as pool:
         while left or running:
             for key in [*left]:
                 if may_begin(key):
