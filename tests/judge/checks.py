@@ -39,7 +39,7 @@ class Run:
         self.logs, self.is_random, self.is_beside, self.seconds = logs, is_random, is_beside, collections.Counter()
         rows = [line for line in read(f"{TOP}/crates.txt").splitlines(True) if re.match(r"\w", line)]
         self.lines = {re.match(r"\w+", line)[0]: line for line in rows}
-        self.starting, self.running = threading.Lock(), 0
+        self.starting, self.running, self.builds_left = {True: threading.Lock(), False: threading.Lock()}, 0, 0
 
     def deps(self, crate):
         return [it for it in self.lines[crate].partition(":")[2].split() if it in self.lines]
@@ -73,17 +73,20 @@ class Run:
         trial.put(own)
         return own
 
-    def wait_for_memory(self):
-        """Returns once there is memory for one more check, or no other check of this run is left to wait for."""
-        with self.starting:
-            while self.running and free_memory() < NEEDS:
+    def wait_for_memory(self, is_build):
+        """Returns once there is memory for one more check, or no other check of this run is left to wait for.
+
+        A check of edits also leaves memory for a build, as long as one is to come.
+        """
+        with self.starting[is_build]:
+            while self.running and free_memory() < NEEDS * (2 if self.builds_left and not is_build else 1):
                 time.sleep(2)
             self.running += 1
 
     def rt(self, trial, words, label):
         """Runs rt in a copy of a crate for a trial, and keeps what a build made."""
         crate, is_build = trial.crate, not trial.its
-        self.wait_for_memory()
+        self.wait_for_memory(is_build)
         try:
             with tempfile.TemporaryDirectory(prefix="wrong-bodies-") as room:
                 total = source_sum(crate) if is_build else ""
@@ -117,6 +120,7 @@ class Run:
 
     def build(self, crate):
         self.rt(Trial(crate, []), ["rt", "lib", "--jobs", "1"], "build")
+        self.builds_left -= 1
 
     def judge(self, crate, its, label):
         """Settles these edits and attacks by as few checks as it takes."""
@@ -197,6 +201,7 @@ def builds(run, crates):
         files = [f"{at}/{it}" for at, _, names in os.walk(f"{TOP}/crates/{crate}/src") for it in names]
         seconds = 0 if is_built else sum(len(read(it)) for it in files) / 300
         call = (lambda: None,) if is_built else (run.build, crate)
+        run.builds_left += not is_built
         tasks[crate, "build"] = ([(it, "build") for it in run.deps(crate)], seconds, *call)
     return tasks
 
