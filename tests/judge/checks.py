@@ -142,13 +142,16 @@ class Run:
             why = f"{' '.join(sorted(leaks))}: {log.own[min(leaks)][0][:200]}"
             print(f"{trial.crate}: {label}: no edit changes what fails: {why}", flush=True)
             return halves(trial)
+        again = {"undecided"} if self.is_random else {"undecided", "bad"}
         for it in trial.its:
             it.settle(*trial.verdict(it, log))
-            if it in trial.copies and it.verdict in ("undecided", *(() if self.is_random else ("bad",))):
-                it.apart()
+            if it in trial.copies and it.verdict in again:
+                it.apart(has_others=any(other.keys() for other in trial.its))
         left = [it for it in trial.its if it.verdict in ("undecided", None)]
+        same, rest = ([it for it in left if it.is_unchanged == is_same] for is_same in (True, False))
         # (the functions that they call are whole again, but for their own edits)
-        return grouped(left) if len(left) < len(trial.its) or trial.copies else [[it] for it in left]
+        is_smaller = len(left) < len(trial.its) or trial.copies
+        return [*([same] if same else []), *(grouped(rest) if is_smaller else [[it] for it in rest])]
 
     def parts_of_unread(self, trial, log):
         """Returns the parts of a trial that the front end refuses: apart what it names, if it names any."""

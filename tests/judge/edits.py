@@ -48,9 +48,12 @@ class Edit:
     def keys_in_place(self):
         return {it.key() for it in self.targets}
 
-    def apart(self):
-        """Has it tried in its place, since a copy told nothing. Of a copy that nothing changes that is the verdict."""
-        self.in_place, self.verdict = True, "bad" if self.is_unchanged else None
+    def apart(self, has_others=False):
+        """Has it tried in its place, since a copy told nothing. Of a copy that nothing changes that is the verdict.
+
+        has_others: others were tried in their place, and may be why the copy told nothing.
+        """
+        self.in_place, self.verdict = not self.is_unchanged, "bad" if self.is_unchanged and not has_others else None
         self.why = self.why or "its copy does not compile"
 
     def replace(self, file, text, start, end, new):
