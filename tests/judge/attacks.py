@@ -16,8 +16,8 @@ ERROR = r"^(?:\./)?proofs/%s\.antt:(\d+):\d+: error: (.*(?:\n .*)*)"
 class Attack:
     """The text of a proof file whose lemma `attack` ends in a record, and the field of it that has no proof."""
 
-    changes = ()  # it changes no file of the crate
-    targets = ()
+    changes = additions = spans = targets = ()  # it changes no file of the crate
+    is_shared = is_unchanged = False
 
     def __init__(self, crate, name, text):
         self.crate, self.name, self.text = crate, name, text
@@ -35,6 +35,12 @@ class Attack:
 
     def settle(self, verdict, why):
         self.verdict, self.why = verdict, why
+
+    def is_copied(self):
+        return False
+
+    def keys(self):
+        return set()
 
     def module(self):
         return f"attack_{self.name}"

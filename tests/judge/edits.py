@@ -1,7 +1,10 @@
 """An edit of a crate, and which edits one check can judge together."""
 import os
 
-from .functions import at_place, functions_of, line_of
+from .functions import HEAD, at_place, functions_of, line_of
+
+# How many edits and attacks one check judges at most.
+MOST = 80
 
 
 def read(path):
@@ -22,20 +25,36 @@ class Edit:
     def __init__(self, crate, name):
         self.crate, self.name = crate, name
         self.changes = []  # (file, start, end, new text)
+        self.additions = []  # those of them that put a new function in the place of a comment
         self.targets = []  # the functions that it changes
         self.spans = []  # (file, first line, last line) of these functions, or of the line itself
         self.is_shared = False  # whether it changes what other functions can see
+        self.in_place = False  # whether it was tried on a copy of its function, which told nothing
+        self.is_unchanged = False  # whether it is no edit, and only tries a copy
         self.verdict, self.why = None, ""
 
     def settle(self, verdict, why):
         self.verdict, self.why = verdict, why
 
+    def is_copied(self):
+        """Tests whether it is tried on a copy of its function."""
+        is_one = not self.is_shared and len(self.keys_in_place()) == 1
+        return is_one and self.targets[0].is_copyable and not self.in_place
+
     def keys(self):
+        """Returns what no other edit of its check may change."""
+        return set() if self.is_copied() else self.keys_in_place()
+
+    def keys_in_place(self):
         return {it.key() for it in self.targets}
 
-    def has_line(self, file, line):
-        """Tests whether a line is in a function that it changes."""
-        return any(file == of and first <= line <= last for of, first, last in self.spans)
+    def apart(self, has_others=False):
+        """Has it tried in its place, since a copy told nothing. Of a copy that nothing changes that is the verdict.
+
+        has_others: others were tried in their place, and may be why the copy told nothing.
+        """
+        self.in_place, self.verdict = not self.is_unchanged, "bad" if self.is_unchanged and not has_others else None
+        self.why = self.why or "its copy does not compile"
 
     def replace(self, file, text, start, end, new):
         """Adds a stretch of a file, whose text this is."""
@@ -43,10 +62,14 @@ class Edit:
         if file.startswith("src/"):
             function = at_place(functions_of(self.crate, file, text), start)
         self.changes.append((file, start, end, new))
+        if not function and text.startswith("//", start) and HEAD.match(new):
+            self.additions.append(self.changes[-1])
         begin, last = (function.begin, function.end) if function else (start, end)
-        self.spans.append((file, line_of(text, begin), line_of(text, last)))
+        # (an addition's before those of functions)
+        at = len(self.additions) - 1 if self.changes[-1] in self.additions else len(self.spans)
+        self.spans.insert(at, (file, line_of(text, begin), line_of(text, last)))
         self.targets += [function] if function else []
-        self.is_shared = self.is_shared or function is None
+        self.is_shared = len(self.additions) + len(self.targets) < len(self.changes)
 
 
 def stored(top, crate, path):
@@ -70,6 +93,14 @@ def stored(top, crate, path):
     return edit
 
 
+def unchanged(edit):
+    """Returns an edit that changes nothing, to be tried on a copy of the function that this edit changes."""
+    it = Edit(edit.crate, f"copy of {edit.targets[0].name} in {edit.changes[-1][0]}")
+    it.targets, it.spans, it.is_unchanged = edit.targets[:1], edit.spans[-1:], True
+    it.changes = [(edit.changes[-1][0], edit.targets[0].begin, edit.targets[0].begin, "")]
+    return it
+
+
 def add_pair(edit, folder, file, of, old, new):
     """Adds a pair of texts, which applies to what the pairs before it made of the file."""
     text = read(f"{folder}/{file}") if file and old and os.path.isfile(f"{folder}/{file}") else ""
@@ -89,14 +120,19 @@ def add_pair(edit, folder, file, of, old, new):
     edit.replace(file, text, start, start + len(old), new)
 
 
-def grouped(edits):
-    """Puts each edit into the first group that has none of its functions, and what other functions can see alone."""
-    groups = []
-    for edit in edits:
-        free = (it for it in groups if not any(other.is_shared or other.keys() & edit.keys() for other in it))
-        group = None if edit.is_shared else next(free, None)
-        if group is None:
-            groups.append([edit])
-        else:
-            group.append(edit)
-    return groups
+def grouped(its):
+    """Puts edits and attacks into as few groups as one check each can judge, of about one size.
+
+    No two of a group change one function in its place, and what other functions can see is changed alone.
+    """
+    alone = [[it] for it in its if it.is_shared]
+    rest = [it for it in its if not it.is_shared]
+    groups = [[] for _ in range(-(-len(rest) // MOST))]
+    # (first what is changed in its place: as few checks as can be prove again what rests on that)
+    for it in sorted(rest, key=lambda it: not it.keys()):
+        free = [of for of in groups if not any(other.keys() & it.keys() for other in of)]
+        if not free:
+            free = [[]]
+            groups += free
+        (free[0] if it.keys() else min(free, key=len)).append(it)
+    return [*groups, *alone]

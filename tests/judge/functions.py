@@ -1,6 +1,6 @@
 """Finds the functions of a source file."""
 import re
-from dataclasses import dataclass
+from dataclasses import dataclass, replace
 
 # The head of a function, and that of an impl, a trait or a macro.
 HEAD = re.compile(r"(?:pub(?:\([\w: ]+\))? )?(?:(?:const|unsafe|extern \"C\") )*fn (\w+)")
@@ -20,12 +20,33 @@ class Function:
     module: str  # the path of its module, with that of the crate first
     argument: str  # what its name has more than that of the same function in another impl
     cycle: str  # the cycle of calls that it belongs to, or ""
-    begin: int  # where its body begins in the file, and where it ends
+    item: int  # where its doc comment or first attribute begins in the file
+    named: int  # where its name does
+    begin: int  # where its body begins, and where it ends
     end: int
+    after: int  # where its last line ends
+    is_copyable: bool  # whether a copy of it under another name can stand beside it
 
     def key(self):
         """Returns what two functions share that one check cannot tell apart."""
         return self.cycle or (self.module, self.begin)
+
+    def plain(self):
+        """Returns its name without that of its type."""
+        return self.name.rpartition("::")[2]
+
+    def among(self, names):
+        """Returns those of a check's names that may be its own: one, if the check has it and has no other like it."""
+        end = f"+{self.cycle}" if self.cycle else "\0"
+        found = [it for it in names if self.pattern.search(it) or it.endswith(end)]
+        for word in (self.argument, f"{self.module}::"):
+            found = [it for it in found if word in it] if len(found) > 1 else found
+        return found
+
+    def called(self, name):
+        """Returns the same function under another name."""
+        pattern = self.pattern.pattern.removesuffix(f"{self.plain()}$") + f"{name}$"
+        return replace(self, name=self.name.removesuffix(self.plain()) + name, pattern=re.compile(pattern))
 
 
 def functions_of(crate, file, text):
@@ -48,11 +69,42 @@ def functions_of(crate, file, text):
         within = [it[1:] for it in owners if at < it[0]]
         if not head or any(kind == "macro_rules!" for kind, _ in within):
             continue
-        above = "\n".join(lines[max(at - 4, 0) : at]).rpartition("}")[2]
-        cycle = (re.findall(r"#\[cycle\((\w+)\)\]", above) or [""])[0]
+        first = first_line(lines, depths, at)
+        cycle = (re.findall(r"#\[cycle\((\w+)\)\]", "\n".join(lines[first:at])) or [""])[0]
         name, pattern, argument = names_of(head[1], path, within)
-        found.append(Function(name, re.compile(pattern), path, argument, cycle, places[begin + 1], places[end]))
+        spots = places[first], places[at] + line.index(head[0]) + head.start(1), places[begin + 1], places[end]
+        is_copyable = not cycle and can_be_copied(head[1], owner_of(within), text[places[begin + 1] : places[end]])
+        found.append(Function(name, re.compile(pattern), path, argument, cycle, *spots, places[end + 1], is_copyable))
     return found
+
+
+def can_be_copied(name, owner, body):
+    """Tests whether a copy of a function can stand beside it.
+
+    What is written in a trait or for one has no other name there, and a copy of a function that calls itself would call
+    the right one.
+    """
+    before = r"\b(self\.|Self::)" if owner == "impl" else r"(?<![\w.:])"
+    calls_itself = re.search(rf"{before}{name}(::<[^()]*>)?\(", body)
+    return owner in ("", "impl") and name != "main" and not calls_itself
+
+
+def first_line(lines, depths, at):
+    """Returns the line at which the comments and attributes above the head of an item begin."""
+    first = at
+    while first > 0 and lines[first - 1].strip() and depths[first - 1] >= depths[at]:
+        if depths[first - 1] == depths[at] and not re.match(r"\s*(//|#|\)+\]$)", lines[first - 1]):
+            break
+        first -= 1
+    return first
+
+
+def owner_of(within):
+    """Returns "" for a free function, "impl" for a method of a type's own, and else what a function is written in."""
+    if not within:
+        return ""
+    kind, of = within[-1][:2]
+    return kind if kind != "impl" or " for " not in of else "impl for"
 
 
 def block(lines, depths, at):

@@ -57,15 +57,12 @@ class Log:
 
     def find(self, target):
         """Returns the check's name of a function, or None if the check does not name exactly one."""
-        end = f"+{target.cycle}" if target.cycle else "\0"
-        found = [it for it in self.functions if target.pattern.search(it) or it.endswith(end)]
-        for word in (target.argument, f"{target.module}::"):
-            found = [it for it in found if word in it] if len(found) > 1 else found
+        found = target.among(self.functions)
         return found[0] if len(found) == 1 else None
 
-    def verdict(self, edit):
+    def verdict(self, targets):
         """Returns the verdict on an edit by the functions that it changes, and why."""
-        found = [self.find(it) for it in edit.targets]
+        found = [self.find(it) for it in targets]
         for name in found:
             if name in self.own:
                 also = "; its proof file also names what is gone" if name in self.gone else ""
@@ -81,7 +78,7 @@ class Log:
 
     def verdict_alone(self, edit):
         """Returns the verdict on an edit that was tried alone: a goal of any function counts."""
-        verdict, why = self.verdict(edit)
+        verdict, why = self.verdict(edit.targets)
         if not self.is_verdict:
             return "bad", "; ".join(["it does not compile", *re.findall(r"^.*error(?:\[|:).*", self.text, re.M)[:1]])
         if self.status == 0:
