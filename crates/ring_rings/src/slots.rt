@@ -5,12 +5,12 @@ ghost use Rattle.ring_layout.specs.History.{IsMessage};
 ghost use Rattle.ring_layout.specs.Places.{max_position};
 ghost use Rattle.ring_table.specs.declared.claim.PlacedMessage.{PlacedMessage};
 ghost use Rattle.ring_table.specs.declared.claim.StagedClaim.{StagedClaim};
-ghost use Rattle.ring_table.specs.Changes.{blank};
+ghost use Rattle.ring_table.specs.Changes.{blank, recorded};
 ghost use Rattle.ring_table.specs.ProducerSteps.{HasClaimAt};
 ghost use Rattle.ring_table.specs.Seats.{IsSameSeat, IsSeatOf};
 ghost use Rattle.ring_table.specs.SlotSteps.{IsOpenOf};
 ghost use Rattle.ring_table.specs.Views.{cleared_to, with_claims, with_consumer};
-ghost use Rattle.ring_rings.specs.Bodies.{recorded, HasPaddedLast, IsPaddedLast, PutsBytes};
+ghost use Rattle.ring_rings.specs.Bodies.{HasPaddedLast, IsPaddedLast, PutsBytes};
 ghost use Rattle.ring_rings.specs.ReadingSteps.{CopiesBody, HasBodyAt, HasGotLast, HasLastAt, IsReaderSeatOf, OnlyLoads};
 
 use crate::steps::{Closes, Steps};
@@ -25,7 +25,7 @@ use ring_table::{
 };
 use std::alloc::{AllocError, Global};
 
-/// Stores the header of the newest claim, writes its body into its slots, and commits it.
+/// Writes the body of the newest claim into its slots, and then commits it. The claim gets no header before that.
 #[inline(always)]
 fn store_record(
     slots: &SharedRing<InSlots>,
@@ -44,7 +44,6 @@ fn store_record(
         → seat.new.me.0 ≡ with_claims (cs ++ recorded wanted.type_id body.now c ∷ []) seat.old.me.0 }
 {
     write_slots(slots, seat, capacity, place, wanted, body);
-    store_committed_header(slots, seat, capacity, place, wanted);
 }
 
 /// Puts bytes into an open claim of `len` bytes, from the byte `offset` of its body on.

@@ -11,7 +11,7 @@ ghost use Rattle.ring_table.specs.declared.claim.PlacedMessage.{PlacedMessage};
 ghost use Rattle.ring_table.specs.declared.claim.Stage.TheVariants.{Padded, Stored};
 ghost use Rattle.ring_table.specs.declared.claim.StagedClaim.{StagedClaim};
 ghost use Rattle.ring_table.specs.declared.view.Key.{Key as TheKey};
-ghost use Rattle.ring_table.specs.Changes.{blank, staged, with_header};
+ghost use Rattle.ring_table.specs.Changes.{blank, recorded, staged, with_header};
 ghost use Rattle.ring_table.specs.Closed.{IsClosed, LeavesRest};
 ghost use Rattle.ring_table.specs.ConsumerSteps.{LoadsHeader, StandsBefore, StoresHead, StoresHeadBefore};
 ghost use Rattle.ring_table.specs.OpenClaims.{open_count};
@@ -24,7 +24,7 @@ ghost use Rattle.ring_table.specs.SlotSteps.{IsOpenOf};
 ghost use Rattle.ring_table.specs.Staged.{AreRising};
 ghost use Rattle.ring_table.specs.Views.{cleared_to, consumer_alone, first_view, producer_alone, with_beat, with_claims};
 ghost use Rattle.ring_table.specs.Views.{with_consumer, with_consumer_of, with_producer_of, without_consumer, without_share};
-ghost use Rattle.ring_rings.specs.Bodies.{recorded, HasPaddedLast, IsPaddedLast, PutsBytes};
+ghost use Rattle.ring_rings.specs.Bodies.{HasPaddedLast, IsPaddedLast, PutsBytes};
 ghost use Rattle.ring_rings.specs.ReadingSteps.{CopiesBody, HasBodyAt, HasGotLast, HasLastAt, IsInBlock, IsReaderSeatOf, OnlyLoads};
 
 use ring_table::{Key, RingSeat, Wanted};

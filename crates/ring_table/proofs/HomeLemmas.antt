@@ -1,28 +1,33 @@
 -- The steps that give a body's slots back keep the rule.
-use Rattle.std.proofs.Common.{◌≡◌, ◌≢◌, ℕ, ◌+◌, ◌≤◌, ◌<◌, List, [], ◌∷◌, ◌++◌, true, set, map, slice_index, sym, refl, ap, ◌∙◌, subst, ⊎_elim, length, append-nil}
+use Rattle.std.proofs.Common.{◌≡◌, ◌≢◌, ℕ, ℤ, ◌+◌, ◌/◌, ◌≤◌, ◌<◌, List, [], ◌∷◌, ◌++◌, true, set, map, slice_index, sym, refl, ap, ◌∙◌, subst, ⊎_elim, length, append-nil, arith}
 use Rattle.std.specs.Prelude.{All}
 use mathlib.Core.Option.{some}
 use mathlib.Core.Logic.{dite}
 use native.Mathlib.Decide.{ℕ_discrete}
 use lib.ListN.{get_elem?}
-use Rattle.atomic_table.specs.Table.{Allows, homes_after, carried_after}
+use Rattle.std.proofs.lemmas.List.{length-replicate}
+use Rattle.atomic_table.specs.Table.{State, Allows, homes_after, carried_after}
 use Rattle.atomic_table.proofs.Lists.{at_set, set_here}
 use Rattle.ring_layout.specs.declared.message.ClaimState.TheVariants.{Open}
+use Rattle.ring_layout.specs.Headers.{committed_header}
 use Rattle.ring_layout.specs.Places.{index}
 use Rattle.ring_layout.proofs.ListLemmas.{at_below}
-use Rattle.ring_table.specs.Staged.{elsewhere, StagedClaim, PlacedMessage, Stored, AreRising}
-use Rattle.ring_table.specs.Changes.{changed, with_body}
-use Rattle.ring_table.specs.Passing.{IsSettled}
+use Rattle.ring_table.specs.Staged.{elsewhere, StagedClaim, PlacedMessage, Padded, Stored, AreRising}
+use Rattle.ring_table.specs.Changes.{blank, changed, recorded, with_body}
+use Rattle.ring_table.specs.Passing.{IsSettled, placed_message}
 use Rattle.ring_table.specs.Views.{View, with_claims}
 use Rattle.ring_table.specs.ProducerSteps.{Mine, HasClaim, with_changed}
 use Rattle.ring_table.specs.Rule.{Kept}
 use Rattle.ring_table.specs.Ranges.{numbered, values_of, gives_first, laid}
 use Rattle.ring_table.specs.Shelf.{IsClaimOf, IsShelf}
-use Rattle.ring_table.specs.SlotSteps.{words_of, AreWordsOf, HasBody, with_out, GivesBody, ReturnsBody, body_loads}
+use Rattle.ring_table.specs.SlotSteps.{words_of, AreWordsOf, HasBody, with_out, CommitsBody, GivesBody, ReturnsBody, body_loads}
 use Rattle.ring_table.proofs.RangeLemmas.{values_numbered, carried_gives, valid_gives, homes_gives}
 use Rattle.ring_table.proofs.HistoryLemmas.{changed_at_place, changed_at_other}
 use Rattle.ring_table.proofs.StagedPlaces.{one_at_place}
-use Rattle.ring_table.proofs.StoreLemmas.{rising}
+use Rattle.ring_table.proofs.StagedWords.{staged_word-header, staged_word-recorded}
+use Rattle.ring_table.proofs.HeaderWords.{one_committed}
+use Rattle.ring_table.proofs.LoadLemmas.{Ok}
+use Rattle.ring_table.proofs.StoreLemmas.{FillsClaim, header_step, rising}
 use Rattle.ring_table.proofs.StoreBodies.{gives_body}
 use Rattle.ring_table.proofs.CarryLemmas.{Holds, was_changed, one_claim}
 use Rattle.ring_table.proofs.FillLemmas.{same_body}
@@ -90,8 +95,10 @@ module _ (C start : ℕ) where
                     (same ∙ sym place) in
                     let bodies : m.message.body ≡ c.message.body =
                     ap (λ (z : PlacedMessage). z.message.body) (sym p.is)
-                    ∙ ap (λ (z : ℕ × StagedClaim). z.1.message.body) (sym one) in
-                    (subst (λ b. AreWordsOf b ws) bodies has.words, ap length (sym bodies));
+                    ∙ ap (λ (z : ℕ × StagedClaim). z.1.message.body) (sym one) in (
+                      subst (λ b. AreWordsOf b ws) bodies has.words,
+                      ap (λ b. words_of (length b)) (sym bodies),
+                    );
               }) l has.count),
         ),
         (
@@ -105,6 +112,99 @@ module _ (C start : ℕ) where
         ),
       )
 
+  -- the own claim c, whose body is out as that of m, becomes f of itself, with the body whose words the slots have
+  record GoesHome (me : Mine) (k : ℕ) (c : StagedClaim) (m : PlacedMessage) (f : StagedClaim → StagedClaim)
+      (body : List ℕ) : Type 0 where
+    pub has : HasClaim me.0 k c
+    pub unsettled : IsSettled c.stage → ⊥
+    pub out_is : me.0.out ≡ m ∷ []
+    pub place_is : c.place ≡ m.place
+    pub long : length c.message.body ≡ length m.message.body
+    pub keeps : (d : StagedClaim) → (f d).place ≡ d.place
+    pub body_is : (f c).message.body ≡ body
+    pub many : words_of (length body) ≡ words_of (length m.message.body)
+    pub held : HasBody (index C c.place + 1) body me.1
+
+  -- the slots go home
+  home_shelf : (s : State ℕ View) (r : Ok elsewhere C start s) → IsShelf C s.homes s.views → (id : ℕ) (me : Mine)
+      → get_elem? s.views id ≡ some me.0 → (k : ℕ) (c : StagedClaim) (m : PlacedMessage)
+      (f : StagedClaim → StagedClaim) (body : List ℕ) → (g : GoesHome me k c m f body)
+      → IsShelf C (homes_after s.homes me.1 (gives_first g.held.values))
+      (set s.views id (with_out [] (with_claims (changed c.place f me.0.producer.claims) me.0)))
+  home_shelf s r shelf id me at k c m f body g =
+      let v : View = me.0 in
+      let l = own_lies C start s.words s.homes s.views r shelf id v k c at g.has g.unsettled in
+      let l_m : Lies C r.consumer.head r.hist m.place (length m.message.body) =
+      subst (λ (z : ℕ × ℕ). Lies C r.consumer.head r.hist z.0 z.1) (λ x. (g.place_is x, g.long x)) l in
+      let i : ℕ = index C c.place in
+      let ws : List ℕ = g.held.values in
+      let carried : me.1 ≡ numbered (i + 1) ws ++ [] = g.held.held_is ∙ sym (append-nil (numbered (i + 1) ws)) in
+      let homes_are : homes_after s.homes me.1 (gives_first ws) ≡ laid (index C m.place + 1) (map some ws) s.homes =
+      ap (λ h. homes_after s.homes h (gives_first ws)) carried ∙ homes_gives s.homes (i + 1) ws []
+      ∙ ap (λ p. laid (index C p + 1) (map some ws) s.homes) g.place_is in
+      let w : View = with_out [] (with_claims (changed c.place f v.producer.claims) v) in
+      let own : (k' : ℕ) (c' : StagedClaim) → HasClaim w k' c' → c'.place ≡ m.place → c' ≡ f c = λ k' c' has' same.
+      let d = was_changed c.place f v.producer.claims k' c' has' in
+      dite (ℕ_discrete d.0.place c.place)
+      (λ here.
+      let one : c ≡ d.0 = one_claim v.producer.claims k k' c d.0 (rising elsewhere C start s.words s.views r id v at)
+      g.has d.1 (sym here) in
+      sym d.2 ∙ changed_at_place c.place f d.0 here ∙ ap f (sym one))
+      (λ there. absurd (there (ap (λ (z : StagedClaim). z.place)
+      (sym (changed_at_other c.place f d.0 there) ∙ d.2) ∙ same ∙ sym g.place_is))) in
+      subst (λ hs. IsShelf C hs (set s.views id w)) (sym homes_are)
+      (gives_shelf C start s.words s.homes s.views r shelf id v w at refl refl m ws (record {
+        was = g.out_is;
+        now = refl;
+        old = λ k' c' has' stored ne.
+            let d = was_changed c.place f v.producer.claims k' c' has' in
+            dite (ℕ_discrete d.0.place c.place)
+            (λ here. absurd (ne (ap (λ (z : StagedClaim). z.place)
+            (sym d.2 ∙ changed_at_place c.place f d.0 here) ∙ g.keeps d.0 ∙ here ∙ g.place_is)))
+            (λ there. d.1 ∙ ap some (sym (changed_at_other c.place f d.0 there) ∙ d.2));
+        right = λ c' of same. ⊎_elim
+            (λ (t : (of.seat ≡ id) × (w ≡ of.view)).
+            let one : c' ≡ f c = own of.nth c' (subst (λ (z : View). HasClaim z of.nth c') (sym t.1) of.has) same in
+            let bodies : c'.message.body ≡ body = ap (λ (z : StagedClaim). z.message.body) one ∙ g.body_is in (
+              subst (λ b. AreWordsOf b ws) (sym bodies) g.held.words,
+              ap (λ b. words_of (length b)) bodies ∙ g.many,
+            ))
+            (λ (t : (of.seat ≢ id) × (get_elem? s.views of.seat ≡ some of.view)).
+            let h = in_history C start s.words s.homes s.views r shelf of.seat of.view of.nth c' t.1 of.has in
+            let mine = in_history C start s.words s.homes s.views r shelf id v k c at g.has in
+            let one : (of.seat, c') ≡ (id, c) =
+            one_at_place C start r.hist h.nth mine.nth (of.seat, c') (id, c) r.memory.placed h.there
+            mine.there (same ∙ sym g.place_is) in
+            absurd (t.0 (ap (λ (z : ℕ × StagedClaim). z.0) one)))
+            (at_set s.views id of.seat w of.view of.there);
+      }) l_m (g.held.count ∙ g.many))
+
+  -- the rule but for the slots, once nothing is out
+  home_kept : (s : State ℕ View) (words : List ℕ) (id : ℕ) (v : View) → get_elem? s.views id ≡ some v → (mid : View)
+      → Kept elsewhere C start words (set s.views id mid)
+      → Kept elsewhere C start words (set s.views id (with_out [] mid))
+  home_kept s words id v at mid kept =
+      subst (λ l. Kept elsewhere C start words l) (set_twice s.views id mid (with_out [] mid))
+      (outed elsewhere C start words (set s.views id mid) kept id mid
+      (set_here s.views id mid (at_below s.views id v at)) [] mid.log)
+
+  -- no slot is left
+  none_left : (me : Mine) (i : ℕ) (body : List ℕ) → (held : HasBody i body me.1)
+      → carried_after me.1 (gives_first held.values) ≡ []
+  none_left me i body held =
+      ap (λ h. carried_after h (gives_first held.values))
+      (held.held_is ∙ sym (append-nil (numbered i held.values))) ∙ carried_gives i held.values []
+
+  -- one list of slots has the words of one body of this length
+  one_body : (me : Mine) (i i' : ℕ) (body body' : List ℕ) → HasBody i body me.1 → HasBody i' body' me.1
+      → length body ≡ length body' → All (λ b. b < 256) body → All (λ b. b < 256) body' → body ≡ body'
+  one_body me i i' body body' held held' lengths bytes bytes' =
+      let slots_are : numbered i held.values ≡ numbered i' held'.values = sym held.held_is ∙ held'.held_is in
+      let values : held.values ≡ held'.values = sym (values_numbered i held.values) ∙ ap values_of slots_are
+      ∙ values_numbered i' held'.values in
+      same_body body body' held.values lengths bytes bytes' held.words
+      (subst (AreWordsOf body') (sym values) held'.words) held.count
+
   pub gives_it : (slots id : ℕ) (me : Mine) → me.0.capacity ≡ C → (k : ℕ) (c : StagedClaim) (m : PlacedMessage)
       (body : List ℕ) → HasClaim me.0 k c → c.stage ≡ Stored Open → me.0.out ≡ m ∷ [] → c.place ≡ m.place
       → length c.message.body ≡ length m.message.body → length body ≡ length c.message.body
@@ -113,84 +213,108 @@ module _ (C start : ℕ) where
       (λ n me'. GivesBody me me' × AreRising me.0.producer.claims)
   gives_it slots id me cap k c m body has is out places longs long bytes held s r wide at small =
       let v : View = me.0 in
-      let un : IsSettled c.stage → ⊥ = λ z. subst IsSettled is z in
-      let l = own_lies C start s.words s.homes s.views r.0 r.1 id v k c at has un in
-      let l_m : Lies C r.0.consumer.head r.0.hist m.place (length m.message.body) =
-      subst (λ (z : ℕ × ℕ). Lies C r.0.consumer.head r.0.hist z.0 z.1) (λ x. (places x, longs x)) l in
       let i : ℕ = index C c.place in
-      let ws : List ℕ = held.values in
-      let carried : me.1 ≡ numbered (i + 1) ws ++ [] = held.held_is ∙ sym (append-nil (numbered (i + 1) ws)) in
-      let homes_are : homes_after s.homes me.1 (gives_first ws) ≡ laid (index C m.place + 1) (map some ws) s.homes =
-      ap (λ h. homes_after s.homes h (gives_first ws)) carried ∙ homes_gives s.homes (i + 1) ws []
-      ∙ ap (λ p. laid (index C p + 1) (map some ws) s.homes) places in
-      let rises = rising elsewhere C start s.words s.views r.0 id v at in
       let f : StagedClaim → StagedClaim = with_body body in
       let mid : View = with_claims (changed c.place f v.producer.claims) v in
-      let w : View = with_out [] mid in
       let t = gives_body C start slots id me cap k c body has is long bytes s r.0 wide at small in
-      let mid_is : t.0 ≡ mid = t.4.1 k c has is (ap (λ z. index z c.place) cap) in
-      let kept : Kept elsewhere C start (set s.words i (slice_index s.words i)) (set s.views id mid) =
-      subst (λ (z : View). Kept elsewhere C start (set s.words i (slice_index s.words i)) (set s.views id z)) mid_is t.3
-      in
-      let kept_out : Kept elsewhere C start (set s.words i (slice_index s.words i)) (set s.views id w) =
-      subst (λ l. Kept elsewhere C start (set s.words i (slice_index s.words i)) l) (set_twice s.views id mid w)
-      (outed elsewhere C start (set s.words i (slice_index s.words i)) (set s.views id mid) kept id mid
-      (set_here s.views id mid (at_below s.views id v at)) [] mid.log) in
-      let own : (k' : ℕ) (c' : StagedClaim) → HasClaim w k' c' → c'.place ≡ m.place → c' ≡ f c = λ k' c' has' same.
-      let d = was_changed c.place f v.producer.claims k' c' has' in
-      dite (ℕ_discrete d.0.place c.place)
-      (λ here.
-      let one : c ≡ d.0 = one_claim v.producer.claims k k' c d.0 rises has d.1 (sym here) in
-      sym d.2 ∙ changed_at_place c.place f d.0 here ∙ ap f (sym one))
-      (λ there. absurd (there (ap (λ (z : StagedClaim). z.place)
-      (sym (changed_at_other c.place f d.0 there) ∙ d.2) ∙ same ∙ sym places))) in (
-        w,
-        gives_first ws,
-        valid_gives s.homes me.1 ws,
+      let mid_is : t.0 ≡ mid = t.4.1 k c has is (ap (λ z. index z c.place) cap) in (
+        with_out [] mid,
+        gives_first held.values,
+        valid_gives s.homes me.1 held.values,
         (
-          kept_out,
-          subst (λ hs. IsShelf C hs (set s.views id w)) (sym homes_are)
-              (gives_shelf C start s.words s.homes s.views r.0 r.1 id v w at refl refl m ws (record {
-                was = out;
-                now = refl;
-                old = λ k' c' has' stored ne.
-                    let d = was_changed c.place f v.producer.claims k' c' has' in
-                    dite (ℕ_discrete d.0.place c.place)
-                    (λ here. absurd (ne (ap (λ (z : StagedClaim). z.place)
-                    (sym d.2 ∙ changed_at_place c.place f d.0 here) ∙ here ∙ places)))
-                    (λ there. d.1 ∙ ap some (sym (changed_at_other c.place f d.0 there) ∙ d.2));
-                right = λ c' of same. ⊎_elim
-                    (λ (t : (of.seat ≡ id) × (w ≡ of.view)).
-                    let one : c' ≡ f c = own of.nth c' (subst (λ (z : View). HasClaim z of.nth c') (sym t.1) of.has) same
-                    in (
-                      subst (λ (z : StagedClaim). AreWordsOf z.message.body ws) (sym one) held.words,
-                      ap (λ (z : StagedClaim). length z.message.body) one ∙ long ∙ longs,
-                    ))
-                    (λ (t : (of.seat ≢ id) × (get_elem? s.views of.seat ≡ some of.view)).
-                    let h = in_history C start s.words s.homes s.views r.0 r.1 of.seat of.view of.nth c' t.1 of.has in
-                    let mine = in_history C start s.words s.homes s.views r.0 r.1 id v k c at has in
-                    let one : (of.seat, c') ≡ (id, c) =
-                    one_at_place C start r.0.hist h.nth mine.nth (of.seat, c') (id, c) r.0.memory.placed h.there
-                    mine.there (same ∙ sym places) in
-                    absurd (t.0 (ap (λ (z : ℕ × StagedClaim). z.0) one)))
-                    (at_set s.views id of.seat w of.view of.there);
-              }) l_m (held.count ∙ ap words_of (long ∙ longs))),
+          home_kept s (set s.words i (slice_index s.words i)) id v at mid
+              (subst (λ (z : View). Kept elsewhere C start (set s.words i (slice_index s.words i)) (set s.views id z))
+              mid_is t.3),
+          home_shelf s r.0 r.1 id me at k c m f body (record {
+            has = has;
+            unsettled = λ z. subst IsSettled is z;
+            out_is = out;
+            place_is = places;
+            long = longs;
+            keeps = λ d. refl;
+            body_is = refl;
+            many = ap words_of (long ∙ longs);
+            held = held;
+          }),
         ),
         (
           (
-            ap (λ h. carried_after h (gives_first ws)) carried ∙ carried_gives (i + 1) ws [],
+            none_left me (i + 1) body held,
             λ m' i' body' out' long' bytes' held'.
                 let messages : m ≡ m' = one_out m m' v.out out out' in
-                let slots_are : numbered (i + 1) ws ≡ numbered i' held'.values = sym held.held_is ∙ held'.held_is in
-                let values : ws ≡ held'.values = sym (values_numbered (i + 1) ws) ∙ ap values_of slots_are
-                ∙ values_numbered i' held'.values in
-                let lengths : length body ≡ length body' =
-                long ∙ longs ∙ ap (λ (z : PlacedMessage). length z.message.body) messages ∙ sym long' in
-                let equal : body ≡ body' = same_body body body' ws lengths bytes bytes' held.words
-                (subst (AreWordsOf body') (sym values) held'.words) held.count in
+                let equal : body ≡ body' = one_body me (i + 1) i' body body' held held'
+                (long ∙ longs ∙ ap (λ (z : PlacedMessage). length z.message.body) messages ∙ sym long') bytes bytes' in
                 λ x. with_out [] (with_changed ((places ∙ ap (λ (z : PlacedMessage). z.place) messages) x)
                 (with_body (equal x)) v),
           ),
-          rises,
+          rising elsewhere C start s.words s.views r.0 id v at,
+        ),
+      )
+
+  -- the one header of a claim is stored, with which it is committed
+  pub commits_body : (slots id : ℕ) (me : Mine) → me.0.capacity ≡ C → (k : ℕ) (c : StagedClaim) (type_id : ℤ)
+      (body : List ℕ) (value : ℕ) → value ≡ committed_header type_id (length body) → HasClaim me.0 k c
+      → c.stage ≡ Padded → me.0.out ≡ placed_message c ∷ [] → FillsClaim C c type_id (length body)
+      → All (λ b. b < 256) body → HasBody (index C c.place + 1) body me.1
+      → Allows (Holds elsewhere C start) slots id me (index C c.place) (λ _. value)
+      (λ _ me'. CommitsBody value me me' × AreRising me.0.producer.claims)
+  commits_body slots id me cap k c type_id body value value_is has is out fills bytes held s r wide at small =
+      let v : View = me.0 in
+      let i : ℕ = index C c.place in
+      let n : ℕ = length body in
+      let m : PlacedMessage = placed_message c in
+      let f : StagedClaim → StagedClaim = recorded type_id body in
+      let mid : View = with_claims (changed c.place f v.producer.claims) v in
+      let most = fills.most in
+      let lawful = fills.lawful in
+      let same_span = fills.span_is in
+      let zeros : length (blank type_id n).body ≡ n = length-replicate n 0 in
+      let short : n ≤ C / 8 = omega (arith, lawful.short) in
+      let t = header_step elsewhere C start Padded (λ z. z) f slots id me cap k c value has is (λ place8. record {
+        may = record {
+          from = refl;
+          place = refl;
+          same_span = same_span;
+          message = λ _. record {
+            type_id = lawful.type_id;
+            type_fits = lawful.type_fits;
+            short = short;
+            bytes = bytes;
+          };
+        };
+        goes = λ _ e. cc;
+        word = staged_word-header elsewhere (f c) c.place refl ∙ sym value_is;
+        others = λ p p8 ne. staged_word-recorded c type_id body p p8 place8 ne is;
+      }) s r.0 wide at small in
+      let mid_is : t.0 ≡ mid = t.4.1 k c has is (ap (λ z. index z c.place) cap) in (
+        with_out [] mid,
+        gives_first held.values,
+        valid_gives s.homes me.1 held.values,
+        (
+          home_kept s (set s.words i value) id v at mid
+              (subst (λ (z : View). Kept elsewhere C start (set s.words i value) (set s.views id z)) mid_is t.3),
+          home_shelf s r.0 r.1 id me at k c m f body (record {
+            has = has;
+            unsettled = λ z. subst IsSettled is z;
+            out_is = out;
+            place_is = refl;
+            long = refl;
+            keeps = λ d. refl;
+            body_is = refl;
+            many = omega arith;
+            held = held;
+          }),
+        ),
+        (
+          (
+            none_left me (i + 1) body held,
+            λ m' i' type_id' body' out' fits' small' value_is' bytes' held'.
+                let messages : m ≡ m' = one_out m m' v.out out out' in
+                let one = one_committed type_id n type_id' (length body') lawful.type_fits (omega arith) fits' small'
+                (sym value_is ∙ value_is') in
+                let equal : body ≡ body' = one_body me (i + 1) i' body body' held held' one.1 bytes bytes' in
+                λ x. with_out [] (with_changed (messages x).place (recorded (one.0 x) (equal x)) v),
+          ),
+          rising elsewhere C start s.words s.views r.0 id v at,
         ),
       )

@@ -21,7 +21,7 @@ use Rattle.ring_table.specs.ProducerSteps.{Mine, HasClaim, with_changed}
 use Rattle.ring_table.specs.Rule.{Kept}
 use Rattle.ring_table.specs.Ranges.{numbered, takes_from}
 use Rattle.ring_table.specs.Shelf.{IsClaimOf}
-use Rattle.ring_table.specs.SlotSteps.{words_of, HasBody, with_out, OpensBody, TakesBody, LendsBody}
+use Rattle.ring_table.specs.SlotSteps.{words_of, HasBody, HasSlots, with_out, OpensBody, ReservesBody, TakesBody, LendsBody}
 use Rattle.ring_table.proofs.RangeLemmas.{carried_takes, valid_takes}
 use Rattle.ring_table.proofs.ListLemmas.{there_or_past}
 use Rattle.ring_table.proofs.HistoryLemmas.{changed_at_place, changed_at_other, changed_there}
@@ -88,6 +88,15 @@ outed B C start words views r id v at ms log =
         drawn = λ x. refl;
       };
     })
+
+-- slots that were taken are all that a seat has that had none
+has_slots : (i n : ℕ) (ys : List ℕ) (carried : List (ℕ × ℕ)) → carried ≡ [] → length ys ≡ n
+    → HasSlots i n (carried_after carried (takes_from i ys))
+has_slots i n ys carried none count = record {
+  values = ys;
+  held_is = carried_takes carried i ys ∙ ap (λ l. numbered i ys ++ l) none ∙ append-nil (numbered i ys);
+  count = count;
+}
 
 -- the values of slots that were taken are the body's words
 has_body : (C i : ℕ) (body ys : List ℕ) (homes : List (Option ℕ)) (carried : List (ℕ × ℕ)) → carried ≡ []
@@ -160,7 +169,7 @@ module _ (C start : ℕ) where
           takes_shelf C start s.words s.homes s.views r.0 r.1 id v w at refl refl m me.1 ys.0 (record {
             was = none;
             now = refl;
-            kind = inl (record { nth = k; claim = c; there = has; stage = is; place = refl; long = refl });
+            kind = inl (record { nth = k; claim = c; there = has; unsettled = un; place = refl; long = refl });
             claims = λ k' c' has' stored. inr has';
           }) l.body ys.1,
         ),
@@ -173,6 +182,44 @@ module _ (C start : ℕ) where
                 subst (λ (z : StagedClaim). All (λ b. b < 256) z.message.body) one
                     (stands elsewhere C start s.words s.views r.0 id v k c
                     (record { seat = at; claim = has; unsettled = un })).lies.message.bytes,
+              ),
+          rising elsewhere C start s.words s.views r.0 id v at,
+        ),
+      )
+
+  pub reserves_body : (slots id : ℕ) (me : Mine) → me.0.capacity ≡ C → me.0.out ≡ [] → me.1 ≡ [] → (k : ℕ)
+      (c : StagedClaim) → HasClaim me.0 k c → c.stage ≡ Padded
+      → Allows (Holds elsewhere C start) slots id me (index C c.place) (λ n. n)
+      (λ n me'. ReservesBody (index C c.place) me me' × AreRising me.0.producer.claims)
+  reserves_body slots id me cap none empty k c has is s r wide at small =
+      let v : View = me.0 in
+      let un : IsSettled c.stage → ⊥ = λ z. subst IsSettled is z in
+      let l = own_lies C start s.words s.homes s.views r.0 r.1 id v k c at has un in
+      let alone = none_at_own C start s.words s.homes s.views r.0 r.1 id v k c at none has un in
+      let n : ℕ = length c.message.body in
+      let i : ℕ = index C c.place in
+      let ys = gathered s.homes (i + 1) (words_of n)
+      (all_home C start s.words s.homes s.views r.0 r.1 c.place n l alone) in
+      let m : PlacedMessage = placed_message c in
+      let w : View = with_out (m ∷ []) v in (
+        w,
+        takes_from (i + 1) ys.0,
+        valid_takes s.homes me.1 (i + 1) ys.0 ys.2,
+        (
+          loaded s i (set s.views id w) (outed elsewhere C start s.words s.views r.0 id v at (m ∷ []) v.log),
+          takes_shelf C start s.words s.homes s.views r.0 r.1 id v w at refl refl m me.1 ys.0 (record {
+            was = none;
+            now = refl;
+            kind = inl (record { nth = k; claim = c; there = has; unsettled = un; place = refl; long = refl });
+            claims = λ k' c' has' stored. inr has';
+          }) l.body ys.1,
+        ),
+        (
+          λ k' c' has' is' same.
+              let one : c ≡ c' = own_claim s r.0 id v at cap k c has un k' c' has' (λ z. subst IsSettled is' z) same in (
+                (λ x. with_out (placed_message (one x) ∷ []) v),
+                has_slots (i + 1) (words_of (length c'.message.body)) ys.0 me.1 empty
+                    (ys.1 ∙ ap (λ (z : StagedClaim). words_of (length z.message.body)) one),
               ),
           rising elsewhere C start s.words s.views r.0 id v at,
         ),
@@ -287,7 +334,7 @@ module _ (C start : ℕ) where
               nth = k;
               claim = f c;
               there = changed_there c.place f v.producer.claims k c has refl;
-              stage = refl;
+              unsettled = λ z. z;
               place = refl;
               long = refl;
             });
@@ -316,12 +363,7 @@ module _ (C start : ℕ) where
               let types : type_id ≡ type_id' =
               one_type type_id n type_id' n' lawful.type_fits (omega arith) fits' small' same' in
               let lengths : n ≡ n' = one_length type_id n type_id' n' (omega arith) small' same' in (
-                record {
-                  values = ys.0;
-                  held_is = carried_takes me.1 (i + 1) ys.0 ∙ ap (λ h. numbered (i + 1) ys.0 ++ h) empty
-                      ∙ append-nil (numbered (i + 1) ys.0);
-                  count = ys.1 ∙ count ∙ ap words_of lengths;
-                },
+                has_slots (i + 1) (words_of n') ys.0 me.1 empty (ys.1 ∙ count ∙ ap words_of lengths),
                 λ k' c' has' is' here.
                     let one : c ≡ c' = own_claim s r.0 id v at cap k c has un k' c' has'
                     (λ z. subst IsSettled is' z) here in

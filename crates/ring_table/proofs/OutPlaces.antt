@@ -94,15 +94,14 @@ module _ (C start : ℕ) (words : List ℕ) (homes : List (Option ℕ)) (views :
       (λ (t : (m' : PlacedMessage) × (v.out ≡ m' ∷ []) × (IsOwnOut v m' ⊎ IsGotOut v m')).
       subst (OutLies id v) (one_out t.0 m v.out t.1 out) (⊎_elim
       (λ (o : IsOwnOut v t.0).
-      let un : IsSettled o.claim.stage → ⊥ = λ z. subst IsSettled o.stage z in
-      let h = unsettled_lies id v o.nth o.claim at o.there un in
+      let h = unsettled_lies id v o.nth o.claim at o.there o.unsettled in
       record {
         nth = h.0.nth;
         owned = (id, o.claim);
         there = h.0.there;
         place_is = o.place;
         lies = subst (λ (z : ℕ × ℕ). Lies C r.consumer.head r.hist z.0 z.1) (λ i. (o.place i, o.long i)) h.1;
-        whose = inl (refl, un);
+        whose = inl (refl, o.unsettled);
       })
       (λ (o : IsGotOut v t.0).
       let g = got_lies id v o.front t.0 at o.consumes o.got o.ahead in

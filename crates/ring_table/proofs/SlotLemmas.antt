@@ -169,7 +169,7 @@ module _ (C start : ℕ) (words : List ℕ) (homes : List (Option ℕ)) (views :
       pub now : w.out ≡ []
       pub old : (k : ℕ) (c : StagedClaim) → HasClaim w k c → IsStored c.stage → c.place ≢ m.place → HasClaim v k c
       pub right : (c : StagedClaim) → IsClaimOf (set views id w) c → c.place ≡ m.place
-          → AreWordsOf c.message.body ws × (length c.message.body ≡ length m.message.body)
+          → AreWordsOf c.message.body ws × (words_of (length c.message.body) ≡ words_of (length m.message.body))
 
     claim_was : (m : PlacedMessage) (ws : List ℕ) → GivesOut m ws → (c : StagedClaim) → IsClaimOf (set views id w) c
         → c.place ≢ m.place → IsClaimOf views c

@@ -4,15 +4,14 @@ use Rattle.std.proofs.Common.{◌≡◌, ◌≢◌, ℕ, ◌+◌, ◌-◌, ◌%�
 use mathlib.Core.Logic.{dite}
 use native.Mathlib.Decide.{ℕ_discrete}
 use Rattle.std.proofs.lemmas.Bool.{cases_lt, cond-true, cond-false}
-use Rattle.std.specs.Int.{from_le_bytes, w64}
-use Rattle.std.proofs.Common.{drop, replicate, List, pos, neg_ℤ}
+use Rattle.std.proofs.Common.{replicate, List, pos, neg_ℤ}
 use Rattle.ring_layout.specs.declared.message.ClaimState.{ClaimState}
 use Rattle.ring_layout.specs.declared.message.ClaimState.TheVariants.{Open, Committed, Aborted}
 use Rattle.ring_layout.specs.History.{span}
 use Rattle.ring_layout.specs.Places.{next_place}
 use Rattle.ring_layout.specs.Headers.{header, header_of, padding_type}
 use Rattle.ring_table.specs.Staged.{StagedClaim, Stage, Moved, Padded, Stored, claim_of, stage_state, masked_padding, masked_record, padding_word, part_word, record_word, staged_word, body_word, in_words, elsewhere, IsStored}
-use Rattle.ring_table.specs.Changes.{moved_claim, fresh_stage, staged, with_header, with_body, with_body_word, with_word}
+use Rattle.ring_table.specs.Changes.{moved_claim, fresh_stage, recorded, staged, with_header, with_body, with_body_word, with_word}
 use Rattle.ring_table.proofs.BodyWords.{length-with_word, body_word-with_word_other, body_word-zeros}
 
 pub staged_word-header : (B : Bodies) → (c : StagedClaim) (p : ℕ) → p ≡ c.place
@@ -176,6 +175,15 @@ staged_word-with_body c body p p8 place8 ne =
           let at : ℕ = p - c.place - 8 in
           staged_word-body elsewhere d p at (omega arith) ∙ sym (staged_word-body elsewhere c p at (omega arith))
     ]
+
+-- nor does one that is committed at once
+pub staged_word-recorded : (c : StagedClaim) (type_id : ℤ) (body : List ℕ) (p : ℕ) → p % 8 ≡ 0 → c.place % 8 ≡ 0
+    → p ≢ c.place → c.stage ≡ Padded → staged_word elsewhere (recorded type_id body c) p ≡ staged_word elsewhere c p
+staged_word-recorded c type_id body p p8 place8 ne is =
+    let d : StagedClaim = with_header type_id (length body) c in
+    staged_word-staged elsewhere (with_body body d) (Stored Committed) p p8 place8 ne (λ word. refl) (λ _. refl)
+    ∙ staged_word-with_body d body p p8 place8 ne
+    ∙ staged_word-opened elsewhere c type_id (length body) p p8 place8 ne is
 
 -- a word of the body that is stored leaves the other words
 pub staged_word-written : (B : Bodies) → (c : StagedClaim) (at word p : ℕ) → at ≤ length c.message.body → c.place % 8 ≡ 0 → at % 8 ≡ 0

@@ -3,8 +3,8 @@ use Rattle.std.specs.Prelude.{◌≡◌, ℕ, ◌+◌, ◌/◌, ◌%◌, ◌≤�
 use mathlib.Core.Option.{Option, some}
 use lib.ListN.{get_elem?}
 use Rattle.ring_layout.specs.Places.{index}
-use Rattle.ring_layout.specs.declared.message.ClaimState.TheVariants.{Open}
-use Rattle.ring_table.specs.Staged.{Bodies, in_words, elsewhere, StagedClaim, PlacedMessage, Stored, IsStored, body_word}
+use Rattle.ring_table.specs.Staged.{Bodies, in_words, elsewhere, StagedClaim, PlacedMessage, IsStored, body_word}
+use Rattle.ring_table.specs.Passing.{IsSettled}
 use Rattle.ring_table.specs.Views.{View}
 use Rattle.ring_table.specs.ProducerSteps.{HasClaim}
 
@@ -17,12 +17,12 @@ pub record IsOut (C i : ℕ) (v : View) : Type 0 where
   pub inside : at < length message.message.body
   pub slot_is : index C (message.place + 8 + at) ≡ i
 
--- the message is an own open claim
+-- the message is an own claim that is not settled
 pub record IsOwnOut (v : View) (m : PlacedMessage) : Type 0 where
   pub nth : ℕ
   pub claim : StagedClaim
   pub there : HasClaim v nth claim
-  pub stage : claim.stage ≡ Stored Open
+  pub unsettled : IsSettled claim.stage → ⊥
   pub place : claim.place ≡ m.place
   pub long : length claim.message.body ≡ length m.message.body
 

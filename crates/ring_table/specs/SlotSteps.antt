@@ -6,11 +6,12 @@ use lib.ListN.{get_elem?}
 use Rattle.atomic_table.specs.Seated.{TableId}
 use Rattle.atomic_table.specs.declared.shared.Seat.{Seat}
 use Rattle.ring_layout.specs.declared.message.ClaimState.TheVariants.{Open}
+use Rattle.ring_layout.specs.History.{span}
 use Rattle.ring_layout.specs.Places.{IsCapacity, index}
 use Rattle.ring_layout.specs.Layout.{ring_words}
-use Rattle.ring_layout.specs.Headers.{open_header}
-use Rattle.ring_table.specs.Staged.{StagedClaim, PlacedMessage, Padded, Stored, body_word}
-use Rattle.ring_table.specs.Changes.{blank, with_body, with_header}
+use Rattle.ring_layout.specs.Headers.{committed_header, open_header}
+use Rattle.ring_table.specs.Staged.{StagedClaim, PlacedMessage, Padded, Stored, body_word, staged_span}
+use Rattle.ring_table.specs.Changes.{blank, recorded, with_body, with_header}
 use Rattle.ring_table.specs.Passing.{placed_message}
 use Rattle.ring_table.specs.Views.{Key, View}
 use Rattle.ring_table.specs.ProducerSteps.{Mine, HasClaim, with_changed}
@@ -48,6 +49,20 @@ OpensBody word value me me' = (type_id : ℤ) (n : ℕ) → FitsSigned w32 type_
     × ((k : ℕ) (c : StagedClaim) → HasClaim me.0 k c → c.stage ≡ Padded → index me.0.capacity c.place ≡ word
     → me'.0 ≡ with_out ((record { place = c.place; message = blank type_id n }) ∷ [])
     (with_changed c.place (with_header type_id n) me.0))
+
+-- the slots of the own claim whose header, at this word, is not stored are taken
+abbrev pub ReservesBody : ℕ → Mine → Mine → Type 0
+ReservesBody word me me' = (k : ℕ) (c : StagedClaim) → HasClaim me.0 k c → c.stage ≡ Padded
+    → index me.0.capacity c.place ≡ word
+    → (me'.0 ≡ with_out (placed_message c ∷ []) me.0) × HasSlots (word + 1) (words_of (length c.message.body)) me'.1
+
+-- the committed header of the own claim whose body is out is stored, and the slots go home. The claim gets the type id
+-- of the header and the body whose words they have
+abbrev pub CommitsBody : ℕ → Mine → Mine → Type 0
+CommitsBody value me me' = (me'.1 ≡ []) × ((m : PlacedMessage) (i : ℕ) (type_id : ℤ) (body : List ℕ)
+    → me.0.out ≡ m ∷ [] → FitsSigned w32 type_id → 8 + length body < 2 ^ 31
+    → value ≡ committed_header type_id (length body) → All (λ b. b < 256) body → HasBody i body me.1
+    → me'.0 ≡ with_out [] (with_changed m.place (recorded type_id body) me.0))
 
 -- the slots of the own open claim whose header has this word are taken
 abbrev pub TakesBody : ℕ → Mine → Mine → Type 0
@@ -88,6 +103,9 @@ pub record HasLast (place : ℕ) (v : View) : Type 0 where
   pub place_is : message.place ≡ place
   pub ahead : v.consumer.cleared ≤ message.place
 
+abbrev pub IsPadded : StagedClaim → Type 0
+IsPadded c = c.stage ≡ Padded
+
 abbrev pub IsOpen : StagedClaim → Type 0
 IsOpen c = c.stage ≡ Stored Open
 
@@ -108,6 +126,19 @@ pub record IsTaken (C place : ℕ) (body : List ℕ) (me : Mine) : Type 0 where
   pub at_place : claim.place ≡ place
   pub long : length claim.message.body ≡ length message.message.body
   pub same_length : length body ≡ length message.message.body
+  pub bytes : All (λ b. b < 256) body
+  pub slots : HasBody (index C place + 1) body me.1
+
+-- the slots of the own claim at this place, whose header is not stored, are out, and have the words of `body`, which
+-- has the right span
+pub record IsReserved (C place : ℕ) (body : List ℕ) (me : Mine) : Type 0 where
+  pub nth : ℕ
+  pub claim : StagedClaim
+  pub there : HasClaim me.0 nth claim
+  pub stage : claim.stage ≡ Padded
+  pub at_place : claim.place ≡ place
+  pub out_is : me.0.out ≡ placed_message claim ∷ []
+  pub same_span : span (length body) ≡ staged_span claim
   pub bytes : All (λ b. b < 256) body
   pub slots : HasBody (index C place + 1) body me.1
 

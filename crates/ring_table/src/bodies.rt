@@ -3,14 +3,16 @@ ghost use Rattle.std.specs.Prelude.{◌≡◌, ◌+◌, ◌*◌, ◌/◌, ◌^�
 ghost use Rattle.ring_table.specs.Filling.{Begins, Filling, IsSameTable};
 ghost use Rattle.ring_layout.specs.History.{IsMessage};
 ghost use Rattle.ring_table.specs.declared.claim.PlacedMessage.{PlacedMessage};
-ghost use Rattle.ring_table.specs.Changes.{blank, with_header, with_message};
+ghost use Rattle.ring_table.specs.Changes.{blank, recorded, with_header};
 ghost use Rattle.ring_table.specs.ProducerSteps.{with_changed, HasClaimAt, NeedsHeader};
 ghost use Rattle.ring_table.specs.Seats.{IsSameSeat, IsSeatOf};
 ghost use Rattle.ring_table.specs.SlotSteps.{body_loads, words_of, HasBody, HasLast, HasSlots};
 ghost use Rattle.ring_table.specs.Staged.{body_word, AreRising};
 
 use crate::mode::InSlots;
-use crate::steps::slots::{give_body, lend_body, open_body, return_body};
+use crate::steps::slots::{
+    commit_body, give_body, lend_body, open_body, reserve_body, return_body,
+};
 use crate::steps::{RingSeat, SharedRing};
 use crate::view::Wanted;
 use ring_layout::{first_word, put_word, word_index};
@@ -132,8 +134,8 @@ pub fn store_claimed_slots(
     give_body(ring, producer, capacity, place);
 }
 
-/// Stores the header of a claim, its length negated, and writes its whole body into its slots. The claim is open from then
-/// on, and has this body.
+/// Writes the whole body of a claim into its slots, and then stores its header, which is the only one. The claim is
+/// committed from then on, and has this body.
 #[inline(always)]
 pub fn write_slots(
     ring: &SharedRing<InSlots>,
@@ -149,12 +151,12 @@ pub fn write_slots(
     requires claim { HasClaimAt producer.old.me.0 place (NeedsHeader wanted.len) }
     ensures seat { IsSameSeat producer.old producer.new }
     ensures view { producer.new.me.0
-        ≡ with_changed place (with_message wanted.type_id body.now) producer.old.me.0 }
+        ≡ with_changed place (recorded wanted.type_id body.now) producer.old.me.0 }
     ensures rising { AreRising producer.old.me.0.producer.claims }
 {
-    open_body(ring, producer, capacity, place, wanted);
+    reserve_body(ring, producer, capacity, place);
     fill_slots(ring, producer, word_index(capacity, place) + 1, body);
-    give_body(ring, producer, capacity, place);
+    commit_body(ring, producer, capacity, place, wanted);
 }
 
 /// Copies the body of the message that the read got last, of `len` bytes, to the front of the scratch. The log gets its

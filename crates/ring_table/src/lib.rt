@@ -43,7 +43,8 @@ pub use steps::service::{
     draw_correlation_id, load_cache, load_heartbeat, store_cache, store_heartbeat,
 };
 pub use steps::slots::{
-    clear_record, give_body, lend_body, load_passed_header, open_body, return_body, take_body,
+    clear_record, commit_body, give_body, lend_body, load_passed_header, open_body, reserve_body,
+    return_body, take_body,
 };
 pub use steps::{RingSeat, SharedRing};
 pub use table::{RingTable, SlotTable, close, open, open_slots};

@@ -3,11 +3,11 @@ ghost use Rattle.std.specs.Prelude.{◌≡◌, ℕ, ◌+◌, ◌%◌, ◌<◌, �
 ghost use Rattle.ring_layout.specs.History.{IsMessage};
 ghost use Rattle.ring_layout.specs.Places.{index, max_position};
 ghost use Rattle.ring_table.specs.declared.claim.StagedClaim.{StagedClaim};
-ghost use Rattle.ring_table.specs.Changes.{blank, with_body_word};
+ghost use Rattle.ring_table.specs.Changes.{blank, recorded, with_body_word};
 ghost use Rattle.ring_table.specs.ProducerSteps.{HasClaimAt};
 ghost use Rattle.ring_table.specs.Seats.{IsSameSeat, IsSeatOf};
 ghost use Rattle.ring_table.specs.Views.{with_claims};
-ghost use Rattle.ring_rings.specs.Bodies.{loaded, put_at, recorded, HasPaddedLast, HasRoom, IsFreshClaim};
+ghost use Rattle.ring_rings.specs.Bodies.{loaded, put_at, HasPaddedLast, HasRoom, IsFreshClaim};
 ghost use Rattle.ring_rings.specs.Bodies.{IsPaddedLast, MergesWord, PutsBytes, TakesFresh};
 
 use ring_layout::{first_word, put_bytes_word, word_index};

@@ -4,10 +4,9 @@ ghost use Rattle.ring_layout.specs.History.{IsMessage};
 ghost use Rattle.ring_layout.specs.Places.{max_position};
 ghost use Rattle.ring_table.specs.declared.claim.StagedClaim.{StagedClaim};
 ghost use Rattle.ring_table.specs.declared.claim.Stage.TheVariants.{Padded};
-ghost use Rattle.ring_table.specs.Changes.{blank, with_header, staged};
+ghost use Rattle.ring_table.specs.Changes.{blank, recorded, staged, with_header};
 ghost use Rattle.ring_table.specs.Seats.{IsSameSeat, IsSeatOf};
 ghost use Rattle.ring_table.specs.Views.{with_claims};
-ghost use Rattle.ring_rings.specs.Bodies.{recorded};
 ghost use Rattle.ring_rings.specs.Making.{HasNewest, IsNewest};
 
 use crate::steps::Steps;

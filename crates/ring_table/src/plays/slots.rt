@@ -2,7 +2,8 @@
 ghost use Rattle.std.specs.Prelude.{◌≡◌};
 ghost use Rattle.ring_table.specs.Staged.{AreRising};
 ghost use Rattle.ring_table.specs.ConsumerSteps.{ClearsRecord, LoadsRecord};
-ghost use Rattle.ring_table.specs.SlotSteps.{GivesBody, LendsBody, OpensBody, ReturnsBody, TakesBody};
+ghost use Rattle.ring_table.specs.SlotSteps.{CommitsBody, GivesBody, LendsBody, OpensBody, ReservesBody, ReturnsBody};
+ghost use Rattle.ring_table.specs.SlotSteps.{TakesBody};
 
 use crate::view::View;
 use atomic_table::Play;
@@ -11,6 +12,18 @@ pub struct OpenBody;
 
 impl Play<u64, View> for OpenBody {
     ghost then = { λ st me n me'. OpensBody st.word st.first me me' × AreRising me.0.producer.claims };
+}
+
+pub struct ReserveBody;
+
+impl Play<u64, View> for ReserveBody {
+    ghost then = { λ st me n me'. ReservesBody st.word me me' × AreRising me.0.producer.claims };
+}
+
+pub struct CommitBody;
+
+impl Play<u64, View> for CommitBody {
+    ghost then = { λ st me n me'. CommitsBody st.first me me' × AreRising me.0.producer.claims };
 }
 
 pub struct TakeBody;

@@ -1,6 +1,7 @@
 //! The steps of a ring whose bodies lie in slots. Some take the slots of a body and give them back: between them the
 //! seat reads and writes the slots as plain memory. The others clear a record whose header alone is not 0.
-ghost use Rattle.std.specs.Prelude.{◌≡◌, ◌+◌, ◌/◌, ◌<◌, [], ◌∷◌, List, ℕ, true};
+ghost use Rattle.std.specs.Prelude.{◌≡◌, ◌+◌, ◌/◌, ◌<◌, [], ◌∷◌, List, ℕ, length, true};
+ghost use Rattle.ring_layout.specs.Headers.{committed_header};
 ghost use Rattle.ring_layout.specs.History.{IsMessage};
 ghost use Rattle.ring_layout.specs.Places.{index};
 ghost use Rattle.ring_table.specs.Staged.{AreRising};
@@ -9,15 +10,17 @@ ghost use Rattle.ring_table.specs.ConsumerSteps.{ClearsRecord, LoadsRecord};
 ghost use Rattle.ring_table.specs.ProducerSteps.{with_changed, HasClaimAt, NeedsHeader};
 ghost use Rattle.ring_table.specs.Seats.{IsSameSeat, IsSeatOf};
 ghost use Rattle.ring_table.specs.SlotSteps.{with_out, words_of, GivesBody, HasLast, HasSlots, IsHolderOf, IsLent};
-ghost use Rattle.ring_table.specs.SlotSteps.{IsOpen, IsSameHolder, IsTaken, LendsBody, ReturnsBody, TakesBody};
+ghost use Rattle.ring_table.specs.SlotSteps.{CommitsBody, IsOpen, IsPadded, IsReserved, IsSameHolder, IsTaken};
+ghost use Rattle.ring_table.specs.SlotSteps.{LendsBody, ReservesBody, ReturnsBody, TakesBody};
 
 use crate::mode::InSlots;
 use crate::plays::slots::{
-    ClearRecord, GiveBody, LendBody, LoadRecord, OpenBody, ReturnBody, TakeBody,
+    ClearRecord, CommitBody, GiveBody, LendBody, LoadRecord, OpenBody, ReserveBody, ReturnBody,
+    TakeBody,
 };
 use crate::steps::{RingSeat, SharedRing};
 use crate::view::Wanted;
-use ring_layout::{open_header, word_index};
+use ring_layout::{committed_header, open_header, word_index};
 
 /// Stores the header of a claim of `len` bytes, its length negated, and takes the slots of its body. The claim is open
 /// from then on.
@@ -40,6 +43,37 @@ pub fn open_body(
 {
     let header = open_header(wanted.type_id, wanted.len);
     ring.store::<OpenBody>(producer, word_index(capacity, place), header);
+}
+
+/// Takes the slots of an own claim whose header is not stored.
+pub fn reserve_body(ring: &SharedRing<InSlots>, producer: &mut RingSeat, capacity: u32, place: u64)
+    requires seat { IsSeatOf ring.now.table_id ring.now.key capacity producer.old }
+    requires claim { HasClaimAt producer.old.me.0 place IsPadded }
+    ensures seat { IsSameHolder producer.old producer.new }
+    ensures reserves { ReservesBody (index capacity place) producer.old.me producer.new.me }
+    ensures rising { AreRising producer.old.me.0.producer.claims }
+{
+    ring.load::<ReserveBody>(producer, word_index(capacity, place));
+}
+
+/// Stores the committed header of an own claim, which had none, and gives its slots back with the words of a body of
+/// `wanted.len` bytes. The claim is committed from then on, and has this body.
+pub fn commit_body(
+    ring: &SharedRing<InSlots>,
+    producer: &mut RingSeat,
+    capacity: u32,
+    place: u64,
+    wanted: Wanted,
+)
+    requires seat { IsHolderOf ring.now.table_id ring.now.key capacity producer.old }
+    requires message { IsMessage capacity (blank wanted.type_id wanted.len) }
+    requires body { (body : List ℕ) × (length body ≡ wanted.len) × IsReserved capacity place body producer.old.me }
+    ensures seat { IsSameHolder producer.old producer.new }
+    ensures commits { CommitsBody (committed_header wanted.type_id wanted.len) producer.old.me producer.new.me }
+    ensures rising { AreRising producer.old.me.0.producer.claims }
+{
+    let header = committed_header(wanted.type_id, wanted.len);
+    ring.store::<CommitBody>(producer, word_index(capacity, place), header);
 }
 
 /// Takes the slots of an own open claim, which have the words of its body.

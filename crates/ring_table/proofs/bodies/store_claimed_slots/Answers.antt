@@ -5,7 +5,7 @@ use Rattle.ring_table.specs.ProducerSteps.{HasClaim, with_changed}
 use Rattle.ring_table.specs.SlotSteps.{HasBody, with_out}
 use Rattle.ring_table.specs.Views.{View, with_claims}
 use Rattle.ring_table.proofs.HistoryLemmas.{changed_there}
-use Rattle.ring_table.proofs.SlotBodies.{body_given, header_and_body}
+use Rattle.ring_table.proofs.SlotBodies.{body_given, header_and_zeros}
 use Rattle.ring_table.proofs.bodies.store_claimed_slots.Goals as goal
 
 pub give_body-requires-clause-body : goal.give_body-requires-clause-body
@@ -43,10 +43,11 @@ returns-clause-view c =
     let same = c.fill_zeros.ensures.seat.view ∙ c.open_body.ensures.view in
     let given = c.give_body.ensures.gives.1 m _ zeros (ap (λ (z : View). z.out) same) refl c.requires.message.bytes
     c.fill_zeros.ensures.has in
-    body_given (with_changed c.args.place f v) c.give_body.new.producer.me.0 m c.args.place zeros c.requires.seat.home
+    body_given (with_changed c.args.place f v) c.give_body.new.producer.me.0 m c.args.place (with_body zeros)
+    c.requires.seat.home
     refl (given ∙ ap (λ (z : View). with_out [] (with_changed c.args.place (with_body zeros) z)) same)
     ∙ ap (λ (cs : List StagedClaim). with_claims cs v)
-    (header_and_body c.args.place c.args.wanted.type_id n zeros v.producer.claims)
+    (header_and_zeros c.args.place c.args.wanted.type_id n v.producer.claims)
 
 pub returns-clause-seat : goal.returns-clause-seat
 returns-clause-seat c =

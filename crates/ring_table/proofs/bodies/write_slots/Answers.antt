@@ -1,48 +1,59 @@
-use Rattle.std.proofs.Common.{ℕ, ◌+◌, ◌<◌, List, [], All, sym, refl, ap, ◌∙◌, subst, arith}
+use Rattle.std.proofs.Common.{◌≡◌, ℕ, ◌+◌, ◌^◌, ◌<◌, List, [], All, length, sym, ap, ◌∙◌, subst, arith}
 use Rattle.std.proofs.lemmas.List.{length-replicate}
 use Rattle.std.proofs.lemmas.List.Elements.{All-from_get_or}
-use Rattle.ring_table.specs.Staged.{StagedClaim, PlacedMessage}
-use Rattle.ring_table.specs.Changes.{blank, with_body, with_header}
-use Rattle.ring_table.specs.ProducerSteps.{HasClaim, with_changed}
+use Rattle.ring_layout.specs.Headers.{committed_header}
+use Rattle.ring_layout.specs.Places.{index}
+use Rattle.ring_table.specs.Changes.{recorded}
+use Rattle.ring_table.specs.Passing.{placed_message}
+use Rattle.ring_table.specs.ProducerSteps.{with_changed, HasClaim}
 use Rattle.ring_table.specs.Ranges.{numbered}
-use Rattle.ring_table.specs.SlotSteps.{HasBody, words_of, with_out}
-use Rattle.ring_table.specs.Views.{View, with_claims}
-use Rattle.ring_table.proofs.HistoryLemmas.{changed_there}
-use Rattle.ring_table.proofs.SlotBodies.{body_given, header_and_body}
+use Rattle.ring_table.specs.SlotSteps.{HasBody, with_out, words_of}
+use Rattle.ring_table.specs.Views.{View}
+use Rattle.ring_table.proofs.SlotBodies.{body_given}
 use Rattle.ring_table.proofs.bodies.write_slots.Goals as goal
+
+pub reserve_body-requires-clause-claim : goal.reserve_body-requires-clause-claim
+reserve_body-requires-clause-claim c = let h = c.requires.claim in record {
+  nth = h.nth;
+  claim = h.claim;
+  there = h.there;
+  at_place = h.at_place;
+  holds = h.holds.stage;
+}
 
 pub fill_slots-requires-clause-has : goal.fill_slots-requires-clause-has
 fill_slots-requires-clause-has c =
-    let t = c.open_body.ensures.slots in
+    let h = c.requires.claim in
+    let t = (c.reserve_body.ensures.reserves h.nth h.claim h.there h.holds.stage
+    (λ i. index (c.requires.seat.view_is i) (h.at_place i))).1 in
+    let len = c.requires.len in
+    let same_span = h.holds.same_span in
+    let many : words_of (length h.claim.message.body) ≡ words_of (length c.args.body.now) = omega arith in
     record {
       values = t.values;
       held_is = t.held_is ∙ ap (λ i. numbered (i + 1) t.values) (sym c.word_index.ensures);
-      count = t.count ∙ ap words_of (sym c.requires.len);
+      count = t.count ∙ many;
     }
 
-pub give_body-requires-clause-body : goal.give_body-requires-clause-body
-give_body-requires-clause-body c =
+pub commit_body-requires-clause-body : goal.commit_body-requires-clause-body
+commit_body-requires-clause-body c =
     let h = c.requires.claim in
-    let n : ℕ = c.args.wanted.len in
     let body : List ℕ = c.args.body.now in
-    let f : StagedClaim → StagedClaim = with_header c.args.wanted.type_id n in
-    let same = c.fill_slots.ensures.seat.view ∙ c.open_body.ensures.view in
-    let small : All (λ b. b < 256) body =
-    All-from_get_or (λ b. b < 256) body 0 (λ i _. omega (arith, c.type_inv.body i)) in (
+    let len = c.requires.len in
+    let same_span = h.holds.same_span in
+    let same = c.fill_slots.ensures.seat.view ∙ (c.reserve_body.ensures.reserves h.nth h.claim h.there h.holds.stage
+    (λ i. index (c.requires.seat.view_is i) (h.at_place i))).0 in (
       body,
+      len,
       record {
-        message = record { place = c.args.place; message = blank c.args.wanted.type_id n };
-        out_is = ap (λ (v : View). v.out) same;
-        at = refl;
         nth = h.nth;
-        claim = f h.claim;
-        there = subst (λ (v : View). HasClaim v h.nth (f h.claim)) (sym same)
-            (changed_there c.args.place f c.args.producer.now.me.0.producer.claims h.nth h.claim h.there h.at_place);
-        stage = refl;
+        claim = h.claim;
+        there = subst (λ (v : View). HasClaim v h.nth h.claim) (sym same) h.there;
+        stage = h.holds.stage;
         at_place = h.at_place;
-        long = refl;
-        same_length = c.requires.len ∙ sym (length-replicate n 0);
-        bytes = small;
+        out_is = ap (λ (v : View). v.out) same;
+        same_span = omega arith;
+        bytes = All-from_get_or (λ b. b < 256) body 0 (λ i _. omega (arith, c.type_inv.body i));
         slots = subst (λ i. HasBody (i + 1) body c.fill_slots.new.seat.me.1) c.word_index.ensures
             c.fill_slots.ensures.has;
       },
@@ -50,30 +61,34 @@ give_body-requires-clause-body c =
 
 pub returns-clause-view : goal.returns-clause-view
 returns-clause-view c =
-    let n : ℕ = c.args.wanted.len in
+    let h = c.requires.claim in
     let body : List ℕ = c.args.body.now in
     let v : View = c.args.producer.now.me.0 in
-    let f : StagedClaim → StagedClaim = with_header c.args.wanted.type_id n in
-    let m : PlacedMessage = record { place = c.args.place; message = blank c.args.wanted.type_id n } in
-    let same = c.fill_slots.ensures.seat.view ∙ c.open_body.ensures.view in
-    let small : All (λ b. b < 256) body =
+    let len : length body ≡ c.args.wanted.len = c.requires.len in
+    let big = c.requires.seat.lawful.most in
+    let short = c.requires.message.short in
+    let zeros = length-replicate {A = ℕ} c.args.wanted.len 0 in
+    let small : 8 + length body < 2 ^ 31 = omega arith in
+    let bytes : All (λ b. b < 256) body =
     All-from_get_or (λ b. b < 256) body 0 (λ i _. omega (arith, c.type_inv.body i)) in
-    let given = c.give_body.ensures.gives.1 m _ body (ap (λ (z : View). z.out) same)
-    (c.requires.len ∙ sym (length-replicate n 0)) small c.fill_slots.ensures.has in
-    body_given (with_changed c.args.place f v) c.give_body.new.producer.me.0 m c.args.place body c.requires.seat.home
-    refl (given ∙ ap (λ (z : View). with_out [] (with_changed c.args.place (with_body body) z)) same)
-    ∙ ap (λ (cs : List StagedClaim). with_claims cs v)
-    (header_and_body c.args.place c.args.wanted.type_id n body v.producer.claims)
+    let same = c.fill_slots.ensures.seat.view ∙ (c.reserve_body.ensures.reserves h.nth h.claim h.there h.holds.stage
+    (λ i. index (c.requires.seat.view_is i) (h.at_place i))).0 in
+    let f = recorded c.args.wanted.type_id body in
+    let given = c.commit_body.ensures.commits.1 (placed_message h.claim) _ c.args.wanted.type_id body
+    (ap (λ (v : View). v.out) same) c.requires.message.type_fits small
+    (ap (committed_header c.args.wanted.type_id) (sym len)) bytes c.fill_slots.ensures.has in
+    body_given v c.commit_body.new.producer.me.0 (placed_message h.claim) c.args.place f c.requires.seat.home h.at_place
+    (given ∙ ap (λ (z : View). with_out [] (with_changed h.claim.place f z)) same)
 
 pub returns-clause-seat : goal.returns-clause-seat
 returns-clause-seat c =
-    let g = c.give_body.ensures in
+    let g = c.commit_body.ensures in
     let f = c.fill_slots.ensures.seat in
-    let t = c.open_body.ensures.seat in
+    let t = c.reserve_body.ensures.seat in
     record {
       table = g.seat.table ∙ f.table ∙ t.table;
       id = g.seat.id ∙ f.id ∙ t.id;
-      slots = g.gives.0 ∙ sym c.requires.seat.none;
+      slots = g.commits.0 ∙ sym c.requires.seat.none;
       capacity = g.seat.capacity ∙ ap (λ (v : View). v.capacity) f.view ∙ t.capacity;
       out = ap (λ (v : View). v.out) (returns-clause-view c);
     }

@@ -84,8 +84,8 @@ returns-clause-view c k d has at =
     (length-overwritten c.args.offset bytes old (omega arith))
     (small_put c.args.offset bytes old (omega arith) (λ j. omega (arith, c.type_inv.bytes j)) t.2)
     (c.merge_slots.ensures.has old takes) in
-    let told = body_given v c.give_body.new.producer.me.0 (placed_message h.claim) c.args.place new s.home
-    h.at_place (given ∙ ap (λ (z : View). with_out [] (with_changed h.claim.place (with_body new) z)) same) in
+    let told = body_given v c.give_body.new.producer.me.0 (placed_message h.claim) c.args.place (with_body new)
+    s.home h.at_place (given ∙ ap (λ (z : View). with_out [] (with_changed h.claim.place (with_body new) z)) same) in
     let one : h.claim ≡ d = one_claim v.producer.claims h.nth k h.claim d c.take_body.ensures.rising h.there has
     (h.at_place ∙ sym at) in
     subst (λ (z : StagedClaim). c.give_body.new.producer.me.0

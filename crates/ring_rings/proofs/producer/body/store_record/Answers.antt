@@ -4,10 +4,10 @@ use Rattle.ring_layout.specs.declared.message.ClaimState.TheVariants.{Committed}
 use Rattle.ring_table.specs.declared.claim.StagedClaim.{StagedClaim}
 use Rattle.ring_table.specs.declared.claim.Stage.TheVariants.{Stored}
 use Rattle.ring_table.specs.declared.view.View.{View}
-use Rattle.ring_table.specs.Changes.{staged, with_header}
+use Rattle.ring_table.specs.Changes.{recorded, staged, with_header}
 use Rattle.ring_table.specs.Views.{with_claims}
 use Rattle.ring_table.specs.ProducerSteps.{IsStagedOpen, NeedsHeader, with_changed}
-use Rattle.ring_rings.specs.Bodies.{put_at, recorded, IsFreshClaim, IsPaddedLast}
+use Rattle.ring_rings.specs.Bodies.{put_at, IsFreshClaim, IsPaddedLast}
 use Rattle.ring_rings.proofs.BodyLemmas.{overwritten_all}
 use Rattle.ring_rings.proofs.NewestLemmas.{changes_last, has_last}
 use Rattle.ring_rings.proofs.producer.body.store_record.Goals as goal
