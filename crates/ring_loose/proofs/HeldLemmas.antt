@@ -58,7 +58,7 @@ module _ {A : Type 0} where
       ∙ sum_by-set one_if_some xs k y None (held_inside xs k s has)
 
   -- if nothing is held
-  count_none : (xs : List (Option A)) → ((k : ℕ) → k < length xs → slice_index_or xs k None ≡ None)
+  pub count_none : (xs : List (Option A)) → ((k : ℕ) → k < length xs → slice_index_or xs k None ≡ None)
       → count_by is_some xs ≡ 0
   count_none [] all = refl
   count_none (x ∷ xs) all =

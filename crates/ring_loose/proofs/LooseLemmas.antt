@@ -1,14 +1,15 @@
 -- How the claims that a producer holds are aborted, one after another.
-use Rattle.std.proofs.Common.{Result, IsOk, ◌≡◌, ◌≢◌, ℕ, ◌+◌, ◌-◌, ◌<◌, List, ◌∷◌, drop, length, set, Option, Some, None, MatchOption, IfNone, slice_index_or, sym, ap, ◌∙◌, subst, arith, inl, inr, get_or-set_same, get_or-set_other}
+use Rattle.std.proofs.Common.{Result, IsOk, ◌≡◌, ℕ, ◌+◌, ◌-◌, ◌<◌, List, ◌∷◌, drop, length, set, Option, Some, None, MatchOption, IfNone, slice_index_or, sym, ap, ◌∙◌, subst, arith, inl, inr, get_or-set_same, get_or-set_other}
 use Rattle.std.proofs.lemmas.Bool.{cases_lt}
 use Rattle.std.proofs.lemmas.List.{drop-set-lt, length-set}
 use Rattle.ring_layout.specs.declared.message.ClaimState.{ClaimState}
-use Rattle.ring_layout.specs.declared.message.ClaimState.TheVariants.{Open, Aborted}
+use Rattle.ring_layout.specs.declared.message.ClaimState.TheVariants.{Aborted}
 use Rattle.ring_layout.specs.Refusals.{all_shares}
 use Rattle.ring_words.specs.Open.{ClaimAt}
 use Rattle.ring_table.specs.declared.claim.Stage.TheVariants.{Stored}
 use Rattle.ring_table.specs.declared.view.View.{View}
 use Rattle.ring_table.specs.Changes.{staged}
+use Rattle.ring_table.specs.OpenClaims.{one_if_open}
 use Rattle.ring_table.specs.ProducerSteps.{with_changed}
 use Rattle.ring_table.specs.Views.{with_claims}
 use Rattle.ring_rings.specs.declared.fault.CloseFault.{CloseFault}
@@ -16,13 +17,13 @@ use Rattle.ring_rings.specs.declared.ring.Ring.{Ring}
 use Rattle.ring_rings.specs.declared.steps.Steps.{Ghosts}
 use Rattle.ring_rings.specs.declared.ring.Producer.{Producer}
 use Rattle.ring_rings.specs.declared.ring.Consumer.{Consumer}
-use Rattle.ring_rings.specs.Seats.{view_of, IsProducerOf, KeepsOthers}
+use Rattle.ring_rings.specs.Seats.{view_of, IsProducerOf, KeepsClaims, KeepsOthers}
 use Rattle.ring_rings.specs.Closing.{close_refusal_of, IsRefusedAs}
-use Rattle.ring_loose.specs.Claims.{AreOpen, Holder, SettlesAt}
+use Rattle.ring_loose.specs.Claims.{AreAllOpen, Holder, SettlesAt}
 use Rattle.ring_loose.specs.Held.{Goes, HasAt, IsFree}
-use Rattle.ring_loose.proofs.ClaimsLemmas.{one_less_open, same_open}
+use Rattle.ring_loose.proofs.ClaimsLemmas.{one_less_all, still_all}
 use Rattle.ring_loose.proofs.HeldLemmas.{front, none_at}
-use Rattle.ring_rings.proofs.LeavingLemmas.{Keeps}
+use Rattle.ring_rings.proofs.LeavingLemmas.{AsManyOpen}
 use Rattle.ring_loose.specs.Loose.{AreSeats, Loose, aborted_view, all_aborted, with_holder}
 
 -- what the producer knows once the claims from an index on are aborted
@@ -100,32 +101,29 @@ not_refused error open_claims shares result none all refused =
     subst (λ n. IsRefusedAs error (close_refusal_of 0 n) result) all
     (subst (λ n. IsRefusedAs error (close_refusal_of n shares) result) none refused)
 
--- a step of the producer that leaves its shares and claims as they are
-pub same_seats : {K B : Type 0} {G : Ghosts B} (ring : Ring K B G) (old new : Producer) (c : Consumer) (claims : List (Option ClaimAt))
-    → AreSeats ring old c claims → IsProducerOf ring new → Keeps (view_of old) (view_of new)
-    → AreSeats ring new c claims
-same_seats ring old new c claims seats is keeps =
+-- a step of the producer that opens and settles no claim
+pub same_seats : {K B : Type 0} {G : Ghosts B} (ring : Ring K B G) (p q : Producer) (c : Consumer) (claims : List (Option ClaimAt))
+    → AreSeats ring p c claims → IsProducerOf ring q → KeepsClaims ring p q → AsManyOpen (view_of p) (view_of q)
+    → AreSeats ring q c claims
+same_seats ring p q c claims seats is keeps same =
     record {
       start = seats.start;
-      holder = record { producer = is; held = same_open ring old new claims keeps.claims seats.holder.held };
-      alone = keeps.shares
-          ∙ seats.alone;
+      holder = record { producer = is; held = still_all ring p q claims seats.holder.held keeps same.open_claims };
+      alone = same.shares ∙ seats.alone;
       consumer = seats.consumer;
     }
 
 -- a claim that was held is settled
-pub settled_seats : {K B : Type 0} {G : Ghosts B} (ring : Ring K B G) (old new : Producer) (c : Consumer)
-    (claims left : List (Option ClaimAt)) (n : ℕ) (t : ClaimAt) (s : ClaimState) → s ≢ Open
-    → AreSeats ring old c claims → Goes t claims n left
-    → IsProducerOf ring new × KeepsOthers ring t.place old new
-    → view_of new ≡ with_changed t.place (staged (Stored s)) (view_of old) → AreSeats ring new c left
-settled_seats ring old new c claims left n t s settled seats taken told change = record {
+pub settled_seats : {K B : Type 0} {G : Ghosts B} (ring : Ring K B G) (p q : Producer) (c : Consumer)
+    (claims left : List (Option ClaimAt)) (n : ℕ) (t : ClaimAt) (s : ClaimState) → one_if_open s ≡ 0
+    → AreSeats ring p c claims → Goes t claims n left → IsProducerOf ring q × KeepsOthers ring t.place p q
+    → view_of q ≡ with_changed t.place (staged (Stored s)) (view_of p) → AreSeats ring q c left
+settled_seats ring p q c claims left n t s settled seats taken told change = record {
   start = seats.start;
   holder = record {
     producer = told.0;
-    held = subst (AreOpen ring new) (sym taken.given_up)
-        (one_less_open ring old new claims (n - 1) t s settled seats.holder.held taken.here.has told.1.claims
-        (ap (λ (v : View). v.producer.claims) change));
+    held = subst (AreAllOpen ring q) (sym taken.given_up)
+        (one_less_all ring p q claims seats.holder.held (n - 1) t taken.here.has s settled told.1 change);
   };
   alone = ap (λ (v : View). v.producer.shares) change ∙ seats.alone;
   consumer = seats.consumer;
