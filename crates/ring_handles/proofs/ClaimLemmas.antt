@@ -1,7 +1,7 @@
 -- The open claims of a producer: how they stay open.
-use Rattle.std.proofs.Common.{◌≡◌, ◌≢◌, ◌⊎◌, inl, inr, ℕ, suc, ◌+◌, ◌%◌, ◌<◌, ◌≤◌, pos, MatchOption, Bool, true, false, cond, eqb, List, [], ◌∷◌, ◌++◌, All, Some, length, get_or, take, drop, slice_index_or, refl, sym, ap, ◌∙◌, subst, arith, append_assoc, append-nil, take_all}
-use Rattle.std.proofs.lemmas.List.{at_drop_all, drop_more, get_or_default, take_more}
-use Rattle.std.proofs.lemmas.List.Elements.{All-append, All-cons, All-head, All-nil, All-pop, All-push, All-tail, All-weaker}
+use Rattle.std.proofs.Common.{◌≡◌, ◌≢◌, ◌⊎◌, inl, inr, ℕ, ◌+◌, ◌%◌, ◌<◌, pos, MatchOption, Bool, true, false, cond, eqb, List, [], ◌∷◌, ◌++◌, Some, length, refl, sym, ap, ◌∙◌, subst}
+use Rattle.std.proofs.lemmas.Bool.{eq-eqb, ne_eqb}
+use Rattle.std.proofs.lemmas.List.Elements.{All-weaker}
 use Rattle.ring_layout.specs.declared.message.ClaimState.{ClaimState}
 use Rattle.ring_layout.specs.declared.message.ClaimState.TheVariants.{Aborted}
 use Rattle.ring_layout.specs.History.{IsMessage}
@@ -14,8 +14,10 @@ use Rattle.ring_rings.specs.declared.ring.Ring.{Ring}
 use Rattle.ring_rings.specs.declared.steps.Steps.{Ghosts}
 use Rattle.ring_rings.specs.declared.ring.Producer.{Producer}
 use Rattle.ring_rings.specs.Bodies.{PutsBytes}
-use Rattle.ring_rings.specs.Seats.{view_of, IsOpenClaimOf, KeepsBoth, KeepsClaims, KeepsOthers, LiesApart}
-use Rattle.ring_handles.specs.Claims.{aborted, claim_numbered, without, AreApart, AreOpen, Takes}
+use Rattle.ring_rings.specs.Seats.{view_of, IsOpenClaimOf, KeepsOthers}
+use Rattle.ring_rings.proofs.HoldingLemmas.{all_parts, one_changed_open, one_less_open, one_open}
+use Rattle.ring_rings.specs.Holding.{AreApart, AreOpen}
+use Rattle.ring_handles.specs.Claims.{aborted, claim_numbered, without, Takes}
 use Rattle.ring_handles.specs.Producing.{holding, settling, Declined, Put, Settled}
 use Rattle.ring_handles.specs.Side.{knowing, side}
 use Rattle.ring_handles.specs.declared.identity.Identity.{Identity}
@@ -43,140 +45,61 @@ has_number number t X on off = pick (eqb t.place number) refl
     pick true is = on is
     pick false is = off is
 
--- what holds of all claims holds of the one of a number, and of all without it
-module _ (R : ClaimAt → Type 0) (number : ℕ) where
-  pub holds_of : (ts : List ClaimAt) (t : ClaimAt) → claim_numbered number ts ≡ Some t → All R ts → R t
-  holds_of [] t is all = absurd cc
-  holds_of (u ∷ us) t is all = has_number number u (R t)
-      (λ on. subst R (some_same u t (sym (numbered_by true number u us on).0 ∙ is)) (All-head R u us all))
-      (λ off. holds_of us t (sym (numbered_by false number u us off).0 ∙ is) (All-tail R u us all))
+-- the claim of a number, with those before it and those after it
+pub record Numbered (number : ℕ) (t : ClaimAt) (claims : List ClaimAt) : Type 0 where
+  pub front : List ClaimAt
+  pub back : List ClaimAt
+  pub all : claims ≡ front ++ t ∷ back
+  pub rest : without number claims ≡ front ++ back
 
-  all_without : (ts : List ClaimAt) → All R ts → All R (without number ts)
-  all_without [] all = all
-  all_without (u ∷ us) all = has_number number u (All R (without number (u ∷ us)))
-      (λ on. subst (All R) (sym (numbered_by true number u us on).1) (All-tail R u us all))
-      (λ off. subst (All R) (sym (numbered_by false number u us off).1)
-      (All-cons R u (without number us) (All-head R u us all) (all_without us (All-tail R u us all))))
+numbered : (number : ℕ) (claims : List ClaimAt) (t : ClaimAt) → claim_numbered number claims ≡ Some t
+    → Numbered number t claims
+numbered number [] t is = absurd cc
+numbered number (u ∷ us) t is = has_number number u (Numbered number t (u ∷ us))
+    (λ on. let by = numbered_by true number u us on in
+    record { front = []; back = us; all = ap (λ x. x ∷ us) (some_same u t (sym by.0 ∙ is)); rest = by.1 })
+    (λ off. let by = numbered_by false number u us off in
+    let more = numbered number us t (sym by.0 ∙ is) in
+    record {
+      front = u ∷ more.front;
+      back = more.back;
+      all = ap (λ l. u ∷ l) more.all;
+      rest = by.1 ∙ ap (λ l. u ∷ l) more.rest;
+    })
 
--- the claims of two lists that lie at different places
-apart_both : (P Q : ClaimAt → Type 0) (ts us : List ClaimAt) → All P ts → All Q us
-    → ((t u : ClaimAt) → P t → Q u → t.place ≢ u.place) → AreApart ts → AreApart us → AreApart (ts ++ us)
-apart_both P Q [] us all others off ts_apart us_apart = us_apart
-apart_both P Q (t ∷ ts) us all others off ts_apart us_apart = (
-  All-append (λ u. t.place ≢ u.place) ts us ts_apart.0
-      (All-weaker Q (λ u. t.place ≢ u.place) (λ u is. off t u (All-head P t ts all) is) us others),
-  apart_both P Q ts us (All-tail P t ts all) others off ts_apart.1 us_apart,
-)
-
--- all but the last one
-apart_front : (ts : List ClaimAt) (t : ClaimAt) → AreApart (ts ++ t ∷ [])
-    → AreApart ts × All (λ u. u.place ≢ t.place) ts
-apart_front [] t apart = (tt, All-nil (λ u. u.place ≢ t.place))
-apart_front (u ∷ us) t apart =
-    let rest = apart_front us t apart.1 in
-    let all = All-pop (λ x. u.place ≢ x.place) (us ++ t ∷ []) us (Some t) refl apart.0 in
-    ((all.0, rest.0), All-cons (λ x. x.place ≢ t.place) u us all.1 rest.1)
-
--- P turns into Q for all claims but the one that was changed or went
-module _ (P Q : ClaimAt → Type 0) (t : ClaimAt) (keeps : (u : ClaimAt) → P u → u.place ≢ t.place → Q u) where
-  behind : (ts : List ClaimAt) → All P ts → All (λ u. t.place ≢ u.place) ts → All Q ts
-  behind ts all off = λ k d lt. keeps (slice_index_or ts k d) (all k d lt) (λ same. off k d lt (sym same))
-
-  module _ (number : ℕ) where
-    one_less : (ts : List ClaimAt) → claim_numbered number ts ≡ Some t → All P ts → AreApart ts
-        → All Q (without number ts) × AreApart (without number ts)
-    one_less [] is all apart = absurd cc
-    one_less (u ∷ us) is all apart =
-        has_number number u (All Q (without number (u ∷ us)) × AreApart (without number (u ∷ us)))
-        (λ on. let numbered = numbered_by true number u us on in
-        let same = some_same u t (sym numbered.0 ∙ is) in
-        subst (λ l. All Q l × AreApart l) (sym numbered.1) (
-          behind us (All-tail P u us all)
-              (subst (λ (x : ClaimAt). All (λ y. x.place ≢ y.place) us) same apart.0),
-          apart.1,
-        ))
-        (λ off. let numbered = numbered_by false number u us off in
-        let later = sym numbered.0 ∙ is in
-        let rest = one_less us later (All-tail P u us all) apart.1 in
-        let head = keeps u (All-head P u us all) (holds_of (λ x. u.place ≢ x.place) number us t later apart.0) in
-        subst (λ l. All Q l × AreApart l) (sym numbered.1) (
-          All-cons Q u (without number us) head rest.0,
-          (all_without (λ x. u.place ≢ x.place) number us apart.0, rest.1),
-        ))
-
-    one_changed : (ts : List ClaimAt) → claim_numbered number ts ≡ Some t → All P ts → AreApart ts → Q t → All Q ts
-    one_changed [] is all apart here = absurd cc
-    one_changed (u ∷ us) is all apart here = has_number number u (All Q (u ∷ us))
-        (λ on. let same = some_same u t (sym (numbered_by true number u us on).0 ∙ is) in
-        All-cons Q u us (subst Q (sym same) here)
-        (behind us (All-tail P u us all) (subst (λ (x : ClaimAt). All (λ y. x.place ≢ y.place) us) same apart.0)))
-        (λ off. let later = sym (numbered_by false number u us off).0 ∙ is in
-        All-cons Q u us
-        (keeps u (All-head P u us all) (holds_of (λ x. u.place ≢ x.place) number us t later apart.0))
-        (one_changed us later (All-tail P u us all) apart.1 here))
+-- the claim of a number is the one of its number, if no other is at its place
+pub numbered_one : (number : ℕ) (front back : List ClaimAt) (t : ClaimAt) → t.place ≡ number
+    → AreApart (front ++ t ∷ back) → Takes number t (front ++ t ∷ back) (front ++ back)
+numbered_one number [] back t is apart =
+    let by = numbered_by true number t back (eq-eqb t.place number is) in record { claim = by.0; rest = sym by.1 }
+numbered_one number (u ∷ us) back t is apart =
+    let off = (all_parts (λ x. u.place ≢ x.place) us t back apart.0).1 in
+    let by = numbered_by false number u (us ++ t ∷ back) (ne_eqb u.place number (λ same. off (same ∙ sym is))) in
+    let later = numbered_one number us back t is apart.1 in
+    record { claim = by.0 ∙ later.claim; rest = ap (λ l. u ∷ l) later.rest ∙ sym by.1 }
 
 -- Claims that are open -----------------------------------------------------------
 
 module _ {K B : Type 0} {G : Ghosts B} (ring : Ring K B G) where
-  pub still_open : (p q : Producer) (claims : List ClaimAt) → KeepsClaims ring p q → AreOpen ring p claims
-      → AreOpen ring q claims
-  still_open p q claims keeps are =
-      record { each = λ k d lt. keeps (slice_index_or claims k d) (are.each k d lt); apart = are.apart }
+  -- the claim of a number
+  module _ (p q : Producer) (claims : List ClaimAt) (number : ℕ) (t : ClaimAt)
+      (is : claim_numbered number claims ≡ Some t) (are : AreOpen ring p claims) where
+    split : Numbered number t claims
+    split = numbered number claims t is
 
-  pub one_more_open : (p q : Producer) (claims : List ClaimAt) (t : ClaimAt) → KeepsClaims ring p q
-      → IsOpenClaimOf ring q t → LiesApart ring p t → AreOpen ring p claims → AreOpen ring q (claims ++ t ∷ [])
-  one_more_open p q claims t keeps is_open off are = record {
-    each = All-push (IsOpenClaimOf ring q) claims t (still_open p q claims keeps are).each is_open;
-    apart = apart_both (IsOpenClaimOf ring p) (λ u. u ≡ t) claims (t ∷ []) are.each
-        (All-cons (λ u. u ≡ t) t [] refl (All-nil (λ u. u ≡ t)))
-        (λ s u is same. subst (λ x. s.place ≢ x.place) (sym same) (off s is)) are.apart
-        (All-nil (λ u. t.place ≢ u.place), tt);
-  }
+    parts : AreOpen ring p (split.front ++ t ∷ split.back)
+    parts = subst (AreOpen ring p) split.all are
 
-  pub both_open : (p other q : Producer) (claims more : List ClaimAt) → KeepsBoth ring p other q
-      → AreOpen ring p claims → AreOpen ring other more → AreOpen ring q (claims ++ more)
-  both_open p other q claims more keeps are also = record {
-    each = All-append (IsOpenClaimOf ring q) claims more (still_open p q claims keeps.first are).each
-        (still_open other q more keeps.second also).each;
-    apart = apart_both (IsOpenClaimOf ring p) (IsOpenClaimOf ring other) claims more are.each also.each keeps.apart
-        are.apart also.apart;
-  }
+    pub numbered_open : IsOpenClaimOf ring p t
+    numbered_open = one_open ring p q split.front split.back t parts
 
-  pub numbered_open : (p : Producer) (claims : List ClaimAt) (number : ℕ) (t : ClaimAt)
-      → claim_numbered number claims ≡ Some t → AreOpen ring p claims → IsOpenClaimOf ring p t
-  numbered_open p claims number t is are = holds_of (IsOpenClaimOf ring p) number claims t is are.each
+    pub without_open : KeepsOthers ring t.place p q → AreOpen ring q (without number claims)
+    without_open keeps =
+        subst (AreOpen ring q) (sym split.rest) (one_less_open ring p q split.front split.back t parts keeps)
 
-  pub one_less_open : (p q : Producer) (claims : List ClaimAt) (number : ℕ) (t : ClaimAt)
-      → claim_numbered number claims ≡ Some t → KeepsOthers ring t.place p q → AreOpen ring p claims
-      → AreOpen ring q (without number claims)
-  one_less_open p q claims number t is keeps are =
-      let less = one_less (IsOpenClaimOf ring p) (IsOpenClaimOf ring q) t keeps.claims number claims is
-      are.each are.apart in
-      record { each = less.0; apart = less.1 }
-
-  pub one_changed_open : (p q : Producer) (claims : List ClaimAt) (number : ℕ) (t : ClaimAt)
-      → claim_numbered number claims ≡ Some t → KeepsOthers ring t.place p q → IsOpenClaimOf ring q t
-      → AreOpen ring p claims → AreOpen ring q claims
-  one_changed_open p q claims number t is keeps here are = record {
-    each = one_changed (IsOpenClaimOf ring p) (IsOpenClaimOf ring q) t keeps.claims number claims is
-        are.each are.apart here;
-    apart = are.apart;
-  }
-
-  pub last_open : (p : Producer) (claims : List ClaimAt) (t : ClaimAt) → AreOpen ring p (claims ++ t ∷ [])
-      → IsOpenClaimOf ring p t
-  last_open p claims t are =
-      (All-pop (IsOpenClaimOf ring p) (claims ++ t ∷ []) claims (Some t) refl are.each).1
-
-  pub front_open : (p q : Producer) (claims : List ClaimAt) (t : ClaimAt) → AreOpen ring p (claims ++ t ∷ [])
-      → KeepsOthers ring t.place p q → AreOpen ring q claims
-  front_open p q claims t are keeps =
-      let all = All-pop (IsOpenClaimOf ring p) (claims ++ t ∷ []) claims (Some t) refl are.each in
-      let front = apart_front claims t are.apart in
-      record {
-        each = λ k d lt. keeps.claims (slice_index_or claims k d) (all.0 k d lt) (front.1 k d lt);
-        apart = front.0;
-      }
+    pub changed_open : KeepsOthers ring t.place p q → IsOpenClaimOf ring q t → AreOpen ring q claims
+    changed_open keeps here =
+        subst (AreOpen ring q) (sym split.all) (one_changed_open ring p q split.front split.back t parts keeps here)
 
   -- of a ring, what is open goes by the capacity alone
   pub open_in : (same : Ring K B G) (p : Producer) (claims : List ClaimAt) → ring.capacity ≡ same.capacity

@@ -13,7 +13,7 @@ use Rattle.ring_rings.specs.Reading.{Controls, FoundUnsettled, IsNext}
 use Rattle.ring_handles.specs.declared.peeking.Peeking.{Peeking}
 use Rattle.ring_handles.specs.declared.peeking.Taking.{Taking}
 use Rattle.ring_handles.specs.Consuming.{out, LeavesAtHead, Out, RanOut, TookNone}
-use Rattle.ring_handles.specs.Peeking.{PeekedOne, PeekOne, Peeks, PeeksIn, PeeksLonger, PeeksOne, Shows, TakeOne, TakenOne, Takes, TakesOne, TookNext}
+use Rattle.ring_handles.specs.Peeking.{PeekedOne, PeekOne, Peeks, PeeksIn, PeeksLonger, PeeksOne, Shows, TakeOne, TakenOne, Takes, TakesOne}
 use Rattle.ring_handles.specs.Side.{Reading, having_read}
 use Rattle.ring_handles.proofs.EndLemmas.{both, had_none, in_words, next_on, none_once, none_twice, once, ran_out, twice}
 use Rattle.ring_handles.proofs.ShownLemmas.{none_more, shown_none, shown_one, uncounted}

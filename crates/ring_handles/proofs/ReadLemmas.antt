@@ -1,9 +1,6 @@
 -- A controlled read of one message into a buffer.
-use Rattle.std.proofs.Common.{◌≡◌, ◌+◌, inl, inr, ℕ, List, [], ◌∷◌, ◌++◌, All, length, ℤ, pos, refl, sym, ap, ◌∙◌, subst}
-use Rattle.std.proofs.lemmas.List.{append-nil}
-use Rattle.std.proofs.lemmas.List.Elements.{All-head}
+use Rattle.std.proofs.Common.{◌≡◌, ◌+◌, inl, inr, ℕ, List, [], ◌∷◌, ◌++◌, ℤ, pos, sym, ap, ◌∙◌, subst}
 use Rattle.ring_layout.specs.declared.message.Message.{Message}
-use Rattle.ring_layout.specs.Handles.{Handles}
 use Rattle.ring_words.specs.declared.read.action.Action.{Action}
 use Rattle.ring_words.specs.declared.read.action.Action.TheVariants.{Abort, Break}
 use Rattle.ring_words.specs.declared.read.end.ReadEnd.{ReadEnd}
@@ -12,7 +9,7 @@ use Rattle.ring_words.specs.declared.read.end.Stop.TheVariants.{Block, Unpublish
 use Rattle.ring_words.specs.Controlled.{GoesOn}
 use Rattle.ring_table.specs.declared.claim.PlacedMessage.{PlacedMessage}
 use Rattle.ring_table.specs.declared.view.View.{View}
-use Rattle.ring_rings.specs.Reading.{Controls, FoundUnsettled, messages_of}
+use Rattle.ring_rings.specs.Reading.{Controls, FoundUnsettled}
 use Rattle.ring_handles.specs.declared.copying.Copying.{Copying}
 use Rattle.ring_handles.specs.Consuming.{Out, RanOut, ReadOne, ReadsOne, LeavesAtHead, Took, TookNone, TookOne, out}
 use Rattle.ring_handles.specs.Copying.{Copies, Exceeds, CopiesIn}

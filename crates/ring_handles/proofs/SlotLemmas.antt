@@ -1,12 +1,18 @@
 -- The slots of open claims.
-use Rattle.std.proofs.Common.{◌≡◌, ◌≢◌, ℕ, zero, suc, ◌+◌, ◌<◌, ◌≤◌, Bool, true, false, eqb, List, [], ◌∷◌, ◌++◌, All, Option, Some, None, is_some, length, get_or, set, take, slice_index_or, slice_set, refl, sym, ap, ◌∙◌, subst, arith, take_all}
+use Rattle.std.proofs.Common.{◌≡◌, ℕ, suc, ◌+◌, ◌<◌, ◌≤◌, true, false, List, [], ◌∷◌, ◌++◌, All, Option, Some, None, is_some, length, drop, get_or, set, take, slice_index_or, slice_set, refl, sym, ap, ◌∙◌, subst, arith, take_all}
 use Rattle.std.specs.List.{filter}
-use Rattle.std.proofs.lemmas.Bool.{eq-eqb, eqb-true, ne_eqb}
+use Rattle.std.proofs.lemmas.Bool.{eqb-true}
 use Rattle.std.proofs.lemmas.List.{append-nil, get_or_default, length-set, set-get_or, set-set, take_more}
 use Rattle.std.proofs.lemmas.List.Elements.{All-head, All-nil, All-push, All-tail}
 use Rattle.ring_words.specs.Open.{ClaimAt}
-use Rattle.ring_handles.specs.Claims.{claim_numbered, has_numbered, in_slots, without, AreApart, IsNoNumber, IsSlotOf, Takes, TakesFrom}
-use Rattle.ring_handles.proofs.ClaimLemmas.{holds_of, numbered_by}
+use Rattle.ring_rings.specs.declared.ring.Ring.{Ring}
+use Rattle.ring_rings.specs.declared.steps.Steps.{Ghosts}
+use Rattle.ring_rings.specs.declared.ring.Producer.{Producer}
+use Rattle.ring_rings.specs.Holding.{in_slots, AreApart, AreOpen}
+use Rattle.ring_rings.specs.Seats.{IsOpenClaimOf, KeepsOthers}
+use Rattle.ring_handles.specs.Claims.{claim_numbered, has_numbered, without, IsNoNumber, IsSlotOf, TakesFrom}
+use Rattle.ring_handles.proofs.ClaimLemmas.{changed_open, numbered_by, numbered_one}
+use Rattle.ring_rings.proofs.HoldingLemmas.{slot_has, slot_set, slots_append}
 
 abbrev Slots : Type 0
 Slots = List (Option ClaimAt)
@@ -56,24 +62,6 @@ slot_missing number slots i past so_far =
 
 -- One slot -----------------------------------------------------------------------
 
--- the claim of a slot is the one of its number, and without it the slot is empty
-pub emptied : (number : ℕ) (slots : Slots) (i : ℕ) (t : ClaimAt) → i < length slots → get_or slots i None ≡ Some t
-    → t.place ≡ number → AreApart (in_slots slots) → Takes number t (in_slots slots) (in_slots (set slots i None))
-emptied number [] i t inside is numbered apart = absurd (omega arith)
-emptied number (None ∷ slots) zero t inside is numbered apart = absurd cc
-emptied number (Some u ∷ slots) zero t inside is numbered apart =
-    let same : u ≡ t = cc in
-    let by = numbered_by true number u (in_slots slots) (eq-eqb u.place number (ap (λ (x : ClaimAt). x.place) same ∙ numbered)) in
-    record { claim = by.0 ∙ ap Some same; rest = sym by.1 }
-emptied number (None ∷ slots) (suc i) t inside is numbered apart =
-    emptied number slots i t (omega arith) is numbered apart
-emptied number (Some u ∷ slots) (suc i) t inside is numbered apart =
-    let later = emptied number slots i t (omega arith) is numbered apart.1 in
-    let off = holds_of (λ x. u.place ≢ x.place) number (in_slots slots) t later.claim apart.0 in
-    let by = numbered_by false number u (in_slots slots)
-    (ne_eqb u.place number (λ same. off (same ∙ sym numbered))) in
-    record { claim = by.0 ∙ later.claim; rest = ap (λ (ts : List ClaimAt). u ∷ ts) later.rest ∙ sym by.1 }
-
 -- a slot that has a number has its claim
 numbered_in : (number : ℕ) (o : Option ClaimAt) (t : ClaimAt) → o ≡ Some t → has_numbered number o ≡ true
     → t.place ≡ number
@@ -87,19 +75,34 @@ no_slot number o is has =
 pub takes_from : (number : ℕ) (slots : Slots) (i : ℕ) (t : ClaimAt) → IsSlotOf number slots i
     → slice_index_or slots i None ≡ Some t → AreApart (in_slots slots)
     → TakesFrom number i t slots (slice_set slots i None)
-takes_from number slots i t found is apart = record {
-  inside = omega (arith, found.inside, length-set slots i None);
-  takes = emptied number slots i t found.inside is (numbered_in number (slice_index_or slots i None) t is found.has)
-      apart;
-  back = set-set slots i None (Some t) ∙ ap (set slots i) (sym is) ∙ set-get_or slots i None;
-}
+takes_from number slots i t found is apart =
+    let all = slot_has slots i t found.inside is in
+    let numbered = numbered_in number (slice_index_or slots i None) t is found.has in
+    let one = numbered_one number (in_slots (take i slots)) (in_slots (drop (suc i) slots)) t numbered
+    (subst AreApart all apart) in
+    record {
+      inside = omega (arith, found.inside, length-set slots i None);
+      takes = record {
+        claim = ap (claim_numbered number) all ∙ one.claim;
+        rest = slot_set slots i None found.inside ∙ one.rest ∙ sym (ap (without number) all);
+      };
+      back = set-set slots i None (Some t) ∙ ap (set slots i) (sym is) ∙ set-get_or slots i None;
+    }
+
+-- a claim is put back into its slot
+module _ (number index : ℕ) (t u : ClaimAt) (old mid new : Slots) (taken : TakesFrom number index t old mid)
+    (back : new ≡ slice_set mid index (Some u)) (same : u ≡ t) where
+  pub put_back_same : in_slots new ≡ in_slots old
+  put_back_same = ap in_slots (back ∙ ap (λ (v : ClaimAt). slice_set mid index (Some v)) same ∙ taken.back)
+
+  pub put_back_open : {K B : Type 0} {G : Ghosts B} (ring : Ring K B G) (p q : Producer) → KeepsOthers ring t.place p q
+      → IsOpenClaimOf ring q u → AreOpen ring p (in_slots old) → AreOpen ring q (in_slots new)
+  put_back_open ring p q keeps here are =
+      subst (AreOpen ring q) (sym put_back_same)
+      (changed_open ring p q (in_slots old) number t taken.takes.claim are keeps
+      (subst (IsOpenClaimOf ring q) same here))
 
 -- All slots ----------------------------------------------------------------------
-
-pub slots_append : (xs ys : Slots) → in_slots (xs ++ ys) ≡ in_slots xs ++ in_slots ys
-slots_append [] ys = refl
-slots_append (None ∷ xs) ys = slots_append xs ys
-slots_append (Some t ∷ xs) ys = ap (λ (ts : List ClaimAt). t ∷ ts) (slots_append xs ys)
 
 -- the last slot is empty
 pub last_empty : (xs : Slots) → in_slots (xs ++ None ∷ []) ≡ in_slots xs

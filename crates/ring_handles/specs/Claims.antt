@@ -1,14 +1,11 @@
 -- The open claims of a producer, the oldest first. The number of a claim is its place.
-use Rattle.std.specs.Prelude.{◌≡◌, ◌≢◌, ◌==◌, ℕ, ◌<◌, List, [], ◌∷◌, All, Option, Some, None, Bool, true, false, if◌then◌else◌, length, slice_index_or, slice_set, vec_capacity, vec_len}
+use Rattle.std.specs.Prelude.{◌≡◌, ◌==◌, ℕ, ◌<◌, List, [], ◌∷◌, Option, Some, None, Bool, true, false, if◌then◌else◌, length, slice_index_or, slice_set, vec_capacity, vec_len}
 use Rattle.ring_layout.specs.declared.message.ClaimState.TheVariants.{Aborted}
 use Rattle.ring_words.specs.Open.{ClaimAt}
 use Rattle.ring_table.specs.declared.claim.StagedClaim.{StagedClaim}
 use Rattle.ring_table.specs.declared.claim.Stage.TheVariants.{Stored}
 use Rattle.ring_table.specs.Changes.{changed, staged}
-use Rattle.ring_rings.specs.declared.ring.Ring.{Ring}
-use Rattle.ring_rings.specs.declared.steps.Steps.{Ghosts}
-use Rattle.ring_rings.specs.declared.ring.Producer.{Producer}
-use Rattle.ring_rings.specs.Seats.{IsOpenClaimOf}
+use Rattle.ring_rings.specs.Holding.{in_slots}
 use Rattle.ring_handles.specs.declared.open_claims.OpenClaims.{OpenClaims}
 
 -- Claims by number ---------------------------------------------------------------
@@ -35,12 +32,6 @@ pub record Takes (number : ℕ) (t : ClaimAt) (old new : List ClaimAt) : Type 0 
 
 -- Slots --------------------------------------------------------------------------
 
--- the claims in these slots, of which some are empty
-abbrev pub in_slots : List (Option ClaimAt) → List ClaimAt
-in_slots [] = []
-in_slots (None ∷ slots) = in_slots slots
-in_slots (Some t ∷ slots) = t ∷ in_slots slots
-
 -- the claims that a producer keeps, the oldest first
 abbrev pub claims_in : OpenClaims → List ClaimAt
 claims_in kept = in_slots kept.slots.items
@@ -64,18 +55,6 @@ pub record TakesFrom (number index : ℕ) (t : ClaimAt) (old new : List (Option 
   pub inside : index < length new
   pub takes : Takes number t (in_slots old) (in_slots new)
   pub back : slice_set new index (Some t) ≡ old
-
--- Claims that are open -----------------------------------------------------------
-
--- they lie at different places
-abbrev pub AreApart : List ClaimAt → Type 0
-AreApart [] = Unit {0}
-AreApart (t ∷ ts) = All (λ u. t.place ≢ u.place) ts × AreApart ts
-
--- each is an open one of the producer's, and they lie at different places
-pub record AreOpen {K B : Type 0} {G : Ghosts B} (ring : Ring K B G) (p : Producer) (claims : List ClaimAt) : Type 0 where
-  pub each : All (IsOpenClaimOf ring p) claims
-  pub apart : AreApart claims
 
 -- a producer's claims after these were aborted, the youngest first
 abbrev pub aborted : List ClaimAt → List StagedClaim → List StagedClaim

@@ -1,5 +1,5 @@
 -- What calls of counters do: c are the counters before, d after, and the code is what is returned.
-use Rattle.std.specs.Prelude.{◌≡◌, ◌≢◌, ◌⊎◌, ◌<◌, ◌≤◌, ◌^◌, ℕ, ℤ, pos, Bool, true, false, List, [], ◌∷◌, ◌++◌, length, Option, Some, None, Ok, Err}
+use Rattle.std.specs.Prelude.{◌≡◌, ◌≢◌, ◌⊎◌, ◌<◌, ◌≤◌, ◌^◌, ℕ, ℤ, pos, true, false, List, [], ◌∷◌, ◌++◌, length, Option, Some, None, Ok, Err}
 use Rattle.std.specs.Arc.{arc_value}
 use Rattle.ring_layout.specs.History.{overwritten}
 use Rattle.ring_counters.specs.declared.fault.AllocateRefused.{AllocateRefused}

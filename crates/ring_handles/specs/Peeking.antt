@@ -1,6 +1,6 @@
 -- The next message of a ring, seen before it is taken: r is the consumer before, s after, and the code is what is
 -- returned.
-use Rattle.std.specs.Prelude.{◌≡◌, ◌⊎◌, ◌<◌, ◌≤◌, ℤ, pos, List, [], ◌∷◌, ◌++◌, length}
+use Rattle.std.specs.Prelude.{◌≡◌, ◌⊎◌, ◌<◌, ◌≤◌, ℤ, pos, [], ◌∷◌, ◌++◌, length}
 use Rattle.ring_layout.specs.declared.message.Message.{Message}
 use Rattle.ring_layout.specs.History.{overwritten}
 use Rattle.ring_words.specs.declared.read.action.Action.{Action}

@@ -12,8 +12,8 @@ use Rattle.ring_rings.specs.declared.ring.Ring.{Ring}
 use Rattle.ring_rings.specs.declared.steps.Steps.{Ghosts}
 use Rattle.ring_rings.specs.declared.ring.Producer.{Producer}
 use Rattle.ring_rings.specs.declared.ring.Consumer.{Consumer}
+use Rattle.ring_rings.specs.Holding.{AreOpen}
 use Rattle.ring_rings.specs.Seats.{capacity_of, shares_of, view_of, IsConsumerOf, IsProducerOf}
-use Rattle.ring_handles.specs.Claims.{AreOpen}
 use Rattle.ring_handles.specs.declared.identity.Identity.{Identity}
 use Rattle.ring_handles.specs.declared.ring.AnyRing.{AnyRing}
 use Rattle.ring_handles.specs.declared.ring.AnyRing.TheVariants.{Many, One}

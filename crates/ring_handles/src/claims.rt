@@ -2,8 +2,9 @@
 ghost use Rattle.std.specs.Prelude.{◌≡◌, ◌≢◌, Bool, []};
 ghost use Rattle.ring_layout.specs.declared.message.ClaimState.TheVariants.{Open};
 ghost use Rattle.ring_table.specs.Views.{with_claims};
+ghost use Rattle.ring_rings.specs.Holding.{AreOpen};
 ghost use Rattle.ring_rings.specs.Seats.{claims_of, shares_of, view_of, IsProducerOf, MayClaim};
-ghost use Rattle.ring_handles.specs.Claims.{aborted, claims_in, AreOpen};
+ghost use Rattle.ring_handles.specs.Claims.{aborted, claims_in};
 ghost use Rattle.ring_handles.specs.Producing.{ClaimedAs, Put, Settled};
 ghost use Rattle.ring_handles.specs.Side.{side};
 ghost use Rattle.ring_handles.specs.declared.identity.Identity.{Identity};

@@ -1,7 +1,7 @@
 //! The claims that a producer keeps open, by number.
 ghost use Rattle.std.specs.Prelude.{◌≡◌, ◌<◌, ◌++◌, ◌∷◌, [], MatchOption, OnErr, OnOk, Some, slice_set, vec_len};
-ghost use Rattle.ring_handles.specs.Claims.{claims_in, has_numbered, in_slots, AreApart, HasRoomToKeep, IsNoNumber, IsSlotOf};
-ghost use Rattle.ring_handles.specs.Claims.{TakesFrom};
+ghost use Rattle.ring_rings.specs.Holding.{in_slots, AreApart};
+ghost use Rattle.ring_handles.specs.Claims.{claims_in, has_numbered, HasRoomToKeep, IsNoNumber, IsSlotOf, TakesFrom};
 
 use ring_rings::Claim;
 use std::alloc::{AllocError, Global};

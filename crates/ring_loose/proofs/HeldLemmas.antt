@@ -6,8 +6,8 @@ use Rattle.std.proofs.Math.Seq.{drop-cons}
 use Rattle.std.proofs.lemmas.Bool.{cases_lt}
 use Rattle.std.specs.List.{count_by}
 use Rattle.std.proofs.lemmas.List.Sums.{sum_by-append, sum_by-set}
-use Rattle.std.proofs.lemmas.List.{get_or_append_left, get_or_push, get_or_past, length-append, length-set, set-get_or, set-set}
-use Rattle.ring_loose.specs.Held.{Comes, Goes, HasAt, IsFree, IsVacant, Stays}
+use Rattle.std.proofs.lemmas.List.{drop-set-lt, drop_all, get_or_append_left, get_or_push, get_or_past, length-append, length-set, set-get_or, set-set}
+use Rattle.ring_loose.specs.Held.{Comes, Goes, HasAt, IsFree, IsVacant, Stays, in_turn}
 
 module _ {A : Type 0} where
   -- what is held is in the list
@@ -82,14 +82,14 @@ module _ {A : Type 0} where
   none_of (Some x) free = absurd (free x refl)
 
   -- the list from an index on
-  pub front : (xs : List (Option A)) (n : ℕ) (o : Option A) → n < length xs → slice_index_or xs n None ≡ o
+  front : (xs : List (Option A)) (n : ℕ) (o : Option A) → n < length xs → slice_index_or xs n None ≡ o
       → drop n xs ≡ o ∷ drop (n + 1) xs
   front xs n o inside has =
       let next : suc n ≡ n + 1 = omega arith in
       drop-cons xs n None inside ∙ ap (λ x. x ∷ drop (suc n) xs) has ∙ ap (λ m. o ∷ drop m xs) next
 
   -- nothing is held at the index of a number that is free
-  pub none_at : (xs : List (Option A)) (n : ℕ) → IsFree xs (n + 1) → slice_index_or xs n None ≡ None
+  none_at : (xs : List (Option A)) (n : ℕ) → IsFree xs (n + 1) → slice_index_or xs n None ≡ None
   none_at xs n free =
       let at : n + 1 - 1 ≡ n = omega arith in
       none_of (slice_index_or xs n None) (λ x has. free x
@@ -195,3 +195,52 @@ module _ {A : Type 0} where
     pub of_comes : (x : A) (old : List (Option A)) (next : ℕ) (new : List (Option A)) → OfAll old → Comes x old next new
         → P x → OfAll new
     of_comes x old next new all comes is = subst OfAll (sym comes.held) (of_pushed old x all is)
+
+-- What is given up in turn -----------------------------------------------------------
+
+-- what was held below the index n is given up, each with its step, and what is left from there on comes to the same
+pub record GoneTo {A S : Type 0} (step : A → S → S) (start : List (Option A)) (first : S) (drawn n : ℕ)
+    (now : List (Option A)) (s : S) : Type 0 where
+  pub counted : length now ≡ drawn
+  pub none : AreGone now n
+  pub rest : in_turn step (drop n now) s ≡ in_turn step start first
+
+module _ {A S : Type 0} (step : A → S → S) (start : List (Option A)) (first : S) (drawn n : ℕ) (now : List (Option A))
+    (s : S) (so_far : GoneTo step start first drawn n now s) where
+  -- in the end nothing is held
+  pub all_gone : drawn ≤ n → (count_by is_some now ≡ 0) × (s ≡ in_turn step start first)
+  all_gone past =
+      let counted = so_far.counted in (
+        count_none now (λ k lt. so_far.none k (omega (arith, counted, past, lt))),
+        sym (ap (λ l. in_turn step l s) (drop_all n now (omega (arith, counted, past)))) ∙ so_far.rest,
+      )
+
+  module _ (inside : n < drawn) (next : List (Option A)) (t : S) where
+    here : n < length now
+    here = let counted = so_far.counted in omega (arith, inside, counted)
+
+    -- nothing is held at the index
+    pub none_goes : next ≡ now → t ≡ s → IsFree now (n + 1) → GoneTo step start first drawn (n + 1) next t
+    none_goes same is free =
+        let none = none_at now n free in
+        record {
+          counted = ap length same ∙ so_far.counted;
+          none = subst (λ l. AreGone l (n + 1)) (sym same) (one_more_gone now n so_far.none none);
+          rest = ap (λ l. in_turn step (drop (n + 1) l) t) same ∙ ap (in_turn step (drop (n + 1) now)) is
+              ∙ sym (ap (λ l. in_turn step l s) (front now n None here none)) ∙ so_far.rest;
+        }
+
+    -- what is held there is given up
+    pub one_goes : (x : A) → Goes x now (n + 1) next → t ≡ step x s → GoneTo step start first drawn (n + 1) next t
+    one_goes x goes is =
+        let at : n + 1 - 1 ≡ n = omega arith in
+        let has : HasAt now n x = subst (λ i. HasAt now i x) at goes.here.has in
+        let held : next ≡ set now n None = goes.given_up ∙ ap (λ i. set now i None) at in
+        let rest : drop (n + 1) next ≡ drop (n + 1) now =
+        ap (λ l. drop (n + 1) l) held ∙ drop-set-lt (n + 1) now n None (omega arith) in
+        record {
+          counted = ap length held ∙ length-set now n None ∙ so_far.counted;
+          none = subst (λ l. AreGone l (n + 1)) (sym held) (set_gone now n here so_far.none);
+          rest = ap (λ l. in_turn step l t) rest ∙ ap (in_turn step (drop (n + 1) now)) is
+              ∙ sym (ap (λ l. in_turn step l s) (front now n (Some x) here has)) ∙ so_far.rest;
+        }

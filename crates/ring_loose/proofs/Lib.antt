@@ -1,5 +1,5 @@
 pub mod HeldLemmas
 mod ClaimsLemmas
-mod TryLemmas
+pub mod TryLemmas
 mod LooseLemmas
 mod LeavingLemmas

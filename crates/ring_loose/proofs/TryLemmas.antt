@@ -1,18 +1,19 @@
 -- What the claims and writes that try again leave of a producer's view.
-use Rattle.std.proofs.Common.{Result, Ok, Err, OnOk, OnErr, IfErr, IsTrue, is_err, Option, ◌≡◌, ℕ, ◌+◌, ◌<◌, ℤ, List, [], ◌∷◌, ◌++◌, length, refl, ap, sym, subst, ◌∙◌}
+use Rattle.std.proofs.Common.{Result, Ok, Err, OnOk, OnErr, IfErr, IsTrue, is_err, Option, ◌≡◌, ℕ, ◌+◌, ◌<◌, ℤ, List, [], ◌∷◌, ◌++◌, length, refl, ap, ◌∙◌}
 use Rattle.ring_words.specs.Open.{ClaimAt}
 use Rattle.ring_words.specs.declared.fault.ClaimFault.{ClaimFault}
 use Rattle.ring_table.specs.declared.claim.StagedClaim.{StagedClaim}
 use Rattle.ring_table.specs.declared.view.View.{View}
+use Rattle.ring_table.specs.OpenClaims.{open_count}
 use Rattle.ring_rings.specs.Claiming.{AfterTries, AreContended, Claims, Refuses, Writes, claim_behind, record_behind}
 use Rattle.ring_rings.specs.declared.ring.Producer.{Producer}
-use Rattle.ring_rings.proofs.LeavingLemmas.{Keeps, Gains, keeps_as, keeps_looked, keeps_refused, gains_looked}
+use Rattle.ring_rings.proofs.LeavingLemmas.{AsManyOpen, Gains, Keeps, as_many, as_many_open, gains_looked, keeps_as, keeps_looked, keeps_refused}
+use Rattle.ring_rings.proofs.CountLemmas.{open_count-more}
 use Rattle.ring_rings.specs.Bodies.{PutsBytes}
 use Rattle.ring_rings.specs.Seats.{view_of}
 use Rattle.ring_words.specs.declared.fault.PutRange.{PutRange}
-use Rattle.ring_loose.specs.Claims.{AreHeld, Declines, Holder, Puts, holder}
+use Rattle.ring_loose.specs.Claims.{Declines, Holder, Puts, holder}
 use Rattle.ring_loose.specs.Held.{IsHeld}
-use Rattle.ring_loose.proofs.ClaimsLemmas.{held_settled_more}
 
 keeps_tried : (C : ℕ) (type_id : ℤ) (len : ℕ) (ts : List (ℕ × ℕ)) (v w : View) → AreContended C type_id len ts v w
     → Keeps v w
@@ -27,11 +28,11 @@ module _ {C : ℕ} {type_id : ℤ} {len : ℕ} {v : View} {P : View → Type 0} 
   keeps_before = keeps_tried C type_id len tries.tries v tries.before tries.contended
 
 pub keeps_after : (C : ℕ) (type_id : ℤ) (len : ℕ) (fault : ClaimFault) (v w : View)
-    → AfterTries C type_id len v (λ u. Refuses C type_id len u fault w) → Keeps v w
+    → AfterTries C type_id len v (λ u. Refuses C type_id len u fault w) → AsManyOpen v w
 keeps_after C type_id len fault v w tries =
     let before = keeps_before tries in
     let refused = keeps_refused C type_id len tries.before fault w tries.holds in
-    record { shares = refused.shares ∙ before.shares; claims = refused.claims ∙ before.claims }
+    as_many v w (record { shares = refused.shares ∙ before.shares; claims = refused.claims ∙ before.claims })
 
 gains_after : (c : StagedClaim) {C : ℕ} {type_id : ℤ} {len : ℕ} {P : View → Type 0} (v w : View)
     (tries : AfterTries C type_id len v P) → Gains c tries.before w → Gains c v w
@@ -45,44 +46,23 @@ gains_after c v w tries gained =
 -- a claim was made
 pub gains_claim : (C : ℕ) (type_id : ℤ) (len : ℕ) (t : ClaimAt) (v w : View)
     → AfterTries C type_id len v (λ u. Claims C type_id len u t w)
-    → (c : StagedClaim) × (t.place ≡ c.place) × Gains c v w
+    → (w.producer.shares ≡ v.producer.shares) × (open_count w.producer.claims ≡ open_count v.producer.claims + 1)
 gains_claim C type_id len t v w tries =
     let made = tries.holds in
-    let c = claim_behind C made.tail type_id len in (
-      c,
-      ap (λ (h : ClaimAt). h.place) made.claim,
-      gains_after c v w tries
-          (gains_looked c _ _ made.tail made.head tries.before w made.view),
-    )
-
--- a message was written
-pub gains_record : (C : ℕ) (type_id : ℤ) (body : List ℕ) (v w : View)
-    → AfterTries C type_id (length body) v (λ u. Writes C type_id body u w)
-    → (tail : ℕ) × Gains (record_behind C tail type_id body) v w
-gains_record C type_id body v w tries =
-    let wrote = tries.holds in
-    let c = record_behind C wrote.tail type_id
-    body in (
-      wrote.tail,
-      gains_after c v w tries
-          (gains_looked c _ _ wrote.tail wrote.head tries.before w wrote.view),
-    )
+    let c = claim_behind C made.tail type_id len in
+    let gained = gains_after c v w tries (gains_looked c _ _ made.tail made.head tries.before w made.view) in
+    (gained.shares, ap open_count gained.claims ∙ open_count-more v.producer.claims c)
 
 -- a message was written, or refused
-pub wrote : {T : Type 0} (r : Result T ClaimFault) (C : ℕ) (type_id : ℤ) (body : List ℕ) (v w : View)
+pub wrote : {T : Type 0} (r : Result T ClaimFault) (C : ℕ) (type_id : ℤ) (body : List ℕ) (len : ℕ) (v w : View)
     → OnOk r (AfterTries C type_id (length body) v (λ u. Writes C type_id body u w))
-    → IfErr r (λ fault. AfterTries C type_id (length body) v (λ u. Refuses C type_id (length body) u fault w))
-    → (w.producer.shares ≡ v.producer.shares)
-    × ((claims : List (Option ClaimAt)) → AreHeld v.producer.claims claims → AreHeld w.producer.claims claims)
-wrote (Ok x) C type_id body v w written refused =
-    let gained = gains_record C type_id body v w written in (
-      gained.1.shares,
-      λ claims all. subst (λ cs. AreHeld cs claims) (sym gained.1.claims)
-          (held_settled_more v.producer.claims (record_behind C gained.0 type_id body) claims (λ same. absurd cc) all),
-    )
-wrote (Err fault) C type_id body v w written refused = let kept =
-    keeps_after C type_id (length body) fault v w
-    refused in (kept.shares, λ claims all. subst (λ cs. AreHeld cs claims) (sym kept.claims) all)
+    → IfErr r (λ fault. AfterTries C type_id len v (λ u. Refuses C type_id len u fault w)) → AsManyOpen v w
+wrote (Ok x) C type_id body len v w tries refused =
+    let made = tries.holds in
+    let c = record_behind C made.tail type_id body in
+    as_many_open v w c refl
+    (gains_after c v w tries (gains_looked c _ _ made.tail made.head tries.before w made.view))
+wrote (Err fault) C type_id body len v w written refused = keeps_after C type_id len fault v w refused
 
 pub declines : {T : Type 0} (r : Result T ClaimFault) (C : ℕ) (type_id : ℤ) (len : ℕ) (old new : Holder)
     → new.claims ≡ old.claims

@@ -1,5 +1,5 @@
 -- A ring of a run with its seats.
-use Rattle.std.specs.Prelude.{◌≡◌, ℕ, List, [], ◌∷◌, Option, Some, None}
+use Rattle.std.specs.Prelude.{◌≡◌, ℕ, List, [], Option}
 use Rattle.ring_layout.specs.declared.message.ClaimState.TheVariants.{Aborted}
 use Rattle.ring_layout.specs.Refusals.{all_shares}
 use Rattle.ring_words.specs.Open.{ClaimAt}
@@ -15,6 +15,7 @@ use Rattle.ring_rings.specs.declared.ring.Consumer.{Consumer}
 use Rattle.ring_rings.specs.Opening.{first_consumer, first_producer}
 use Rattle.ring_rings.specs.Seats.{shares_of, start_of, IsConsumerOf}
 use Rattle.ring_loose.specs.Claims.{Holder, IsHolderOf, holder}
+use Rattle.ring_loose.specs.Held.{in_turn}
 
 -- a ring's capacity, what its producer knows and holds, and what its consumer knows
 pub record Loose : Type 0 where
@@ -57,9 +58,7 @@ beaten_view value l = with_consumer (beaten value l.consumer.consumer) l.consume
 
 -- a producer's claims after those that it holds were aborted
 abbrev pub all_aborted : List (Option ClaimAt) → List StagedClaim → List StagedClaim
-all_aborted [] cs = cs
-all_aborted (None ∷ more) cs = all_aborted more cs
-all_aborted (Some t ∷ more) cs = all_aborted more (changed t.place (staged (Stored Aborted)) cs)
+all_aborted = in_turn (λ t cs. changed t.place (staged (Stored Aborted)) cs)
 
 -- what a producer knows then
 abbrev pub aborted_view : Holder → View

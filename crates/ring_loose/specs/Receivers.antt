@@ -1,5 +1,5 @@
 -- Numbered receivers of a broadcast buffer.
-use Rattle.std.specs.Prelude.{◌≡◌, ℕ, ◌+◌, List, [], ◌∷◌, Option, Some, None}
+use Rattle.std.specs.Prelude.{◌≡◌, ℕ, ◌+◌, List, Option}
 use Rattle.ring_board.specs.declared.board.Board.{Board}
 use Rattle.ring_board.specs.declared.shared.view.View.{View}
 use Rattle.ring_board.specs.declared.board.Transmitter.{Transmitter}
@@ -7,7 +7,7 @@ use Rattle.ring_board.specs.declared.board.CopyReceiver.{CopyReceiver}
 use Rattle.ring_board.specs.Receiving.{GotCopy, GotLapped, GotNothing}
 use Rattle.ring_board.specs.Seats.{shares_of, view_of, IsReceiverOf, IsTransmitterOf, receiver_seat, receiver_view}
 use Rattle.ring_board.specs.Views.{Sat, fewer, newcomer, joined}
-use Rattle.ring_loose.specs.Held.{Comes, Goes, HasAt, Stays, held_count, held_in}
+use Rattle.ring_loose.specs.Held.{Comes, Goes, HasAt, Stays, held_count, held_in, in_turn}
 use Rattle.ring_loose.specs.declared.numbered.Numbered.{Numbered}
 use Rattle.ring_loose.specs.declared.received.Received.{Received}
 use Rattle.ring_loose.specs.declared.received.Received.TheVariants.{Copy, Nothing, Lapped}
@@ -62,6 +62,4 @@ pub record LeavesCrowd (old : Crowd) (number : ℕ) (new : Crowd) : Type 0 where
 
 -- what a transmitter knows once all receivers that are here have left, in rising order of their numbers
 abbrev pub all_left : List (Option CopyReceiver) → View → View
-all_left [] v = v
-all_left (None ∷ more) v = all_left more v
-all_left (Some r ∷ more) v = all_left more (joined v (receiver_view r))
+all_left = in_turn (λ r v. joined v (receiver_view r))

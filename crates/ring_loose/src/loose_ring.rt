@@ -7,8 +7,8 @@ ghost use Rattle.ring_rings.specs.Closing.{HandsOut, Serves};
 ghost use Rattle.ring_rings.specs.Joining.{LoadsPositions};
 ghost use Rattle.ring_rings.specs.Reading.{Controls, EndsAt, Reads};
 ghost use Rattle.ring_rings.specs.Seats.{capacity_of, shares_of};
-ghost use Rattle.ring_loose.specs.Claims.{Declines, HoldsNothing, IsHolderOf, Puts, SettlesAt, Tries, WritesAfter, holder_of};
-ghost use Rattle.ring_loose.specs.Held.{IsFree, held_in};
+ghost use Rattle.ring_loose.specs.Claims.{Declines, IsHolderOf, Puts, SettlesAt, Tries, WritesAfter, holder_of};
+ghost use Rattle.ring_loose.specs.Held.{IsFree, held_count, held_in};
 ghost use Rattle.ring_loose.specs.Loose.{aborted_view, beaten_view, fresh_loose, head_in, with_holder, with_reader, with_view};
 ghost use Rattle.ring_table.specs.Passing.{AreSettled};
 ghost use Rattle.ring_table.specs.ServiceSteps.{DrawsId, LoadsHeartbeat};
@@ -273,7 +273,7 @@ impl LooseRing {
 
     /// Aborts all open claims, in rising order of their numbers.
     fn abort_all(&mut self)
-        ensures none { HoldsNothing self.new.holder.claims }
+        ensures none { held_count self.new.holder.claims ≡ 0 }
         ensures view { self.new.holder.view ≡ aborted_view self.old.holder }
         ensures rest { self.new ≡ with_holder self.new.holder self.old }
     {

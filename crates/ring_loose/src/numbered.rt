@@ -53,10 +53,7 @@ impl<T> Numbered<T> {
         ensures free { IfNone result (IsFree (held_in self.old) number) }
     {
         let index = number.checked_sub(1)?;
-        if index >= self.held.len() {
-            return None;
-        }
-        self.held[index].take()
+        self.held.get_mut(index)?.take()
     }
 }
 

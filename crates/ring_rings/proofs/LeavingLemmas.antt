@@ -57,8 +57,11 @@ pub record AsManyOpen (v w : View) : Type 0 where
   pub shares : w.producer.shares ≡ v.producer.shares
   pub open_claims : open_count w.producer.claims ≡ open_count v.producer.claims
 
+pub as_many : (v w : View) → Keeps v w → AsManyOpen v w
+as_many v w kept = record { shares = kept.shares; open_claims = ap open_count kept.claims }
+
 -- the claim that comes is not open
-as_many_open : (v w : View) (c : StagedClaim) → open_count (c ∷ []) ≡ 0 → Gains c v w → AsManyOpen v w
+pub as_many_open : (v w : View) (c : StagedClaim) → open_count (c ∷ []) ≡ 0 → Gains c v w → AsManyOpen v w
 as_many_open v w c settled gained =
     let counted = ap open_count gained.claims ∙ open_count-more v.producer.claims c in
     let old : ℕ = open_count v.producer.claims in
@@ -73,8 +76,7 @@ open_tried (Ok done) C type_id body v w written refused =
     as_many_open v w (record_behind C written.tail type_id body) refl
     (gains_looked _ _ _ written.tail written.head v w written.view)
 open_tried (Err fault) C type_id body v w written refused =
-    let kept = keeps_try C type_id (length body) v fault w refused in
-    record { shares = kept.shares; open_claims = ap open_count kept.claims }
+    as_many v w (keeps_try C type_id (length body) v fault w refused)
 
 pub open_written_alone : (C : ℕ) (type_id : ℤ) (body : List ℕ) (v w : View) → WritesAlone C type_id body v w
     → AsManyOpen v w

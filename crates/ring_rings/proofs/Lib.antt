@@ -20,4 +20,5 @@ pub mod ReadingTurns
 pub mod AcrossLemmas
 pub mod WaitLemmas
 pub mod LeavingLemmas
+pub mod HoldingLemmas
 pub mod IndexLemmas

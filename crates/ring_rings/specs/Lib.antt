@@ -1,5 +1,6 @@
 pub mod Matching
 pub mod Seats
+pub mod Holding
 pub mod Claiming
 pub mod Making
 pub mod Opening

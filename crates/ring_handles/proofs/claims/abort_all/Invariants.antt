@@ -1,7 +1,8 @@
 use Rattle.std.proofs.Common.{◌≡◌, length}
 use Rattle.ring_rings.specs.Seats.{shares_of, view_of, IsProducerOf}
 use Rattle.ring_table.specs.Views.{with_claims}
-use Rattle.ring_handles.specs.Claims.{aborted, claims_in, AreOpen}
+use Rattle.ring_rings.specs.Holding.{AreOpen}
+use Rattle.ring_handles.specs.Claims.{aborted, claims_in}
 use Rattle.ring_handles.proofs.claims.abort_all.Given as goal
 
 -- the claims that are left are open, and once they are aborted too the producer knows what it would

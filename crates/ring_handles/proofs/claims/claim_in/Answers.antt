@@ -1,6 +1,7 @@
 use Rattle.std.proofs.Common.{◌∙◌, ◌++◌, ◌∷◌, [], ap, subst, sym}
-use Rattle.ring_handles.specs.Claims.{claims_in, AreOpen}
-use Rattle.ring_handles.proofs.ClaimLemmas.{one_more_open}
+use Rattle.ring_rings.specs.Holding.{AreOpen}
+use Rattle.ring_handles.specs.Claims.{claims_in}
+use Rattle.ring_rings.proofs.HoldingLemmas.{one_more_open}
 use Rattle.ring_handles.proofs.claims.claim_in.Goals as goal
 
 pub returns-in-Ok-claim_once-clause-claims : goal.returns-in-Ok-claim_once-clause-claims

@@ -1,10 +1,10 @@
-use Rattle.std.proofs.Common.{subst, sym, Some, ◌++◌, ◌∷◌, []}
+use Rattle.std.proofs.Common.{subst, sym}
 use Rattle.std.specs.Int.{w32}
 use Rattle.std.proofs.lemmas.Int.{to_z-of_z}
 use Rattle.ring_rings.specs.Seats.{capacity_of, view_of}
-use Rattle.ring_loose.specs.Claims.{AreOpen, RefusesAfter}
+use Rattle.ring_loose.specs.Claims.{AreAllOpen, RefusesAfter}
 use Rattle.ring_loose.specs.Held.{held_in}
-use Rattle.ring_loose.proofs.ClaimsLemmas.{one_more_open, same_open}
+use Rattle.ring_loose.proofs.ClaimsLemmas.{one_more_all, still_all}
 use Rattle.ring_loose.proofs.TryLemmas.{gains_claim, keeps_after}
 use Rattle.ring_loose.proofs.loose_ring.make_claim.Goals as goal
 
@@ -13,9 +13,9 @@ returns-in-Err-clause-holder g c =
     let kept = keeps_after _ _ _ _ _ _ c.in-Err.ensures.refused in
     record {
       producer = c.claim.ensures.producer;
-      held = subst (AreOpen c.args.ring.now c.claim.new.producer) (sym c.reserve.ensures.same)
-          (same_open c.args.ring.now c.args.producer.now c.claim.new.producer
-          (held_in c.args.claims.now) kept.claims c.requires.held);
+      held = subst (AreAllOpen c.args.ring.now c.claim.new.producer) (sym c.reserve.ensures.same)
+          (still_all c.args.ring.now c.args.producer.now c.claim.new.producer (held_in c.args.claims.now)
+          c.requires.held c.claim.ensures.claims kept.open_claims);
     }
 
 pub returns-in-Err-clause-tried : goal.returns-in-Err-clause-tried
@@ -29,18 +29,16 @@ returns-in-Err-clause-tried g c = record {
 pub returns-clause-holder : goal.returns-clause-holder
 returns-clause-holder g c =
     let gained = gains_claim _ _ _ c.in-Ok.claim _ _ c.in-Ok.ensures.claimed in
+    let old = subst (AreAllOpen c.args.ring.now c.args.producer.now) (sym c.reserve.ensures.same) c.requires.held in
     record {
       producer = c.claim.ensures.producer;
-      held = subst (AreOpen c.args.ring.now c.claim.new.producer) (sym c.hold-number.ensures.held)
-          (subst (λ l. AreOpen c.args.ring.now c.claim.new.producer (l ++ Some c.in-Ok.claim ∷ []))
-          (sym c.reserve.ensures.same)
-          (one_more_open c.args.ring.now c.args.producer.now c.claim.new.producer
-          (held_in c.args.claims.now) c.in-Ok.claim gained.0 c.requires.held c.claim.ensures.claims
-          c.in-Ok.ensures.opened gained.1 gained.2.claims));
+      held = subst (AreAllOpen c.args.ring.now c.claim.new.producer) (sym c.hold-number.ensures.held)
+          (one_more_all c.args.ring.now c.args.producer.now c.claim.new.producer _ old c.in-Ok.claim
+          c.claim.ensures.claims c.in-Ok.ensures.opened gained.1);
     }
 
 pub returns-in-Err-clause-shares : goal.returns-in-Err-clause-shares
 returns-in-Err-clause-shares g c = (keeps_after _ _ _ _ _ _ c.in-Err.ensures.refused).shares
 
 pub returns-clause-shares : goal.returns-clause-shares
-returns-clause-shares g c = (gains_claim _ _ _ c.in-Ok.claim _ _ c.in-Ok.ensures.claimed).2.shares
+returns-clause-shares g c = (gains_claim _ _ _ c.in-Ok.claim _ _ c.in-Ok.ensures.claimed).0

@@ -1,15 +1,15 @@
-use Rattle.std.proofs.Common.{◌-◌, subst, sym}
+use Rattle.std.proofs.Common.{subst, sym}
 use Rattle.ring_rings.specs.Seats.{IsOpenClaimOf}
-use Rattle.ring_loose.specs.Claims.{AreOpen}
-use Rattle.ring_loose.specs.Held.{held_in}
-use Rattle.ring_loose.proofs.ClaimsLemmas.{put_open}
+use Rattle.ring_loose.specs.Claims.{AreAllOpen}
+use Rattle.ring_loose.proofs.ClaimsLemmas.{is_open, one_put_all, put_count}
 use Rattle.ring_loose.proofs.HeldLemmas.{stays, stays_same, vacated}
 use Rattle.ring_loose.proofs.TryLemmas.{put_came}
 use Rattle.ring_loose.proofs.loose_ring.put_into.Goals as goal
 
 pub put-put-requires-clause-claim : goal.put-put-requires-clause-claim
 put-put-requires-clause-claim c =
-    c.requires.held.open_of (c.args.number - 1) c.in_ok-claim.claim c.in_ok-claim.ensures.taken.here.has
+    is_open c.args.ring.now c.args.producer.now c.args.producer.now _ c.requires.held _ _
+    c.in_ok-claim.ensures.taken.here.has
 
 pub put_back-requires : goal.put_back-requires
 put_back-requires c = vacated _ _ _ _ c.in_ok-claim.ensures.taken
@@ -17,17 +17,16 @@ put_back-requires c = vacated _ _ _ _ c.in_ok-claim.ensures.taken
 pub returns-clause-holder : goal.returns-clause-holder
 returns-clause-holder c =
     let ring = c.args.ring.now in
+    let q = c.put-put.new.producer in
     let put = c.put-put.ensures in
     let taken = c.in_ok-claim.ensures.taken in
     let same = stays_same _ _ _ _ _ (stays _ _ _ _ _ _ taken c.put_back.ensures) put.claim.0 in
     record {
       producer = put.producer;
-      held = subst (AreOpen ring c.put-put.new.producer) (sym same)
-          (put_open ring c.put-put.result c.args.producer.now c.put-put.new.producer (held_in c.args.claims.now)
-          (c.args.number - 1) c.in_ok-claim.claim c.args.offset c.args.bytes.now (put.put, put.refused.1)
-          c.requires.held
-          taken.here.has
-          (subst (IsOpenClaimOf ring c.put-put.new.producer) put.claim.0 put.claim.1) put.others.claims);
+      held = subst (AreAllOpen ring q) (sym same)
+          (one_put_all ring c.args.producer.now q _ c.requires.held _ _ taken.here.has put.others
+          (subst (IsOpenClaimOf ring q) put.claim.0 put.claim.1)
+          (put_count c.put-put.result _ _ _ _ _ put.put put.refused.1));
     }
 
 pub returns-clause-put : goal.returns-clause-put

@@ -1,4 +1,4 @@
-use Rattle.std.proofs.Common.{◌≡◌, ℕ, ◌-◌, ◌%◌, ◌≤◌}
+use Rattle.std.proofs.Common.{◌≡◌, ◌-◌, ◌%◌, ◌≤◌}
 use Rattle.ring_table.specs.Seats.{IsSameSeat}
 use Rattle.ring_table.specs.Views.{cleared_to, with_consumer}
 use Rattle.ring_rings.proofs.slots.clear_records.Given as goal

@@ -1,6 +1,6 @@
 use Rattle.std.proofs.Common.{◌∙◌, ap}
-use Rattle.ring_handles.specs.Claims.{in_slots}
-use Rattle.ring_handles.proofs.SlotLemmas.{slots_append}
+use Rattle.ring_rings.specs.Holding.{in_slots}
+use Rattle.ring_rings.proofs.HoldingLemmas.{slots_append}
 use Rattle.ring_handles.proofs.open_claims.OpenClaims.append.Goals as goal
 
 pub returns-clause-appended : goal.returns-clause-appended

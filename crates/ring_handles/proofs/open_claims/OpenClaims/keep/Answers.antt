@@ -1,5 +1,5 @@
 use Rattle.std.proofs.Common.{◌∙◌, ap}
-use Rattle.ring_handles.specs.Claims.{in_slots}
+use Rattle.ring_rings.specs.Holding.{in_slots}
 use Rattle.ring_handles.proofs.SlotLemmas.{last_claim}
 use Rattle.ring_handles.proofs.open_claims.OpenClaims.keep.Goals as goal
 

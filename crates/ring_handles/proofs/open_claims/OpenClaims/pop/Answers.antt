@@ -1,6 +1,6 @@
 use Rattle.std.proofs.Common.{◌∙◌, ◌++◌, ◌∷◌, [], Option, ap, sym}
 use Rattle.ring_words.specs.Open.{ClaimAt}
-use Rattle.ring_handles.specs.Claims.{in_slots}
+use Rattle.ring_rings.specs.Holding.{in_slots}
 use Rattle.ring_handles.proofs.SlotLemmas.{last_claim, last_empty}
 use Rattle.ring_handles.proofs.open_claims.OpenClaims.pop.Goals as goal
 

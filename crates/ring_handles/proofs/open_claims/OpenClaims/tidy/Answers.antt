@@ -1,6 +1,6 @@
 use Rattle.std.proofs.Common.{◌∙◌, ap, rules}
 use Rattle.std.proofs.lemmas.Fn.{filter_same}
-use Rattle.ring_handles.specs.Claims.{in_slots}
+use Rattle.ring_rings.specs.Holding.{in_slots}
 use Rattle.ring_handles.proofs.SlotLemmas.{slots_filtered}
 use Rattle.ring_handles.proofs.open_claims.OpenClaims.tidy.Goals as goal
 

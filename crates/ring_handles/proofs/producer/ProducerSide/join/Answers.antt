@@ -1,9 +1,11 @@
 use Rattle.std.proofs.Common.{◌≡◌, ◌∙◌, ap, refl, subst, sym}
 use Rattle.std.specs.Arc.{arc_value}
 use Rattle.ring_rings.specs.Seats.{capacity_of, IsProducerOf, KeepsBoth}
-use Rattle.ring_handles.specs.Claims.{claims_in, AreOpen}
+use Rattle.ring_rings.specs.Holding.{AreOpen}
+use Rattle.ring_handles.specs.Claims.{claims_in}
 use Rattle.ring_handles.specs.Side.{capacity_in, IsSide, Side}
-use Rattle.ring_handles.proofs.ClaimLemmas.{both_open, open_in}
+use Rattle.ring_rings.proofs.HoldingLemmas.{both_open}
+use Rattle.ring_handles.proofs.ClaimLemmas.{open_in}
 use Rattle.ring_handles.proofs.producer.ProducerSide.join.Goals as goal
 
 pub invariant_of-self-2 : goal.invariant_of-self-2

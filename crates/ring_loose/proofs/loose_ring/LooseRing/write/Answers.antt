@@ -1,28 +1,19 @@
-use Rattle.std.proofs.Common.{◌∙◌, IfErr, length, refl, subst}
+use Rattle.std.proofs.Common.{IfErr, length, refl, subst}
 use Rattle.std.specs.Int.{w32}
 use Rattle.std.proofs.lemmas.Int.{to_z-of_z}
 use Rattle.ring_rings.specs.Seats.{capacity_of, view_of}
 use Rattle.ring_loose.specs.Claims.{Declines, holder}
 use Rattle.ring_loose.specs.Held.{held_in}
 use Rattle.ring_loose.specs.Loose.{Loose}
-use Rattle.ring_loose.proofs.ClaimsLemmas.{still_open}
+use Rattle.ring_loose.proofs.LooseLemmas.{same_seats}
 use Rattle.ring_loose.proofs.TryLemmas.{declines, wrote}
 use Rattle.ring_loose.proofs.loose_ring.LooseRing.write.Goals as goal
 
 pub invariant_of-self : goal.invariant_of-self
 invariant_of-self g c =
-    let seats = c.self.invariant in
-    let done = wrote c.write.result _ _ _ _ _ c.write.ensures.written c.write.ensures.refused in
-    record {
-      start = seats.start;
-      holder = record {
-        producer = c.write.ensures.producer;
-        held = still_open _ _ _ _ seats.holder.held c.write.ensures.claims (done.1 _ seats.holder.held.all);
-      };
-      alone = done.0
-          ∙ seats.alone;
-      consumer = seats.consumer;
-    }
+    let e = c.write.ensures in
+    same_seats _ _ _ _ _ c.self.invariant e.producer e.claims
+    (wrote c.write.result _ _ _ _ _ _ e.written e.refused)
 
 pub returns-clause-refused : goal.returns-clause-refused
 returns-clause-refused g c =
