@@ -68,10 +68,10 @@ static int calls; /* that requested none */
     } while (0)
 
 static uint8_t buffer[1024];
-static int32_t type_id, why;
+static int32_t type_id, why, found, state;
 static size_t len, used;
 static uint64_t head, tail, id, number, lapped, left, took;
-static uint32_t count;
+static uint32_t count, longest;
 static int64_t value;
 
 static void write_and_read(felter_producer *producer, felter_consumer *consumer) {
@@ -90,13 +90,22 @@ static void write_and_read(felter_producer *producer, felter_consumer *consumer)
     NONE(FELTER_OK, felter_set_heartbeat(consumer, 5));
     NONE(FELTER_OK, felter_heartbeat(producer, &number));
     NONE(FELTER_OK, felter_shares(producer, &count));
+    NONE(FELTER_OK, felter_capacity(&producer->handle, &count, &longest));
+    NONE(FELTER_OK, felter_standing(producer, consumer, &found, &head));
+    CHECK(found == FELTER_FOUND_MESSAGE);
     NONE(FELTER_SHORT_BUFFER, felter_read(consumer, &type_id, &len, buffer, 1));
     NONE(FELTER_OK, felter_peek(consumer, &type_id, &len, buffer, sizeof buffer));
     NONE(FELTER_OK, felter_read(consumer, &type_id, &len, buffer, sizeof buffer));
     CHECK(type_id == 1 && len == 5);
     NONE(FELTER_OK, felter_read_batch(consumer, 9, &count, &used, buffer, sizeof buffer));
     CHECK(count == 2);
+    NONE(FELTER_OK, felter_write_batch(producer, buffer, used, &count));
+    NONE(FELTER_PUT_RANGE, felter_write_batch(producer, buffer, 1, &count));
+    NONE(FELTER_OK, felter_peek(consumer, &type_id, &len, buffer, sizeof buffer));
+    NONE(FELTER_OK, felter_take(consumer));
+    NONE(FELTER_OK, felter_read(consumer, &type_id, &len, buffer, sizeof buffer));
     NONE(FELTER_NO_MESSAGE, felter_take(consumer));
+    NONE(FELTER_OK, felter_standing(producer, consumer, &found, &head));
     NONE(FELTER_NO_MESSAGE, felter_read(consumer, &type_id, &len, buffer, sizeof buffer));
 }
 
@@ -113,6 +122,12 @@ static void fill(felter_producer *producer) {
 static void rings(void) {
     felter_producer producer = FELTER_EMPTY, other = FELTER_EMPTY, single = FELTER_EMPTY;
     felter_consumer consumer = FELTER_EMPTY, of_single = FELTER_EMPTY;
+    SOME(felter_many_to_one_new_at(128, 256, &producer, &consumer));
+    felter_free(&producer.handle);
+    felter_free(&consumer.handle);
+    SOME(felter_one_to_one_new_at(128, 256, &producer, &consumer));
+    felter_free(&producer.handle);
+    felter_free(&consumer.handle);
     SOME(felter_many_to_one_new(128, &producer, &consumer));
     SOME(felter_one_to_one_new(128, &single, &of_single));
     SOME(felter_split(&producer, &other));
@@ -133,10 +148,14 @@ static void broadcast_buffers(void) {
     felter_transmitter transmitter = FELTER_EMPTY;
     felter_receiver receiver = FELTER_EMPTY;
     felter_raw_receiver raw = FELTER_EMPTY;
+    SOME(felter_board_new_at(256, 256, &transmitter));
+    felter_free(&transmitter.handle);
     SOME(felter_board_new(256, &transmitter));
     SOME(felter_subscribe(&transmitter, &receiver));
     SOME(felter_subscribe_raw(&transmitter, &raw));
     NONE(FELTER_NO_MESSAGE, felter_receive(&receiver, &type_id, &len, &lapped, buffer, sizeof buffer));
+    NONE(FELTER_NO_MESSAGE, felter_receiver_lap(&receiver, &head, &tail));
+    NONE(FELTER_NO_MESSAGE, felter_raw_receiver_lap(&raw, &head, &tail));
     NONE(FELTER_OK, felter_transmit(&transmitter, 4, BYTES("seen")));
     NONE(FELTER_TOO_LONG, felter_transmit(&transmitter, 4, buffer, 33));
     NONE(FELTER_OK, felter_receive(&receiver, &type_id, &len, &lapped, buffer, sizeof buffer));
@@ -148,6 +167,10 @@ static void broadcast_buffers(void) {
     NONE(FELTER_LAPPED, felter_receive_next(&raw, &type_id, &len, &lapped));
     NONE(FELTER_OK, felter_lapped_count(&receiver, &number));
     NONE(FELTER_OK, felter_raw_lapped_count(&raw, &number));
+    NONE(FELTER_OK, felter_receiver_place(&receiver, &number));
+    NONE(FELTER_OK, felter_raw_receiver_place(&raw, &number));
+    NONE(FELTER_OK, felter_receiver_lap(&receiver, &head, &tail));
+    NONE(FELTER_OK, felter_raw_receiver_lap(&raw, &head, &tail));
     NONE(FELTER_RECEIVERS_OUT, felter_board_close(&transmitter, &tail));
     NONE(FELTER_OK, felter_board_join(&transmitter, &receiver));
     NONE(FELTER_OK, felter_board_join_raw(&transmitter, &raw));
@@ -169,6 +192,10 @@ static void counters(void) {
     NONE(FELTER_OK, felter_counter_type_id(&all, 0, &type_id));
     NONE(FELTER_OK, felter_counter_registration(&all, 0, &number));
     NONE(FELTER_OK, felter_counter_owner(&all, 1, &number));
+    NONE(FELTER_OK, felter_counter_propose_max(&all, 0, 9, &count));
+    NONE(FELTER_OK, felter_counter_state(&all, 0, &state));
+    NONE(FELTER_BAD_ID, felter_counter_state(&all, 3, &state));
+    NONE(FELTER_OK, felter_counter_deadline(&all, 0, &number));
     NONE(FELTER_OK, felter_counter_label(&all, 0, &len, buffer, sizeof buffer));
     NONE(FELTER_OK, felter_counter_key(&all, 0, buffer, sizeof buffer));
     NONE(FELTER_OK, felter_counter_find(&all, 1, 7, &count));
@@ -180,7 +207,24 @@ static void counters(void) {
     CHECK(count == 2);
     NONE(FELTER_OK, felter_counter_allocate(&all, 0, 1, BYTES("key"), BYTES("again"), 7, &count));
     NONE(FELTER_OK, felter_counters_join(&all, &reader));
+    long before = requests;
     felter_free(&all.handle);
+    CHECK(felter_text(FELTER_OK) && felter_version() > 0 && requests == before);
+}
+
+/* Asks for everything of the counter 0, which has the key `k` and the label `l`. */
+static void ask(felter_conductor *conductor) {
+    NONE(FELTER_OK, felter_conductor_count(conductor, &count));
+    NONE(FELTER_OK, felter_conductor_value(conductor, 0, &value));
+    NONE(FELTER_OK, felter_conductor_type_id(conductor, 0, &type_id));
+    NONE(FELTER_OK, felter_conductor_registration(conductor, 0, &number));
+    NONE(FELTER_OK, felter_conductor_find(conductor, 1, number, &count));
+    NONE(FELTER_OK, felter_conductor_owner(conductor, 0, &number));
+    NONE(FELTER_OK, felter_conductor_state(conductor, 0, &state));
+    NONE(FELTER_OK, felter_conductor_deadline(conductor, 0, &number));
+    NONE(FELTER_OK, felter_conductor_label(conductor, 0, &len, buffer, sizeof buffer));
+    NONE(FELTER_OK, felter_conductor_key(conductor, 0, buffer, sizeof buffer));
+    NONE(FELTER_BAD_ID, felter_conductor_value(conductor, 2, &value));
 }
 
 /* Obeys what was sent, and gets the reply to it, of this kind. */
@@ -208,6 +252,7 @@ static void conductors(void) {
     obey(&conductor, &client, FELTER_REPLY_ALLOCATED);
     NONE(FELTER_OK, felter_send_set(&client, 0, 3, &id));
     obey(&conductor, &client, FELTER_REPLY_DONE);
+    ask(&conductor);
     NONE(FELTER_OK, felter_send_set(&client, 9, 3, &id));
     obey(&conductor, &client, FELTER_REPLY_REFUSED);
     NONE(FELTER_OK, felter_send_allocate_owned(&client, 1, 6, BYTES("k"), BYTES("l"), &id));

@@ -102,7 +102,7 @@ impl LooseBoard {
         ensures same { OnErr result (self.new ≡ self.old) }
         ensures sent { OnOk result (view_of self.new.transmitter ≡ sent_on (view_of self.old.transmitter)
             (next_record (capacity_of self.old.board) (tail_of self.old.transmitter) type_id body.now)) }
-        ensures receivers { self.new.receivers ≡ self.old.receivers }
+        ensures rest { (self.new.board ≡ self.old.board) × (self.new.receivers ≡ self.old.receivers) }
     {
         self.board.transmit(&mut self.transmitter, type_id, body)
     }
@@ -113,7 +113,9 @@ impl LooseBoard {
             IsSubscribedUnless (subscribe_refusal_of (shares_of self.old.transmitter)) made) }
         ensures made { IfOk result (λ made. IfOk made (λ number. Subscribes
             (crowd self.old.transmitter self.old.receivers) number (crowd self.new.transmitter self.new.receivers))) }
-        ensures same { IfOk result (λ made. OnErr made (self.new.transmitter ≡ self.old.transmitter)) }
+        ensures same { IfOk result (λ made. OnErr made ((self.new.transmitter ≡ self.old.transmitter)
+            × (held_in self.new.receivers ≡ held_in self.old.receivers))) }
+        ensures board { self.new.board ≡ self.old.board }
     {
         make_receiver(
             alloc,

@@ -1,3 +1,4 @@
 mod PrinterLemmas
 mod RequestLemmas
+mod RunLemmas
 mod ServiceLemmas

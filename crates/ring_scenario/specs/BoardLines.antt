@@ -5,6 +5,7 @@ use Rattle.ring_board.specs.Seats.{capacity_of, next_record, shares_of, tail_of,
 use Rattle.ring_board.specs.TransmitterSteps.{sent_on}
 use Rattle.ring_board.specs.declared.fault.SubscribeFault.{SubscribeFault}
 use Rattle.ring_board.specs.declared.fault.TransmitFault.{TransmitFault}
+use Rattle.ring_loose.specs.Held.{held_in}
 use Rattle.ring_loose.specs.Receivers.{LeavesCrowd, ReceivesAt, Subscribes, crowd}
 use Rattle.ring_loose.specs.declared.loose_board.LooseBoard.{LooseBoard}
 use Rattle.ring_loose.specs.declared.received.Received.{Received}
@@ -19,7 +20,7 @@ pub record TransmitsLine (type_id : ℤ) (body : List ℕ) (old new : LooseBoard
   pub same : OnErr sent (new ≡ old)
   pub transmitted : OnOk sent (view_of new.transmitter ≡ sent_on (view_of old.transmitter)
       (next_record (capacity_of old.board) (tail_of old.transmitter) type_id body))
-  pub receivers : new.receivers ≡ old.receivers
+  pub rest : (new.board ≡ old.board) × (new.receivers ≡ old.receivers)
   pub prints : text ≡ done_text transmit_refused sent
 
 -- a receiver was made, or refused
@@ -28,7 +29,8 @@ pub record SubscribesLine (old new : LooseBoard) (text : List ℕ) : Type 0 wher
   pub refused : IsSubscribedUnless (subscribe_refusal_of (shares_of old.transmitter)) made
   pub subscribed : IfOk made
       (λ number. Subscribes (crowd old.transmitter old.receivers) number (crowd new.transmitter new.receivers))
-  pub same : OnErr made (new.transmitter ≡ old.transmitter)
+  pub same : OnErr made ((new.transmitter ≡ old.transmitter) × (held_in new.receivers ≡ held_in old.receivers))
+  pub board : new.board ≡ old.board
   pub prints : text ≡ answer_text (number_text (codes "receiver")) subscribe_refused made
 
 -- the receiver of this number was asked for the next message

@@ -15,9 +15,11 @@ use Rattle.ring_lines.specs.declared.call.Call.TheVariants as call
 use Rattle.ring_lines.specs.declared.service_call.ServiceCall.{ServiceCall}
 use Rattle.ring_lines.specs.declared.service_call.ServiceCall.TheVariants as asks
 use Rattle.ring_loose.specs.Claims.{SettlesAt}
+use Rattle.ring_loose.specs.Held.{IsFree, held_in}
 use Rattle.ring_loose.specs.Loose.{Loose, beaten_view, with_holder, with_reader, with_view}
 use Rattle.ring_scenario.specs.declared.runner.Runner.{Runner}
 use Rattle.ring_scenario.specs.declared.service.CommandService.{CommandService}
+use Rattle.ring_scenario.specs.Instructions.{FitsRoom}
 use Rattle.ring_scenario.specs.BoardLines.{LeavesLine, ReceivesLine, SubscribesLine, TransmitsLine}
 use Rattle.ring_scenario.specs.RefusalTexts.{storm_refused}
 use Rattle.ring_scenario.specs.RingLines.{ClaimsLine, ControlsLine, PutsLine, ReadsLine, WritesLine}
@@ -38,6 +40,14 @@ Serves (asks.Owner id) old new text = (text ≡ owner_text id old) × (new ≡ o
 Serves asks.Watch old new text = WatchesLine old new text
 Serves (asks.Peek number id) old new text = PeeksLine number id old new text
 Serves (asks.Unwatch number) old new text = UnwatchesLine number old new text
+
+-- a line of the conductor's side cannot be executed: nothing is held under its number, or its command has no room
+abbrev pub CannotServe : ServiceCall → CommandService → Type 0
+CannotServe (asks.Request request) s = ¬ FitsRoom request
+CannotServe (asks.Hear number) s = IsFree (held_in s.listeners) number
+CannotServe (asks.Peek number id) s = IsFree (held_in s.watchers) number
+CannotServe (asks.Unwatch number) s = IsFree (held_in s.watchers) number
+CannotServe other s = ⊥
 
 -- the plan of a storm whose ring is as large as the command ring
 abbrev pub plan_of : ℕ → ℕ → Runner → StormPlan
@@ -81,3 +91,13 @@ Executes (call.Receive number) old new text = ReceivesLine number old.board new.
 Executes (call.Leave number) old new text = LeavesLine number old.board new.board text
 Executes (call.Storm clients commands) old new text = StormsLine (plan_of clients commands old) text
 Executes (call.Service c) old new text = Serves c old.service new.service text
+
+-- a line cannot be executed: nothing is held under its number, or its command has no room
+abbrev pub CannotExecute : Call → Runner → Type 0
+CannotExecute (call.Put number offset bytes) r = IsFree r.loose.holder.claims number
+CannotExecute (call.Commit number) r = IsFree r.loose.holder.claims number
+CannotExecute (call.Abort number) r = IsFree r.loose.holder.claims number
+CannotExecute (call.Receive number) r = IsFree (held_in r.board.receivers) number
+CannotExecute (call.Leave number) r = IsFree (held_in r.board.receivers) number
+CannotExecute (call.Service c) r = CannotServe c r.service
+CannotExecute other r = ⊥

@@ -3,6 +3,7 @@ use Rattle.std.specs.Prelude.{◌≡◌, true}
 use Rattle.ring_lines.specs.declared.call.Call.{Call}
 use Rattle.ring_lines.specs.declared.call.Call.TheVariants.{Receive, Leave, Service, Storm, Subscribe, Transmit}
 use Rattle.ring_scenario.specs.declared.runner.Runner.{Runner}
+use Rattle.ring_scenario.specs.declared.service.CommandService.{CommandService}
 
 -- the conductor's side is as it was, and so is the capacity of a storm's ring
 abbrev pub KeepsService : Runner → Runner → Type 0
@@ -36,3 +37,29 @@ KeepsRest (Leave number) old new = KeepsButBoard old new
 KeepsRest (Storm clients commands) old new = new ≡ old
 KeepsRest (Service c) old new = KeepsButService old new
 KeepsRest other old new = KeepsButRing old new
+
+-- The conductor's side -----------------------------------------------------------
+
+-- its ring, its broadcast buffer and its values are as they were
+abbrev pub KeepsShared : CommandService → CommandService → Type 0
+KeepsShared old new = (new.ring ≡ old.ring) × (new.board ≡ old.board) × (new.values ≡ old.values)
+
+-- all but the producer is as it was
+abbrev pub KeepsButProducer : CommandService → CommandService → Type 0
+KeepsButProducer old new = KeepsShared old new × (new.conductor ≡ old.conductor) × (new.listeners ≡ old.listeners)
+    × (new.watchers ≡ old.watchers)
+
+-- all but the conductor is as it was
+abbrev pub KeepsButConductor : CommandService → CommandService → Type 0
+KeepsButConductor old new = KeepsShared old new × (new.producer ≡ old.producer) × (new.listeners ≡ old.listeners)
+    × (new.watchers ≡ old.watchers)
+
+-- all but the conductor and the listeners is as it was
+abbrev pub KeepsButListeners : CommandService → CommandService → Type 0
+KeepsButListeners old new =
+    KeepsShared old new × (new.producer ≡ old.producer) × (new.watchers ≡ old.watchers)
+
+-- all but the conductor and the watchers is as it was
+abbrev pub KeepsButWatchers : CommandService → CommandService → Type 0
+KeepsButWatchers old new =
+    KeepsShared old new × (new.producer ≡ old.producer) × (new.listeners ≡ old.listeners)

@@ -8,6 +8,7 @@ pub mod Making
 pub mod Printing
 pub mod RefusalTexts
 pub mod RingLines
+pub mod Running
 pub mod SeatLines
 pub mod ServiceLines
 pub mod ServiceTexts

@@ -7,10 +7,12 @@ use Rattle.ring_board.specs.declared.fault.SubscribeFault.{SubscribeFault}
 use Rattle.ring_counters.specs.Manager.{writes_of}
 use Rattle.ring_counters.specs.Seats.{values_count}
 use Rattle.ring_counters.specs.declared.fault.BadId.{BadId}
+use Rattle.ring_counters.specs.declared.values.seats.ValueReader.{ValueReader}
 use Rattle.ring_conductor.specs.Conducting.{KeepsAllCounters, KeepsTheRest, manager_in, transmitter_of, value_shares_of}
-use Rattle.ring_loose.specs.Held.{held_in}
+use Rattle.ring_loose.specs.Held.{IsHeld, held_in}
 use Rattle.ring_loose.specs.Receivers.{ReceivesAt, Subscribes, crowd}
 use Rattle.ring_loose.specs.declared.received.Received.{Received}
+use Rattle.ring_scenario.specs.Keeping.{KeepsButListeners, KeepsButWatchers}
 use Rattle.ring_scenario.specs.RefusalTexts.{load_refused, shares_refused, subscribe_refused}
 use Rattle.ring_scenario.specs.ServiceTexts.{value_text}
 use Rattle.ring_scenario.specs.Texts.{answer_text, number_text, ok_text, received_text}
@@ -23,17 +25,17 @@ pub record ListensLine (old new : CommandService) (text : List ℕ) : Type 0 whe
   pub refused : IsSubscribedUnless (subscribe_refusal_of (shares_of (transmitter_of old.conductor))) made
   pub listens : IfOk made (λ number. Subscribes (crowd (transmitter_of old.conductor) old.listeners) number
       (crowd (transmitter_of new.conductor) new.listeners))
-  pub same : OnErr made (new.conductor ≡ old.conductor)
+  pub same : OnErr made ((new.conductor ≡ old.conductor) × (held_in new.listeners ≡ held_in old.listeners))
   pub others : KeepsTheRest old.conductor new.conductor
+  pub rest : KeepsButListeners old new
   pub prints : text ≡ answer_text (number_text (codes "listener")) subscribe_refused made
 
 -- the listener of this number was asked for the next reply
 pub record HearsLine (number : ℕ) (old new : CommandService) (text : List ℕ) : Type 0 where
   pub received : Received
   pub receives : ReceivesAt received old.listeners number new.listeners
-  pub ring : (new.ring ≡ old.ring) × (new.producer ≡ old.producer)
-  pub conductor : (new.board ≡ old.board) × (new.conductor ≡ old.conductor)
-  pub values : (new.values ≡ old.values) × (new.watchers ≡ old.watchers)
+  pub conductor : new.conductor ≡ old.conductor
+  pub rest : KeepsButListeners old new
   pub prints : text ≡ received_text received
 
 -- a watcher was made, or refused
@@ -42,24 +44,26 @@ pub record WatchesLine (old new : CommandService) (text : List ℕ) : Type 0 whe
   pub watches : IfOk made
       (λ number. Watches (writes_of (manager_in old.conductor)) old.watchers number new.watchers)
   pub enough : IsOk made ↔ (1 < value_shares_of old.conductor)
-  pub same : OnErr made (new.conductor ≡ old.conductor)
+  pub same : OnErr made ((new.conductor ≡ old.conductor) × (held_in new.watchers ≡ held_in old.watchers))
   pub keeps : KeepsAllCounters new.values old.conductor new.conductor
+  pub rest : KeepsButWatchers old new
   pub prints : text ≡ answer_text (number_text (codes "watcher")) shares_refused made
 
--- the watcher of this number loaded the value of an id, or the id was refused
+-- the watcher of this number, which is held, loaded the value of an id, or the id was refused
 pub record PeeksLine (number id : ℕ) (old new : CommandService) (text : List ℕ) : Type 0 where
+  pub watcher : ValueReader
+  pub here : IsHeld (held_in old.watchers) number watcher
   pub loaded : Result ℤ BadId
   pub in_range : IsOk loaded ↔ (id < values_count old.values)
   pub value : IfOk loaded (λ value. Peeks id value old.watchers number new.watchers)
   pub same : OnErr loaded (held_in new.watchers ≡ held_in old.watchers)
-  pub ring : (new.ring ≡ old.ring) × (new.producer ≡ old.producer)
-  pub conductor : (new.board ≡ old.board) × (new.conductor ≡ old.conductor)
-  pub values : (new.values ≡ old.values) × (new.listeners ≡ old.listeners)
+  pub conductor : new.conductor ≡ old.conductor
+  pub rest : KeepsButWatchers old new
   pub prints : text ≡ answer_text value_text load_refused loaded
 
 -- the watcher of this number was taken away
 pub record UnwatchesLine (number : ℕ) (old new : CommandService) (text : List ℕ) : Type 0 where
   pub gone : Unwatches old.watchers number new.watchers
   pub keeps : KeepsAllCounters new.values old.conductor new.conductor
-  pub producer : new.producer ≡ old.producer
+  pub rest : KeepsButWatchers old new
   pub prints : text ≡ ok_text

@@ -12,6 +12,7 @@ use Rattle.ring_conductor.specs.Conducting.{Works, ledger_of, manager_in, ring_v
 use Rattle.ring_lines.specs.declared.request.Request.{Request}
 use Rattle.ring_loose.specs.Claims.{RefusesAfter, WritesAfter}
 use Rattle.ring_scenario.specs.Instructions.{FitsRoom}
+use Rattle.ring_scenario.specs.Keeping.{KeepsButConductor, KeepsButProducer}
 use Rattle.ring_scenario.specs.RefusalTexts.{claim_refused, id_refused, memory_refused}
 use Rattle.ring_scenario.specs.ServiceTexts.{counters_text, work_text}
 use Rattle.ring_scenario.specs.Serving.{RefusesRequest, SendsRequest}
@@ -25,7 +26,7 @@ pub record SendsLine (type_id : ℤ) (body : List ℕ) (old new : CommandService
       (WritesAfter (capacity_of old.ring) type_id body (view_of old.producer) (view_of new.producer))
   pub refused : IfErr sent (λ fault.
       RefusesAfter (capacity_of old.ring) type_id (length body) (view_of old.producer) fault (view_of new.producer))
-  pub conductor : new.conductor ≡ old.conductor
+  pub rest : KeepsButProducer old new
   pub prints : text ≡ done_text claim_refused sent
 
 -- a command was sent, or refused
@@ -36,7 +37,7 @@ pub record RequestsLine (request : Request) (old new : CommandService) (text : L
       SendsRequest (capacity_of old.ring) request (view_of old.producer) correlation (view_of new.producer))
   pub refused : IfErr sent (λ fault.
       RefusesRequest (capacity_of old.ring) request (view_of old.producer) fault (view_of new.producer))
-  pub conductor : new.conductor ≡ old.conductor
+  pub rest : KeepsButProducer old new
   pub prints : text ≡ answer_text (number_text (codes "sent")) claim_refused sent
 
 -- the conductor took at most `limit` commands at this moment
@@ -44,7 +45,7 @@ pub record WorksLine (now limit : ℕ) (old new : CommandService) (text : List �
   pub done : Work
   pub works : Works now limit (ring_view old.conductor) (ring_view new.conductor) (ledger_of old.conductor)
       (ledger_of new.conductor) done
-  pub producer : new.producer ≡ old.producer
+  pub rest : KeepsButConductor old new
   pub prints : text ≡ work_text done
 
 -- the counters in use were listed, or there was no memory for the list

@@ -1,6 +1,7 @@
 //! What a run holds, and what its calls print.
-ghost use Rattle.std.specs.Prelude.{◌≡◌, ◌+◌, ◌↔◌, ℕ, None, IfOk, IfSome, IsOkUnless, IsSome, IsTrue, OnOk, codes, length, string_bytes};
+ghost use Rattle.std.specs.Prelude.{◌≡◌, ◌+◌, ◌↔◌, ℕ, None, IfErr, IfOk, IfSome, IsOkUnless, IsSome, IsTrue, OnOk, codes, length, string_bytes};
 ghost use Rattle.ring_table.specs.Passing.{placed_committed_of};
+ghost use Rattle.ring_loose.specs.Held.{IsFree, held_in};
 ghost use Rattle.ring_loose.specs.Loose.{aborted_view};
 ghost use Rattle.ring_scenario.specs.Closing.{read_count, TookAndLeft};
 ghost use Rattle.ring_scenario.specs.Sizes.{size_fault_of};
@@ -53,7 +54,7 @@ impl Runner {
     ghost use Rattle.ring_table.specs.ServiceSteps.{DrawsId, LoadsHeartbeat};
     ghost use Rattle.ring_loose.specs.Loose.{with_view};
     ghost use Rattle.ring_scenario.specs.BoardLines.{ReceivesLine, SubscribesLine, TransmitsLine};
-    ghost use Rattle.ring_scenario.specs.Executing.{Executes};
+    ghost use Rattle.ring_scenario.specs.Executing.{CannotExecute, Executes};
     ghost use Rattle.ring_scenario.specs.Keeping.{KeepsButBoard, KeepsButRing, KeepsRest};
     ghost use Rattle.ring_scenario.specs.Making.{RunsBy};
     ghost use Rattle.ring_scenario.specs.RingLines.{ClaimsLine, ControlsLine, PutsLine, ReadsLine, WritesLine};
@@ -82,6 +83,7 @@ impl Runner {
     pub fn execute<R: Threads + Wait>(&mut self, rt: &R, call: Call) -> Result<String, LineFault>
         ensures line { IfOk result (λ text. Executes call self.old self.new (string_bytes text)) }
         ensures rest { OnOk result (KeepsRest call self.old self.new) }
+        ensures bad { IfErr result (λ fault. fault ≡ LineFault.Bad → CannotExecute call self.old) }
     {
         let text = match call {
             Call::Write { type_id, body } => self.write(rt, type_id, body.as_slice())?,
@@ -143,6 +145,7 @@ impl Runner {
         ensures line { IfOk result (λ text.
             PutsLine number offset bytes.now self.old.loose self.new.loose (string_bytes text)) }
         ensures rest { KeepsButRing self.old self.new }
+        ensures bad { IfErr result (λ fault. fault ≡ LineFault.Bad → IsFree self.old.loose.holder.claims number) }
     {
         let Some(put) = self.loose.put(number, offset, bytes) else {
             return Err(LineFault::Bad);
@@ -225,6 +228,7 @@ impl Runner {
         ensures line { IfOk result (λ text.
             ReceivesLine number self.old.board self.new.board (string_bytes text)) }
         ensures rest { KeepsButBoard self.old self.new }
+        ensures bad { IfErr result (λ fault. fault ≡ LineFault.Bad → IsFree (held_in self.old.board.receivers) number) }
     {
         let Some(received) = self.board.receive(self.alloc, number) else {
             return Err(LineFault::Bad);

@@ -1,8 +1,10 @@
 //! Runs a scenario.
 ghost use Rattle.std.specs.Prelude.{◌≡◌, ◌≤◌, length, Some, IfSome, OnOk, IfErr};
 ghost use Rattle.ring_scenario.specs.Faults.{IsEarly};
+ghost use Rattle.ring_scenario.specs.Running.{RunsScenario, RunsText, RunsToEnd, ended_text, finished_text};
 ghost use Rattle.ring_scenario.specs.Sizes.{size_fault_of};
-ghost use Rattle.ring_lines.specs.Text.{lines_of, AllBlank, IsEnded, TakesEnd};
+ghost use Rattle.std.specs.Io.KnownBytes.{Appends};
+ghost use Rattle.ring_lines.specs.Text.{lines_of, AllBlank, IsEnded};
 ghost use Rattle.ring_counters.specs.Manager.{registry_of};
 ghost use Rattle.ring_counters.specs.Registry.{live_of};
 
@@ -29,6 +31,10 @@ pub fn run_scenario<R: AllocGlobal + Threads + Wait, I: Read, O: Write>(
     // The last line that is no blank one is `end`.
     ensures ended { OnOk result (IfSome (I.remaining reader.old) IsEnded) }
 
+    // The lines before it ran, each once and in order, and what they and `end` printed is what was written.
+    ensures ran { OnOk result (IfSome (I.remaining reader.old) (λ text.
+        RunsScenario options.now text (O.contents writer.old) (O.contents writer.new))) }
+
     // Options are checked before any input is read, and only they give these faults.
     ensures sizes { IfSome (size_fault_of options.now) (λ fault. (result ≡ Err fault) × (reader.new ≡ reader.old)) }
     ensures capacity { result ≡ Err RunFault.BadCapacity → size_fault_of options.now ≡ Some RunFault.BadCapacity }
@@ -53,6 +59,7 @@ fn run_text<R: Threads + Wait, O: Write>(
 ) -> Result<(), RunFault>
     requires { length text.now ≤ MAX_INPUT }
     ensures ended { OnOk result (IsEnded text.now) }
+    ensures ran { OnOk result (RunsText text.now runner (O.contents writer.old) (O.contents writer.new)) }
     ensures late { IfErr result (λ fault. ¬ IsEarly fault) }
 {
     let mut lines = Lines::of(text);
@@ -71,7 +78,8 @@ fn run_to_end<R: Threads + Wait, O: Write>(
     lines: &mut Lines,
     writer: &mut O,
 ) -> Result<(), RunFault>
-    ensures end { OnOk result (TakesEnd lines.old.rest.now lines.new.rest.now) }
+    ensures end { OnOk result (RunsToEnd lines.old.rest.now lines.new.rest.now runner.old runner.new
+        (O.contents writer.old) (O.contents writer.new)) }
     ensures late { IfErr result (λ fault. ¬ IsEarly fault) }
 {
     while let Some(text) = lines.next_line() {
@@ -109,6 +117,7 @@ fn rest_is_blank(alloc: Global, lines: &mut Lines) -> Result<(), RunFault>
 
 /// Writes what `end` prints: a line, and one more if a conductor finished.
 fn write_end<O: Write>(alloc: Global, ended: Ended, writer: &mut O) -> Result<(), RunFault>
+    ensures written { OnOk result (Appends (O.contents writer.old) (O.contents writer.new) (ended_text ended)) }
     ensures late { IfErr result (λ fault. ¬ IsEarly fault) }
 {
     let text = format!(in alloc; "end messages {} left {}\n", ended.messages, ended.left)?;
@@ -120,6 +129,8 @@ fn write_end<O: Write>(alloc: Global, ended: Ended, writer: &mut O) -> Result<()
 }
 
 fn write_finished<O: Write>(alloc: Global, served: &Served, writer: &mut O) -> Result<(), RunFault>
+    ensures written { OnOk result
+        (Appends (O.contents writer.old) (O.contents writer.new) (finished_text (Some served.now))) }
     ensures late { IfErr result (λ fault. ¬ IsEarly fault) }
 {
     let text = format!(in alloc;
@@ -141,6 +152,7 @@ fn count_live(counters: &CountersManager) -> usize
 }
 
 fn write_text<O: Write>(writer: &mut O, text: &str) -> Result<(), RunFault>
+    ensures written { OnOk result (Appends (O.contents writer.old) (O.contents writer.new) text.now) }
     ensures late { IfErr result (λ fault. ¬ IsEarly fault) }
 {
     writer

@@ -1,5 +1,7 @@
 //! What the calls of the conductor's side print.
-ghost use Rattle.std.specs.Prelude.{◌≡◌, IfOk, string_bytes};
+ghost use Rattle.std.specs.Prelude.{◌≡◌, IfErr, IfOk, string_bytes};
+ghost use Rattle.ring_loose.specs.Held.{IsFree, held_in};
+ghost use Rattle.ring_scenario.specs.Instructions.{FitsRoom};
 ghost use Rattle.ring_scenario.specs.ServiceTexts.{counter_text, counters_text, work_stop_text};
 
 use super::Runner;
@@ -13,7 +15,7 @@ use std::sync::Wait;
 
 impl Runner {
     ghost use Rattle.std.specs.Prelude.{OnOk};
-    ghost use Rattle.ring_scenario.specs.Executing.{Serves};
+    ghost use Rattle.ring_scenario.specs.Executing.{CannotServe, Serves};
     ghost use Rattle.ring_scenario.specs.Keeping.{KeepsButService, KeepsOthers};
     ghost use Rattle.ring_scenario.specs.SeatLines.{HearsLine, ListensLine, PeeksLine, WatchesLine};
     ghost use Rattle.ring_scenario.specs.ServiceLines.{CountsLine, RequestsLine, SendsLine, WorksLine, owner_text};
@@ -22,6 +24,7 @@ impl Runner {
     pub(super) fn serve<R: Wait>(&mut self, rt: &R, call: ServiceCall) -> Result<String, LineFault>
         ensures line { IfOk result (λ text. Serves call self.old.service self.new.service (string_bytes text)) }
         ensures rest { OnOk result (KeepsButService self.old self.new) }
+        ensures bad { IfErr result (λ fault. fault ≡ LineFault.Bad → CannotServe call self.old.service) }
     {
         self.serves = true;
         let text = match call {
@@ -55,6 +58,7 @@ impl Runner {
         ensures line { IfOk result (λ text.
             RequestsLine request.now self.old.service self.new.service (string_bytes text)) }
         ensures rest { KeepsOthers self.old self.new }
+        ensures bad { IfErr result (λ fault. fault ≡ LineFault.Bad → ¬ FitsRoom request.now) }
     {
         let Some(sent) = self.service.request(rt, request) else {
             return Err(LineFault::Bad);
@@ -84,6 +88,8 @@ impl Runner {
         ensures line { IfOk result (λ text.
             HearsLine number self.old.service self.new.service (string_bytes text)) }
         ensures rest { KeepsOthers self.old self.new }
+        ensures bad { IfErr result (λ fault. fault ≡ LineFault.Bad
+            → IsFree (held_in self.old.service.listeners) number) }
     {
         let Some(received) = self.service.hear(self.alloc, number) else {
             return Err(LineFault::Bad);
@@ -119,6 +125,8 @@ impl Runner {
         ensures line { IfOk result (λ text.
             PeeksLine number id self.old.service self.new.service (string_bytes text)) }
         ensures rest { KeepsOthers self.old self.new }
+        ensures bad { IfErr result (λ fault. fault ≡ LineFault.Bad
+            → IsFree (held_in self.old.service.watchers) number) }
     {
         let Some(loaded) = self.service.peek(number, id) else {
             return Err(LineFault::Bad);

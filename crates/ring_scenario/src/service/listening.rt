@@ -6,6 +6,7 @@ ghost use Rattle.ring_board.specs.Seats.{shares_of};
 ghost use Rattle.ring_conductor.specs.Conducting.{KeepsTheRest, transmitter_of};
 ghost use Rattle.ring_loose.specs.Held.{IsFree, held_in};
 ghost use Rattle.ring_loose.specs.Receivers.{LeavesCrowd, ReceivesAt, Subscribes, crowd, shares_in, IsCrowdOf};
+ghost use Rattle.ring_scenario.specs.Keeping.{KeepsButListeners};
 
 use super::CommandService;
 use ring_board::{Board, CopyReceiver, SubscribeFault};
@@ -73,8 +74,10 @@ impl CommandService {
         ensures made { IfOk result (λ made. IfOk made (λ number. Subscribes
             (crowd (transmitter_of self.old.conductor) self.old.listeners) number
             (crowd (transmitter_of self.new.conductor) self.new.listeners))) }
-        ensures same { IfOk result (λ made. OnErr made (self.new.conductor ≡ self.old.conductor)) }
+        ensures same { IfOk result (λ made. OnErr made ((self.new.conductor ≡ self.old.conductor)
+            × (held_in self.new.listeners ≡ held_in self.old.listeners))) }
         ensures others { KeepsTheRest self.old.conductor self.new.conductor }
+        ensures rest { KeepsButListeners self.old self.new }
     {
         make_listener(alloc, &self.board, &mut self.conductor, &mut self.listeners)
     }
@@ -86,9 +89,8 @@ impl CommandService {
             ReceivesAt told self.old.listeners number self.new.listeners)) }
         ensures free { IfNone result (IsFree (held_in self.old.listeners) number) }
         ensures same { IfNone result (held_in self.new.listeners ≡ held_in self.old.listeners) }
-        ensures ring { (self.new.ring ≡ self.old.ring) × (self.new.producer ≡ self.old.producer) }
-        ensures conductor { (self.new.board ≡ self.old.board) × (self.new.conductor ≡ self.old.conductor) }
-        ensures values { (self.new.values ≡ self.old.values) × (self.new.watchers ≡ self.old.watchers) }
+        ensures conductor { self.new.conductor ≡ self.old.conductor }
+        ensures rest { KeepsButListeners self.old self.new }
     {
         receive_at(alloc, &self.board, &mut self.listeners, number)
     }

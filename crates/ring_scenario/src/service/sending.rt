@@ -3,6 +3,7 @@ ghost use Rattle.std.specs.Prelude.{◌≡◌, ◌↔◌, length, IfErr, IfNone,
 ghost use Rattle.ring_loose.specs.Claims.{RefusesAfter, WritesAfter};
 ghost use Rattle.ring_rings.specs.Seats.{capacity_of, view_of, IsProducerOf, OpensNone};
 ghost use Rattle.ring_scenario.specs.Instructions.{FitsRoom};
+ghost use Rattle.ring_scenario.specs.Keeping.{KeepsButProducer};
 ghost use Rattle.ring_scenario.specs.Serving.{RefusesRequest, SendsRequest};
 
 use super::CommandService;
@@ -72,7 +73,7 @@ impl CommandService {
             (view_of self.old.producer) (view_of self.new.producer)) }
         ensures refused { IfErr result (λ fault. RefusesAfter (capacity_of self.old.ring) type_id (length body.now)
             (view_of self.old.producer) fault (view_of self.new.producer)) }
-        ensures conductor { self.new.conductor ≡ self.old.conductor }
+        ensures rest { KeepsButProducer self.old self.new }
     {
         write_message(rt, &self.ring, &mut self.producer, type_id, body)
     }
@@ -89,7 +90,7 @@ impl CommandService {
         ensures refused { IfSome result (λ answer. IfErr answer (λ fault. RefusesRequest
             (capacity_of self.old.ring) request.now (view_of self.old.producer) fault (view_of self.new.producer))) }
         ensures none { IfNone result (self.new.producer ≡ self.old.producer) }
-        ensures conductor { self.new.conductor ≡ self.old.conductor }
+        ensures rest { KeepsButProducer self.old self.new }
     {
         send_request(rt, &self.ring, &mut self.producer, request)
     }

@@ -4,7 +4,9 @@ ghost use Rattle.ring_layout.specs.Refusals.{all_shares};
 ghost use Rattle.ring_counters.specs.Manager.{writes_of};
 ghost use Rattle.ring_counters.specs.Seats.{values_count};
 ghost use Rattle.ring_conductor.specs.Conducting.{manager_in, value_shares_of, KeepsAllCounters};
-ghost use Rattle.ring_loose.specs.Held.{IsFree, held_count, held_in};
+ghost use Rattle.ring_counters.specs.declared.values.seats.ValueReader.{ValueReader};
+ghost use Rattle.ring_loose.specs.Held.{IsFree, IsHeld, held_count, held_in};
+ghost use Rattle.ring_scenario.specs.Keeping.{KeepsButWatchers};
 ghost use Rattle.ring_scenario.specs.Watchers.{AreWatchedBy, AreWatchers, Peeks, Unwatches, Watches};
 
 use super::CommandService;
@@ -50,7 +52,9 @@ fn load_at(
     ensures in_range { IfSome result (λ loaded. IsOk loaded ↔ (id < values_count values.now)) }
     ensures loaded { IfSome result (λ loaded. IfOk loaded (λ value. Peeks id value watchers.old number watchers.new)) }
     ensures refused { IfSome result (λ loaded. OnErr loaded (held_in watchers.new ≡ held_in watchers.old)) }
-    ensures free { IfNone result (IsFree (held_in watchers.old) number) }
+    ensures none { IfNone result
+        (IsFree (held_in watchers.old) number × (held_in watchers.new ≡ held_in watchers.old)) }
+    ensures here { OnSome result ((watcher : ValueReader) × IsHeld (held_in watchers.old) number watcher) }
     ensures count { held_count (held_in watchers.new) ≡ held_count (held_in watchers.old) }
 {
     let mut watcher = watchers.take(number)?;
@@ -86,25 +90,28 @@ impl CommandService {
     pub fn watch(&mut self) -> Result<Result<usize, NoShares>, AllocError>
         ensures made { IfOk result (λ made. IfOk made (λ number.
             Watches (writes_of (manager_in self.old.conductor)) self.old.watchers number self.new.watchers)) }
-        ensures same { IfOk result (λ made. OnErr made (self.new.conductor ≡ self.old.conductor)) }
+        ensures same { IfOk result (λ made. OnErr made ((self.new.conductor ≡ self.old.conductor)
+            × (held_in self.new.watchers ≡ held_in self.old.watchers))) }
         ensures enough { IfOk result (λ made. IsOk made ↔ (1 < value_shares_of self.old.conductor)) }
         ensures keeps { KeepsAllCounters self.new.values self.old.conductor self.new.conductor }
+        ensures rest { KeepsButWatchers self.old self.new }
     {
         make_watcher(&self.values, &mut self.conductor, &mut self.watchers)
     }
 
-    /// Loads the value of an id for the watcher of this number. Returns `None` if there is no such watcher, `BadId` if
-    /// the id is not below the number of counters.
+    /// Loads the value of an id for the watcher of this number. Returns `None` if there is no such watcher; nothing
+    /// has changed then. Returns `BadId` if the id is not below the number of counters.
     pub fn peek(&mut self, number: usize, id: u32) -> Option<Result<i64, BadId>>
         ensures in_range { IfSome result (λ loaded. IsOk loaded ↔ (id < values_count self.old.values)) }
         ensures loaded { IfSome result (λ loaded. IfOk loaded (λ value.
             Peeks id value self.old.watchers number self.new.watchers)) }
         ensures refused { IfSome result (λ loaded. OnErr loaded
             (held_in self.new.watchers ≡ held_in self.old.watchers)) }
-        ensures free { IfNone result (IsFree (held_in self.old.watchers) number) }
-        ensures ring { (self.new.ring ≡ self.old.ring) × (self.new.producer ≡ self.old.producer) }
-        ensures conductor { (self.new.board ≡ self.old.board) × (self.new.conductor ≡ self.old.conductor) }
-        ensures values { (self.new.values ≡ self.old.values) × (self.new.listeners ≡ self.old.listeners) }
+        ensures none { IfNone result (IsFree (held_in self.old.watchers) number
+            × (held_in self.new.watchers ≡ held_in self.old.watchers)) }
+        ensures here { OnSome result ((watcher : ValueReader) × IsHeld (held_in self.old.watchers) number watcher) }
+        ensures conductor { self.new.conductor ≡ self.old.conductor }
+        ensures rest { KeepsButWatchers self.old self.new }
     {
         load_at(&self.values, &mut self.watchers, number, id)
     }
@@ -115,7 +122,7 @@ impl CommandService {
         ensures same { IfNone result (held_in self.new.watchers ≡ held_in self.old.watchers) }
         ensures free { IfNone result (IsFree (held_in self.old.watchers) number) }
         ensures keeps { KeepsAllCounters self.new.values self.old.conductor self.new.conductor }
-        ensures producer { self.new.producer ≡ self.old.producer }
+        ensures rest { KeepsButWatchers self.old self.new }
     {
         join_watcher(
             &self.values,

@@ -4,6 +4,7 @@ ghost use Rattle.ring_counters.specs.Infos.{AreInfos};
 ghost use Rattle.ring_counters.specs.Manager.{registry_of};
 ghost use Rattle.ring_counters.specs.Registry.{answer, counter_at, id_refusal_of, live_of};
 ghost use Rattle.ring_conductor.specs.Conducting.{Works, manager_in, ledger_of, ring_view};
+ghost use Rattle.ring_scenario.specs.Keeping.{KeepsButConductor};
 
 use super::CommandService;
 use ring_conductor::Work;
@@ -16,7 +17,7 @@ impl CommandService {
     pub fn work(&mut self, now: Moment, limit: u32) -> Work
         ensures works { Works now.ms limit (ring_view self.old.conductor) (ring_view self.new.conductor)
             (ledger_of self.old.conductor) (ledger_of self.new.conductor) result }
-        ensures producer { self.new.producer ≡ self.old.producer }
+        ensures rest { KeepsButConductor self.old self.new }
     {
         self.conductor
             .do_work(&self.ring, &self.board, &self.values, now.ms(), limit)

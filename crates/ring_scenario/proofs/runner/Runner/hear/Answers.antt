@@ -5,8 +5,7 @@ pub returns-clause-line : goal.returns-clause-line
 returns-clause-line c = record {
   received = c.in_ok-received.received;
   receives = IfOk-at_ok _ c.in_ok-received.was c.in-Some.ensures.told;
-  ring = c.hear.ensures.ring;
   conductor = c.hear.ensures.conductor;
-  values = c.hear.ensures.values;
+  rest = c.hear.ensures.rest;
   prints = c.in_ok-received-2.ensures;
 }

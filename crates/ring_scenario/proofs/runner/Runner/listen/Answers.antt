@@ -11,5 +11,6 @@ returns-clause-line c =
       listens = made.ensures.made;
       same = made.ensures.same;
       others = c.listen.ensures.others;
+      rest = c.listen.ensures.rest;
       prints = shown;
     }) c.numbered.ensures

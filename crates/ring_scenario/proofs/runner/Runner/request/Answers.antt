@@ -7,6 +7,6 @@ returns-clause-line g c = record {
   fits = c.in-Some.ensures.fits.0 refl;
   written = c.in-Some.ensures.sent;
   refused = c.in-Some.ensures.refused;
-  conductor = c.request.ensures.conductor;
+  rest = c.request.ensures.rest;
   prints = c.in_ok-identified.ensures;
 }

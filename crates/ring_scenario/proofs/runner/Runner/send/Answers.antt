@@ -12,6 +12,6 @@ returns-clause-line g c =
       sent = call.result;
       written = rw same at call.ensures.written;
       refused = rw same at call.ensures.refused;
-      conductor = call.ensures.conductor;
+      rest = call.ensures.rest;
       prints = shown;
     }) c.done.ensures

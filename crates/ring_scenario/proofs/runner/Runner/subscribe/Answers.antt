@@ -9,5 +9,6 @@ returns-clause-line c =
       refused = c.in_ok-made.ensures.refused;
       subscribed = c.in_ok-made.ensures.made;
       same = c.in_ok-made.ensures.same;
+      board = c.subscribe.ensures.board;
       prints = shown;
     }) c.numbered.ensures

@@ -13,6 +13,6 @@ returns-clause-line c =
       refused = rw same at call.ensures.refused;
       same = call.ensures.same;
       transmitted = rw same at call.ensures.sent;
-      receivers = call.ensures.receivers;
+      rest = call.ensures.rest;
       prints = shown;
     }) c.done.ensures

@@ -11,5 +11,6 @@ returns-clause-line c =
       enough = made.ensures.enough;
       same = made.ensures.same;
       keeps = c.watch.ensures.keeps;
+      rest = c.watch.ensures.rest;
       prints = shown;
     }) c.numbered.ensures

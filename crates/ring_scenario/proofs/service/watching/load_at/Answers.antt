@@ -32,5 +32,8 @@ returns-clause-refused c =
     let held = stays _ _ _ _ _ _ c.in_ok-watcher.ensures.taken c.put_back.ensures in
     OnErr-from c.load-loaded.result _ _ (stays_same _ _ _ _ _ held) c.load-loaded.ensures.err
 
+pub returns-clause-here : goal.returns-clause-here
+returns-clause-here c = (c.in_ok-watcher.watcher, c.in_ok-watcher.ensures.taken.here)
+
 pub returns-clause-count : goal.returns-clause-count
 returns-clause-count c = count_stays _ _ _ _ _ (stays _ _ _ _ _ _ c.in_ok-watcher.ensures.taken c.put_back.ensures)

@@ -1,0 +1,93 @@
+-- What a run does with the lines of a text, and all that it prints.
+use Rattle.std.specs.Prelude.{◌≡◌, ◌⊎◌, ◌↔◌, ℕ, ◌+◌, List, [], ◌∷◌, ◌++◌, IfSome, IsSome, IsTrue, Option, None, Some, codes, decimal, length}
+use Rattle.std.specs.Io.KnownBytes.{Appends}
+use Rattle.ring_table.specs.Passing.{placed_committed_of}
+use Rattle.ring_counters.specs.Manager.{registry_of}
+use Rattle.ring_counters.specs.Registry.{live_of}
+use Rattle.ring_lines.specs.declared.call.Call.{Call}
+use Rattle.ring_lines.specs.Lines.{AsksFor}
+use Rattle.ring_lines.specs.Text.{AllBlank, IsBlank, lines_of, words_of}
+use Rattle.ring_loose.specs.Loose.{aborted_view}
+use Rattle.ring_scenario.specs.Closing.{TookAndLeft, read_count}
+use Rattle.ring_scenario.specs.declared.options.Options.{Options}
+use Rattle.ring_scenario.specs.declared.runner.Ended.{Ended}
+use Rattle.ring_scenario.specs.declared.runner.Runner.{Runner}
+use Rattle.ring_scenario.specs.declared.service.closing.Served.{Served}
+use Rattle.ring_scenario.specs.Executing.{Executes}
+use Rattle.ring_scenario.specs.Keeping.{KeepsRest}
+use Rattle.ring_scenario.specs.Making.{RunsBy}
+
+-- the words ask for a call, which was executed, and printed this text
+pub record MakesCall (words : List (List ℕ)) (old new : Runner) (text : List ℕ) : Type 0 where
+  pub call : Call
+  pub asks : AsksFor call words
+  pub executes : Executes call old new text
+  pub rest : KeepsRest call old new
+
+-- a line ran: it is blank and did nothing, or its call was made
+abbrev pub RunsLine : List ℕ → Runner → Runner → List ℕ → Type 0
+RunsLine line old new text =
+    (IsBlank (words_of line) × (new ≡ old) × (text ≡ [])) ⊎ MakesCall (words_of line) old new text
+
+-- lines ran, each once and in order, and this is all that they printed
+abbrev pub RunsLines : List (List ℕ) → Runner → Runner → List ℕ → Type 0
+RunsLines [] old new text = (new ≡ old) × (text ≡ [])
+RunsLines (line ∷ more) old new text = (between : Runner) × (first rest : List ℕ)
+    × RunsLine line old between first × RunsLines more between new rest × (text ≡ first ++ rest)
+
+-- the lines in front of these ran, and what they printed was written
+pub record HaveRun (lines left : List (List ℕ)) (old new : Runner) (was now : Option (List ℕ)) : Type 0 where
+  pub taken : List (List ℕ)
+  pub whole : lines ≡ taken ++ left
+  pub printed : List ℕ
+  pub runs : RunsLines taken old new printed
+  pub written : Appends was now printed
+
+-- the lines in front of a line that is `end` alone ran, and that line was taken
+pub record RunsToEnd (old new : List ℕ) (before after : Runner) (was now : Option (List ℕ)) : Type 0 where
+  pub line : List ℕ
+  pub ran : HaveRun (lines_of old) (line ∷ lines_of new) before after was now
+  pub end_alone : words_of line ≡ codes "end" ∷ []
+
+-- the second line that `end` prints, if a conductor finished
+abbrev pub finished_text : Option Served → List ℕ
+finished_text None = []
+finished_text (Some s) = codes "finished received " ++ (decimal s.received ++ (codes " left " ++ (decimal s.left
+    ++ (codes " live " ++ (decimal (length (live_of (registry_of s.counters))) ++ codes "\n")))))
+
+-- the first one
+abbrev pub end_text : Ended → List ℕ
+end_text e = codes "end messages " ++ (decimal e.messages ++ (codes " left " ++ (decimal e.left ++ codes "\n")))
+
+-- all that `end` prints
+abbrev pub ended_text : Ended → List ℕ
+ended_text e = end_text e ++ finished_text e.served
+
+-- a runner was closed: the number of messages that the reads took and of those that are left, which are all that were
+-- committed; and what the conductor finished with, if a line used it
+pub record EndsAs (r : Runner) (e : Ended) : Type 0 where
+  pub messages : e.messages ≡ read_count r.loose
+  pub left : length r.loose.consumer.consumer.taken + e.left
+      ≡ length (placed_committed_of (aborted_view r.loose.holder).producer.claims)
+  pub served : IsSome e.served ↔ IsTrue r.serves
+  pub finished : IfSome e.served (TookAndLeft r.service)
+
+-- A text ran: the lines in front of its line `end` did, each once and in order, and then the runner was closed. What
+-- all of that printed is what was written
+pub record RunsText (text : List ℕ) (r : Runner) (was now : Option (List ℕ)) : Type 0 where
+  pub before : List (List ℕ)
+  pub line : List ℕ
+  pub after : List (List ℕ)
+  pub whole : lines_of text ≡ before ++ line ∷ after
+  pub end_alone : words_of line ≡ codes "end" ∷ []
+  pub blank : AllBlank after
+  pub last : Runner
+  pub printed : List ℕ
+  pub runs : RunsLines before r last printed
+  pub ended : Ended
+  pub ends : EndsAs last ended
+  pub written : Appends was now (printed ++ ended_text ended)
+
+-- a runner was made as the options say, and the text ran
+abbrev pub RunsScenario : Options → List ℕ → Option (List ℕ) → Option (List ℕ) → Type 0
+RunsScenario options text was now = (r : Runner) × RunsBy options r × RunsText text r was now
