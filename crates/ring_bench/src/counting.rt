@@ -73,9 +73,8 @@ impl<'a> Managed<'a> {
         requires { IsManagerOf self.old.values.now self.old.counters }
         ensures { IsManagerOf self.new.values.now self.new.counters }
     {
-        self.counters
-            .set(self.values, id, value.cast_signed())
-            .or(Err(Fault::REFUSED))
+        self.counters.set(self.values, id, value.cast_signed())?;
+        Ok(())
     }
 }
 

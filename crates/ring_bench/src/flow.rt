@@ -1,5 +1,5 @@
 //! Messages from producers to the consumer, each on a thread of its own.
-ghost use Rattle.std.specs.Prelude.{All, IfOk, IsTrue};
+ghost use Rattle.std.specs.Prelude.{◌≡◌, All, IfOk, IsTrue};
 ghost use Rattle.std.specs.Thread.{IsSync};
 ghost use Rattle.ring_rings.specs.Seats.{IsConsumerOf, IsProducerOf, MayClaim};
 
@@ -170,6 +170,14 @@ fn run_all<K: Kind + Sync, B: Steps + Sync, R: Clock + Threads + Sync + Wait>(
     sent.and(sample)
 }
 
+/// A producer with a body of this many bytes. `NO_CONTENDER` if that is no multiple of 8, or 0.
+fn load_of(alloc: Global, producer: Producer, size: usize, id: u32) -> Result<Load, Fault>
+    ensures { IfOk result (λ load. load.producer ≡ producer) }
+{
+    let body = Body::new(alloc, size)?;
+    Ok(Load { producer, body, id })
+}
+
 /// Splits off a producer for each load, one less than there are producers.
 fn loads_of<B: Steps>(
     alloc: Global,
@@ -183,13 +191,10 @@ fn loads_of<B: Steps>(
 {
     let mut loads = Vec::new(alloc);
     for id in 1..producers {
-        let body = Body::new(alloc, size)?;
-        let producer = ring.split(&mut producer)?;
-        loads.push(Load { producer, body, id })?;
+        let another = ring.split(&mut producer)?;
+        loads.push(load_of(alloc, another, size, id)?)?;
     }
-    let body = Body::new(alloc, size)?;
-    let id = 0;
-    loads.push(Load { producer, body, id })?;
+    loads.push(load_of(alloc, producer, size, 0)?)?;
     Ok(loads)
 }
 

@@ -45,7 +45,7 @@ fn main(rt: HostRuntime) -> io::Result<()> {
 
 /// Prints who takes part in what.
 fn list(rt: &impl Print) -> io::Result<()> {
-    for (workload, contender) in ENTRIES {
+    for (workload, contender) in ENTRIES.iter() {
         println!(rt; "has {} {}", workload.name(), contender.name())?;
     }
     Ok(())

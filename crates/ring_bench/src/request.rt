@@ -89,7 +89,7 @@ impl Contender {
 }
 
 /// Who takes part in which workload.
-pub const ENTRIES: [(Workload, Contender); 23] = [
+pub static ENTRIES: [(Workload, Contender); 23] = [
     (Workload::Batches, Contender::Solo),
     (Workload::Batches, Contender::OneToOne),
     (Workload::Batches, Contender::ManyToOne),
@@ -132,9 +132,9 @@ pub struct Request {
 
 /// The entry with these names.
 fn find_entry(workload: &str, contender: &str) -> Result<(Workload, Contender), Fault> {
-    for (w, c) in ENTRIES {
+    for (w, c) in ENTRIES.iter() {
         if w.name() == workload && c.name() == contender {
-            return Ok((w, c));
+            return Ok((*w, *c));
         }
     }
     Err(Fault::NO_CONTENDER)

@@ -31,9 +31,8 @@ impl<'a> Task for CountUp<'a> {
 
     fn step(&mut self, number: u64) -> Result<(), Fault> {
         let value = number.wrapping_add(1).cast_signed();
-        self.counters
-            .set(self.values, WATCHED, value)
-            .or(Err(Fault::REFUSED))
+        self.counters.set(self.values, WATCHED, value)?;
+        Ok(())
     }
 }
 

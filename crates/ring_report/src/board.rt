@@ -6,6 +6,7 @@ use crate::view::View;
 use ring_layout::byte_index;
 use ring_snapshot::{BoardRecord, BoardSnapshot};
 use std::alloc::{AllocError, Global};
+use std::fmt::Write;
 
 fn state_name(is_padding: bool, is_valid: bool) -> &'static str {
     match (is_padding, is_valid) {
@@ -56,7 +57,7 @@ fn summary(alloc: Global, board: &BoardSnapshot<'_>, tally: Tally) -> Result<Str
     let mut text = format!(in alloc; "{valid} valid, {lapped} lapped, {padding} padding")?;
     let (intent, tail) = (board.intent(), board.tail());
     if intent > tail {
-        text.push_str(format!(in alloc; "; transmitting from {tail} to {intent}")?.as_str())?;
+        write!(text, "; transmitting from {tail} to {intent}")?;
     }
     if !board.is_lap_whole() {
         text.push_str("; the begin of the lap is overwritten")?;

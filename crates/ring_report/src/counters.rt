@@ -3,7 +3,7 @@ use crate::bodies;
 use crate::report::{Cell, Report, columns, fields};
 use crate::view::{Bodies, View};
 use ring_layout::counter_descriptor::NOT_FREE_FOR_REUSE;
-use ring_snapshot::{Body, Counter, CounterState, CountersFinding, CountersSnapshot};
+use ring_snapshot::{Body, Counter, CounterState, CountersSnapshot};
 use std::alloc::{AllocError, Global};
 
 /// The columns of a list of counters, each with whether it has numbers.
@@ -74,11 +74,10 @@ fn row(alloc: Global, bodies: Bodies, counter: Counter<'_>) -> Result<Vec<Cell>,
 /// What is gathered of counters.
 #[derive(Drop)]
 struct Gathered {
-    rows: Vec<Vec<Cell>>,
-    findings: Vec<String>,
+    /// The rows and the findings.
+    report: Report,
     in_use: u32,
     freed: u32,
-    unlisted: u64,
 }
 
 impl Gathered {
@@ -93,19 +92,28 @@ impl Gathered {
     /// Adds a counter.
     fn add(&mut self, alloc: Global, view: View, counter: Counter<'_>) -> Result<(), AllocError> {
         self.count(counter.state);
-        if self.rows.len() as u64 >= view.limit.unwrap_or(u64::MAX) {
-            self.unlisted = self.unlisted.saturating_add(1);
+        if self.report.rows.len() as u64 >= view.limit.unwrap_or(u64::MAX) {
+            self.report.unlisted = self.report.unlisted.saturating_add(1);
             return Ok(());
         }
         let row = row(alloc, view.bodies, counter)?;
-        self.rows.push(row)?;
+        self.report.rows.push(row)?;
         Ok(())
     }
 
-    /// Adds what is wrong with an id.
-    fn find(&mut self, alloc: Global, finding: CountersFinding) -> Result<(), AllocError> {
-        self.findings.push(format!(in alloc; "{finding}")?)?;
-        Ok(())
+    /// The whole report, of this many ids.
+    fn report(self, alloc: Global, ids: u32, bodies: Bodies) -> Result<Report, AllocError> {
+        let Gathered {
+            mut report,
+            in_use,
+            freed,
+        } = self;
+        let counts = [("in_use", u64::from(in_use)), ("freed", u64::from(freed))];
+        report.fields = fields(alloc, &[("ids", u64::from(ids))])?;
+        report.columns = columns(alloc, COLUMNS.as_slice(), bodies, "key")?;
+        report.counts = fields(alloc, &counts)?;
+        report.summary = format!(in alloc; "{in_use} in use, {freed} freed, of {ids} ids")?;
+        Ok(report)
     }
 }
 
@@ -116,17 +124,15 @@ fn gather(
     view: View,
 ) -> Result<Gathered, AllocError> {
     let mut gathered = Gathered {
-        rows: Vec::new(alloc),
-        findings: Vec::new(alloc),
+        report: Report::empty(alloc, "counters", "counters"),
         in_use: 0,
         freed: 0,
-        unlisted: 0,
     };
     let first = u32::try_from(view.from.unwrap_or(0)).unwrap_or(u32::MAX);
     for entry in counters.counters_from(first) {
         match entry {
             Ok(counter) => gathered.add(alloc, view, counter)?,
-            Err(finding) => gathered.find(alloc, finding)?,
+            Err(finding) => gathered.report.find(alloc, finding)?,
         }
     }
     Ok(gathered)
@@ -147,23 +153,7 @@ impl Report {
                 return Report::refused(alloc, "counters", "counters", "not counters", finding);
             }
         };
-        let ids = counters.count();
         let gathered = gather(alloc, &counters, view)?;
-        let (in_use, freed) = (gathered.in_use, gathered.freed);
-        let counts = [("in_use", u64::from(in_use)), ("freed", u64::from(freed))];
-        Ok(Report {
-            kind: "counters",
-            fields: fields(alloc, &[("ids", u64::from(ids))])?,
-            picture: String::new(alloc),
-            list: "counters",
-            columns: columns(alloc, COLUMNS.as_slice(), view.bodies, "key")?,
-            rows: gathered.rows,
-            unlisted: gathered.unlisted,
-            counts: fields(alloc, &counts)?,
-            details: Vec::new(alloc),
-            message_bytes: 0,
-            summary: format!(in alloc; "{in_use} in use, {freed} freed, of {ids} ids")?,
-            findings: gathered.findings,
-        })
+        gathered.report(alloc, counters.count(), view.bodies)
     }
 }

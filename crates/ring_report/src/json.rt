@@ -58,19 +58,23 @@ impl Report {
     /// The report as an object of JSON, on lines of its own: what it is, its fields and details, how many of each kind
     /// there are, the list, how many rows were left out, and the findings.
     pub fn to_json(&self, alloc: Global) -> Result<String, AllocError> {
-        let kind = Value::try_from_str(alloc, self.kind)?;
-        let rows = rows_value(alloc, self.columns.as_slice(), self.rows.as_slice())?;
-        let findings = texts_value(alloc, self.findings.as_slice())?;
-        let counts = object_of(alloc, self.counts.as_slice())?;
-        let mut object = object_of(alloc, self.fields.as_slice())?;
-        add_fields(&mut object, alloc, self.details.as_slice())?;
-        put(&mut object, alloc, "counts", Value::from(counts))?;
-        put(&mut object, alloc, "unlisted", Value::from(self.unlisted))?;
-        put(&mut object, alloc, "kind", kind)?;
-        put(&mut object, alloc, self.list, rows)?;
-        put(&mut object, alloc, "findings", findings)?;
-        let mut text = Value::from(object).to_string_pretty(alloc)?;
+        let mut text = Value::from(self.object(alloc)?).to_string_pretty(alloc)?;
         text.push('\n')?;
         Ok(text)
+    }
+
+    fn object(&self, alloc: Global) -> Result<Map<String, Value>, AllocError> {
+        let mut object = object_of(alloc, self.fields.as_slice())?;
+        add_fields(&mut object, alloc, self.details.as_slice())?;
+        let counts = object_of(alloc, self.counts.as_slice())?;
+        put(&mut object, alloc, "counts", Value::from(counts))?;
+        put(&mut object, alloc, "unlisted", Value::from(self.unlisted))?;
+        let kind = Value::try_from_str(alloc, self.kind)?;
+        put(&mut object, alloc, "kind", kind)?;
+        let rows = rows_value(alloc, self.columns.as_slice(), self.rows.as_slice())?;
+        put(&mut object, alloc, self.list, rows)?;
+        let findings = texts_value(alloc, self.findings.as_slice())?;
+        put(&mut object, alloc, "findings", findings)?;
+        Ok(object)
     }
 }

@@ -90,14 +90,22 @@ fn push_board(text: &mut String, report: &Report) -> Result<(), AllocError> {
     )
 }
 
+/// How a letter of a label's value is escaped, if it is.
+fn escaped(letter: char) -> Option<&'static str> {
+    match letter {
+        '\\' => Some("\\\\"),
+        '"' => Some("\\\""),
+        '\n' => Some("\\n"),
+        _ => None,
+    }
+}
+
 /// A label's value between quotes, with a backslash before each backslash, quote and line's end.
 fn push_escaped(text: &mut String, value: &str) -> Result<(), AllocError> {
     for letter in value.chars() {
-        match letter {
-            '\\' => text.push_str("\\\\")?,
-            '"' => text.push_str("\\\"")?,
-            '\n' => text.push_str("\\n")?,
-            _ => text.push(letter)?,
+        match escaped(letter) {
+            Some(escape) => text.push_str(escape)?,
+            None => text.push(letter)?,
         }
     }
     Ok(())

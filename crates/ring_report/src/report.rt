@@ -69,17 +69,9 @@ impl Report {
         number(self.fields.as_slice(), name)
     }
 
-    /// The report of memory that is not what it is said to be.
-    pub(crate) fn refused<F: Display + Drop>(
-        alloc: Global,
-        kind: &'static str,
-        list: &'static str,
-        summary: &str,
-        finding: F,
-    ) -> Result<Report, AllocError> {
-        let mut findings = Vec::new(alloc);
-        findings.push(format!(in alloc; "{finding}")?)?;
-        Ok(Report {
+    /// A report of this kind with nothing in it, and with a list of this name.
+    pub(crate) fn empty(alloc: Global, kind: &'static str, list: &'static str) -> Report {
+        Report {
             kind,
             fields: Vec::new(alloc),
             picture: String::new(alloc),
@@ -90,9 +82,33 @@ impl Report {
             counts: Vec::new(alloc),
             details: Vec::new(alloc),
             message_bytes: 0,
-            summary: String::from_str(alloc, summary)?,
-            findings,
-        })
+            summary: String::new(alloc),
+            findings: Vec::new(alloc),
+        }
+    }
+
+    /// The report of memory that is not what it is said to be.
+    pub(crate) fn refused<F: Display + Drop>(
+        alloc: Global,
+        kind: &'static str,
+        list: &'static str,
+        summary: &str,
+        finding: F,
+    ) -> Result<Report, AllocError> {
+        let mut report = Report::empty(alloc, kind, list);
+        report.summary.push_str(summary)?;
+        report.find(alloc, finding)?;
+        Ok(report)
+    }
+
+    /// Adds what is wrong with the memory.
+    pub(crate) fn find<F: Display + Drop>(
+        &mut self,
+        alloc: Global,
+        finding: F,
+    ) -> Result<(), AllocError> {
+        self.findings.push(format!(in alloc; "{finding}")?)?;
+        Ok(())
     }
 }
 

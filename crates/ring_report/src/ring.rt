@@ -6,6 +6,7 @@ use crate::view::View;
 use ring_layout::byte_index;
 use ring_snapshot::{Record, RecordState, RingSnapshot};
 use std::alloc::{AllocError, Global};
+use std::fmt::Write;
 
 fn state_name(state: RecordState) -> &'static str {
     match state {
@@ -69,10 +70,10 @@ fn summary(alloc: Global, ring: &RingSnapshot<'_>, tally: Tally) -> Result<Strin
         text.push_str(", then headers not yet stored")?;
     }
     if let Some(free) = free(ring) {
-        text.push_str(format!(in alloc; "; {free} of {} bytes free", ring.capacity())?.as_str())?;
+        write!(text, "; {free} of {} bytes free", ring.capacity())?;
     }
     if let Some(place) = blocked {
-        text.push_str(format!(in alloc; "; blocked at {place}")?.as_str())?;
+        write!(text, "; blocked at {place}")?;
     }
     Ok(text)
 }
