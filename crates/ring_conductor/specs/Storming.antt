@@ -179,13 +179,13 @@ IsHubOf p ring board values hub = IsProducerOf ring hub.producer
     × (draws_of hub.producer ≡ [])
 
 -- the same at what all threads share
-abbrev pub IsClientAt : {G : Type 0} → Shared G → StormClient → Type 0
+abbrev pub IsClientAt : {G B : Type 0} {H : Ghosts B} → Shared G B H → StormClient → Type 0
 IsClientAt s c = IsClientOf s.ring.now s.board.now c
 
-abbrev pub IsConductorAt : {G : Type 0} → Shared G → Conductor → Type 0
+abbrev pub IsConductorAt : {G B : Type 0} {H : Ghosts B} → Shared G B H → Conductor → Type 0
 IsConductorAt s c = IsConductorOf IsConsumerOf s.ring.now s.board.now s.values.now c
 
-abbrev pub IsHubAt : {G : Type 0} → Shared G → Hub → Type 0
+abbrev pub IsHubAt : {G B : Type 0} {H : Ghosts B} → Shared G B H → Hub → Type 0
 IsHubAt s hub = IsHubOf s.plan s.ring.now s.board.now s.values.now hub
 
 -- all commands were taken, and this many clients had all their replies: each was seen, in its turn
@@ -213,7 +213,7 @@ pub record IsFreshOf {K B : Type 0} {G : Ghosts B} (p : StormPlan) (ring : Ring 
   pub of : IsHubOf p ring board values hub
   pub unused : IsUnused hub
 
-abbrev pub IsFreshAt : {G : Type 0} → Shared G → Hub → Type 0
+abbrev pub IsFreshAt : {G B : Type 0} {H : Ghosts B} → Shared G B H → Hub → Type 0
 IsFreshAt s hub = IsFreshOf s.plan s.ring.now s.board.now s.values.now hub
 
 -- no share of ring or board is away, and no claim is open
@@ -260,7 +260,7 @@ pub record IsEndOf {K B : Type 0} {G : Ghosts B} (p : StormPlan) (ring : Ring K 
   pub seen : end.seen ≤ clients * p.commands
   pub done : (end.failure ≡ None) → IsDone p clients end
 
-abbrev pub IsEndAt : {G : Type 0} → Shared G → ℕ → LevelEnd → Type 0
+abbrev pub IsEndAt : {G B : Type 0} {H : Ghosts B} → Shared G B H → ℕ → LevelEnd → Type 0
 IsEndAt s clients end = IsEndOf s.plan s.ring.now s.board.now s.values.now clients end
 
 -- The end ----------------------------------------------------------------------

@@ -21,7 +21,7 @@ use levels::level;
 pub use plan::{StormFault, StormPlan, StormReport};
 use ring_board::Board;
 use ring_counters::{CounterValues, CountersManager};
-use ring_rings::ManyToOneRing;
+use ring_rings::{Closes, ManyToOne, Ring, RingTable};
 use seats::{Hub, LevelEnd, StormEnd};
 use shared::Shared;
 use std::alloc::Global;
@@ -51,10 +51,23 @@ pub fn storm<R: Threads + Wait, G: Gate + Sync>(
     ensures bad_plan { (result ≡ Err BadPlan) ↔ (IsPlan plan.now → ⊥) }
     ensures report { IfOk result (IsReportOf plan.now) }
 {
+    storm_over::<RingTable, R, G>(rt, alloc, plan, gate)
+}
+
+/// `storm` over a ring of either form: with a `SlotTable` bodies lie in plain memory.
+pub fn storm_over<B: Closes + Drop + Sync, R: Threads + Wait, G: Gate + Sync>(
+    rt: &R,
+    alloc: Global,
+    plan: &StormPlan,
+    gate: &G,
+) -> Result<StormReport, StormFault>
+    ensures bad_plan { (result ≡ Err BadPlan) ↔ (IsPlan plan.now → ⊥) }
+    ensures report { IfOk result (IsReportOf plan.now) }
+{
     if !plan.is_lawful() {
         return Err(StormFault::BadPlan);
     }
-    let Ok((ring, producer, consumer)) = ManyToOneRing::new(alloc, plan.ring) else {
+    let Ok((ring, producer, consumer)) = Ring::<ManyToOne, B>::new(alloc, plan.ring) else {
         return Err(StormFault::OutOfMemory);
     };
     let Ok((board, transmitter)) = Board::new(alloc, plan.board_capacity()) else {
@@ -79,12 +92,12 @@ pub fn storm<R: Threads + Wait, G: Gate + Sync>(
 }
 
 /// Runs all threads, and finishes with what they give back, whether all is done or some gave up.
-fn run<R: Threads + Wait, G: Gate + Sync>(
+fn run<B: Closes + Drop + Sync, R: Threads + Wait, G: Gate + Sync>(
     rt: &R,
     alloc: Global,
     plan: &StormPlan,
     gate: &G,
-    ring: ManyToOneRing,
+    ring: Ring<ManyToOne, B>,
     board: Board,
     values: CounterValues,
     hub: Hub,
@@ -109,12 +122,12 @@ fn run<R: Threads + Wait, G: Gate + Sync>(
 }
 
 /// Runs all threads, and takes their seats back.
-fn run_threads<R: Threads + Wait, G: Gate + Sync>(
+fn run_threads<B: Closes + Sync, R: Threads + Wait, G: Gate + Sync>(
     rt: &R,
     alloc: Global,
     plan: &StormPlan,
     gate: &G,
-    ring: &ManyToOneRing,
+    ring: &Ring<ManyToOne, B>,
     board: &Board,
     values: &CounterValues,
     hub: Hub,

@@ -15,7 +15,7 @@ use crate::storming::seats::StormClient;
 use crate::storming::shared::Shared;
 use crossbeam_utils::Backoff;
 use ring_protocol::Reply;
-use ring_rings::ManyToOneRing;
+use ring_rings::{ManyToOne, Ring, Steps};
 
 /// The type of the clients' counters.
 const COUNTER_TYPE: i32 = 1;
@@ -55,8 +55,8 @@ fn request_of(label: &[u8], counter: u32, number: u32) -> Request<'_>
 }
 
 /// Tries once to send a command. The ring refuses while it is full, or if another client was faster.
-fn try_send(
-    ring: &ManyToOneRing,
+fn try_send<B: Steps>(
+    ring: &Ring<ManyToOne, B>,
     client: &mut Client,
     correlation: u64,
     request: Request<'_>,
@@ -72,7 +72,7 @@ fn try_send(
     client.send_as(ring, correlation, request).is_ok()
 }
 
-impl<G: Gate> Shared<'_, G> {
+impl<G: Gate, B: Steps> Shared<'_, G, B> {
     /// Waits until the gate lets the client send.
     fn wait_for_gate(&self, client: u32, number: u32) -> bool {
         let backoff = Backoff::new();

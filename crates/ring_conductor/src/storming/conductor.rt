@@ -6,6 +6,7 @@ ghost use Rattle.ring_conductor.specs.Storming.{all_commands, taken_by};
 use crate::conductor::{Conductor, WorkStop};
 use crate::storming::shared::Shared;
 use crossbeam_utils::Backoff;
+use ring_rings::Closes;
 
 /// The conductor after its work.
 #[derive(Drop)]
@@ -15,7 +16,7 @@ pub(crate) struct ConductorEnd {
     pub(crate) is_done: bool,
 }
 
-impl<G> Shared<'_, G> {
+impl<G, B: Closes> Shared<'_, G, B> {
     /// Works until a command comes, and returns the number of those that came, 0 if none did.
     fn work(&self, conductor: &mut Conductor) -> u64
         requires conductor { IsConductorAt self.now conductor.old }

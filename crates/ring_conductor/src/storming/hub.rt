@@ -7,9 +7,10 @@ use crate::client::Client;
 use crate::storming::seats::{Hub, StormClient};
 use crate::storming::shared::Shared;
 use ring_board::SubscribeFault;
+use ring_rings::Steps;
 use std::alloc::Global;
 
-impl<G> Shared<'_, G> {
+impl<G, B: Steps> Shared<'_, G, B> {
     /// Makes a client with endpoints of its own. If memory runs out, nothing has changed.
     pub(crate) fn split_client(
         &self,

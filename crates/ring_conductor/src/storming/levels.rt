@@ -14,6 +14,7 @@ use crate::storming::promises::{ClientBack, ConductorBack};
 use crate::storming::seats::{Failure, Hub, LevelEnd, StormClient};
 use crate::storming::shared::Shared;
 use core::thread::Stack;
+use ring_rings::{Closes, Steps};
 use std::alloc::Global;
 use std::thread::{Scope, Threads};
 
@@ -41,10 +42,10 @@ fn give_up(hub: Hub) -> LevelEnd
 }
 
 /// The innermost level: the conductor, on a thread of its own.
-fn conduct<'s, E, R: Threads, G: Gate + Sync>(
+fn conduct<'s, E, R: Threads, G: Gate + Sync, B: Closes + Sync>(
     scope: &'s Scope<'s, E>,
     rt: &'s R,
-    shared: Shared<'s, G>,
+    shared: Shared<'s, G, B>,
     hub: Hub,
 ) -> LevelEnd
     requires plan { IsPlan shared.plan }
@@ -125,11 +126,11 @@ fn conduct<'s, E, R: Threads, G: Gate + Sync>(
 
 /// Starts the clients below a number, each on a thread of its own, and after them the conductor. Each level starts one
 /// client and calls the next level; then it joins the thread and takes the seats back.
-pub(crate) fn level<'s, E, R: Threads, G: Gate + Sync>(
+pub(crate) fn level<'s, E, R: Threads, G: Gate + Sync, B: Closes + Sync>(
     scope: &'s Scope<'s, E>,
     rt: &'s R,
     alloc: Global,
-    shared: Shared<'s, G>,
+    shared: Shared<'s, G, B>,
     remaining: u32,
     mut hub: Hub,
 ) -> LevelEnd
@@ -196,7 +197,12 @@ pub(crate) fn level<'s, E, R: Threads, G: Gate + Sync>(
 }
 
 /// Takes a client's seats back. It has spent its turns if it did not get all its replies.
-fn gather<G>(shared: Shared<'_, G>, index: u32, end: LevelEnd, client: StormClient) -> LevelEnd
+fn gather<G, B: Steps>(
+    shared: Shared<'_, G, B>,
+    index: u32,
+    end: LevelEnd,
+    client: StormClient,
+) -> LevelEnd
     requires plan { IsPlan shared.plan × (index < 64) }
     requires end { IsEndAt shared index end }
     requires client { IsClientAt shared client }

@@ -7,33 +7,33 @@ use crate::storming::plan::StormPlan;
 use crate::storming::seats::StormClient;
 use ring_board::Board;
 use ring_counters::CounterValues;
-use ring_rings::ManyToOneRing;
+use ring_rings::{ManyToOne, Ring, Steps};
 use std::thread::Promise;
 
 /// A client comes back with its seats, and each command that it counts had its reply.
-#[derive(Clone, Copy)]
-pub(crate) struct ClientBack<'a> {
-    pub(crate) ring: &'a ManyToOneRing,
+#[derive_where(Clone, Copy)]
+pub(crate) struct ClientBack<'a, B: Steps> {
+    pub(crate) ring: &'a Ring<ManyToOne, B>,
     pub(crate) board: &'a Board,
     pub(crate) plan: StormPlan,
     pub(crate) index: u32,
 }
 
-impl<'a> Promise<StormClient> for ClientBack<'a> {
+impl<'a, B: Steps> Promise<StormClient> for ClientBack<'a, B> {
     ghost kept_by = { λ p r. IsClientOf p.ring.now p.board.now r × HasWorked p.plan.commands p.index r };
 }
 
 /// The conductor comes back with its shares, and has joined no receiver.
-#[derive(Clone, Copy)]
-pub(crate) struct ConductorBack<'a> {
-    pub(crate) ring: &'a ManyToOneRing,
+#[derive_where(Clone, Copy)]
+pub(crate) struct ConductorBack<'a, B: Steps> {
+    pub(crate) ring: &'a Ring<ManyToOne, B>,
     pub(crate) board: &'a Board,
     pub(crate) values: &'a CounterValues,
     pub(crate) shares: u32,
     pub(crate) plan: StormPlan,
 }
 
-impl<'a> Promise<ConductorEnd> for ConductorBack<'a> {
+impl<'a, B: Steps> Promise<ConductorEnd> for ConductorBack<'a, B> {
     ghost kept_by = { λ p r. HasConducted p.plan p.ring.now p.board.now p.values.now r
         × (board_shares_of r.conductor ≡ p.shares) };
 }

@@ -3,14 +3,14 @@
 use crate::storming::plan::StormPlan;
 use ring_board::Board;
 use ring_counters::CounterValues;
-use ring_rings::ManyToOneRing;
+use ring_rings::{ManyToOne, Ring, Steps};
 use std::sync::atomic::AtomicBool;
 use std::sync::atomic::Ordering::SeqCst;
 
 /// What all threads of a storm share.
 #[derive_where(Clone, Copy)]
-pub(crate) struct Shared<'a, G> {
-    pub(crate) ring: &'a ManyToOneRing,
+pub(crate) struct Shared<'a, G, B: Steps> {
+    pub(crate) ring: &'a Ring<ManyToOne, B>,
     pub(crate) board: &'a Board,
     pub(crate) values: &'a CounterValues,
     pub(crate) gate: &'a G,
@@ -19,7 +19,7 @@ pub(crate) struct Shared<'a, G> {
     pub(crate) plan: StormPlan,
 }
 
-impl<G> Shared<'_, G> {
+impl<G, B: Steps> Shared<'_, G, B> {
     /// Whether a thread gave up.
     pub(crate) fn is_stopped(&self) -> bool {
         self.stopped.load(SeqCst)

@@ -5,7 +5,7 @@ use Rattle.ring_conductor.proofs.TurnLemmas.{adds_where, keeps_where}
 use Rattle.ring_conductor.proofs.storming.client.try_send.Goals as goal
 
 pub returns-clause-seat : goal.returns-clause-seat
-returns-clause-seat c =
+returns-clause-seat g c =
     let e = c.send_as.ensures in
     let left = leaves _ _ _ _ _ c.send_as.result e.sent e.refused in (
       e.producer,
@@ -16,12 +16,12 @@ returns-clause-seat c =
     )
 
 pub returns-clause-sent : goal.returns-clause-sent
-returns-clause-sent c = adds_where _ _ _ _ _ c.send_as.result _ c.is_ok.ensures.value c.send_as.ensures.sent
+returns-clause-sent g c = adds_where _ _ _ _ _ c.send_as.result _ c.is_ok.ensures.value c.send_as.ensures.sent
 
 pub returns-clause-refused : goal.returns-clause-refused
-returns-clause-refused c = keeps_where _ _ _ _ _ c.send_as.result _ c.is_ok.ensures.value c.send_as.ensures.refused
+returns-clause-refused g c = keeps_where _ _ _ _ _ c.send_as.result _ c.is_ok.ensures.value c.send_as.ensures.refused
 
 pub returns-clause-draws : goal.returns-clause-draws
-returns-clause-draws c =
+returns-clause-draws g c =
     let left = leaves _ _ _ _ _ c.send_as.result c.send_as.ensures.sent c.send_as.ensures.refused in
     ap (λ (s : Service). s.draws) left.service

@@ -16,7 +16,7 @@ gather-requires-clause-worked g t c =
     elim c.match-started.branch as
     (λ _. Worked c.args.shared.plan.commands (c.args.remaining - 1) c.match-started.end) [
       | in-Ok-started w ↦ subst (Worked c.args.shared.plan.commands (c.args.remaining - 1)) (sym w.end-is)
-          (subst (λ (p : ClientBack). HasWorked p.plan.commands p.index w.join.result) w.in-Ok-started.ensures.ok
+          (subst (λ (p : ClientBack _ _). HasWorked p.plan.commands p.index w.join.result) w.in-Ok-started.ensures.ok
           w.join.ensures.1)
       | in-Err w ↦ subst (Worked c.args.shared.plan.commands (c.args.remaining - 1)) (sym w.end-is)
           (subst (λ i. HasWorked c.args.shared.plan.commands i w.spawn_scoped_with-client.result)

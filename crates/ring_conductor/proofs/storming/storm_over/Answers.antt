@@ -20,7 +20,7 @@ use Rattle.ring_board.specs.Closing.{closed_capacity}
 use Rattle.ring_conductor.specs.Conducting.{received_of, ring_view}
 use Rattle.ring_conductor.proofs.SeatLemmas.{drawn_once}
 use Rattle.ring_conductor.proofs.StormLemmas.{handed_at, reported, storm_count}
-use Rattle.ring_conductor.proofs.storming.storm.Goals as goal
+use Rattle.ring_conductor.proofs.storming.storm_over.Goals as goal
 
 -- the counters are what the messages taken make of fresh ones
 counted : {K B : Type 0} {G : Ghosts B} {p : StormPlan} {ring : Ring K B G} {board : Board} {values : CounterValues} {end : StormEnd}
