@@ -1,7 +1,7 @@
 //! When a storm's clients ask their gate, and when they report an answer to it; and threads that do not start.
 use crate::storms::run;
-use ring_conductor::{Gate, OpenGate, StormFault, StormPlan};
 use ring_rings::RingTable;
+use ring_storm::{Gate, OpenGate, StormFault, StormPlan};
 use std::sync::atomic::Ordering::SeqCst;
 use std::sync::atomic::{AtomicBool, AtomicU32};
 use std::thread::sleep;

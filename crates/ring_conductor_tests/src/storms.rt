@@ -1,6 +1,6 @@
 //! Storms over rings of either form, whose reports are known.
-use ring_conductor::{Gate, OpenGate, StormFault, StormPlan, storm_over};
 use ring_rings::{Closes, RingTable, SlotTable};
+use ring_storm::{Gate, OpenGate, StormFault, StormPlan, storm_over};
 use std::alloc::Global;
 use std::process::Abort;
 use std::sync::Wait;
