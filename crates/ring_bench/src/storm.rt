@@ -3,7 +3,7 @@ use crate::fault::Fault;
 use crate::request::Request;
 use crate::rest::TRIES;
 use crate::sample::{Detail, Sample, nanos_since};
-use ring_conductor::{Gate, StormPlan, StormReport, storm};
+use ring_storm::{Gate, StormPlan, StormReport, storm};
 use std::alloc::Global;
 use std::rt::Clock;
 use std::sync::Wait;

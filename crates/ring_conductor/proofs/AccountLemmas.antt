@@ -148,6 +148,11 @@ keeps_heard : (l : Ledger) (ps : List (ℕ × Message)) → (fold_of l ps).board
 keeps_heard l [] = refl
 keeps_heard l (p ∷ ps) = keeps_heard (served l p.0 p.1) ps
 
+-- nor does a receiver subscribe
+keeps_shares : (l : Ledger) (ps : List (ℕ × Message)) → (fold_of l ps).board.shares ≡ l.board.shares
+keeps_shares l [] = refl
+keeps_shares l (p ∷ ps) = keeps_shares (served l p.0 p.1) ps
+
 module _ (now limit : ℕ) (v w : View) (l k : Ledger) (done : Work) (works : Works now limit v w l k done) where
   pub works_grow : Begins l.board.sent k.board.sent
   works_grow =
@@ -157,6 +162,10 @@ module _ (now limit : ℕ) (v w : View) (l k : Ledger) (done : Work) (works : Wo
   pub works_heard : k.board.heard ≡ l.board.heard
   works_heard =
       ap (λ (x : Ledger). x.board.heard) works.folded ∙ keeps_heard l (at_moment now (messages_of works.messages))
+
+  pub work_shares : k.board.shares ≡ l.board.shares
+  work_shares =
+      ap (λ (x : Ledger). x.board.shares) works.folded ∙ keeps_shares l (at_moment now (messages_of works.messages))
 
 grows_twice : (a b c : List Record) → Begins a b → Begins b c → Begins a c
 grows_twice a b c one two = (one.0 ++ two.0, two.1 ∙ (ap (λ l. l ++ two.0) one.1 ∙ append_assoc a one.0 two.0))

@@ -6,14 +6,5 @@ pub mod SizeLemmas
 pub mod AccountLemmas
 pub mod GatheringLemmas
 pub mod AskingLemmas
-pub mod TurnLemmas
-pub mod LiveLemmas
-pub mod SeatLemmas
-pub mod MergeLemmas
 pub mod DrawLemmas
-pub mod StampLemmas
-pub mod OrderLemmas
-pub mod HoldLemmas
-pub mod SumLemmas
-pub mod StormLemmas
 pub mod WholeLemmas

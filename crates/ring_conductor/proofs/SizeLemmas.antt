@@ -1,14 +1,16 @@
 -- No message changes the number of counters, or their reuse timeout.
-use Rattle.std.proofs.Common.{◌≡◌, ◌∙◌, ℕ, ◌+◌, ◌==◌, List, [], ◌∷◌, Bool, true, false, cond, Option, Some, None, Result, Ok, Err, refl, sym, ap}
+use Rattle.std.proofs.Common.{◌≡◌, ◌∙◌, ℕ, ◌+◌, ◌≤◌, ◌==◌, List, [], ◌∷◌, length, Bool, true, false, cond, Option, Some, None, Result, Ok, Err, refl, sym, ap, arith}
 use Rattle.std.specs.Prelude.{fold}
 use Rattle.std.proofs.Math.ListN.{length-set}
-use Rattle.std.proofs.lemmas.List.{length-replicate}
+use Rattle.std.proofs.lemmas.List.{length-map, length-replicate}
+use Rattle.std.proofs.lemmas.List.FromFn.{length-range_with_len}
+use Rattle.std.proofs.lemmas.List.Sums.{count_by-le-length, length-filter}
 use Rattle.ring_layout.specs.declared.message.Message.{Message}
 use Rattle.ring_counters.specs.declared.values.view.ValueWrite.{ValueWrite}
 use Rattle.ring_counters.specs.declared.fault.AllocateRefused.{AllocateRefused}
 use Rattle.ring_counters.specs.declared.fault.IdFault.{IdFault}
 use Rattle.ring_counters.specs.Counter.{Counter, Reclaimed, unused_counter}
-use Rattle.ring_counters.specs.Registry.{Registry, allocation_of, count_of, counter_at, fresh_registry, id_refusal_of, new_counter, owned_ids, reclaimed_in, with_value}
+use Rattle.ring_counters.specs.Registry.{Registry, allocation_of, count_of, counter_at, fresh_registry, id_refusal_of, ids_of, is_allocated, live_ids, live_of, new_counter, owned_ids, reclaimed_in, status_at, with_value}
 use Rattle.ring_protocol.specs.declared.fault.Bad.{Bad}
 use Rattle.ring_protocol.specs.Command.{Instruction, Allocate, Free, Set, AllocateOwned, Close}
 use Rattle.ring_protocol.specs.Reading.{command_of}
@@ -75,7 +77,7 @@ obeys now r (Set correlation id value) =
     does (id_refusal_of r id) r correlation (with_value r id value) _ (sets r id value)
 obeys now r (Close correlation owner) = either (owner == 0) r _ _ (same r) (all_reclaimed now (owned_ids r owner) r)
 
-reads : (now : ℕ) (r : Registry) (result : Result Instruction Bad) → KeepsSize r (obeyed_if_read now r result).registry
+pub reads : (now : ℕ) (r : Registry) (result : Result Instruction Bad) → KeepsSize r (obeyed_if_read now r result).registry
 reads now r (Ok command) = obeys now r command
 reads now r (Err bad) = same r
 
@@ -94,3 +96,14 @@ fresh_again r count reuse_ms e =
     let long : count_of r ≡ count = ap count_of e ∙ length-replicate count unused_counter in
     let time : r.reuse_ms ≡ reuse_ms = ap (λ (s : Registry). s.reuse_ms) e in
     (λ i. fresh_registry (long i) (time i)) ∙ sym e
+
+-- no more are live than there are
+pub few_live : (r : Registry) → length (live_of r) ≤ count_of r
+few_live r =
+    let entry : ℕ → ℕ × Counter = λ id. (id, counter_at r id) in
+    let is_live : ℕ → Bool = λ id. is_allocated (status_at r id) in
+    let mapped = length-map (live_ids r) entry in
+    let filtered = length-filter is_live (ids_of r) in
+    let few = count_by-le-length is_live (ids_of r) in
+    let all = length-range_with_len 0 (count_of r) in
+    omega arith

@@ -14,9 +14,8 @@ use Rattle.ring_conductor.specs.declared.client.request.Request.{Request}
 use Rattle.ring_conductor.specs.declared.finishing.fault.FinishFault.{FinishFault}
 use Rattle.ring_conductor.specs.Finishing.{finish_refusal_of}
 use Rattle.ring_conductor.specs.Account.{Account, account_of}
-use Rattle.ring_conductor.specs.Asking.{Sends, asked}
+use Rattle.ring_conductor.specs.Asking.{asked, drawn_in, Sends}
 use Rattle.ring_conductor.specs.Fold.{Ledger, at_moment, fold_of}
-use Rattle.ring_conductor.specs.Turns.{drawn_in}
 use Rattle.ring_conductor.specs.Whole.{committed, settled_message}
 use Rattle.ring_conductor.proofs.AccountLemmas.{account_in, account_of-append, same_fold}
 use Rattle.ring_conductor.proofs.DrawLemmas.{all_drawn, drawn_below, same_one}

@@ -1,8 +1,10 @@
 -- What a client asks, and what it receives.
 use Rattle.std.specs.Prelude.{◌≡◌, ◌≢◌, ℕ, ◌≤◌, ℤ, List, length}
+use Rattle.ring_layout.specs.Lists.{total}
 use Rattle.ring_table.specs.declared.view.Service.{Service}
 use Rattle.ring_table.specs.declared.view.View.{View}
 use Rattle.ring_table.specs.ServiceSteps.{DrawsId}
+use Rattle.ring_table.specs.Services.{times}
 use Rattle.ring_rings.specs.declared.fault.TryFault.{TryFault}
 use Rattle.ring_rings.specs.declared.ring.Producer.{Producer}
 use Rattle.ring_rings.specs.Claiming.{Refusing, Writing}
@@ -40,6 +42,10 @@ draws_of p = (service_of p).draws
 
 abbrev pub services_of : Producer → List Service
 services_of p = (view_of p).producer.joined
+
+-- the number of times that these services drew a number
+abbrev pub drawn_in : ℕ → List Service → ℕ
+drawn_in x services = total (λ (s : Service). times x s.draws) services
 
 -- what a client's producer knows of the ring
 abbrev pub client_view : Client → View

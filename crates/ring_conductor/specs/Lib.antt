@@ -7,6 +7,4 @@ pub mod Conducting
 pub mod Finishing
 pub mod Running
 pub mod Asking
-pub mod Turns
-pub mod Storming
 pub mod Whole

@@ -5,7 +5,6 @@
 //! - `Conductor`: takes a ring's consumer, a broadcast buffer's transmitter and counters, and works.
 //! - `finish`: closes ring and broadcast buffer, and returns all that is left. Its contract is the headline.
 //! - `whole_run`: one run of all of that, the part to read first.
-//! - `storm`: clients on threads of their own, against one conductor.
 //! - the laws: what holds of the protocol and of the fold of commands.
 #![tactic(auto)]
 
@@ -13,7 +12,6 @@ mod client;
 mod conductor;
 mod finishing;
 mod laws;
-mod storming;
 mod whole;
 
 pub use client::request::Request;
@@ -27,5 +25,4 @@ pub use ring_protocol::{
     command_round_trip, command_type_ids, decode_command, decode_reply, encode_command,
     encode_reply, longest_command, one_command, one_reply, reply_round_trip, reply_type_ids,
 };
-pub use storming::{Gate, OpenGate, StormFault, StormPlan, StormReport, storm};
 pub use whole::{Parties, WholeFault, WholeRun, whole_run, whole_run_over};

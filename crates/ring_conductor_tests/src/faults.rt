@@ -1,5 +1,6 @@
 //! The text of each refusal: number and name.
-use ring_conductor::{Bad, FinishFault, SendFault, StormFault, WholeFault};
+use ring_conductor::{Bad, FinishFault, SendFault, WholeFault};
+use ring_storm::StormFault;
 use std::alloc::{AllocError, Global};
 use std::fmt;
 use std::test::Fail;

@@ -1,6 +1,7 @@
 //! When a storm's clients ask their gate, and when they report an answer to it; and threads that do not start.
 use crate::storms::run;
-use ring_conductor::{Gate, OpenGate, StormFault, StormPlan};
+use ring_rings::RingTable;
+use ring_storm::{Gate, OpenGate, StormFault, StormPlan};
 use std::sync::atomic::Ordering::SeqCst;
 use std::sync::atomic::{AtomicBool, AtomicU32};
 use std::thread::sleep;
@@ -47,7 +48,7 @@ fn each_answer_is_told_before_the_next_command(rt: HostRuntime) {
         ring: 256,
         turns: 50_000_000,
     };
-    let report = run(&rt, rt.alloc(), &plan, &gate).expect(&rt, "a report");
+    let report = run::<RingTable, _, _>(&rt, rt.alloc(), &plan, &gate).expect(&rt, "a report");
     assert_eq!(rt; report.seen, 600);
     assert_eq!(rt; report.sum, 600);
     assert!(rt; !gate.broken.load(SeqCst));
@@ -82,7 +83,7 @@ fn a_thread_that_cannot_be_started_is_told_as_memory(rt: HostRuntime) {
         turns: 50_000_000,
     };
     for thread in 0..5 {
-        let report = run(&rt, rt.alloc(), &plan, &Without { thread });
+        let report = run::<RingTable, _, _>(&rt, rt.alloc(), &plan, &Without { thread });
         assert_eq!(rt; report, Err(StormFault::OutOfMemory));
     }
 }
@@ -127,7 +128,7 @@ fn no_answer_is_told_where_no_conductor_works(rt: HostRuntime) {
         ring: 4096,
         turns: 50_000_000,
     };
-    let report = run(&rt, rt.alloc(), &plan, &gate);
+    let report = run::<RingTable, _, _>(&rt, rt.alloc(), &plan, &gate);
     assert_eq!(rt; report, Err(StormFault::OutOfMemory));
     assert!(rt; gate.asked.load(SeqCst));
     assert!(rt; !gate.told.load(SeqCst));
@@ -190,7 +191,7 @@ fn no_answer_is_told_before_the_conductor_works(rt: HostRuntime) {
         ring: 256,
         turns: 50_000_000,
     };
-    let report = run(&rt, rt.alloc(), &plan, &gate).expect(&rt, "a report");
+    let report = run::<RingTable, _, _>(&rt, rt.alloc(), &plan, &gate).expect(&rt, "a report");
     assert_eq!(rt; report.seen, 2);
     assert_eq!(rt; gate.told_before.load(SeqCst), 0);
     assert_eq!(rt; gate.told.load(SeqCst), 2);

@@ -1,5 +1,8 @@
-use ring_conductor::{Gate, OpenGate, StormFault, StormPlan, storm};
+//! Storms over rings of either form, whose reports are known.
+use ring_rings::{Closes, RingTable, SlotTable};
+use ring_storm::{Gate, OpenGate, StormFault, StormPlan, storm_over};
 use std::alloc::Global;
+use std::process::Abort;
 use std::sync::Wait;
 use std::sync::atomic::AtomicBool;
 use std::sync::atomic::Ordering::SeqCst;
@@ -21,14 +24,14 @@ pub struct Numbers {
     pub sum: i64,
 }
 
-/// Runs a storm. It promises nothing, so that the tests are proved without what a storm promises.
-pub fn run<R: Threads + Wait, G: Gate + Sync>(
+/// Runs a storm over a ring of one form. It promises nothing, so that the tests are proved without what a storm promises.
+pub fn run<B: Closes + Drop + Sync, R: Threads + Wait, G: Gate + Sync>(
     rt: &R,
     alloc: Global,
     plan: &StormPlan,
     gate: &G,
 ) -> Result<Numbers, StormFault> {
-    let report = storm(rt, alloc, plan, gate)?;
+    let report = storm_over::<B, R, G>(rt, alloc, plan, gate)?;
     Ok(Numbers {
         received: report.received,
         left: report.left,
@@ -67,10 +70,12 @@ fn two_clients_report() -> Numbers {
     }
 }
 
-#[test]
-fn clients_send_a_hundred_commands_each(rt: HostRuntime) {
+fn sends_a_hundred_each<B: Closes + Drop + Sync>(
+    rt: &(impl Abort + Threads + Wait),
+    alloc: Global,
+) {
     for (clients, all, sum) in [(4, 400, 400), (64, 6_400, 6_400)] {
-        let report = run(&rt, rt.alloc(), &plan(clients, 100), &OpenGate);
+        let report = run::<B, _, _>(rt, alloc, &plan(clients, 100), &OpenGate);
         let wanted = Numbers {
             received: all,
             left: 0,
@@ -83,7 +88,12 @@ fn clients_send_a_hundred_commands_each(rt: HostRuntime) {
 }
 
 #[test]
-fn plans_out_of_their_limits_are_refused(rt: HostRuntime) {
+fn clients_send_a_hundred_commands_each(rt: HostRuntime) {
+    sends_a_hundred_each::<RingTable>(&rt, rt.alloc());
+    sends_a_hundred_each::<SlotTable>(&rt, rt.alloc());
+}
+
+fn refuses_bad_plans<B: Closes + Drop + Sync>(rt: &(impl Abort + Threads + Wait), alloc: Global) {
     let lawful = plan(1, 1);
     let bad = [
         StormPlan {
@@ -118,9 +128,15 @@ fn plans_out_of_their_limits_are_refused(rt: HostRuntime) {
         StormPlan { turns: 0, ..lawful },
     ];
     for plan in bad.iter() {
-        let refused = run(&rt, rt.alloc(), plan, &OpenGate);
+        let refused = run::<B, _, _>(rt, alloc, plan, &OpenGate);
         assert_eq!(rt; refused, Err(StormFault::BadPlan));
     }
+}
+
+#[test]
+fn plans_out_of_their_limits_are_refused(rt: HostRuntime) {
+    refuses_bad_plans::<RingTable>(&rt, rt.alloc());
+    refuses_bad_plans::<SlotTable>(&rt, rt.alloc());
 }
 
 /// Client 0 sends its first command after client 1's first was answered, and client 1 its second after client 0's
@@ -148,13 +164,18 @@ impl Gate for InTurn {
     }
 }
 
-#[test]
-fn clients_send_as_the_gate_lets_them(rt: HostRuntime) {
+fn sends_in_turn<B: Closes + Drop + Sync>(rt: &(impl Abort + Threads + Wait), alloc: Global) {
     let gate = InTurn {
         answered: [AtomicBool::new(false), AtomicBool::new(false)],
     };
-    let report = run(&rt, rt.alloc(), &two_clients(10_000_000), &gate);
+    let report = run::<B, _, _>(rt, alloc, &two_clients(10_000_000), &gate);
     assert_eq!(rt; report, Ok(two_clients_report()));
+}
+
+#[test]
+fn clients_send_as_the_gate_lets_them(rt: HostRuntime) {
+    sends_in_turn::<RingTable>(&rt, rt.alloc());
+    sends_in_turn::<SlotTable>(&rt, rt.alloc());
 }
 
 /// Lets no client send.
@@ -171,8 +192,11 @@ impl Gate for Shut {
 
 #[test]
 fn turns_are_spent_at_a_gate_that_never_opens(rt: HostRuntime) {
-    let report = run(&rt, rt.alloc(), &two_clients(1_000), &Shut);
-    assert_eq!(rt; report, Err(StormFault::TurnsSpent));
+    let plan = two_clients(1_000);
+    let words = run::<RingTable, _, _>(&rt, rt.alloc(), &plan, &Shut);
+    assert_eq!(rt; words, Err(StormFault::TurnsSpent));
+    let slots = run::<SlotTable, _, _>(&rt, rt.alloc(), &plan, &Shut);
+    assert_eq!(rt; slots, Err(StormFault::TurnsSpent));
 }
 
 /// Notes whether both clients are inside the gate at one time.
@@ -208,15 +232,20 @@ impl Gate for Meeting {
     fn answered(&self, _client: u32, _number: u32) {}
 }
 
-#[test]
-fn clients_meet_inside_the_gate(rt: HostRuntime) {
+fn meets<B: Closes + Drop + Sync>(rt: &(impl Abort + Threads + Wait), alloc: Global) {
     let gate = Meeting {
         inside: [AtomicBool::new(false), AtomicBool::new(false)],
         met: AtomicBool::new(false),
     };
-    let report = run(&rt, rt.alloc(), &two_clients(1_000_000_000), &gate);
+    let report = run::<B, _, _>(rt, alloc, &two_clients(1_000_000_000), &gate);
     assert_eq!(rt; report, Ok(two_clients_report()));
     assert!(rt; gate.met.load(SeqCst));
+}
+
+#[test]
+fn clients_meet_inside_the_gate(rt: HostRuntime) {
+    meets::<RingTable>(&rt, rt.alloc());
+    meets::<SlotTable>(&rt, rt.alloc());
 }
 
 /// Keeps one client inside until the other's first command was answered.
@@ -248,16 +277,24 @@ impl Gate for Waiting {
     }
 }
 
-#[test]
-fn one_client_is_answered_while_the_other_waits(rt: HostRuntime) {
+fn answers_while_one_waits<B: Closes + Drop + Sync>(
+    rt: &(impl Abort + Threads + Wait),
+    alloc: Global,
+) {
     for client in 0..2 {
         let gate = Waiting {
             client,
             answered: AtomicBool::new(false),
             noted: AtomicBool::new(false),
         };
-        let report = run(&rt, rt.alloc(), &two_clients(1_000_000_000), &gate);
+        let report = run::<B, _, _>(rt, alloc, &two_clients(1_000_000_000), &gate);
         assert_eq!(rt; report, Ok(two_clients_report()));
         assert!(rt; gate.noted.load(SeqCst));
     }
+}
+
+#[test]
+fn one_client_is_answered_while_the_other_waits(rt: HostRuntime) {
+    answers_while_one_waits::<RingTable>(&rt, rt.alloc());
+    answers_while_one_waits::<SlotTable>(&rt, rt.alloc());
 }

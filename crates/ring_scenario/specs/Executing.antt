@@ -5,11 +5,11 @@ use Rattle.ring_layout.specs.declared.message.ClaimState.TheVariants.{Aborted, C
 use Rattle.ring_table.specs.ServiceSteps.{DrawsId, LoadsHeartbeat}
 use Rattle.ring_words.specs.declared.positions.Positions.{Positions}
 use Rattle.ring_rings.specs.Joining.{LoadsPositions}
-use Rattle.ring_conductor.specs.Storming.{IsPlan, IsReportOf}
-use Rattle.ring_conductor.specs.declared.storming.plan.StormFault.{StormFault}
-use Rattle.ring_conductor.specs.declared.storming.plan.StormFault.TheVariants.{BadPlan}
-use Rattle.ring_conductor.specs.declared.storming.plan.StormPlan.{StormPlan}
-use Rattle.ring_conductor.specs.declared.storming.plan.StormReport.{StormReport}
+use Rattle.ring_storm.specs.Storming.{IsPlan, IsReportOf}
+use Rattle.ring_storm.specs.declared.plan.StormFault.{StormFault}
+use Rattle.ring_storm.specs.declared.plan.StormFault.TheVariants.{BadPlan}
+use Rattle.ring_storm.specs.declared.plan.StormPlan.{StormPlan}
+use Rattle.ring_storm.specs.declared.plan.StormReport.{StormReport}
 use Rattle.ring_lines.specs.declared.call.Call.{Call}
 use Rattle.ring_lines.specs.declared.call.Call.TheVariants as call
 use Rattle.ring_lines.specs.declared.service_call.ServiceCall.{ServiceCall}

@@ -13,8 +13,8 @@ use Rattle.ring_counters.specs.declared.fault.BadId.{BadId}
 use Rattle.ring_counters.specs.declared.fault.IdFault.{IdFault}
 use Rattle.ring_counters.specs.declared.fault.IdFault.TheVariants as id
 use Rattle.ring_counters.specs.declared.fault.OutOfMemory.{OutOfMemory}
-use Rattle.ring_conductor.specs.declared.storming.plan.StormFault.{StormFault}
-use Rattle.ring_conductor.specs.declared.storming.plan.StormFault.TheVariants as storm
+use Rattle.ring_storm.specs.declared.plan.StormFault.{StormFault}
+use Rattle.ring_storm.specs.declared.plan.StormFault.TheVariants as storm
 
 -- the line of a refusal with this number; the rest begins with a space
 abbrev pub refused_text : ℤ → List ℕ → List ℕ

@@ -5,7 +5,7 @@ use Rattle.ring_counters.specs.declared.info.CounterInfo.{CounterInfo}
 use Rattle.ring_conductor.specs.declared.conductor.Work.{Work}
 use Rattle.ring_conductor.specs.declared.conductor.WorkStop.{WorkStop}
 use Rattle.ring_conductor.specs.declared.conductor.WorkStop.TheVariants as work
-use Rattle.ring_conductor.specs.declared.storming.plan.StormReport.{StormReport}
+use Rattle.ring_storm.specs.declared.plan.StormReport.{StormReport}
 use Rattle.ring_scenario.specs.Texts.{hex_text, number_text}
 
 -- why the conductor stopped

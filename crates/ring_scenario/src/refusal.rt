@@ -3,8 +3,8 @@ ghost use Rattle.std.specs.Prelude.{◌≡◌, IfOk, List, string_bytes, ℕ};
 ghost use Rattle.ring_scenario.specs.RefusalTexts.{claim_refused, id_refused, load_refused, memory_refused, put_refused, shares_refused, storm_refused, subscribe_refused, transmit_refused};
 
 use ring_board::{SubscribeFault, TransmitFault};
-use ring_conductor::StormFault;
 use ring_counters::{BadId, IdFault, NoShares, OutOfMemory};
+use ring_storm::StormFault;
 use ring_words::{ClaimFault, PutRange};
 use std::alloc::{AllocError, Global};
 

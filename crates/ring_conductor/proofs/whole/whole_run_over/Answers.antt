@@ -24,8 +24,7 @@ use Rattle.ring_conductor.specs.Asking.{IsHeard, client_seat, client_view}
 use Rattle.ring_conductor.specs.Conducting.{KeepsTheRest, consumer_of, ledger_of, manager_in, received_of, transmitter_of}
 use Rattle.ring_conductor.specs.Finishing.{IsWhole, joined_by, replies_of}
 use Rattle.ring_conductor.specs.Whole.{Concludes, opening_ledger, settled_message}
-use Rattle.ring_conductor.proofs.AccountLemmas.{account_as, account_in}
-use Rattle.ring_conductor.proofs.StormLemmas.{work_shares}
+use Rattle.ring_conductor.proofs.AccountLemmas.{account_as, account_in, work_shares}
 use Rattle.ring_conductor.proofs.WholeLemmas.{never_refused, two_folds, two_joined, two_reads, two_sent}
 use Rattle.ring_conductor.proofs.whole.whole_run_over.Goals as goal
 

@@ -1,0 +1,10 @@
+pub mod TurnLemmas
+pub mod LiveLemmas
+pub mod SeatLemmas
+pub mod MergeLemmas
+pub mod ReducedLemmas
+pub mod StampLemmas
+pub mod OrderLemmas
+pub mod HoldLemmas
+pub mod SumLemmas
+pub mod StormLemmas

@@ -1,0 +1,131 @@
+-- What a client of a storm does: command after command, each with its reply.
+use Rattle.std.specs.Prelude.{◌≡◌, ℕ, zero, suc, ◌==◌, ◌%◌, ◌^◌, pos, if◌then◌else◌, List, [], ◌∷◌, ◌++◌, codes}
+use Rattle.std.specs.Fmt.{decimal}
+use Rattle.ring_layout.specs.declared.message.ClaimState.TheVariants.{Committed}
+use Rattle.ring_table.specs.declared.claim.StagedClaim.{StagedClaim}
+use Rattle.ring_table.specs.declared.claim.Stage.TheVariants.{Stored}
+use Rattle.ring_table.specs.Owners.{interleaved}
+use Rattle.ring_table.specs.Staged.{AreRising}
+use Rattle.ring_table.specs.declared.view.Service.{Service}
+use Rattle.ring_rings.specs.Seats.{claims_of}
+use Rattle.ring_board.specs.declared.shared.view.Joined.{Joined}
+use Rattle.ring_board.specs.declared.shared.view.Taken.{Taken}
+use Rattle.ring_board.specs.Seats.{copies_of}
+use Rattle.ring_protocol.specs.declared.reply.Reply.{Reply}
+use Rattle.ring_protocol.specs.declared.reply.Reply.TheVariants.{Allocated, Done, Refused, Closed}
+use Rattle.ring_conductor.specs.declared.client.Client.{Client}
+use Rattle.ring_conductor.specs.Asking.{draws_of, producer_of, receiver_of}
+use Rattle.ring_protocol.specs.Command.{Instruction, Allocate, Set, spelling_of, type_id_of}
+use Rattle.ring_protocol.specs.Reply as reply
+
+-- the label of a client's counter: `c` and the client's number in decimal digits, without a leading zero
+abbrev pub label_of : ℕ → List ℕ
+label_of client = codes "c" ++ decimal client
+
+-- the command with this number that asks for a counter with this label, or sets the counter with this id to the number
+abbrev pub numbered : List ℕ → ℕ → ℕ → ℕ → Instruction
+numbered label counter number correlation =
+    if number == 1 then Allocate correlation (pos 1) [] label else Set correlation counter (pos number)
+
+-- a client's command: its first allocates a counter with its label, each further one sets a counter to its number
+abbrev pub turn_of : ℕ → ℕ → ℕ → ℕ → Instruction
+turn_of client counter number correlation = numbered (label_of client) counter number correlation
+
+-- the last number that a client sets by this many commands: none by the first alone, and its counter has 0
+abbrev pub last_set : ℕ → ℕ
+last_set commands = if commands == 1 then 0 else commands
+
+-- the claims that a client made, the numbers that it drew, and the copies that it has
+abbrev pub claims_by : Client → List StagedClaim
+claims_by c = claims_of (producer_of c)
+
+abbrev pub draws_by : Client → List ℕ
+draws_by c = draws_of (producer_of c)
+
+abbrev pub copies_by : Client → List Taken
+copies_by c = copies_of (receiver_of c)
+
+-- the second list begins with the first
+abbrev pub Lengthens : {A : Type 0} → List A → List A → Type 0
+Lengthens {A} old new = (more : List A) × (new ≡ old ++ more)
+
+-- the claims have one more, the committed command
+pub record Adds (c : Instruction) (old new : List StagedClaim) : Type 0 where
+  pub claim : StagedClaim
+  pub added : new ≡ old ++ claim ∷ []
+  pub message : claim.message ≡ record { type_id = type_id_of c; body = spelling_of c }
+  pub committed : claim.stage ≡ Stored Committed
+
+-- the copies have some more, of which the last spells this reply, with this correlation id
+pub record IsAnswered (correlation : ℕ) (r : Reply) (old new : List Taken) : Type 0 where
+  pub passed : List Taken
+  pub copy : Taken
+  pub added : new ≡ old ++ (passed ++ copy ∷ [])
+  pub spells : reply.Spells copy.message.type_id copy.message.body r
+  pub answers : reply.correlation_id_of r ≡ correlation
+
+-- what a client did: its claims, the numbers that it drew, its copies, and the id of its counter, as it knows it
+pub record Deeds : Type 0 where
+  pub claims : List StagedClaim
+  pub draws : List ℕ
+  pub copies : List Taken
+  pub counter : ℕ
+
+-- each list begins with the old one
+pub record Extends (old new : Deeds) : Type 0 where
+  pub claims : Lengthens old.claims new.claims
+  pub draws : Lengthens old.draws new.draws
+  pub copies : Lengthens old.copies new.copies
+
+-- the id of a client's counter after a reply: the one that was allocated, or as before
+abbrev pub counter_told : Reply → ℕ → ℕ
+counter_told (Allocated correlation id) counter = id
+counter_told (Done correlation) counter = counter
+counter_told (Refused correlation code) counter = counter
+counter_told (Closed correlation freed) counter = counter
+
+-- A client drew one number, and its command was sent with that correlation id; if it sets a counter, this is the one
+-- that the client knew. Then a reply with that id came, which may have the id of its counter
+pub record Turns (client number : ℕ) (old new : Deeds) : Type 0 where
+  pub draw : ℕ
+  pub drawn : new.draws ≡ old.draws ++ draw ∷ []
+  pub sent : Adds (turn_of client old.counter number (draw % 2 ^ 64)) old.claims new.claims
+  pub told : Reply
+  pub heard : IsAnswered (draw % 2 ^ 64) told old.copies new.copies
+  pub counter : new.counter ≡ counter_told told old.counter
+
+-- the deeds are the first n commands of a client and no others, each with its reply among the copies, in order
+abbrev pub AreTurns : ℕ → ℕ → Deeds → Type 0
+AreTurns client zero d = (d.claims ≡ []) × (d.draws ≡ []) × (d.counter ≡ 0)
+AreTurns client (suc n) d = (before : Deeds) × AreTurns client n before × Turns client (suc n) before d
+
+-- the deeds begin with the first n commands of a client, each with its reply
+pub record AreAnswered (client n : ℕ) (d : Deeds) : Type 0 where
+  pub before : Deeds
+  pub turns : AreTurns client n before
+  pub more : Extends before d
+
+-- The claims, receivers and services of some clients, and then the same with those of one client more: its claims,
+-- whose places rise, are all its commands and no others, each with its reply among its receiver's copies, and its
+-- service has the numbers that it drew
+pub record AddsClient (commands client : ℕ) (claims more_claims : List StagedClaim)
+    (receivers more_receivers : List Joined) (services more_services : List Service) : Type 0 where
+  pub own : Deeds
+  pub turns : AreTurns client commands own
+  pub rising : AreRising own.claims
+  pub together : more_claims ≡ interleaved claims own.claims
+  pub receiver : Joined
+  pub joined : more_receivers ≡ receivers ++ receiver ∷ []
+  pub copies : Lengthens own.copies receiver.copies
+  pub service : Service
+  pub served : more_services ≡ services ++ service ∷ []
+  pub draws : service.draws ≡ own.draws
+
+-- these claims, put together by place, are all commands of the clients below a number, and these are the clients'
+-- receivers and services, the first client's first
+abbrev pub AreAllTurns : ℕ → ℕ → List StagedClaim → List Joined → List Service → Type 0
+AreAllTurns commands zero claims receivers services = (claims ≡ []) × (receivers ≡ []) × (services ≡ [])
+AreAllTurns commands (suc client) more_claims more_receivers more_services =
+    (claims : List StagedClaim) × (receivers : List Joined) × (services : List Service)
+    × AreAllTurns commands client claims receivers services
+    × AddsClient commands client claims more_claims receivers more_receivers services more_services

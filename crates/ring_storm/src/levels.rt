@@ -1,0 +1,230 @@
+//! How the threads of a storm are started and joined.
+ghost use Rattle.std.specs.Prelude.{◌≡◌, ◌+◌, ◌<◌, ◌≤◌, [], None, Some};
+ghost use Rattle.ring_storm.specs.declared.seats.Failure.TheVariants.{OutOfMemory};
+ghost use Rattle.ring_rings.specs.Seats.{shares_of, IsConsumerOf};
+ghost use Rattle.ring_conductor.specs.Conducting.{IsConductorOf};
+ghost use Rattle.ring_conductor.specs.Finishing.{joined_by};
+ghost use Rattle.ring_storm.specs.Storming.{HasConducted, HasCounters, HasSeatsBack, HasWorked, IsClientAt};
+ghost use Rattle.ring_storm.specs.Storming.{IsClientOf, IsEndAt, IsFreshAt, IsNew, IsPlan, TakesSeats};
+ghost use Rattle.ring_storm.specs.Storming.{all_commands, board_shares_of, failure_after, taken_by};
+
+use crate::conductor::ConductorEnd;
+use crate::gate::Gate;
+use crate::promises::{ClientBack, ConductorBack};
+use crate::seats::{Failure, Hub, LevelEnd, StormClient};
+use crate::shared::Shared;
+use core::thread::Stack;
+use ring_rings::{Closes, Steps};
+use std::alloc::Global;
+use std::snapshot::Snapshot;
+use std::thread::{Scope, Threads};
+
+/// The stack of a thread that is to start. If the gate refuses the thread, the stack is larger than any system gives,
+/// so that it cannot be started.
+fn stack_of<G: Gate>(gate: &G, thread: u32) -> Stack {
+    if gate.may_start(thread) {
+        Stack::new()
+    } else {
+        Stack::new().stack_size(usize::MAX)
+    }
+}
+
+/// A level that goes no deeper, since memory ran out or a thread could not be started.
+fn give_up(hub: Hub) -> LevelEnd
+    ensures hub { result.hub ≡ hub }
+    ensures seen { result.seen ≡ 0 }
+    ensures failure { result.failure ≡ Some OutOfMemory }
+{
+    LevelEnd {
+        hub,
+        seen: 0,
+        failure: Some(Failure::OutOfMemory),
+    }
+}
+
+/// The innermost level: the conductor, on a thread of its own.
+fn conduct<'s, E, R: Threads, G: Gate + Sync, B: Closes + Sync>(
+    scope: &'s Scope<'s, E>,
+    rt: &'s R,
+    shared: Shared<'s, G, B>,
+    hub: Hub,
+) -> LevelEnd
+    requires plan { IsPlan shared.plan }
+    requires hub { IsFreshAt shared hub }
+    ensures hub { IsFreshAt shared.entry result.hub }
+    ensures producer { result.hub.producer ≡ hub.producer }
+    ensures receivers { board_shares_of result.hub.conductor ≡ board_shares_of hub.conductor }
+    ensures seen { result.seen ≡ 0 }
+    ensures done { (result.failure ≡ None) → all_commands shared.entry.plan ≤ taken_by result.hub.conductor }
+{
+    let Hub {
+        producer,
+        conductor,
+    } = hub;
+    // The closure takes plain references, since nothing is known in it of a struct that holds references.
+    let Shared {
+        ring,
+        board,
+        values,
+        gate,
+        stopped,
+        plan,
+    } = shared;
+    let given = Snapshot::of(&conductor);
+    let started = stack_of(gate, plan.clients).spawn_scoped_with(
+        scope,
+        ConductorBack {
+            ring,
+            board,
+            values,
+            given,
+            plan,
+        },
+        move || -> ConductorEnd
+            requires { IsPlan plan × IsConductorOf IsConsumerOf ring.now board.now values.now conductor
+                × HasCounters plan conductor × (joined_by conductor ≡ []) }
+            ensures conducted { HasConducted plan ring.entry.now board.entry.now values.entry.now result }
+            ensures shares { board_shares_of result.conductor ≡ board_shares_of conductor }
+        {
+            let shared = Shared {
+                ring,
+                board,
+                values,
+                gate,
+                stopped,
+                plan,
+            };
+            shared.run_conductor(conductor)
+        },
+    );
+    match started {
+        Ok(child) => {
+            let ConductorEnd { conductor, is_done } = child.join(rt);
+            LevelEnd {
+                hub: Hub {
+                    producer,
+                    conductor,
+                },
+                seen: 0,
+                failure: if is_done {
+                    None
+                } else {
+                    Some(Failure::TurnsSpent)
+                },
+            }
+        }
+        Err(closure) => {
+            // The closure ends at once, since all are stopped, and gives the conductor back.
+            shared.stop();
+            let ConductorEnd { conductor, .. } = (closure.value)();
+            give_up(Hub {
+                producer,
+                conductor,
+            })
+        }
+    }
+}
+
+/// Starts the clients below a number, each on a thread of its own, and after them the conductor. Each level starts one
+/// client and calls the next level; then it joins the thread and takes the seats back.
+pub(crate) fn level<'s, E, R: Threads, G: Gate + Sync, B: Closes + Sync>(
+    scope: &'s Scope<'s, E>,
+    rt: &'s R,
+    alloc: Global,
+    shared: Shared<'s, G, B>,
+    remaining: u32,
+    mut hub: Hub,
+) -> LevelEnd
+    requires plan { IsPlan shared.plan × (remaining ≤ 64) }
+    requires hub { IsFreshAt shared hub }
+    requires shares { (remaining < shares_of hub.producer) × (remaining < board_shares_of hub.conductor) }
+    ensures end { IsEndAt shared.entry remaining result }
+    ensures seats { HasSeatsBack hub result.hub }
+{
+    if remaining == 0 {
+        return conduct(scope, rt, shared, hub);
+    }
+    let index = remaining - 1;
+    let Ok(client) = shared.split_client(alloc, &mut hub, index) else {
+        shared.stop();
+        return give_up(hub);
+    };
+    let Shared {
+        ring,
+        board,
+        values,
+        gate,
+        stopped,
+        plan,
+    } = shared;
+    let started = stack_of(gate, index).spawn_scoped_with(
+        scope,
+        ClientBack {
+            ring,
+            board,
+            plan,
+            index,
+        },
+        move || -> StormClient
+            requires client { IsClientOf ring.now board.now client }
+            requires new { IsNew client }
+            ensures client { IsClientOf ring.entry.now board.entry.now result }
+            ensures worked { HasWorked plan.commands client.index result }
+        {
+            let shared = Shared {
+                ring,
+                board,
+                values,
+                gate,
+                stopped,
+                plan,
+            };
+            shared.run_client(client)
+        },
+    );
+    let (end, client) = match started {
+        Ok(child) => {
+            let end = level(scope, rt, alloc, shared, index, hub);
+            (end, child.join(rt))
+        }
+        Err(closure) => {
+            // The closure ends at once, since all are stopped, and gives the seats back.
+            shared.stop();
+            let client = (closure.value)();
+            (give_up(hub), client)
+        }
+    };
+    gather(shared, index, end, client)
+}
+
+/// Takes a client's seats back. It has spent its turns if it did not get all its replies.
+fn gather<G, B: Steps>(
+    shared: Shared<'_, G, B>,
+    index: u32,
+    end: LevelEnd,
+    client: StormClient,
+) -> LevelEnd
+    requires plan { IsPlan shared.plan × (index < 64) }
+    requires end { IsEndAt shared index end }
+    requires client { IsClientAt shared client }
+    requires worked { HasWorked shared.plan.commands index client }
+    ensures end { IsEndAt shared.entry (index + 1) result }
+    ensures seats { TakesSeats client end.hub result.hub }
+    ensures failure { result.failure ≡ failure_after client.seen shared.entry.plan.commands end.failure }
+{
+    let LevelEnd {
+        mut hub,
+        seen,
+        failure,
+    } = end;
+    let replies = shared.join_client(&mut hub, client);
+    let seen = seen + replies;
+    if replies < u64::from(shared.plan.commands) {
+        return LevelEnd {
+            hub,
+            seen,
+            failure: Some(failure.unwrap_or(Failure::TurnsSpent)),
+        };
+    }
+    LevelEnd { hub, seen, failure }
+}

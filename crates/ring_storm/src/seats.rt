@@ -1,0 +1,65 @@
+//! The clients and the conductor of a storm, with their seats.
+ghost use Rattle.std.specs.Prelude.{◌≡◌, ◌≢◌};
+ghost use Rattle.ring_storm.specs.declared.plan.StormFault.TheVariants.{BadPlan};
+ghost use Rattle.ring_storm.specs.Storming.{fault_of};
+
+use crate::plan::StormFault;
+use ring_conductor::{Client, Conductor, Finished};
+use ring_rings::Producer;
+
+/// A client of a storm.
+#[derive(Drop)]
+pub(crate) struct StormClient {
+    /// Its number, from 0 on.
+    pub(crate) index: u32,
+    pub(crate) client: Client,
+    /// The id of its counter, once that is allocated.
+    pub(crate) counter: u32,
+    /// The number of its commands that had their replies.
+    pub(crate) seen: u64,
+}
+
+/// The seats from which those of the clients are split.
+#[derive(Drop)]
+pub(crate) struct Hub {
+    pub(crate) producer: Producer,
+    pub(crate) conductor: Conductor,
+}
+
+/// Why a storm does not go on.
+#[derive(Clone, Copy)]
+pub(crate) enum Failure {
+    /// Out of memory, or a thread could not be started.
+    OutOfMemory,
+    /// A wait took the number of turns that it was allowed.
+    TurnsSpent,
+}
+
+impl From<Failure> for StormFault {
+    ghost from_gives = { λ failure fault. (fault ≡ fault_of failure) × (fault ≢ BadPlan) };
+
+    fn from(failure: Failure) -> Self {
+        match failure {
+            Failure::OutOfMemory => StormFault::OutOfMemory,
+            Failure::TurnsSpent => StormFault::TurnsSpent,
+        }
+    }
+}
+
+/// What comes back from the clients and the conductor, with all their seats.
+#[derive(Drop)]
+pub(crate) struct LevelEnd {
+    pub(crate) hub: Hub,
+    /// The number of replies that came to the clients that had sent their commands.
+    pub(crate) seen: u64,
+    pub(crate) failure: Option<Failure>,
+}
+
+/// What is left when all threads have ended and the conductor has finished.
+#[derive(Drop)]
+pub(crate) struct StormEnd {
+    pub(crate) finished: Finished,
+    /// The number of replies that came to the clients that had sent their commands.
+    pub(crate) seen: u64,
+    pub(crate) failure: Option<Failure>,
+}

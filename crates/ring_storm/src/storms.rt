@@ -1,0 +1,154 @@
+//! Clients on threads of their own, against one conductor.
+ghost use Rattle.std.specs.Prelude.{◌≡◌, ◌↔◌, IfOk, Err};
+ghost use Rattle.ring_storm.specs.declared.plan.StormFault.TheVariants.{BadPlan};
+ghost use Rattle.ring_storm.specs.Storming.{HasAll, HasFinished, IsEndOf, IsFreshOf, IsPlan, IsReportOf};
+
+use crate::gate::Gate;
+use crate::levels::level;
+use crate::plan::{StormFault, StormPlan, StormReport};
+use crate::report::report;
+use crate::seats::{Hub, LevelEnd, StormEnd};
+use crate::shared::Shared;
+use ring_board::Board;
+use ring_conductor::{Conductor, finish};
+use ring_counters::{CounterValues, CountersManager};
+use ring_rings::{Closes, ManyToOne, Ring, RingTable};
+use std::alloc::Global;
+use std::sync::Wait;
+use std::sync::atomic::AtomicBool;
+use std::thread;
+use std::thread::Threads;
+
+/// Runs the clients of a plan against one conductor, all on threads of their own, and reports what came of it.
+///
+/// Each client sends its commands one by one through a many-to-one ring, as the gate lets it, and waits for each reply
+/// on a broadcast buffer that has room for all of them. Its first command allocates a counter of type 1 with an empty
+/// key and the label `c` and the client's number; each later one sets that counter to the command's number. The
+/// conductor works at the moment 0 until it has taken all commands. Then all endpoints are joined and the conductor
+/// finishes, whatever came before. So the report's `sum` follows from the plan: each client's counter ends at the
+/// number of its commands, or at 0 if it sends one.
+///
+/// Returns, in this order: `BadPlan` if a number of the plan is not allowed, before anything is done; `OutOfMemory` if
+/// memory runs out, or if a thread could not be started or was kept from it by the gate; `TurnsSpent` if a wait took
+/// the number of turns that the plan allows. All threads have ended by then. It may wait.
+pub fn storm<R: Threads + Wait, G: Gate + Sync>(
+    rt: &R,
+    alloc: Global,
+    plan: &StormPlan,
+    gate: &G,
+) -> Result<StormReport, StormFault>
+    ensures bad_plan { (result ≡ Err BadPlan) ↔ (IsPlan plan.now → ⊥) }
+    ensures report { IfOk result (IsReportOf plan.now) }
+{
+    storm_over::<RingTable, R, G>(rt, alloc, plan, gate)
+}
+
+/// `storm` over a ring of either form: with a `SlotTable` bodies lie in plain memory.
+pub fn storm_over<B: Closes + Drop + Sync, R: Threads + Wait, G: Gate + Sync>(
+    rt: &R,
+    alloc: Global,
+    plan: &StormPlan,
+    gate: &G,
+) -> Result<StormReport, StormFault>
+    ensures bad_plan { (result ≡ Err BadPlan) ↔ (IsPlan plan.now → ⊥) }
+    ensures report { IfOk result (IsReportOf plan.now) }
+{
+    if !plan.is_lawful() {
+        return Err(StormFault::BadPlan);
+    }
+    let Ok((ring, producer, consumer)) = Ring::<ManyToOne, B>::new(alloc, plan.ring) else {
+        return Err(StormFault::OutOfMemory);
+    };
+    let Ok((board, transmitter)) = Board::new(alloc, plan.board_capacity()) else {
+        return Err(StormFault::OutOfMemory);
+    };
+    let Ok((values, counters)) = CountersManager::new(alloc, plan.clients, 0) else {
+        return Err(StormFault::OutOfMemory);
+    };
+    let hub = Hub {
+        producer,
+        conductor: Conductor::new(consumer, transmitter, counters),
+    };
+    let StormEnd {
+        finished,
+        seen,
+        failure,
+    } = run(rt, alloc, plan, gate, ring, board, values, hub);
+    match failure {
+        Some(failure) => Err(StormFault::from(failure)),
+        None => Ok(report(finished, seen)),
+    }
+}
+
+/// Runs all threads, and finishes with what they give back, whether all is done or some gave up.
+fn run<B: Closes + Drop + Sync, R: Threads + Wait, G: Gate + Sync>(
+    rt: &R,
+    alloc: Global,
+    plan: &StormPlan,
+    gate: &G,
+    ring: Ring<ManyToOne, B>,
+    board: Board,
+    values: CounterValues,
+    hub: Hub,
+) -> StormEnd
+    requires plan { IsPlan plan.now }
+    requires hub { IsFreshOf plan.now ring board values hub }
+    requires whole { HasAll hub }
+    ensures { HasFinished plan.now ring board values result }
+{
+    let LevelEnd { hub, seen, failure } = run_threads(
+        rt, alloc, plan, gate, &ring, &board, &values, hub,
+    );
+    let finished = match finish(ring, board, values, hub.conductor, hub.producer) {
+        Ok(finished) => finished,
+        Err(_refused) => unreachable!(),
+    };
+    StormEnd {
+        finished,
+        seen,
+        failure,
+    }
+}
+
+/// Runs all threads, and takes their seats back.
+fn run_threads<B: Closes + Sync, R: Threads + Wait, G: Gate + Sync>(
+    rt: &R,
+    alloc: Global,
+    plan: &StormPlan,
+    gate: &G,
+    ring: &Ring<ManyToOne, B>,
+    board: &Board,
+    values: &CounterValues,
+    hub: Hub,
+) -> LevelEnd
+    requires plan { IsPlan plan.now }
+    requires hub { IsFreshOf plan.now ring.now board.now values.now hub }
+    requires whole { HasAll hub }
+    ensures end { IsEndOf plan.now ring.now board.now values.now plan.now.clients result }
+    ensures whole { HasAll result.hub }
+{
+    let flag = AtomicBool::new(false);
+    let stopped = &flag;
+    let plan = *plan;
+    thread::scope(
+        thread::scope_env(),
+        rt,
+        |scope| -> LevelEnd
+            requires plan { IsPlan plan }
+            requires hub { IsFreshOf plan ring.now board.now values.now hub }
+            requires whole { HasAll hub }
+            ensures end { IsEndOf plan ring.entry.now board.entry.now values.entry.now plan.clients result }
+            ensures whole { HasAll result.hub }
+        {
+            let shared = Shared {
+                ring,
+                board,
+                values,
+                gate,
+                stopped,
+                plan,
+            };
+            level(scope, rt, alloc, shared, plan.clients, hub)
+        },
+    )
+}
