@@ -107,7 +107,22 @@ pub fn copy_slots(
     ensures copies { (body : List ℕ) → HasBody first body seat.old.me.1 → All (λ b. b < 256) body
         → Begins body scratch.new }
 {
-    for k in 0..count {
+    // Four are read and then stored, so that the compiler makes wide moves of them.
+    for turn in 0..count / 4 {
+        let a = 4 * turn;
+        let b = a + 1;
+        let c = b + 1;
+        let d = c + 1;
+        let w = look_slot(ring, seat, first + a);
+        let x = look_slot(ring, seat, first + b);
+        let y = look_slot(ring, seat, first + c);
+        let z = look_slot(ring, seat, first + d);
+        put_word(scratch, 8 * a, w);
+        put_word(scratch, 8 * b, x);
+        put_word(scratch, 8 * c, y);
+        put_word(scratch, 8 * d, z);
+    }
+    for k in count / 4 * 4..count {
         let word = look_slot(ring, seat, first + k);
         put_word(scratch, 8 * k, word);
     }
