@@ -1,4 +1,4 @@
--- No message changes the number of counters, or their reuse timeout.
+-- No message changes the number of counters or their reuse timeout; no more counters are live than there are.
 use Rattle.std.proofs.Common.{◌≡◌, ◌∙◌, ℕ, ◌+◌, ◌≤◌, ◌==◌, List, [], ◌∷◌, length, Bool, true, false, cond, Option, Some, None, Result, Ok, Err, refl, sym, ap, arith}
 use Rattle.std.specs.Prelude.{fold}
 use Rattle.std.proofs.Math.ListN.{length-set}

@@ -24,7 +24,7 @@ pub struct Numbers {
     pub sum: i64,
 }
 
-/// Runs a storm over a ring of one form. It promises nothing, so that the tests are proved without what a storm promises.
+/// Runs a storm over a ring of one form. It has no contract, so that the tests do not depend on a storm's.
 pub fn run<B: Closes + Drop + Sync, R: Threads + Wait, G: Gate + Sync>(
     rt: &R,
     alloc: Global,

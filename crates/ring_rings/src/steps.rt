@@ -156,7 +156,7 @@ pub trait Steps: Sized {
         ensures told { MovesTail capacity old new wanted producer.old.me.0 result producer.new.me.0 };
 
     /// Moves the tail of a sole producer to `new`, which makes a claim of some type id and length with the right span. The
-    /// claimed header fixes both.
+    /// claim's first header fixes both.
     fn store_tail(&self, producer: &mut RingSeat, capacity: u32, new: u64, wanted: Wanted)
         requires seat { IsSeatOf (table_of self.now) (key_of self.now) capacity producer.old }
         requires sole { producer.old.me.0.producer.shares ≡ all_shares }

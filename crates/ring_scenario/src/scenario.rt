@@ -28,10 +28,10 @@ pub fn run_scenario<R: AllocGlobal + Threads + Wait, I: Read, O: Write>(
     reader: &mut I,
     writer: &mut O,
 ) -> Result<(), RunFault>
-    // The last line that is no blank one is `end`.
+    // The last line that is not blank is `end`.
     ensures ended { OnOk result (IfSome (I.remaining reader.old) IsEnded) }
 
-    // The lines before it ran, each once and in order, and what they and `end` printed is what was written.
+    // The lines before it ran, each once and in order. What was written is what they and `end` printed.
     ensures ran { OnOk result (IfSome (I.remaining reader.old) (λ text.
         RunsScenario options.now text (O.contents writer.old) (O.contents writer.new))) }
 
@@ -49,7 +49,7 @@ pub fn run_scenario<R: AllocGlobal + Threads + Wait, I: Read, O: Write>(
     run_text(rt, alloc, runner, input.as_slice(), writer)
 }
 
-/// Executes the lines of a text in order, closes what the runner holds, and says how it ended.
+/// Executes the lines of a text in order, closes what the runner holds, and writes how it ended.
 fn run_text<R: Threads + Wait, O: Write>(
     rt: &R,
     alloc: Global,

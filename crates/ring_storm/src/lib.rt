@@ -2,7 +2,7 @@
 //!
 //! - `storm`: runs the clients of a `StormPlan`, and reports what came of it. `storm_over` takes a ring of either form.
 //! - `StormReport`, `StormFault`: what a storm did, and why it gives no report.
-//! - `Gate`: decides when a client may send, and which threads start. `OpenGate` lets all go.
+//! - `Gate`: decides when a client may send, and which threads start. `OpenGate` never makes them wait.
 #![tactic(auto)]
 
 mod client;

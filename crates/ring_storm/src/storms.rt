@@ -43,7 +43,7 @@ pub fn storm<R: Threads + Wait, G: Gate + Sync>(
     storm_over::<RingTable, R, G>(rt, alloc, plan, gate)
 }
 
-/// `storm` over a ring of either form: with a `SlotTable` bodies lie in plain memory.
+/// Does what `storm` does, over a ring of either form. With `SlotTable` bodies lie in plain memory.
 pub fn storm_over<B: Closes + Drop + Sync, R: Threads + Wait, G: Gate + Sync>(
     rt: &R,
     alloc: Global,

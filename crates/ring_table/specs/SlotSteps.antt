@@ -103,6 +103,7 @@ pub record HasLast (place : ℕ) (v : View) : Type 0 where
   pub place_is : message.place ≡ place
   pub ahead : v.consumer.cleared ≤ message.place
 
+-- no header of the claim is stored
 abbrev pub IsPadded : StagedClaim → Type 0
 IsPadded c = c.stage ≡ Padded
 

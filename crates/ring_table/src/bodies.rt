@@ -149,7 +149,7 @@ pub fn store_claimed_slots(
     give_body(ring, producer, capacity, place);
 }
 
-/// Writes the whole body of a claim into its slots, and then stores its header, which is the only one. The claim is
+/// Writes the whole body of a claim into its slots, and then stores its committed header and no other. The claim is
 /// committed from then on, and has this body.
 #[inline(always)]
 pub fn write_slots(

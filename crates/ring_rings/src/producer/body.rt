@@ -73,7 +73,7 @@ fn store_body(
     }
 }
 
-/// Stores the header and the whole body of the newest claim, and commits it.
+/// Stores the claimed header and the whole body of the newest claim, and then commits it.
 #[inline(always)]
 pub(crate) fn store_record(
     words: &SharedRing<InWords>,

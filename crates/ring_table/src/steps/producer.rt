@@ -60,7 +60,7 @@ pub fn move_tail<M: Mode>(
 }
 
 /// Moves the tail of a sole producer to `new`, which makes a claim of some type id and length with the right span. The
-/// claimed header fixes both.
+/// claim's first header fixes both.
 pub fn store_tail<M: Mode>(
     ring: &SharedRing<M>,
     producer: &mut RingSeat,
