@@ -1,9 +1,7 @@
 //! What was found in memory.
 use crate::fault::ShowFault;
 use crate::show::print_text;
-use ring_report::{Bodies, Cell, Report, Section, View, words_of};
-use ring_snapshot::formatted_header;
-use std::alloc::Global;
+use ring_report::{Bodies, Cell, Report, Section, View, formatted_words, words_of};
 use std::fmt::Write;
 use std::io::Input;
 use std::rt::Files;
@@ -111,16 +109,6 @@ pub fn add_counter(found: &mut Vec<Found>, new: Found) -> Result<(), ShowFault<'
     }
     found.push(new)?;
     Ok(())
-}
-
-/// The words of memory with each header as the format has it. A ring whose bodies lie apart is listed by these, without
-/// its bodies; and so is one whose bodies do not.
-pub fn formatted_words(alloc: Global, words: &[u64]) -> Result<Vec<u64>, ShowFault<'static>> {
-    let mut formatted = Vec::new(alloc);
-    for word in words {
-        formatted.push(formatted_header(*word))?;
-    }
-    Ok(formatted)
 }
 
 /// The lines of a ring or a broadcast buffer.

@@ -1,10 +1,8 @@
 //! Reading what a command line names, and printing it once.
 use crate::fault::ShowFault;
 use crate::options::{Format, Options, Subject};
-use crate::settled::{Words, add_unsettled, ring_words, settled_words};
-use ring_report::{Report, section_words};
-use std::io;
-use std::io::{Input, Write};
+use ring_report::{Report, Words, add_unsettled, ring_words, section_words, settled_words};
+use std::io::Input;
 use std::process::ExitCode;
 use std::rt::Files;
 
@@ -40,10 +38,10 @@ pub fn report_of<'a, R: AllocGlobal + Files + Input>(
 
 /// Prints a text on standard output.
 pub fn print_text(rt: &impl Print, text: &str) -> Result<(), ShowFault<'static>> {
-    let mut output = io::writer(rt);
-    output
-        .write_all(text.as_bytes())
-        .or(Err(ShowFault::OutputUnwritten))
+    match rt.write_all(text.as_bytes()) {
+        Ok(()) => Ok(()),
+        Err(_unwritten) => Err(ShowFault::OutputUnwritten),
+    }
 }
 
 /// Prints a report, and then its findings on standard error. Returns whether there are none.
