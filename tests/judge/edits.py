@@ -29,7 +29,7 @@ class Edit:
         self.targets = []  # the functions that it changes
         self.spans = []  # (file, first line, last line) of these functions, or of the line itself
         self.is_shared = False  # whether it changes what other functions can see
-        self.in_place = False  # whether it was tried on a copy of its function, which told nothing
+        self.in_place = False  # whether it was tried on a copy of its function, which decided nothing
         self.is_unchanged = False  # whether it is no edit, and only tries a copy
         self.verdict, self.why = None, ""
 
@@ -49,9 +49,9 @@ class Edit:
         return {it.key() for it in self.targets}
 
     def apart(self, has_others=False):
-        """Has it tried in its place, since a copy told nothing. Of a copy that nothing changes that is the verdict.
+        """Has it tried in its place, since a copy decided nothing. Of a copy that nothing changes that is the verdict.
 
-        has_others: others were tried in their place, and may be why the copy told nothing.
+        has_others: others were tried in their place, and may be why the copy decided nothing.
         """
         self.in_place, self.verdict = not self.is_unchanged, "bad" if self.is_unchanged and not has_others else None
         self.why = self.why or "its copy does not compile"
