@@ -27,20 +27,29 @@ fn answer(board: &Board, transmitter: &mut Transmitter, reply: &Reply)
         .unwrap();
 }
 
+/// Applies a command and replies to it. Returns `Abort` and does nothing if a reply has no room.
+fn serve(serving: &mut Serving, type_id: i32, body: &[u8]) -> Action
+    requires ready { IsReady serving.old }
+    ensures ready { IsReady serving.new }
+    ensures acts { ActsOn serving.old (record { type_id = type_id; body = body.now }) serving.new result }
+{
+    let room = serving
+        .board
+        .check(serving.transmitter, type_ids::REFUSED, LONGEST_REPLY);
+    if room.is_err() {
+        return Action::Abort;
+    }
+    let reply = apply(serving.counters, serving.values, serving.now, type_id, body);
+    answer(serving.board, serving.transmitter, &reply);
+    Action::Continue
+}
+
 impl Handler for Serving<'_> {
     ghost ready = { λ s. IsReady s };
 
     ghost step = { λ s m t a. ActsOn s m t a };
 
     fn on_message(&mut self, type_id: i32, body: &[u8]) -> Action {
-        let room = self
-            .board
-            .check(self.transmitter, type_ids::REFUSED, LONGEST_REPLY);
-        if room.is_err() {
-            return Action::Abort;
-        }
-        let reply = apply(self.counters, self.values, self.now, type_id, body);
-        answer(self.board, self.transmitter, &reply);
-        Action::Continue
+        serve(self, type_id, body)
     }
 }
