@@ -197,13 +197,18 @@ def keep(crate, own, total):
         it.write(total)
 
 
+def seconds_of(crate):
+    """Returns about how long a check of a crate from nothing takes, by the length of its sources."""
+    files = [f"{at}/{it}" for at, _, names in os.walk(f"{TOP}/crates/{crate}/src") for it in names]
+    return sum(len(read(it)) for it in files) / 300
+
+
 def builds(run, crates):
     """Returns a task for each of these crates and of those below that builds it, if it is not built."""
     tasks = {}
     for crate in {below for it in crates for below in run.all_below(it)}:
         is_built = subprocess.run([f"{TOP}/build", "--stands", crate], stdout=subprocess.DEVNULL).returncode == 0
-        files = [f"{at}/{it}" for at, _, names in os.walk(f"{TOP}/crates/{crate}/src") for it in names]
-        seconds = 0 if is_built else sum(len(read(it)) for it in files) / 300
+        seconds = 0 if is_built else seconds_of(crate)
         call = (lambda: None,) if is_built else (run.build, crate)
         run.builds_left += not is_built
         tasks[crate, "build"] = ([(it, "build") for it in run.deps(crate)], seconds, *call)

@@ -1,11 +1,10 @@
 //! The conductor, and what it says of its work.
 pub(crate) mod apply;
-pub(crate) mod duty;
-pub(crate) mod handle;
 pub(crate) mod heartbeat;
-pub(crate) mod listen;
 pub(crate) mod run;
-pub(crate) mod serve;
+pub(crate) mod serving;
+pub(crate) mod subscriptions;
+pub(crate) mod working;
 
 ghost use Rattle.std.specs.Prelude.{◌≡◌, ◌+◌, ◌*◌, ◌≤◌, length};
 ghost use Rattle.ring_rings.specs.Seats.{taken_of};

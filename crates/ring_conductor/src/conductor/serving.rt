@@ -1,4 +1,4 @@
-//! One command: applied, and replied to.
+//! The handler that takes the commands of a read: each is applied, and replied to.
 
 ghost use Rattle.std.specs.Prelude.{◌≡◌, ◌≤◌, length};
 ghost use Rattle.ring_board.specs.Seats.{IsTransmitterOf, view_of, capacity_of, tail_of};
@@ -8,10 +8,20 @@ ghost use Rattle.ring_conductor.specs.Fold.{replied};
 ghost use Rattle.ring_conductor.specs.Serving.{ActsOn, IsReady};
 
 use crate::conductor::apply::apply;
-use crate::conductor::serve::Serving;
 use ring_board::{Board, Transmitter};
+use ring_counters::{CounterValues, CountersManager};
 use ring_protocol::{LONGEST_REPLY, Reply, encode_reply, reply_type_ids as type_ids};
 use ring_words::{Action, Handler};
+
+/// Takes the commands of one read, at one moment.
+#[derive(Drop)]
+pub(crate) struct Serving<'a> {
+    pub(crate) now: u64,
+    pub(crate) counters: &'a mut CountersManager,
+    pub(crate) transmitter: &'a mut Transmitter,
+    pub(crate) board: &'a Board,
+    pub(crate) values: &'a CounterValues,
+}
 
 /// Transmits a reply.
 fn answer(board: &Board, transmitter: &mut Transmitter, reply: &Reply)

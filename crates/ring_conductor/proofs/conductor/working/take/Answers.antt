@@ -1,5 +1,5 @@
 use Rattle.ring_conductor.proofs.WorkLemmas.{stays, worked}
-use Rattle.ring_conductor.proofs.conductor.duty.take.Goals as goal
+use Rattle.ring_conductor.proofs.conductor.working.take.Goals as goal
 
 pub returns-clause-same : goal.returns-clause-same
 returns-clause-same g c = stays _ _ _ _ _ _ c.controlled_read-end.ensures.controls

@@ -9,7 +9,7 @@ ghost use Rattle.ring_conductor.specs.Conducting.{consumer_of, manager_in, ledge
 ghost use Rattle.ring_conductor.specs.Conducting.{transmitter_of, value_shares_of};
 ghost use Rattle.ring_conductor.specs.Serving.{IsReady, IsSameHandler, ledger_of as served_of};
 
-use crate::conductor::serve::Serving;
+use crate::conductor::serving::Serving;
 use crate::conductor::{Conductor, Work, WorkStop};
 use ring_board::{Board, Transmitter};
 use ring_counters::{CounterValues, CountersManager};
