@@ -22,25 +22,52 @@ mod watching;
 use measuring::Measurer;
 use request::ENTRIES;
 use std::io;
+use std::rt::Clock;
+use std::sync::Wait;
+use std::thread::Threads;
 
 fn main(rt: HostRuntime) -> io::Result<()> {
     let mut measurer = Measurer::new(rt.alloc());
     for line in rt.lines(rt.alloc()) {
         let line = line?;
-        let words: Vec<&str> = line.as_str().split_whitespace().collect(rt.alloc())?;
-        match words.as_slice() {
-            ["quit"] => return Ok(()),
-            ["list"] => list(&rt)?,
-            ["run", rest @ ..] => {
-                if let Err(fault) = measurer.answer(&rt, rest) {
-                    println!(rt; "error {}", fault.0)?;
-                }
-            }
-            _ => {}
+        if serve(&rt, &mut measurer, line.as_str())? {
+            break;
         }
-        println!(rt; "end")?;
     }
     Ok(())
+}
+
+/// Serves the request of a line, and returns whether it is the last one.
+fn serve<R: AllocGlobal + Clock + Print + Threads + Sync + Wait>(
+    rt: &R,
+    measurer: &mut Measurer,
+    line: &str,
+) -> io::Result<bool> {
+    let words: Vec<&str> = line.split_whitespace().collect(rt.alloc())?;
+    let words = words.as_slice();
+    if let ["quit"] = words {
+        return Ok(true);
+    }
+    reply(rt, measurer, words)?;
+    Ok(false)
+}
+
+/// Prints the reply to a request of these words.
+fn reply<R: Clock + Print + Threads + Sync + Wait>(
+    rt: &R,
+    measurer: &mut Measurer,
+    words: &[&str],
+) -> io::Result<()> {
+    match words {
+        ["list"] => list(rt)?,
+        ["run", rest @ ..] => {
+            if let Err(fault) = measurer.answer(rt, rest) {
+                println!(rt; "error {}", fault.0)?;
+            }
+        }
+        _ => {}
+    }
+    println!(rt; "end")
 }
 
 /// Prints who takes part in what.

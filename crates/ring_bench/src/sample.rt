@@ -68,8 +68,7 @@ impl Sample {
 
     /// Prints a line for each figure. The first one is the nanoseconds of the job, under this name.
     pub fn print(&self, rt: &impl Print, name: &str) -> io::Result<()> {
-        let each = Decimal(self.nanos, self.times);
-        println!(rt; "{name} {each}")?;
+        print_figure(rt, name, Decimal(self.nanos, self.times))?;
         match &self.detail {
             Detail::Nothing => Ok(()),
             Detail::Trips {
@@ -79,18 +78,33 @@ impl Sample {
                 p999,
                 p9999,
             } => {
-                println!(rt; "p50 {p50}\np90 {p90}\np99 {p99}")?;
-                println!(rt; "p999 {p999}\np9999 {p9999}")
+                print_trips(rt, *p50, *p90, *p99)?;
+                print_late_trips(rt, *p999, *p9999)
             }
-            Detail::Received { all, copies, laps } => {
-                let copied = Decimal(*copies, *all);
-                let lapped = Decimal(laps.saturating_mul(1_000_000), *all);
-                println!(rt; "copied {copied}\nlaps_per_million {lapped}")
-            }
-            Detail::Whole(nanos) => {
-                let whole = Decimal(*nanos, self.times);
-                println!(rt; "whole {whole}")
-            }
+            Detail::Received { all, copies, laps } => print_received(rt, *all, *copies, *laps),
+            Detail::Whole(nanos) => print_figure(rt, "whole", Decimal(*nanos, self.times)),
         }
     }
+}
+
+/// Prints the line of a figure. (Each `println!` is proved with all that is alive at it, so few are in one function.)
+fn print_figure(rt: &impl Print, name: &str, figure: Decimal) -> io::Result<()> {
+    println!(rt; "{name} {figure}")
+}
+
+fn print_trips(rt: &impl Print, p50: u32, p90: u32, p99: u32) -> io::Result<()> {
+    println!(rt; "p50 {p50}\np90 {p90}\np99 {p99}")
+}
+
+fn print_late_trips(rt: &impl Print, p999: u32, p9999: u32) -> io::Result<()> {
+    println!(rt; "p999 {p999}\np9999 {p9999}")
+}
+
+fn print_received(rt: &impl Print, all: u64, copies: u64, laps: u64) -> io::Result<()> {
+    print_figure(rt, "copied", Decimal(copies, all))?;
+    print_figure(
+        rt,
+        "laps_per_million",
+        Decimal(laps.saturating_mul(1_000_000), all),
+    )
 }

@@ -23,26 +23,23 @@ macro_rules! work_on {
 macro_rules! make_for {
     ($handle:ident, $alloc:ident, $kind:ident($side:ident) => $make:expr, $other:ident, $made:ident) => {
         match $handle.take($alloc) {
-            Some(mut held) => match Box::new($alloc, ring_handles::Held::Vacant) {
-                Ok(room) => {
-                    let code = match &mut *held {
-                        ring_handles::Held::$kind($side) => match $make {
-                            Ok(made) => {
-                                $other.refill(room, ring_handles::Held::$made(made));
-                                ring_handles::code::DONE
-                            }
-                            Err(code) => code,
-                        },
-                        _ => ring_handles::code::WRONG_HANDLE,
-                    };
-                    $handle.put(held);
-                    code
-                }
-                Err(_) => {
-                    $handle.put(held);
-                    ring_handles::code::OUT_OF_MEMORY
-                }
-            },
+            Some(mut held) => {
+                let code = match ring_handles::room($alloc) {
+                    Ok(room) => {
+                        let made = match &mut *held {
+                            ring_handles::Held::$kind($side) => match $make {
+                                Ok(made) => Ok(ring_handles::Held::$made(made)),
+                                Err(code) => Err(code),
+                            },
+                            _ => Err(ring_handles::code::WRONG_HANDLE),
+                        };
+                        $other.settle(room, made)
+                    }
+                    Err(code) => code,
+                };
+                $handle.put(held);
+                code
+            }
             None => ring_handles::code::NO_HANDLE,
         }
     };
@@ -63,13 +60,17 @@ macro_rules! make_into {
 /// not taken in comes back into its room.
 macro_rules! join_into {
     ($handle:ident, $other:ident, $alloc:ident, $kind:ident($side:ident), $second:ident($joining:ident) => $join:expr) => {
-        match ($handle.take($alloc), $other.take($alloc)) {
-            (Some(mut held), Some(mut room)) => {
-                let code = match &mut *held {
-                    ring_handles::Held::$kind($side) => {
-                        match std::mem::replace(&mut *room, ring_handles::Held::Vacant) {
+        match $handle.take($alloc) {
+            Some(mut held) => match $other.take($alloc) {
+                Some(mut room) => {
+                    let second = std::mem::replace(&mut *room, ring_handles::Held::Vacant);
+                    let code = match &mut *held {
+                        ring_handles::Held::$kind($side) => match second {
                             ring_handles::Held::$second($joining) => match $join {
-                                Ok(()) => ring_handles::code::DONE,
+                                Ok(()) => {
+                                    $other.fill(room, None);
+                                    ring_handles::code::DONE
+                                }
                                 Err((code, back)) => {
                                     $other.refill(room, ring_handles::Held::$second(back));
                                     code
@@ -79,25 +80,21 @@ macro_rules! join_into {
                                 $other.refill(room, back);
                                 ring_handles::code::WRONG_HANDLE
                             }
+                        },
+                        _ => {
+                            $other.refill(room, second);
+                            ring_handles::code::WRONG_HANDLE
                         }
-                    }
-                    _ => {
-                        $other.put(room);
-                        ring_handles::code::WRONG_HANDLE
-                    }
-                };
-                $handle.put(held);
-                code
-            }
-            (Some(held), None) => {
-                $handle.put(held);
-                ring_handles::code::NO_HANDLE
-            }
-            (None, Some(room)) => {
-                $other.put(room);
-                ring_handles::code::NO_HANDLE
-            }
-            (None, None) => ring_handles::code::NO_HANDLE,
+                    };
+                    $handle.put(held);
+                    code
+                }
+                None => {
+                    $handle.put(held);
+                    ring_handles::code::NO_HANDLE
+                }
+            },
+            None => ring_handles::code::NO_HANDLE,
         }
     };
 }
@@ -107,22 +104,26 @@ macro_rules! join_into {
 macro_rules! end_with {
     ($handle:ident, $alloc:ident, $kind:ident($side:ident) => $end:expr, $told:ident => $out:expr) => {
         match $handle.take($alloc) {
-            Some(mut room) => match std::mem::replace(&mut *room, ring_handles::Held::Vacant) {
-                ring_handles::Held::$kind($side) => match $end {
-                    Ok($told) => {
-                        $out;
-                        ring_handles::code::DONE
+            Some(mut room) => {
+                let held = std::mem::replace(&mut *room, ring_handles::Held::Vacant);
+                match held {
+                    ring_handles::Held::$kind($side) => match $end {
+                        Ok($told) => {
+                            $out;
+                            $handle.fill(room, None);
+                            ring_handles::code::DONE
+                        }
+                        Err((code, back)) => {
+                            $handle.refill(room, ring_handles::Held::$kind(back));
+                            code
+                        }
+                    },
+                    back => {
+                        $handle.refill(room, back);
+                        ring_handles::code::WRONG_HANDLE
                     }
-                    Err((code, back)) => {
-                        $handle.refill(room, ring_handles::Held::$kind(back));
-                        code
-                    }
-                },
-                back => {
-                    $handle.refill(room, back);
-                    ring_handles::code::WRONG_HANDLE
                 }
-            },
+            }
             None => ring_handles::code::NO_HANDLE,
         }
     };

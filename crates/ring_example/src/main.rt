@@ -79,6 +79,24 @@ fn seat(
     Ok(Caller::new(label, Client::new(writer, receiver)))
 }
 
+/// Gives two callers their endpoints, and makes a reader of the values for the monitor.
+fn seat_all(
+    alloc: Global,
+    on: &Shared,
+    conductor: &mut Conductor,
+    producer: &mut Producer,
+) -> anyhow::Result<(Callers, ValueReader)>
+    requires { IsConductorAt on.now conductor.old × IsProducerOf on.now.ring producer.old }
+    ensures seats { IsConductorAt on.now conductor.new × IsProducerOf on.now.ring producer.new }
+    ensures callers { IfOk result (λ r. AreCallersOf on.now r.0) }
+    ensures reader { IfOk result (λ r. IsReaderOf on.now.values r.1) }
+{
+    let reader = conductor.value_reader(&on.values)?;
+    let one = seat(alloc, on, conductor, producer, "requests")?;
+    let two = seat(alloc, on, conductor, producer, "errors")?;
+    Ok(((one, two), reader))
+}
+
 /// Runs the callers on two threads, and then stops the others.
 fn run_callers<R: Threads + Wait + Sync>(rt: &R, on: &Shared, callers: Callers) -> Callers
     requires { AreCallersOf on.now callers }
@@ -202,23 +220,36 @@ struct Totals {
     saw_fall: bool,
 }
 
-/// Prints what came of it.
-fn print_all<R: AllocGlobal + Print>(
+/// Prints the counters of both clients.
+fn print_counters<R: AllocGlobal + Print>(
     rt: &R,
-    finished: Finished,
-    totals: Totals,
+    counters: &CountersManager,
 ) -> anyhow::Result<()> {
-    let live = finished.counters.live(rt.alloc())?;
+    let live = counters.live(rt.alloc())?;
     print_counter(rt, "requests", live.as_slice())?;
     print_counter(rt, "errors", live.as_slice())?;
+    Ok(())
+}
+
+/// Prints how many messages came, and whether a value fell.
+fn print_totals(rt: &impl Print, received: u64, totals: Totals) -> io::Result<()> {
     let Totals {
         replies,
         laps,
         saw_fall,
     } = totals;
-    let received = finished.received;
     println!(rt; "commands {received} replies {replies} laps {laps}")?;
-    println!(rt; "values {}", if saw_fall { "fell" } else { "never fell" })?;
+    println!(rt; "values {}", if saw_fall { "fell" } else { "never fell" })
+}
+
+/// Prints what came of it. (It borrows what it prints, so that no `?` drops it.)
+fn print_all<R: AllocGlobal + Print>(
+    rt: &R,
+    finished: &Finished,
+    totals: Totals,
+) -> anyhow::Result<()> {
+    print_counters(rt, &finished.counters)?;
+    print_totals(rt, finished.received, totals)?;
     let left = finished.rest.positions().used();
     println!(rt; "left {left}")?;
     Ok(())
@@ -233,16 +264,10 @@ fn main(rt: HostRuntime) -> anyhow::Result<()> {
         mut conductor,
         mut producer,
     } = open(alloc)?;
-    let one = seat(alloc, &shared, &mut conductor, &mut producer, "requests")?;
-    let two = seat(alloc, &shared, &mut conductor, &mut producer, "errors")?;
-    let reader = conductor.value_reader(&shared.values)?;
+    let (callers, reader) = seat_all(alloc, &shared, &mut conductor, &mut producer)?;
 
     let ((one, two), (mut conductor, (reader, saw_fall))) = run_all(
-        &rt,
-        &shared,
-        (one, two),
-        conductor,
-        reader,
+        &rt, &shared, callers, conductor, reader,
     );
 
     // All endpoints are taken back, and then the conductor can finish.
@@ -254,5 +279,5 @@ fn main(rt: HostRuntime) -> anyhow::Result<()> {
     take_back(&shared, &mut conductor, &mut producer, one);
     take_back(&shared, &mut conductor, &mut producer, two);
     let finished = finish_all(shared, conductor, producer, reader)?;
-    print_all(&rt, finished, totals)
+    print_all(&rt, &finished, totals)
 }

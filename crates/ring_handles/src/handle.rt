@@ -1,5 +1,5 @@
 //! What C keeps: a pointer that owns what it points to, or null.
-ghost use Rattle.std.specs.Prelude.{◌≡◌, ◌≢◌, true, false, MatchOption};
+ghost use Rattle.std.specs.Prelude.{◌≡◌, ◌≢◌, pos, true, false, MatchResult};
 ghost use Rattle.std.specs.Option.{MatchOption as IfOption};
 ghost use Rattle.std.specs.declared.option.Option.{Option as Maybe};
 ghost use Rattle.std.specs.declared.option.Option.TheVariants.{None, Some};
@@ -8,6 +8,7 @@ ghost use Rattle.ring_handles.specs.Owned.{handle_owns};
 ghost use Rattle.ring_handles.specs.declared.held.Held.{Held as Kept};
 ghost use Rattle.ring_handles.specs.contracts.held.Held.{the_row};
 
+use crate::code::DONE;
 use crate::held::Held;
 use crate::loose::Loose;
 use std::alloc::Global;
@@ -25,6 +26,13 @@ pub struct Handle {
 
 impl Model for Handle {
     ghost also_owns = { λ h. handle_owns the_row h.alloc h.at h.held };
+}
+
+/// Puts a value in the place of another, which is dropped. (Of any type, so that the proof reads no drop of `Held`.)
+fn overwrite<T: Drop>(place: &mut T, value: T)
+    ensures { place.new ≡ value }
+{
+    *place = value;
 }
 
 impl Handle {
@@ -97,8 +105,36 @@ impl Handle {
     pub fn refill(&mut self, mut room: Box<Held>, held: Held)
         ensures { self.new.held ≡ Some held }
     {
-        *room = held;
+        overwrite(&mut *room, held);
         self.put(room);
+    }
+
+    /// Puts a value in, by a box that is there. If there is no value, the box is dropped, and the handle is unchanged.
+    pub fn fill(&mut self, room: Box<Held>, held: Option<Held>)
+        ensures { IfOption held (self.new.held ≡ self.old.held) (λ h. self.new.held ≡ Some h) }
+    {
+        match held {
+            Some(held) => self.refill(room, held),
+            None => drop(room),
+        }
+    }
+
+    /// Puts in what was made, by a box that is there, and returns 0. If nothing was made, the box is dropped, the
+    /// handle is unchanged, and the code is returned.
+    pub fn settle(&mut self, room: Box<Held>, made: Result<Held, i32>) -> i32
+        ensures { MatchResult made (λ h. (self.new.held ≡ Some h) × (result ≡ pos 0))
+            (λ code. (self.new.held ≡ self.old.held) × (result ≡ code)) }
+    {
+        match made {
+            Ok(held) => {
+                self.fill(room, Some(held));
+                DONE
+            }
+            Err(code) => {
+                self.fill(room, None);
+                code
+            }
+        }
     }
 
     /// Tests whether the handle is empty, and leaves it as it was.

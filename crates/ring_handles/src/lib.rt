@@ -49,7 +49,7 @@ pub use handle::{Handle, handle_crosses};
 pub use held::Held;
 pub use identity::Identity;
 pub use opening::{
-    Pair, open_board, open_conductor, open_counters, open_many_to_one, open_one_to_one,
+    Pair, open_board, open_conductor, open_counters, open_many_to_one, open_one_to_one, room,
 };
 pub use producer::ProducerSide;
 pub use raw::RawReceiverSide;

@@ -42,8 +42,8 @@ fn share<T: Drop>(alloc: Global, value: T) -> Result<(Arc<T>, Arc<T>), i32>
     Ok((one, two))
 }
 
-/// Puts what a handle can be for into a box. 3 if there is no memory.
-fn boxed(alloc: Global, held: Held) -> Result<Box<Held>, i32>
+/// Puts a value into a box. 3 if there is no memory.
+fn boxed<T: Drop>(alloc: Global, held: T) -> Result<Box<T>, i32>
     ensures made { IfOk result (λ made. made.value ≡ held) }
     ensures refused { IfErr result (λ code. code ≡ pos 3) }
 {
@@ -51,6 +51,23 @@ fn boxed(alloc: Global, held: Held) -> Result<Box<Held>, i32>
         Ok(made) => Ok(made),
         Err(_) => Err(OUT_OF_MEMORY),
     }
+}
+
+/// Puts two values into boxes. 3 if there is no memory.
+fn both_boxed<T: Drop>(alloc: Global, one: T, two: T) -> Result<(Box<T>, Box<T>), i32>
+    ensures made { IfOk result (λ made. (made.0.value ≡ one) × (made.1.value ≡ two)) }
+    ensures refused { IfErr result (λ code. code ≡ pos 3) }
+{
+    let one = boxed(alloc, one)?;
+    let two = boxed(alloc, two)?;
+    Ok((one, two))
+}
+
+/// Takes room for what a call makes. 3 if there is no memory.
+pub fn room(alloc: Global) -> Result<Box<Held>, i32>
+    ensures { IfErr result (λ code. code ≡ pos 3) }
+{
+    boxed(alloc, Held::Vacant)
 }
 
 /// Puts a new ring's producer and consumer into boxes, with its number. 3 if there is no memory.
@@ -82,9 +99,7 @@ fn box_both(
         consumer,
         last: None,
     });
-    let one = boxed(alloc, one)?;
-    let two = boxed(alloc, two)?;
-    Ok((one, two))
+    both_boxed(alloc, one, two)
 }
 
 /// Makes a ring of many producers, with a producer that holds all shares, and its consumer.

@@ -34,6 +34,6 @@ pub extern "C" fn felter_free(alloc: Global, handle: &mut Handle)
 {
     if let Some(mut held) = handle.take(alloc) {
         close(&mut held);
-        drop(held);
+        handle.fill(held, None);
     }
 }
