@@ -3,7 +3,7 @@ use crate::snapshots::{blocked, lapped, reused, shows, words_of, wrapped};
 use ring_report::{Bodies, Cause, InputFault, Report, View};
 use ring_snapshot::{CounterMetadata, CounterValueWords};
 use ring_words::SoloRing;
-use std::alloc::Global;
+use std::alloc::{AllocError, Global};
 use std::io::ErrorKind;
 use std::process::Abort;
 
@@ -120,12 +120,22 @@ static RATES: [(u64, u64, u64, &str); 3] = [
     ),
 ];
 
+/// How fast a blocked ring goes whose tail was one number and is another one some milliseconds later.
+fn rates(
+    rt: &impl Abort,
+    alloc: Global,
+    then: u64,
+    now: u64,
+    millis: u64,
+) -> Result<String, AllocError> {
+    let before = report_with(rt, alloc, then);
+    report_with(rt, alloc, now).rates_since(alloc, &before, millis)
+}
+
 #[test]
 fn says_how_fast_a_ring_goes(rt: HostRuntime) {
     for (then, now, millis, wanted) in RATES {
-        let before = report_with(&rt, rt.alloc(), then);
-        let after = report_with(&rt, rt.alloc(), now);
-        shows(&rt, after.rates_since(rt.alloc(), &before, millis), wanted);
+        shows(&rt, rates(&rt, rt.alloc(), then, now, millis), wanted);
     }
 }
 

@@ -115,15 +115,21 @@ wrapped.plain
     );
 }
 
+/// The words of a plain ring, joined with its slots.
+fn joined(rt: &impl Abort, alloc: Global, plain: &[u64]) -> Vec<u64> {
+    let parts = plain.split_at_checked(112);
+    let (words, slots) = parts.expect(rt, "a ring's words");
+    let mut words = Vec::from_slice(alloc, words).expect(rt, "memory");
+    join_bodies(words.as_mut_slice(), slots).expect(rt, "slots");
+    words
+}
+
 #[test]
 fn a_plain_ring_is_joined_to_the_stored_one(rt: HostRuntime) {
     let wrapped = wrapped_words(&rt, rt.alloc());
-    let mut plain = plain(&rt, rt.alloc(), wrapped.as_slice());
-    let Some((words, slots)) = plain.as_mut_slice().split_at_mut_checked(112) else {
-        panic!(rt; "words are missing");
-    };
-    assert_eq!(rt; join_bodies(words, slots), Ok(()));
-    assert_eq!(rt; &*words, wrapped.as_slice());
+    let plain = plain(&rt, rt.alloc(), wrapped.as_slice());
+    let joined = joined(&rt, rt.alloc(), plain.as_slice());
+    assert_eq!(rt; joined.as_slice(), wrapped.as_slice());
 }
 
 #[test]
