@@ -1,6 +1,6 @@
 //! The report of a broadcast buffer.
 use crate::picture::Mark;
-use crate::records::{Listed, Shown, Tally, Whole};
+use crate::records::{Listed, Shown, Tally};
 use crate::report::{Report, fields};
 use crate::view::View;
 use ring_layout::byte_index;
@@ -47,6 +47,18 @@ impl<'a> From<BoardRecord<'a>> for Shown<'a> {
     }
 }
 
+/// Adds what is unusual about the whole.
+fn add_notes(text: &mut String, board: &BoardSnapshot<'_>) -> Result<(), AllocError> {
+    let (intent, tail) = (board.intent(), board.tail());
+    if intent > tail {
+        write!(text, "; transmitting from {tail} to {intent}")?;
+    }
+    if !board.is_lap_whole() {
+        text.push_str("; the begin of the lap is overwritten")?;
+    }
+    Ok(())
+}
+
 fn summary(alloc: Global, board: &BoardSnapshot<'_>, tally: Tally) -> Result<String, AllocError> {
     let Tally {
         committed: valid,
@@ -55,27 +67,25 @@ fn summary(alloc: Global, board: &BoardSnapshot<'_>, tally: Tally) -> Result<Str
         ..
     } = tally;
     let mut text = format!(in alloc; "{valid} valid, {lapped} lapped, {padding} padding")?;
-    let (intent, tail) = (board.intent(), board.tail());
-    if intent > tail {
-        write!(text, "; transmitting from {tail} to {intent}")?;
-    }
-    if !board.is_lap_whole() {
-        text.push_str("; the begin of the lap is overwritten")?;
-    }
+    add_notes(&mut text, board)?;
     Ok(text)
 }
 
-fn whole(alloc: Global, board: &BoardSnapshot<'_>, tally: Tally) -> Result<Whole, AllocError> {
+/// Adds what the records say of the whole.
+fn sum_up(
+    alloc: Global,
+    report: &mut Report,
+    board: &BoardSnapshot<'_>,
+    tally: Tally,
+) -> Result<(), AllocError> {
     let counts = [
         ("valid", u64::from(tally.committed)),
         ("lapped", u64::from(tally.lapped)),
         ("padding", u64::from(tally.passed)),
     ];
-    Ok(Whole {
-        counts: fields(alloc, &counts)?,
-        details: Vec::new(alloc),
-        summary: summary(alloc, board, tally)?,
-    })
+    report.counts = fields(alloc, &counts)?;
+    report.summary = summary(alloc, board, tally)?;
+    Ok(())
 }
 
 /// The numbers of the whole, with their names.
@@ -98,18 +108,21 @@ fn signs(board: &BoardSnapshot<'_>) -> [(char, u64); 3] {
     ]
 }
 
-/// The records of the current lap, or those from a position on.
-fn list(alloc: Global, board: &BoardSnapshot<'_>, view: View) -> Result<Listed, AllocError> {
-    let mut listed = Listed::new(alloc, board.capacity(), view)?;
-    let begun = match view.from {
+/// Adds the records of the current lap, or those from a position on.
+fn list(
+    alloc: Global,
+    listed: &mut Listed,
+    board: &BoardSnapshot<'_>,
+    from: Option<u64>,
+) -> Result<(), AllocError> {
+    let begun = match from {
         Some(position) => board.records_from(position),
         None => board.records(),
     };
     match begun {
-        Ok(records) => listed.gather(alloc, records)?,
-        Err(finding) => listed.find(alloc, finding)?,
+        Ok(records) => listed.gather(alloc, records),
+        Err(finding) => listed.find(alloc, finding),
     }
-    Ok(listed)
 }
 
 impl Report {
@@ -122,8 +135,11 @@ impl Report {
                 return Report::refused(alloc, "board", "records", "not a board", finding);
             }
         };
-        let listed = list(alloc, &board, view)?;
-        let whole = whole(alloc, &board, listed.tally())?;
-        listed.report(alloc, "board", &numbers(&board), &signs(&board), whole)
+        let mut listed = Listed::new(alloc, board.capacity(), view)?;
+        list(alloc, &mut listed, &board, view.from)?;
+        let tally = listed.tally();
+        let mut report = listed.report(alloc, "board", &numbers(&board), &signs(&board))?;
+        sum_up(alloc, &mut report, &board, tally)?;
+        Ok(report)
     }
 }

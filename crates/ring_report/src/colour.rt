@@ -69,17 +69,23 @@ pub fn push_colored(text: &mut String, colour: Colour, line: &str) -> Result<(),
     text.push('\n')
 }
 
+/// Ends a colour, and begins another one.
+fn push_change(text: &mut String, from: Colour, to: Colour) -> Result<(), AllocError> {
+    if from == to {
+        return Ok(());
+    }
+    text.push_str(from.end())?;
+    text.push_str(to.start())
+}
+
 /// Pushes the line of a buffer, its pieces in their colours.
 pub fn push_picture(text: &mut String, line: &str) -> Result<(), AllocError> {
     let mut last = Colour::Plain;
     for piece in line.chars() {
         let colour = piece_colour(piece);
-        if colour != last {
-            text.push_str(last.end())?;
-            text.push_str(colour.start())?;
-            last = colour;
-        }
+        push_change(text, last, colour)?;
         text.push(piece)?;
+        last = colour;
     }
     text.push_str(last.end())
 }

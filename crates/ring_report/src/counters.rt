@@ -25,16 +25,22 @@ fn state_name(state: CounterState) -> &'static str {
     }
 }
 
-/// A key without the zeros at its end: memory does not say how long it is.
-fn key_cell(alloc: Global, bodies: Bodies, key: Body<'_>) -> Result<Cell, AllocError> {
-    let bytes: Vec<u8> = key.collect(alloc)?;
+/// How many bytes there are up to the last one that is not 0.
+fn used_len(bytes: &[u8]) -> usize {
     let mut len = 0;
     for (k, byte) in bytes.iter().enumerate() {
         if *byte != 0 {
             len = k + 1;
         }
     }
-    bodies::cell(alloc, bodies, &bytes[..len.min(bytes.len())])
+    len
+}
+
+/// A key without the zeros at its end: memory does not say how long it is.
+fn key_cell(alloc: Global, bodies: Bodies, key: Body<'_>) -> Result<Cell, AllocError> {
+    let bytes: Vec<u8> = key.collect(alloc)?;
+    let len = used_len(bytes.as_slice()).min(bytes.len());
+    bodies::cell(alloc, bodies, &bytes[..len])
 }
 
 /// The moment from which an id may be given again, of one that was freed.
@@ -51,6 +57,19 @@ fn label_cell(alloc: Global, label: Body<'_>) -> Result<Cell, AllocError> {
     bodies::cell(alloc, Bodies::Text, bytes.as_slice())
 }
 
+/// Adds the cell of its key, if bytes are shown.
+fn add_key(
+    alloc: Global,
+    row: &mut Vec<Cell>,
+    bodies: Bodies,
+    key: Body<'_>,
+) -> Result<(), AllocError> {
+    if bodies != Bodies::None {
+        row.push(key_cell(alloc, bodies, key)?)?;
+    }
+    Ok(())
+}
+
 /// Its cells, one for each column.
 fn row(alloc: Global, bodies: Bodies, counter: Counter<'_>) -> Result<Vec<Cell>, AllocError> {
     let state = String::from_str(alloc, state_name(counter.state))?;
@@ -65,9 +84,7 @@ fn row(alloc: Global, bodies: Bodies, counter: Counter<'_>) -> Result<Vec<Cell>,
         deadline_cell(counter.deadline),
         label,
     ]?;
-    if bodies != Bodies::None {
-        row.push(key_cell(alloc, bodies, counter.key)?)?;
-    }
+    add_key(alloc, &mut row, bodies, counter.key)?;
     Ok(row)
 }
 
@@ -101,41 +118,33 @@ impl Gathered {
         Ok(())
     }
 
-    /// The whole report, of this many ids.
-    fn report(self, alloc: Global, ids: u32, bodies: Bodies) -> Result<Report, AllocError> {
-        let Gathered {
-            mut report,
-            in_use,
-            freed,
-        } = self;
-        let counts = [("in_use", u64::from(in_use)), ("freed", u64::from(freed))];
-        report.fields = fields(alloc, &[("ids", u64::from(ids))])?;
-        report.columns = columns(alloc, COLUMNS.as_slice(), bodies, "key")?;
-        report.counts = fields(alloc, &counts)?;
-        report.summary = format!(in alloc; "{in_use} in use, {freed} freed, of {ids} ids")?;
-        Ok(report)
-    }
-}
-
-/// The counters from the first id on, or from the one that is asked for.
-fn gather(
-    alloc: Global,
-    counters: &CountersSnapshot<'_>,
-    view: View,
-) -> Result<Gathered, AllocError> {
-    let mut gathered = Gathered {
-        report: Report::empty(alloc, "counters", "counters"),
-        in_use: 0,
-        freed: 0,
-    };
-    let first = u32::try_from(view.from.unwrap_or(0)).unwrap_or(u32::MAX);
-    for entry in counters.counters_from(first) {
-        match entry {
-            Ok(counter) => gathered.add(alloc, view, counter)?,
-            Err(finding) => gathered.report.find(alloc, finding)?,
+    /// Adds the counters from the first id on, or from the one that is asked for.
+    fn gather(
+        &mut self,
+        alloc: Global,
+        counters: &CountersSnapshot<'_>,
+        view: View,
+    ) -> Result<(), AllocError> {
+        let first = u32::try_from(view.from.unwrap_or(0)).unwrap_or(u32::MAX);
+        for entry in counters.counters_from(first) {
+            match entry {
+                Ok(counter) => self.add(alloc, view, counter)?,
+                Err(finding) => self.report.find(alloc, finding)?,
+            }
         }
+        Ok(())
     }
-    Ok(gathered)
+
+    /// Adds what holds of the whole, of this many ids.
+    fn sum_up(&mut self, alloc: Global, ids: u32, bodies: Bodies) -> Result<(), AllocError> {
+        let (in_use, freed) = (self.in_use, self.freed);
+        let counts = [("in_use", u64::from(in_use)), ("freed", u64::from(freed))];
+        self.report.fields = fields(alloc, &[("ids", u64::from(ids))])?;
+        self.report.columns = columns(alloc, COLUMNS.as_slice(), bodies, "key")?;
+        self.report.counts = fields(alloc, &counts)?;
+        self.report.summary = format!(in alloc; "{in_use} in use, {freed} freed, of {ids} ids")?;
+        Ok(())
+    }
 }
 
 impl Report {
@@ -153,7 +162,13 @@ impl Report {
                 return Report::refused(alloc, "counters", "counters", "not counters", finding);
             }
         };
-        let gathered = gather(alloc, &counters, view)?;
-        gathered.report(alloc, counters.count(), view.bodies)
+        let mut gathered = Gathered {
+            report: Report::empty(alloc, "counters", "counters"),
+            in_use: 0,
+            freed: 0,
+        };
+        gathered.gather(alloc, &counters, view)?;
+        gathered.sum_up(alloc, counters.count(), view.bodies)?;
+        Ok(gathered.report)
     }
 }

@@ -48,33 +48,44 @@ fn add_fields(
 }
 
 /// An object with the fields.
-fn object_of(alloc: Global, fields: &[Field]) -> Result<Map<String, Value>, AllocError> {
+fn object_of(alloc: Global, fields: &[Field]) -> Result<Value, AllocError> {
     let mut object = Map::new(alloc);
     add_fields(&mut object, alloc, fields)?;
-    Ok(object)
+    Ok(Value::from(object))
 }
 
 impl Report {
     /// The report as an object of JSON, on lines of its own: what it is, its fields and details, how many of each kind
     /// there are, the list, how many rows were left out, and the findings.
     pub fn to_json(&self, alloc: Global) -> Result<String, AllocError> {
-        let mut text = Value::from(self.object(alloc)?).to_string_pretty(alloc)?;
+        let mut text = self.object(alloc)?.to_string_pretty(alloc)?;
         text.push('\n')?;
         Ok(text)
     }
 
-    fn object(&self, alloc: Global) -> Result<Map<String, Value>, AllocError> {
-        let mut object = object_of(alloc, self.fields.as_slice())?;
-        add_fields(&mut object, alloc, self.details.as_slice())?;
+    fn object(&self, alloc: Global) -> Result<Value, AllocError> {
+        let mut object = Map::new(alloc);
+        self.add_whole(&mut object, alloc)?;
+        self.add_list(&mut object, alloc)?;
+        Ok(Value::from(object))
+    }
+
+    /// Adds what it is, its fields and details, and how many of each kind there are.
+    fn add_whole(&self, object: &mut Map<String, Value>, alloc: Global) -> Result<(), AllocError> {
+        add_fields(object, alloc, self.fields.as_slice())?;
+        add_fields(object, alloc, self.details.as_slice())?;
         let counts = object_of(alloc, self.counts.as_slice())?;
-        put(&mut object, alloc, "counts", Value::from(counts))?;
-        put(&mut object, alloc, "unlisted", Value::from(self.unlisted))?;
+        put(object, alloc, "counts", counts)?;
         let kind = Value::try_from_str(alloc, self.kind)?;
-        put(&mut object, alloc, "kind", kind)?;
+        put(object, alloc, "kind", kind)
+    }
+
+    /// Adds the list, how many rows were left out, and the findings.
+    fn add_list(&self, object: &mut Map<String, Value>, alloc: Global) -> Result<(), AllocError> {
         let rows = rows_value(alloc, self.columns.as_slice(), self.rows.as_slice())?;
-        put(&mut object, alloc, self.list, rows)?;
+        put(object, alloc, self.list, rows)?;
+        put(object, alloc, "unlisted", Value::from(self.unlisted))?;
         let findings = texts_value(alloc, self.findings.as_slice())?;
-        put(&mut object, alloc, "findings", findings)?;
-        Ok(object)
+        put(object, alloc, "findings", findings)
     }
 }

@@ -4,7 +4,8 @@
 //! - `ring`, `board`, `counters`: the report of each. `records`: the lists that the first two have in common.
 //! - `report`: what is shown. `table`, `json`, `prometheus` and `rates` print it; `picture`, `bodies` and `colour` are
 //!   its parts.
-//! - `input`, `input_fault`: a section of a file, as words. `view`: what is wanted of a report.
+//! - `input`, `input_fault`: a section of a file, as words. `settled`: words that others may change meanwhile. `view`:
+//!   what is wanted of a report.
 #![tactic(auto)]
 
 mod board;
@@ -20,10 +21,12 @@ mod rates;
 mod records;
 mod report;
 mod ring;
+mod settled;
 mod table;
 mod view;
 
 pub use input::{Section, section_words, words_of, words_of_bytes};
 pub use input_fault::{Cause, InputFault};
 pub use report::{Cell, Column, Field, Report};
+pub use settled::{Words, formatted_words, note_unsettled, ring_words, settled_words};
 pub use view::{Bodies, View};

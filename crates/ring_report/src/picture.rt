@@ -68,18 +68,34 @@ impl Picture {
         }
     }
 
-    /// The line, with letters before the pieces of these byte indexes.
-    pub fn line(&self, alloc: Global, signs: &[(char, u64)]) -> Result<String, AllocError> {
-        let mut line = String::new(alloc);
-        line.push('[')?;
-        for (k, mark) in self.marks.iter().enumerate() {
-            for (letter, index) in signs {
-                if self.piece(*index) == k {
-                    line.push(*letter)?;
-                }
+    /// Adds the letters of this piece.
+    fn push_letters(
+        &self,
+        line: &mut String,
+        k: usize,
+        signs: &[(char, u64)],
+    ) -> Result<(), AllocError> {
+        for (letter, index) in signs {
+            if self.piece(*index) == k {
+                line.push(*letter)?;
             }
+        }
+        Ok(())
+    }
+
+    /// Adds the pieces, with letters before those of these byte indexes.
+    fn push_pieces(&self, line: &mut String, signs: &[(char, u64)]) -> Result<(), AllocError> {
+        for (k, mark) in self.marks.iter().enumerate() {
+            self.push_letters(line, k, signs)?;
             line.push(mark.letter())?;
         }
+        Ok(())
+    }
+
+    /// The line, with letters before the pieces of these byte indexes.
+    pub fn line(&self, alloc: Global, signs: &[(char, u64)]) -> Result<String, AllocError> {
+        let mut line = String::from_str(alloc, "[")?;
+        self.push_pieces(&mut line, signs)?;
         line.push(']')?;
         Ok(line)
     }

@@ -53,27 +53,35 @@ static FINDINGS: Metric = ("findings", "gauge", "How many findings the memory ha
 /// The lines of a metric.
 fn push_metric(text: &mut String, metric: Metric, value: u64) -> Result<(), AllocError> {
     let (name, kind, help) = metric;
-    writeln!(text, "# HELP felter_{name} {help}")?;
-    writeln!(text, "# TYPE felter_{name} {kind}")?;
-    writeln!(text, "felter_{name} {value}")
+    writeln!(
+        text,
+        "\
+# HELP felter_{name} {help}
+# TYPE felter_{name} {kind}
+felter_{name} {value}"
+    )
 }
 
 /// The metrics of a ring. A ring whose positions make no sense has no `used`.
 fn push_ring(text: &mut String, report: &Report) -> Result<(), AllocError> {
-    let numbers = report.fields.as_slice();
+    let (numbers, details) = (report.fields.as_slice(), report.details.as_slice());
     let Some(capacity) = number(numbers, "capacity") else {
         return Ok(());
     };
-    let (head, tail) = (number(numbers, "head"), number(numbers, "tail"));
-    let details = report.details.as_slice();
-    push_metric(text, RING_CAPACITY, capacity)?;
-    if let Some(free) = number(details, "free") {
-        push_metric(text, RING_USED, capacity.saturating_sub(free))?;
-    }
-    push_metric(text, RING_WRITTEN, tail.unwrap_or(0))?;
-    push_metric(text, RING_READ, head.unwrap_or(0))?;
+    let used = number(details, "free").map(|free| capacity.saturating_sub(free));
     let is_blocked = number(details, "blocked_at").is_some();
-    push_metric(text, RING_BLOCKED, u64::from(is_blocked))
+    for (metric, value) in [
+        (RING_CAPACITY, Some(capacity)),
+        (RING_USED, used),
+        (RING_WRITTEN, number(numbers, "tail").or(Some(0))),
+        (RING_READ, number(numbers, "head").or(Some(0))),
+        (RING_BLOCKED, Some(u64::from(is_blocked))),
+    ] {
+        if let Some(value) = value {
+            push_metric(text, metric, value)?;
+        }
+    }
+    Ok(())
 }
 
 /// The metrics of a broadcast buffer.
@@ -153,12 +161,16 @@ impl Report {
     /// that are listed, and the number of findings.
     pub fn to_prometheus(&self, alloc: Global) -> Result<String, AllocError> {
         let mut text = String::new(alloc);
-        match self.kind {
-            "ring" => push_ring(&mut text, self)?,
-            "board" => push_board(&mut text, self)?,
-            _ => push_counters(&mut text, self)?,
-        }
+        self.push_metrics(&mut text)?;
         push_metric(&mut text, FINDINGS, self.findings.len() as u64)?;
         Ok(text)
+    }
+
+    fn push_metrics(&self, text: &mut String) -> Result<(), AllocError> {
+        match self.kind {
+            "ring" => push_ring(text, self),
+            "board" => push_board(text, self),
+            _ => push_counters(text, self),
+        }
     }
 }

@@ -83,6 +83,13 @@ fn push_messages(text: &mut String, report: &Report, bytes: u64) -> Result<(), A
     write!(text, "  messages about {rate}")
 }
 
+/// The rates of a ring: what they are called, and the numbers that grow.
+static RING_RATES: [(&str, &str); 3] = [
+    ("bytes written", "tail"),
+    ("bytes read", "head"),
+    ("correlation ids", "correlation"),
+];
+
 /// Adds how fast a ring was written and read.
 fn push_ring(
     text: &mut String,
@@ -90,24 +97,23 @@ fn push_ring(
     after: &Report,
     millis: u64,
 ) -> Result<(), AllocError> {
-    push_rate(
-        text,
-        "bytes written",
-        before.number("tail"),
-        after.number("tail"),
-        millis,
-    )?;
-    push_rate(
-        text,
-        "bytes read",
-        before.number("head"),
-        after.number("head"),
-        millis,
-    )?;
-    let (drawn, now) = (before.number("correlation"), after.number("correlation"));
-    push_rate(text, "correlation ids", drawn, now, millis)?;
+    for (what, name) in RING_RATES {
+        push_rate(text, what, before.number(name), after.number(name), millis)?;
+    }
     let bytes = per_second(before.number("tail"), after.number("tail"), millis);
     push_messages(text, after, bytes)
+}
+
+/// Adds how fast a broadcast buffer was transmitted on.
+fn push_board(
+    text: &mut String,
+    before: &Report,
+    after: &Report,
+    millis: u64,
+) -> Result<(), AllocError> {
+    let (then, now) = (before.number("tail"), after.number("tail"));
+    push_rate(text, "bytes transmitted", then, now, millis)?;
+    push_messages(text, after, per_second(then, now, millis))
 }
 
 impl Report {
@@ -122,16 +128,21 @@ impl Report {
         millis: u64,
     ) -> Result<String, AllocError> {
         let mut text = String::from_str(alloc, "per second")?;
-        match self.kind {
-            "ring" => push_ring(&mut text, before, self, millis)?,
-            "board" => {
-                let (then, now) = (before.number("tail"), self.number("tail"));
-                push_rate(&mut text, "bytes transmitted", then, now, millis)?;
-                push_messages(&mut text, self, per_second(then, now, millis))?;
-            }
-            _ => push_changes(&mut text, before, self, millis)?,
-        }
+        self.push_rates(&mut text, before, millis)?;
         text.push('\n')?;
         Ok(text)
+    }
+
+    fn push_rates(
+        &self,
+        text: &mut String,
+        before: &Report,
+        millis: u64,
+    ) -> Result<(), AllocError> {
+        match self.kind {
+            "ring" => push_ring(text, before, self, millis),
+            "board" => push_board(text, before, self, millis),
+            _ => push_changes(text, before, self, millis),
+        }
     }
 }

@@ -5,7 +5,7 @@ ghost use Rattle.ring_report.specs.Rows.{IsAppended, IsRowOf};
 
 use crate::bodies;
 use crate::picture::{Mark, Picture};
-use crate::report::{Cell, Field, Report, columns, fields};
+use crate::report::{Cell, Report, columns, fields};
 use crate::view::{Bodies, View};
 use ring_layout::align8;
 use ring_snapshot::Body;
@@ -125,17 +125,6 @@ pub struct Listed {
     findings: Vec<String>,
 }
 
-/// What the records say of the whole.
-#[derive(Drop)]
-pub struct Whole {
-    /// How many of each kind there are.
-    pub counts: Vec<Field>,
-    /// Further numbers.
-    pub details: Vec<Field>,
-    /// All of it in one line.
-    pub summary: String,
-}
-
 impl Listed {
     /// Nothing yet of a buffer.
     pub fn new(alloc: Global, capacity: u32, view: View) -> Result<Listed, AllocError> {
@@ -201,33 +190,36 @@ impl Listed {
         self.tally
     }
 
-    /// The report of it: numbers with their names, and letters before the pieces of these byte indexes.
+    /// Adds numbers with their names, the columns, and the picture, with letters before the pieces of these byte
+    /// indexes.
+    fn draw(
+        &self,
+        alloc: Global,
+        report: &mut Report,
+        named: &[(&'static str, u64)],
+        signs: &[(char, u64)],
+    ) -> Result<(), AllocError> {
+        report.fields = fields(alloc, named)?;
+        report.columns = columns(alloc, COLUMNS.as_slice(), self.bodies, "body")?;
+        report.picture = self.picture.line(alloc, signs)?;
+        Ok(())
+    }
+
+    /// The report of it: numbers with their names, and letters before the pieces of these byte indexes. What the
+    /// records say of the whole is not yet in it.
     pub fn report(
         self,
         alloc: Global,
         kind: &'static str,
         named: &[(&'static str, u64)],
         signs: &[(char, u64)],
-        whole: Whole,
     ) -> Result<Report, AllocError> {
-        let Whole {
-            counts,
-            details,
-            summary,
-        } = whole;
-        Ok(Report {
-            kind,
-            fields: fields(alloc, named)?,
-            picture: self.picture.line(alloc, signs)?,
-            list: "records",
-            columns: columns(alloc, COLUMNS.as_slice(), self.bodies, "body")?,
-            rows: self.rows,
-            unlisted: self.unlisted,
-            counts,
-            details,
-            message_bytes: self.tally.message_bytes,
-            summary,
-            findings: self.findings,
-        })
+        let mut report = Report::empty(alloc, kind, "records");
+        self.draw(alloc, &mut report, named, signs)?;
+        report.unlisted = self.unlisted;
+        report.message_bytes = self.tally.message_bytes;
+        report.rows = self.rows;
+        report.findings = self.findings;
+        Ok(report)
     }
 }

@@ -154,6 +154,20 @@ pub fn details(
     Ok(fields)
 }
 
+/// Adds the columns of these names, each with whether it has numbers.
+fn add_columns(
+    columns: &mut Vec<Column>,
+    named: &[(&'static str, bool)],
+) -> Result<(), AllocError> {
+    for (name, is_number) in named {
+        columns.push(Column {
+            name: *name,
+            is_number: *is_number,
+        })?;
+    }
+    Ok(())
+}
+
 /// The columns of these names, each with whether it has numbers; and a last one for bytes, if these are shown.
 pub fn columns(
     alloc: Global,
@@ -162,17 +176,9 @@ pub fn columns(
     last: &'static str,
 ) -> Result<Vec<Column>, AllocError> {
     let mut columns = Vec::new(alloc);
-    for (name, is_number) in named {
-        columns.push(Column {
-            name: *name,
-            is_number: *is_number,
-        })?;
-    }
+    add_columns(&mut columns, named)?;
     if bodies != Bodies::None {
-        columns.push(Column {
-            name: last,
-            is_number: false,
-        })?;
+        add_columns(&mut columns, &[(last, false)])?;
     }
     Ok(columns)
 }

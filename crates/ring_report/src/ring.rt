@@ -1,6 +1,6 @@
 //! The report of a ring.
 use crate::picture::Mark;
-use crate::records::{Listed, Shown, Tally, Whole};
+use crate::records::{Listed, Shown, Tally};
 use crate::report::{Report, details, fields};
 use crate::view::View;
 use ring_layout::byte_index;
@@ -54,44 +54,51 @@ fn free(ring: &RingSnapshot<'_>) -> Option<u64> {
     u64::from(ring.capacity()).checked_sub(used)
 }
 
-fn summary(alloc: Global, ring: &RingSnapshot<'_>, tally: Tally) -> Result<String, AllocError> {
-    let Tally {
-        committed,
-        open,
-        passed,
-        unstored,
-        blocked,
-        ..
-    } = tally;
-    let mut text = format!(in alloc;
-        "{committed} committed, {open} open, {passed} aborted or padding"
-    )?;
-    if unstored {
+/// Adds what is unusual about the whole, and how many bytes are free.
+fn add_notes(text: &mut String, ring: &RingSnapshot<'_>, tally: Tally) -> Result<(), AllocError> {
+    if tally.unstored {
         text.push_str(", then headers not yet stored")?;
     }
     if let Some(free) = free(ring) {
         write!(text, "; {free} of {} bytes free", ring.capacity())?;
     }
-    if let Some(place) = blocked {
+    if let Some(place) = tally.blocked {
         write!(text, "; blocked at {place}")?;
     }
+    Ok(())
+}
+
+fn summary(alloc: Global, ring: &RingSnapshot<'_>, tally: Tally) -> Result<String, AllocError> {
+    let Tally {
+        committed,
+        open,
+        passed,
+        ..
+    } = tally;
+    let mut text = format!(in alloc;
+        "{committed} committed, {open} open, {passed} aborted or padding"
+    )?;
+    add_notes(&mut text, ring, tally)?;
     Ok(text)
 }
 
-fn whole(alloc: Global, ring: &RingSnapshot<'_>, tally: Tally) -> Result<Whole, AllocError> {
+/// Adds what the records say of the whole.
+fn sum_up(
+    alloc: Global,
+    report: &mut Report,
+    ring: &RingSnapshot<'_>,
+    tally: Tally,
+) -> Result<(), AllocError> {
     let counts = [
         ("committed", u64::from(tally.committed)),
         ("open", u64::from(tally.open)),
         ("aborted_or_padding", u64::from(tally.passed)),
     ];
-    Ok(Whole {
-        counts: fields(alloc, &counts)?,
-        details: details(
-            alloc,
-            &[("blocked_at", tally.blocked), ("free", free(ring))],
-        )?,
-        summary: summary(alloc, ring, tally)?,
-    })
+    let numbers = [("blocked_at", tally.blocked), ("free", free(ring))];
+    report.counts = fields(alloc, &counts)?;
+    report.details = details(alloc, &numbers)?;
+    report.summary = summary(alloc, ring, tally)?;
+    Ok(())
 }
 
 /// The numbers of the whole, with their names.
@@ -115,14 +122,17 @@ fn signs(ring: &RingSnapshot<'_>) -> [(char, u64); 2] {
     ]
 }
 
-/// The records from the head on, or from a position on.
-fn list(alloc: Global, ring: &RingSnapshot<'_>, view: View) -> Result<Listed, AllocError> {
-    let mut listed = Listed::new(alloc, ring.capacity(), view)?;
-    match ring.records_from(view.from.unwrap_or(ring.head())) {
-        Ok(records) => listed.gather(alloc, records)?,
-        Err(finding) => listed.find(alloc, finding)?,
+/// Adds the records from the head on, or from a position on.
+fn list(
+    alloc: Global,
+    listed: &mut Listed,
+    ring: &RingSnapshot<'_>,
+    from: Option<u64>,
+) -> Result<(), AllocError> {
+    match ring.records_from(from.unwrap_or(ring.head())) {
+        Ok(records) => listed.gather(alloc, records),
+        Err(finding) => listed.find(alloc, finding),
     }
-    Ok(listed)
 }
 
 impl Report {
@@ -133,8 +143,11 @@ impl Report {
             Ok(ring) => ring,
             Err(finding) => return Report::refused(alloc, "ring", "records", "not a ring", finding),
         };
-        let listed = list(alloc, &ring, view)?;
-        let whole = whole(alloc, &ring, listed.tally())?;
-        listed.report(alloc, "ring", &numbers(&ring), &signs(&ring), whole)
+        let mut listed = Listed::new(alloc, ring.capacity(), view)?;
+        list(alloc, &mut listed, &ring, view.from)?;
+        let tally = listed.tally();
+        let mut report = listed.report(alloc, "ring", &numbers(&ring), &signs(&ring))?;
+        sum_up(alloc, &mut report, &ring, tally)?;
+        Ok(report)
     }
 }

@@ -118,16 +118,16 @@ fn line_colour(report: &Report, line: usize, is_colored: bool) -> Colour {
     }
 }
 
-/// The lines of the list. Those of rows are in the colour of their state, if there are colours.
-fn push_list(
+/// The lines of the list, of these texts. Those of rows are in the colour of their state, if there are colours.
+fn push_lines(
     alloc: Global,
     text: &mut String,
     report: &Report,
+    lines: &[Vec<String>],
     is_colored: bool,
 ) -> Result<(), AllocError> {
-    let lines = lines(alloc, report)?;
     let columns = report.columns.as_slice();
-    let widths = widths(alloc, lines.as_slice(), columns.len())?;
+    let widths = widths(alloc, lines, columns.len())?;
     for (k, line) in lines.iter().enumerate() {
         let colour = line_colour(report, k, is_colored);
         push_line(
@@ -140,6 +140,17 @@ fn push_list(
         )?;
     }
     Ok(())
+}
+
+/// The lines of the list.
+fn push_list(
+    alloc: Global,
+    text: &mut String,
+    report: &Report,
+    is_colored: bool,
+) -> Result<(), AllocError> {
+    let lines = lines(alloc, report)?;
+    push_lines(alloc, text, report, lines.as_slice(), is_colored)
 }
 
 impl Report {
@@ -155,31 +166,53 @@ impl Report {
         self.table(alloc, true)
     }
 
-    /// Pushes the picture of the buffer.
+    /// Pushes the line of the picture of the buffer, if there is one.
     fn push_picture(&self, text: &mut String, is_colored: bool) -> Result<(), AllocError> {
-        if is_colored {
-            push_picture(text, self.picture.as_str())
-        } else {
-            text.push_str(self.picture.as_str())
+        if self.picture.is_empty() {
+            return Ok(());
         }
+        if is_colored {
+            push_picture(text, self.picture.as_str())?;
+        } else {
+            text.push_str(self.picture.as_str())?;
+        }
+        text.push('\n')
+    }
+
+    /// Pushes the list, if it has rows, and how many of them were left out.
+    fn push_list(
+        &self,
+        alloc: Global,
+        text: &mut String,
+        is_colored: bool,
+    ) -> Result<(), AllocError> {
+        if !self.rows.is_empty() {
+            push_list(alloc, text, self, is_colored)?;
+        }
+        if self.unlisted > 0 {
+            writeln!(text, "({} more)", self.unlisted)?;
+        }
+        Ok(())
+    }
+
+    /// Pushes the report as a table.
+    fn push_table(
+        &self,
+        alloc: Global,
+        text: &mut String,
+        is_colored: bool,
+    ) -> Result<(), AllocError> {
+        push_fields(alloc, text, self)?;
+        self.push_picture(text, is_colored)?;
+        self.push_list(alloc, text, is_colored)?;
+        text.push_str(self.summary.as_str())?;
+        text.push('\n')
     }
 
     /// The report as a table, with colours or without.
     fn table(&self, alloc: Global, is_colored: bool) -> Result<String, AllocError> {
         let mut text = String::new(alloc);
-        push_fields(alloc, &mut text, self)?;
-        if !self.picture.is_empty() {
-            self.push_picture(&mut text, is_colored)?;
-            text.push('\n')?;
-        }
-        if !self.rows.is_empty() {
-            push_list(alloc, &mut text, self, is_colored)?;
-        }
-        if self.unlisted > 0 {
-            writeln!(text, "({} more)", self.unlisted)?;
-        }
-        text.push_str(self.summary.as_str())?;
-        text.push('\n')?;
+        self.push_table(alloc, &mut text, is_colored)?;
         Ok(text)
     }
 }

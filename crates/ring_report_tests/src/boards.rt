@@ -1,13 +1,12 @@
 //! Boards as tables and as JSON.
-use crate::snapshots::{bytes_of, lapped};
-use ring_report::{Bodies, Report, View, words_of_bytes};
+use crate::snapshots::{lapped, shows, words_of};
+use ring_report::{Bodies, Report, View};
 use std::alloc::Global;
-use std::test::Fail;
+use std::process::Abort;
 
 /// The report of the board that lapped, where its intent is this, from a position on. Its tail is 360.
-fn report_of(alloc: Global, intent: u64, from: Option<u64>) -> Result<Report, Fail> {
-    let bytes = bytes_of(alloc, &lapped(alloc)?)?;
-    let mut words = words_of_bytes(alloc, bytes.as_slice())?;
+fn report_of(rt: &impl Abort, alloc: Global, intent: u64, from: Option<u64>) -> Report {
+    let mut words = words_of(rt, alloc, &lapped(rt, alloc));
     // The intent is after the 32 words of the buffer.
     if let Some(word) = words.as_mut_slice().get_mut(32) {
         *word = intent;
@@ -18,17 +17,16 @@ fn report_of(alloc: Global, intent: u64, from: Option<u64>) -> Result<Report, Fa
         limit: None,
         width: 64,
     };
-    Ok(Report::of_board(alloc, words.as_slice(), view)?)
+    Report::of_board(alloc, words.as_slice(), view).expect(rt, "memory")
 }
 
-#[test]
-fn shows_tables(rt: HostRuntime) -> Result<(), Fail> {
-    for (what, intent, from, wanted) in [
-        (
-            "the running lap",
-            360,
-            None,
-            "\
+/// Of each what it shows, the intent, the position from which on, and the table.
+static TABLES: [(&str, u64, Option<u64>, &str); 3] = [
+    (
+        "the running lap",
+        360,
+        None,
+        "\
 board  capacity 256  tail_intent 360  tail 360  latest 336
 [==========L===TI...................]
 place  index  state  type  length  body
@@ -38,12 +36,12 @@ place  index  state  type  length  body
   336     80  valid     5      22  session closed
 4 valid, 0 lapped, 0 padding
 ",
-        ),
-        (
-            "the lap before, from a place",
-            360,
-            Some(112),
-            "\
+    ),
+    (
+        "the lap before, from a place",
+        360,
+        Some(112),
+        "\
 board  capacity 256  tail_intent 360  tail 360  latest 336
 [==========L===TI.===============---]
 place  index  state    type  length  body
@@ -58,49 +56,51 @@ place  index  state    type  length  body
   336     80  valid       5      22  session closed
 8 valid, 0 lapped, 1 padding
 ",
-        ),
-        (
-            "16 bytes of the running lap's first record are overwritten",
-            528,
-            None,
-            "\
+    ),
+    (
+        "16 bytes of the running lap's first record are overwritten",
+        528,
+        None,
+        "\
 board  capacity 256  tail_intent 528  tail 360  latest 336
 [..I........L===T...................]
 place  index  state  type  length  body
   336     80  valid     5      22  session closed
 1 valid, 0 lapped, 0 padding; transmitting from 360 to 528; the begin of the lap is overwritten
 ",
-        ),
-    ] {
-        let text = report_of(rt.alloc(), intent, from)?.to_table(rt.alloc())?;
+    ),
+];
+
+#[test]
+fn shows_tables(rt: HostRuntime) {
+    for (what, intent, from, wanted) in TABLES {
+        let report = report_of(&rt, rt.alloc(), intent, from);
+        let text = report.to_table(rt.alloc()).expect(&rt, "memory");
         assert_eq!(rt; text.as_str(), wanted, "{what}");
     }
-    Ok(())
 }
 
 #[test]
-fn finds_no_record_within_one(rt: HostRuntime) -> Result<(), Fail> {
-    let report = report_of(rt.alloc(), 360, Some(96))?;
-    assert!(rt; report.rows.is_empty());
-    assert_eq!(rt; report.findings.len(), 1);
-    Ok(())
+fn finds_no_record_within_one(rt: HostRuntime) {
+    let report = report_of(&rt, rt.alloc(), 360, Some(96));
+    assert_eq!(rt; (report.rows.len(), report.findings.len()), (0, 1));
 }
 
 #[test]
-fn sums_up_a_transmission_that_runs(rt: HostRuntime) -> Result<(), Fail> {
-    let report = report_of(rt.alloc(), 512, None)?;
-    assert_eq!(rt;
-        report.summary.as_str(),
-        "3 valid, 1 lapped, 0 padding; transmitting from 360 to 512"
+fn sums_up_a_transmission_that_runs(rt: HostRuntime) {
+    let report = report_of(&rt, rt.alloc(), 512, None);
+    shows(
+        &rt,
+        Ok(report.summary),
+        "3 valid, 1 lapped, 0 padding; transmitting from 360 to 512",
     );
-    Ok(())
 }
 
 #[test]
-fn shows_metrics(rt: HostRuntime) -> Result<(), Fail> {
-    let text = report_of(rt.alloc(), 360, None)?.to_prometheus(rt.alloc())?;
-    assert_eq!(rt;
-        text.as_str(),
+fn shows_metrics(rt: HostRuntime) {
+    shows(
+        &rt,
+        report_of(&rt, rt.alloc(), 360, None).to_prometheus(rt.alloc()),
         "\
 # HELP felter_broadcast_capacity_bytes The bytes of the broadcast buffer.
 # TYPE felter_broadcast_capacity_bytes gauge
@@ -111,16 +111,15 @@ felter_broadcast_position_bytes 360
 # HELP felter_findings How many findings the memory has.
 # TYPE felter_findings gauge
 felter_findings 0
-"
+",
     );
-    Ok(())
 }
 
 #[test]
-fn shows_json(rt: HostRuntime) -> Result<(), Fail> {
-    let text = report_of(rt.alloc(), 360, Some(336))?.to_json(rt.alloc())?;
-    assert_eq!(rt;
-        text.as_str(),
+fn shows_json(rt: HostRuntime) {
+    shows(
+        &rt,
+        report_of(&rt, rt.alloc(), 360, Some(336)).to_json(rt.alloc()),
         r#"{
   "capacity": 256,
   "counts": {
@@ -145,7 +144,6 @@ fn shows_json(rt: HostRuntime) -> Result<(), Fail> {
   "tail_intent": 360,
   "unlisted": 0
 }
-"#
+"#,
     );
-    Ok(())
 }

@@ -1,10 +1,11 @@
 //! Colours, widths, metrics, rates and the texts of faults.
-use crate::snapshots::{blocked, bytes_of, lapped, reused, wrapped};
-use ring_report::{Bodies, Cause, InputFault, Report, View, words_of_bytes};
-use ring_snapshot::{CounterMetadata, CounterValueWords, Words};
-use std::alloc::Global;
+use crate::snapshots::{blocked, lapped, reused, shows, words_of, wrapped};
+use ring_report::{Bodies, Cause, InputFault, Report, View};
+use ring_snapshot::{CounterMetadata, CounterValueWords};
+use ring_words::SoloRing;
+use std::alloc::{AllocError, Global};
 use std::io::ErrorKind;
-use std::test::Fail;
+use std::process::Abort;
 
 /// No messages are shown, and a buffer in at most this many pieces.
 fn view(width: u32) -> View {
@@ -16,19 +17,18 @@ fn view(width: u32) -> View {
     }
 }
 
-/// The words of a snapshot.
-fn words<S: Words>(alloc: Global, source: &S) -> Result<Vec<u64>, Fail> {
-    let bytes = bytes_of(alloc, source)?;
-    Ok(words_of_bytes(alloc, bytes.as_slice())?)
+/// The report of a ring.
+fn ring_report(rt: &impl Abort, alloc: Global, ring: &SoloRing, width: u32) -> Report {
+    let words = words_of(rt, alloc, ring);
+    Report::of_ring(alloc, words.as_slice(), view(width)).expect(rt, "memory")
 }
 
 #[test]
-fn colours_states(rt: HostRuntime) -> Result<(), Fail> {
-    let words = words(rt.alloc(), &wrapped(rt.alloc())?)?;
-    let report = Report::of_ring(rt.alloc(), words.as_slice(), view(64))?;
-    let text = report.to_colored_table(rt.alloc())?;
-    assert_eq!(rt;
-        text.as_str(),
+fn colours_states(rt: HostRuntime) {
+    let report = ring_report(&rt, rt.alloc(), &wrapped(&rt, rt.alloc()), 64);
+    shows(
+        &rt,
+        report.to_colored_table(rt.alloc()),
         "\
 ring  capacity 128  head 72  tail 176  head_cache 0  correlation 0  heartbeat 0
 [\x1b[33mOOO\x1b[0m\x1b[32m===\x1b[0mT...H\x1b[32m===\x1b[0m\x1b[2mxxx-\x1b[0m]
@@ -39,33 +39,33 @@ place  index  state               type  length
 \x1b[33m  128      0  open                   6      24\x1b[0m
   152     24  committed              7      18
 2 committed, 1 open, 2 aborted or padding; 24 of 128 bytes free; blocked at 128
-"
+",
     );
-    Ok(())
 }
 
+/// The most pieces, and the picture.
+static WIDTHS: [(u32, &str); 4] = [
+    (0, "[HTO]"),
+    (8, "[H=OOT=....]"),
+    (16, "[H==OOO==T.........]"),
+    (4_000_000_000, "[H=====OOOO=====T..................]"),
+];
+
 #[test]
-fn draws_as_wide_as_asked(rt: HostRuntime) -> Result<(), Fail> {
-    let words = words(rt.alloc(), &blocked(rt.alloc())?)?;
-    for (width, wanted) in [
-        (0, "[HTO]"),
-        (8, "[H=OOT=....]"),
-        (16, "[H==OOO==T.........]"),
-        (4_000_000_000, "[H=====OOOO=====T..................]"),
-    ] {
-        let report = Report::of_ring(rt.alloc(), words.as_slice(), view(width))?;
-        assert_eq!(rt; report.picture.as_str(), wanted);
+fn draws_as_wide_as_asked(rt: HostRuntime) {
+    let ring = blocked(&rt, rt.alloc());
+    for (width, wanted) in WIDTHS {
+        let report = ring_report(&rt, rt.alloc(), &ring, width);
+        shows(&rt, Ok(report.picture), wanted);
     }
-    Ok(())
 }
 
 #[test]
-fn shows_metrics_of_a_blocked_ring(rt: HostRuntime) -> Result<(), Fail> {
-    let words = words(rt.alloc(), &blocked(rt.alloc())?)?;
-    let report = Report::of_ring(rt.alloc(), words.as_slice(), view(64))?;
-    let text = report.to_prometheus(rt.alloc())?;
-    assert_eq!(rt;
-        text.as_str(),
+fn shows_metrics_of_a_blocked_ring(rt: HostRuntime) {
+    let report = ring_report(&rt, rt.alloc(), &blocked(&rt, rt.alloc()), 64);
+    shows(
+        &rt,
+        report.to_prometheus(rt.alloc()),
         "\
 # HELP felter_ring_capacity_bytes The bytes of the ring's buffer.
 # TYPE felter_ring_capacity_bytes gauge
@@ -85,73 +85,96 @@ felter_ring_blocked 1
 # HELP felter_findings How many findings the memory has.
 # TYPE felter_findings gauge
 felter_findings 0
-"
+",
     );
-    Ok(())
 }
 
-/// The report of words in which one word was another before.
-fn report_with(alloc: Global, words: &mut [u64], at: usize, value: u64) -> Result<Report, Fail> {
-    if let Some(word) = words.get_mut(at) {
+/// The report of a blocked ring whose tail is this. The tail is word 16 of the trailer.
+fn report_with(rt: &impl Abort, alloc: Global, tail: u64) -> Report {
+    let mut words = words_of(rt, alloc, &blocked(rt, alloc));
+    if let Some(word) = words.as_mut_slice().get_mut(32 + 16) {
+        *word = tail;
+    }
+    Report::of_ring(alloc, words.as_slice(), view(64)).expect(rt, "memory")
+}
+
+/// The tail before, the tail after some milliseconds, these, and the rates. Five messages have 112 bytes.
+static RATES: [(u64, u64, u64, &str); 3] = [
+    (
+        0,
+        112,
+        500,
+        "per second  bytes written 224  bytes read 0  correlation ids 0  messages about 10\n",
+    ),
+    (
+        0,
+        112,
+        0,
+        "per second  bytes written 112000  bytes read 0  correlation ids 0  messages about 5000\n",
+    ),
+    (
+        112,
+        0,
+        1000,
+        "per second  bytes written 0  bytes read 0  correlation ids 0\n",
+    ),
+];
+
+/// How fast a blocked ring goes whose tail was one number and is another one some milliseconds later.
+fn rates(
+    rt: &impl Abort,
+    alloc: Global,
+    then: u64,
+    now: u64,
+    millis: u64,
+) -> Result<String, AllocError> {
+    let before = report_with(rt, alloc, then);
+    report_with(rt, alloc, now).rates_since(alloc, &before, millis)
+}
+
+#[test]
+fn says_how_fast_a_ring_goes(rt: HostRuntime) {
+    for (then, now, millis, wanted) in RATES {
+        shows(&rt, rates(&rt, rt.alloc(), then, now, millis), wanted);
+    }
+}
+
+/// The report of a board's words.
+fn board_report(rt: &impl Abort, alloc: Global, words: &[u64]) -> Report {
+    Report::of_board(alloc, words, view(64)).expect(rt, "memory")
+}
+
+#[test]
+fn says_how_fast_a_board_goes(rt: HostRuntime) {
+    let words = words_of(&rt, rt.alloc(), &lapped(&rt, rt.alloc()));
+    let after = board_report(&rt, rt.alloc(), words.as_slice());
+    let before = board_report(&rt, rt.alloc(), &[0; 48]);
+    // (four messages of 104 bytes are listed)
+    shows(
+        &rt,
+        after.rates_since(rt.alloc(), &before, 10_000),
+        "per second  bytes transmitted 36  messages about 1\n",
+    );
+}
+
+/// The report of counters, of which the second may have another value.
+fn counters_report(rt: &impl Abort, alloc: Global, value: Option<u64>) -> Report {
+    let manager = reused(rt, alloc);
+    let metadata = words_of(rt, alloc, &CounterMetadata(&manager));
+    let mut values = words_of(rt, alloc, &CounterValueWords(&manager));
+    if let (Some(value), Some(word)) = (value, values.as_mut_slice().get_mut(16)) {
         *word = value;
     }
-    Ok(Report::of_ring(alloc, words, view(64))?)
+    let report = Report::of_counters(alloc, metadata.as_slice(), values.as_slice(), view(64));
+    report.expect(rt, "memory")
 }
 
 #[test]
-fn says_how_fast_a_ring_goes(rt: HostRuntime) -> Result<(), Fail> {
-    // (the tail is word 16 of the trailer; five messages have 112 bytes)
-    let mut words = words(rt.alloc(), &blocked(rt.alloc())?)?;
-    let before = report_with(rt.alloc(), words.as_mut_slice(), 32 + 16, 0)?;
-    let after = report_with(rt.alloc(), words.as_mut_slice(), 32 + 16, 112)?;
-    for (millis, wanted) in [
-        (
-            500,
-            "per second  bytes written 224  bytes read 0  correlation ids 0  messages about 10\n",
-        ),
-        (
-            0,
-            "per second  bytes written 112000  bytes read 0  correlation ids 0  messages about 5000\n",
-        ),
-    ] {
-        let text = after.rates_since(rt.alloc(), &before, millis)?;
-        assert_eq!(rt; text.as_str(), wanted);
-    }
-    let back = before.rates_since(rt.alloc(), &after, 1000)?;
-    assert_eq!(rt;
-        back.as_str(),
-        "per second  bytes written 0  bytes read 0  correlation ids 0\n"
-    );
-    Ok(())
-}
-
-#[test]
-fn says_how_fast_a_board_goes(rt: HostRuntime) -> Result<(), Fail> {
-    let words = words(rt.alloc(), &lapped(rt.alloc())?)?;
-    let after = Report::of_board(rt.alloc(), words.as_slice(), view(64))?;
-    let before = Report::of_board(rt.alloc(), &[0; 48], view(64))?;
-    let text = after.rates_since(rt.alloc(), &before, 10_000)?;
-    // (four messages of 104 bytes are listed)
-    assert_eq!(rt;
-        text.as_str(),
-        "per second  bytes transmitted 36  messages about 1\n"
-    );
-    Ok(())
-}
-
-#[test]
-fn says_how_fast_counters_change(rt: HostRuntime) -> Result<(), Fail> {
-    let manager = reused(rt.alloc())?;
-    let metadata = words(rt.alloc(), &CounterMetadata(&manager))?;
-    let mut values = words(rt.alloc(), &CounterValueWords(&manager))?;
-    let before = Report::of_counters(rt.alloc(), metadata.as_slice(), values.as_slice(), view(64))?;
-    if let Some(value) = values.as_mut_slice().get_mut(16) {
-        *value = 1096;
-    }
-    let after = Report::of_counters(rt.alloc(), metadata.as_slice(), values.as_slice(), view(64))?;
-    let text = after.rates_since(rt.alloc(), &before, 2000)?;
-    assert_eq!(rt; text.as_str(), "per second  id 1 -1500\n");
-    Ok(())
+fn says_how_fast_counters_change(rt: HostRuntime) {
+    let before = counters_report(&rt, rt.alloc(), None);
+    let after = counters_report(&rt, rt.alloc(), Some(1096));
+    let text = after.rates_since(rt.alloc(), &before, 2000);
+    shows(&rt, text, "per second  id 1 -1500\n");
 }
 
 static FAULTS: [(Cause, &str); 11] = [
@@ -196,11 +219,9 @@ static FAULTS: [(Cause, &str); 11] = [
 ];
 
 #[test]
-fn names_the_file_and_the_cause(rt: HostRuntime) -> Result<(), Fail> {
+fn names_the_file_and_the_cause(rt: HostRuntime) {
     for (cause, wanted) in FAULTS {
         let fault = InputFault { file: "x", cause };
-        let text = format!(in rt.alloc(); "{fault}")?;
-        assert_eq!(rt; text.as_str(), wanted);
+        shows(&rt, format!(in rt.alloc(); "{fault}"), wanted);
     }
-    Ok(())
 }

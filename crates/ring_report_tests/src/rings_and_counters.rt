@@ -1,11 +1,11 @@
 //! Rings and counters as JSON.
-use crate::snapshots::bytes_of;
+use crate::snapshots::{shows, words_of};
 use ring_counters::CountersManager;
-use ring_report::{Bodies, Report, View, words_of_bytes};
+use ring_report::{Bodies, Report, View};
 use ring_snapshot::{CounterMetadata, CounterValueWords};
 use ring_words::SoloRing;
 use std::alloc::Global;
-use std::test::Fail;
+use std::process::Abort;
 
 static WHOLE: View = View {
     from: None,
@@ -14,28 +14,30 @@ static WHOLE: View = View {
     width: 64,
 };
 
-/// The words of a ring with one record and a tail of 32: after the record is a length of 5.
-fn wrong_words(alloc: Global) -> Result<Vec<u64>, Fail> {
-    let mut ring = SoloRing::new(alloc, 128)?;
-    ring.write(7, b"hello")?;
-    let bytes = bytes_of(alloc, &ring)?;
-    let mut words = words_of_bytes(alloc, bytes.as_slice())?;
+/// A ring with one record.
+fn one_record(rt: &impl Abort, alloc: Global) -> SoloRing {
+    let mut ring = SoloRing::new(alloc, 128).expect(rt, "a ring");
+    ring.write(7, b"hello").expect(rt, "room");
+    ring
+}
+
+/// The report of a ring with one record and a tail of 32: after the record is a length of 5.
+fn wrong_report(rt: &impl Abort, alloc: Global, view: View) -> Report {
+    let mut words = words_of(rt, alloc, &one_record(rt, alloc));
     // The tail is word 16 of the trailer.
     for (at, wanted) in [(16 + 16, 32), (2, 5)] {
         if let Some(word) = words.as_mut_slice().get_mut(at) {
             *word = wanted;
         }
     }
-    Ok(words)
+    Report::of_ring(alloc, words.as_slice(), view).expect(rt, "memory")
 }
 
 #[test]
-fn shows_a_ring(rt: HostRuntime) -> Result<(), Fail> {
-    let words = wrong_words(rt.alloc())?;
-    let report = Report::of_ring(rt.alloc(), words.as_slice(), WHOLE)?;
-    let text = report.to_json(rt.alloc())?;
-    assert_eq!(rt;
-        text.as_str(),
+fn shows_a_ring(rt: HostRuntime) {
+    shows(
+        &rt,
+        wrong_report(&rt, rt.alloc(), WHOLE).to_json(rt.alloc()),
         r#"{
   "blocked_at": null,
   "capacity": 128,
@@ -66,52 +68,53 @@ fn shows_a_ring(rt: HostRuntime) -> Result<(), Fail> {
   "tail": 32,
   "unlisted": 0
 }
-"#
+"#,
     );
-    Ok(())
 }
 
 #[test]
-fn lists_no_more_than_the_limit(rt: HostRuntime) -> Result<(), Fail> {
-    let words = wrong_words(rt.alloc())?;
+fn lists_no_more_than_the_limit(rt: HostRuntime) {
     let view = View {
         from: None,
         bodies: Bodies::Text,
         limit: Some(0),
         width: 64,
     };
-    let text = Report::of_ring(rt.alloc(), words.as_slice(), view)?.to_table(rt.alloc())?;
-    assert_eq!(rt;
-        text.as_str(),
+    shows(
+        &rt,
+        wrong_report(&rt, rt.alloc(), view).to_table(rt.alloc()),
         "\
 ring  capacity 128  head 0  tail 32  head_cache 0  correlation 0  heartbeat 0
 [H==..T............]
 (1 more)
 1 committed, 0 open, 0 aborted or padding; 96 of 128 bytes free
-"
+",
     );
-    Ok(())
 }
 
-/// The report of two counters, of which one is in use.
-fn counters_report(alloc: Global) -> Result<Report, Fail> {
-    let (values, mut manager) = CountersManager::new(alloc, 2, 0)?;
-    if manager.allocate(&values, 0, 5, b"k", b"errors", 0)? != 0 {
-        return Err(Fail::from("another id"));
-    }
-    manager.set(&values, 0, -2)?;
-    let metadata = bytes_of(alloc, &CounterMetadata(&manager))?;
-    let metadata = words_of_bytes(alloc, metadata.as_slice())?;
-    let numbers = bytes_of(alloc, &CounterValueWords(&manager))?;
-    let numbers = words_of_bytes(alloc, numbers.as_slice())?;
-    Ok(Report::of_counters(alloc, metadata.as_slice(), numbers.as_slice(), WHOLE)?)
+/// Two counters, of which one is in use.
+fn two_counters(rt: &impl Abort, alloc: Global) -> CountersManager {
+    let (values, mut manager) = CountersManager::new(alloc, 2, 0).expect(rt, "counters");
+    let allocated = manager.allocate(&values, 0, 5, b"k", b"errors", 0);
+    assert_eq!(rt; allocated, Ok(0));
+    manager.set(&values, 0, -2).expect(rt, "a counter");
+    manager
+}
+
+/// Their report.
+fn counters_report(rt: &impl Abort, alloc: Global) -> Report {
+    let manager = two_counters(rt, alloc);
+    let metadata = words_of(rt, alloc, &CounterMetadata(&manager));
+    let numbers = words_of(rt, alloc, &CounterValueWords(&manager));
+    let report = Report::of_counters(alloc, metadata.as_slice(), numbers.as_slice(), WHOLE);
+    report.expect(rt, "memory")
 }
 
 #[test]
-fn shows_metrics_of_counters(rt: HostRuntime) -> Result<(), Fail> {
-    let text = counters_report(rt.alloc())?.to_prometheus(rt.alloc())?;
-    assert_eq!(rt;
-        text.as_str(),
+fn shows_metrics_of_counters(rt: HostRuntime) {
+    shows(
+        &rt,
+        counters_report(&rt, rt.alloc()).to_prometheus(rt.alloc()),
         "\
 # HELP felter_counter The value of a counter in use.
 # TYPE felter_counter gauge
@@ -119,16 +122,15 @@ felter_counter{id=\"0\",type=\"5\",label=\"errors\",owner=\"0\"} -2
 # HELP felter_findings How many findings the memory has.
 # TYPE felter_findings gauge
 felter_findings 0
-"
+",
     );
-    Ok(())
 }
 
 #[test]
-fn shows_counters(rt: HostRuntime) -> Result<(), Fail> {
-    let text = counters_report(rt.alloc())?.to_json(rt.alloc())?;
-    assert_eq!(rt;
-        text.as_str(),
+fn shows_counters(rt: HostRuntime) {
+    shows(
+        &rt,
+        counters_report(&rt, rt.alloc()).to_json(rt.alloc()),
         r#"{
   "counters": [
     {
@@ -152,7 +154,6 @@ fn shows_counters(rt: HostRuntime) -> Result<(), Fail> {
   "kind": "counters",
   "unlisted": 0
 }
-"#
+"#,
     );
-    Ok(())
 }

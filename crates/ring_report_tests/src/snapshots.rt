@@ -3,34 +3,56 @@ ghost use Rattle.std.specs.Prelude.{◌^◌, ◌≤◌};
 ghost use Rattle.ring_counters.specs.Manager.{IsManagerOf};
 
 use ring_board::{Board, ClosedBoard};
-use ring_counters::{AllocateRefused, CounterValues, CountersManager, IdFault, MakeFault};
+use ring_counters::{AllocateRefused, CounterValues, CountersManager, IdFault};
+use ring_report::words_of_bytes;
 use ring_snapshot::{Words, write_words};
 use ring_words::{Action, Handler, SoloRing};
-use std::alloc::Global;
-use std::test::Fail;
+use std::alloc::{AllocError, Global};
+use std::process::Abort;
+
+/// Tests that a text is the wanted one.
+pub fn shows(rt: &impl Abort, text: Result<String, AllocError>, wanted: &str) {
+    let text = text.expect(rt, "memory");
+    assert_eq!(rt; text.as_str(), wanted);
+}
 
 /// The bytes of a snapshot.
-pub fn bytes_of<S: Words>(alloc: Global, source: &S) -> Result<Vec<u8>, Fail> {
+pub fn bytes_of<S: Words>(rt: &impl Abort, alloc: Global, source: &S) -> Vec<u8> {
     let mut bytes = Vec::new(alloc);
-    write_words(source, &mut bytes)?;
-    Ok(bytes)
+    write_words(source, &mut bytes).expect(rt, "memory");
+    bytes
+}
+
+/// The words of a snapshot.
+pub fn words_of<S: Words>(rt: &impl Abort, alloc: Global, source: &S) -> Vec<u64> {
+    let bytes = bytes_of(rt, alloc, source);
+    words_of_bytes(alloc, bytes.as_slice()).expect(rt, "words")
+}
+
+/// An empty ring.
+fn empty_ring(rt: &impl Abort, alloc: Global, capacity: u32) -> SoloRing {
+    SoloRing::new(alloc, capacity).expect(rt, "a ring")
 }
 
 /// Writes messages, each with its type id.
-fn write_all(ring: &mut SoloRing, messages: &[(i32, &str)]) -> Result<(), Fail> {
+fn write_all(rt: &impl Abort, ring: &mut SoloRing, messages: &[(i32, &str)]) {
     for (type_id, text) in messages {
-        ring.write(*type_id, text.as_bytes())?;
+        ring.write(*type_id, text.as_bytes()).expect(rt, "room");
     }
-    Ok(())
+}
+
+/// Claims, and leaves the claim open.
+fn leave_open(rt: &impl Abort, ring: &mut SoloRing) {
+    assert!(rt; ring.claim(5, 20).is_ok());
 }
 
 /// A ring whose reader is blocked by an open claim.
-pub fn blocked(alloc: Global) -> Result<SoloRing, Fail> {
-    let mut ring = SoloRing::new(alloc, 256)?;
-    write_all(&mut ring, &[(3, "shown"), (4, "shown too")])?;
-    let _claim = ring.claim(5, 20)?;
-    write_all(&mut ring, &[(6, "waits"), (7, "waits as well")])?;
-    Ok(ring)
+pub fn blocked(rt: &impl Abort, alloc: Global) -> SoloRing {
+    let mut ring = empty_ring(rt, alloc, 256);
+    write_all(rt, &mut ring, &[(3, "shown"), (4, "shown too")]);
+    leave_open(rt, &mut ring);
+    write_all(rt, &mut ring, &[(6, "waits"), (7, "waits as well")]);
+    ring
 }
 
 /// Passes over messages.
@@ -45,85 +67,97 @@ impl Handler for Pass {
     }
 }
 
-/// Writes three messages, and reads them.
-fn write_and_read(ring: &mut SoloRing) -> Result<(), Fail> {
-    let messages = [
-        (1, "first message"),
-        (2, "second message"),
-        (3, "third message"),
-    ];
-    write_all(ring, &messages)?;
-    if ring.read(3, &mut Pass).messages != 3 {
-        return Err(Fail::from("not all are read"));
-    }
-    Ok(())
+/// The messages that are read.
+static READ: [(i32, &str); 3] = [
+    (1, "first message"),
+    (2, "second message"),
+    (3, "third message"),
+];
+
+/// Reads three messages.
+fn read_three(rt: &impl Abort, ring: &mut SoloRing) {
+    let read = ring.read(3, &mut Pass).messages;
+    assert_eq!(rt; read, 3);
 }
 
 /// Claims twice: the first claim is aborted, the other one stays open with half its message.
-fn claim_two(ring: &mut SoloRing) -> Result<(), Fail> {
-    let given_up = ring.claim(5, 16)?;
+fn claim_two(rt: &impl Abort, ring: &mut SoloRing) {
+    let given_up = ring.claim(5, 16).expect(rt, "a claim");
     ring.abort(given_up);
-    let mut open = ring.claim(6, 16)?;
-    ring.put(&mut open, 0, b"half")?;
-    Ok(())
+    let mut open = ring.claim(6, 16).expect(rt, "a claim");
+    ring.put(&mut open, 0, b"half").expect(rt, "room");
 }
 
 /// A ring of which three messages were read: what was written then goes beyond the end of its buffer.
-pub fn wrapped(alloc: Global) -> Result<SoloRing, Fail> {
-    let mut ring = SoloRing::new(alloc, 128)?;
-    write_and_read(&mut ring)?;
-    write_all(&mut ring, &[(4, "fourth message!!")])?;
-    claim_two(&mut ring)?;
-    write_all(&mut ring, &[(7, "last words")])?;
-    Ok(ring)
+pub fn wrapped(rt: &impl Abort, alloc: Global) -> SoloRing {
+    let mut ring = empty_ring(rt, alloc, 128);
+    write_all(rt, &mut ring, READ.as_slice());
+    read_three(rt, &mut ring);
+    write_all(rt, &mut ring, &[(4, "fourth message!!")]);
+    claim_two(rt, &mut ring);
+    write_all(rt, &mut ring, &[(7, "last words")]);
+    ring
 }
 
 /// The words that `wrapped` has at these indexes are headers.
 static HEADERS: [usize; 5] = [0, 3, 9, 12, 15];
 
+/// Takes the body out of a word of `wrapped`. What it leaves of the padding has a type id of its own, -2.
+fn take_body(word: &mut u64, index: usize) -> u64 {
+    if !HEADERS.contains(&index) {
+        let slot = *word;
+        *word = 0;
+        return slot;
+    }
+    if index == 15 {
+        *word = word.wrapping_sub(1 << 32);
+    }
+    0
+}
+
 /// The ring of `wrapped` with its bodies apart: its words, and then its slots. Two slots still have a message that was
-/// read, and the padding has a type id of its own, -2.
-pub fn plain(alloc: Global, wrapped: &[u64]) -> Result<Vec<u64>, Fail> {
-    let mut words = Vec::from_slice(alloc, wrapped)?;
+/// read.
+pub fn plain(rt: &impl Abort, alloc: Global, wrapped: &[u64]) -> Vec<u64> {
+    let mut words = Vec::from_slice(alloc, wrapped).expect(rt, "memory");
     for index in 0..16usize {
-        let mut slot = 0;
-        if let Some(word) = words.get_mut(index) {
-            if !HEADERS.contains(&index) {
-                slot = *word;
-                *word = 0;
-            } else if index == 15 {
-                *word = word.wrapping_sub(1 << 32);
-            }
-        }
-        words.push(match index {
+        let slot = match words.get_mut(index) {
+            Some(word) => take_body(word, index),
+            None => 0,
+        };
+        let slot = match index {
             7 => u64::from_le_bytes(*b"third me"),
             8 => u64::from_le_bytes(*b"ssage\0\0\0"),
             _ => slot,
-        })?;
+        };
+        words.push(slot).expect(rt, "memory");
     }
-    Ok(words)
+    words
 }
 
+/// The messages that `lapped` transmits.
+static SENT: [(i32, &str); 12] = [
+    (1, "session opened"),
+    (2, "bid 99.75"),
+    (2, "bid 99.80"),
+    (3, "ask 100.10 for 500 pieces"),
+    (2, "bid 99.85"),
+    (3, "ask 100.05"),
+    (4, "traded 200 at 100.05"),
+    (3, "ask 100.00 for 300 pieces"),
+    (4, "traded 300 at 100.00"),
+    (2, "bid 99.90"),
+    (3, "ask 100.15"),
+    (5, "session closed"),
+];
+
 /// A broadcast buffer of 256 bytes on which twelve messages were transmitted: the last four are in the second lap.
-pub fn lapped(alloc: Global) -> Result<ClosedBoard, Fail> {
-    let (board, mut transmitter) = Board::new(alloc, 256)?;
-    'sends: for (type_id, text) in [
-        (1, "session opened"),
-        (2, "bid 99.75"),
-        (2, "bid 99.80"),
-        (3, "ask 100.10 for 500 pieces"),
-        (2, "bid 99.85"),
-        (3, "ask 100.05"),
-        (4, "traded 200 at 100.05"),
-        (3, "ask 100.00 for 300 pieces"),
-        (4, "traded 300 at 100.00"),
-        (2, "bid 99.90"),
-        (3, "ask 100.15"),
-        (5, "session closed"),
-    ] {
-        board.transmit(&mut transmitter, type_id, text.as_bytes())?;
+pub fn lapped(rt: &impl Abort, alloc: Global) -> ClosedBoard {
+    let (board, mut transmitter) = Board::new(alloc, 256).expect(rt, "a board");
+    'sends: for (type_id, text) in SENT {
+        let sent = board.transmit(&mut transmitter, type_id, text.as_bytes());
+        assert_eq!(rt; sent, Ok(()));
     }
-    Ok(board.close(transmitter).map_err(|refused| refused.reason)?)
+    board.close(transmitter).ok().expect(rt, "a closed board")
 }
 
 /// A manager with its values.
@@ -135,9 +169,9 @@ struct Desk {
 }
 
 impl Desk {
-    fn new(alloc: Global) -> Result<Desk, MakeFault> {
-        let (values, manager) = CountersManager::new(alloc, 4, 300)?;
-        Ok(Desk { values, manager })
+    fn new(rt: &impl Abort, alloc: Global) -> Desk {
+        let (values, manager) = CountersManager::new(alloc, 4, 300).expect(rt, "counters");
+        Desk { values, manager }
     }
 
     /// Allocates a counter, with an owner or with 0 for none.
@@ -164,30 +198,31 @@ impl Desk {
     }
 
     /// Allocates the counters of the snapshot: the second id is given again.
-    fn allocate_all(&mut self) -> Result<(), Fail> {
-        for (wanted, now, type_id, texts, registration, owner) in [
-            (0, 0, 1, ("in", "messages sent"), 11, 7),
-            (1, 0, 3, ("", "bytes in memory"), 12, 0),
-            (2, 0, 2, ("", "laps"), 13, 0),
-            (1, 1300, 3, ("disk", "bytes on disk"), 14, 9),
-        ] {
+    fn allocate_all(&mut self, rt: &impl Abort) {
+        for (wanted, now, type_id, texts, registration, owner) in COUNTERS {
             if now == 1300 {
-                self.free(1000, 1)?;
+                self.free(1000, 1).expect(rt, "a counter");
             }
-            if self.allocate(now, type_id, texts, registration, owner)? != wanted {
-                return Err(Fail::from("another id"));
-            }
+            let id = self.allocate(now, type_id, texts, registration, owner);
+            assert_eq!(rt; id, Ok(wanted));
         }
-        Ok(())
     }
 }
 
+/// The counters of the snapshot: the id, the moment, the type, key and label, the registration and the owner.
+static COUNTERS: [(u32, u64, i32, (&str, &str), u64, u64); 4] = [
+    (0, 0, 1, ("in", "messages sent"), 11, 7),
+    (1, 0, 3, ("", "bytes in memory"), 12, 0),
+    (2, 0, 2, ("", "laps"), 13, 0),
+    (1, 1300, 3, ("disk", "bytes on disk"), 14, 9),
+];
+
 /// Counters of which one id was given again and one was freed.
-pub fn reused(alloc: Global) -> Result<CountersManager, Fail> {
-    let mut desk = Desk::new(alloc)?;
-    desk.allocate_all()?;
-    desk.set(0, 1_000_000)?;
-    desk.set(1, 4096)?;
-    desk.free(2000, 2)?;
-    Ok(desk.manager)
+pub fn reused(rt: &impl Abort, alloc: Global) -> CountersManager {
+    let mut desk = Desk::new(rt, alloc);
+    desk.allocate_all(rt);
+    desk.set(0, 1_000_000).expect(rt, "a counter");
+    desk.set(1, 4096).expect(rt, "a counter");
+    desk.free(2000, 2).expect(rt, "a counter");
+    desk.manager
 }

@@ -1,34 +1,55 @@
 //! Snapshots are written as those of `examples/snapshots` are stored.
-use crate::snapshots::{blocked, bytes_of, lapped, plain, reused, wrapped};
-use ring_report::words_of_bytes;
-use ring_snapshot::{CounterMetadata, CounterValueWords, join_bodies};
+use crate::snapshots::{blocked, bytes_of, lapped, plain, reused, shows, words_of, wrapped};
+use ring_snapshot::{CounterMetadata, CounterValueWords, Words, join_bodies};
 use std::alloc::{AllocError, Global};
-use std::test::Fail;
+use std::fmt::Write;
+use std::process::Abort;
+
+/// Adds 32 bytes after their index, unless all are zeros.
+fn push_line(
+    alloc: Global,
+    text: &mut String,
+    index: usize,
+    bytes: &[u8],
+) -> Result<(), AllocError> {
+    if bytes.iter().all(|byte| *byte == 0) {
+        return Ok(());
+    }
+    let digits = hex::encode(alloc, bytes)?;
+    writeln!(text, "{index} {digits}")
+}
+
+/// Adds bytes in lines of 32 but for lines of zeros, each after its index.
+fn push_lines(alloc: Global, text: &mut String, bytes: &[u8]) -> Result<(), AllocError> {
+    for k in 0..bytes.len() / 32 {
+        push_line(alloc, text, 32 * k, &bytes[32 * k..32 * k + 32])?;
+    }
+    Ok(())
+}
 
 /// A file's name, its bytes in lines of 32 but for lines of zeros, each after its index, and how many bytes there are.
 fn lines_of(alloc: Global, name: &str, bytes: &[u8]) -> Result<String, AllocError> {
     let mut text = format!(in alloc; "{name}\n")?;
-    for k in 0..bytes.len() / 32 {
-        let line = &bytes[32 * k..32 * k + 32];
-        if line.iter().any(|byte| *byte != 0) {
-            let digits = hex::encode(alloc, line)?;
-            let row = format!(in alloc; "{} {digits}\n", 32 * k)?;
-            text.push_str(row.as_str())?;
-        }
-    }
-    let end = format!(in alloc; "{}\n", bytes.len())?;
-    text.push_str(end.as_str())?;
+    push_lines(alloc, &mut text, bytes)?;
+    writeln!(text, "{}", bytes.len())?;
     Ok(text)
 }
 
+/// Tests that the lines of a snapshot's bytes, after the file's name, are the wanted ones.
+fn is_written<S: Words>(rt: &impl Abort, alloc: Global, name: &str, source: &S, wanted: &str) {
+    let bytes = bytes_of(rt, alloc, source);
+    shows(rt, lines_of(alloc, name, bytes.as_slice()), wanted);
+}
+
 #[test]
-fn rings_are_written_as_stored(rt: HostRuntime) -> Result<(), Fail> {
-    let (blocked, wrapped) = (blocked(rt.alloc())?, wrapped(rt.alloc())?);
-    for (name, bytes, wanted) in [
-        (
-            "blocked.ring",
-            bytes_of(rt.alloc(), &blocked)?,
-            "\
+fn rings_are_written_as_stored(rt: HostRuntime) {
+    let ring = blocked(&rt, rt.alloc());
+    is_written(
+        &rt,
+        rt.alloc(),
+        "blocked.ring",
+        &ring,
+        "\
 blocked.ring
 0 0d0000000300000073686f776e000000110000000400000073686f776e20746f
 32 6f00000000000000e4ffffff0500000000000000000000000000000000000000
@@ -37,11 +58,14 @@ blocked.ring
 384 7000000000000000000000000000000000000000000000000000000000000000
 1024
 ",
-        ),
-        (
-            "wrapped.ring",
-            bytes_of(rt.alloc(), &wrapped)?,
-            "\
+    );
+    let ring = wrapped(&rt, rt.alloc());
+    is_written(
+        &rt,
+        rt.alloc(),
+        "wrapped.ring",
+        &ring,
+        "\
 wrapped.ring
 0 e8ffffff0600000068616c660000000000000000000000001200000007000000
 32 6c61737420776f72647300000000000000000000000000000000000000000000
@@ -51,12 +75,7 @@ wrapped.ring
 512 4800000000000000000000000000000000000000000000000000000000000000
 896
 ",
-        ),
-    ] {
-        let text = lines_of(rt.alloc(), name, bytes.as_slice())?;
-        assert_eq!(rt; text.as_str(), wanted);
-    }
-    Ok(())
+    );
 }
 
 /// The bytes of words, little-endian.
@@ -68,15 +87,19 @@ fn bytes_of_words(alloc: Global, words: &[u64]) -> Result<Vec<u8>, AllocError> {
     Ok(bytes)
 }
 
+/// The words of the wrapped ring.
+fn wrapped_words(rt: &impl Abort, alloc: Global) -> Vec<u64> {
+    words_of(rt, alloc, &wrapped(rt, alloc))
+}
+
 #[test]
-fn a_plain_ring_is_stored_as_its_parts(rt: HostRuntime) -> Result<(), Fail> {
-    let bytes = bytes_of(rt.alloc(), &wrapped(rt.alloc())?)?;
-    let wrapped = words_of_bytes(rt.alloc(), bytes.as_slice())?;
-    let plain = plain(rt.alloc(), wrapped.as_slice())?;
-    let bytes = bytes_of_words(rt.alloc(), plain.as_slice())?;
-    let text = lines_of(rt.alloc(), "wrapped.plain", bytes.as_slice())?;
-    assert_eq!(rt;
-        text.as_str(),
+fn a_plain_ring_is_stored_as_its_parts(rt: HostRuntime) {
+    let wrapped = wrapped_words(&rt, rt.alloc());
+    let plain = plain(&rt, rt.alloc(), wrapped.as_slice());
+    let bytes = bytes_of_words(rt.alloc(), plain.as_slice()).expect(&rt, "memory");
+    shows(
+        &rt,
+        lines_of(rt.alloc(), "wrapped.plain", bytes.as_slice()),
         "\
 wrapped.plain
 0 e8ffffff06000000000000000000000000000000000000001200000007000000
@@ -88,35 +111,35 @@ wrapped.plain
 928 6c61737420776f72647300000000000000000000000000007468697264206d65
 960 73736167650000000000000000000000666f75727468206d6573736167652121
 1024
-"
+",
     );
-    Ok(())
+}
+
+/// The words of a plain ring, joined with its slots.
+fn joined(rt: &impl Abort, alloc: Global, plain: &[u64]) -> Vec<u64> {
+    let parts = plain.split_at_checked(112);
+    let (words, slots) = parts.expect(rt, "a ring's words");
+    let mut words = Vec::from_slice(alloc, words).expect(rt, "memory");
+    join_bodies(words.as_mut_slice(), slots).expect(rt, "slots");
+    words
 }
 
 #[test]
-fn a_plain_ring_is_joined_to_the_stored_one(rt: HostRuntime) -> Result<(), Fail> {
-    let bytes = bytes_of(rt.alloc(), &wrapped(rt.alloc())?)?;
-    let wrapped = words_of_bytes(rt.alloc(), bytes.as_slice())?;
-    let plain = plain(rt.alloc(), wrapped.as_slice())?;
-    let (mut words, mut slots) = (Vec::new(rt.alloc()), Vec::new(rt.alloc()));
-    for (index, word) in plain.iter().enumerate() {
-        if index < 112 {
-            words.push(*word)?;
-        } else {
-            slots.push(*word)?;
-        }
-    }
-    assert_eq!(rt; join_bodies(words.as_mut_slice(), slots.as_slice()), Ok(()));
-    assert_eq!(rt; words.as_slice(), wrapped.as_slice());
-    Ok(())
+fn a_plain_ring_is_joined_to_the_stored_one(rt: HostRuntime) {
+    let wrapped = wrapped_words(&rt, rt.alloc());
+    let plain = plain(&rt, rt.alloc(), wrapped.as_slice());
+    let joined = joined(&rt, rt.alloc(), plain.as_slice());
+    assert_eq!(rt; joined.as_slice(), wrapped.as_slice());
 }
 
 #[test]
-fn a_board_is_written_as_stored(rt: HostRuntime) -> Result<(), Fail> {
-    let bytes = bytes_of(rt.alloc(), &lapped(rt.alloc())?)?;
-    let text = lines_of(rt.alloc(), "lapped.board", bytes.as_slice())?;
-    assert_eq!(rt;
-        text.as_str(),
+fn a_board_is_written_as_stored(rt: HostRuntime) {
+    let board = lapped(&rt, rt.alloc());
+    is_written(
+        &rt,
+        rt.alloc(),
+        "lapped.board",
+        &board,
         "\
 lapped.board
 0 1c0000000400000074726164656420333030206174203130302e303000000000
@@ -129,19 +152,19 @@ lapped.board
 224 730000000000000018000000ffffffff00000000000000000000000000000000
 256 6801000000000000680100000000000050010000000000000000000000000000
 384
-"
+",
     );
-    Ok(())
 }
 
 #[test]
-fn counters_are_written_as_stored(rt: HostRuntime) -> Result<(), Fail> {
-    let manager = reused(rt.alloc())?;
-    for (name, bytes, wanted) in [
-        (
-            "reused.metadata",
-            bytes_of(rt.alloc(), &CounterMetadata(&manager))?,
-            "\
+fn counters_are_written_as_stored(rt: HostRuntime) {
+    let manager = reused(&rt, rt.alloc());
+    is_written(
+        &rt,
+        rt.alloc(),
+        "reused.metadata",
+        &CounterMetadata(&manager),
+        "\
 reused.metadata
 0 0100000001000000ffffffffffffff7f696e0000000000000000000000000000
 128 0d0000006d657373616765732073656e74000000000000000000000000000000
@@ -151,21 +174,18 @@ reused.metadata
 1152 040000006c617073000000000000000000000000000000000000000000000000
 2048
 ",
-        ),
-        (
-            "reused.values",
-            bytes_of(rt.alloc(), &CounterValueWords(&manager))?,
-            "\
+    );
+    is_written(
+        &rt,
+        rt.alloc(),
+        "reused.values",
+        &CounterValueWords(&manager),
+        "\
 reused.values
 0 40420f00000000000b0000000000000007000000000000000000000000000000
 128 00100000000000000e0000000000000009000000000000000000000000000000
 256 00000000000000000d0000000000000000000000000000000000000000000000
 512
 ",
-        ),
-    ] {
-        let text = lines_of(rt.alloc(), name, bytes.as_slice())?;
-        assert_eq!(rt; text.as_str(), wanted);
-    }
-    Ok(())
+    );
 }

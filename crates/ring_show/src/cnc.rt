@@ -1,7 +1,7 @@
 //! Aeron's command-and-control file: a ring of commands, a broadcast buffer of replies, and counters.
 use crate::fault::ShowFault;
 use crate::options::Format;
-use crate::show::{print_report, status_of};
+use crate::show::{print_report, report_of_counters, status_of};
 use ring_report::{Report, Section, View, section_words};
 use std::fs;
 use std::io::Input;
@@ -70,31 +70,49 @@ fn parts_of<'a, R: AllocGlobal + Files + Input>(
     }
 }
 
-/// The words of a part of a file.
-fn part<'a, R: AllocGlobal + Files + Input>(
-    rt: &R,
-    file: &'a str,
-    at: u64,
-    length: u64,
-) -> Result<Vec<u64>, ShowFault<'a>> {
-    let section = Section {
+/// A part of a file.
+fn part(file: &str, at: u64, length: u64) -> Section<'_> {
+    Section {
         file,
         at,
         length: Some(length),
-    };
-    Ok(section_words(rt, section)?)
+    }
 }
 
-fn counters_of<'a, R: AllocGlobal + Files + Input>(
+/// Shows the ring.
+fn show_ring<'a, R: AllocGlobal + Files + Input + Print + Eprint>(
     rt: &R,
-    file: &'a str,
-    at: u64,
-    parts: Lengths,
+    section: Section<'a>,
     view: View,
-) -> Result<Report, ShowFault<'a>> {
-    let metadata = part(rt, file, at, parts.metadata)?;
-    let values = part(rt, file, at.saturating_add(parts.metadata), parts.values)?;
-    Ok(Report::of_counters(rt.alloc(), metadata.as_slice(), values.as_slice(), view)?)
+    format: Format,
+) -> Result<bool, ShowFault<'a>> {
+    let words = section_words(rt, section)?;
+    let report = Report::of_ring(rt.alloc(), words.as_slice(), view)?;
+    print_report(rt, &report, format)
+}
+
+/// Shows the broadcast buffer.
+fn show_board<'a, R: AllocGlobal + Files + Input + Print + Eprint>(
+    rt: &R,
+    section: Section<'a>,
+    view: View,
+    format: Format,
+) -> Result<bool, ShowFault<'a>> {
+    let words = section_words(rt, section)?;
+    let report = Report::of_board(rt.alloc(), words.as_slice(), view)?;
+    print_report(rt, &report, format)
+}
+
+/// Shows the counters.
+fn show_counters<'a, R: AllocGlobal + Files + Input + Print + Eprint>(
+    rt: &R,
+    metadata: Section<'a>,
+    values: Section<'a>,
+    view: View,
+    format: Format,
+) -> Result<bool, ShowFault<'a>> {
+    let report = report_of_counters(rt, metadata, values, view)?;
+    print_report(rt, &report, format)
 }
 
 /// Shows the ring, the broadcast buffer and the counters, one after another. The status is 1 if one has a finding.
@@ -106,13 +124,12 @@ pub fn show_cnc<'a, R: AllocGlobal + Files + Input + Print + Eprint>(
 ) -> Result<ExitCode, ShowFault<'a>> {
     let parts = parts_of(rt, file)?;
     let board_at = HEADER.saturating_add(parts.ring);
-    let ring = part(rt, file, HEADER, parts.ring)?;
-    let ring = Report::of_ring(rt.alloc(), ring.as_slice(), view)?;
-    let mut is_sound = print_report(rt, &ring, format)?;
-    let board = part(rt, file, board_at, parts.board)?;
-    let board = Report::of_board(rt.alloc(), board.as_slice(), view)?;
-    is_sound &= print_report(rt, &board, format)?;
-    let counters = counters_of(rt, file, board_at.saturating_add(parts.board), parts, view)?;
-    is_sound &= print_report(rt, &counters, format)?;
+    let metadata_at = board_at.saturating_add(parts.board);
+    let values_at = metadata_at.saturating_add(parts.metadata);
+    let mut is_sound = show_ring(rt, part(file, HEADER, parts.ring), view, format)?;
+    is_sound &= show_board(rt, part(file, board_at, parts.board), view, format)?;
+    let metadata = part(file, metadata_at, parts.metadata);
+    let values = part(file, values_at, parts.values);
+    is_sound &= show_counters(rt, metadata, values, view, format)?;
     Ok(status_of(is_sound))
 }

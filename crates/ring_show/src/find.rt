@@ -1,9 +1,9 @@
 //! Rings, broadcast buffers and counters in the memory of a process, in a core file or in a copy.
 use crate::bodies::note_bodies;
 use crate::fault::ShowFault;
-use crate::found::{Found, Kind, METADATA, add_buffer, add_counter, formatted_words, print_found};
+use crate::found::{Found, Kind, METADATA, add_buffer, add_counter, print_found};
 use crate::memory::{Memory, Region};
-use ring_report::{Cause, Section, words_of};
+use ring_report::{Cause, Section, formatted_words, words_of};
 use ring_snapshot::{next_board, next_counter, next_ring};
 use std::alloc::Global;
 use std::io::Input;

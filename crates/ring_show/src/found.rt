@@ -1,9 +1,8 @@
 //! What was found in memory.
 use crate::fault::ShowFault;
 use crate::show::print_text;
-use ring_report::{Bodies, Cell, Report, Section, View, words_of};
-use ring_snapshot::formatted_header;
-use std::alloc::Global;
+use ring_report::{Bodies, Cell, Report, Section, View, formatted_words, words_of};
+use std::alloc::{AllocError, Global};
 use std::fmt::Write;
 use std::io::Input;
 use std::rt::Files;
@@ -113,60 +112,71 @@ pub fn add_counter(found: &mut Vec<Found>, new: Found) -> Result<(), ShowFault<'
     Ok(())
 }
 
-/// The words of memory with each header as the format has it. A ring whose bodies lie apart is listed by these, without
-/// its bodies; and so is one whose bodies do not.
-pub fn formatted_words(alloc: Global, words: &[u64]) -> Result<Vec<u64>, ShowFault<'static>> {
-    let mut formatted = Vec::new(alloc);
-    for word in words {
-        formatted.push(formatted_header(*word))?;
+/// The summary of a ring or a broadcast buffer.
+fn buffer_report(alloc: Global, kind: Kind, words: &[u64]) -> Result<Report, AllocError> {
+    if kind == Kind::Board {
+        return Report::of_board(alloc, words, SUMMARY);
     }
-    Ok(formatted)
+    let words = formatted_words(alloc, words)?;
+    Report::of_ring(alloc, words.as_slice(), SUMMARY)
 }
 
-/// The lines of a ring or a broadcast buffer.
-fn buffer_text<R: AllocGlobal>(
-    rt: &R,
-    file: &str,
-    found: Found,
-    words: &[u64],
-) -> Result<String, ShowFault<'static>> {
-    let report = if found.kind == Kind::Ring {
-        let words = formatted_words(rt.alloc(), words)?;
-        Report::of_ring(rt.alloc(), words.as_slice(), SUMMARY)?
-    } else {
-        Report::of_board(rt.alloc(), words, SUMMARY)?
-    };
-    let sure = match (found.kind, report.unlisted) {
+/// How sure it is that this is a ring or a broadcast buffer, which has this many records.
+fn sureness(kind: Kind, records: u64) -> &'static str {
+    match (kind, records) {
         (_, 0) => "empty, so less sure",
         (Kind::Board, 1) => "one record, so less sure",
         _ => "sure",
-    };
+    }
+}
+
+/// The lines of a ring or a broadcast buffer, of which this is the report.
+fn buffer_lines(
+    alloc: Global,
+    file: &str,
+    found: Found,
+    report: &Report,
+) -> Result<String, AllocError> {
     let Found {
         address,
         at,
         capacity,
         ..
     } = found;
+    let sure = sureness(found.kind, report.unlisted);
     let (kind, length) = (report.kind, found.length());
-    let mut text = String::new(rt.alloc());
-    writeln!(
-        text,
-        "{kind} at 0x{address:x}  capacity {capacity}  ({sure})"
-    )?;
-    writeln!(text, "  {}", report.summary)?;
-    write!(
-        text,
-        "  ring-show {kind} {file} --at 0x{at:x} --length {length}"
-    )?;
-    if let Some(bodies_at) = found.bodies_at {
+    format!(in alloc;
+        "\
+{kind} at 0x{address:x}  capacity {capacity}  ({sure})
+  {}
+  ring-show {kind} {file} --at 0x{at:x} --length {length}",
+        report.summary
+    )
+}
+
+/// Adds where the bodies of a ring begin, if they lie apart, and ends the line.
+fn end_line(text: &mut String, bodies_at: Option<u64>) -> Result<(), AllocError> {
+    if let Some(bodies_at) = bodies_at {
         write!(text, " --bodies-at 0x{bodies_at:x}")?;
     }
-    text.push('\n')?;
+    text.push('\n')
+}
+
+/// The lines of a ring or a broadcast buffer.
+fn buffer_text(
+    alloc: Global,
+    file: &str,
+    found: Found,
+    words: &[u64],
+) -> Result<String, AllocError> {
+    let report = buffer_report(alloc, found.kind, words)?;
+    let mut text = buffer_lines(alloc, file, found, &report)?;
+    end_line(&mut text, found.bodies_at)?;
     Ok(text)
 }
 
 /// Adds the id and the label of a counter. Returns whether it has a label.
-fn push_label(text: &mut String, row: &[Cell]) -> Result<bool, ShowFault<'static>> {
+fn push_label(text: &mut String, row: &[Cell]) -> Result<bool, AllocError> {
     let [Cell::Unsigned(id), _, _, _, _, _, _, Cell::Text(label), ..] = row else {
         return Ok(false);
     };
@@ -174,43 +184,70 @@ fn push_label(text: &mut String, row: &[Cell]) -> Result<bool, ShowFault<'static
     Ok(!label.is_empty())
 }
 
-/// The lines of counters. Their values are elsewhere, so that words of 0 are taken in their place.
-fn counters_text<R: AllocGlobal>(
-    rt: &R,
+/// Adds the ids and the labels of counters. Returns whether one has a label.
+fn push_labels(text: &mut String, rows: &[Vec<Cell>]) -> Result<bool, AllocError> {
+    let mut is_sure = false;
+    for row in rows {
+        is_sure |= push_label(text, row.as_slice())?;
+    }
+    Ok(is_sure)
+}
+
+/// The report of counters. Their values are elsewhere, so that words of 0 are taken in their place.
+fn counters_report(alloc: Global, words: &[u64]) -> Result<Report, AllocError> {
+    let values = vec![in alloc; 0u64; words.len() / 4]?;
+    Report::of_counters(alloc, words, values.as_slice(), FIRST)
+}
+
+/// The lines of counters, of which this is the report.
+fn counters_lines(
+    alloc: Global,
     file: &str,
     found: Found,
-    words: &[u64],
-) -> Result<String, ShowFault<'static>> {
-    let values = vec![in rt.alloc(); 0u64; words.len() / 4]?;
-    let report = Report::of_counters(rt.alloc(), words, values.as_slice(), FIRST)?;
-    let mut labels = String::new(rt.alloc());
-    let mut is_sure = false;
-    for row in report.rows.iter() {
-        is_sure |= push_label(&mut labels, row.as_slice())?;
-    }
+    report: &Report,
+) -> Result<String, AllocError> {
+    let mut labels = String::new(alloc);
+    let is_sure = push_labels(&mut labels, report.rows.as_slice())?;
+    let sure = if is_sure {
+        "sure"
+    } else {
+        "no label, so less sure"
+    };
     let Found {
         address,
         at,
         capacity,
         ..
     } = found;
-    let sure = if is_sure {
-        "sure"
-    } else {
-        "no label, so less sure"
-    };
-    let mut text = String::new(rt.alloc());
-    writeln!(
-        text,
-        "counters at 0x{address:x}  capacity {capacity}  ({sure})"
-    )?;
-    writeln!(text, "  {}:{labels}", report.summary)?;
-    writeln!(
-        text,
-        "  ring-show counters {file} {file} --at 0x{at:x} --length {capacity} --values-at ADDRESS --values-length {}",
+    format!(in alloc;
+        "\
+counters at 0x{address:x}  capacity {capacity}  ({sure})
+  {}:{labels}
+  ring-show counters {file} {file} --at 0x{at:x} --length {capacity} --values-at ADDRESS --values-length {}
+",
+        report.summary,
         capacity / 4
-    )?;
-    Ok(text)
+    )
+}
+
+/// The lines of counters.
+fn counters_text(
+    alloc: Global,
+    file: &str,
+    found: Found,
+    words: &[u64],
+) -> Result<String, AllocError> {
+    let report = counters_report(alloc, words)?;
+    counters_lines(alloc, file, found, &report)
+}
+
+/// The lines of what was found in these words.
+fn text_of(alloc: Global, file: &str, found: Found, words: &[u64]) -> Result<String, AllocError> {
+    if found.kind == Kind::Counters {
+        counters_text(alloc, file, found, words)
+    } else {
+        buffer_text(alloc, file, found, words)
+    }
 }
 
 /// Prints the lines of what was found: its address, its capacity, how sure that is, its summary, and the command that
@@ -228,10 +265,6 @@ pub fn print_found<R: AllocGlobal + Files + Input + Print>(
     let Ok(words) = words_of(rt, section, MAX_LENGTH) else {
         return Ok(());
     };
-    let text = if found.kind == Kind::Counters {
-        counters_text(rt, file, found, words.as_slice())?
-    } else {
-        buffer_text(rt, file, found, words.as_slice())?
-    };
+    let text = text_of(rt.alloc(), file, found, words.as_slice())?;
     print_text(rt, text.as_str())
 }

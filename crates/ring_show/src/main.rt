@@ -11,7 +11,6 @@ mod help;
 mod memory;
 mod options;
 mod screen;
-mod settled;
 mod show;
 mod watch;
 

@@ -1,6 +1,7 @@
 //! What memory a process, a core file or a copy has.
 use crate::fault::ShowFault;
-use ring_report::{Section, section_words};
+use ring_report::{InputFault, Section, section_words};
+use std::alloc::{AllocError, Global};
 use std::fs;
 use std::io::Input;
 use std::rt::Files;
@@ -39,6 +40,17 @@ fn mapped(line: &str) -> Option<Region> {
     })
 }
 
+/// The pieces of memory that the lines of `/proc/PID/maps` name and the program can write.
+fn mapped_regions(alloc: Global, maps: &str) -> Result<Vec<Region>, AllocError> {
+    let mut regions = Vec::new(alloc);
+    for line in maps.lines() {
+        if let Some(region) = mapped(line) {
+            regions.push(region)?;
+        }
+    }
+    Ok(regions)
+}
+
 /// The pieces of memory of a process that it can write.
 fn process_regions<'a, R: AllocGlobal + Files>(
     rt: &R,
@@ -48,13 +60,7 @@ fn process_regions<'a, R: AllocGlobal + Files>(
     let Ok(maps) = fs::read_to_string(rt, path.as_str()) else {
         return Err(ShowFault::NoProcess { pid });
     };
-    let mut regions = Vec::new(rt.alloc());
-    for line in maps.as_str().lines() {
-        if let Some(region) = mapped(line) {
-            regions.push(region)?;
-        }
-    }
-    Ok(regions)
+    Ok(mapped_regions(rt.alloc(), maps.as_str())?)
 }
 
 /// The first word of a core file: `ELF` in its 64-bit form, little-endian.
@@ -97,28 +103,34 @@ fn program_headers<'a>(file: &'a str, head: &[u64]) -> Option<Section<'a>> {
     })
 }
 
-/// The pieces of memory in a core file; of any other file all of it.
-fn file_regions<'a, R: AllocGlobal + Files + Input>(
+/// The first words of a file.
+fn head_of<'a, R: AllocGlobal + Files + Input>(
     rt: &R,
     file: &'a str,
-) -> Result<Vec<Region>, ShowFault<'a>> {
-    let head = section_words(
-        rt,
-        Section {
-            file,
-            at: 0,
-            length: Some(HEADER),
-        },
-    )?;
-    let mut regions = Vec::new(rt.alloc());
-    if let Some(table) = program_headers(file, head.as_slice()) {
-        let headers = section_words(rt, table)?;
-        for header in headers.as_slice().chunks(7) {
-            if let Some(region) = loaded(header) {
-                regions.push(region)?;
-            }
+) -> Result<Vec<u64>, InputFault<'a>> {
+    let section = Section {
+        file,
+        at: 0,
+        length: Some(HEADER),
+    };
+    section_words(rt, section)
+}
+
+/// The pieces of memory that the program headers of a core file name.
+fn loaded_regions(alloc: Global, headers: &[u64]) -> Result<Vec<Region>, AllocError> {
+    let mut regions = Vec::new(alloc);
+    for header in headers.chunks(7) {
+        if let Some(region) = loaded(header) {
+            regions.push(region)?;
         }
-    } else if let Ok(metadata) = fs::metadata(rt, file) {
+    }
+    Ok(regions)
+}
+
+/// All of a file, if it says how long it is.
+fn whole_file<R: AllocGlobal + Files>(rt: &R, file: &str) -> Result<Vec<Region>, AllocError> {
+    let mut regions = Vec::new(rt.alloc());
+    if let Ok(metadata) = fs::metadata(rt, file) {
         regions.push(Region {
             address: 0,
             at: 0,
@@ -128,6 +140,39 @@ fn file_regions<'a, R: AllocGlobal + Files + Input>(
     Ok(regions)
 }
 
+/// The pieces of memory in a core file; of any other file all of it.
+fn file_regions<'a, R: AllocGlobal + Files + Input>(
+    rt: &R,
+    file: &'a str,
+) -> Result<Vec<Region>, ShowFault<'a>> {
+    let head = head_of(rt, file)?;
+    let Some(table) = program_headers(file, head.as_slice()) else {
+        return Ok(whole_file(rt, file)?);
+    };
+    let headers = section_words(rt, table)?;
+    Ok(loaded_regions(rt.alloc(), headers.as_slice())?)
+}
+
+/// The memory of a process.
+fn memory_of_process<'a, R: AllocGlobal + Files>(
+    rt: &R,
+    pid: &'a str,
+) -> Result<Memory, ShowFault<'a>> {
+    let file = format!(in rt.alloc(); "/proc/{pid}/mem")?;
+    let regions = process_regions(rt, pid)?;
+    Ok(Memory { file, regions })
+}
+
+/// The memory in a file.
+fn memory_of_file<'a, R: AllocGlobal + Files + Input>(
+    rt: &R,
+    name: &'a str,
+) -> Result<Memory, ShowFault<'a>> {
+    let file = String::from_str(rt.alloc(), name)?;
+    let regions = file_regions(rt, name)?;
+    Ok(Memory { file, regions })
+}
+
 /// The memory of a process, if the name is a number, or that in a file.
 pub fn memory_of<'a, R: AllocGlobal + Files + Input>(
     rt: &R,
@@ -135,13 +180,8 @@ pub fn memory_of<'a, R: AllocGlobal + Files + Input>(
 ) -> Result<Memory, ShowFault<'a>> {
     let is_pid = !name.is_empty() && name.bytes().all(|byte| byte.is_ascii_digit());
     if is_pid {
-        return Ok(Memory {
-            file: format!(in rt.alloc(); "/proc/{name}/mem")?,
-            regions: process_regions(rt, name)?,
-        });
+        memory_of_process(rt, name)
+    } else {
+        memory_of_file(rt, name)
     }
-    Ok(Memory {
-        file: String::from_str(rt.alloc(), name)?,
-        regions: file_regions(rt, name)?,
-    })
 }

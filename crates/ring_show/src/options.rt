@@ -4,7 +4,7 @@ use crate::help;
 use crate::screen::Screen;
 use clap::{Arg, ArgAction, ArgMatches, Command, Error, value_parser};
 use ring_report::{Bodies, Section, View};
-use std::alloc::Global;
+use std::alloc::{AllocError, Global};
 
 /// What is shown, and the source of its memory.
 #[derive(Clone, Copy)]
@@ -74,12 +74,19 @@ fn number<'a>(alloc: Global, name: &'a str, value: &'a str, text: &'a str) -> Ar
     option(alloc, name, value, text).value_parser(value_parser!(u64))
 }
 
-fn choice<'a>(alloc: Global, name: &'a str, choices: &'a [&'a str], text: &'a str) -> Arg<'a> {
+fn choice<'a>(
+    alloc: Global,
+    name: &'a str,
+    choices: &'a [&'a str],
+    text: &'a str,
+    default: &'a str,
+) -> Arg<'a> {
     Arg::new(alloc, name)
         .long(name)
         .action(ArgAction::Set)
         .value_parser(choices)
         .help(text)
+        .default_value(default)
 }
 
 fn file<'a>(alloc: Global, name: &'a str, text: &'a str) -> Arg<'a> {
@@ -89,83 +96,97 @@ fn file<'a>(alloc: Global, name: &'a str, text: &'a str) -> Arg<'a> {
         .help(text)
 }
 
+/// A command with one argument more, unless memory ran out before.
+fn with<'a>(
+    command: Result<Command<'a>, AllocError>,
+    arg: Arg<'a>,
+) -> Result<Command<'a>, AllocError> {
+    command?.arg(arg)
+}
+
+/// A command with one subcommand more, unless memory ran out before.
+fn above<'a>(
+    command: Result<Command<'a>, AllocError>,
+    subcommand: Result<Command<'a>, AllocError>,
+) -> Result<Command<'a>, AllocError> {
+    command?.subcommand(subcommand?)
+}
+
 /// A subcommand with the options on what is printed.
-fn printed<'a>(alloc: Global, name: &'a str, about: &'a str) -> Result<Command<'a>, Error> {
-    let command = Command::new(alloc, name)
-        .about(about)
-        .arg(number(alloc, "limit", "N", help::LIMIT))?
-        .arg(number(alloc, "width", "N", help::WIDTH))?
-        .arg(choice(alloc, "bodies", BODIES.as_slice(), help::BODIES).default_value("hex"))?
-        .arg(choice(alloc, "format", FORMATS.as_slice(), help::FORMAT).default_value("table"))?;
-    Ok(command)
+fn printed<'a>(alloc: Global, name: &'a str, about: &'a str) -> Result<Command<'a>, AllocError> {
+    let bodies = choice(alloc, "bodies", BODIES.as_slice(), help::BODIES, "hex");
+    let format = choice(alloc, "format", FORMATS.as_slice(), help::FORMAT, "table");
+    let command = Ok(Command::new(alloc, name).about(about));
+    let command = with(command, number(alloc, "limit", "N", help::LIMIT));
+    let command = with(command, number(alloc, "width", "N", help::WIDTH));
+    with(with(command, bodies), format)
 }
 
 /// A subcommand with the options that all have which show a known place.
-fn shown<'a>(alloc: Global, name: &'a str, about: &'a str) -> Result<Command<'a>, Error> {
-    let command = printed(alloc, name, about)?
-        .arg(option(alloc, "at", "BYTES", help::AT))?
-        .arg(option(alloc, "length", "BYTES", help::LENGTH))?
-        .arg(number(alloc, "every", "MS", help::EVERY))?
-        .arg(number(alloc, "times", "N", help::TIMES))?;
-    Ok(command)
+fn shown<'a>(alloc: Global, name: &'a str, about: &'a str) -> Result<Command<'a>, AllocError> {
+    let command = printed(alloc, name, about);
+    let command = with(command, option(alloc, "at", "BYTES", help::AT));
+    let command = with(command, option(alloc, "length", "BYTES", help::LENGTH));
+    let command = with(command, number(alloc, "every", "MS", help::EVERY));
+    with(command, number(alloc, "times", "N", help::TIMES))
 }
 
 /// A subcommand that lists the records of one file.
-fn listed<'a>(alloc: Global, name: &'a str, about: &'a str) -> Result<Command<'a>, Error> {
-    let command = shown(alloc, name, about)?
-        .arg(file(alloc, "FILE", help::FILE))?
-        .arg(number(alloc, "from", "POSITION", help::FROM))?;
-    Ok(command)
+fn listed<'a>(alloc: Global, name: &'a str, about: &'a str) -> Result<Command<'a>, AllocError> {
+    let command = shown(alloc, name, about);
+    let command = with(command, file(alloc, "FILE", help::FILE));
+    with(command, number(alloc, "from", "POSITION", help::FROM))
 }
 
 /// The subcommand that lists a ring.
-fn ringed<'a>(alloc: Global) -> Result<Command<'a>, Error> {
-    let command = listed(alloc, "ring", help::RING)?.arg(option(
-        alloc,
-        "bodies-at",
-        "BYTES",
-        help::BODIES_AT,
-    ))?;
-    Ok(command)
+fn ringed<'a>(alloc: Global) -> Result<Command<'a>, AllocError> {
+    let command = listed(alloc, "ring", help::RING);
+    with(
+        command,
+        option(alloc, "bodies-at", "BYTES", help::BODIES_AT),
+    )
 }
 
 /// The subcommand that lists counters.
-fn counted<'a>(alloc: Global) -> Result<Command<'a>, Error> {
-    let command = shown(alloc, "counters", help::COUNTERS)?
-        .arg(file(alloc, "METADATA", help::METADATA))?
-        .arg(file(alloc, "VALUES", help::VALUES))?
-        .arg(option(alloc, "values-at", "BYTES", help::VALUES_AT))?
-        .arg(option(alloc, "values-length", "BYTES", help::LENGTH))?
-        .arg(number(alloc, "from", "ID", help::FROM_ID))?;
-    Ok(command)
+fn counted<'a>(alloc: Global) -> Result<Command<'a>, AllocError> {
+    let command = shown(alloc, "counters", help::COUNTERS);
+    let command = with(command, file(alloc, "METADATA", help::METADATA));
+    let command = with(command, file(alloc, "VALUES", help::VALUES));
+    let command = with(
+        command,
+        option(alloc, "values-at", "BYTES", help::VALUES_AT),
+    );
+    let command = with(
+        command,
+        option(alloc, "values-length", "BYTES", help::LENGTH),
+    );
+    with(command, number(alloc, "from", "ID", help::FROM_ID))
 }
 
 /// The subcommand that looks for rings, broadcast buffers and counters.
-fn found<'a>(alloc: Global) -> Result<Command<'a>, Error> {
-    let command = Command::new(alloc, "find")
-        .about(help::FIND)
-        .arg(file(alloc, "MEMORY", help::MEMORY))?;
-    Ok(command)
+fn found<'a>(alloc: Global) -> Result<Command<'a>, AllocError> {
+    let command = Command::new(alloc, "find").about(help::FIND);
+    command.arg(file(alloc, "MEMORY", help::MEMORY))
 }
 
 /// The subcommand that shows a command-and-control file.
-fn filed<'a>(alloc: Global) -> Result<Command<'a>, Error> {
-    let command = printed(alloc, "cnc", help::CNC)?.arg(file(alloc, "FILE", help::CNC_FILE))?;
-    Ok(command)
+fn filed<'a>(alloc: Global) -> Result<Command<'a>, AllocError> {
+    let command = printed(alloc, "cnc", help::CNC);
+    with(command, file(alloc, "FILE", help::CNC_FILE))
 }
 
-fn command<'a>(alloc: Global) -> Result<Command<'a>, Error> {
-    let command = Command::new(alloc, "ring-show")
-        .bin_name("ring-show")?
-        .about(help::ABOUT)
-        .after_help(help::AFTER)
-        .subcommand_required(true)
-        .subcommand(ringed(alloc)?)?
-        .subcommand(listed(alloc, "board", help::BOARD)?)?
-        .subcommand(counted(alloc)?)?
-        .subcommand(found(alloc)?)?
-        .subcommand(filed(alloc)?)?;
-    Ok(command)
+/// The command without its subcommands.
+fn bare<'a>(alloc: Global) -> Result<Command<'a>, AllocError> {
+    let command = Command::new(alloc, "ring-show").bin_name("ring-show")?;
+    let command = command.about(help::ABOUT).after_help(help::AFTER);
+    Ok(command.subcommand_required(true))
+}
+
+fn command<'a>(alloc: Global) -> Result<Command<'a>, AllocError> {
+    let command = above(bare(alloc), ringed(alloc));
+    let command = above(command, listed(alloc, "board", help::BOARD));
+    let command = above(command, counted(alloc));
+    above(above(command, found(alloc)), filed(alloc))
 }
 
 /// The name of the subcommand, and its arguments, from the words of a command line, the program's name first.

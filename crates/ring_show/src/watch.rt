@@ -39,6 +39,34 @@ fn print_rates<R: AllocGlobal + Print>(
     print_text(rt, text.as_str())
 }
 
+/// Takes a look.
+fn look_at<'a, R: AllocGlobal + Clock + Files + Input>(
+    rt: &R,
+    options: Options<'a>,
+) -> Result<Look, ShowFault<'a>> {
+    let report = report_of(rt, options)?;
+    let at = now(rt)?;
+    Ok(Look { report, at })
+}
+
+/// Prints a look, and how fast it changed since the look before, if there was one. Returns whether it has no findings.
+fn print_look<R: AllocGlobal + Print + Eprint>(
+    rt: &R,
+    options: Options<'_>,
+    is_terminal: bool,
+    before: Option<&Look>,
+    look: &Look,
+) -> Result<bool, ShowFault<'static>> {
+    if is_terminal && options.every.is_some() {
+        print_text(rt, CLEAR)?;
+    }
+    let is_sound = print_report(rt, &look.report, options.format)?;
+    if let Some(before) = before {
+        print_rates(rt, options.format, before, look)?;
+    }
+    Ok(is_sound)
+}
+
 /// Shows what a command line names: once, or again and again until it was shown often enough or the program is
 /// interrupted. A terminal is cleared before each look of several. The status is that of the last look.
 pub fn show_often<'a, R: AllocGlobal + Clock + Files + Input + Print + Eprint>(
@@ -52,17 +80,8 @@ pub fn show_often<'a, R: AllocGlobal + Clock + Files + Input + Print + Eprint>(
         if before.is_some() {
             sleep(rt, Duration::from_millis(options.every.unwrap_or(0)));
         }
-        let look = Look {
-            report: report_of(rt, options)?,
-            at: now(rt)?,
-        };
-        if is_terminal && options.every.is_some() {
-            print_text(rt, CLEAR)?;
-        }
-        is_sound = print_report(rt, &look.report, options.format)?;
-        if let Some(before) = &before {
-            print_rates(rt, options.format, before, &look)?;
-        }
+        let look = look_at(rt, options)?;
+        is_sound = print_look(rt, options, is_terminal, before.as_ref(), &look)?;
         before = Some(look);
     }
     Ok(status_of(is_sound))

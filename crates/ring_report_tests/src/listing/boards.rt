@@ -91,36 +91,55 @@ fn refusal(words: &[u64]) -> Option<BoardFinding> {
     made.and_then(|board| board.records()).err()
 }
 
+/// The positions intent, tail and latest, and why they list no records.
+static REFUSALS: [(u64, u64, u64, BoardFinding); 2] = [
+    (
+        16,
+        24,
+        0,
+        BoardFinding::IntentBeforeTail {
+            intent: 16,
+            tail: 24,
+        },
+    ),
+    (
+        24,
+        24,
+        32,
+        BoardFinding::TailBeforeLatest {
+            tail: 24,
+            latest: 32,
+        },
+    ),
+];
+
 #[test]
 fn names_what_is_wrong(rt: HostRuntime) {
     let too_few = BoardFinding::BadSize { words: 47 };
     assert_eq!(rt; refusal(&[0; 47]), Some(too_few));
-    let before_tail = BoardFinding::IntentBeforeTail {
-        intent: 16,
-        tail: 24,
-    };
-    assert_eq!(rt; refusal(&words_with(16, 24, 0)), Some(before_tail));
-    let before_latest = BoardFinding::TailBeforeLatest {
-        tail: 24,
-        latest: 32,
-    };
-    assert_eq!(rt; refusal(&words_with(24, 24, 32)), Some(before_latest));
+    for (intent, tail, latest, finding) in REFUSALS {
+        assert_eq!(rt; refusal(&words_with(intent, tail, latest)), Some(finding));
+    }
+}
+
+/// The finding that is all that words list.
+fn only_finding(board: &BoardSnapshot<'_>) -> Option<BoardFinding> {
+    let mut records = board.records().ok()?;
+    match (records.next(), records.next()) {
+        (Some(Err(found)), None) => Some(found),
+        _ => None,
+    }
 }
 
 #[test]
 fn nothing_comes_behind_a_finding(rt: HostRuntime) {
     let words = words_with(24, 24, 0);
     let board = BoardSnapshot::new(&words).expect(&rt, "a board");
-    let mut records = board.records().expect(&rt, "records");
-    let Some(Err(found)) = records.next() else {
-        panic!(rt; "nothing is found");
-    };
     let finding = BoardFinding::BadLength {
         index: 0,
         length: 0,
     };
-    assert_eq!(rt; found, finding);
-    assert!(rt; records.next().is_none());
+    assert_eq!(rt; only_finding(&board), Some(finding));
     let outside = BoardFinding::OutsideOfRecords { position: 8 };
     assert_eq!(rt; board.records_from(8).err(), Some(outside));
 }

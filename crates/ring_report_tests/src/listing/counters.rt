@@ -6,7 +6,8 @@ use crate::listing::random::Numbers;
 use crate::listing::words::{has_bytes, words_of};
 use ring_counters::{CounterValues, CountersManager, IdFault};
 use ring_snapshot::{
-    Counter, CounterMetadata, CounterState, CounterValueWords, CountersFinding, CountersSnapshot,
+    Counter, CounterMetadata, CounterState, CounterValueWords, Counters, CountersFinding,
+    CountersSnapshot,
 };
 use std::alloc::Global;
 use std::process::Abort;
@@ -85,30 +86,38 @@ fn is_told(manager: &CountersManager, counter: Counter<'_>) -> Result<bool, IdFa
     }
 }
 
+/// Tests whether an entry of a listing is the counter that the manager has at an id.
+fn is_its(
+    manager: &CountersManager,
+    id: u32,
+    entry: Option<Result<Counter<'_>, CountersFinding>>,
+) -> bool {
+    match entry {
+        Some(Ok(counter)) => counter.id == id && is_told(manager, counter) == Ok(true),
+        _ => false,
+    }
+}
+
+/// How many counters words list, which have to be those that the manager has.
+fn count_of(rt: &impl Abort, manager: &CountersManager, snapshot: &CountersSnapshot<'_>) -> u32 {
+    let mut listed = snapshot.counters();
+    let mut count = 0u32;
+    for id in 0..manager.count() {
+        if manager.state(id) != Ok(0) {
+            assert!(rt; is_its(manager, id, listed.next()), "counter {id}");
+            count = count.wrapping_add(1);
+        }
+    }
+    assert!(rt; listed.next().is_none());
+    count
+}
+
 /// How many counters are listed, which have to be those that the manager has.
 fn listed_of(rt: &impl Abort, alloc: Global, manager: &CountersManager) -> u32 {
     let metadata = words_of(rt, alloc, &CounterMetadata(manager));
     let values = words_of(rt, alloc, &CounterValueWords(manager));
-    let snapshot = CountersSnapshot::new(metadata.as_slice(), values.as_slice()).expect(
-        rt, "counters",
-    );
-    let mut listed = snapshot.counters();
-    let mut count = 0u32;
-    for id in 0..manager.count() {
-        if manager.state(id) == Ok(0) {
-            continue;
-        }
-        let Some(Ok(counter)) = listed.next() else {
-            panic!(rt; "a counter is missing");
-        };
-        assert!(rt;
-            counter.id == id && is_told(manager, counter) == Ok(true),
-            "counter {id}"
-        );
-        count = count.wrapping_add(1);
-    }
-    assert!(rt; listed.next().is_none());
-    count
+    let snapshot = CountersSnapshot::new(metadata.as_slice(), values.as_slice());
+    count_of(rt, manager, &snapshot.expect(rt, "counters"))
 }
 
 #[test]
@@ -150,26 +159,38 @@ fn wrong_metadata() -> [u64; 192] {
     metadata
 }
 
+/// What the metadata finds, in order.
+static FINDINGS: [CountersFinding; 2] = [
+    CountersFinding::BadState { id: 0, state: 2 },
+    CountersFinding::BadLabelLength { id: 1, length: 381 },
+];
+
+/// The finding that comes next, if one does.
+fn next_finding(listed: &mut Counters<'_>) -> Option<CountersFinding> {
+    match listed.next() {
+        Some(Err(found)) => Some(found),
+        _ => None,
+    }
+}
+
+/// The id and the type of the counter that comes next, if one does. It has to be without a label.
+fn next_type(listed: &mut Counters<'_>) -> Option<(u32, i32)> {
+    match listed.next() {
+        Some(Ok(counter)) if counter.label.is_empty() => Some((counter.id, counter.type_id)),
+        _ => None,
+    }
+}
+
 #[test]
 fn names_what_is_wrong(rt: HostRuntime) {
     let (metadata, values) = (wrong_metadata(), [0u64; 48]);
     let snapshot = CountersSnapshot::new(&metadata, &values).expect(&rt, "counters");
     assert_eq!(rt; snapshot.count(), 3);
     let mut listed = snapshot.counters();
-    for finding in [
-        CountersFinding::BadState { id: 0, state: 2 },
-        CountersFinding::BadLabelLength { id: 1, length: 381 },
-    ] {
-        let Some(Err(found)) = listed.next() else {
-            panic!(rt; "nothing is found");
-        };
-        assert_eq!(rt; found, finding);
+    for finding in FINDINGS {
+        assert_eq!(rt; next_finding(&mut listed), Some(finding));
     }
-    let Some(Ok(third)) = listed.next() else {
-        panic!(rt; "a counter is missing");
-    };
-    assert_eq!(rt; (third.id, third.type_id), (2, 7));
-    assert!(rt; third.label.is_empty());
+    assert_eq!(rt; next_type(&mut listed), Some((2, 7)));
     assert!(rt; listed.next().is_none());
 }
 

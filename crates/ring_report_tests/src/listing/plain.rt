@@ -157,17 +157,22 @@ fn part(rt: &impl Abort, alloc: Global, words: &[u64], numbers: &mut Numbers) ->
     parts
 }
 
+/// Takes the bodies of a ring out of its words, and joins them again.
+fn part_and_join(rt: &impl Abort, alloc: Global, ring: &SoloRing, numbers: &mut Numbers) {
+    let whole = words_of(rt, alloc, ring);
+    let mut parts = part(rt, alloc, whole.as_slice(), numbers);
+    let joined = join_bodies(parts.words.as_mut_slice(), parts.slots.as_slice());
+    assert!(rt; joined.is_ok());
+    assert_eq!(rt; parts.words.as_slice(), whole.as_slice());
+}
+
 #[test]
 fn gives_the_words_back(rt: HostRuntime) {
     let mut numbers = Numbers(0x2545_f491_4f6c_dd1d);
     let mut ring = SoloRing::new(rt.alloc(), 128).expect(&rt, "a ring");
     for _ in 0..2000 {
         use_ring(&mut ring, &mut numbers);
-        let whole = words_of(&rt, rt.alloc(), &ring);
-        let mut parts = part(&rt, rt.alloc(), whole.as_slice(), &mut numbers);
-        let joined = join_bodies(parts.words.as_mut_slice(), parts.slots.as_slice());
-        assert_eq!(rt; joined, Ok(()));
-        assert_eq!(rt; parts.words.as_slice(), whole.as_slice());
+        part_and_join(&rt, rt.alloc(), &ring, &mut numbers);
         // (an open claim blocks the reader)
         if ring.positions().used() > 96 {
             ring = SoloRing::new(rt.alloc(), 128).expect(&rt, "a ring");

@@ -33,11 +33,15 @@ fn finds_a_ring(rt: HostRuntime) {
     assert_eq!(rt; ring.write(7, b"hello"), Ok(()));
     let memory = memory(&rt, rt.alloc(), &ring);
     let words = memory.as_slice();
-    assert_eq!(rt; next_ring(words, 0, 128), Some(100));
-    assert_eq!(rt; next_ring(words, 100, 128), Some(100));
-    assert_eq!(rt; next_ring(words, 101, 128), None);
-    assert_eq!(rt; next_ring(words, 0, 256), None);
-    assert_eq!(rt; next_ring(words, 0, 100), None);
+    for (from, capacity, wanted) in [
+        (0, 128, Some(100)),
+        (100, 128, Some(100)),
+        (101, 128, None),
+        (0, 256, None),
+        (0, 100, None),
+    ] {
+        assert_eq!(rt; next_ring(words, from, capacity), wanted);
+    }
 }
 
 #[test]
@@ -46,9 +50,9 @@ fn finds_a_board_that_lapped(rt: HostRuntime) {
     let closed = transmitted(&rt, rt.alloc(), &mut numbers, 40);
     let memory = memory(&rt, rt.alloc(), &closed);
     let words = memory.as_slice();
-    assert_eq!(rt; next_board(words, 0, 256), Some(100));
-    assert_eq!(rt; next_board(words, 101, 256), None);
-    assert_eq!(rt; next_board(words, 0, 512), None);
+    for (from, capacity, wanted) in [(0, 256, Some(100)), (101, 256, None), (0, 512, None)] {
+        assert_eq!(rt; next_board(words, from, capacity), wanted);
+    }
 }
 
 #[test]
@@ -61,7 +65,7 @@ fn finds_counters_in_use(rt: HostRuntime) {
     assert_eq!(rt; manager.free(0, 0), Ok(()));
     let memory = memory(&rt, rt.alloc(), &CounterMetadata(&manager));
     let words = memory.as_slice();
-    assert_eq!(rt; next_counter(words, 0), Some(164));
-    assert_eq!(rt; next_counter(words, 165), Some(228));
-    assert_eq!(rt; next_counter(words, 229), None);
+    for (from, wanted) in [(0, Some(164)), (165, Some(228)), (229, None)] {
+        assert_eq!(rt; next_counter(words, from), wanted);
+    }
 }

@@ -79,10 +79,15 @@ fn writes_words_little_endian(rt: HostRuntime) {
 #[test]
 fn a_failed_write_is_an_error(rt: HostRuntime) {
     let ring = SoloRing::new(rt.alloc(), 128).expect(&rt, "a ring");
-    for limit in [1, 8, 100, 895] {
-        assert_eq!(rt; is_written(rt.alloc(), &ring, 1, limit), (false, limit));
+    for (limit, is_done) in [
+        (1, false),
+        (8, false),
+        (100, false),
+        (895, false),
+        (896, true),
+    ] {
+        assert_eq!(rt; is_written(rt.alloc(), &ring, 1, limit), (is_done, limit));
     }
-    assert_eq!(rt; is_written(rt.alloc(), &ring, 1, 896), (true, 896));
 }
 
 /// Counters of which the second has the value -2.

@@ -1,8 +1,9 @@
 //! Reading memory that others may change at the same time.
-use crate::fault::ShowFault;
-use ring_report::{Report, Section, section_words};
-use ring_snapshot::{BoardSnapshot, RingSnapshot, join_bodies};
-use std::alloc::Global;
+use crate::input::{Section, section_words};
+use crate::input_fault::InputFault;
+use crate::report::Report;
+use ring_snapshot::{BoardSnapshot, RingSnapshot, formatted_header, join_bodies};
+use std::alloc::{AllocError, Global};
 use std::io::Input;
 use std::rt::Files;
 
@@ -12,7 +13,9 @@ const READS: u32 = 3;
 /// Words, and whether their positions stayed the same while they were read.
 #[derive(Drop)]
 pub struct Words {
+    /// The words.
     pub words: Vec<u64>,
+    /// Whether their positions stayed the same.
     pub is_settled: bool,
 }
 
@@ -34,7 +37,7 @@ pub fn settled_words<'a, R: AllocGlobal + Files + Input>(
     rt: &R,
     section: Section<'a>,
     is_ring: bool,
-) -> Result<Words, ShowFault<'a>> {
+) -> Result<Words, InputFault<'a>> {
     let mut words = section_words(rt, section)?;
     let mut is_settled = section.file == "-";
     for _ in 0..READS {
@@ -54,7 +57,7 @@ fn add_bodies<'a, R: AllocGlobal + Files + Input>(
     words: &mut Vec<u64>,
     file: &'a str,
     at: u64,
-) -> Result<(), ShowFault<'a>> {
+) -> Result<(), InputFault<'a>> {
     let Ok(ring) = RingSnapshot::new(words.as_slice()) else {
         return Ok(());
     };
@@ -75,7 +78,7 @@ fn joined_words<'a, R: AllocGlobal + Files + Input>(
     rt: &R,
     section: Section<'a>,
     bodies_at: u64,
-) -> Result<Words, ShowFault<'a>> {
+) -> Result<Words, InputFault<'a>> {
     let mut before = section_words(rt, section)?;
     let mut words = Vec::new(rt.alloc());
     let mut is_settled = false;
@@ -97,22 +100,34 @@ pub fn ring_words<'a, R: AllocGlobal + Files + Input>(
     rt: &R,
     section: Section<'a>,
     bodies_at: Option<u64>,
-) -> Result<Words, ShowFault<'a>> {
+) -> Result<Words, InputFault<'a>> {
     match bodies_at {
         Some(at) => joined_words(rt, section, at),
         None => settled_words(rt, section, true),
     }
 }
 
-/// Adds the finding that positions changed all the time.
-pub fn add_unsettled<'a>(
+/// A report of words, with the finding that positions changed all the time if the words are not settled.
+pub fn note_unsettled(
     alloc: Global,
-    report: &mut Report,
+    report: Result<Report, AllocError>,
     is_settled: bool,
-) -> Result<(), ShowFault<'a>> {
-    if !is_settled {
-        let text = format!(in alloc; "Unsettled: positions changed during each of {READS} reads")?;
-        report.findings.push(text)?;
+) -> Result<Report, AllocError> {
+    if is_settled {
+        return report;
     }
-    Ok(())
+    let mut report = report?;
+    let text = format!(in alloc; "Unsettled: positions changed during each of {READS} reads")?;
+    report.findings.push(text)?;
+    Ok(report)
+}
+
+/// The words of memory with each header as the format has it. A ring whose bodies lie apart is listed by these, without
+/// its bodies; and so is one whose bodies do not.
+pub fn formatted_words(alloc: Global, words: &[u64]) -> Result<Vec<u64>, AllocError> {
+    let mut formatted = Vec::new(alloc);
+    for word in words {
+        formatted.push(formatted_header(*word))?;
+    }
+    Ok(formatted)
 }
