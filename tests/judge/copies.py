@@ -6,6 +6,7 @@ import shutil
 from .attacks import Attack, put_attacks
 from .edits import read, replaced
 from .functions import line_of
+from .log import MARK
 
 PROOFS = ("Answers.antt", "Invariants.antt", "Proof.antt")
 
@@ -57,7 +58,15 @@ def proved_in(crate, folder):
     return found
 
 
-def put_proofs(crate, proved, copies):
+def put_mark(folder):
+    """Writes the mark into the answers of a copy. With it a check ends without the search for what it can offer."""
+    if not os.path.exists(f"{folder}/Proof.antt"):
+        os.makedirs(folder, exist_ok=True)
+        with open(f"{folder}/Answers.antt", "a", encoding="utf-8") as out:
+            out.write(f"\npub {MARK} : Type 0\n")
+
+
+def put_proofs(crate, folder, proved, copies):
     """Copies the proof files of each copied function, so that they speak of the copy.
 
     Returns the name that a check gives the function whose files each copy has, if there are any.
@@ -66,6 +75,7 @@ def put_proofs(crate, proved, copies):
     for it in copies:
         found = it.function.among(proved)
         if len(found) != 1:
+            put_mark(f"{folder}/proofs/{it.function.folder}/{it.name}")
             continue
         named[it] = found[0]
         own = proved[found[0]]
@@ -83,6 +93,7 @@ def put_proofs(crate, proved, copies):
                 if not count:
                     # (whose goals it answers cannot be seen)
                     named[it] = "?"
+        put_mark(to)
     return named
 
 
@@ -97,7 +108,7 @@ class Trial:
         """Writes them into a copy of the crate."""
         copies = list(self.copies.values())
         self.proved = proved_in(self.crate, folder)
-        self.given = put_proofs(self.crate, self.proved, copies)
+        self.given = put_proofs(self.crate, folder, self.proved, copies)
         changes = [of for it in self.its for of in (it.additions if it in self.copies else it.changes)]
         spans, moved = put_sources(folder, changes, copies)
         for it in self.its:

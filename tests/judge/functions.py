@@ -5,7 +5,7 @@ from dataclasses import dataclass, replace
 # The head of a function, and that of an impl, a trait or a macro.
 HEAD = re.compile(r"(?:pub(?:\([\w: ]+\))? )?(?:(?:const|unsafe|extern \"C\") )*fn (\w+)")
 OWNER = re.compile(
-    r"(?:pub(?:\([\w: ]+\))? )?(?:unsafe )?(impl|trait|macro_rules!)(?:<(?:[^<>]|<[^<>]*>)*>)? "
+    r"(?:pub(?:\([\w: ]+\))? )?(?:unsafe )?(impl|trait|macro_rules!)(<(?:[^<>]|<[^<>]*>)*>)? "
     r"(.*?)(?: where\b.*| \{|$)"
 )
 TYPE = re.compile(r"(?:\w+::)*(\w*)<?(.*?)>?$")
@@ -19,6 +19,7 @@ class Function:
     pattern: re.Pattern  # of the name that a check prints
     module: str  # the path of its module, with that of the crate first
     argument: str  # what its name has more than that of the same function in another impl
+    folder: str  # the folder below proofs/ that has one for its proof files, by its name
     cycle: str  # the cycle of calls that it belongs to, or ""
     item: int  # where its doc comment or first attribute begins in the file
     named: int  # where its name does
@@ -65,16 +66,19 @@ def functions_of(crate, file, text):
             continue
         begin, end = block(lines, depths, at)
         if owner:
-            owners.append((end, *owner.groups()))
+            kind, parameters, of = owner.groups()
+            owners.append((end, kind, of, parameters or ""))
         within = [it[1:] for it in owners if at < it[0]]
-        if not head or any(kind == "macro_rules!" for kind, _ in within):
+        if not head or any(kind == "macro_rules!" for kind, *_ in within):
             continue
         first = first_line(lines, depths, at)
         cycle = (re.findall(r"#\[cycle\((\w+)\)\]", "\n".join(lines[first:at])) or [""])[0]
         name, pattern, argument = names_of(head[1], path, within)
         spots = places[first], places[at] + line.index(head[0]) + head.start(1), places[begin + 1], places[end]
         is_copyable = not cycle and can_be_copied(head[1], owner_of(within), text[places[begin + 1] : places[end]])
-        found.append(Function(name, re.compile(pattern), path, argument, cycle, *spots, places[end + 1], is_copyable))
+        folder = folder_of(path, within)
+        spots = *spots, places[end + 1]
+        found.append(Function(name, re.compile(pattern), path, argument, folder, cycle, *spots, is_copyable))
     return found
 
 
@@ -131,6 +135,21 @@ def names_of(name, path, within):
     argument = f"{kind}{trait}{given[:1].upper()}{given[1:]}::" if trait else f"{kind}+{of}::"
     more = trait and trait + r"[\w+]*"
     return f"{kind}::{name}", rf"::{kind}(\+[\w+]+)?{more}::{name}$", argument
+
+
+def folder_of(path, within):
+    """Returns the folder of the proofs of a module, or of an impl there: `../Type` for one of `impl<B> Type<B>`.
+
+    Of `impl<B> Type<A, B>` it is `../Type+A+B`.
+    """
+    parts = path.split("::")[1:]
+    if within:
+        _, own, parameters = within[-1]
+        kind, of = TYPE.match(own.rpartition(" for ")[2].strip()).groups()
+        given = [it for it in of.split(", ") if it and not it.startswith("'")]
+        is_of_all = all(re.search(rf"[<,] ?{re.escape(it)}\b", parameters) for it in given)
+        parts.append(kind if is_of_all else "+".join([kind, *given]))
+    return "/".join(parts)
 
 
 def at_place(functions, place):

@@ -9,6 +9,9 @@ ITEM = re.compile(r"(?:fn|impl|struct|enum|trait) (\S+): (.*)")
 GONE = re.compile(r"has no field|is not in scope|has no `|was not found")
 # Something depends on a declaration that was refused.
 FOLLOWS = re.compile(r"declarations? that depends? on `|was not admitted")
+# A name that is declared in a copy's answers and has no definition. An answer that is refused keeps a check, which has
+# tried all goals, from a search for what it can offer to whoever proves the function, which takes as long again.
+MARK = "never_defined"
 LIMIT = re.compile(r"antt ran out of|outgrew the memory limit|stopped at the step limit")
 
 
@@ -21,11 +24,15 @@ class Log:
         self.is_verdict = status == 3 or bool(re.search(r"^logic=(not-)?proved", text, re.M))
         errors = self.read_lines(text)
         names = {it.removeprefix(f"{crate}::").replace("::", "/"): it for it in self.functions}
+        marked = {names[path] for path, said in errors if path in names and f"`{MARK}`" in said}
         for path, said in errors:
-            if path in names:
+            if path in names and f"`{MARK}`" not in said:
                 (self.gone if GONE.search(said) else self.own)[names[path]].append(said)
         self.join_closures()
         self.own, self.gone = ({name: said for name, said in kept.items() if said} for kept in (self.own, self.gone))
+        for name in marked - {*self.own, *self.gone}:
+            # (nothing else kept it from being proved)
+            self.functions[name] = self.functions[name].replace("not proved", "proved, but for the mark")
 
     def read_lines(self, text):
         """Sorts the goals that failed by function, and returns the errors in proof files."""
