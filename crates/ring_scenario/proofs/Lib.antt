@@ -1,3 +1,4 @@
+mod EndLemmas
 mod PrinterLemmas
 mod RequestLemmas
 mod RunLemmas

@@ -1,14 +1,12 @@
 -- What a run does with the lines of a text, and all that it prints.
-use Rattle.std.specs.Prelude.{◌≡◌, ◌⊎◌, ◌↔◌, ℕ, ◌+◌, List, [], ◌∷◌, ◌++◌, IfSome, IsSome, IsTrue, Option, None, Some, codes, decimal, length}
+use Rattle.std.specs.Prelude.{◌≡◌, ◌⊎◌, ◌↔◌, ℕ, List, [], ◌∷◌, ◌++◌, IfSome, IsSome, IsTrue, Option, None, Some, codes, decimal, length}
 use Rattle.std.specs.Io.KnownBytes.{Appends}
-use Rattle.ring_table.specs.Passing.{placed_committed_of}
 use Rattle.ring_counters.specs.Manager.{registry_of}
 use Rattle.ring_counters.specs.Registry.{live_of}
 use Rattle.ring_lines.specs.declared.call.Call.{Call}
 use Rattle.ring_lines.specs.Lines.{AsksFor}
 use Rattle.ring_lines.specs.Text.{AllBlank, IsBlank, lines_of, words_of}
-use Rattle.ring_loose.specs.Loose.{aborted_view}
-use Rattle.ring_scenario.specs.Closing.{TookAndLeft, read_count}
+use Rattle.ring_scenario.specs.Closing.{LeavesMessages, TookAndLeft, read_count}
 use Rattle.ring_scenario.specs.declared.options.Options.{Options}
 use Rattle.ring_scenario.specs.declared.runner.Ended.{Ended}
 use Rattle.ring_scenario.specs.declared.runner.Runner.{Runner}
@@ -67,8 +65,7 @@ ended_text e = end_text e ++ finished_text e.served
 -- committed; and what the conductor finished with, if a line used it
 pub record EndsAs (r : Runner) (e : Ended) : Type 0 where
   pub messages : e.messages ≡ read_count r.loose
-  pub left : length r.loose.consumer.consumer.taken + e.left
-      ≡ length (placed_committed_of (aborted_view r.loose.holder).producer.claims)
+  pub left : LeavesMessages r.loose e.left
   pub served : IsSome e.served ↔ IsTrue r.serves
   pub finished : IfSome e.served (TookAndLeft r.service)
 
