@@ -2,7 +2,7 @@
 use Rattle.std.proofs.Common.{◌≡◌, ◌∙◌, ℕ, List, [], ◌∷◌, ◌++◌, IfSome, Option, None, Some, refl, sym, ap, subst, append_assoc, append-nil}
 use Rattle.std.proofs.KnownBytes.{Appends-nil, Appends-trans}
 use Rattle.std.specs.Io.KnownBytes.{Appends}
-use Rattle.ring_lines.specs.Text.{AllBlank, TakesEnd, lines_of}
+use Rattle.ring_lines.specs.Text.{AllBlank, lines_of}
 use Rattle.ring_lines.proofs.TextLemmas.{one_more}
 use Rattle.ring_scenario.specs.declared.runner.Ended.{Ended}
 use Rattle.ring_scenario.specs.declared.runner.Runner.{Runner}
@@ -45,11 +45,6 @@ one_more_ran all left next line a b c was now later text ran cut runs written = 
   runs = then_one ran.taken line a b c ran.printed text ran.runs runs;
   written = Appends-trans was now later ran.printed text ran.written written;
 }
-
-pub takes_end : (old new : List ℕ) (r s : Runner) (was now : Option (List ℕ)) → RunsToEnd old new r s was now
-    → TakesEnd old new
-takes_end old new r s was now ran =
-    record { before = ran.ran.taken; line = ran.line; whole = ran.ran.whole; end_alone = ran.end_alone }
 
 -- the lines of a text ran up to its `end`, and the rest of them is blank
 pub text_ran : (text old new : List ℕ) (r s : Runner) (e : Ended) (was now later : Option (List ℕ)) → old ≡ text

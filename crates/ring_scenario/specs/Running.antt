@@ -7,7 +7,7 @@ use Rattle.ring_counters.specs.Manager.{registry_of}
 use Rattle.ring_counters.specs.Registry.{live_of}
 use Rattle.ring_lines.specs.declared.call.Call.{Call}
 use Rattle.ring_lines.specs.Lines.{AsksFor}
-use Rattle.ring_lines.specs.Text.{AllBlank, IsBlank, lines_of, words_of}
+use Rattle.ring_lines.specs.Text.{AllBlank, IsBlank, IsEnd, lines_of, words_of}
 use Rattle.ring_loose.specs.Held.{held_in}
 use Rattle.ring_loose.specs.Receivers.{all_left}
 use Rattle.ring_scenario.specs.Closing.{LeavesMessages, TookAndLeft, read_count}
@@ -49,7 +49,7 @@ pub record HaveRun (lines left : List (List ℕ)) (old new : Runner) (was now : 
 pub record RunsToEnd (old new : List ℕ) (before after : Runner) (was now : Option (List ℕ)) : Type 0 where
   pub line : List ℕ
   pub ran : HaveRun (lines_of old) (line ∷ lines_of new) before after was now
-  pub end_alone : words_of line ≡ codes "end" ∷ []
+  pub end_alone : IsEnd (words_of line)
 
 -- the second line that `end` prints, if a conductor finished
 abbrev pub finished_text : Option Served → List ℕ
@@ -83,7 +83,7 @@ pub record RunsText (text : List ℕ) (r : Runner) (was now : Option (List ℕ))
   pub line : List ℕ
   pub after : List (List ℕ)
   pub whole : lines_of text ≡ before ++ line ∷ after
-  pub end_alone : words_of line ≡ codes "end" ∷ []
+  pub end_alone : IsEnd (words_of line)
   pub blank : AllBlank after
   pub last : Runner
   pub printed : List ℕ

@@ -4,7 +4,7 @@ ghost use Rattle.ring_scenario.specs.Faults.{IsEarly};
 ghost use Rattle.ring_scenario.specs.Running.{RunsScenario, RunsText, RunsToEnd, ended_text, finished_text};
 ghost use Rattle.ring_scenario.specs.Sizes.{size_fault_of};
 ghost use Rattle.std.specs.Io.KnownBytes.{Appends};
-ghost use Rattle.ring_lines.specs.Text.{lines_of, AllBlank, IsEnded};
+ghost use Rattle.ring_lines.specs.Text.{lines_of, AllBlank};
 ghost use Rattle.ring_counters.specs.Manager.{registry_of};
 ghost use Rattle.ring_counters.specs.Registry.{live_of};
 
@@ -28,10 +28,8 @@ pub fn run_scenario<R: AllocGlobal + Threads + Wait, I: Read, O: Write>(
     reader: &mut I,
     writer: &mut O,
 ) -> Result<(), RunFault>
-    // The last line that is not blank is `end`.
-    ensures ended { OnOk result (IfSome (I.remaining reader.old) IsEnded) }
-
-    // The lines before it ran, each once and in order. What was written is what they and `end` printed.
+    // The last line that is not blank is `end`. The lines before it ran, each once and in order. What was written is
+    // what they and `end` printed.
     ensures ran { OnOk result (IfSome (I.remaining reader.old) (λ text.
         RunsScenario options.now text (O.contents writer.old) (O.contents writer.new))) }
 
@@ -58,7 +56,6 @@ fn run_text<R: Threads + Wait, O: Write>(
     writer: &mut O,
 ) -> Result<(), RunFault>
     requires { length text.now ≤ MAX_INPUT }
-    ensures ended { OnOk result (IsEnded text.now) }
     ensures ran { OnOk result (RunsText text.now runner (O.contents writer.old) (O.contents writer.new)) }
     ensures late { IfErr result (λ fault. ¬ IsEarly fault) }
 {
