@@ -1,5 +1,5 @@
 -- What a run does with the lines of a text, and all that it prints.
-use Rattle.std.specs.Prelude.{◌≡◌, ◌⊎◌, ◌↔◌, ℕ, List, [], ◌∷◌, ◌++◌, IfSome, IsSome, IsTrue, Option, None, Some, codes, decimal, length}
+use Rattle.std.specs.Prelude.{◌≡◌, ◌⊎◌, ◌↔◌, ℕ, ◌+◌, List, [], ◌∷◌, ◌++◌, IfSome, IsSome, IsTrue, Option, None, Some, codes, decimal, length}
 use Rattle.std.specs.Io.KnownBytes.{Appends}
 use Rattle.ring_board.specs.Runs.{AreAllRuns}
 use Rattle.ring_board.specs.Seats.{transmitted, view_of}
@@ -45,11 +45,13 @@ pub record HaveRun (lines left : List (List ℕ)) (old new : Runner) (was now : 
   pub runs : RunsLines taken old new printed
   pub written : Appends was now printed
 
--- the lines in front of a line that is `end` alone ran, and that line was taken
-pub record RunsToEnd (old new : List ℕ) (before after : Runner) (was now : Option (List ℕ)) : Type 0 where
+-- the lines in front of a line that is `end` alone ran, and that line, which has this number, was taken
+pub record RunsToEnd (old new : List ℕ) (before after : Runner) (was now : Option (List ℕ)) (number : ℕ)
+    : Type 0 where
   pub line : List ℕ
   pub ran : HaveRun (lines_of old) (line ∷ lines_of new) before after was now
   pub end_alone : IsEnd (words_of line)
+  pub counted : number ≡ length ran.taken + 1
 
 -- the second line that `end` prints, if a conductor finished
 abbrev pub finished_text : Option Served → List ℕ
@@ -76,15 +78,15 @@ pub record EndsAs (r : Runner) (e : Ended) : Type 0 where
   pub served : IsSome e.served ↔ IsTrue r.serves
   pub finished : IfSome e.served (TookAndLeft r.service)
 
--- A text ran: the lines in front of its line `end` did, each once and in order, and then the runner was closed. What
--- all of that printed is what was written
-pub record RunsText (text : List ℕ) (r : Runner) (was now : Option (List ℕ)) : Type 0 where
+-- Lines ran up to the first that is `end` alone, each once and in order, and then the runner was closed. What all of
+-- that printed is what was written. The line of `end` has this number, and these are left
+pub record RunsAndEnds (lines left : List (List ℕ)) (r : Runner) (was now : Option (List ℕ)) (number : ℕ)
+    : Type 0 where
   pub before : List (List ℕ)
   pub line : List ℕ
-  pub after : List (List ℕ)
-  pub whole : lines_of text ≡ before ++ line ∷ after
+  pub whole : lines ≡ before ++ line ∷ left
   pub end_alone : IsEnd (words_of line)
-  pub blank : AllBlank after
+  pub counted : number ≡ length before + 1
   pub last : Runner
   pub printed : List ℕ
   pub runs : RunsLines before r last printed
@@ -92,6 +94,45 @@ pub record RunsText (text : List ℕ) (r : Runner) (was now : Option (List ℕ))
   pub ends : EndsAs last ended
   pub written : Appends was now (printed ++ ended_text ended)
 
+-- a text ran up to its line `end`, and the lines after it are blank
+abbrev pub RunsText : List ℕ → Runner → Option (List ℕ) → Option (List ℕ) → Type 0
+RunsText text r was now = (after : List (List ℕ)) × (number : ℕ) × RunsAndEnds (lines_of text) after r was now number
+    × AllBlank after
+
+-- the first of these lines is neither blank nor `end` alone, or there is none
+abbrev pub BeginsBad : List (List ℕ) → Type 0
+BeginsBad [] = Unit {0}
+BeginsBad (line ∷ more) = ¬ IsBlank (words_of line) × ¬ IsEnd (words_of line)
+
+-- the lines in front of the one of this number ran, and what they printed was written; that one is bad, or missing
+pub record StopsAt (lines : List (List ℕ)) (r : Runner) (was now : Option (List ℕ)) (number : ℕ) : Type 0 where
+  pub left : List (List ℕ)
+  pub last : Runner
+  pub ran : HaveRun lines left r last was now
+  pub bad : BeginsBad left
+  pub counted : number ≡ length ran.taken + 1
+
+-- the first of these lines that is not blank is the one of this number, if this many lines were in front of them
+pub record IsNotBlankAt (lines : List (List ℕ)) (taken number : ℕ) : Type 0 where
+  pub blanks : List (List ℕ)
+  pub line : List ℕ
+  pub more : List (List ℕ)
+  pub whole : lines ≡ blanks ++ line ∷ more
+  pub blank : AllBlank blanks
+  pub other : ¬ IsBlank (words_of line)
+  pub counted : number ≡ taken + length blanks + 1
+
+-- the line of this number is the first that is bad: those in front of it ran, or it is the first after `end` that is
+-- not blank
+abbrev pub FailsAt : List ℕ → Runner → Option (List ℕ) → Option (List ℕ) → ℕ → Type 0
+FailsAt text r was now number = StopsAt (lines_of text) r was now number
+    ⊎ ((after : List (List ℕ)) × (taken : ℕ) × RunsAndEnds (lines_of text) after r was now taken
+    × IsNotBlankAt after taken number)
+
 -- a runner was made as the options say, and the text ran
 abbrev pub RunsScenario : Options → List ℕ → Option (List ℕ) → Option (List ℕ) → Type 0
 RunsScenario options text was now = (r : Runner) × RunsBy options r × RunsText text r was now
+
+-- a runner was made as the options say, and the line of this number was the first that is bad
+abbrev pub FailsScenario : Options → List ℕ → Option (List ℕ) → Option (List ℕ) → ℕ → Type 0
+FailsScenario options text was now number = (r : Runner) × RunsBy options r × FailsAt text r was now number
